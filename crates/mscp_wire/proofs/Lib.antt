@@ -3,5 +3,4 @@ pub mod Keys
 pub mod Hearing
 pub mod Passing
 pub mod Meaning
-pub mod Wrongs
 mod Names

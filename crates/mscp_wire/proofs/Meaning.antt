@@ -1,29 +1,30 @@
--- What the judgement of lines means: that each moment that they tell is right, or which is the first that isn't.
-use Rattle.std.proofs.Common.{◌≡◌, ◌≢◌, ℕ, ◌+◌, ◌<◌, Bool, true, false, List, [], ◌∷◌, ◌++◌, length, arith, refl, sym, ap, subst, ◌∙◌, append_assoc, append-nil, length-append, ⊎_elim, if◌then◌else◌, Option, Some, None, Result, Ok, Err}
+-- What the lines of a log tell, and that what stands before a moment of a right log is right, as that moment is.
+use Rattle.std.proofs.Common.{◌≡◌, ℕ, suc, ◌+◌, Bool, true, false, List, [], ◌∷◌, ◌++◌, length, arith, refl, sym, ap, subst, ◌∙◌, length-append, ⊎_elim, inl, inr, if◌then◌else◌, Option, Some, None, Result, Ok, Err}
 use Rattle.std.proofs.lemmas.Bool.{cases_lt}
 use Rattle.std.proofs.Math.Seq.{get_or-append_seam, take-append_seam}
 use Rattle.std.proofs.lemmas.Bool.Decides.{nat_tests}
 use Rattle.std.proofs.lemmas.List.{take-append-le}
 use Rattle.std.proofs.Math.ListN.{get_or-append}
 use Rattle.mscp_packet.specs.Steps.{◌>>=◌}
-use Rattle.mscp_reader.specs.Outcome.{in_line}
 use Rattle.mscp_reader.specs.declared.fault.Cause.{Cause}
 use Rattle.mscp_reader.specs.declared.fault.Cause.TheVariants as causes
-use Rattle.mscp_reader.specs.declared.fault.ScriptFault.{ScriptFault}
+use Rattle.mscp_reader.specs.declared.fault.ReadFault.{ReadFault}
+use Rattle.mscp_reader.specs.declared.fault.ReadFault.TheVariants as reads
 use Rattle.mscp_wire.specs.Wire.{AreRight, History, IsRight, broken_by}
-use Rattle.mscp_wire.specs.Log.{Log, after_line, after_lines, after_said, goes_on, is_fresh, line_says, with_moment}
-use Rattle.mscp_wire.specs.Right.{told, told_line, told_lines}
+use Rattle.mscp_wire.specs.Log.{Log, is_fresh, line_says, nothing, with_line, with_lines, with_said}
+use Rattle.mscp_wire.specs.Right.{Goes, IsRightLog, IsRightVerdict, Judges, Reaches}
 use Rattle.mscp_wire.specs.declared.line.Said.{Said}
 use Rattle.mscp_wire.specs.declared.line.Said.TheVariants as says
+use Rattle.mscp_wire.specs.declared.log.Reading.{Reading}
+use Rattle.mscp_wire.specs.declared.log.Verdict.{Verdict}
+use Rattle.mscp_wire.specs.declared.log.Verdict.TheVariants as verdicts
 use Rattle.mscp_wire.specs.declared.moment.Moment.{Moment}
 use Rattle.mscp_wire.specs.declared.moment.Moment.TheVariants as moments
-use Rattle.mscp_wire.specs.declared.rule.Rule.{Rule}
-use Rattle.mscp_wire.specs.declared.wrong.Wrong.{Wrong}
 
 -- ---- histories
 
 -- one moment more that is right
-right_more : (c : Option ℕ) (h : History) (m : Moment) → AreRight c h → IsRight c h m → AreRight c (h ++ m ∷ [])
+pub right_more : (c : Option ℕ) (h : History) (m : Moment) → AreRight c h → IsRight c h m → AreRight c (h ++ m ∷ [])
 right_more c h m all last i lt = ⊎_elim
     (λ low. rw (take-append-le i h (m ∷ []) (omega arith), get_or-append h (m ∷ []) moments.Reset i low) (all i low))
     (λ high.
@@ -31,231 +32,140 @@ right_more c h m all last i lt = ⊎_elim
     rw (e, take-append_seam h (m ∷ []), get_or-append_seam h m [] moments.Reset) last)
     (cases_lt i (length h))
 
--- the moment behind a history that a longer one begins with
-right_there : (c : Option ℕ) (h : History) (m : Moment) (rest : History) → AreRight c (h ++ m ∷ rest) → IsRight c h m
-right_there c h m rest all =
-    let lt : length h < length (h ++ m ∷ rest) = omega (arith, length-append h (m ∷ rest)) in
-    rw (take-append_seam h (m ∷ rest), get_or-append_seam h m rest moments.Reset) at (all (length h) lt)
+-- all before the last moment is right
+right_before : (c : Option ℕ) (h : History) (m : Moment) → AreRight c (h ++ m ∷ []) → AreRight c h
+right_before c h m all i lt =
+    rw (take-append-le i h (m ∷ []) (omega (arith, lt)), get_or-append h (m ∷ []) moments.Reset i lt) at
+    (all i (omega (arith, lt, length-append h (m ∷ []))))
+
+-- and that is, too
+right_last : (c : Option ℕ) (h : History) (m : Moment) → AreRight c (h ++ m ∷ []) → IsRight c h m
+right_last c h m all =
+    rw (take-append_seam h (m ∷ []), get_or-append_seam h m [] moments.Reset) at
+    (all (length h) (omega (arith, length-append h (m ∷ []))))
 
 pub right_none : (c : Option ℕ) (h : History) → length h ≡ 0 → AreRight c h
 right_none c h e i lt = absurd (omega arith)
 
--- ---- what a line says
-
--- what was judged right was told, and keeps all right
-pub record Kept (log next : Log) (said : Said) : Type 0 where
-  pub told_is : told log said ≡ Ok next
-  pub right : AreRight log.credits log.moments → AreRight next.credits next.moments
-
-same_kept : (log next : Log) → log ≡ next → AreRight log.credits log.moments → AreRight next.credits next.moments
-same_kept log next e r = subst (λ l. AreRight l.credits l.moments) e r
-
--- what comes of the credits, where nothing was said so far, or else
-abbrev pub by_credits : Log → ℕ → Bool → Result (Result Log Wrong) Cause
-by_credits log c b = if b then Ok (Ok (record log { credits = Some c })) else Err causes.Word
-
--- what comes of a moment that breaks this rule, if it breaks one
-abbrev pub by_moment : ℕ → Log → Moment → Option Rule → Result (Result Log Wrong) Cause
-by_moment n log m p = Ok (with_moment n log m p)
-
-credits_kept : (b : Bool) (log next : Log) (c : ℕ) → is_fresh log ≡ b → by_credits log c b ≡ Ok (Ok next)
-    → Kept log next (says.Credits c)
-credits_kept true log next c f h =
-    let none : length log.moments ≡ 0 = grind (arith, nat_tests) in
-    let e : record log { credits = Some c } ≡ next = cc in
-    record {
-      told_is = rw f (ap Ok e);
-      right = λ r. same_kept (record log { credits = Some c }) next e (right_none (Some c) log.moments none);
-    }
-credits_kept false log next c f h = cc
-
-moment_kept : (n : ℕ) (log next : Log) (m : Moment) (p : Option Rule)
-    → broken_by log.credits log.moments m ≡ p → by_moment n log m p ≡ Ok (Ok next)
-    → Kept log next (says.Happens m)
-moment_kept n log next m None b h =
-    let e : record log { moments = log.moments ++ m ∷ [] } ≡ next = cc in
-    record {
-      told_is = ap Ok e;
-      right = λ r. same_kept (record log { moments = log.moments ++ m ∷ [] }) next e
-          (right_more log.credits log.moments m r b);
-    }
-moment_kept n log next m (Some rule) b h = cc
-
-pub kept : (n : ℕ) (log next : Log) (said : Said) → after_said n log said ≡ Ok (Ok next) → Kept log next said
-kept n log next says.Nothing h =
-    let e : log ≡ next = cc in record { told_is = ap Ok e; right = same_kept log next e }
-kept n log next (says.Attention via b) h =
-    let e : log ≡ next = cc in record { told_is = ap Ok e; right = same_kept log next e }
-kept n log next (says.Credits c) h = credits_kept (is_fresh log) log next c refl h
-kept n log next (says.Happens m) h =
-    moment_kept n log next m (broken_by log.credits log.moments m) refl h
-
 -- ---- lines
 
--- all that these lines tell is right, and this log is what they tell
-pub record AllKept (read : Result Log ScriptFault) (final : Log) : Type 0 where
-  pub told_is : read ≡ Ok final
-  pub right : AreRight final.credits final.moments
+-- what some lines tell, and then the rest
+pub lines_split : (all rest : List (List ℕ)) (n : ℕ) (log : Log)
+    → with_lines n log (all ++ rest) ≡ (with_lines n log all >>= λ l. with_lines (n + length all) l rest)
+unfolding with_lines
+lines_split [] rest n log = let e : n ≡ n + 0 = omega arith in ap (λ k. with_lines k log rest) e
+lines_split (line ∷ all) rest n log =
+    let count : n + 1 + length all ≡ n + suc (length all) = omega arith in
+    both (with_line (n + 1) log line) (λ next. with_lines (n + 1) next (all ++ rest))
+    (λ next. with_lines (n + 1) next all) (λ l. with_lines (n + suc (length all)) l rest)
+    (λ next. lines_split all rest (n + 1) next
+    ∙ ap (λ k. with_lines (n + 1) next all >>= λ l. with_lines k l rest) count)
+  where
+    both : (r : Result Log Cause) (f g on : Log → Result Log Cause) → ((next : Log) → f next ≡ (g next >>= on))
+        → (r >>= f) ≡ ((r >>= g) >>= on)
+    both (Ok next) f g on h = h next
+    both (Err cause) f g on h = refl
 
--- what comes of a line that says this, and of those behind it
-abbrev pub going : ℕ → (Log → Result (Result Log Wrong) ScriptFault) → Result (Result Log Wrong) Cause
-    → Result (Result Log Wrong) ScriptFault
-going n go came = in_line n came >>= goes_on go
+-- no line tells anything
+pub lines_none : (log : Log) → with_lines 0 log [] ≡ Ok log
+unfolding with_lines
+lines_none log = refl
 
-abbrev pub telling : ℕ → (Log → Result Log ScriptFault) → Result Log Cause → Result Log ScriptFault
-telling n tell read = in_line n read >>= tell
+-- a line more
+pub lines_more : (before : List (List ℕ)) (line : List ℕ) (n : ℕ) (log next : Log) → n ≡ length before + 1
+    → with_lines 0 nothing before ≡ Ok log → (line_says n line >>= with_said log) ≡ Ok next
+    → with_lines 0 nothing (before ++ line ∷ []) ≡ Ok next
+unfolding with_lines with_line
+lines_more before line n log next count told goes =
+    let place : n ≡ 0 + length before + 1 = omega (arith, count) in
+    let last : (line_says (0 + length before + 1) line >>= with_said log) ≡ Ok next =
+    subst (λ k. (line_says k line >>= with_said log) ≡ Ok next) place goes in
+    lines_split before (line ∷ []) 0 nothing
+    ∙ ap (λ x. x >>= λ l. with_lines (0 + length before) l (line ∷ [])) told
+    ∙ ap (λ x. x >>= λ l. with_lines (0 + length before + 1) l []) last
 
-said_kept : (came : Result (Result Log Wrong) Cause) (n : ℕ) (log final : Log) (said : Said)
-    (go : Log → Result (Result Log Wrong) ScriptFault) (tell : Log → Result Log ScriptFault)
-    → ((next : Log) → go next ≡ Ok (Ok final) → AreRight next.credits next.moments → AllKept (tell next) final)
-    → after_said n log said ≡ came → going n go came ≡ Ok (Ok final) → AreRight log.credits log.moments
-    → AllKept (telling n tell (told log said)) final
-said_kept (Ok (Ok next)) n log final said go tell on e h r =
-    let k = kept n log next said e in
-    let all = on next h (k.right r) in
-    record { told_is = ap (telling n tell) k.told_is ∙ all.told_is; right = all.right }
-said_kept (Ok (Err wrong)) n log final said go tell on e h r = cc
-said_kept (Err cause) n log final said go tell on e h r = cc
+-- a line at fault
+pub line_faults : {A : Type 0} (fault : ReadFault) (bytes line : List ℕ) (n : ℕ) (log : Log) (reading : Reading A)
+    → Reaches bytes n line log → Goes n log (line_says n line) (Err fault) reading → Judges {A = A} (Err fault) bytes
+unfolding with_line
+line_faults (reads.Script fault) bytes line n log reading r goes =
+    let place = sym goes.0 in
+    inr (record {
+      line = line;
+      log = log;
+      reached = subst (λ k. Reaches bytes k line log) place r;
+      cause = subst (λ k. (line_says k line >>= with_said log) ≡ Err fault.cause) place goes.1;
+    })
+line_faults reads.OutOfMemory bytes line n log reading r goes = tt
 
-line_kept : (says : Result Said Cause) (n : ℕ) (log final : Log) (go : Log → Result (Result Log Wrong) ScriptFault)
-    (tell : Log → Result Log ScriptFault)
-    → ((next : Log) → go next ≡ Ok (Ok final) → AreRight next.credits next.moments → AllKept (tell next) final)
-    → going n go (says >>= after_said n log) ≡ Ok (Ok final) → AreRight log.credits log.moments
-    → AllKept (telling n tell (says >>= told log)) final
-line_kept (Ok said) n log final go tell on h r =
-    said_kept (after_said n log said) n log final said go tell on refl h r
-line_kept (Err cause) n log final go tell on h r = cc
+-- ---- what stands before is right if all is
 
--- lines that were judged right tell a log that is right
-pub lines_kept : (all : List (List ℕ)) (n : ℕ) (log final : Log) → after_lines n log all ≡ Ok (Ok final)
-    → AreRight log.credits log.moments → AllKept (told_lines n log all) final
-unfolding after_lines after_line told_lines told_line
-lines_kept [] n log final h r =
-    let e : log ≡ final = cc in record { told_is = ap Ok e; right = same_kept log final e r }
-lines_kept (line ∷ rest) n log final h r =
-    line_kept (line_says (n + 1) line) (n + 1) log final (λ next. after_lines (n + 1) next rest)
-    (λ next. told_lines (n + 1) next rest) (λ next g s. lines_kept rest (n + 1) next final g s) h r
-
--- ---- the other way
-
--- a log goes on as this one
-pub record Extends (log final : Log) : Type 0 where
-  pub rest : History
-  pub moments : final.moments ≡ log.moments ++ rest
-  pub credits : length log.moments ≢ 0 → final.credits ≡ log.credits
-
-longer : (h rest : History) → length h ≢ 0 → length (h ++ rest) ≢ 0
-longer h rest n e = n (omega (arith, length-append h rest))
-
-extends_on : (log next final : Log) → Extends log next → Extends next final → Extends log final
-extends_on log next final a b = record {
-  rest = a.rest ++ b.rest;
-  moments = b.moments ∙ ap (λ h. h ++ b.rest) a.moments ∙ append_assoc log.moments a.rest b.rest;
-  credits = λ some. b.credits (λ e. longer log.moments a.rest some (ap length (sym a.moments) ∙ e)) ∙ a.credits some;
-}
-
-extends_same : (log next : Log) → log ≡ next → Extends log next
-extends_same log next e = record {
-  rest = [];
-  moments = sym (append-nil next.moments) ∙ ap (λ l. l.moments ++ []) (sym e);
-  credits = λ some. ap (λ l. l.credits) (sym e);
-}
-
--- what the credits add to a log, where nothing was said so far, or else
-abbrev told_credits : Log → ℕ → Bool → Result Log Cause
-told_credits log c b = if b then Ok (record log { credits = Some c }) else Err causes.Word
-
-fresh_extends : (b : Bool) (log next : Log) (c : ℕ) → is_fresh log ≡ b
-    → told_credits log c b ≡ Ok next → Extends log next
-fresh_extends true log next c f h =
-    let none : length log.moments ≡ 0 = grind (arith, nat_tests) in
-    let e : record log { credits = Some c } ≡ next = cc in
-    record {
-      rest = [];
-      moments = ap (λ l. l.moments) (sym e) ∙ sym (append-nil log.moments);
-      credits = λ some. absurd (some none);
-    }
-fresh_extends false log next c f h = cc
-
-said_extends : (log next : Log) (said : Said) → told log said ≡ Ok next → Extends log next
-said_extends log next says.Nothing h = extends_same log next cc
-said_extends log next (says.Attention via b) h = extends_same log next cc
-said_extends log next (says.Credits c) h = fresh_extends (is_fresh log) log next c refl h
-said_extends log next (says.Happens m) h =
+said_back : (said : Said) (log next : Log) → with_said log said ≡ Ok next → AreRight next.credits next.moments
+    → AreRight log.credits log.moments
+said_back says.Nothing log next h r =
+    let e : log ≡ next = cc in subst (λ l. AreRight l.credits l.moments) (sym e) r
+said_back (says.Attention via b) log next h r =
+    let e : log ≡ next = cc in subst (λ l. AreRight l.credits l.moments) (sym e) r
+said_back (says.Credits c) log next h r = fresh_back (is_fresh log) refl h
+  where
+    fresh_back : (b : Bool) → is_fresh log ≡ b
+        → (if b then Ok (record log { credits = Some c }) else Err causes.Word) ≡ Ok next
+        → AreRight log.credits log.moments
+    fresh_back true f k = right_none log.credits log.moments (grind (arith, nat_tests))
+    fresh_back false f k = cc
+said_back (says.Happens m) log next h r =
     let e : record log { moments = log.moments ++ m ∷ [] } ≡ next = cc in
-    record {
-      rest = m ∷ [];
-      moments = ap (λ l. l.moments) (sym e);
-      credits = λ some. ap (λ l. l.credits) (sym e);
-    }
+    right_before log.credits log.moments m (subst (λ l. AreRight l.credits l.moments) (sym e) r)
 
-fresh_right : (b : Bool) (log next : Log) (c : ℕ) → told_credits log c b ≡ Ok next
-    → by_credits log c b ≡ Ok (Ok next)
-fresh_right true log next c h =
-    let e : record log { credits = Some c } ≡ next = cc in ap (λ l. Ok (Ok l)) e
-fresh_right false log next c h = cc
+line_back : (said : Result Said Cause) (log next : Log) → (said >>= with_said log) ≡ Ok next
+    → AreRight next.credits next.moments → AreRight log.credits log.moments
+line_back (Ok said) log next h r = said_back said log next h r
+line_back (Err cause) log next h r = cc
 
--- what was told is judged right, if all is right in the end
-said_right : (n : ℕ) (log next final : Log) (said : Said) → told log said ≡ Ok next → Extends next final
-    → AreRight final.credits final.moments → after_said n log said ≡ Ok (Ok next)
-said_right n log next final says.Nothing h x r = let e : log ≡ next = cc in ap (λ l. Ok (Ok l)) e
-said_right n log next final (says.Attention via b) h x r = let e : log ≡ next = cc in ap (λ l. Ok (Ok l)) e
-said_right n log next final (says.Credits c) h x r = fresh_right (is_fresh log) log next c h
-said_right n log next final (says.Happens m) h x r =
-    let e : record log { moments = log.moments ++ m ∷ [] } ≡ next = cc in
-    let long : length next.moments ≢ 0 =
-    λ z. absurd (omega (arith, length-append log.moments (m ∷ []), ap (λ l. length l.moments) e)) in
-    let c : final.credits ≡ log.credits = x.credits long ∙ ap (λ l. l.credits) (sym e) in
-    let h : final.moments ≡ log.moments ++ m ∷ x.rest =
-    x.moments ∙ ap (λ l. l.moments ++ x.rest) (sym e) ∙ append_assoc log.moments (m ∷ []) x.rest in
-    let all : AreRight log.credits (log.moments ++ m ∷ x.rest) =
-    subst (λ k. AreRight k (log.moments ++ m ∷ x.rest)) c (subst (λ t. AreRight final.credits t) h r) in
-    ap (λ p. Ok (with_moment n log m p)) (right_there log.credits log.moments m x.rest all) ∙ ap (λ l. Ok (Ok l)) e
+lines_back : (all : List (List ℕ)) (n : ℕ) (log final : Log) → with_lines n log all ≡ Ok final
+    → AreRight final.credits final.moments → AreRight log.credits log.moments
+unfolding with_lines with_line
+lines_back [] n log final h r =
+    let e : log ≡ final = cc in subst (λ l. AreRight l.credits l.moments) (sym e) r
+lines_back (line ∷ rest) n log final h r =
+    by_line (with_line (n + 1) log line) refl h (λ next k. lines_back rest (n + 1) next final k r)
+  where
+    by_line : (read : Result Log Cause) → with_line (n + 1) log line ≡ read
+        → (read >>= λ next. with_lines (n + 1) next rest) ≡ Ok final
+        → ((next : Log) → with_lines (n + 1) next rest ≡ Ok final → AreRight next.credits next.moments)
+        → AreRight log.credits log.moments
+    by_line (Ok next) e k on = line_back (line_says (n + 1) line) log next e (on next k)
+    by_line (Err cause) e k on = cc
 
-told_extends : (read : Result Log Cause) (n : ℕ) (log final : Log) (said : Said)
-    (tell : Log → Result Log ScriptFault) → ((next : Log) → tell next ≡ Ok final → Extends next final)
-    → told log said ≡ read → telling n tell read ≡ Ok final → Extends log final
-told_extends (Ok next) n log final said tell on e h =
-    extends_on log next final (said_extends log next said e) (on next h)
-told_extends (Err cause) n log final said tell on e h = cc
+-- ---- a log that is right
 
-line_extends : (says : Result Said Cause) (n : ℕ) (log final : Log) (tell : Log → Result Log ScriptFault)
-    → ((next : Log) → tell next ≡ Ok final → Extends next final) → telling n tell (says >>= told log) ≡ Ok final
-    → Extends log final
-line_extends (Ok said) n log final tell on h = told_extends (told log said) n log final said tell on refl h
-line_extends (Err cause) n log final tell on h = cc
+-- where a line of it is reached, that and the rest lead to all that it tells
+reached_goes : (bytes line : List ℕ) (number : ℕ) (log final : Log) (r : Reaches bytes number line log)
+    → IsRightLog bytes final → (with_line number log line >>= λ next. with_lines number next r.rest) ≡ Ok final
+unfolding with_lines
+reached_goes bytes line number log final r right =
+    let all = subst (λ ls. with_lines 0 nothing ls ≡ Ok final) r.whole right.tell.told in
+    let place : number ≡ 0 + length r.before + 1 = omega (arith, r.counted) in
+    rw place (ap (λ x. x >>= λ l. with_lines (0 + length r.before) l (line ∷ r.rest)) (sym r.tell.told)
+    ∙ sym (lines_split r.before (line ∷ r.rest) 0 nothing) ∙ all)
 
--- what the lines tell extends what was told before them
-lines_extend : (all : List (List ℕ)) (n : ℕ) (log final : Log) → told_lines n log all ≡ Ok final → Extends log final
-unfolding told_lines told_line
-lines_extend [] n log final h = extends_same log final cc
-lines_extend (line ∷ rest) n log final h =
-    line_extends (line_says (n + 1) line) (n + 1) log final (λ next. told_lines (n + 1) next rest)
-    (λ next g. lines_extend rest (n + 1) next final g) h
-
-said_goes : (read : Result Log Cause) (n : ℕ) (log final : Log) (said : Said)
-    (go : Log → Result (Result Log Wrong) ScriptFault) (tell : Log → Result Log ScriptFault)
-    → ((next : Log) → tell next ≡ Ok final → Extends next final)
-    → ((next : Log) → tell next ≡ Ok final → go next ≡ Ok (Ok final)) → AreRight final.credits final.moments
-    → told log said ≡ read → telling n tell read ≡ Ok final → going n go (after_said n log said) ≡ Ok (Ok final)
-said_goes (Ok next) n log final said go tell more on r e h =
-    ap (going n go) (said_right n log next final said e (more next h) r) ∙ on next h
-said_goes (Err cause) n log final said go tell more on r e h = cc
-
-line_right : (says : Result Said Cause) (n : ℕ) (log final : Log) (go : Log → Result (Result Log Wrong) ScriptFault)
-    (tell : Log → Result Log ScriptFault) → ((next : Log) → tell next ≡ Ok final → Extends next final)
-    → ((next : Log) → tell next ≡ Ok final → go next ≡ Ok (Ok final)) → AreRight final.credits final.moments
-    → telling n tell (says >>= told log) ≡ Ok final → going n go (says >>= after_said n log) ≡ Ok (Ok final)
-line_right (Ok said) n log final go tell more on r h =
-    said_goes (told log said) n log final said go tell more on r refl h
-line_right (Err cause) n log final go tell more on r h = cc
-
--- lines that tell a log that is right are judged right
-pub lines_right : (all : List (List ℕ)) (n : ℕ) (log final : Log) → told_lines n log all ≡ Ok final
-    → AreRight final.credits final.moments → after_lines n log all ≡ Ok (Ok final)
-unfolding after_lines after_line told_lines told_line
-lines_right [] n log final h r = let e : log ≡ final = cc in ap (λ l. Ok (Ok l)) e
-lines_right (line ∷ rest) n log final h r =
-    line_right (line_says (n + 1) line) (n + 1) log final (λ next. after_lines (n + 1) next rest)
-    (λ next. told_lines (n + 1) next rest) (λ next g. lines_extend rest (n + 1) next final g)
-    (λ next g. lines_right rest (n + 1) next final g r) r h
+-- it is judged to be right
+pub right_from : {A : Type 0} (bytes : List ℕ) (result : Result (Verdict A) ReadFault) (log : Log)
+    → Judges result bytes → IsRightLog bytes log → IsRightVerdict result
+unfolding with_line
+right_from bytes (Ok (verdicts.Right totals commands)) log j r = tt
+right_from bytes (Ok (verdicts.Wrong wrong)) log j r =
+    let m = wrong.moment in
+    let goes = reached_goes bytes j.line wrong.line j.log log j.reached r in
+    let rest = rw (j.is_wrong.says) at goes in
+    let there = lines_back j.reached.rest wrong.line (record j.log { moments = j.log.moments ++ m ∷ [] }) log rest
+    r.tell.right in
+    let none : broken_by j.log.credits j.log.moments m ≡ None = right_last j.log.credits j.log.moments m there in
+    let e : Some wrong.rule ≡ None = sym j.is_wrong.rule ∙ none in
+    cc
+right_from bytes (Err (reads.Script fault)) log (inl large) r = absurd (omega (arith, large.0, r.small))
+right_from bytes (Err (reads.Script fault)) log (inr f) r =
+    let goes = reached_goes bytes f.line fault.line f.log log f.reached r in
+    let e = rw (f.cause) at goes in
+    cc
+right_from bytes (Err reads.OutOfMemory) log j r = tt

@@ -1,30 +1,19 @@
--- A log of the wire: what its lines say, and what is judged of them.
-use Rattle.std.specs.Prelude.{◌≡◌, ℕ, ◌+◌, ◌-◌, ◌*◌, ◌^◌, ◌==◌, Bool, false, nat_eq, nat_lt, ◌&&◌, if◌then◌else◌, List, [], ◌∷◌, ◌++◌, length, take, drop, position, codes, slice_index, Option, Some, None, is_none, Result, Ok, Err}
+-- A log of the wire: what its lines say, and what they tell. No judge is in these definitions.
+use Rattle.std.specs.Prelude.{ℕ, ◌+◌, ◌-◌, ◌*◌, ◌^◌, ◌==◌, Bool, false, nat_eq, nat_lt, ◌&&◌, if◌then◌else◌, List, [], ◌∷◌, ◌++◌, length, take, drop, position, codes, slice_index, Option, Some, None, is_none, Result, Ok, Err}
 use Rattle.std.specs.Str.{bytes_eq}
 use Rattle.arrayvec.specs.ArrayVec.{ArrayVec}
 use Rattle.mscp_drive.specs.declared.connection.Connection.{Connection}
 use Rattle.mscp_drive.specs.declared.connection.Connection.TheVariants.{First, Second}
 use Rattle.mscp_packet.specs.Steps.{◌>>=◌}
 use Rattle.mscp_reader.specs.Grammar.{only_number, said_at}
-use Rattle.mscp_reader.specs.Lexical.{lines, wide}
-use Rattle.mscp_reader.specs.Outcome.{Fails, in_line}
+use Rattle.mscp_reader.specs.Lexical.{wide}
 use Rattle.mscp_reader.specs.Requests.{bytes_in, none, one}
 use Rattle.mscp_reader.specs.declared.fault.Cause.{Cause}
 use Rattle.mscp_reader.specs.declared.fault.Cause.TheVariants as causes
-use Rattle.mscp_reader.specs.declared.fault.ReadFault.{ReadFault}
-use Rattle.mscp_reader.specs.declared.fault.ReadFault.TheVariants as reads
-use Rattle.mscp_reader.specs.declared.fault.ScriptFault.{ScriptFault}
-use Rattle.mscp_wire.specs.Wire.{History, broken_by, command_of, controller, kept, outstanding, timeout, told}
-use Rattle.mscp_wire.specs.Totals.{totals_of}
+use Rattle.mscp_wire.specs.Wire.{History}
 use Rattle.mscp_wire.specs.declared.line.Said.{Said}
 use Rattle.mscp_wire.specs.declared.line.Said.TheVariants as says
-use Rattle.mscp_wire.specs.declared.moment.Moment.{Moment}
 use Rattle.mscp_wire.specs.declared.moment.Moment.TheVariants as moments
-use Rattle.mscp_wire.specs.declared.rule.Rule.{Rule}
-use Rattle.mscp_wire.specs.declared.wrong.Wrong.{Wrong}
-use Rattle.mscp_wire.specs.declared.log.Reading.{Reading}
-use Rattle.mscp_wire.specs.declared.log.Verdict.{Verdict}
-use Rattle.mscp_wire.specs.declared.log.Verdict.TheVariants as verdicts
 
 -- ---- when it happened
 
@@ -124,74 +113,18 @@ nothing = record { credits = None; moments = [] }
 abbrev pub is_fresh : Log → Bool
 is_fresh log = is_none log.credits && nat_eq (length log.moments) 0
 
--- a log in which a moment more came, or the rule that it breaks in the line of this number
-abbrev pub with_moment : ℕ → Log → Moment → Option Rule → Result Log Wrong
-with_moment number log m None = Ok (record log { moments = log.moments ++ m ∷ [] })
-with_moment number log m (Some rule) = Err (record {
-  line = number;
-  rule = rule;
-  moment = m;
-  command = command_of (outstanding log.moments) m;
-})
+-- a log to which a line adds what it says, right or not
+abbrev pub with_said : Log → Said → Result Log Cause
+with_said log says.Nothing = Ok log
+with_said log (says.Attention via b) = Ok log
+with_said log (says.Credits c) = if is_fresh log then Ok (record log { credits = Some c }) else Err causes.Word
+with_said log (says.Happens m) = Ok (record log { moments = log.moments ++ m ∷ [] })
 
--- what comes of what the line of this number says: the log, or the moment that isn't right
-abbrev pub after_said : ℕ → Log → Said → Result (Result Log Wrong) Cause
-after_said number log says.Nothing = Ok (Ok log)
-after_said number log (says.Attention via b) = Ok (Ok log)
-after_said number log (says.Credits c) =
-    if is_fresh log then Ok (Ok (record log { credits = Some c })) else Err causes.Word
-after_said number log (says.Happens m) =
-    Ok (with_moment number log m (broken_by log.credits log.moments m))
+-- the same of the line of this number
+unfoldable pub with_line : ℕ → Log → List ℕ → Result Log Cause
+with_line number log line = line_says number line >>= with_said log
 
--- what comes of the line of this number
-unfoldable pub after_line : ℕ → Log → List ℕ → Result (Result Log Wrong) Cause
-after_line number log line = line_says number line >>= after_said number log
-
--- the lines go on behind one that is right. The first that isn't is all that is said
-abbrev pub goes_on : (Log → Result (Result Log Wrong) ScriptFault) → Result Log Wrong
-    → Result (Result Log Wrong) ScriptFault
-goes_on rest (Ok log) = rest log
-goes_on rest (Err wrong) = Ok (Err wrong)
-
--- what comes of lines that so many stand before: the log, or the first moment that isn't right, or the first fault
-unfoldable pub after_lines : ℕ → Log → List (List ℕ) → Result (Result Log Wrong) ScriptFault
-after_lines before log [] = Ok (Ok log)
-after_lines before log (line ∷ rest) =
-    in_line (before + 1) (after_line (before + 1) log line) >>= goes_on (λ next. after_lines (before + 1) next rest)
-
--- what comes of a whole log
-abbrev pub after_log : List ℕ → Result (Result Log Wrong) ScriptFault
-after_log bytes =
-    if nat_lt 16777216 (length bytes) then Err (record { line = 0; cause = causes.Size })
-    else after_lines 0 nothing (lines bytes)
-
--- ---- what is kept
-
--- this came of the lines so far
-pub record IsAfter {A : Type 0} (log : Log) (reading : Reading A) : Type 0 where
-  pub credits : reading.judge.credits ≡ log.credits
-  pub commands : reading.judge.commands ≡ outstanding log.moments
-  pub units : (via : Connection) (unit : ℕ) → kept reading.judge.units via unit ≡ told log.moments via unit
-  pub controller : reading.judge.controller ≡ controller log.moments
-  pub timeout : reading.judge.timeout ≡ timeout log.moments
-  pub totals : reading.totals ≡ totals_of log.moments
-
--- the fault of a line of this number is that of its definition, unless memory ran out
-abbrev pub FailsLine : ℕ → ReadFault → Result (Result Log Wrong) Cause → Type 0
-FailsLine number (reads.Script fault) read = (fault.line ≡ number) × (read ≡ Err fault.cause)
-FailsLine number reads.OutOfMemory read = Unit {0}
-
--- what was returned of the line of this number, and is kept then, is what comes of it
-abbrev pub Goes : {A : Type 0} → ℕ → Result (Result Log Wrong) Cause → Result (Option Wrong) ReadFault → Reading A
-    → Type 0
-Goes number read (Ok None) reading = (next : Log) × (read ≡ Ok (Ok next)) × IsAfter next reading
-Goes number read (Ok (Some wrong)) reading = read ≡ Ok (Err wrong)
-Goes number read (Err fault) reading = FailsLine number fault read
-
--- what was returned of lines is what comes of them, unless memory ran out
-abbrev pub Judges : {A : Type 0} → Result (Verdict A) ReadFault → Result (Result Log Wrong) ScriptFault → Type 0
-Judges (Ok (verdicts.Right totals commands)) read =
-    (log : Log) × (read ≡ Ok (Ok log)) × (totals ≡ totals_of log.moments)
-    × (commands.items ≡ outstanding log.moments)
-Judges (Ok (verdicts.Wrong wrong)) read = read ≡ Ok (Err wrong)
-Judges (Err fault) read = Fails fault read
+-- the same of lines that so many stand before
+unfoldable pub with_lines : ℕ → Log → List (List ℕ) → Result Log Cause
+with_lines before log [] = Ok log
+with_lines before log (line ∷ rest) = with_line (before + 1) log line >>= λ next. with_lines (before + 1) next rest

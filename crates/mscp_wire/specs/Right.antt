@@ -1,67 +1,107 @@
--- Which logs are right: their lines tell moments, each of which is right after those before it. And which moment is the
--- first that isn't. No judge is in these definitions.
-use Rattle.std.specs.Prelude.{◌≡◌, ℕ, ◌+◌, ◌≤◌, if◌then◌else◌, List, [], ◌∷◌, ◌++◌, length, Some, Result, Ok, Err}
+-- Which logs are right: their lines tell moments, each of which is right after those before it. Of any other log, which
+-- moment is the first that isn't right, or which line is the first at fault. A verdict is what comes of a log so.
+use Rattle.std.specs.Prelude.{◌≡◌, ◌⊎◌, ℕ, ◌+◌, ◌<◌, ◌≤◌, List, ◌∷◌, ◌++◌, length, Option, Some, None, Result, Ok, Err}
+use Rattle.mscp_drive.specs.declared.connection.Connection.{Connection}
 use Rattle.mscp_packet.specs.Steps.{◌>>=◌}
 use Rattle.mscp_reader.specs.Lexical.{lines}
-use Rattle.mscp_reader.specs.Outcome.{in_line}
 use Rattle.mscp_reader.specs.declared.fault.Cause.{Cause}
 use Rattle.mscp_reader.specs.declared.fault.Cause.TheVariants as causes
 use Rattle.mscp_reader.specs.declared.fault.ReadFault.{ReadFault}
 use Rattle.mscp_reader.specs.declared.fault.ReadFault.TheVariants as reads
 use Rattle.mscp_reader.specs.declared.fault.ScriptFault.{ScriptFault}
-use Rattle.mscp_wire.specs.Wire.{AreRight, broken_by}
-use Rattle.mscp_wire.specs.Log.{Log, is_fresh, line_says, nothing}
+use Rattle.mscp_wire.specs.Wire.{AreRight, broken_by, command_of, controller, kept, outstanding, timeout, told}
+use Rattle.mscp_wire.specs.Log.{Log, line_says, nothing, with_line, with_lines, with_said}
+use Rattle.mscp_wire.specs.Totals.{totals_of}
 use Rattle.mscp_wire.specs.declared.line.Said.{Said}
 use Rattle.mscp_wire.specs.declared.line.Said.TheVariants as says
+use Rattle.mscp_wire.specs.declared.log.Reading.{Reading}
 use Rattle.mscp_wire.specs.declared.log.Verdict.{Verdict}
 use Rattle.mscp_wire.specs.declared.log.Verdict.TheVariants as verdicts
 use Rattle.mscp_wire.specs.declared.wrong.Wrong.{Wrong}
 
--- a log to which a line added what it says, right or not
-abbrev pub told : Log → Said → Result Log Cause
-told log says.Nothing = Ok log
-told log (says.Attention via b) = Ok log
-told log (says.Credits c) = if is_fresh log then Ok (record log { credits = Some c }) else Err causes.Word
-told log (says.Happens m) = Ok (record log { moments = log.moments ++ m ∷ [] })
+-- ---- a log
 
--- the same of the line of this number
-unfoldable pub told_line : ℕ → Log → List ℕ → Result Log Cause
-told_line number log line = line_says number line >>= told log
+-- lines tell this log, and each of its moments is right after those before it
+pub record Tell (all : List (List ℕ)) (log : Log) : Type 0 where
+  pub told : with_lines 0 nothing all ≡ Ok log
+  pub right : AreRight log.credits log.moments
 
--- the same of lines that so many stand before, or the first fault
-unfoldable pub told_lines : ℕ → Log → List (List ℕ) → Result Log ScriptFault
-told_lines before log [] = Ok log
-told_lines before log (line ∷ rest) =
-    in_line (before + 1) (told_line (before + 1) log line) >>= λ next. told_lines (before + 1) next rest
-
--- a log is right: each moment that its lines tell is right after those before it
-pub record IsRightLog (bytes : List ℕ) : Type 0 where
-  pub log : Log
+-- a log of these bytes is right
+pub record IsRightLog (bytes : List ℕ) (log : Log) : Type 0 where
   pub small : length bytes ≤ 16777216
-  pub told : told_lines 0 nothing (lines bytes) ≡ Ok log
-  pub right : AreRight log.credits log.moments
+  pub tell : Tell (lines bytes) log
 
--- the first moment that isn't right: all that the lines before its own tell are, and it breaks this rule first
-pub record IsFirstWrong (bytes : List ℕ) (wrong : Wrong) : Type 0 where
+-- the line of this number is reached: all that the lines before it tell is right
+pub record Reaches (bytes : List ℕ) (number : ℕ) (line : List ℕ) (log : Log) : Type 0 where
   pub before : List (List ℕ)
-  pub line : List ℕ
   pub rest : List (List ℕ)
-  pub log : Log
+  pub small : length bytes ≤ 16777216
   pub whole : lines bytes ≡ before ++ line ∷ rest
-  pub number : wrong.line ≡ length before + 1
-  pub told : told_lines 0 nothing before ≡ Ok log
-  pub right : AreRight log.credits log.moments
-  pub says : line_says wrong.line line ≡ Ok (says.Happens wrong.moment)
-  pub broken : broken_by log.credits log.moments wrong.moment ≡ Some wrong.rule
+  pub counted : number ≡ length before + 1
+  pub tell : Tell before log
 
--- what a verdict on a log means
-abbrev pub Means : {A : Type 0} → List ℕ → Result (Verdict A) ReadFault → Type 0
-Means bytes (Ok (verdicts.Right totals commands)) = IsRightLog bytes
-Means bytes (Ok (verdicts.Wrong wrong)) = IsFirstWrong bytes wrong
-Means bytes (Err fault) = Unit {0}
+-- what the line of this number says is a moment that breaks a rule, this one first
+pub record IsWrong (number : ℕ) (log : Log) (said : Result Said Cause) (wrong : Wrong) : Type 0 where
+  pub line : wrong.line ≡ number
+  pub says : said ≡ Ok (says.Happens wrong.moment)
+  pub rule : broken_by log.credits log.moments wrong.moment ≡ Some wrong.rule
+  pub command : wrong.command ≡ command_of (outstanding log.moments) wrong.moment
+
+-- the first moment that isn't right
+pub record IsFirstWrong (bytes : List ℕ) (wrong : Wrong) : Type 0 where
+  pub line : List ℕ
+  pub log : Log
+  pub reached : Reaches bytes wrong.line line log
+  pub is_wrong : IsWrong wrong.line log (line_says wrong.line line) wrong
+
+-- the first line at fault
+pub record IsFirstFault (bytes : List ℕ) (fault : ScriptFault) : Type 0 where
+  pub line : List ℕ
+  pub log : Log
+  pub reached : Reaches bytes fault.line line log
+  pub cause : with_line fault.line log line ≡ Err fault.cause
+
+-- there are too many bytes
+abbrev pub IsTooLarge : List ℕ → ScriptFault → Type 0
+IsTooLarge bytes fault = (16777216 < length bytes) × (fault ≡ record { line = 0; cause = causes.Size })
+
+-- what comes of a log: all that it tells, or the first moment that isn't right, or the first fault
+abbrev pub Comes : List ℕ → Result (Result Log Wrong) ScriptFault → Type 0
+Comes bytes (Ok (Ok log)) = IsRightLog bytes log
+Comes bytes (Ok (Err wrong)) = IsFirstWrong bytes wrong
+Comes bytes (Err fault) = IsTooLarge bytes fault ⊎ IsFirstFault bytes fault
+
+-- what was said of a log is what comes of it, unless memory ran out
+abbrev pub Judges : {A : Type 0} → Result (Verdict A) ReadFault → List ℕ → Type 0
+Judges (Ok (verdicts.Right totals commands)) bytes =
+    (log : Log) × Comes bytes (Ok (Ok log)) × (totals ≡ totals_of log.moments)
+    × (commands.items ≡ outstanding log.moments)
+Judges (Ok (verdicts.Wrong wrong)) bytes = Comes bytes (Ok (Err wrong))
+Judges (Err (reads.Script fault)) bytes = Comes bytes (Err fault)
+Judges (Err reads.OutOfMemory) bytes = Unit {0}
 
 -- a log is judged to be right, unless memory ran out
 abbrev pub IsRightVerdict : {A : Type 0} → Result (Verdict A) ReadFault → Type 0
 IsRightVerdict (Ok (verdicts.Right totals commands)) = Unit {0}
 IsRightVerdict (Err reads.OutOfMemory) = Unit {0}
 IsRightVerdict verdict = ⊥
+
+-- ---- what is kept
+
+-- this came of the lines so far, which are right
+pub record IsAfter {A : Type 0} (log : Log) (reading : Reading A) : Type 0 where
+  pub right : AreRight log.credits log.moments
+  pub credits : reading.judge.credits ≡ log.credits
+  pub commands : reading.judge.commands ≡ outstanding log.moments
+  pub units : (via : Connection) (unit : ℕ) → kept reading.judge.units via unit ≡ told log.moments via unit
+  pub controller : reading.judge.controller ≡ controller log.moments
+  pub timeout : reading.judge.timeout ≡ timeout log.moments
+  pub totals : reading.totals ≡ totals_of log.moments
+
+-- what was returned of the line of this number, which says this, and is kept then
+abbrev pub Goes : {A : Type 0} → ℕ → Log → Result Said Cause → Result (Option Wrong) ReadFault → Reading A → Type 0
+Goes number log said (Ok None) reading = (next : Log) × ((said >>= with_said log) ≡ Ok next) × IsAfter next reading
+Goes number log said (Ok (Some wrong)) reading = IsWrong number log said wrong
+Goes number log said (Err (reads.Script fault)) reading =
+    (fault.line ≡ number) × ((said >>= with_said log) ≡ Err fault.cause)
+Goes number log said (Err reads.OutOfMemory) reading = Unit {0}

@@ -1,10 +1,10 @@
 // What is judged of a log, line by line.
 
-ghost use Rattle.std.specs.Prelude.{◌≡◌, ◌≤◌, ◌<◌, ◌+◌, OnOk, IfOk};
-ghost use Rattle.mscp_reader.specs.Lexical as lexical;
-ghost use Rattle.mscp_wire.specs.Right.{IsRightLog, IsRightVerdict, Means};
+ghost use Rattle.std.specs.Prelude.{◌≡◌, ◌≤◌, ◌<◌, ◌+◌, length, OnOk, IfOk};
+ghost use Rattle.mscp_wire.specs.Log as logs;
+ghost use Rattle.mscp_wire.specs.Log.{Log, nothing};
+ghost use Rattle.mscp_wire.specs.Right.{Goes, IsAfter, IsRightLog, IsRightVerdict, Judges};
 ghost use Rattle.mscp_wire.specs.Totals.{IsFew};
-ghost use Rattle.mscp_wire.specs.Log.{Log, Goes, IsAfter, Judges, after_line, after_lines, after_log, after_said, nothing};
 
 use crate::judge::{Judge, Stepped};
 use crate::line::{Said, line_says};
@@ -46,7 +46,7 @@ impl<A: Allocator + Copy> Reading<A> {
     /// What comes of it that each host has so many credits. That is told before anything else.
     fn credits(&mut self, number: u32, credits: u32) -> Result<Option<Wrong>, ReadFault>
         ensures after { (log : Log) → IsAfter log self.old
-            → Goes number (after_said number log (Said.Credits credits)) result self.new }
+            → Goes number log (Ok (Said.Credits credits)) result self.new }
         ensures few { self.new.totals ≡ self.old.totals }
     {
         if self.judge.credits.is_some() || self.totals.counts.moments != 0 {
@@ -63,7 +63,7 @@ impl<A: Allocator + Copy> Reading<A> {
     fn moment(&mut self, number: u32, moment: Moment) -> Result<Option<Wrong>, ReadFault>
         requires { IsFew self.old.totals number }
         ensures after { (log : Log) → IsAfter log self.old
-            → Goes number (after_said number log (Said.Happens moment)) result self.new }
+            → Goes number log (Ok (Said.Happens moment)) result self.new }
         ensures few { OnOk result (IsFew self.new.totals (number + 1)) }
     {
         let Stepped {
@@ -90,7 +90,7 @@ impl<A: Allocator + Copy> Reading<A> {
     fn said(&mut self, number: u32, said: Said) -> Result<Option<Wrong>, ReadFault>
         requires { IsFew self.old.totals number }
         ensures after { (log : Log) → IsAfter log self.old
-            → Goes number (after_said number log said) result self.new }
+            → Goes number log (Ok said) result self.new }
         ensures few { OnOk result (IsFew self.new.totals (number + 1)) }
     {
         match said {
@@ -104,7 +104,7 @@ impl<A: Allocator + Copy> Reading<A> {
     fn line(&mut self, number: u32, bytes: &[u8]) -> Result<Option<Wrong>, ReadFault>
         requires { IsFew self.old.totals number }
         ensures after { (log : Log) → IsAfter log self.old
-            → Goes number (after_line number log bytes.now) result self.new }
+            → Goes number log (logs.line_says number bytes.now) result self.new }
         ensures few { OnOk result (IsFew self.new.totals (number + 1)) }
     {
         let said = line_says(number, bytes)?;
@@ -117,8 +117,9 @@ fn judge_lines<A: Allocator + Copy>(
     alloc: A,
     lines: &mut Lines<'_>,
 ) -> Result<Verdict<A>, ReadFault>
-    requires { lines.old.number ≡ 0 }
-    ensures { Judges result (after_lines 0 nothing (lexical.lines lines.old.rest.now)) }
+    requires first { lines.old.number ≡ 0 }
+    requires small { length lines.old.rest.now ≤ 16777216 }
+    ensures { Judges result lines.old.rest.now }
 {
     let mut reading = Reading::new(alloc);
     while let Some(bytes) = lines.cut() {
@@ -139,7 +140,7 @@ fn judge_lines<A: Allocator + Copy>(
 
 /// What is said of a log.
 fn judged<A: Allocator + Copy>(alloc: A, bytes: &[u8]) -> Result<Verdict<A>, ReadFault>
-    ensures { Judges result (after_log bytes.now) }
+    ensures { Judges result bytes.now }
 {
     let mut lines = lines_of(bytes)?;
     judge_lines(alloc, &mut lines)
@@ -148,11 +149,9 @@ fn judged<A: Allocator + Copy>(alloc: A, bytes: &[u8]) -> Result<Verdict<A>, Rea
 /// Judges a log of the wire: says that each of its moments is right, or the first that isn't, unless a line before it is at
 /// fault.
 pub fn judge_wire<A: Allocator + Copy>(alloc: A, bytes: &[u8]) -> Result<Verdict<A>, ReadFault>
-    ensures judges { Judges result (after_log bytes.now) }
-    // So each log of which all moments are right is judged to be right,
-    ensures right { IsRightLog bytes.now → IsRightVerdict result }
-    // and no other, and a moment that is told is the first that isn't right.
-    ensures only { Means bytes.now result }
+    ensures judges { Judges result bytes.now }
+    // So each log of which all moments are right is judged to be right.
+    ensures right { (log : Log) → IsRightLog bytes.now log → IsRightVerdict result }
 {
     judged(alloc, bytes)
 }

@@ -7,7 +7,8 @@ use Rattle.mscp_drive.specs.declared.connection.Connection.{Connection}
 use Rattle.mscp_drive.specs.declared.connection.Connection.TheVariants.{First, Second}
 use Rattle.mscp_script.specs.Simulated.{IsGiven}
 use Rattle.mscp_wire.specs.Wire.{outstanding}
-use Rattle.mscp_wire.specs.Log.{Log, after_log}
+use Rattle.mscp_wire.specs.Log.{Log}
+use Rattle.mscp_wire.specs.Right.{Comes}
 use Rattle.mscp_wire.specs.Totals.{totals_of}
 use Rattle.mscp_wire.specs.declared.log.Verdict.{Verdict}
 use Rattle.mscp_wire.specs.declared.log.Verdict.TheVariants as verdicts
@@ -145,8 +146,8 @@ wire_outcome (verdicts.Wrong wrong) = outcomes.Wrong
 -- is that of what the reader gave; nothing is said where the write failed
 abbrev pub TellsWire : Result Outcome Fault → Option (List ℕ) → Option (List ℕ) → Option (List ℕ) → Type 0
 TellsWire (Ok outcome) known old new =
-    IsGiven known (λ log. (came : Result Log Wrong) × (after_log log ≡ Ok came) × (outcome ≡ came_outcome came)
+    IsGiven known (λ log. (came : Result Log Wrong) × Comes log (Ok came) × (outcome ≡ came_outcome came)
     × Appends old new (came_text came))
 TellsWire (Err faults.Write) known old new = Unit {0}
-TellsWire (Err (faults.Log fault)) known old new = (new ≡ old) × IsGiven known (λ log. after_log log ≡ Err fault)
+TellsWire (Err (faults.Log fault)) known old new = (new ≡ old) × IsGiven known (λ log. Comes log (Err fault))
 TellsWire (Err fault) known old new = new ≡ old

@@ -1,16 +1,53 @@
-use Rattle.std.proofs.Common.{arith}
+use Rattle.std.proofs.Common.{◌+◌, ◌++◌, ◌∷◌, [], length-append, append_assoc, arith, refl, sym, ap, subst, ◌∙◌, Ok, Err}
 use Rattle.std.proofs.lemmas.Result.{err_from_is_err_and}
-use Rattle.mscp_wire.proofs.Passing.{lines_broken, lines_more, lines_none, lines_wrong}
+use Rattle.mscp_reader.specs.Lexical.{lines}
+use Rattle.mscp_wire.specs.Log.{line_says, nothing}
+use Rattle.mscp_wire.specs.Right.{Goes, Judges}
+use Rattle.mscp_wire.proofs.Meaning.{line_faults, lines_more, lines_none}
 use Rattle.mscp_wire.proofs.log.judge_lines.Goals as goal
 
-pub returns-in_err-wrong : goal.returns-in_err-wrong
-returns-in_err-wrong g c = search (arith, err_from_is_err_and, lines_wrong)
+pub loop-bytes-init : goal.loop-bytes-init
+loop-bytes-init g c = record {
+  before = [];
+  log = nothing;
+  whole = refl;
+  counted = c.requires.first;
+  told = lines_none nothing;
+  after = c.new-reading.ensures.after;
+  few = rw c.requires.first c.new-reading.ensures.few;
+}
 
-pub returns-in-Some-2 : goal.returns-in-Some-2
-returns-in-Some-2 g c = search (arith, lines_broken)
+pub returns-in_err-wrong : goal.returns-in_err-wrong
+returns-in_err-wrong g c =
+    let i = c.loop-bytes.invariant in
+    let p = err_from_is_err_and c.from_residual.result c.from_residual.ensures.1 in
+    subst (λ r. Judges r c.args.lines.now.rest.now) (sym (p.1 ∙ ap (λ f. Err f) p.2))
+    (line_faults c.in_err-wrong.field-0.0 c.args.lines.now.rest.now c.in-Some.bytes.now c.cut.new.self.number i.log
+    c.line.new.self (record {
+      before = i.before;
+      rest = lines c.cut.new.self.rest.now;
+      small = c.requires.small;
+      whole = i.whole ∙ ap (λ ls. i.before ++ ls) c.in-Some.ensures.line;
+      counted = c.in-Some.ensures.counted ∙ ap (λ k. k + 1) i.counted;
+      tell = record { told = i.told; right = i.after.right };
+    }) (c.in_err-wrong.ensures.after i.log i.after))
 
 pub loop-bytes-preserved : goal.loop-bytes-preserved
-loop-bytes-preserved g c = search (arith, lines_more)
-
-pub returns : goal.returns
-returns g c = search (arith, lines_none)
+loop-bytes-preserved g c =
+    let i = c.loop-bytes.invariant in
+    let line = c.in-Some.bytes.now in
+    let number = c.cut.new.self.number in
+    let goes = subst (λ r. Goes number i.log (line_says number line) (Ok r) c.line.new.self) c.in_default-2.is
+    (c.in_ok-wrong.ensures.after i.log i.after) in
+    let count = c.in-Some.ensures.counted ∙ ap (λ k. k + 1) i.counted in
+    record {
+      before = i.before ++ line ∷ [];
+      log = goes.0;
+      whole =
+          i.whole ∙ ap (λ ls. i.before ++ ls) c.in-Some.ensures.line
+          ∙ sym (append_assoc i.before (line ∷ []) (lines c.cut.new.self.rest.now));
+      counted = omega (arith, count, length-append i.before (line ∷ []));
+      told = lines_more i.before line number i.log goes.0 count i.told goes.1;
+      after = goes.2;
+      few = c.in_ok-wrong.ensures.few;
+    }

@@ -1,13 +1,17 @@
-use Rattle.std.proofs.Common.{◌≡◌, ◌+◌, length}
+use Rattle.std.proofs.Common.{◌≡◌, ◌+◌, ◌++◌, List, ℕ, length, Ok}
 use Rattle.mscp_reader.specs.Lexical.{lines}
-use Rattle.mscp_wire.specs.Log.{Log, IsAfter, after_lines, nothing}
+use Rattle.mscp_wire.specs.Log.{Log, nothing, with_lines}
+use Rattle.mscp_wire.specs.Right.{IsAfter}
 use Rattle.mscp_wire.specs.Totals.{IsFew}
 use Rattle.mscp_wire.proofs.log.judge_lines.Given as goal
 
 abbrev pub invariant-loop-bytes : goal.invariant-loop-bytes
 invariant-loop-bytes g l = record {
+  before : List (List ℕ);
   log : Log;
-  same : after_lines 0 nothing (lines l.fn.lines.rest.now) ≡ after_lines l.lines.number log (lines l.lines.rest.now);
+  whole : lines l.fn.lines.rest.now ≡ before ++ lines l.lines.rest.now;
+  counted : l.lines.number ≡ length before;
+  told : with_lines 0 nothing before ≡ Ok log;
   after : IsAfter log l.reading;
   few : IsFew l.reading.totals (l.lines.number + 1);
 }

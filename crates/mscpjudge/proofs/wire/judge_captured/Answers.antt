@@ -9,7 +9,7 @@ returns-clause-told g c =
       c.in_ok-log.ensures.bytes,
       (
         k.came,
-        k.read_is,
+        k.comes,
         c.wire_outcome.ensures ∙ k.outcome,
         rw (c.deref-2.ensures.value, c.in_ok-text.ensures, k.text) at (c.in_ok-write_all.ensures.bytes),
       ),

@@ -8,5 +8,5 @@ returns-in_err-said-clause-after g c = search (arith, err_from_is_err_and, line_
 
 pub returns-clause-after : goal.returns-clause-after
 returns-clause-after g c = λ log s.
-    rw (line_goes c.args.number log c.args.bytes.now c.in_ok-said.said (sym c.line_says.ensures ∙ c.in_ok-said.was))
+    rw (line_goes _ c.args.number c.in_ok-said.said (sym c.line_says.ensures ∙ c.in_ok-said.was))
     (c.said.ensures.after log s)

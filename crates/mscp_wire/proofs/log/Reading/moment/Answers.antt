@@ -1,22 +1,31 @@
-use Rattle.std.proofs.Common.{[], ◌∷◌, ◌++◌, Ok, length, ap, sym, ◌∙◌}
+use Rattle.std.proofs.Common.{[], ◌∷◌, ◌++◌, length, ap, refl, sym, ◌∙◌}
 use Rattle.mscp_wire.specs.Totals.{fall_after}
-use Rattle.mscp_wire.proofs.Passing.{controller_more, pushed, taken, timeout_more, told_more, told_wrong}
+use Rattle.mscp_wire.specs.Wire.{command_of}
+use Rattle.mscp_wire.proofs.Meaning.{right_more}
+use Rattle.mscp_wire.proofs.Passing.{broken_after, controller_more, pushed, timeout_more, told_more}
 use Rattle.mscp_wire.proofs.log.Reading.moment.Goals as goal
 
 pub returns-in-Some-clause-after : goal.returns-in-Some-clause-after
-returns-in-Some-clause-after g c = λ log s.
-    ap Ok (told_wrong c.args.number log c.args.moment _ _ _ _ c.in-Some.rule _ s.credits s.commands s.units
-    s.controller
-    (sym c.in-Some.is ∙ c.in_ok-rule.ensures.rule) c.in_ok-rule.ensures.command)
+returns-in-Some-clause-after g c = λ log s. record {
+  line = refl;
+  says = refl;
+  rule =
+      broken_after log c.args.moment _ _ _ _ _ s.credits s.commands s.units s.controller
+      (sym c.in-Some.is ∙ c.in_ok-rule.ensures.rule);
+  command = c.in_ok-rule.ensures.command ∙ ap (λ xs. command_of xs c.args.moment) s.commands;
+}
 
 pub returns-in-None-clause-after : goal.returns-in-None-clause-after
 returns-in-None-clause-after g c = λ log s.
     let after = pushed log.moments c.args.moment _ _ _ s.timeout s.commands
     (c.in_ok-rule.ensures.after c.in-None.is) in (
       record log { moments = log.moments ++ c.args.moment ∷ [] },
-      ap Ok (taken c.args.number log c.args.moment _ _ _ _ s.credits s.commands s.units s.controller
-          (sym c.in-None.is ∙ c.in_ok-rule.ensures.rule)),
+      refl,
       record {
+        right =
+            right_more log.credits log.moments c.args.moment s.right
+            (broken_after log c.args.moment _ _ _ _ _ s.credits s.commands s.units s.controller
+            (sym c.in-None.is ∙ c.in_ok-rule.ensures.rule));
         credits = c.in_ok-rule.ensures.credits ∙ s.credits;
         commands = after;
         units = told_more log.moments c.args.moment _ _ s.units (c.in_ok-rule.ensures.units c.in-None.is);
