@@ -3,4 +3,5 @@ pub mod Keys
 pub mod Hearing
 pub mod Passing
 pub mod Meaning
+pub mod Once
 mod Names

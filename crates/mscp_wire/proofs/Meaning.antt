@@ -1,5 +1,5 @@
 -- What the lines of a log tell, and that what stands before a moment of a right log is right, as that moment is.
-use Rattle.std.proofs.Common.{◌≡◌, ℕ, suc, ◌+◌, Bool, true, false, List, [], ◌∷◌, ◌++◌, length, arith, refl, sym, ap, subst, ◌∙◌, length-append, ⊎_elim, inl, inr, if◌then◌else◌, Option, Some, None, Result, Ok, Err}
+use Rattle.std.proofs.Common.{◌≡◌, ℕ, suc, ◌+◌, Bool, true, false, List, [], ◌∷◌, ◌++◌, length, arith, refl, sym, ap, subst, ◌∙◌, length-append, ⊎_elim, inr, if◌then◌else◌, Option, Some, Result, Ok, Err}
 use Rattle.std.proofs.lemmas.Bool.{cases_lt}
 use Rattle.std.proofs.Math.Seq.{get_or-append_seam, take-append_seam}
 use Rattle.std.proofs.lemmas.Bool.Decides.{nat_tests}
@@ -10,14 +10,12 @@ use Rattle.mscp_reader.specs.declared.fault.Cause.{Cause}
 use Rattle.mscp_reader.specs.declared.fault.Cause.TheVariants as causes
 use Rattle.mscp_reader.specs.declared.fault.ReadFault.{ReadFault}
 use Rattle.mscp_reader.specs.declared.fault.ReadFault.TheVariants as reads
-use Rattle.mscp_wire.specs.Wire.{AreRight, History, IsRight, broken_by}
+use Rattle.mscp_wire.specs.Wire.{AreRight, History, IsRight}
 use Rattle.mscp_wire.specs.Log.{Log, is_fresh, line_says, nothing, with_line, with_lines, with_said}
-use Rattle.mscp_wire.specs.Right.{Goes, IsRightLog, IsRightVerdict, Judges, Reaches}
+use Rattle.mscp_wire.specs.Right.{Goes, Judges, Reaches}
 use Rattle.mscp_wire.specs.declared.line.Said.{Said}
 use Rattle.mscp_wire.specs.declared.line.Said.TheVariants as says
 use Rattle.mscp_wire.specs.declared.log.Reading.{Reading}
-use Rattle.mscp_wire.specs.declared.log.Verdict.{Verdict}
-use Rattle.mscp_wire.specs.declared.log.Verdict.TheVariants as verdicts
 use Rattle.mscp_wire.specs.declared.moment.Moment.{Moment}
 use Rattle.mscp_wire.specs.declared.moment.Moment.TheVariants as moments
 
@@ -39,7 +37,7 @@ right_before c h m all i lt =
     (all i (omega (arith, lt, length-append h (m ∷ []))))
 
 -- and that is, too
-right_last : (c : Option ℕ) (h : History) (m : Moment) → AreRight c (h ++ m ∷ []) → IsRight c h m
+pub right_last : (c : Option ℕ) (h : History) (m : Moment) → AreRight c (h ++ m ∷ []) → IsRight c h m
 right_last c h m all =
     rw (take-append_seam h (m ∷ []), get_or-append_seam h m [] moments.Reset) at
     (all (length h) (omega (arith, length-append h (m ∷ []))))
@@ -122,7 +120,7 @@ line_back : (said : Result Said Cause) (log next : Log) → (said >>= with_said 
 line_back (Ok said) log next h r = said_back said log next h r
 line_back (Err cause) log next h r = cc
 
-lines_back : (all : List (List ℕ)) (n : ℕ) (log final : Log) → with_lines n log all ≡ Ok final
+pub lines_back : (all : List (List ℕ)) (n : ℕ) (log final : Log) → with_lines n log all ≡ Ok final
     → AreRight final.credits final.moments → AreRight log.credits log.moments
 unfolding with_lines with_line
 lines_back [] n log final h r =
@@ -136,36 +134,3 @@ lines_back (line ∷ rest) n log final h r =
         → AreRight log.credits log.moments
     by_line (Ok next) e k on = line_back (line_says (n + 1) line) log next e (on next k)
     by_line (Err cause) e k on = cc
-
--- ---- a log that is right
-
--- where a line of it is reached, that and the rest lead to all that it tells
-reached_goes : (bytes line : List ℕ) (number : ℕ) (log final : Log) (r : Reaches bytes number line log)
-    → IsRightLog bytes final → (with_line number log line >>= λ next. with_lines number next r.rest) ≡ Ok final
-unfolding with_lines
-reached_goes bytes line number log final r right =
-    let all = subst (λ ls. with_lines 0 nothing ls ≡ Ok final) r.whole right.tell.told in
-    let place : number ≡ 0 + length r.before + 1 = omega (arith, r.counted) in
-    rw place (ap (λ x. x >>= λ l. with_lines (0 + length r.before) l (line ∷ r.rest)) (sym r.tell.told)
-    ∙ sym (lines_split r.before (line ∷ r.rest) 0 nothing) ∙ all)
-
--- it is judged to be right
-pub right_from : {A : Type 0} (bytes : List ℕ) (result : Result (Verdict A) ReadFault) (log : Log)
-    → Judges result bytes → IsRightLog bytes log → IsRightVerdict result
-unfolding with_line
-right_from bytes (Ok (verdicts.Right totals commands)) log j r = tt
-right_from bytes (Ok (verdicts.Wrong wrong)) log j r =
-    let m = wrong.moment in
-    let goes = reached_goes bytes j.line wrong.line j.log log j.reached r in
-    let rest = rw (j.is_wrong.says) at goes in
-    let there = lines_back j.reached.rest wrong.line (record j.log { moments = j.log.moments ++ m ∷ [] }) log rest
-    r.tell.right in
-    let none : broken_by j.log.credits j.log.moments m ≡ None = right_last j.log.credits j.log.moments m there in
-    let e : Some wrong.rule ≡ None = sym j.is_wrong.rule ∙ none in
-    cc
-right_from bytes (Err (reads.Script fault)) log (inl large) r = absurd (omega (arith, large.0, r.small))
-right_from bytes (Err (reads.Script fault)) log (inr f) r =
-    let goes = reached_goes bytes f.line fault.line f.log log f.reached r in
-    let e = rw (f.cause) at goes in
-    cc
-right_from bytes (Err reads.OutOfMemory) log j r = tt

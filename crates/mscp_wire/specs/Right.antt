@@ -80,11 +80,14 @@ Judges (Ok (verdicts.Wrong wrong)) bytes = Comes bytes (Ok (Err wrong))
 Judges (Err (reads.Script fault)) bytes = Comes bytes (Err fault)
 Judges (Err reads.OutOfMemory) bytes = Unit {0}
 
--- a log is judged to be right, unless memory ran out
-abbrev pub IsRightVerdict : {A : Type 0} → Result (Verdict A) ReadFault → Type 0
-IsRightVerdict (Ok (verdicts.Right totals commands)) = Unit {0}
-IsRightVerdict (Err reads.OutOfMemory) = Unit {0}
-IsRightVerdict verdict = ⊥
+-- and this is what was said of it
+abbrev pub Says : {A : Type 0} → Result (Verdict A) ReadFault → Result (Result Log Wrong) ScriptFault → Type 0
+Says (Ok (verdicts.Right totals commands)) came =
+    (log : Log) × (came ≡ Ok (Ok log)) × (totals ≡ totals_of log.moments)
+    × (commands.items ≡ outstanding log.moments)
+Says (Ok (verdicts.Wrong wrong)) came = came ≡ Ok (Err wrong)
+Says (Err (reads.Script fault)) came = came ≡ Err fault
+Says (Err reads.OutOfMemory) came = Unit {0}
 
 -- ---- what is kept
 

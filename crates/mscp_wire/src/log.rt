@@ -1,9 +1,9 @@
 // What is judged of a log, line by line.
 
-ghost use Rattle.std.specs.Prelude.{◌≡◌, ◌≤◌, ◌<◌, ◌+◌, length, OnOk, IfOk};
+ghost use Rattle.std.specs.Prelude.{◌≡◌, ◌≤◌, ◌<◌, ◌+◌, length, Result, OnOk, IfOk};
 ghost use Rattle.mscp_wire.specs.Log as logs;
 ghost use Rattle.mscp_wire.specs.Log.{Log, nothing};
-ghost use Rattle.mscp_wire.specs.Right.{Goes, IsAfter, IsRightLog, IsRightVerdict, Judges};
+ghost use Rattle.mscp_wire.specs.Right.{Comes, Goes, IsAfter, Judges, Says};
 ghost use Rattle.mscp_wire.specs.Totals.{IsFew};
 
 use crate::judge::{Judge, Stepped};
@@ -150,8 +150,8 @@ fn judged<A: Allocator + Copy>(alloc: A, bytes: &[u8]) -> Result<Verdict<A>, Rea
 /// fault.
 pub fn judge_wire<A: Allocator + Copy>(alloc: A, bytes: &[u8]) -> Result<Verdict<A>, ReadFault>
     ensures judges { Judges result bytes.now }
-    // So each log of which all moments are right is judged to be right.
-    ensures right { (log : Log) → IsRightLog bytes.now log → IsRightVerdict result }
+    // And whatever comes of a log is said of it, so that each log of which all moments are right is judged to be right.
+    ensures only { (came : Result (Result Log Wrong) ScriptFault) → Comes bytes.now came → Says result came }
 {
     judged(alloc, bytes)
 }

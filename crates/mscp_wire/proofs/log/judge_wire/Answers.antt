@@ -1,5 +1,5 @@
-use Rattle.mscp_wire.proofs.Meaning.{right_from}
+use Rattle.mscp_wire.proofs.Once.{only_from}
 use Rattle.mscp_wire.proofs.log.judge_wire.Goals as goal
 
-pub returns-clause-right : goal.returns-clause-right
-returns-clause-right g c = λ log r. right_from c.args.bytes.now c.judged.result log c.judged.ensures r
+pub returns-clause-only : goal.returns-clause-only
+returns-clause-only g c = only_from c.args.bytes.now c.judged.result c.judged.ensures
