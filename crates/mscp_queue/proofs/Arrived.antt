@@ -1,9 +1,9 @@
 -- The best starts once a command came, behind all that wait.
 use Rattle.mscp_queue.proofs.Basics.{◌≡◌, ◌≢◌, ◌⊎◌, inl, inr, ⊎_elim, ℕ, ◌+◌, ◌<◌, ◌≤◌, true, false, List, take, length, get_or, refl, ap, sym, ◌∙◌, subst, arith, ext_get_or, false≢true, get_or-take, get_or_default, length-map, length-take-le, Command, Drive, Target, IsUnitList, CanBeShown, is_known, units_of, drive_place, fresh_drive, known_at, place_is, pairs_rise, same_or, Record, no_record, record_at, drive_at, order_cost}
-use Rattle.mscp_queue.proofs.Common.{AreFavored, IsBest, IsClearOn, IsLearned, bars, cheaper, command_at, commands, cost_at, drive_in, is_clear, knows, list_all, not, one_block, start_in}
+use Rattle.mscp_queue.proofs.Common.{AreFavored, IsBest, IsClearOn, IsLearned, bars, comes_before, cond, command_at, commands, cost_at, drive_in, is_clear, knows, list_all, not, one_block, start_in}
 use Rattle.mscp_queue.specs.declared.favorites.Favorites.{Favorites}
 use Rattle.mscp_queue.specs.Starts.{Start}
-use Rattle.mscp_queue.proofs.Best.{best_come, best_same}
+use Rattle.mscp_queue.proofs.Best.{best_of_two, best_same}
 use Rattle.mscp_queue.proofs.Favored.{command_is}
 
 take_take : {X : Type 0} (d : X) (p n : ℕ) (xs : List X) → p ≤ n → n ≤ length xs → take p (take n xs) ≡ take p xs
@@ -62,17 +62,23 @@ module _ (cs : List Command) (n : ℕ) (long : length cs ≡ n + 1) where
   -- or it is
   pub best_last : (number : ℕ) (d : Drive) (s t : Start) → IsClearOn cs number n → n < 64 → t.place ≡ n
       → t.cost ≡ cost_at d cs n → IsBest (IsClearOn (take n cs) number) (cost_at d (take n cs)) s
-      → IsBest (IsClearOn cs number) (cost_at d cs) (cheaper t s)
+      → IsBest (IsClearOn cs number) (cost_at d cs) (cond (comes_before s t) s t)
   best_last number d s t own few place cost h = best_same
-      (λ p x. (⊎_elim (λ y. y.0) (λ e. subst (IsClearOn cs number) (sym e) own) x, refl))
+      (λ p x. (⊎_elim (λ e. subst (IsClearOn cs number) (sym e) own) (λ y. y.0) x, refl))
       (λ p x. split p x (same_or p n))
-      (best_come t n (best_same {Q = λ p. IsClearOn cs number p × (p < n)}
+      (best_of_two _ (comes_before s t) alone (best_same {Q = λ p. IsClearOn cs number p × (p < n)}
       (λ p x. ((to_all number p x, below_n number p x), cost_front d p (below_n number p x)))
-      (λ p x. to_front number p x.0 (λ e. let l = x.1 in omega (arith, e, l))) h) (λ p x. x.1) few place cost)
+      (λ p x. to_front number p x.0 (λ e. let l = x.1 in omega (arith, e, l))) h) refl refl)
     where
-      split : (p : ℕ) → IsClearOn cs number p → (p ≡ n) ⊎ (p ≢ n) → (IsClearOn cs number p × (p < n)) ⊎ (p ≡ n)
-      split p x (inl e) = inr e
-      split p x (inr d) = inl (x, (let b = x.inside in omega (arith, b, long, d)))
+      alone : IsBest (λ p. p ≡ n) (cost_at d cs) t
+      alone = record {
+        is = inr (place, cost ∙ ap (cost_at d cs) (sym place));
+        each = λ p e. (omega (arith, place, few), inr (cost ∙ ap (cost_at d cs) (sym e), omega (arith, place, e)));
+      }
+
+      split : (p : ℕ) → IsClearOn cs number p → (p ≡ n) ⊎ (p ≢ n) → (p ≡ n) ⊎ (IsClearOn cs number p × (p < n))
+      split p x (inl e) = inl e
+      split p x (inr d) = inr (x, (let b = x.inside in omega (arith, b, long, d)))
 
 -- ---- so each best start that is known stays one, once that of the drive that the last leads to was looked at
 module _ {ds : List Drive} {rs : List Record} {own : List Target} (shown : CanBeShown ds rs own)
@@ -106,7 +112,8 @@ module _ {ds : List Drive} {rs : List Record} {own : List Target} (shown : CanBe
 
   pub arrived : {f g : Favorites} (at : ℕ) (t : Start) → AreFavored ds (take n cs) f → is_clear cs n ≡ true
       → at ≡ drive_place ds unit → t.place ≡ n → t.cost ≡ order_cost (drive_at ds rs n).unit (drive_at ds rs n).head
-      (record_at rs n).command.order → g.known ≡ f.known → IsLearned at (cheaper t (start_in f at)) f g
+      (record_at rs n).command.order → g.known ≡ f.known
+      → IsLearned at (cond (comes_before (start_in f at) t) (start_in f at) t) f g
       → AreFavored ds cs g
   arrived {f} {g} at t h clear is place cost same learned = record { each = λ k l on. by k l on (same_or k at) }
     where

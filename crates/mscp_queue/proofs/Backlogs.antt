@@ -1,22 +1,58 @@
 -- What a leave makes of the waiting commands, their dues, and what is left of all.
-use Rattle.mscp_queue.proofs.Basics.{◌≡◌, ◌<◌, ◌≤◌, ◌+◌, ◌-◌, ℕ, suc, Bool, true, false, not, List, [], ◌∷◌, ◌++◌, map, take, drop, get_or, length, append_assoc, sym, subst, ap, ◌∙◌, refl, arith, All, if◌then◌else◌, sum_by, AllByRecursion, drop-map, get_or-map, length-take-le, map-append, take-map, take_more, All-from_recursion, recursion_from_All, sum_by-append, sum_by-cons, Target, Slot, AreDue, AreTimed, Waiters, Record, is_in_service, left_of, no_target, targets, is_unfenced, is_unfenced_at, items, kind_of, kinds_of, lowered_by, lowered_unless_serving, no_slot, slot_at, abort_enough, due_aborted, due_ended, end_enough, items_append, items_fallen, items_unless, AreIdle, all_shown}
+use Rattle.mscp_queue.proofs.Basics.{Name, has_name, list_any, IfSome, Option, Some, None, ◌||◌, cond, left_if_serving, passes, told_most, unspent_tells, eqb-false, eqb-true, figure_at, filter, is_unstarted, lt-ltb, nat_eq, nat_lt, tells, ◌≡◌, ◌<◌, ◌≤◌, ◌+◌, ◌-◌, ℕ, suc, true, false, not, List, [], ◌∷◌, ◌++◌, map, take, drop, get_or, length, append_assoc, sym, subst, ap, ◌∙◌, refl, arith, All, sum_by, AllByRecursion, drop-map, get_or-map, length-append, length-take-le, map-append, take-map, take_more, All-from_recursion, recursion_from_All, sum_by-append, sum_by-cons, Target, Slot, AreDue, AreTimed, Waiters, Record, bare, record_at, told, is_in_service, left_of, no_target, targets, is_unfenced, is_unfenced_at, items, kind_of, kinds_of, lowered_by, no_slot, slot_at, abort_enough, due_aborted, due_ended, end_enough, items_append, items_fallen, AreIdle, all_shown, told_aborted, told_back, told_ended, told_front, told_item, told_left, told_long}
 use Rattle.mscp_queue.proofs.Placed.{at_place, cut_at, map_map}
 
 pub cut : (ss : List Slot) (place : ℕ) → place < length ss
     → ss ≡ take place ss ++ slot_at ss place ∷ drop (place + 1) ss
 cut ss place l = cut_at no_slot ss place l
 
-module _ (P : Record → Type 0) (ss : List Slot) (rs : List Record) (place : ℕ) (w : items ss ≡ rs) where
-  -- what holds of each record in front of a place, or behind it, of the slots'
-  pub front_of : All P (take place rs) → AllByRecursion P (items (take place ss))
-  front_of h = search (arith, recursion_from_All P (take place rs) h, take-map)
+-- how many wait, and what is left of all
+pub long_is : (budget clock : ℕ) (ss : List Slot) {now : Waiters}
+    → record { budget = budget; waiting = told budget clock ss; targets = targets ss } ≡ now
+    → length ss ≡ length now.waiting
+long_is budget clock ss view = sym (told_long budget clock ss) ∙ ap (λ (w : Waiters). length w.waiting) view
 
-  pub back_of : All P (drop place rs) → AllByRecursion P (items (drop place ss))
-  back_of h = search (arith, recursion_from_All P (drop place rs) h, drop-map)
+pub total_is : {budget clock total : ℕ} {ss : List Slot} {now : Waiters} → AreTimed budget clock total ss
+    → record { budget = budget; waiting = told budget clock ss; targets = targets ss } ≡ now
+    → total ≡ sum_by left_of now.waiting
+total_is {budget} {clock} {total} {ss} t view =
+    t.left ∙ (sym (told_left budget clock ss) ∙ ap (λ (w : Waiters). sum_by left_of w.waiting) view)
 
-pub of_items : (P : Record → Type 0) (ss : List Slot) → AllByRecursion P (items ss) → AllByRecursion (λ s. P s.item) ss
-of_items P [] h = tt
-of_items P (s ∷ ss) h = (h.0, of_items P ss h.1)
+-- whether one has a name
+pub any_is : (name : Name) (budget clock : ℕ) (ss : List Slot)
+    → list_any (has_name name) (told budget clock ss) ≡ list_any (has_name name) (items ss)
+any_is name budget clock [] = refl
+any_is name budget clock (s ∷ ss) = ap (λ b. has_name name s.item || b) (any_is name budget (clock + left_of s.item) ss)
+
+-- a place among waiting commands is a slot's, and the command stands there
+pub place_in : (budget clock : ℕ) (ss : List Slot) {rs : List Record} {place : ℕ} → told budget clock ss ≡ rs
+    → place < length rs → place < length ss
+place_in budget clock ss w l = omega (arith, l, ap length w, told_long budget clock ss)
+
+pub item_at : {budget clock total : ℕ} {ss : List Slot} {rs : List Record} {place : ℕ} → AreTimed budget clock total ss
+    → told budget clock ss ≡ rs → place < length rs → (slot_at ss place).item ≡ bare (record_at rs place)
+item_at {budget} {clock} {total} {ss} {rs} {place} t w l =
+    told_item budget clock ss place t.dues (place_in budget clock ss w l)
+    ∙ ap (λ rs. bare (record_at rs place)) w
+
+pub some_is : {budget clock total : ℕ} {ss : List Slot} {rs : List Record} (name : Name) (o : Option ℕ)
+    → AreTimed budget clock total ss → told budget clock ss ≡ rs
+    → IfSome o (λ place. (place < length ss) × (has_name name (slot_at ss place).item ≡ true))
+    → IfSome o (λ place. (place < length rs) × (has_name name (record_at rs place) ≡ true))
+some_is name None t w some = tt
+some_is {budget} {clock} {total} {ss} {rs} name (Some place) t w some =
+    let l : place < length rs = let m = some.0 in omega (arith, m, ap length w, told_long budget clock ss) in
+    (l, ap (λ (r : Record). has_name name r) (sym (item_at t w l)) ∙ some.1)
+
+module _ (budget clock : ℕ) (ss : List Slot) (rs : List Record) (place : ℕ) (w : told budget clock ss ≡ rs) where
+  -- nobody in front of a place, or behind it, is in service
+  pub front_of : All (λ r. r.done ≡ 0) (take place rs) → AreIdle (items (take place ss))
+  front_of h = told_front budget clock ss place (subst (λ zs. AreIdle (take place zs)) (sym w)
+      (recursion_from_All (λ (r : Record). r.done ≡ 0) (take place rs) h))
+
+  pub back_of : All (λ r. r.done ≡ 0) (drop place rs) → AreIdle (items (drop place ss))
+  back_of h = told_back budget clock ss place (subst (λ zs. AreIdle (drop place zs)) (sym w)
+      (recursion_from_All (λ (r : Record). r.done ≡ 0) (drop place rs) h))
 
 left_with : (front : List Slot) (y : Slot) (back : List Slot)
     → sum_by left_of (items (front ++ y ∷ back)) ≡ sum_by left_of (items (front ++ back)) + left_of y.item
@@ -32,6 +68,11 @@ left_with front y back = search (
 pub left_at : (ss : List Slot) (place : ℕ) → place < length ss → sum_by left_of (items ss)
     ≡ sum_by left_of (items (take place ss ++ drop (place + 1) ss)) + left_of (slot_at ss place).item
 left_at ss place l = search (arith, cut ss place l, left_with (take place ss) (slot_at ss place) (drop (place + 1) ss))
+
+-- no command has more left than all
+pub left_low : {budget clock total : ℕ} {ss : List Slot} {place : ℕ} → AreTimed budget clock total ss
+    → place < length ss → left_of (slot_at ss place).item ≤ total
+left_low {ss = ss} {place = place} t l = omega (arith, t.left, left_at ss place l)
 
 -- ---- a command in service leaves
 pub leave_timed : {budget clock total : ℕ} {ss ss' new : List Slot} {place n : ℕ}
@@ -51,7 +92,25 @@ leave_enough {budget} {clock} {total} {ss} {ss'} {place} {n} t l serving front b
     let P : Slot → Type 0 = λ s. n ≤ s.due in
     subst (All P) (sym gone) (All-from_recursion P
     (F ++ B) (subst (λ k. AllByRecursion (λ (s : Slot). k ≤ s.due) (F ++ B)) (sym e) (end_enough budget
-    clock (slot_at ss place) B back serving 0 F (subst (AreDue budget clock 0) (cut ss place l) t.dues) front)))
+    (slot_at ss place) B back serving clock F (subst (AreDue budget clock) (cut ss place l) t.dues) front)))
+
+-- what is told then
+pub leave_told : {budget clock total : ℕ} {ss ss' new : List Slot} {rs : List Record} {place n : ℕ}
+    → AreTimed budget clock total ss → place < length ss → is_in_service (slot_at ss place).item ≡ true
+    → AreIdle (items (take place ss)) → AreIdle (items (drop (place + 1) ss)) → n ≡ left_of (slot_at ss place).item
+    → told budget clock ss ≡ rs → ss' ≡ take place ss ++ drop (place + 1) ss → new ≡ map (lowered_by n) ss'
+    → told budget clock new ≡ take place rs ++ drop (place + 1) rs
+leave_told {budget} {clock} {total} {ss} {ss'} {new} {rs} {place} {n} t l serving front back e w gone fell =
+    let F = take place ss in
+    let y = slot_at ss place in
+    let B = drop (place + 1) ss in
+    let is = cut ss place l in
+    let long = length-take-le place ss (omega (arith, l)) in
+    let next : suc place ≡ place + 1 = omega arith in
+    ap (told budget clock) (fell ∙ (λ i. map (lowered_by (e i)) (gone i)))
+    ∙ (told_ended budget y B back serving clock F (subst (AreDue budget clock) is t.dues) front
+    ∙ (λ i. take (long i) (told budget clock (sym is i)) ++ drop (suc (long i)) (told budget clock (sym is i)))
+    ∙ (λ i. take place (w i) ++ drop (next i) (w i)))
 
 pub seen_left : {X : Type 0} (f : Slot → X) (n : ℕ) (ss ss' new : List Slot) (place : ℕ) (xs : List X)
     → ((s : Slot) → f (lowered_by n s) ≡ f s) → map f ss ≡ xs → ss' ≡ take place ss ++ drop (place + 1) ss
@@ -60,23 +119,32 @@ seen_left f n ss ss' new place xs same view gone fell = grind (arith, map_map, m
 
 -- ---- a command leaves that was never served
 pub behind_enough_at : {budget clock total : ℕ} {ss : List Slot} {place n : ℕ}
-    → AreTimed budget clock total ss → place < length ss
-    → n ≡ left_of (slot_at ss place).item → All (λ s. is_in_service s.item ≡ false → n ≤ s.due) (drop (place + 1) ss)
-behind_enough_at {budget} {clock} {total} {ss} {place} {n} t l e =
+    → AreTimed budget clock total ss → place < length ss → is_in_service (slot_at ss place).item ≡ false
+    → n ≡ left_of (slot_at ss place).item → All (λ s. n ≤ s.due) (drop (place + 1) ss)
+behind_enough_at {budget} {clock} {total} {ss} {place} {n} t l idle e =
     let y = slot_at ss place in
     let B = drop (place + 1) ss in
-    let P : Slot → Type 0 = λ s. is_in_service s.item ≡ false → n ≤ s.due in
-    All-from_recursion P B (subst (λ k. AllByRecursion (λ (s : Slot). is_in_service s.item ≡ false → k ≤ s.due) B)
-    (sym e) (abort_enough budget clock 0 (take place ss) y B (subst (AreDue budget clock 0) (cut ss place l) t.dues)))
+    let P : Slot → Type 0 = λ s. n ≤ s.due in
+    All-from_recursion P B (subst (λ k. AllByRecursion (λ (s : Slot). k ≤ s.due) B)
+    (sym e) (abort_enough budget y B idle clock (take place ss) (subst (AreDue budget clock) (cut ss place l) t.dues)))
+
+pub still_there : (ss new : List Slot) (place n : ℕ) → place < length ss
+    → new ≡ take (place + 1) ss ++ map (lowered_by n) (drop (place + 1) ss) → place < length new
+still_there ss new place n l fell = omega (
+  arith,
+  ap length fell,
+  length-append (take (place + 1) ss) (map (lowered_by n) (drop (place + 1) ss)),
+  length-take-le (place + 1) ss (omega (arith, l)),
+)
 
 -- what is left of slots whose dues fell behind a place, once the one at the place is taken out
 gone_behind : (ss ss' new : List Slot) (place n : ℕ) → place < length ss
-    → ss' ≡ take (place + 1) ss ++ map (lowered_unless_serving n) (drop (place + 1) ss) → new ≡ take place
-    ss' ++ drop (place + 1) ss' → new ≡ take place ss ++ map (lowered_unless_serving n) (drop (place + 1) ss)
+    → ss' ≡ take (place + 1) ss ++ map (lowered_by n) (drop (place + 1) ss) → new ≡ take place
+    ss' ++ drop (place + 1) ss' → new ≡ take place ss ++ map (lowered_by n) (drop (place + 1) ss)
 gone_behind ss ss' new place n l fell gone =
     let F = take place ss in
     let y = slot_at ss place in
-    let B = map (lowered_unless_serving n) (drop (place + 1) ss) in
+    let B = map (lowered_by n) (drop (place + 1) ss) in
     let long : length F ≡ place = length-take-le place ss (omega (arith, l)) in
     let one : ss' ≡ F ++ y ∷ B = search (arith, take_more ss place no_slot l, append_assoc F (y ∷ []) B) in
     let at = at_place ss' F y B place no_slot one long in
@@ -84,7 +152,7 @@ gone_behind ss ss' new place n l fell gone =
 
 pub leave_unstarted_timed : {budget clock total : ℕ} {ss ss' new : List Slot} {place n : ℕ}
     → AreTimed budget clock total ss → place < length ss → is_in_service (slot_at ss place).item ≡ false
-    → n ≡ left_of (slot_at ss place).item → ss' ≡ take (place + 1) ss ++ map (lowered_unless_serving n)
+    → n ≡ left_of (slot_at ss place).item → ss' ≡ take (place + 1) ss ++ map (lowered_by n)
     (drop (place + 1) ss) → new ≡ take place ss' ++ drop (place + 1) ss' → AreTimed budget clock (total - n) new
 leave_unstarted_timed {budget} {clock} {total} {ss} {ss'} {new} {place} {n} t l idle e fell gone = search (
   arith,
@@ -92,36 +160,47 @@ leave_unstarted_timed {budget} {clock} {total} {ss} {ss'} {new} {place} {n} t l 
   cut ss place l,
   left_at ss place l,
   items_append,
-  items_unless,
+  items_fallen,
   due_aborted,
 )
 
-pub seen_behind : {X : Type 0} (f : Slot → X) (n : ℕ) (ss ss' new : List Slot) (place : ℕ) (xs : List X)
-    → ((s : Slot) → f (lowered_by n s) ≡ f s) → place < length ss
-    → map f ss ≡ xs → ss' ≡ take (place + 1) ss ++ map (lowered_unless_serving n) (drop (place + 1) ss)
-    → new ≡ take place ss' ++ drop (place + 1) ss' → map f new ≡ take place xs ++ drop (place + 1) xs
-seen_behind {X} f n ss ss' new place xs same l view fell gone = ap (map f) (gone_behind ss ss' new place n l fell gone)
-    ∙ (map-append f (take place ss) (map (lowered_unless_serving n) (drop (place + 1) ss))
-    ∙ ((λ i. sym (take-map f place ss) i ++ (unless (drop (place + 1) ss) ∙ sym (drop-map f (place + 1) ss)) i)
+pub leave_unstarted_told : {budget clock total : ℕ} {ss ss' new : List Slot} {rs : List Record} {place n : ℕ}
+    → AreTimed budget clock total ss → place < length ss → is_in_service (slot_at ss place).item ≡ false
+    → n ≡ left_of (slot_at ss place).item → told budget clock ss ≡ rs
+    → ss' ≡ take (place + 1) ss ++ map (lowered_by n) (drop (place + 1) ss)
+    → new ≡ take place ss' ++ drop (place + 1) ss' → told budget clock new ≡ take place rs ++ drop (place + 1) rs
+leave_unstarted_told {budget} {clock} {total} {ss} {ss'} {new} {rs} {place} {n} t l idle e w fell gone =
+    let F = take place ss in
+    let y = slot_at ss place in
+    let B = drop (place + 1) ss in
+    let is = cut ss place l in
+    let long = length-take-le place ss (omega (arith, l)) in
+    let next : suc place ≡ place + 1 = omega arith in
+    ap (told budget clock) (gone_behind ss ss' new place n l fell gone ∙ (λ i. F ++ map (lowered_by (e i)) B))
+    ∙ (told_aborted budget y B idle clock F (subst (AreDue budget clock) is t.dues)
+    ∙ (λ i. take (long i) (told budget clock (sym is i)) ++ drop (suc (long i)) (told budget clock (sym is i)))
+    ∙ (λ i. take place (w i) ++ drop (next i) (w i)))
+
+pub seen_behind : (ss ss' new : List Slot) (place n : ℕ) (xs : List Target) → place < length ss
+    → targets ss ≡ xs → ss' ≡ take (place + 1) ss ++ map (lowered_by n) (drop (place + 1) ss)
+    → new ≡ take place ss' ++ drop (place + 1) ss' → targets new ≡ take place xs ++ drop (place + 1) xs
+seen_behind ss ss' new place n xs l view fell gone =
+    let f : Slot → Target = λ s. s.target in
+    ap targets (gone_behind ss ss' new place n l fell gone)
+    ∙ (map-append f (take place ss) (map (lowered_by n) (drop (place + 1) ss))
+    ∙ ((λ i. sym (take-map f place ss) i ++ (map_map (lowered_by n) f (drop (place + 1) ss)
+    ∙ sym (drop-map f (place + 1) ss)) i)
     ∙ (λ i. take place (view i) ++ drop (place + 1) (view i))))
-  where
-    unless : (zs : List Slot) → map f (map (lowered_unless_serving n) zs) ≡ map f zs
-    unless [] = refl
-    unless (z ∷ zs) = (λ i. one (is_in_service z.item) i ∷ unless zs i)
-      where
-        one : (b : Bool) → f (if b then z else lowered_by n z) ≡ f z
-        one true = refl
-        one false = same z
 
 -- ---- who keeps whom back
-pub kinds_are : (ss : List Slot) → kinds_of (items ss) (targets ss) ≡ map kind_of ss
-kinds_are [] = refl
-kinds_are (s ∷ ss) = ap (λ ks. kind_of s ∷ ks) (kinds_are ss)
+pub kinds_are : (budget clock : ℕ) (ss : List Slot) → kinds_of (told budget clock ss) (targets ss) ≡ map kind_of ss
+kinds_are budget clock [] = refl
+kinds_are budget clock (s ∷ ss) = ap (λ ks. kind_of s ∷ ks) (kinds_are budget (clock + left_of s.item) ss)
 
-pub unfenced_kinds : (ss : List Slot) (place : ℕ) (now : Waiters) (budget : ℕ)
-    → record { budget = budget; waiting = items ss; targets = targets ss } ≡ now → place < length ss
+pub unfenced_kinds : (budget clock : ℕ) (ss : List Slot) (place : ℕ) (now : Waiters)
+    → record { budget = budget; waiting = told budget clock ss; targets = targets ss } ≡ now → place < length ss
     → is_unfenced (slot_at ss place) (take place ss) ≡ is_unfenced_at (kinds_of now.waiting now.targets) place
-unfenced_kinds ss place now budget view l = grind (arith, get_or-map, take-map, kinds_are, all_shown, not)
+unfenced_kinds budget clock ss place now view l = grind (arith, get_or-map, take-map, kinds_are, all_shown, not)
 
 pub own_there : (ss : List Slot) (k : ℕ) → k < length ss → (slot_at ss k).target ≡ get_or (targets ss) k no_target
 own_there (s ∷ ss) (suc k) l = own_there ss k (omega (arith, l))
@@ -131,3 +210,57 @@ pub of_targets : (P : Target → Type 0) (ss : List Slot) → AllByRecursion (λ
     (targets ss)
 of_targets P [] h = tt
 of_targets P (s ∷ ss) h = (h.0, of_targets P ss h.1)
+
+-- ---- the figure of a place
+module _ {budget clock total : ℕ} {ss : List Slot} {now : Waiters} {place : ℕ} (t : AreTimed budget clock total ss)
+    (view : record { budget = budget; waiting = told budget clock ss; targets = targets ss }
+    ≡ now) (l : place < length now.waiting) where
+  w : told budget clock ss ≡ now.waiting
+  w = ap (λ (w : Waiters). w.waiting) view
+
+  pub figure_is : is_unstarted (slot_at ss place).item ≡ true
+      → (slot_at ss place).due ≡ clock + figure_at now.budget now.waiting place
+  figure_is e =
+      let done : (slot_at ss place).item.done ≡ 0 = eqb-true (slot_at ss place).item.done 0 e in
+      tells budget clock ss place t.dues (place_in budget clock ss w l) (ap (λ n. nat_lt 0 n) done)
+      ∙ ap (λ (k : Waiters). clock + figure_at k.budget k.waiting place) view
+
+  pub figure_left : is_unstarted (slot_at ss place).item ≡ false
+      → left_of (slot_at ss place).item ≡ figure_at now.budget now.waiting place
+  figure_left e =
+      let r = record_at now.waiting place in
+      let item : (slot_at ss place).item ≡ bare r = item_at t w l in
+      let done = ap (λ (q : Record). q.done) item in
+      let on : is_in_service r ≡ true = lt-ltb 0 r.done (positive r.done (eqb-false r.done 0
+      (ap (λ n. nat_eq n 0) (sym done) ∙ e))) in
+      ap (λ (q : Record). left_of q) item ∙ sym (ap (λ b. cond b (left_of r) (sum_by left_of (take place now.waiting)
+      + sum_by left_of (filter is_in_service (drop (place + 1) now.waiting)) + (now.budget - r.passed) + left_of r)) on)
+    where
+      positive : (n : ℕ) → (n ≡ 0 → ⊥) → 0 < n
+      positive n d = grind (arith, d)
+
+  -- by how many blocks the command at the place was passed
+  pub passed_is : (record_at now.waiting place).passed + (slot_at ss place).due
+      ≡ clock + sum_by left_of (take (place + 1) now.waiting) + sum_by left_if_serving (drop (place + 1) now.waiting)
+      + now.budget
+  passed_is = subst (λ (k : Waiters). (record_at k.waiting place).passed + (slot_at ss place).due
+      ≡ clock + sum_by left_of (take (place + 1) k.waiting) + sum_by left_if_serving (drop (place + 1) k.waiting)
+      + k.budget) view (passes budget clock ss place t.dues (place_in budget clock ss w l))
+
+  pub passed_low : (record_at now.waiting place).passed ≤ now.budget
+  passed_low = subst (λ (k : Waiters). (record_at k.waiting place).passed ≤ k.budget) view
+      (told_most budget clock ss place t.dues (place_in budget clock ss w l))
+
+-- what the oldest has left of its budget, if nobody is in service
+pub unspent_is : {budget clock total : ℕ} {ss : List Slot} {now : Waiters} → AreTimed budget clock total ss
+    → record { budget = budget; waiting = told budget clock ss; targets = targets ss } ≡ now → 0 < length now.waiting
+    → All (λ r. r.done ≡ 0) now.waiting
+    → ((slot_at ss 0).due ≡ clock + left_of (slot_at ss 0).item + (now.budget - (record_at now.waiting 0).passed))
+    × (now.budget < 4294967296)
+unspent_is {budget} {clock} {total} {ss} {now} t view some idle = (
+  unspent_tells budget clock ss t.dues (omega (arith, some, long_is budget clock ss view))
+      (subst AreIdle (sym (ap (λ (w : Waiters). w.waiting) view))
+      (recursion_from_All (λ (r : Record). r.done ≡ 0) now.waiting idle))
+      ∙ ap (λ (k : Waiters). clock + left_of (slot_at ss 0).item + (k.budget - (record_at k.waiting 0).passed)) view,
+  subst (λ (k : Waiters). k.budget < 4294967296) view t.fits,
+)

@@ -1,5 +1,5 @@
 -- The first of the cheapest of some starts.
-use Rattle.mscp_queue.proofs.Common.{◌≡◌, ◌⊎◌, inl, inr, ⊎_elim, ℕ, ◌<◌, ◌≤◌, Bool, true, false, cond, ◌||◌, nat_lt, refl, ap, sym, ◌∙◌, subst, arith, eq-eqb, eqb-true, eqb-false, ltb-true, ltb-false, IsAhead, IsBest, cheaper, comes_before, is_none}
+use Rattle.mscp_queue.proofs.Common.{◌≡◌, ◌⊎◌, inl, inr, ⊎_elim, ℕ, ◌<◌, Bool, true, false, cond, sym, ◌∙◌, subst, arith, eq-eqb, eqb-true, eqb-false, ltb-true, ltb-false, IsAhead, IsBest, comes_before}
 use Rattle.mscp_queue.specs.Starts.{Start}
 
 -- the same places at the same costs
@@ -55,47 +55,3 @@ best_of_two {P} {Q} {c} {one} {other} s false h k e f =
   where
     below : (one.place ≡ 64) ⊎ (P one.place × (one.cost ≡ c one.place)) → (one.place ≡ 64 → ⊥) → one.place < 64
     below o d = ⊎_elim (λ z. absurd (d z)) (λ z. (h.each one.place z.0).0) o
-
--- and one more, behind all that are there
-is_cheaper : (t s : Start) → (is_none s || nat_lt t.cost s.cost) ≡ true → (s.place ≡ 64) ⊎ (t.cost < s.cost)
-is_cheaper t s e = grind (arith, eqb-true, ltb-true)
-
-not_cheaper : (t s : Start) → (is_none s || nat_lt t.cost s.cost) ≡ false → (s.place ≡ 64 → ⊥) × (s.cost ≤ t.cost)
-not_cheaper t s e = grind (arith, eqb-false, ltb-false, eq-eqb)
-
-pub best_come : {P : ℕ → Type 0} {c : ℕ → ℕ} {s : Start} (t : Start) (n : ℕ) → IsBest P c s → ((p : ℕ) → P p → p < n)
-    → n < 64 → t.place ≡ n → t.cost ≡ c n → IsBest (λ p. P p ⊎ (p ≡ n)) c (cheaper t s)
-best_come {P} {c} {s} t n h below low place cost = by (is_none s || nat_lt t.cost s.cost) refl
-  where
-    least : (p : ℕ) → t.cost < s.cost → IsAhead s (c p) p → IsAhead t (c p) p
-    least p l a = grind arith
-
-    less_or : (a b : ℕ) → a ≤ b → (a < b) ⊎ (a ≡ b)
-    less_or a b l = grind arith
-
-    there : (s.place ≡ 64 → ⊥) → s.place < n
-    there d = ⊎_elim (λ e. absurd (d e)) (λ x. below s.place x.0) h.is
-
-    by : (b : Bool) → (is_none s || nat_lt t.cost s.cost) ≡ b → IsBest (λ p. P p ⊎ (p ≡ n)) c (cond b t s)
-    by true e = record {
-      is = inr (inr place, cost ∙ ap c (sym place));
-      each = λ p x. (
-        omega (arith, place, low),
-        ⊎_elim
-            (λ y. let a = h.each p y in ⊎_elim (λ z. absurd (let l = a.0 in omega (arith, z, l)))
-            (λ z. least p z a.1) (is_cheaper t s e))
-            (λ y. inr (cost ∙ ap c (sym y), omega (arith, place, y))) x,
-      );
-    }
-    by false e =
-        let f = not_cheaper t s e in
-        record {
-          is = ⊎_elim (λ z. absurd (f.0 z)) (λ z. inr (inl z.0, z.1)) h.is;
-          each = λ p x. ⊎_elim (λ y. h.each p y)
-              (λ y. let l = there f.0 in (
-                omega (arith, l, low),
-                subst (λ k. IsAhead s (c k) k) (sym y)
-                    (⊎_elim (λ z. inl (omega (arith, z, cost))) (λ z. inr (z ∙ cost, omega (arith, l)))
-                    (less_or s.cost t.cost f.1)),
-              )) x;
-        }

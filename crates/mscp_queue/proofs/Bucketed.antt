@@ -1,5 +1,5 @@
 -- The buckets stay those of the waiting commands, and a command is found by its number.
-use Rattle.mscp_queue.proofs.Basics.{◌≡◌, ◌≢◌, ◌<◌, ◌+◌, ◌⊎◌, ⊎_elim, inl, inr, ℕ, suc, Bool, true, false, cond, ◌&&◌, ◌||◌, nat_eq, List, [], ◌∷◌, ◌++◌, set, take, drop, remove, get_or, length, sym, subst, ap, ◌∙◌, refl, arith, bit_at, eq-eqb, get_or-set_other, get_or-set_same, list_any, one_bit, same_or, true≢false, Masks, AreSlots, Record, and_parts, ne_eqb, slot_low, has_name, AreApart, IfSome, item_there, length-map, Option, Some, None, is_some, name_of, names, no_record, position, position_any, record_at, Slot, slot_at, shown, IsNumber, cut_order, same_is}
+use Rattle.mscp_queue.proofs.Basics.{◌≡◌, ◌≢◌, ◌<◌, ◌+◌, ◌⊎◌, ⊎_elim, inl, inr, ℕ, suc, Bool, true, false, cond, ◌&&◌, ◌||◌, nat_eq, List, [], ◌∷◌, ◌++◌, set, take, drop, remove, get_or, length, sym, subst, ap, ◌∙◌, refl, arith, bit_at, eq-eqb, get_or-set_other, get_or-set_same, list_any, one_bit, same_or, true≢false, Masks, AreSlots, Record, and_parts, ne_eqb, slot_low, has_name, AreApart, IfSome, Option, Some, None, is_some, name_of, names, no_record, position, position_any, record_at, Slot, shown, IsNumber, cut_order, same_is}
 use Rattle.mscp_queue.proofs.Common.{and_right, IfNone, AreBuckets, AreSlotted, IsPut, IsSet, Name, Target, bit, bucket_at, bucket_of, has, items}
 use Rattle.mscp_queue.proofs.Masked.{classes_pushed}
 use Rattle.mscp_queue.proofs.Departed.{classes_without, order_left}
@@ -115,16 +115,13 @@ module _ {rs : List Record} {own : List Target} {order : List ℕ} {m : Masks} {
 
 -- ---- among names that stand once
 -- a place of a command of this name is that of the first one, and where there is none there is no first
-pub found_place : (name : Name) (now : List Slot) (o : Option ℕ) → AreApart (names (items now))
-    → IfSome o (λ place. (place < length now) × (has_name name (slot_at now place).item ≡ true))
-    → IfNone o (list_any (has_name name) (items now) ≡ false) → o ≡ position (has_name name) (items now)
-found_place name now (Some place) apart some none =
-    let named = ap (has_name name) (sym (item_there now place some.0)) ∙ some.1 in
-    sym (name_found (items now) name place (position (has_name name) (items now)) apart
-    (let l = some.0 in omega (arith, l, length-map now (λ (s : Slot). s.item)))
-    (same_is (name_of (record_at (items now) place)) name named) refl)
-found_place name now None apart some none =
-    sym (no_place (position (has_name name) (items now)) (position_any (has_name name) (items now) ∙ none))
+pub found_place : (name : Name) (rs : List Record) (o : Option ℕ) → AreApart (names rs)
+    → IfSome o (λ place. (place < length rs) × (has_name name (record_at rs place) ≡ true))
+    → IfNone o (list_any (has_name name) rs ≡ false) → o ≡ position (has_name name) rs
+found_place name rs (Some place) apart some none = sym (name_found rs name place (position (has_name name) rs) apart
+    some.0 (same_is (name_of (record_at rs place)) name some.1) refl)
+found_place name rs None apart some none =
+    sym (no_place (position (has_name name) rs) (position_any (has_name name) rs ∙ none))
   where
     no_place : (o : Option ℕ) → is_some o ≡ false → o ≡ None
     no_place None e = refl

@@ -29,10 +29,10 @@ pub use Rattle.mscp_packet.specs.declared.command.Order.{Order}
 pub use Rattle.mscp_packet.specs.declared.end.BodyKind.{BodyKind}
 pub use Rattle.mscp_packet.specs.declared.end.End.{End}
 pub use Rattle.mscp_queue.specs.Buckets.{AreBuckets, IsPut, bucket_at, bucket_of}
-pub use Rattle.mscp_queue.specs.Starts.{cheaper, closed, comes_before, is_none, place_closed, start_of}
+pub use Rattle.mscp_queue.specs.Starts.{closed, comes_before, is_none, place_closed, start_of}
 pub use Rattle.mscp_queue.specs.Favorites.{AreFavored, AreOnDrive, IsAhead, IsBest, IsClear, IsClearOn, IsFirstOf, IsLearned, IsMarked, IsNearOf, IsOpenOn, KnowsNothing, bars, command_at, commands, cost_at, cost_of, cost_on, cost_there, drive_in, is_clear, kind_there, knows, start_in}
 pub use Rattle.mscp_queue.specs.Drives.{IsOnUnit, drive_of, fresh_drive, has_number, replaced}
-pub use Rattle.mscp_queue.specs.Dues.{AreDue, AreTimed, figure_in, started}
+pub use Rattle.mscp_queue.specs.Dues.{AreDue, AreTimed, IsDue, due_of, last_end, left_in_service, told}
 pub use Rattle.mscp_queue.specs.Figures.{figure_at, figures_from, looked_at}
 pub use Rattle.mscp_queue.specs.Kept.{AreApart, ArePassedInOrder, CanBeShown, HasBlocks, IsHeld, IsInside, IsKept, IsOfUnit, IsReady, IsShut, IsStillServable, IsWaitable, begun_name, is_known, names, place_served, place_without, units_of}
 pub use Rattle.mscp_queue.specs.Lanes.{HasLanes, IsCost, IsFirst, IsLane, IsLeast, IsLow, lowered}
@@ -44,9 +44,9 @@ pub use Rattle.mscp_queue.specs.Outcomes.{IsCoded, aborted_end, moved_body, outc
 pub use Rattle.mscp_queue.specs.Pairs.{Pairs}
 pub use Rattle.mscp_queue.specs.Pickers.{IsRow, IsSweep, costs}
 pub use Rattle.mscp_queue.specs.Ranges.{AreRanged, IsAbove, IsBelow, IsIn, IsNearest, IsSooner, range_at}
-pub use Rattle.mscp_queue.specs.Records.{IsAlone, Record, advanced, charge, drive_at, fresh_record, has_name, is_in_service, is_unstarted, left_if_serving, left_of, name_of, no_record, passed_by, record_at, step_charge, without}
+pub use Rattle.mscp_queue.specs.Records.{IsAlone, Record, advanced, bare, charge, drive_at, fresh_record, has_name, is_in_service, is_unstarted, left_if_serving, left_of, name_of, no_record, passed_by, record_at, step_charge, without}
 pub use Rattle.mscp_queue.specs.Serving.{IsNext, IsServable, begun_without, drive_after, end_given, has_block, is_begun, place_begun, plan_of, report_of, state_left, touched, upcoming_begun, upcoming_of, waiting_after}
-pub use Rattle.mscp_queue.specs.Slots.{AreKept, AreRanges, AreSlotted, IsLowestUntaken, Slot, filled, held, is_unfenced, is_unfenced_at, items, kind_at, kind_of, kinds, kinds_of, lowered_by, lowered_unless_serving, no_kind, no_slot, numbers, shown, slot_at, targets, with_due, with_item}
+pub use Rattle.mscp_queue.specs.Slots.{AreKept, AreRanges, AreSlotted, IsLowestUntaken, Slot, filled, held, is_unfenced, is_unfenced_at, items, kind_at, kind_of, kinds, kinds_of, lowered_by, no_kind, no_slot, numbers, shown, slot_at, targets, with_item}
 pub use Rattle.mscp_queue.specs.Targets.{IsTargeted, no_target, range_of, target_of, targets_of, unit_place}
 pub use Rattle.mscp_queue.specs.Views.{IsPick, MayAllPass, choice_name, choice_of, choices_at, is_affordable, is_free, is_open, is_open_at, open_places, view_of}
 pub use Rattle.mscp_queue.specs.Waiters.{Waiters}

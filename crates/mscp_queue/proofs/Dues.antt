@@ -1,24 +1,21 @@
--- Each event keeps the dues, and a due less the clock is the figure.
-use Rattle.mscp_queue.proofs.Common.{◌≡◌, ◌<◌, ◌≤◌, ◌+◌, ◌-◌, ℕ, suc, Bool, true, false, cond, List, [], ◌∷◌, ◌++◌, map, take, drop, get_or, length, sym, subst, ap, ◌∙◌, refl, arith, filter, nat_lt, sum_by, AllByRecursion, lt-ltb, length-map, sum_by-cons, Slot, AreDue, figure_in, figure_at, Record, advanced, is_in_service, left_if_serving, left_of, no_record, passed_by, record_at, items, lowered_by, lowered_unless_serving, slot_at, with_item}
+-- Each event keeps the dues, and makes of what is told of the slots what it should.
+use Rattle.mscp_queue.proofs.Common.{◌≡◌, ◌<◌, ◌≤◌, ◌+◌, ◌-◌, ℕ, zero, suc, true, false, cond, List, [], ◌∷◌, ◌++◌, map, take, drop, get_or, length, sym, subst, ap, ◌∙◌, refl, arith, filter, nat_lt, sum_by, AllByRecursion, lt-ltb, take_more, sum_by-append, sum_by-cons, Slot, AreDue, IsDue, bare, figure_at, last_end, left_in_service, told, Record, advanced, is_in_service, left_if_serving, left_of, no_record, passed_by, record_at, items, lowered_by, slot_at}
 use Rattle.mscp_queue.proofs.Held.{AreIdle}
-
-abbrev serving : List Slot → ℕ
-serving ss = sum_by left_if_serving (items ss)
 
 idle_of : (r : Record) → r.done ≡ 0 → is_in_service r ≡ false
 idle_of r e = ap (nat_lt 0) e
 
-idle_left : (r : Record) → is_in_service r ≡ false → left_if_serving r ≡ 0
+pub idle_left : (r : Record) → is_in_service r ≡ false → left_if_serving r ≡ 0
 idle_left r e = ap (λ t. cond t (left_of r) 0) e
 
-serving_left : (r : Record) → is_in_service r ≡ true → left_if_serving r ≡ left_of r
+pub serving_left : (r : Record) → is_in_service r ≡ true → left_if_serving r ≡ left_of r
 serving_left r e = ap (λ t. cond t (left_of r) 0) e
 
 serving_cons : (r : Record) (rs : List Record) → sum_by left_if_serving (r ∷ rs) ≡ left_if_serving r
     + sum_by left_if_serving rs
 serving_cons r rs = sum_by-cons left_if_serving r rs
 
-idle_serving : (rs : List Record) → AreIdle rs → sum_by left_if_serving rs ≡ 0
+pub idle_serving : (rs : List Record) → AreIdle rs → sum_by left_if_serving rs ≡ 0
 idle_serving [] i = refl
 idle_serving (r ∷ rs) i = omega (arith, serving_cons r rs, idle_left r (idle_of r i.0), idle_serving rs i.1)
 
@@ -52,257 +49,361 @@ pub items_fallen : (n : ℕ) (ss : List Slot) → items (map (lowered_by n) ss) 
 items_fallen n [] = refl
 items_fallen n (s ∷ ss) = ap (λ rs. s.item ∷ rs) (items_fallen n ss)
 
-pub items_unless : (n : ℕ) (ss : List Slot) → items (map (lowered_unless_serving n) ss) ≡ items ss
-items_unless n [] = refl
-items_unless n (s ∷ ss) = search (arith, items_unless n ss)
-
 pub item_there : (ss : List Slot) (k : ℕ) → k < length ss → (slot_at ss k).item ≡ get_or (items ss) k no_record
 item_there (s ∷ ss) (suc k) l = item_there ss k (omega (arith, l))
 item_there ss k h2 = grind arith
-
--- a place among waiting commands that stand in slots is a slot's, and the command stands there
-pub place_in : (ss : List Slot) {rs : List Record} {place : ℕ} → items ss ≡ rs → place < length rs → place < length ss
-place_in ss w l = omega (arith, l, ap length w, length-map ss (λ (s : Slot). s.item))
-
-pub item_at : (ss : List Slot) {rs : List Record} {place : ℕ} → items ss ≡ rs → place < length rs
-    → (slot_at ss place).item ≡ record_at rs place
-item_at ss {place = place} w l = item_there ss place (place_in ss w l) ∙ ap (λ rs. record_at rs place) w
 
 pub lowered_none : (n : ℕ) (ss : List Slot) → n ≡ 0 → ss ≡ map (lowered_by n) ss
 lowered_none n [] e = refl
 lowered_none n (s ∷ ss) e = search (arith, lowered_none n ss e)
 
+-- what is left in service, by a filter
+filtered : (rs : List Record) → sum_by left_if_serving rs ≡ sum_by left_of (filter is_in_service rs)
+filtered [] = refl
+filtered (r ∷ rs) =
+    search (arith, sum_by-cons left_if_serving r rs, filtered rs, sum_by-cons left_of r (filter is_in_service rs))
+
+-- a record with this count of the blocks that passed its command
+abbrev with_passed : ℕ → Record → Record
+with_passed n r = record r { passed = n }
+
+-- what a step at a place makes of records: n more blocks passed those in front of it
+abbrev pub stepped : ℕ → ℕ → List Record → List Record
+stepped n place rs = map (passed_by n) (take place rs) ++ advanced (record_at rs place) ∷ drop (suc place) rs
+
 module _ (budget : ℕ) where
-  fig_idle : (b a : ℕ) (r : Record)
-      → is_in_service r ≡ false → figure_in budget b a r ≡ b + a + (budget - r.passed) + left_of r
-  fig_idle b a r e = ap (λ t. cond t (left_of r) (b + a + (budget - r.passed) + left_of r)) e
+  -- what is told of the first of slots
+  abbrev first_told : ℕ → Slot → List Slot → Record
+  first_told a s ss = with_passed ((last_end a (left_in_service ss) s + budget) - s.due) s.item
 
-  fig_serving : (b a : ℕ) (r : Record) → is_in_service r ≡ true → figure_in budget b a r ≡ left_of r
-  fig_serving b a r e = ap (λ t. cond t (left_of r) (b + a + (budget - r.passed) + left_of r)) e
+  -- ---- what is told, but for the passes
+  pub told_long : (a : ℕ) (ss : List Slot) → length (told budget a ss) ≡ length ss
+  told_long a [] = refl
+  told_long a (s ∷ ss) = ap suc (told_long (a + left_of s.item) ss)
 
-  at_before : (c b b' : ℕ) (ss : List Slot) → b ≡ b' → AreDue budget c b ss → AreDue budget c b' ss
-  at_before c b b' ss e a = subst (λ b. AreDue budget c b ss) e a
+  pub told_bare : (a : ℕ) (ss : List Slot) → AreDue budget a ss → map bare (told budget a ss) ≡ items ss
+  told_bare a [] d = refl
+  told_bare a (s ∷ ss) d =
+      λ i. with_passed (sym d.0.bare i) s.item ∷ told_bare (a + left_of s.item) ss d.1 i
+
+  pub told_item : (a : ℕ) (ss : List Slot) (k : ℕ) → AreDue budget a ss → k < length ss
+      → (slot_at ss k).item ≡ bare (record_at (told budget a ss) k)
+  told_item a [] k d l = absurd (omega (arith, l))
+  told_item a (s ∷ ss) zero d l = λ i. with_passed (d.0.bare i) s.item
+  told_item a (s ∷ ss) (suc k) d l = told_item (a + left_of s.item) ss k d.1 (omega (arith, l))
+
+  pub told_left : (a : ℕ) (ss : List Slot) → sum_by left_of (told budget a ss) ≡ sum_by left_of (items ss)
+  told_left a [] = refl
+  told_left a (s ∷ ss) = sum_by-cons left_of (first_told a s ss) (told budget (a + left_of s.item) ss)
+      ∙ (ap (λ n. left_of s.item + n) (told_left (a + left_of s.item) ss) ∙ sym (sum_by-cons left_of s.item (items ss)))
+
+  pub told_serving : (a : ℕ) (ss : List Slot) → sum_by left_if_serving (told budget a ss) ≡ left_in_service ss
+  told_serving a [] = refl
+  told_serving a (s ∷ ss) = serving_cons (first_told a s ss) (told budget (a + left_of s.item) ss)
+      ∙ (ap (λ n. left_if_serving s.item + n) (told_serving (a + left_of s.item) ss)
+      ∙ sym (serving_cons s.item (items ss)))
+
+  pub told_front : (a : ℕ) (ss : List Slot) (place : ℕ) → AreIdle (take place (told budget a ss))
+      → AreIdle (items (take place ss))
+  told_front a [] zero i = tt
+  told_front a [] (suc place) i = tt
+  told_front a (s ∷ ss) zero i = tt
+  told_front a (s ∷ ss) (suc place) i = (i.0, told_front (a + left_of s.item) ss place i.1)
+
+  pub told_back : (a : ℕ) (ss : List Slot) (place : ℕ) → AreIdle (drop place (told budget a ss))
+      → AreIdle (items (drop place ss))
+  told_back a [] zero i = tt
+  told_back a [] (suc place) i = tt
+  told_back a (s ∷ ss) zero i = (i.0, told_back (a + left_of s.item) ss 0 i.1)
+  told_back a (s ∷ ss) (suc place) i = told_back (a + left_of s.item) ss place i
+
+  pub at_same : {a b : ℕ} (ss : List Slot) → a ≡ b → AreDue budget a ss → AreDue budget b ss
+  at_same ss e d = subst (λ a. AreDue budget a ss) e d
+
+  -- ---- what is told stays
+  -- slots at one clock and at another, of which the same is told
+  pub record Keeps (a b : ℕ) (old new : List Slot) : Type 0 where
+    pub dues : AreDue budget b new
+    pub same : told budget b new ≡ told budget a old
+
+  -- where less is left before them, or the clock is set back
+  pub fallen : (a n : ℕ) (ss : List Slot) → AreDue budget (a + n) ss → Keeps (a + n) a ss (map (lowered_by n) ss)
+  fallen a n [] d = record { dues = tt; same = refl }
+  fallen a n (s ∷ ss) d =
+      let e : a + n + left_of s.item ≡ a + left_of s.item + n = omega arith in
+      let rest = fallen (a + left_of s.item) n ss (at_same ss e d.1) in
+      let serving = ap (sum_by left_if_serving) (items_fallen n ss) in
+      let least = d.0.least in
+      let most = d.0.most in
+      let p : (last_end a (left_in_service (map (lowered_by n) ss)) (lowered_by n s) + budget) - (s.due - n)
+      ≡ (last_end (a + n) (left_in_service ss) s + budget) - s.due = omega (arith, serving, least) in
+      record {
+        dues = (
+          record {
+            bare = d.0.bare;
+            least = omega (arith, serving, least);
+            most = omega (arith, serving, most, least);
+          },
+          rest.dues,
+        );
+        same = λ i. with_passed (p i) s.item ∷ (rest.same ∙ ap (λ k. told budget k ss) (sym e)) i;
+      }
+
+  -- they have more to wait than what is left before them
+  pub fallen_enough : (a n : ℕ) (ss : List Slot) → AreDue budget (a + n) ss → AllByRecursion (λ s. n ≤ s.due) ss
+  fallen_enough a n [] d = tt
+  fallen_enough a n (s ∷ ss) d =
+      let least = d.0.least in
+      let e : a + n + left_of s.item ≡ a + left_of s.item + n = omega arith in
+      (omega (arith, least), fallen_enough (a + left_of s.item) n ss (at_same ss e d.1))
 
   -- ---- a push
-  pub due_pushed : (c b : ℕ) (ss : List Slot) (x : Slot) → AreDue budget c b ss → is_in_service x.item ≡ false
-      → x.due ≡ c + (b + sum_by left_of (items ss)) + (budget - x.item.passed) + left_of x.item
-      → AreDue budget c b (ss ++ x ∷ [])
-  due_pushed c b [] x a e n = let f = fig_idle b 0 x.item e in (omega (arith, f, n), tt)
-  due_pushed c b (s ∷ ss) x a e n =
-      let same : sum_by left_if_serving (items (ss ++ x ∷ [])) ≡ sum_by left_if_serving (items ss) =
-      ap (sum_by left_if_serving) (items_append ss (x ∷ [])) ∙ serving_pushed (items ss) x.item e in
-      let n' : x.due ≡ c + (b + left_of s.item + sum_by left_of (items ss)) + (budget - x.item.passed) + left_of
-      x.item = omega (arith, sum_by-cons left_of s.item (items ss), n) in
-      (a.0 ∙ ap (λ k. c + figure_in budget b k s.item) (sym same), due_pushed c (b + left_of s.item) ss x a.1 e n')
-    where
-      serving_pushed : (rs : List Record) (x : Record) → is_in_service x ≡ false
-          → sum_by left_if_serving (rs ++ x ∷ []) ≡ sum_by left_if_serving rs
-      serving_pushed [] x e = serving_cons x [] ∙ omega (arith, idle_left x e)
-      serving_pushed (r ∷ rs) x e = serving_cons r (rs ++ x ∷ [])
-          ∙ ap (λ s. left_if_serving r + s) (serving_pushed rs x e) ∙ sym (serving_cons r rs)
+  serving_pushed : (ss : List Slot) (x : Slot) → x.item.done ≡ 0 → left_in_service (ss ++ x ∷ []) ≡ left_in_service ss
+  serving_pushed [] x idle = serving_cons x.item [] ∙ omega (arith, idle_left x.item (idle_of x.item idle))
+  serving_pushed (s ∷ ss) x idle = serving_cons s.item (items (ss ++ x ∷ []))
+      ∙ ap (λ n. left_if_serving s.item + n) (serving_pushed ss x idle) ∙ sym (serving_cons s.item (items ss))
+
+  pub due_pushed : (a : ℕ) (ss : List Slot) (x : Slot) → AreDue budget a ss → x.item.passed ≡ 0 → x.item.done ≡ 0
+      → x.due ≡ a + sum_by left_of (items ss) + budget + left_of x.item → AreDue budget a (ss ++ x ∷ [])
+  due_pushed a [] x d bare idle n = (record { bare = bare; least = omega (arith, n); most = omega (arith, n) }, tt)
+  due_pushed a (s ∷ ss) x d bare idle n =
+      let n' : x.due ≡ a + left_of s.item + sum_by left_of (items ss) + budget + left_of x.item =
+      omega (arith, sum_by-cons left_of s.item (items ss), n) in
+      (
+        subst (λ k. IsDue budget a k s) (sym (serving_pushed ss x idle)) d.0,
+        due_pushed (a + left_of s.item) ss x d.1 bare idle n',
+      )
+
+  pub told_pushed : (a : ℕ) (ss : List Slot) (x : Slot) → x.item.passed ≡ 0 → x.item.done ≡ 0
+      → x.due ≡ a + sum_by left_of (items ss) + budget + left_of x.item
+      → told budget a (ss ++ x ∷ []) ≡ told budget a ss ++ x.item ∷ []
+  told_pushed a [] x bare idle n =
+      let p : (last_end a 0 x + budget) - x.due ≡ x.item.passed = omega (arith, n, bare) in
+      λ i. with_passed (p i) x.item ∷ []
+  told_pushed a (s ∷ ss) x bare idle n =
+      let n' : x.due ≡ a + left_of s.item + sum_by left_of (items ss) + budget + left_of x.item =
+      omega (arith, sum_by-cons left_of s.item (items ss), n) in
+      let p = ap (λ k. (last_end a k s + budget) - s.due) (serving_pushed ss x idle) in
+      λ i. with_passed (p i) s.item ∷ told_pushed (a + left_of s.item) ss x bare idle n' i
 
   -- ---- a step
-  -- those behind a step: one less is left before them, and the clock rose
-  behind_step : (c b : ℕ) (ss : List Slot)
-      → AreDue budget c (b + 1) ss → AreIdle (items ss) → AreDue budget (c + 1) b ss
-  behind_step c b [] a i = tt
-  behind_step c b (s ∷ ss) a i = search (
-    arith,
-    fig_idle (b + 1) (serving ss) s.item (idle_of s.item i.0),
-    idle_of s.item i.0,
-    fig_idle b (serving ss) s.item (idle_of s.item i.0),
-    behind_step c (b + left_of s.item)
-        ss (at_before c (b + 1 + left_of s.item) (b + left_of s.item + 1) ss (omega arith) a.1) i.1,
-    at_before c (b + 1 + left_of s.item) (b + left_of s.item + 1) ss (omega arith) a.1,
-  )
+  -- of a command that isn't passed by more than the budget, once it was passed by n more
+  abbrev pub MayPass : ℕ → List Record → Type 0
+  MayPass n rs = AllByRecursion (λ r. r.passed + n ≤ budget) rs
 
-  module _ (c w : ℕ) (y z : Slot) (back : List Slot) (j : AreIdle (items back)) (idle : y.item.done
-      ≡ 0) (weighs : left_of y.item ≡ w) (step : z.item ≡ advanced y.item) (due : z.due ≡ c + w) (some : 0 < w) where
-    abbrev pass : Slot → Slot
-    pass = with_item (passed_by w)
+  -- nothing passed by more than the budget
+  pub told_within : (a : ℕ) (ss : List Slot) (place : ℕ) → AreDue budget a ss
+      → MayPass 0 (take place (told budget a ss))
+  told_within a [] zero d = tt
+  told_within a [] (suc place) d = tt
+  told_within a (s ∷ ss) zero d = tt
+  told_within a (s ∷ ss) (suc place) d =
+      let least = d.0.least in (omega (arith, least), told_within (a + left_of s.item) ss place d.1)
 
+  module _ (n : ℕ) (y z : Slot) (back : List Slot) (j : AreIdle (items back)) (charge : left_of y.item
+      ≡ left_if_serving y.item + n) (unfinished : y.item.done < y.item.weight) (step : z.item ≡ advanced y.item)
+      (due : z.due ≡ y.due) where
     busy : is_in_service z.item ≡ true
     busy = ap (λ (r : Record). is_in_service r) step ∙ lt-ltb 0 (y.item.done + 1) (omega arith)
 
     less : left_of z.item + 1 ≡ left_of y.item
-    less = let e = ap (λ (r : Record). left_of r) step in omega (arith, e, weighs, some)
+    less = let e = ap (λ (r : Record). left_of r) step in omega (arith, e, unfinished)
 
-    pass_idle : (front : List Slot) → AreIdle (items front) → AreIdle (items (map pass front))
-    pass_idle [] i = tt
-    pass_idle (x ∷ front) i = (i.0, pass_idle front i.1)
+    before : (front : List Slot) → AreIdle (items front) → left_in_service (front ++ y ∷ back) ≡ left_if_serving y.item
+    before front i = ap (sum_by left_if_serving) (items_append front (y ∷ back))
+        ∙ serving_mid (items front) y.item (items back) i j
 
-    pub due_started : (b : ℕ) (front : List Slot) → AreDue budget c b (front ++ y ∷ back) → AreIdle (items front)
-        → AllByRecursion (λ s. s.item.passed + w ≤ budget) front → AreDue budget (c + 1) b (map pass front ++ z ∷ back)
-    due_started b [] a i p = (
-      omega (arith, fig_serving b (serving back) z.item busy, less, weighs, due),
-      behind_step c (b + left_of z.item)
-          back (at_before c (b + left_of y.item) (b + left_of z.item + 1) back (omega (arith, less)) a.1) j,
-    )
-    due_started b (x ∷ front) a i p =
-        let f = fig_idle b (serving (front ++ y ∷ back)) x.item (idle_of x.item i.0) in
-        let g = fig_idle b (serving (map pass front ++ z ∷ back)) (passed_by w x.item) (idle_of x.item i.0) in
-        let s = ap (sum_by left_if_serving) (items_append front (y ∷ back))
-        ∙ serving_mid (items front) y.item (items back) i.1 j ∙ idle_left y.item (idle_of y.item idle) in
-        let t = ap (sum_by left_if_serving) (items_append (map pass front) (z ∷ back))
-        ∙ serving_mid (items (map pass front)) z.item (items back) (pass_idle front i.1) j ∙ serving_left z.item busy in
-        (omega (arith, f, g, s, t, a.0, p.0, less, weighs), due_started (b + left_of x.item) front a.1 i.1 p.1)
+    after : (front : List Slot) → AreIdle (items front) → left_in_service (front ++ z ∷ back) ≡ left_of z.item
+    after front i = ap (sum_by left_if_serving) (items_append front (z ∷ back))
+        ∙ serving_mid (items front) z.item (items back) i j ∙ serving_left z.item busy
 
-  module _ (c : ℕ) (y z : Slot) (back : List Slot) (j : AreIdle (items back)) (was : is_in_service y.item
-      ≡ true) (unfinished : y.item.done < y.item.weight) (step : z.item ≡ advanced y.item) (due : z.due ≡ y.due) where
-    busy_too : is_in_service z.item ≡ true
-    busy_too = ap (λ (r : Record). is_in_service r) step ∙ lt-ltb 0 (y.item.done + 1) (omega arith)
+    there : (a : ℕ) → a + 1 + left_of z.item ≡ a + left_of y.item
+    there a = omega (arith, less)
 
-    less_too : left_of z.item + 1 ≡ left_of y.item
-    less_too = let e = ap (λ (r : Record). left_of r) step in omega (arith, e, unfinished)
-
-    pub due_stepped : (b : ℕ) (front : List Slot)
-        → AreDue budget c b (front ++ y ∷ back) → AreIdle (items front) → AreDue budget (c + 1) b (front ++ z ∷ back)
-    due_stepped b [] a i =
-        let f = fig_serving b (serving back) y.item was in
-        let g = fig_serving b (serving back) z.item busy_too in
-        let h = a.0 in (
-          omega (arith, f, g, h, less_too, due),
-          behind_step c (b + left_of z.item) back
-              (at_before c (b + left_of y.item) (b + left_of z.item + 1) back (omega (arith, less_too)) a.1) j,
+    pub due_stepped : (a : ℕ) (front : List Slot) → AreDue budget a (front ++ y ∷ back) → AreIdle (items front)
+        → MayPass n (take (length front) (told budget a (front ++ y ∷ back)))
+        → AreDue budget (a + 1) (front ++ z ∷ back)
+    due_stepped a [] d i m =
+        let least = d.0.least in
+        let most = d.0.most in
+        let none = idle_serving (items back) j in
+        let bare = ap (λ (r : Record). r.passed) step ∙ d.0.bare in (
+          record {
+            bare = bare;
+            least = omega (arith, least, none, less, due);
+            most = omega (arith, most, none, less, due);
+          },
+          at_same back (sym (there a)) d.1,
         )
-    due_stepped b (x ∷ front) a i =
-        let f = fig_idle b (serving (front ++ y ∷ back)) x.item (idle_of x.item i.0) in
-        let g = fig_idle b (serving (front ++ z ∷ back)) x.item (idle_of x.item i.0) in
-        let s = ap (sum_by left_if_serving) (items_append front (y ∷ back))
-        ∙ serving_mid (items front) y.item (items back) i.1 j ∙ serving_left y.item was in
-        let t = ap (sum_by left_if_serving) (items_append front (z ∷ back))
-        ∙ serving_mid (items front) z.item (items back) i.1 j ∙ serving_left z.item busy_too in
-        (omega (arith, f, g, s, t, a.0, less_too), due_stepped (b + left_of x.item) front a.1 i.1)
+    due_stepped a (x ∷ front) d i m =
+        let least = d.0.least in
+        let most = d.0.most in
+        let may = m.0 in
+        let e : a + left_of x.item + 1 ≡ a + 1 + left_of x.item = omega arith in (
+          record {
+            bare = d.0.bare;
+            least = omega (arith, least, most, may, before front i.1, after front i.1, less, charge);
+            most = omega (arith, most, before front i.1, after front i.1, less, charge);
+          },
+          at_same (front ++ z ∷ back) e (due_stepped (a + left_of x.item) front d.1 i.1 m.1),
+        )
+
+    pub told_stepped : (a : ℕ) (front : List Slot) → AreDue budget a (front ++ y ∷ back) → AreIdle (items front)
+        → told budget (a + 1) (front ++ z ∷ back) ≡ stepped n (length front) (told budget a (front ++ y ∷ back))
+    told_stepped a [] d i =
+        let none = idle_serving (items back) j in
+        let p : (last_end (a + 1) (left_in_service back) z + budget) - z.due
+        ≡ (last_end a (left_in_service back) y + budget) - y.due = omega (arith, none, less, due) in
+        λ k. with_passed (p k) (step k) ∷ told budget (there a k) back
+    told_stepped a (x ∷ front) d i =
+        let most = d.0.most in
+        let p : (last_end (a + 1) (left_in_service (front ++ z ∷ back)) x + budget) - x.due
+        ≡ (last_end a (left_in_service (front ++ y ∷ back)) x + budget) - x.due + n =
+        omega (arith, most, before front i.1, after front i.1, less, charge) in
+        let e : a + 1 + left_of x.item ≡ a + left_of x.item + 1 = omega arith in
+        let rest = ap (λ k. told budget k (front ++ z ∷ back)) e ∙ told_stepped (a + left_of x.item) front d.1 i.1 in
+        λ k. with_passed (p k) x.item ∷ rest k
 
   -- ---- an end
-  -- those behind, where less is left before them
-  fallen : (c b n : ℕ) (ss : List Slot)
-      → AreDue budget c (b + n) ss → AreIdle (items ss) → AreDue budget c b (map (lowered_by n) ss)
-  fallen c b n [] a i = tt
-  fallen c b n (s ∷ ss) a i = search (
-    arith,
-    items_fallen n ss,
-    fig_idle (b + n) (serving ss) s.item (idle_of s.item i.0),
-    idle_of s.item i.0,
-    fig_idle b (serving ss) s.item (idle_of s.item i.0),
-    fallen c (b + left_of s.item)
-        n ss (at_before c (b + n + left_of s.item) (b + left_of s.item + n) ss (omega arith) a.1) i.1,
-    at_before c (b + n + left_of s.item) (b + left_of s.item + n) ss (omega arith) a.1,
-  )
+  module _ (y : Slot) (back : List Slot) (j : AreIdle (items back)) (was : is_in_service y.item ≡ true) where
+    serving_before : (front : List Slot) → AreIdle (items front)
+        → left_in_service (front ++ y ∷ back) ≡ left_of y.item
+    serving_before front i = ap (sum_by left_if_serving) (items_append front (y ∷ back))
+        ∙ serving_mid (items front) y.item (items back) i j ∙ serving_left y.item was
 
-  module _ (c : ℕ) (y : Slot) (back : List Slot) (j : AreIdle (items back)) (was : is_in_service y.item ≡ true) where
-    pub due_ended : (b : ℕ) (front : List Slot) → AreDue budget c b (front ++ y ∷ back)
-        → AreIdle (items front) → AreDue budget c b (map (lowered_by (left_of y.item)) (front ++ back))
-    due_ended b [] a i = fallen c b (left_of y.item) back a.1 j
-    due_ended b (x ∷ front) a i =
-        let n = left_of y.item in
-        let f = fig_idle b (serving (front ++ y ∷ back)) x.item (idle_of x.item i.0) in
-        let g = fig_idle b (serving (map (lowered_by n) (front ++ back))) x.item (idle_of x.item i.0) in
-        let s = ap (sum_by left_if_serving) (items_append front (y ∷ back))
-        ∙ serving_mid (items front) y.item (items back) i.1 j ∙ serving_left y.item was in
-        let t = ap (sum_by left_if_serving) (items_fallen n (front ++ back) ∙ items_append front back)
-        ∙ idle_serving (items front ++ items back) (idle_append (items front) (items back) i.1 j) in
-        (omega (arith, f, g, s, t, a.0), due_ended (b + left_of x.item) front a.1 i.1)
+    none_after : (front : List Slot) → AreIdle (items front)
+        → left_in_service (map (lowered_by (left_of y.item)) (front ++ back)) ≡ 0
+    none_after front i = ap (sum_by left_if_serving) (items_fallen (left_of y.item) (front ++ back)
+        ∙ items_append front back) ∙ idle_serving (items front ++ items back)
+        (idle_append (items front) (items back) i j)
 
     -- each other due is at least what is left of it
-    back_enough : (b : ℕ) (ss : List Slot)
-        → AreDue budget c (b + left_of y.item) ss → AreIdle (items ss) → AllByRecursion (λ s. left_of y.item ≤ s.due) ss
-    back_enough b [] a i = tt
-    back_enough b (s ∷ ss) a i =
-        let f = fig_idle (b + left_of y.item) (serving ss) s.item (idle_of s.item i.0) in
-        let h = a.0 in (
-          omega (arith, f, h),
-          back_enough (b + left_of s.item) ss (at_before c
-              (b + left_of y.item + left_of s.item) (b + left_of s.item + left_of y.item) ss (omega arith) a.1) i.1,
+    pub end_enough : (a : ℕ) (front : List Slot) → AreDue budget a (front ++ y ∷ back)
+        → AreIdle (items front) → AllByRecursion (λ s. left_of y.item ≤ s.due) (front ++ back)
+    end_enough a [] d i = fallen_enough a (left_of y.item) back d.1
+    end_enough a (x ∷ front) d i =
+        let least = d.0.least in
+        (omega (arith, least, serving_before front i.1), end_enough (a + left_of x.item) front d.1 i.1)
+
+    pub due_ended : (a : ℕ) (front : List Slot) → AreDue budget a (front ++ y ∷ back)
+        → AreIdle (items front) → AreDue budget a (map (lowered_by (left_of y.item)) (front ++ back))
+    due_ended a [] d i = (fallen a (left_of y.item) back d.1).dues
+    due_ended a (x ∷ front) d i =
+        let least = d.0.least in
+        let most = d.0.most in
+        let s = serving_before front i.1 in
+        let t = none_after front i.1 in (
+          record {
+            bare = d.0.bare;
+            least = omega (arith, least, s, t);
+            most = omega (arith, most, least, s, t);
+          },
+          due_ended (a + left_of x.item) front d.1 i.1,
         )
 
-    pub end_enough : (b : ℕ) (front : List Slot) → AreDue budget c b (front ++ y ∷ back)
-        → AreIdle (items front) → AllByRecursion (λ s. left_of y.item ≤ s.due) (front ++ back)
-    end_enough b [] a i = back_enough b back a.1 j
-    end_enough b (x ∷ front) a i =
-        let f = fig_idle b (serving (front ++ y ∷ back)) x.item (idle_of x.item i.0) in
-        let s = ap (sum_by left_if_serving) (items_append front (y ∷ back))
-        ∙ serving_mid (items front) y.item (items back) i.1 j ∙ serving_left y.item was in
-        (omega (arith, f, s, a.0), end_enough (b + left_of x.item) front a.1 i.1)
+    pub told_ended : (a : ℕ) (front : List Slot) → AreDue budget a (front ++ y ∷ back) → AreIdle (items front)
+        → told budget a (map (lowered_by (left_of y.item)) (front ++ back)) ≡ take (length front)
+        (told budget a (front ++ y ∷ back)) ++ drop (suc (length front)) (told budget a (front ++ y ∷ back))
+    told_ended a [] d i = (fallen a (left_of y.item) back d.1).same
+    told_ended a (x ∷ front) d i =
+        let n = left_of y.item in
+        let least = d.0.least in
+        let p : (last_end a (left_in_service (map (lowered_by n) (front ++ back))) x + budget) - (x.due - n)
+        ≡ (last_end a (left_in_service (front ++ y ∷ back)) x + budget) - x.due =
+        omega (arith, least, serving_before front i.1, none_after front i.1) in
+        λ k. with_passed (p k) x.item ∷ told_ended (a + left_of x.item) front d.1 i.1 k
 
   -- ---- an abort of one that wasn't started
-  fallen_unstarted : (c b n : ℕ) (ss : List Slot)
-      → AreDue budget c (b + n) ss → AreDue budget c b (map (lowered_unless_serving n) ss)
-  fallen_unstarted c b n [] a = tt
-  fallen_unstarted c b n (s ∷ ss) a = whole (is_in_service s.item) refl (fallen_unstarted c
-      (b + left_of s.item) n ss (at_before c (b + n + left_of s.item) (b + left_of s.item + n) ss (omega arith) a.1))
+  module _ (y : Slot) (back : List Slot) (idle : is_in_service y.item ≡ false) where
+    serving_same : (front : List Slot) → left_in_service (front ++ map (lowered_by (left_of y.item)) back)
+        ≡ left_in_service (front ++ y ∷ back)
+    serving_same front =
+        let n = left_of y.item in ap (sum_by left_if_serving) (items_append front (map (lowered_by n) back)
+        ∙ ap (λ rs. items front ++ rs) (items_fallen n back))
+        ∙ (sym (serving_without (items front) y.item (items back) idle)
+        ∙ sym (ap (sum_by left_if_serving) (items_append front (y ∷ back))))
+
+    pub abort_enough : (a : ℕ) (front : List Slot) → AreDue budget a (front ++ y ∷ back)
+        → AllByRecursion (λ s. left_of y.item ≤ s.due) back
+    abort_enough a [] d = fallen_enough a (left_of y.item) back d.1
+    abort_enough a (x ∷ front) d = abort_enough (a + left_of x.item) front d.1
+
+    pub due_aborted : (a : ℕ) (front : List Slot) → AreDue budget a (front ++ y ∷ back)
+        → AreDue budget a (front ++ map (lowered_by (left_of y.item)) back)
+    due_aborted a [] d = (fallen a (left_of y.item) back d.1).dues
+    due_aborted a (x ∷ front) d = (
+      subst (λ k. IsDue budget a k x) (sym (serving_same front)) d.0,
+      due_aborted (a + left_of x.item) front d.1,
+    )
+
+    pub told_aborted : (a : ℕ) (front : List Slot) → AreDue budget a (front ++ y ∷ back)
+        → told budget a (front ++ map (lowered_by (left_of y.item)) back) ≡ take (length front)
+        (told budget a (front ++ y ∷ back)) ++ drop (suc (length front)) (told budget a (front ++ y ∷ back))
+    told_aborted a [] d = (fallen a (left_of y.item) back d.1).same
+    told_aborted a (x ∷ front) d =
+        let p = ap (λ k. (last_end a k x + budget) - x.due) (serving_same front) in
+        λ k. with_passed (p k) x.item ∷ told_aborted (a + left_of x.item) front d.1 k
+
+  -- ---- what a due tells
+  pub late : (a : ℕ) (ss : List Slot) → AreDue budget a ss → AllByRecursion (λ s. a ≤ s.due) ss
+  late a [] d = tt
+  late a (s ∷ ss) d =
+      let least = d.0.least in
+      (omega (arith, least), each ss (late (a + left_of s.item) ss d.1))
     where
-      whole : (t : Bool) → is_in_service s.item ≡ t
-          → AreDue budget c (b + left_of s.item) (map (lowered_unless_serving n) ss)
-          → AreDue budget c b (cond t s (lowered_by n s) ∷ map (lowered_unless_serving n) ss)
-      whole true e rest =
-          let f = fig_serving (b + n) (serving ss) s.item e in
-          let g = fig_serving b (serving (map (lowered_unless_serving n) ss)) s.item e in
-          let h = a.0 in
-          (omega (arith, f, g, h), rest)
-      whole false e rest =
-          let f = fig_idle (b + n) (serving ss) s.item e in
-          let g = fig_idle b (serving (map (lowered_unless_serving n) ss)) s.item e in
-          let k = ap (sum_by left_if_serving) (items_unless n ss) in
-          let h = a.0 in
-          (omega (arith, f, g, h, k), rest)
+      each : (xs : List Slot) → AllByRecursion (λ x. a + left_of s.item ≤ x.due) xs → AllByRecursion (λ x. a ≤ x.due) xs
+      each [] h = tt
+      each (x ∷ xs) h = let low = h.0 in (omega (arith, low), each xs h.1)
 
-  pub due_aborted : (c b : ℕ) (front : List Slot) (x : Slot) (back : List Slot) → AreDue budget c b (front ++ x ∷ back)
-      → is_in_service x.item ≡ false → AreDue budget c b (front ++ map (lowered_unless_serving (left_of x.item)) back)
-  due_aborted c b [] x back a e = fallen_unstarted c b (left_of x.item) back a.1
-  due_aborted c b (s ∷ front) x back a e =
-      let n = left_of x.item in
-      let same : serving (front ++ x ∷ back) ≡ serving (front ++ map (lowered_unless_serving n) back) =
-      ap (sum_by left_if_serving) (items_append front (x ∷ back)) ∙ serving_without (items front) x.item (items back) e
-      ∙ ap (λ rs. sum_by left_if_serving (items front ++ rs)) (sym (items_unless n back))
-      ∙ ap (sum_by left_if_serving) (sym (items_append front (map (lowered_unless_serving n) back))) in
-      (a.0 ∙ ap (λ k. c + figure_in budget b k s.item) same, due_aborted c (b + left_of s.item) front x back a.1 e)
-
-  -- those behind it have more to wait than is left of it
-  behind_enough : (c b n : ℕ) (ss : List Slot)
-      → AreDue budget c (b + n) ss → AllByRecursion (λ s. is_in_service s.item ≡ false → n ≤ s.due) ss
-  behind_enough c b n [] a = tt
-  behind_enough c b n (s ∷ ss) a = search (
-    arith,
-    behind_enough c
-        (b + left_of s.item) n ss (at_before c (b + n + left_of s.item) (b + left_of s.item + n) ss (omega arith) a.1),
-    at_before c (b + n + left_of s.item) (b + left_of s.item + n) ss (omega arith) a.1,
-    fig_idle,
-  )
-
-  pub abort_enough : (c b : ℕ) (front : List Slot) (x : Slot) (back : List Slot) → AreDue budget c b (front ++ x ∷ back)
-      → AllByRecursion (λ s. is_in_service s.item ≡ false → left_of x.item ≤ s.due) back
-  abort_enough c b [] x back a = behind_enough c b (left_of x.item) back a.1
-  abort_enough c b (s ∷ front) x back a = abort_enough c (b + left_of s.item) front x back a.1
-
-  -- ---- the clock is set back
-  pub due_set_back : (c n b : ℕ) (ss : List Slot)
-      → AreDue budget (c + n) b ss → AreDue budget c b (map (lowered_by n) ss)
-  due_set_back c n b [] a = tt
-  due_set_back c n b (s ∷ ss) a = search (arith, items_fallen n ss, due_set_back c n (b + left_of s.item) ss a.1)
-
-  pub late : (c b : ℕ) (ss : List Slot) → AreDue budget c b ss → AllByRecursion (λ s. c ≤ s.due) ss
-  late c b [] a = tt
-  late c b (s ∷ ss) a = let h = a.0 in (omega (arith, h), late c (b + left_of s.item) ss a.1)
-
-  -- ---- the figure
-  tells : (c b : ℕ) (ss : List Slot) → AreDue budget c b ss
-      → (k : ℕ) → k < length ss → (slot_at ss k).due ≡ c + figure_in budget (b + sum_by left_of (take k (items ss)))
-      (sum_by left_if_serving (drop (k + 1) (items ss))) (slot_at ss k).item
-  tells c b (s ∷ ss) a (suc k) l =
-      let h = tells c (b + left_of s.item) ss a.1 k (omega (arith, l)) in
-      let e : b + left_of s.item + sum_by left_of (take k (items ss)) ≡ b + sum_by
-      left_of (s.item ∷ take k (items ss)) = omega (arith, sum_by-cons left_of s.item (take k (items ss))) in
+  -- by how many blocks a command was passed
+  pub passes : (a : ℕ) (ss : List Slot) (k : ℕ) → AreDue budget a ss → k < length ss
+      → (record_at (told budget a ss) k).passed + (slot_at ss k).due
+      ≡ a + sum_by left_of (take (k + 1) (told budget a ss))
+      + sum_by left_if_serving (drop (k + 1) (told budget a ss)) + budget
+  passes a [] k d l = absurd (omega (arith, l))
+  passes a (s ∷ ss) zero d l =
+      let most = d.0.most in
+      omega (
+        arith,
+        most,
+        told_serving (a + left_of s.item) ss,
+        sum_by-cons left_of (first_told a s ss) [],
+      )
+  passes a (s ∷ ss) (suc k) d l =
+      let h = passes (a + left_of s.item) ss k d.1 (omega (arith, l)) in
+      let rs = told budget (a + left_of s.item) ss in
+      let more = sum_by-cons left_of (first_told a s ss) (take (k + 1) rs) in
       let rises : suc (k + 1) ≡ suc k + 1 = omega arith in
-      search arith
-  tells c b ss h3 k h5 = search arith
+      search (arith, h, more, rises)
 
-  -- what is left in service, by a filter
-  filtered : (rs : List Record) → sum_by left_if_serving rs ≡ sum_by left_of (filter is_in_service rs)
-  filtered [] = refl
-  filtered (r ∷ rs) =
-      search (arith, sum_by-cons left_if_serving r rs, filtered rs, sum_by-cons left_of r (filter is_in_service rs))
+  pub told_most : (a : ℕ) (ss : List Slot) (k : ℕ) → AreDue budget a ss → k < length ss
+      → (record_at (told budget a ss) k).passed ≤ budget
+  told_most a [] k d l = absurd (omega (arith, l))
+  told_most a (s ∷ ss) zero d l = let least = d.0.least in omega (arith, least)
+  told_most a (s ∷ ss) (suc k) d l = told_most (a + left_of s.item) ss k d.1 (omega (arith, l))
 
-  pub due_tells : (c : ℕ) (ss : List Slot) (k : ℕ)
-      → AreDue budget c 0 ss → k < length ss → (slot_at ss k).due ≡ c + figure_at budget (items ss) k
-  due_tells c ss k a l = search (arith, item_there ss k l, tells c 0 ss a k l, filtered)
+  -- the figure of a command that isn't in service
+  pub tells : (a : ℕ) (ss : List Slot) (k : ℕ) → AreDue budget a ss → k < length ss
+      → is_in_service (slot_at ss k).item ≡ false → (slot_at ss k).due ≡ a + figure_at budget (told budget a ss) k
+  tells a ss k d l idle =
+      let rs = told budget a ss in
+      let r = record_at rs k in
+      let front = sum_by left_of (take k rs) in
+      let served = sum_by left_of (filter is_in_service (drop (k + 1) rs)) in
+      let off : is_in_service r ≡ false = ap (λ (q : Record). is_in_service q) (sym (told_item a ss k d l)) ∙ idle in
+      let f : figure_at budget rs k ≡ front + served + (budget - r.passed) + left_of r =
+      ap (λ t. cond t (left_of r) (front + served + (budget - r.passed) + left_of r)) off in
+      let more : sum_by left_of (take (k + 1) rs) ≡ front + (left_of r + 0) =
+      ap (sum_by left_of) (take_more rs k no_record (omega (arith, l, told_long a ss)))
+      ∙ (sum_by-append left_of (take k rs) (r ∷ []) ∙ ap (λ n. front + n) (sum_by-cons left_of r [])) in
+      omega (arith, f, more, passes a ss k d l, told_most a ss k d l, filtered (drop (k + 1) rs))
+
+  -- what the oldest has left of its budget, if nobody is in service
+  pub unspent_tells : (a : ℕ) (ss : List Slot) → AreDue budget a ss → 0 < length ss → AreIdle (told budget a ss)
+      → (slot_at ss 0).due ≡ a + left_of (slot_at ss 0).item + (budget - (record_at (told budget a ss) 0).passed)
+  unspent_tells a [] d l i = absurd (omega (arith, l))
+  unspent_tells a (s ∷ ss) d l i =
+      let least = d.0.least in
+      let most = d.0.most in
+      let rs = told budget (a + left_of s.item) ss in
+      omega (arith, least, most, told_serving (a + left_of s.item) ss, idle_serving rs i.1)

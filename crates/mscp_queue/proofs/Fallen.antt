@@ -1,5 +1,5 @@
--- What slots show once dues fell: of all, or of those behind a place but for one in service.
-use Rattle.mscp_queue.proofs.Basics.{◌≡◌, ◌≢◌, ◌<◌, ◌≤◌, ◌+◌, ◌-◌, ◌⊎◌, inl, inr, ℕ, Bool, true, false, cond, ◌&&◌, ◌||◌, min, nat_eq, List, [], ◌∷◌, ◌++◌, map, take, drop, get_or, length, append_assoc, sym, subst, ap, ◌∙◌, refl, arith, All, if◌then◌else◌, bit_at, AllByRecursion, eq-eqb, eqb-true, ne_eqb, drop-map, map-append, map-id, take-map, take_more, All-from_recursion, recursion_from_All, Target, Masks, Slot, lowered, AreMasks, AreSlots, IsBehind, IsMaskOf, Kind, bit, has, Record, is_in_service, no_record, no_target, AreKept, held, kind_at, lowered_by, lowered_unless_serving, shown, slot_at, earlier_at, once_in, one_bit, same_or, IsNumber, cut_order, slot_is}
+-- What slots show once dues fell: of all, or of those behind a place.
+use Rattle.mscp_queue.proofs.Basics.{◌≡◌, ◌≢◌, ◌<◌, ◌≤◌, ◌+◌, ◌-◌, ◌⊎◌, inl, inr, ℕ, Bool, true, false, cond, ◌&&◌, ◌||◌, min, nat_eq, List, [], ◌∷◌, ◌++◌, map, take, drop, get_or, length, append_assoc, sym, subst, ap, ◌∙◌, refl, arith, All, if◌then◌else◌, bit_at, AllByRecursion, eq-eqb, eqb-true, ne_eqb, drop-map, map-append, map-id, take-map, take_more, All-from_recursion, recursion_from_All, Target, Masks, Slot, lowered, AreMasks, AreSlots, IsBehind, IsMaskOf, Kind, bit, has, Record, no_record, no_target, AreKept, held, kind_at, lowered_by, shown, slot_at, earlier_at, once_in, one_bit, same_or, IsNumber, cut_order, slot_is}
 
 -- what a lowered due leaves of a slot
 module _ (rs : List Record) (own : List Target)
@@ -97,7 +97,7 @@ later kinds front n back m masks k l there =
     earlier_at (λ k. get_or m.earlier k 0) [] front n back masks.of_earlier in
     search (arith, has_back, not_front, on_off)
 
--- those behind a slot, but for one in service
+-- those behind a slot
 module _ (kinds : ℕ → Kind) (front : List ℕ) (n : ℕ)
     (back : List ℕ) (m : Masks) (mask : ℕ) (masks : AreMasks kinds (front ++ n ∷ back) m) (is : IsBehind n m mask) where
   in_earlier : IsMaskOf (get_or m.earlier n 0) (λ k. has k front)
@@ -108,36 +108,36 @@ module _ (kinds : ℕ → Kind) (front : List ℕ) (n : ℕ)
 
   pub own_off : bit_at mask n ≡ 0
   own_off = is n (low_in front n back masks.apart) ∙ ap (λ b. cond b 0
-      (min (min (bit_at m.waiting n) (1 - bit_at (get_or m.earlier n 0) n)) (1 - bit_at m.serving n))) (eq-eqb n n refl)
+      (min (bit_at m.waiting n) (1 - bit_at (get_or m.earlier n 0) n))) (eq-eqb n n refl)
     where
       low_in : (front : List ℕ) (n : ℕ) (back : List ℕ) → AreSlots (front ++ n ∷ back) → n < 64
       low_in [] n back a = a.0
       low_in (x ∷ front) n back a = low_in front n back a.2
 
   other_is : (k : ℕ) → k < 64 → k ≢ n
-      → bit_at mask k ≡ min (min (bit_at m.waiting k) (1 - bit_at (get_or m.earlier n 0) k)) (1 - bit_at m.serving k)
-  other_is k l d = is k l ∙ ap (λ b. cond b
-      0 (min (min (bit_at m.waiting k) (1 - bit_at (get_or m.earlier n 0) k)) (1 - bit_at m.serving k))) (ne_eqb k n d)
+      → bit_at mask k ≡ min (bit_at m.waiting k) (1 - bit_at (get_or m.earlier n 0) k)
+  other_is k l d = is k l
+      ∙ ap (λ b. cond b 0 (min (bit_at m.waiting k) (1 - bit_at (get_or m.earlier n 0) k))) (ne_eqb k n d)
 
   pub front_off : (k : ℕ) → k < 64 → has k front ≡ true → bit_at mask k ≡ 0
   front_off k l there =
       let d : k ≢ n = λ e. no (ap bit (sym there ∙ ap (λ k. has k front) e ∙ once.0)) in
       let e = in_earlier k l ∙ ap bit there in
-      other_is k l d ∙ none (bit_at m.waiting k) (bit_at (get_or m.earlier n 0) k) (bit_at m.serving k) e
+      other_is k l d ∙ none (bit_at m.waiting k) (bit_at (get_or m.earlier n 0) k) e
     where
       no : bit true ≡ bit false → ⊥
       no e = omega (arith, e)
 
-      none : (a b c : ℕ) → b ≡ 1 → min (min a (1 - b)) (1 - c) ≡ 0
-      none a b c e = omega (arith, e)
+      none : (a b : ℕ) → b ≡ 1 → min a (1 - b) ≡ 0
+      none a b e = omega (arith, e)
 
   -- a slot that isn't taken
   pub gone_off : (k : ℕ) → k < 64 → has k front ≡ false → k ≢ n → has k back ≡ false → bit_at mask k ≡ 0
-  gone_off k l p d q = other_is k l d ∙ none (bit_at m.waiting k) (bit_at (get_or m.earlier n 0) k) (bit_at m.serving k)
+  gone_off k l p d q = other_is k l d ∙ none (bit_at m.waiting k) (bit_at (get_or m.earlier n 0) k)
       (masks.of_waiting k l ∙ ap bit (has_in k front n back ∙ (λ i. p i || (ne_eqb k n d i || q i))))
     where
-      none : (a b c : ℕ) → a ≡ 0 → min (min a (1 - b)) (1 - c) ≡ 0
-      none a b c e = omega (arith, e)
+      none : (a b : ℕ) → a ≡ 0 → min a (1 - b) ≡ 0
+      none a b e = omega (arith, e)
 
       has_in : (k : ℕ) (front : List ℕ) (n : ℕ) (back : List ℕ)
           → has k (front ++ n ∷ back) ≡ (has k front || (nat_eq k n || has k back))
@@ -149,22 +149,21 @@ module _ (kinds : ℕ → Kind) (front : List ℕ) (n : ℕ)
           or_assoc true b c = refl
           or_assoc false b c = refl
 
-  pub back_is : (k : ℕ) → k < 64 → has k back ≡ true → bit_at mask k ≡ 1 - bit (kinds k).serving
+  pub back_is : (k : ℕ) → k < 64 → has k back ≡ true → bit_at mask k ≡ 1
   back_is k l there =
       let d : k ≢ n = λ e. no (ap bit (sym there ∙ ap (λ k. has k back) e ∙ once.1)) in
       let in_all : has k (front ++ n ∷ back) ≡ true = has_back k front n back there in
       let w = masks.of_waiting k l ∙ ap bit in_all in
       let e = in_earlier k l ∙ ap bit (not_front k front n back masks.apart there) in
-      other_is k l d ∙ some (bit_at m.waiting k) (bit_at (get_or m.earlier n 0) k) (bit_at m.serving k)
-      (bit (kinds k).serving) w e (masks.of_serving k l ∙ ap (λ b. bit (b && (kinds k).serving)) in_all)
+      other_is k l d ∙ some (bit_at m.waiting k) (bit_at (get_or m.earlier n 0) k) w e
     where
       no : bit true ≡ bit false → ⊥
       no e = omega (arith, e)
 
-      some : (a b c s : ℕ) → a ≡ 1 → b ≡ 0 → c ≡ s → min (min a (1 - b)) (1 - c) ≡ 1 - s
-      some a b c s w e f = omega (arith, w, e, f)
+      some : (a b : ℕ) → a ≡ 1 → b ≡ 0 → min a (1 - b) ≡ 1
+      some a b w e = omega (arith, w, e)
 
--- the dues behind a place, but for one in service
+-- the dues behind a place
 module _ {rs : List Record} {own : List Target} {order : List ℕ} {m : Masks} {place n : ℕ} (ds ds' : List ℕ)
     (now : List Slot) (by mask : ℕ) (kept : AreKept rs own order m) (view : shown rs own ds order
     ≡ now) (inside : place < length now) (h : IsNumber order place n) (is : IsBehind n m mask) where
@@ -189,22 +188,16 @@ module _ {rs : List Record} {own : List Target} {order : List ℕ} {m : Masks} {
   behind_is : map f back ≡ drop (place + 1) now
   behind_is = sym (drop-map f (place + 1) order) ∙ ap (drop (place + 1)) view
 
-  pub enough_behind : All (λ s. is_in_service s.item ≡ false → by ≤ s.due) (drop (place + 1) now)
+  pub enough_behind : All (λ s. by ≤ s.due) (drop (place + 1) now)
       → (k : ℕ) → k < 64 → bit_at mask k ≡ 1 → by ≤ get_or ds k 0
   enough_behind enough k l on = where_is (has k back) refl
     where
-      each : AllByRecursion (λ (s : Slot). is_in_service s.item ≡ false → by ≤ s.due) (map f back)
-      each = subst (AllByRecursion (λ (s : Slot). is_in_service s.item ≡ false → by ≤ s.due)) (sym behind_is)
-          (recursion_from_All (λ (s : Slot). is_in_service s.item ≡ false → by ≤ s.due) (drop (place + 1) now) enough)
-
-      idle : (b : Bool) → 1 ≡ 1 - bit b → b ≡ false
-      idle true e = absurd (omega (arith, e))
-      idle false e = refl
+      each : AllByRecursion (λ (s : Slot). by ≤ s.due) (map f back)
+      each = subst (AllByRecursion (λ (s : Slot). by ≤ s.due)) (sym behind_is)
+          (recursion_from_All (λ (s : Slot). by ≤ s.due) (drop (place + 1) now) enough)
 
       where_is : (b : Bool) → has k back ≡ b → by ≤ get_or ds k 0
-      where_is true e = of_shown (λ (s : Slot). is_in_service s.item ≡ false → by ≤ s.due) f back k each e
-          (idle (is_in_service (get_or rs k no_record)) (sym on
-          ∙ back_is (kind_at rs own) front n back m mask masks is k l e))
+      where_is true e = of_shown (λ (s : Slot). by ≤ s.due) f back k each e
       where_is false e = absurd (nowhere (has k front) refl (same_or k n))
         where
           off : (b : Bool) → has k front ≡ b → k ≢ n → bit_at mask k ≡ 0
@@ -218,10 +211,10 @@ module _ {rs : List Record} {own : List Target} {order : List ℕ} {m : Masks} {
           nowhere b q (inr d) = let zero_bit = off b q d in omega (arith, on, zero_bit)
 
   pub lowered_behind : ((k : ℕ) → k < 64 → get_or ds' k 0 ≡ lowered mask by k (get_or ds k 0))
-      → shown rs own ds' order ≡ take (place + 1) now ++ map (lowered_unless_serving by) (drop (place + 1) now)
+      → shown rs own ds' order ≡ take (place + 1) now ++ map (lowered_by by) (drop (place + 1) now)
   lowered_behind fall = ap (map g) cut ∙ (map-append g front (n ∷ back) ∙ ((λ i. in_front i ++ own_kept i ∷ behind i)
-      ∙ (sym (append_assoc (map f front) (f n ∷ []) (map (lowered_unless_serving by) (map f back)))
-      ∙ ((λ i. first i ++ map (lowered_unless_serving by) (behind_is i))))))
+      ∙ (sym (append_assoc (map f front) (f n ∷ []) (map (lowered_by by) (map f back)))
+      ∙ ((λ i. first i ++ map (lowered_by by) (behind_is i))))))
     where
       apart : AreSlots (front ++ n ∷ back)
       apart = masks.apart
@@ -235,17 +228,10 @@ module _ {rs : List Record} {own : List Target} {order : List ℕ} {m : Masks} {
       own_kept : g n ≡ f n
       own_kept = stayed rs own ds ds' mask by fall n h.low (own_off (kind_at rs own) front n back m mask masks is)
 
-      behind : map g back ≡ map (lowered_unless_serving by) (map f back)
-      behind = each_held f g (lowered_unless_serving by) back (slots_back front n back apart)
-          (λ k l there. one_of k l (back_is (kind_at rs own) front n back m mask masks is k l there)
-          (is_in_service (get_or rs k no_record)) refl)
-        where
-          one_of : (k : ℕ) → k < 64 → bit_at mask k ≡ 1 - bit (is_in_service (get_or rs k no_record)) → (b : Bool)
-              → is_in_service (get_or rs k no_record) ≡ b → g k ≡ lowered_unless_serving by (f k)
-          one_of k l on true e = stayed rs own ds ds' mask by fall k l (on ∙ ap (λ b. 1 - bit b) e)
-              ∙ sym (ap (λ b. if b then f k else lowered_by by (f k)) e)
-          one_of k l on false e = fell rs own ds ds' mask by fall k l (on ∙ ap (λ b. 1 - bit b) e)
-              ∙ sym (ap (λ b. if b then f k else lowered_by by (f k)) e)
+      behind : map g back ≡ map (lowered_by by) (map f back)
+      behind = each_held f g (lowered_by by) back (slots_back front n back apart)
+          (λ k l there. fell rs own ds ds' mask by fall k l
+          (back_is (kind_at rs own) front n back m mask masks is k l there))
 
       first : map f front ++ f n ∷ [] ≡ take (place + 1) now
       first = sym (map-append f front (n ∷ []))

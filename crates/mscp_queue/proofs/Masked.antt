@@ -130,7 +130,7 @@ classes_pushed f f' order old new n h free low same own others u =
 
 pub masks_pushed : (kinds kinds' : ℕ → Kind) (order : List ℕ) (m m' : Masks) (n : ℕ)
     → AreMasks kinds order m → Comes kinds kinds' order n
-    → HasCome n (kinds' n).drive (kinds' n).sequential (kinds' n).serving m m' → AreMasks kinds' (order ++ n ∷ []) m'
+    → HasCome n (kinds' n).drive (kinds' n).sequential m m' → AreMasks kinds' (order ++ n ∷ []) m'
 masks_pushed kinds kinds' order m m' n masks c h = record {
   apart = slots_pushed order n masks.apart c.low c.free;
   of_waiting = set_mask m.waiting m'.waiting n true _ _ h.waits masks.of_waiting (has_last n order)
@@ -139,23 +139,12 @@ masks_pushed kinds kinds' order m m' n masks c h = record {
       set_mask m.sequential m'.sequential n (kinds' n).sequential _ _ h.ordered masks.of_sequential
       (ap (λ b. b && (kinds' n).sequential) (has_last n order))
       (λ k d. and_same _ _ _ _ (has_other k n order d) (ap (λ s. s.sequential) (c.same k d)));
-  of_serving =
-      set_mask m.serving m'.serving n (kinds' n).serving _ _ h.served masks.of_serving
-      (ap (λ b. b && (kinds' n).serving) (has_last n order))
-      (λ k d. and_same _ _ _ _ (has_other k n order d) (ap (λ s. s.serving) (c.same k d)));
   of_units = classes_pushed (λ k. (kinds k).drive) (λ k. (kinds' k).drive) order m.units m'.units n masks.of_units
       c.free c.low (λ k d. ap (λ s. s.drive) (c.same k d)) h.own h.units;
   of_earlier = earlier_pushed _ _ n m.waiting h.others h.earlier [] order c.free masks.of_waiting masks.of_earlier;
 }
 
 -- ---- a step
--- the command of a slot is in service from now on
-pub masks_served : (kinds kinds' : ℕ → Kind) (order : List ℕ) (m : Masks) (v n : ℕ) → AreMasks kinds order m → has n
-    order ≡ true → ((k : ℕ) → k ≢ n → kinds' k ≡ kinds k) → (kinds' n).drive ≡ (kinds n).drive → (kinds' n).sequential
-    ≡ (kinds n).sequential → IsSet (kinds' n).serving n m.serving v → AreMasks kinds' order (record m { serving = v })
-masks_served kinds kinds' order m v n masks in_order same drive ordered served =
-    search (arith, same_or, mask_same, nat_eq)
-
 -- a slot of the order is below 64, and the order is cut at it
 pub slot_low : (order : List ℕ) (place : ℕ) → AreSlots order → place < length order → get_or order place 0 < 64
 slot_low (s ∷ order) (suc place) a l = slot_low order place a.2 (omega (arith, l))

@@ -1,5 +1,5 @@
 -- A queue as it was: its waiting commands in their slots, and what it knows of them.
-use Rattle.mscp_queue.proofs.Common.{All, ◌≡◌, ◌+◌, ◌<◌, ◌≤◌, ◌^◌, ℕ, suc, Bool, true, false, List, [], ◌∷◌, ◌++◌, drop, get_or, length, append-nil, refl, map, map-append, zero-add, sym, subst, ap, ◌∙◌, arith, Content, filled, sum_by, is_some, unwrap_or, Option, Some, None, IfNone, IfSome, list_any, position, false≢true, ltb-false, true≢false, drop_all, position-Some, Drive, Name, ArePassedInOrder, IsHeld, IsReady, IsStillServable, begun_name, units_of, Waiters, Slot, Shape, target_of, targets_of, AreDue, AreTimed, figure_in, Record, has_name, is_in_service, left_if_serving, left_of, no_record, targets, items}
+use Rattle.mscp_queue.proofs.Common.{All, ◌≡◌, ◌+◌, ◌-◌, ◌<◌, ◌≤◌, ◌^◌, ℕ, suc, Bool, true, false, List, [], ◌∷◌, ◌++◌, drop, get_or, length, append-nil, refl, map, map-append, sym, subst, ap, ◌∙◌, arith, Content, filled, sum_by, sum_by-cons, is_some, unwrap_or, Option, Some, None, IfNone, IfSome, list_any, position, false≢true, ltb-false, true≢false, drop_all, position-Some, Drive, Name, ArePassedInOrder, IsHeld, IsReady, IsStillServable, begun_name, units_of, Waiters, Slot, Shape, target_of, targets_of, AllByRecursion, AreDue, AreTimed, bare, due_of, last_end, left_in_service, told, Record, has_name, is_in_service, left_if_serving, left_of, no_record, targets, items}
 use Rattle.mscp_queue.proofs.Named.{same_is}
 use Rattle.mscp_queue.proofs.Placed.{position_any}
 
@@ -22,11 +22,14 @@ tail_same : {X : Type 0} {x y : X} {xs ys : List X} → x ∷ xs ≡ y ∷ ys �
 tail_same e = ap (drop 1) e
 
 -- ---- the waiting commands
+abbrev with_passed : ℕ → Record → Record
+with_passed n r = record r { passed = n }
+
 module _ (budget : ℕ) (us : List Shape) where
   -- what the slot of a record holds, where so many steps are left before it, and of one in service behind it
   abbrev pub content_of : ℕ → ℕ → Record → Content
   content_of before behind r =
-      record { item = r; target = target_of us r.command; due = figure_in budget before behind r }
+      record { item = bare r; target = target_of us r.command; due = due_of budget before behind r }
 
   -- what the slots of records hold
   abbrev pub contents_of : ℕ → List Record → List Content
@@ -45,13 +48,22 @@ pub contents_more : (ss : List Slot) (n : ℕ) (c : Content) → contents (ss ++
 contents_more ss n c = map-append content ss (filled n c ∷ [])
 
 module _ (budget : ℕ) (us : List Shape) where
-  pub items_of : (before : ℕ) (ss : List Slot) (rs : List Record) → contents ss ≡ contents_of budget us before rs
-      → items ss ≡ rs
+  items_of : (before : ℕ) (ss : List Slot) (rs : List Record) → contents ss ≡ contents_of budget us before rs
+      → items ss ≡ map bare rs
   items_of before [] [] e = refl
   items_of before [] (r ∷ rs) e = absurd (nil_not_cons e)
   items_of before (s ∷ ss) [] e = absurd (nil_not_cons (sym e))
   items_of before (s ∷ ss) (r ∷ rs) e =
       λ i. (head_same e i).item ∷ items_of (before + left_of r) ss rs (tail_same e) i
+
+  serving_of : (before : ℕ) (ss : List Slot) (rs : List Record) → contents ss ≡ contents_of budget us before rs
+      → left_in_service ss ≡ sum_by left_if_serving rs
+  serving_of before ss rs e = ap (sum_by left_if_serving) (items_of before ss rs e) ∙ each rs
+    where
+      each : (rs : List Record) → sum_by left_if_serving (map bare rs) ≡ sum_by left_if_serving rs
+      each [] = refl
+      each (r ∷ rs) = sum_by-cons left_if_serving (bare r) (map bare rs)
+          ∙ (ap (λ n. left_if_serving r + n) (each rs) ∙ sym (sum_by-cons left_if_serving r rs))
 
   pub targets_are : (before : ℕ) (ss : List Slot) (rs : List Record) → contents ss ≡ contents_of budget us before rs
       → targets ss ≡ targets_of us rs
@@ -62,19 +74,39 @@ module _ (budget : ℕ) (us : List Shape) where
       λ i. (head_same e i).target ∷ targets_are (before + left_of r) ss rs (tail_same e) i
 
   are_due : (before : ℕ) (ss : List Slot) (rs : List Record) → contents ss ≡ contents_of budget us before rs
-      → AreDue budget 0 before ss
+      → AreDue budget before ss
   are_due before [] rs e = tt
   are_due before (s ∷ ss) [] e = absurd (nil_not_cons (sym e))
   are_due before (s ∷ ss) (r ∷ rs) e =
-      let is = head_same e in
-      let item : s.item ≡ r = ap (λ (c : Content). c.item) is in
-      let rest = sym (items_of (before + left_of r) ss rs (tail_same e)) in
-      let back = sym item in
-      let due : s.due ≡ figure_in budget before (sum_by left_if_serving rs) r = ap (λ (c : Content). c.due) is in (
-        due ∙ (λ i. figure_in budget before (sum_by left_if_serving (rest i)) (back i)) ∙ sym (zero-add _),
-        subst (λ (q : Record). AreDue budget 0 (before + left_of q) ss) back
-            (are_due (before + left_of r) ss rs (tail_same e)),
+      let item : s.item ≡ bare r = ap (λ (c : Content). c.item) (head_same e) in
+      let due : s.due ≡ due_of budget before (sum_by left_if_serving rs) r = ap (λ (c : Content). c.due)
+      (head_same e) in
+      let left : left_of s.item ≡ left_of r = ap (λ (q : Record). left_of q) item in
+      let serving = serving_of (before + left_of r) ss rs (tail_same e) in (
+        record {
+          bare = ap (λ (q : Record). q.passed) item;
+          least = omega (arith, due, left, serving);
+          most = omega (arith, due, left, serving);
+        },
+        subst (λ n. AreDue budget (before + n) ss) (sym left) (are_due (before + left_of r) ss rs (tail_same e)),
       )
+
+  pub told_are : (before : ℕ) (ss : List Slot) (rs : List Record) → contents ss ≡ contents_of budget us before rs
+      → AllByRecursion (λ r. r.passed ≤ budget) rs → told budget before ss ≡ rs
+  told_are before [] [] e p = refl
+  told_are before [] (r ∷ rs) e p = absurd (nil_not_cons e)
+  told_are before (s ∷ ss) [] e p = absurd (nil_not_cons (sym e))
+  told_are before (s ∷ ss) (r ∷ rs) e p =
+      let item : s.item ≡ bare r = ap (λ (c : Content). c.item) (head_same e) in
+      let due : s.due ≡ due_of budget before (sum_by left_if_serving rs) r = ap (λ (c : Content). c.due)
+      (head_same e) in
+      let left : left_of s.item ≡ left_of r = ap (λ (q : Record). left_of q) item in
+      let serving = serving_of (before + left_of r) ss rs (tail_same e) in
+      let within = p.0 in
+      let passed : (last_end before (left_in_service ss) s + budget) - s.due ≡ r.passed =
+      omega (arith, due, left, serving, within) in
+      let rest = ap (λ n. told budget (before + n) ss) left ∙ told_are (before + left_of r) ss rs (tail_same e) p.1 in
+      λ i. with_passed (passed i) (item i) ∷ rest i
 
   -- at the end they are all
   pub contents_all : (cs : List Content) (before n : ℕ) (rs : List Record) → length rs ≤ n
@@ -83,13 +115,14 @@ module _ (budget : ℕ) (us : List Shape) where
 
   pub timed : (ss : List Slot) (total : ℕ) (rs : List Record) → budget < 2 ^ 32
       → contents ss ≡ contents_of budget us 0 rs → total ≡ sum_by left_of rs → AreTimed budget 0 total ss
-  timed ss total rs fits e t = search (arith, are_due 0 ss rs e, items_of 0 ss rs e)
-
-  pub shown : (ss : List Slot) (rs : List Record) → contents ss ≡ contents_of budget us 0 rs
-      → ◌≡◌ {A = Waiters} (record { budget = budget; waiting = items ss; targets = targets ss })
-      (record { budget = budget; waiting = rs; targets = targets_of us rs })
-  shown ss rs e =
-      λ i. record { budget = budget; waiting = items_of 0 ss rs e i; targets = targets_are 0 ss rs e i }
+  timed ss total rs fits e t =
+      let left = ap (sum_by left_of) (items_of 0 ss rs e) ∙ each rs in
+      record { dues = are_due 0 ss rs e; left = t ∙ sym left; early = omega arith; fits = fits }
+    where
+      each : (rs : List Record) → sum_by left_of (map bare rs) ≡ sum_by left_of rs
+      each [] = refl
+      each (r ∷ rs) = sum_by-cons left_of (bare r) (map bare rs)
+          ∙ (ap (λ n. left_of r + n) (each rs) ∙ sym (sum_by-cons left_of r rs))
 
 -- ---- what a queue knows
 -- the place of the command of a name that is known

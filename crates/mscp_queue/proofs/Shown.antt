@@ -1,8 +1,8 @@
 -- What slots show once one of them holds something else.
-use Rattle.mscp_queue.proofs.Common.{◌≡◌, ◌≢◌, ◌<◌, ◌+◌, ◌^◌, ◌⊎◌, inl, inr, ℕ, zero, suc, Bool, true, false, not, ◌&&◌, nat_eq, List, [], ◌∷◌, ◌++◌, map, set, take, drop, get_or, length, sym, subst, ap, ◌∙◌, refl, arith, nat_lt, remove, slice_index_or, list_all, bit_at, eq-eqb, eqb-false, le-ltb, lt-ltb, ne_eqb, drop-map, get_or_default, get_or-map, get_or-set_same, get_or-set_other, length-map, length-set, map-append, take-map, Target, Slot, Masks, AreMasks, AreSlots, HasCome, HasLeft, IsLowestFree, IsSet, IsLowestUntaken, Content, filled, numbers, fences, has, keeps_back, is_sequential, Record, advanced, is_in_service, is_unstarted, no_record, passed_by, no_target, AreKept, held, is_unfenced, kind_at, kind_of, shown, slot_at, with_due, with_item}
+use Rattle.mscp_queue.proofs.Common.{◌≡◌, ◌≢◌, ◌<◌, ◌+◌, ◌^◌, ◌⊎◌, inl, inr, ℕ, zero, suc, Bool, true, false, not, ◌&&◌, nat_eq, List, [], ◌∷◌, ◌++◌, map, set, take, drop, get_or, length, sym, subst, ap, ◌∙◌, refl, arith, remove, slice_index_or, list_all, drop-map, get_or_default, get_or-map, get_or-set_same, get_or-set_other, length-map, length-set, map-append, take-map, Target, Slot, Masks, AreMasks, AreSlots, HasCome, HasLeft, IsLowestFree, IsLowestUntaken, Content, filled, numbers, fences, has, keeps_back, is_sequential, Record, advanced, no_record, no_target, AreKept, held, is_unfenced, kind_at, kind_of, shown, slot_at, with_item}
 use Rattle.mscp_queue.proofs.Freed.{free_tells}
 use Rattle.mscp_queue.proofs.Departed.{masks_left}
-use Rattle.mscp_queue.proofs.Masked.{has_other, masks_pushed, masks_served, not_behind, not_here, off_bit, one_bit, same_or, slot_has, slot_low}
+use Rattle.mscp_queue.proofs.Masked.{has_other, masks_pushed, not_behind, not_here, off_bit, one_bit, same_or, slot_has, slot_low}
 use Rattle.mscp_queue.proofs.Placed.{cut_at}
 
 module _ (rs : List Record) (own : List Target) (ds : List ℕ) (n : ℕ) (r : Record) (a : Target) (d : ℕ) where
@@ -105,20 +105,17 @@ pub shown_left : {X Y : Type 0} (f : X → Y) (order new : List X) (now : List Y
 shown_left f order new now place view e = grind (arith, map-append, take-map, drop-map)
 
 -- ---- a command comes
-pub serves_if : (n : ℕ) → not (nat_eq n 0) ≡ nat_lt 0 n
-serves_if n = grind (arith, not, nat_eq, eq-eqb, le-ltb, ne_eqb, lt-ltb)
-
 -- the slot whose bit isn't set isn't taken
 pub untaken : {rs : List Record} {own : List Target} {order : List ℕ} {m : Masks} {n : ℕ} → AreKept rs own order m
     → IsLowestFree m.waiting n → has n order ≡ false
 untaken {order = order} {n = n} kept free = off_bit (has n order) (sym (kept.masks.of_waiting n free.low) ∙ free.free)
 
 pub kept_pushed : {rs : List Record} {own : List Target} {order new : List ℕ} {m m' : Masks} {n drive : ℕ}
-    {sequential serving : Bool} (r : Record) (a : Target) → AreKept rs own order m → IsLowestFree m.waiting n
-    → a.drive < 16 → drive ≡ a.drive → sequential ≡ is_sequential r.command.order → serving ≡ is_in_service r
-    → HasCome n drive sequential serving m m' → new ≡ order ++ n ∷ [] → AreKept (set rs n r) (set own n a) new m'
+    {sequential : Bool} (r : Record) (a : Target) → AreKept rs own order m → IsLowestFree m.waiting n
+    → a.drive < 16 → drive ≡ a.drive → sequential ≡ is_sequential r.command.order
+    → HasCome n drive sequential m m' → new ≡ order ++ n ∷ [] → AreKept (set rs n r) (set own n a) new m'
 kept_pushed {rs}
-    {own} {order} {new} {m} {m'} {n} {drive} {sequential} {serving} r a kept free few is_drive ordered served comes e =
+    {own} {order} {new} {m} {m'} {n} {drive} {sequential} r a kept free few is_drive ordered comes e =
     let rs' = set rs n r in
     let own' = set own n a in
     let kinds = kind_at rs own in
@@ -129,7 +126,7 @@ kept_pushed {rs}
     ≡ a = get_or-set_same own n a no_target (omega (arith, low, kept.targets_64)) in
     let none = untaken kept free in
     let others : (k : ℕ) → k ≢ n → kinds' k ≡ kinds k = search (arith, get_or-set_other) in
-    let came : HasCome n (kinds' n).drive (kinds' n).sequential (kinds' n).serving m m' = search arith in
+    let came : HasCome n (kinds' n).drive (kinds' n).sequential m m' = search arith in
     subst (λ o. AreKept rs' own' o m') (sym e) (record {
       records_64 = length-set rs n r ∙ kept.records_64;
       targets_64 = length-set own n a ∙ kept.targets_64;
@@ -198,42 +195,9 @@ item_set {rs} {own} {order} {m} {place} {n} {r} ds now f other kept view inside 
     set_at_number (held rs own ds) g order place kept.masks.apart h.inside same ∙ ((λ i. set (view i) place (g (sym h.is
     i))) ∙ ap (λ s. set now place s) (there ∙ ap (with_item f) (slot_is rs own ds order now place n view inside h.is)))
 
-pub due_set : {rs : List Record} {own : List Target} {order : List ℕ} {m : Masks} {place n : ℕ} (ds : List ℕ)
-    (now : List Slot) (due : ℕ)
-    → AreKept rs own order m → length ds ≡ 64 → shown rs own ds order ≡ now → place < length now
-    → IsNumber order place n → shown rs own (set ds n due) order ≡ set now place (with_due due (slot_at now place))
-due_set {rs} {own} {order} {m} {place} {n} ds now due kept long view inside h =
-    let g = held rs own (set ds n due) in
-    let same : (k : ℕ) → k ≢ get_or order place 0 → g k ≡ held rs own ds k = search (arith, get_or-set_other) in
-    let there : g n ≡ with_due due (held rs own ds n) = search (arith, get_or-set_same) in
-    set_at_number (held rs own ds) g order place kept.masks.apart h.inside same ∙ ((λ i. set (view i) place (g (sym h.is
-    i))) ∙ ap (λ s. set now place s) (there ∙ ap (with_due due) (slot_is rs own ds order now place n view inside h.is)))
-
--- the masks stay those of the slots where a record keeps its kind, and where its command is in service from now on
-pub kept_passed : {rs : List Record} {own : List Target} {order : List ℕ} {m : Masks} {n : ℕ} {r : Record} (charge : ℕ)
+-- the masks stay those of the slots where a record keeps its kind
+pub kept_advanced : {rs : List Record} {own : List Target} {order : List ℕ} {m : Masks} {n : ℕ} {r : Record}
     (other : Record)
-    → AreKept rs own order m → n < 64 → r ≡ passed_by charge (get_or rs n other) → AreKept (set rs n r) own order m
-kept_passed {rs} {own} {order} {m} {n} {r} charge other kept low e =
+    → AreKept rs own order m → n < 64 → r ≡ advanced (get_or rs n other) → AreKept (set rs n r) own order m
+kept_advanced {rs} {own} {order} {m} {n} {r} other kept low e =
     search (arith, get_or-set_same, get_or_default, length-set, same_or, get_or-set_other)
-
--- the bit of a command that was served before is set
-pub serves_since : {rs : List Record} {own : List Target} {order : List ℕ} {m : Masks} {n : ℕ} (other : Record)
-    → AreKept rs own order m → n < 64 → has n order ≡ true → is_unstarted (get_or rs n other) ≡ false
-    → bit_at m.serving n ≡ 1
-serves_since {rs} {own} {order} {m} {n} other kept low there since = grind (arith, get_or_default, eqb-false, lt-ltb)
-
-pub kept_advanced : {rs : List Record} {own : List Target} {order : List ℕ} {m m' : Masks} {n : ℕ} {r : Record}
-    (other : Record) → AreKept rs own order m → n < 64 → has n order ≡ true → r ≡ advanced (get_or rs n other)
-    → m' ≡ record m { serving = m'.serving } → IsSet true n m.serving m'.serving → AreKept (set rs n r) own order m'
-kept_advanced {rs} {own} {order} {m} {m'} {n} {r} other kept low there e same set_on =
-    let is : get_or (set rs n r) n no_record
-    ≡ advanced (get_or rs n no_record) = get_or-set_same rs n r no_record (omega (arith, low, kept.records_64))
-    ∙ e ∙ ap advanced (get_or_default rs n other no_record (omega (arith, low, kept.records_64))) in
-    let serves : is_in_service (get_or (set rs n r) n no_record) ≡ true = ap (λ (q : Record). is_in_service q) is
-    ∙ lt-ltb 0 ((get_or rs n no_record).done + 1) (omega arith) in
-    subst (λ q. AreKept (set rs n r) own order q) (sym same) (record {
-      records_64 = length-set rs n r ∙ kept.records_64;
-      targets_64 = kept.targets_64;
-      drives = kept.drives;
-      masks = search (arith, is, serves, masks_served, get_or-set_other);
-    })

@@ -1,5 +1,5 @@
 -- The places that may start, found one after the other.
-use Rattle.mscp_queue.proofs.Basics.{append-nil, ◌≡◌, ◌⊎◌, inl, inr, ℕ, zero, suc, ◌+◌, ◌-◌, ◌<◌, ◌≤◌, Bool, true, false, cond, not, ◌&&◌, List, [], ◌∷◌, ◌++◌, map, take, get_or, length, refl, ap, sym, ◌∙◌, arith, All, filter, nat_eq, nat_le, AllByRecursion, list_all, range_with_len, eq-eqb, le-leb, leb-true, lt-leb, true≢false, get_or-map, get_or-drop, get_or-take, length-append, length-drop, length-map, length-range_with_len, length-take-le, map-append, take-map, All-from_recursion, All-take, filter-append, recursion_from_All, Shape, one_block, Target, Drive, Choice, target_of, targets_of, no_target, unit_place, fresh_drive, ArePassedInOrder, CanBeShown, IsPick, IsShut, is_known, units_of, Kind, keeps_back, is_sequential, Record, drive_at, is_in_service, no_record, record_at, is_unfenced_at, kinds_of, no_kind, choice_of, choices_at, is_affordable, is_free, is_open_at, open_places, place_same, apart_by_place, every_kept, every_weaker, fewer, range_below, range_more, all_shown}
+use Rattle.mscp_queue.proofs.Basics.{append-nil, ◌≡◌, ◌⊎◌, inl, inr, ℕ, zero, suc, ◌+◌, ◌-◌, ◌<◌, ◌≤◌, Bool, true, false, cond, not, ◌&&◌, List, [], ◌∷◌, ◌++◌, map, take, get_or, length, refl, ap, sym, ◌∙◌, arith, All, filter, nat_eq, nat_le, AllByRecursion, list_all, range_with_len, eq-eqb, le-leb, leb-true, lt-leb, true≢false, get_or-map, get_or-drop, get_or-take, length-append, length-drop, length-map, length-range_with_len, length-take-le, map-append, take-map, All-from_recursion, All-take, filter-append, recursion_from_All, Shape, one_block, Target, Drive, Choice, target_of, targets_of, no_target, unit_place, fresh_drive, ArePassedInOrder, CanBeShown, IsPick, IsShut, is_known, units_of, Kind, keeps_back, is_sequential, Record, drive_at, no_record, record_at, is_unfenced_at, kinds_of, no_kind, choice_of, choices_at, is_affordable, is_free, is_open_at, open_places, place_same, apart_by_place, every_kept, every_weaker, fewer, range_below, range_more, all_shown}
 use Rattle.mscp_queue.specs.Views.{fences, view_of}
 
 -- ---- who is free
@@ -13,7 +13,6 @@ abbrev pub kind_in : List Shape → Record → Kind
 kind_in us r = record {
   drive = unit_place us r.command.unit;
   sequential = is_sequential r.command.order;
-  serving = is_in_service r;
 }
 
 pub kinds_targeted : (us : List Shape) (rs : List Record) → kinds_of rs (targets_of us rs) ≡ map (kind_in us) rs

@@ -95,7 +95,7 @@ drive_in ds at = slice_index_or ds at (fresh_drive one_block)
 abbrev pub knows : Favorites → ℕ → Bool
 knows f k = slice_index_or f.known k false
 
--- that of none is
+-- the best start of no drive is known
 abbrev pub KnowsNothing : Favorites → Type 0
 KnowsNothing f = (k : ℕ) → knows f k ≡ false
 

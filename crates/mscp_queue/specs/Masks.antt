@@ -41,27 +41,23 @@ AreSlots (s ∷ order) = (s < 64) × (has s order ≡ false) × AreSlots order
 abbrev pub AreClasses : (ℕ → ℕ) → List ℕ → List ℕ → Type 0
 AreClasses class order masks = (u : ℕ) → IsMaskOf (slice_index_or masks u 0) (λ k. has k order && nat_eq (class k) u)
 
--- what masks tell of a slot: the place of its command's drive, whether the command is sequential, and whether it is in
--- service
+-- what masks tell of a slot: the place of its command's drive, and whether the command is sequential
 pub record Kind : Type 0 where
   pub drive : ℕ
   pub sequential : Bool
-  pub serving : Bool
 
 -- what the masks say of the slots, which are taken in this order
 pub record AreMasks (kinds : ℕ → Kind) (order : List ℕ) (m : Masks) : Type 0 where
   pub apart : AreSlots order
   pub of_waiting : IsMaskOf m.waiting (λ k. has k order)
   pub of_sequential : IsMaskOf m.sequential (λ k. has k order && (kinds k).sequential)
-  pub of_serving : IsMaskOf m.serving (λ k. has k order && (kinds k).serving)
   pub of_units : AreClasses (λ k. (kinds k).drive) order m.units
   pub of_earlier : AreEarlier (λ k. slice_index_or m.earlier k 0) [] order
 
 -- the bits of slot n are set in the masks that a command belongs to, and all that wait are in front of it
-pub record HasCome (n drive : ℕ) (sequential serving : Bool) (old new : Masks) : Type 0 where
+pub record HasCome (n drive : ℕ) (sequential : Bool) (old new : Masks) : Type 0 where
   pub waits : IsSet true n old.waiting new.waiting
   pub ordered : IsSet sequential n old.sequential new.sequential
-  pub served : IsSet serving n old.serving new.serving
   pub units : (u : ℕ) → u ≢ drive → slice_index_or new.units u 0 ≡ slice_index_or old.units u 0
   pub own : IsSet true n (slice_index_or old.units drive 0) (slice_index_or new.units drive 0)
   pub others : (k : ℕ) → k ≢ n → slice_index_or new.earlier k 0 ≡ slice_index_or old.earlier k 0
@@ -71,7 +67,6 @@ pub record HasCome (n drive : ℕ) (sequential serving : Bool) (old new : Masks)
 pub record HasLeft (n drive : ℕ) (old new : Masks) : Type 0 where
   pub waits : IsSet false n old.waiting new.waiting
   pub ordered : IsSet false n old.sequential new.sequential
-  pub served : IsSet false n old.serving new.serving
   pub units : (u : ℕ) → u ≢ drive → slice_index_or new.units u 0 ≡ slice_index_or old.units u 0
   pub own : IsSet false n (slice_index_or old.units drive 0) (slice_index_or new.units drive 0)
   pub earlier : (k : ℕ) → bit_at new.waiting k ≡ 1
@@ -89,11 +84,10 @@ fences m n drive sequential =
 abbrev pub keeps_back : Kind → Kind → Bool
 keeps_back before after = nat_eq before.drive after.drive && (before.sequential || after.sequential)
 
--- a mask of the slots whose commands came later than that of slot n, but for one in service
+-- a mask of the slots whose commands came later than that of slot n
 abbrev pub IsBehind : ℕ → Masks → ℕ → Type 0
 IsBehind n m behind = (k : ℕ) → k < 64 → bit_at behind k
-    ≡ cond (nat_eq k n) 0 (min (min (bit_at m.waiting k) (1 - bit_at (slice_index_or m.earlier n 0) k))
-    (1 - bit_at m.serving k))
+    ≡ cond (nat_eq k n) 0 (min (bit_at m.waiting k) (1 - bit_at (slice_index_or m.earlier n 0) k))
 
 -- the command of slot k is to the unit of this drive, and came before each sequential one of the unit, or is it
 pub record IsInFront (drive : ℕ) (m : Masks) (k : ℕ) : Type 0 where

@@ -105,6 +105,10 @@ charge r = r.weight
 abbrev pub step_charge : Record → ℕ
 step_charge r = cond (is_unstarted r) (charge r) 0
 
+-- the record without the count of the blocks by which its command was passed
+abbrev pub bare : Record → Record
+bare r = record r { passed = 0 }
+
 -- the record once its command was passed at this charge
 abbrev pub passed_by : ℕ → Record → Record
 passed_by n r = record r { passed = r.passed + n }

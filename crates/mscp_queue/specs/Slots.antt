@@ -1,5 +1,5 @@
 -- What the slots show: the waiting commands in order of arrival.
-use Rattle.std.specs.Prelude.{◌≡◌, ℕ, ◌<◌, ◌-◌, Bool, true, false, not, if◌then◌else◌, List, [], ◌∷◌, length, map, take, slice_index_or}
+use Rattle.std.specs.Prelude.{◌≡◌, ℕ, ◌<◌, ◌-◌, Bool, true, false, not, List, [], ◌∷◌, length, map, take, slice_index_or}
 use Rattle.std.specs.List.{list_all}
 use Rattle.mscp_queue.specs.declared.target.Target.{Target}
 use Rattle.mscp_queue.specs.declared.masks.Masks.{Masks}
@@ -8,7 +8,7 @@ use Rattle.mscp_queue.specs.Buckets.{AreBuckets}
 use Rattle.mscp_queue.specs.Targets.{no_target}
 use Rattle.mscp_queue.specs.Masks.{AreMasks, Kind, has, keeps_back}
 use Rattle.mscp_queue.specs.Orders.{is_sequential}
-use Rattle.mscp_queue.specs.Records.{Record, is_in_service, no_record}
+use Rattle.mscp_queue.specs.Records.{Record, no_record}
 
 -- a slot that is taken: its number, and what it holds
 pub record Slot : Type 0 where
@@ -66,7 +66,6 @@ abbrev pub kind_of : Slot → Kind
 kind_of s = record {
   drive = s.target.drive;
   sequential = is_sequential s.item.command.order;
-  serving = is_in_service s.item;
 }
 
 -- what the masks tell of each slot
@@ -84,7 +83,6 @@ kinds_of (r ∷ rs) [] = []
 kinds_of (r ∷ rs) (a ∷ own) = record {
   drive = a.drive;
   sequential = is_sequential r.command.order;
-  serving = is_in_service r;
 } ∷ kinds_of rs own
 
 -- what they tell of nothing
@@ -99,24 +97,15 @@ is_unfenced_at ks place = list_all (λ z. not (keeps_back z (slice_index_or ks p
 abbrev pub lowered_by : ℕ → Slot → Slot
 lowered_by by s = record { number = s.number; item = s.item; target = s.target; due = s.due - by }
 
--- the same, but for a command in service
-abbrev pub lowered_unless_serving : ℕ → Slot → Slot
-lowered_unless_serving by s = if is_in_service s.item then s else lowered_by by s
-
--- the same with another record
+-- a slot with another record
 abbrev pub with_item : (Record → Record) → Slot → Slot
 with_item f s = record { number = s.number; item = f s.item; target = s.target; due = s.due }
-
--- the same with another due
-abbrev pub with_due : ℕ → Slot → Slot
-with_due due s = record { number = s.number; item = s.item; target = s.target; due = due }
 
 -- what the masks tell of the slot of this number
 abbrev pub kind_at : List Record → List Target → ℕ → Kind
 kind_at records own k = record {
   drive = (slice_index_or own k no_target).drive;
   sequential = is_sequential (slice_index_or records k no_record).command.order;
-  serving = is_in_service (slice_index_or records k no_record);
 }
 
 -- the range of each slot is that of its target

@@ -1,7 +1,7 @@
 // The waiting commands, and how long each may still wait.
 
-ghost use Rattle.std.specs.Prelude.{◌≡◌, ◌+◌, ◌-◌, ◌<◌, ◌≤◌, ◌^◌, ◌++◌, ◌∷◌, [], true, false, cond, length, map, take, drop, slice_index_or, sum_by, All};
-ghost use Rattle.mscp_queue.specs.Common.{position, AreApart, has_name, names, clock_end, started, figure_at, figures, advanced, is_in_service, is_unstarted, left_of, passed_by, record_at, step_charge, no_target, IsOnUnit, AreOnDrive, IsBest, IsOpenOn, cost_there, is_unfenced_at, kinds_of, lowered_by, slot_at};
+ghost use Rattle.std.specs.Prelude.{◌≡◌, ◌+◌, ◌-◌, ◌*◌, ◌<◌, ◌≤◌, ◌^◌, ◌++◌, ◌∷◌, [], true, false, cond, length, map, take, drop, slice_index_or, sum_by, All};
+ghost use Rattle.mscp_queue.specs.Common.{position, AreApart, bare, has_name, names, clock_end, figure_at, figures, advanced, is_in_service, is_unstarted, left_if_serving, left_of, passed_by, record_at, step_charge, no_target, IsOnUnit, AreOnDrive, IsBest, IsOpenOn, cost_there, is_unfenced_at, kinds_of, lowered_by};
 
 mod restoring;
 
@@ -18,8 +18,9 @@ use std::marker::Model;
 /// Where the clock is set back to 0, so that no due outgrows its number.
 const CLOCK_END: u64 = 1 << 40;
 
-/// The waiting commands in their slots. The figure of each is its due less the clock: so a step, which lets each figure
-/// fall by one, changes one number.
+/// The waiting commands in their slots. The figure of each that isn't in service is its due less the clock: so a step, which
+/// lets each figure fall by one, changes one number. By how many blocks each was passed is counted nowhere, but told by its
+/// due, so that a start changes nothing of those that it passes.
 #[derive(Drop)]
 pub(crate) struct Backlog {
     slots: Slots,
@@ -32,33 +33,29 @@ pub(crate) struct Backlog {
 
 // A clause sees the budget, the waiting commands in order of arrival, and the target of each.
 impl Model for Backlog {
-    ghost use Rattle.mscp_queue.specs.Common.{AreTimed, Waiters, targets, items};
+    ghost use Rattle.mscp_queue.specs.Common.{AreTimed, Waiters, targets, told};
 
     ghost Value = { Waiters };
 
     ghost view = { λ b.
         record {
           budget = b.budget;
-          waiting = items b.slots;
+          waiting = told b.budget b.clock b.slots;
           targets = targets b.slots;
         } };
 
     ghost invariant = { λ b. AreTimed b.budget b.clock b.total b.slots };
 }
 
-/// The command at the place starts at this clock, if it wasn't started before.
-#[inline(always)]
-fn start(slots: &mut Slots, place: usize, clock: u64)
-    requires place { place < length slots.old }
-    requires small { is_unstarted (slot_at slots.old place).item ≡ true
-        → All (λ s. s.item.passed + (slot_at slots.old place).item.weight < 2 ^ 32) (take place slots.old) }
-    requires early { clock < clock_end }
-    ensures { slots.new ≡ started clock place slots.old }
+/// How many steps are left of the record, if it is in service.
+fn left_if_serving(record: &Record) -> u64
+    ensures value { result ≡ left_if_serving «record».now }
+    ensures small { result < 2 ^ 32 }
 {
-    let record = *slots.item(place);
     if record.is_unstarted() {
-        slots.pass_front(place, record.weight());
-        slots.set_due(place, clock + u64::from(record.weight()));
+        0
+    } else {
+        u64::from(record.left())
     }
 }
 
@@ -127,12 +124,60 @@ impl Backlog {
         self.budget
     }
 
-    /// The record at the place.
+    /// The record at the place, but for the blocks by which its command was passed.
     pub fn record(&self, place: usize) -> &Record
         requires { place < length self.now.waiting }
-        ensures { result.now ≡ record_at self.now.waiting place }
+        ensures { result.now ≡ bare (record_at self.now.waiting place) }
     {
         self.slots.item(place)
+    }
+
+    /// How many steps are left of a command in service behind the place.
+    fn left_behind(&self, place: usize) -> u64
+        requires few { length self.now.waiting ≤ 64 }
+        requires place { place < length self.now.waiting }
+        ensures value { result ≡ sum_by left_if_serving (drop (place + 1) self.now.waiting) }
+        ensures small { result ≤ 64 * 2 ^ 32 }
+    {
+        let mut left = 0;
+        for behind in 0..self.len() - (place + 1) {
+            left += left_if_serving(self.record(place + 1 + behind));
+        }
+        left
+    }
+
+    /// How many steps are left of all up to the place.
+    fn left_up_to(&self, place: usize) -> u64
+        requires few { length self.now.waiting ≤ 64 }
+        requires place { place < length self.now.waiting }
+        ensures value { result ≡ sum_by left_of (take (place + 1) self.now.waiting) }
+        ensures small { result ≤ 64 * 2 ^ 32 }
+    {
+        let mut left = 0;
+        for earlier in 0..place + 1 {
+            left += u64::from(self.record(earlier).left());
+        }
+        left
+    }
+
+    /// By how many blocks the command at the place was passed.
+    pub fn passed(&self, place: usize) -> u32
+        requires few { length self.now.waiting ≤ 64 }
+        requires place { place < length self.now.waiting }
+        ensures { result ≡ (record_at self.now.waiting place).passed }
+    {
+        let most = self.clock + self.left_up_to(place) + self.left_behind(place) + u64::from(self.budget);
+        (most - self.slots.due(place)) as u32
+    }
+
+    /// The record at the place, whole.
+    pub fn told(&self, place: usize) -> Record
+        requires few { length self.now.waiting ≤ 64 }
+        requires place { place < length self.now.waiting }
+        ensures { result ≡ record_at self.now.waiting place }
+    {
+        let record = self.record(place);
+        record.resumed(record.done(), self.passed(place))
     }
 
     /// The place of the command of this name, in order of arrival, if it waits.
@@ -157,16 +202,22 @@ impl Backlog {
         requires small { sum_by left_of self.now.waiting + self.now.budget < 2 ^ 32 }
         ensures { result ≡ figure_at self.now.budget self.now.waiting place }
     {
-        (self.slots.due(place) - self.clock) as u32
+        let record = self.slots.item(place);
+        if record.is_unstarted() {
+            (self.slots.due(place) - self.clock) as u32
+        } else {
+            record.left()
+        }
     }
 
-    /// What the oldest command has left of the budget: by so many blocks may it still be passed. Who came earlier was passed
-    /// at least as often, so that this tells it for all.
+    /// What the oldest command has left of the budget, where none is in service: by so many blocks may it still be passed.
+    /// Who came earlier was passed at least as often, so that this tells it for all.
     pub fn unspent(&self) -> u32
         requires some { 0 < length self.now.waiting }
+        requires idle { All (λ r. r.done ≡ 0) self.now.waiting }
         ensures { result ≡ self.now.budget - (record_at self.now.waiting 0).passed }
     {
-        self.budget.saturating_sub(self.slots.item(0).passed())
+        (self.slots.due(0) - self.clock - u64::from(self.slots.item(0).left())) as u32
     }
 
     /// The best start on the drive at a place: of the commands to its unit that nobody in front keeps back, the first of the
@@ -253,7 +304,8 @@ impl Backlog {
         self.total += left;
     }
 
-    /// The command at the place has a step: a start, with which it passes each in front of it, or another.
+    /// The command at the place has a step: a start, with which it passes each in front of it, or another. Since it is in
+    /// service then, all that is left of it stands before those in front: that is their pass.
     #[inline(always)]
     fn advance(&mut self, place: usize)
         requires place { place < length self.old.waiting }
@@ -269,7 +321,6 @@ impl Backlog {
         ensures targets { self.new.targets ≡ self.old.targets }
         ensures budget { self.new.budget ≡ self.old.budget }
     {
-        start(&mut self.slots, place, self.clock);
         self.slots.advance(place);
         self.total -= 1;
         self.clock = set_back(&mut self.slots, self.clock + 1);
@@ -293,7 +344,7 @@ impl Backlog {
         self.slots.lower_all(left);
     }
 
-    /// The command at the place leaves, which was never served: those behind it wait no more for it, but one in service.
+    /// The command at the place leaves, which was never served: those behind it wait no more for it.
     fn leave_unstarted(&mut self, place: usize)
         requires place { place < length self.old.waiting }
         requires unstarted { is_in_service (record_at self.old.waiting place) ≡ false }

@@ -2,7 +2,7 @@
 // start is known: it stays the best until the head of its unit moves, or the command leaves.
 
 ghost use Rattle.std.specs.Prelude.{◌≡◌, ℕ, ◌<◌, ◌≤◌, true, false, cond, nat_eq, slice_index_or};
-ghost use Rattle.mscp_queue.specs.Common.{KnowsNothing, IsLearned, IsMarked, cheaper, closed, knows, start_in};
+ghost use Rattle.mscp_queue.specs.Common.{KnowsNothing, IsLearned, IsMarked, closed, comes_before, knows, start_in};
 
 use crate::start_key::Start;
 
@@ -61,9 +61,10 @@ impl Favorites {
     pub fn come(&mut self, drive: usize, start: Start)
         requires { drive < 16 }
         ensures known { self.new.known ≡ self.old.known }
-        ensures starts { IsLearned drive (cheaper start (start_in self.old drive)) self.old self.new }
+        ensures starts { IsLearned drive (cond (comes_before (start_in self.old drive) start)
+            (start_in self.old drive) start) self.old self.new }
     {
-        self.starts[drive] = start.or_cheaper(self.starts[drive]);
+        self.starts[drive] = self.starts[drive].or_earlier(start);
     }
 
     /// The best start of a drive isn't known any more.

@@ -11,8 +11,6 @@ pub(crate) struct Masks {
     pub waiting: u64,
     /// Those of sequential commands.
     pub sequential: u64,
-    /// That of the command in service.
-    pub serving: u64,
     /// Those of each drive's unit, by the place of the drive.
     pub units: [u64; 16],
     /// For each slot those whose commands came earlier.
@@ -82,42 +80,26 @@ impl Masks {
     pub fn new() -> Masks
         ensures waiting { result.waiting ≡ 0 }
         ensures sequential { result.sequential ≡ 0 }
-        ensures serving { result.serving ≡ 0 }
         ensures units { (u : ℕ) → slice_index_or result.units u 0 ≡ 0 }
     {
         Masks {
             waiting: 0,
             sequential: 0,
-            serving: 0,
             units: [0; 16],
             earlier: [0; 64],
         }
     }
 
     /// A command comes to a slot, whose unit's drive stands at this place, and which is sequential or not.
-    pub fn come(&mut self, slot: usize, drive: usize, sequential: bool, serving: bool)
+    pub fn come(&mut self, slot: usize, drive: usize, sequential: bool)
         requires slot { slot < 64 }
         requires drive { drive < 16 }
-        ensures { HasCome slot drive sequential serving self.old self.new }
+        ensures { HasCome slot drive sequential self.old self.new }
     {
         self.earlier[slot] = self.waiting;
         self.units[drive] = with_bit(self.units[drive], slot, true);
         self.sequential = with_bit(self.sequential, slot, sequential);
-        self.serving = with_bit(self.serving, slot, serving);
         self.waiting = with_bit(self.waiting, slot, true);
-    }
-
-    /// The command of a slot is in service: it starts, or it was since an earlier step.
-    #[inline(always)]
-    pub fn serve(&mut self, slot: usize, starts: bool)
-        requires slot { slot < 64 }
-        requires since { starts ≡ false → bit_at self.old.serving slot ≡ 1 }
-        ensures others { self.new ≡ record self.old { serving = self.new.serving } }
-        ensures set { IsSet true slot self.old.serving self.new.serving }
-    {
-        if starts {
-            self.serving = with_bit(self.serving, slot, true);
-        }
     }
 
     /// How many commands came earlier than that of the slot: its place.
@@ -194,13 +176,13 @@ impl Masks {
         with_bit(without(later, self.units[drive]), slot, false) == 0
     }
 
-    /// The slots whose commands came later than that of the slot, but for one in service.
+    /// The slots whose commands came later than that of the slot.
     pub fn behind(&self, slot: usize) -> u64
         requires { slot < 64 }
         ensures { IsBehind slot self.now result }
     {
         let later = without(self.waiting, self.earlier[slot]);
-        with_bit(without(later, self.serving), slot, false)
+        with_bit(later, slot, false)
     }
 
     /// The command of a slot leaves it, whose unit's drive stands at this place. `earlier` may stay as it is where no command
@@ -213,7 +195,6 @@ impl Masks {
     {
         self.waiting = with_bit(self.waiting, slot, false);
         self.sequential = with_bit(self.sequential, slot, false);
-        self.serving = with_bit(self.serving, slot, false);
         self.units[drive] = with_bit(self.units[drive], slot, false);
         if self.waiting >= 1 << 16 {
             clear_in_all(&mut self.earlier, slot);

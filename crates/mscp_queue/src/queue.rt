@@ -255,7 +255,7 @@ impl<K: Picker> Queue<K> {
         if self.backlog.len() == 0 {
             return 0;
         }
-        self.backlog.record(0).passed()
+        self.backlog.passed(0)
     }
 
     /// Ends the waiting command of the connection with the reference number, in service or not, and gives its end, whose

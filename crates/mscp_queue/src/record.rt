@@ -1,7 +1,7 @@
 // A waiting command.
 
 ghost use Rattle.std.specs.Prelude.{◌≡◌, ◌+◌, ◌<◌, ◌^◌, nat_eq};
-ghost use Rattle.mscp_queue.specs.Common.{is_sequential, order_weight, advanced, fresh_record, has_name, left_of, name_of, no_record, passed_by};
+ghost use Rattle.mscp_queue.specs.Common.{is_sequential, order_weight, advanced, fresh_record, has_name, left_of, name_of, no_record};
 
 use crate::name::Name;
 use mscp_drive::Connection;
@@ -167,15 +167,6 @@ impl Record {
         ensures { self.new ≡ advanced self.old }
     {
         self.done += 1;
-    }
-
-    /// The command was passed at this charge. Nothing else of the record is written.
-    #[inline(always)]
-    pub(crate) fn pass(&mut self, charge: u32)
-        requires { self.old.passed + charge < 2 ^ 32 }
-        ensures { self.new ≡ passed_by charge self.old }
-    {
-        self.passed += charge;
     }
 }
 

@@ -2,7 +2,7 @@
 // keeps whom back.
 
 ghost use Rattle.std.specs.Prelude.{◌≡◌, ◌+◌, ◌<◌, ◌≤◌, ◌^◌, ◌++◌, ◌∷◌, true, false, [], List, length, map, take, drop, slice_set, All, IfNone, IfSome};
-ghost use Rattle.mscp_queue.specs.Common.{list_any, is_sequential, advanced, has_name, is_in_service, passed_by, IsOnUnit, AreOnDrive, IsBest, IsLowestUntaken, IsNearOf, IsOpenOn, cost_there, kinds, targets, dues, filled, is_unfenced, items, lowered_by, lowered_unless_serving, shown, slot_at, with_due, with_item};
+ghost use Rattle.mscp_queue.specs.Common.{list_any, is_sequential, advanced, has_name, IsOnUnit, AreOnDrive, IsBest, IsLowestUntaken, IsNearOf, IsOpenOn, cost_there, kinds, targets, dues, filled, is_unfenced, items, lowered_by, shown, slot_at, with_item};
 
 use crate::buckets::Buckets;
 use crate::drive::Drive;
@@ -113,7 +113,6 @@ impl Slots {
             slot,
             usize::from(new.target.drive),
             new.item.is_sequential(),
-            !new.item.is_unstarted(),
         );
         self.order.push(slot as u8);
         slot
@@ -133,27 +132,6 @@ impl Slots {
             .leave(slot, usize::from(self.targets[slot].drive));
     }
 
-    /// The command at the place was passed at this charge.
-    fn pass(&mut self, place: usize, charge: u32)
-        requires place { place < length self.old }
-        requires small { (slot_at self.old place).item.passed + charge < 2 ^ 32 }
-        ensures { self.new ≡ slice_set self.old place (with_item (passed_by charge) (slot_at self.old place)) }
-    {
-        let slot = usize::from(self.order[place]);
-        self.records[slot].pass(charge);
-    }
-
-    /// Each command in front of the place was passed at this charge.
-    pub fn pass_front(&mut self, place: usize, charge: u32)
-        requires place { place ≤ length self.old }
-        requires small { All (λ s. s.item.passed + charge < 2 ^ 32) (take place self.old) }
-        ensures { self.new ≡ map (with_item (passed_by charge)) (take place self.old) ++ drop place self.old }
-    {
-        for i in 0..place {
-            self.pass(i, charge);
-        }
-    }
-
     /// The command at the place had a step.
     pub fn advance(&mut self, place: usize)
         requires place { place < length self.old }
@@ -161,18 +139,7 @@ impl Slots {
         ensures { self.new ≡ slice_set self.old place (with_item advanced (slot_at self.old place)) }
     {
         let slot = usize::from(self.order[place]);
-        let starts = self.records[slot].is_unstarted();
         self.records[slot].advance();
-        self.masks.serve(slot, starts);
-    }
-
-    /// Sets the due of the command at the place.
-    pub fn set_due(&mut self, place: usize, due: u64)
-        requires { place < length self.old }
-        ensures { self.new ≡ slice_set self.old place (with_due due (slot_at self.old place)) }
-    {
-        let slot = usize::from(self.order[place]);
-        self.dues[slot] = due;
     }
 
     /// Lowers each due by so much, which is no more than any of them.
@@ -183,12 +150,11 @@ impl Slots {
         lower(&mut self.dues, self.masks.waiting, by);
     }
 
-    /// Lowers the dues behind the place by so much, but for that of a command in service.
+    /// Lowers the dues behind the place by so much, which is no more than any of them.
     pub fn lower_behind(&mut self, place: usize, by: u64)
         requires place { place < length self.old }
-        requires enough { All (λ s. is_in_service s.item ≡ false → by ≤ s.due) (drop (place + 1) self.old) }
-        ensures { self.new
-            ≡ take (place + 1) self.old ++ map (lowered_unless_serving by) (drop (place + 1) self.old) }
+        requires enough { All (λ s. by ≤ s.due) (drop (place + 1) self.old) }
+        ensures { self.new ≡ take (place + 1) self.old ++ map (lowered_by by) (drop (place + 1) self.old) }
     {
         let slot = usize::from(self.order[place]);
         lower(&mut self.dues, self.masks.behind(slot), by);

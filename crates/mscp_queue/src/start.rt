@@ -1,7 +1,7 @@
 // Which command starts, where nothing is in service.
 
 ghost use Rattle.std.specs.Prelude.{◌≡◌, ◌++◌, ◌||◌, ◌+◌, ◌∷◌, ◌<◌, ◌≤◌, ◌-◌, ◌^◌, [], true, cond, length, take, All};
-ghost use Rattle.mscp_queue.specs.Common.{IsUnitList, IsTargeted, ArePassedInOrder, AreFavored, CanBeShown, IsBest, IsClearOn, IsFirstOf, IsShut, MayAllPass, order_cost, commands, cost_at, drive_in, units_of, is_move, is_sequential, drive_at, record_at, IsPick, choice_of, is_open_at, open_places, view_of};
+ghost use Rattle.mscp_queue.specs.Common.{IsUnitList, IsTargeted, bare, ArePassedInOrder, AreFavored, CanBeShown, IsBest, IsClearOn, IsFirstOf, IsShut, MayAllPass, order_cost, commands, cost_at, drive_in, units_of, is_move, is_sequential, drive_at, record_at, IsPick, choice_of, is_open_at, open_places, view_of};
 
 use crate::backlog::Backlog;
 use crate::drive::Drive;
@@ -47,7 +47,7 @@ fn targeted_at<'a>(
 ) -> (&'a Record, &'a Drive, u32)
     requires waiting { CanBeShown drives.now backlog.now.waiting backlog.now.targets }
     requires place { place < length backlog.now.waiting }
-    ensures record { result.0.now ≡ record_at backlog.now.waiting place }
+    ensures record { result.0.now ≡ bare (record_at backlog.now.waiting place) }
     ensures drive { result.1.now ≡ drive_at drives.now backlog.now.waiting place }
     ensures targeted { IsTargeted result.1.now result.2 result.0.now }
 {
@@ -109,6 +109,7 @@ fn show_if(
 fn show_each(view: &mut View, backlog: &Backlog, drives: &[Drive]) -> ArrayVec<u8, 64>
     requires view { view.old ≡ [] }
     requires some { 0 < length backlog.now.waiting }
+    requires idle { All (λ r. r.done ≡ 0) backlog.now.waiting }
     requires waiting { CanBeShown drives.now backlog.now.waiting backlog.now.targets }
     requires order { ArePassedInOrder backlog.now.waiting }
     requires passed { (record_at backlog.now.waiting 0).passed ≤ backlog.now.budget }
@@ -145,6 +146,7 @@ fn show_oldest(view: &mut View, backlog: &Backlog, drives: &[Drive])
 /// earlier was passed by at least as many blocks, so that the oldest tells it for all.
 fn may_all_pass(backlog: &Backlog, longest: u32) -> bool
     requires some { 0 < length backlog.now.waiting }
+    requires idle { All (λ r. r.done ≡ 0) backlog.now.waiting }
     requires order { ArePassedInOrder backlog.now.waiting }
     requires passed { (record_at backlog.now.waiting 0).passed ≤ backlog.now.budget }
     requires short { All (λ r. r.weight ≤ longest) backlog.now.waiting }
@@ -218,6 +220,7 @@ pub(crate) fn picked_place<K: Picker>(
     view: &mut View,
 ) -> usize
     requires some { 0 < length backlog.now.waiting }
+    requires idle { All (λ r. r.done ≡ 0) backlog.now.waiting }
     requires waiting { CanBeShown drives.now backlog.now.waiting backlog.now.targets }
     requires order { ArePassedInOrder backlog.now.waiting }
     requires passed { (record_at backlog.now.waiting 0).passed ≤ backlog.now.budget }

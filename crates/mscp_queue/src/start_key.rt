@@ -2,7 +2,7 @@
 // is the lesser. So a pick among sixteen drives compares one number of each.
 
 ghost use Rattle.std.specs.Prelude.{◌≡◌, ◌<◌, cond};
-ghost use Rattle.mscp_queue.specs.Common.{cheaper, closed, comes_before, cost_end};
+ghost use Rattle.mscp_queue.specs.Common.{closed, comes_before, cost_end};
 
 use std::marker::Model;
 
@@ -61,30 +61,12 @@ impl Start {
         (self.key & 255) as u8
     }
 
-    /// What it costs: of no command more than any.
-    fn cost(self) -> u64
-        ensures { result ≡ self.cost }
-    {
-        self.key >> 8
-    }
-
     /// This one, if it is a command's, and the other is none, or costs more, or as much where its command came later. Or
     /// else the other.
     pub fn or_earlier(self, other: Start) -> Start
         ensures { result ≡ cond (comes_before self other) self other }
     {
         if self.key < other.key { self } else { other }
-    }
-
-    /// This one, if it costs less, or the other is that of no command. Or else the other.
-    pub fn or_cheaper(self, other: Start) -> Start
-        ensures { result ≡ cheaper self other }
-    {
-        if self.cost() < other.cost() {
-            self
-        } else {
-            other
-        }
     }
 
     /// The same once the command at a place left: those behind it move up.

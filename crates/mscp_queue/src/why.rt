@@ -79,7 +79,7 @@ pub(crate) fn holders_at(backlog: &Backlog, budget: u32, place: usize) -> ArrayV
     let mut holders = ArrayVec::new();
     let later = backlog.record(place);
     for earlier in 0..place {
-        let holder = holder_of(budget, later, backlog.record(earlier));
+        let holder = holder_of(budget, later, &backlog.told(earlier));
         append_if(holder.keeps_back(), &mut holders, holder);
     }
     holders

@@ -1,25 +1,13 @@
 // Waiting commands as they were, and how long each may still wait.
 
 ghost use Rattle.std.specs.Prelude.{◌≡◌, ◌*◌, ◌<◌, ◌≤◌, ◌^◌, [], true, All, length, sum_by};
-ghost use Rattle.mscp_queue.specs.Common.{AreTimed, items, targets, targets_of, figure_in, is_known, units_of, left_if_serving};
+ghost use Rattle.mscp_queue.specs.Common.{AreTimed, told, targets, targets_of, due_of, is_known, units_of, left_if_serving};
 
-use crate::backlog::Backlog;
+use crate::backlog::{Backlog, left_if_serving};
 use crate::drive::Drive;
 use crate::record::Record;
 use crate::slots::{Content, Slots};
 use crate::target::Target;
-
-/// How many steps are left of the record, if it is in service.
-fn left_if_serving(record: &Record) -> u64
-    ensures value { result ≡ left_if_serving «record».now }
-    ensures small { result < 2 ^ 32 }
-{
-    if record.is_unstarted() {
-        0
-    } else {
-        u64::from(record.left())
-    }
-}
 
 /// How many steps are left of all that are in service.
 fn left_in_service(records: &[Record]) -> u64
@@ -34,18 +22,14 @@ fn left_in_service(records: &[Record]) -> u64
     left
 }
 
-/// The figure of the record, where so many steps are left of those before it, and so many of one in service behind it.
-fn figure_in(budget: u32, before: u64, behind: u64, record: &Record) -> u64
+/// The due of the record at the clock 0, where so many steps are left of those before it, and so many of one in service behind
+/// it.
+fn due_of(budget: u32, before: u64, behind: u64, record: &Record) -> u64
     requires before { before ≤ 64 * 2 ^ 32 }
     requires behind { behind ≤ 64 * 2 ^ 32 }
-    ensures { result ≡ figure_in budget before behind «record».now }
+    ensures { result ≡ due_of budget before behind «record».now }
 {
-    let left = u64::from(record.left());
-    if record.is_unstarted() {
-        before + behind + u64::from(budget.saturating_sub(record.passed())) + left
-    } else {
-        left
-    }
+    before + behind + u64::from(budget.saturating_sub(record.passed())) + u64::from(record.left())
 }
 
 /// The commands of these records wait from now on, each as it stands there, in slots none of which was taken, where each
@@ -55,8 +39,9 @@ fn fill(slots: &mut Slots, budget: u32, records: &[Record], drives: &[Drive]) ->
     requires few { length records.now ≤ 64 }
     requires drives { length drives.now ≤ 16 }
     requires known { All (λ r. is_known (units_of drives.now) r.command.unit ≡ true) records.now }
+    requires passed { All (λ r. r.passed ≤ budget) records.now }
     ensures timed { AreTimed budget 0 result slots.new }
-    ensures items { items slots.new ≡ records.now }
+    ensures told { told budget 0 slots.new ≡ records.now }
     ensures targets { targets slots.new ≡ targets_of (units_of drives.now) records.now }
 {
     let mut before = 0;
@@ -65,9 +50,9 @@ fn fill(slots: &mut Slots, budget: u32, records: &[Record], drives: &[Drive]) ->
         let item = records[place];
         behind -= left_if_serving(&item);
         slots.push(Content {
-            item,
+            item: item.resumed(item.done(), 0),
             target: Target::of(&item.command(), drives),
-            due: figure_in(budget, before, behind, &item),
+            due: due_of(budget, before, behind, &item),
         });
         before += u64::from(item.left());
     }
@@ -81,6 +66,7 @@ impl Backlog {
         requires few { length records.now ≤ 64 }
         requires drives { length drives.now ≤ 16 }
         requires known { All (λ r. is_known (units_of drives.now) r.command.unit ≡ true) records.now }
+        requires passed { All (λ r. r.passed ≤ self.old.budget) records.now }
         ensures { self.new ≡ record {
           budget = self.old.budget;
           waiting = records.now;

@@ -52,7 +52,7 @@ impl<K: Picker> Queue<K> {
         requires { place < length self.now.waiting }
         ensures { result ≡ record_at self.now.waiting place }
     {
-        *self.backlog.record(place)
+        self.backlog.told(place)
     }
 
     /// The drives, in the order of their units. With what else is seen of the queue they are what one can be made of again.

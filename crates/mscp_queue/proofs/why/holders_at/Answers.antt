@@ -7,8 +7,8 @@ loop-earlier-preserved c =
     let rs = c.args.backlog.now.waiting in
     let what : c.holder_of-holder.result ≡ holder_of c.args.budget (record_at rs c.args.place)
     (record_at rs c.loop-earlier.earlier) = c.holder_of-holder.ensures
-    ∙ (ap (λ (r : Record). holder_of c.args.budget r c.record.result.now) c.record-later.ensures
-    ∙ ap (holder_of c.args.budget (record_at rs c.args.place)) c.record.ensures) in
+    ∙ (ap (λ (r : Record). holder_of c.args.budget r c.told.result) c.record-later.ensures
+    ∙ ap (holder_of c.args.budget (record_at rs c.args.place)) c.told.ensures) in
     holders_more c.keeps_back.result c.holder_of-holder.result (c.keeps_back.ensures ∙ ap
     (λ (h : Holder). h.fences || h.overdrawn) what) what c.append_if.ensures c.loop-earlier.invariant
 

@@ -1,12 +1,11 @@
-use Rattle.mscp_queue.proofs.Common.{length, ap, sym, subst, arith, length-map, Slot, Waiters, AreOnDrive, IsBest, IsOpenOn, cost_there, kinds_of, targets}
-use Rattle.mscp_queue.proofs.Backlogs.{kinds_are}
+use Rattle.mscp_queue.proofs.Common.{sym, subst, arith, Waiters, AreOnDrive, IsBest, IsOpenOn, cost_there, kinds_of, targets}
+use Rattle.mscp_queue.proofs.Backlogs.{kinds_are, long_is}
 use Rattle.mscp_queue.proofs.backlog.Backlog.favorite.Goals as goal
 
 pub favorite-requires-clause-few : goal.favorite-requires-clause-few
 favorite-requires-clause-few c =
-    let long = ap (λ (w : Waiters). length w.waiting) c.self.view_is in
     let few = c.requires.few in
-    omega (arith, few, long, length-map c.self.inside.slots (λ (s : Slot). s.item))
+    omega (arith, few, long_is _ _ _ c.self.view_is)
 
 pub favorite-requires-clause-to : goal.favorite-requires-clause-to
 favorite-requires-clause-to c =
@@ -17,4 +16,5 @@ returns c =
     subst (λ (w : Waiters). IsBest (IsOpenOn (kinds_of w.waiting w.targets) c.args.at)
     (cost_there c.args.drive.now (kinds_of w.waiting w.targets) w.targets) c.favorite.result) c.self.view_is
     (subst (λ ks. IsBest (IsOpenOn ks c.args.at) (cost_there c.args.drive.now ks (targets c.self.inside.slots))
-    c.favorite.result) (sym (kinds_are c.self.inside.slots)) c.favorite.ensures)
+    c.favorite.result) (sym (kinds_are c.self.inside.budget c.self.inside.clock c.self.inside.slots))
+    c.favorite.ensures)

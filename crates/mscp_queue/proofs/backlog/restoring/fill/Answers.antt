@@ -1,5 +1,5 @@
-use Rattle.mscp_queue.proofs.Basics.{ap, ◌∙◌, arith, sum_by, take_all, units_of, left_of, place_inside, range_low}
-use Rattle.mscp_queue.proofs.Restored.{contents, contents_all, items_of, targets_are, timed}
+use Rattle.mscp_queue.proofs.Basics.{ap, ◌≤◌, ◌∙◌, arith, sum_by, take_all, recursion_from_All, Record, units_of, left_of, place_inside, range_low}
+use Rattle.mscp_queue.proofs.Restored.{contents, contents_all, targets_are, timed, told_are}
 use Rattle.mscp_queue.proofs.backlog.restoring.fill.Goals as goal
 
 pub push-requires-clause-drive : goal.push-requires-clause-drive
@@ -16,8 +16,13 @@ returns-clause-timed c =
     c.args.records.now c.loop-place-test.false c.loop-place.invariant.slots) (c.loop-place.invariant.before ∙ ap
     (sum_by left_of) (take_all c.loop-place.place c.args.records.now c.loop-place-test.false))
 
-pub returns-clause-items : goal.returns-clause-items
-returns-clause-items c = search (arith, items_of, contents_all)
+pub returns-clause-told : goal.returns-clause-told
+returns-clause-told c =
+    let us = units_of c.args.drives.now in
+    told_are c.args.budget us 0 c.loop-place.slots c.args.records.now
+    (contents_all c.args.budget us (contents c.loop-place.slots) c.loop-place.before c.loop-place.place
+    c.args.records.now c.loop-place-test.false c.loop-place.invariant.slots)
+    (recursion_from_All (λ (r : Record). r.passed ≤ c.args.budget) c.args.records.now c.requires.passed)
 
 pub returns-clause-targets : goal.returns-clause-targets
 returns-clause-targets c = search (arith, targets_are, contents_all)

@@ -7,7 +7,6 @@ returns-then-self-ne0 c =
     let front = c.clear_in_all-then-self-ne0 in record {
       waits = c.with_bit-self.ensures.set;
       ordered = c.with_bit-self-2.ensures.set;
-      served = c.with_bit-self-3.ensures.set;
       units = search (arith, get_or-set_other);
       own = search (arith, get_or-set_same);
       earlier = λ k on. front_cleared c.args.self.now.earlier front.new.masks _ c.with_bit-self.result c.args.slot k

@@ -1,4 +1,4 @@
-use Rattle.mscp_queue.proofs.Basics.{◌∙◌, ap, arith, get_or_default, Record, advanced, no_record, item_at, item_set, kept_advanced, number_of, serves_since}
+use Rattle.mscp_queue.proofs.Basics.{◌∙◌, ap, arith, get_or_default, Record, advanced, no_record, item_at, item_set, kept_advanced, number_of}
 use Rattle.mscp_queue.proofs.Bucketed.{buckets_kept}
 use Rattle.mscp_queue.proofs.slots.Slots.advance.Goals as goal
 
@@ -12,25 +12,8 @@ pub bounds-self-inside-slot : goal.bounds-self-inside-slot
 bounds-self-inside-slot c = (number_of c.self.inside.dues
     c.args.self.now c.self.invariant.kept c.self.view_is c.requires.place c.from-slot.ensures c.deref.ensures.0).low
 
-pub listed-2 : goal.listed-2
-listed-2 c =
-    let n = number_of c.self.inside.dues
-    c.args.self.now c.self.invariant.kept c.self.view_is c.requires.place c.from-slot.ensures c.deref.ensures.0 in
-    omega (arith, n.low, c.self.invariant.kept.records_64)
-
-pub bounds-self-inside-slot-2 : goal.bounds-self-inside-slot-2
-bounds-self-inside-slot-2 c = (number_of c.self.inside.dues
-    c.args.self.now c.self.invariant.kept c.self.view_is c.requires.place c.from-slot.ensures c.deref.ensures.0).low
-
 pub advance-requires : goal.advance-requires
 advance-requires c = search (arith, number_of, item_at)
-
-pub serve-requires-clause-slot : goal.serve-requires-clause-slot
-serve-requires-clause-slot c = (number_of c.self.inside.dues
-    c.args.self.now c.self.invariant.kept c.self.view_is c.requires.place c.from-slot.ensures c.deref.ensures.0).low
-
-pub serve-requires-clause-since : goal.serve-requires-clause-since
-serve-requires-clause-since c = search (arith, number_of, serves_since)
 
 pub invariant_of-self : goal.invariant_of-self
 invariant_of-self c =
@@ -42,10 +25,9 @@ invariant_of-self c =
       bucketed = buckets_kept c.self.inside.records c.self.inside.order.items c.self.inside.buckets.slots
           c.from-slot.result _ c.self.invariant.bucketed n.low c.self.invariant.kept.records_64
           (ap (λ (r : Record). r.command.reference) (c.advance.ensures
-          ∙ ap advanced (get_or_default c.self.inside.records c.from-slot.result c.index-self-slot-2.result no_record
+          ∙ ap advanced (get_or_default c.self.inside.records c.from-slot.result c.index-self-slot.result no_record
           (omega (arith, n.low, c.self.invariant.kept.records_64)))));
-      kept = kept_advanced c.index-self-slot-2.result
-          c.self.invariant.kept n.low n.taken c.advance.ensures c.serve.ensures.others c.serve.ensures.set;
+      kept = kept_advanced c.index-self-slot.result c.self.invariant.kept n.low c.advance.ensures;
     }
 
 pub returns : goal.returns

@@ -1,4 +1,4 @@
-use Rattle.mscp_queue.proofs.Basics.{length, length-set, not, ap, Command, ◌∙◌, arith, some_free, kept_pushed, long_shown, serves_if, shown_pushed}
+use Rattle.mscp_queue.proofs.Basics.{length, length-set, ap, Command, ◌∙◌, arith, some_free, kept_pushed, long_shown, shown_pushed}
 use Rattle.mscp_queue.proofs.Bucketed.{buckets_pushed}
 use Rattle.mscp_queue.proofs.Shown.{lowest_untaken, untaken}
 use Rattle.mscp_queue.proofs.Ranging.{ranges_pushed}
@@ -25,7 +25,7 @@ invariant_of-self c = record {
       c.self.invariant.ranged c.set.ensures;
   kept = kept_pushed c.args.new.item c.args.new.target
       c.self.invariant.kept c.lowest_free-slot.ensures c.requires.drive c.from.ensures c.is_sequential.ensures
-      (ap not c.is_unstarted.ensures ∙ serves_if c.args.new.item.done) c.come-2.ensures c.push.ensures.items;
+      c.come-2.ensures c.push.ensures.items;
 }
 
 pub returns-clause-lowest : goal.returns-clause-lowest
