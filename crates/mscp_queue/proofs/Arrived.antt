@@ -110,6 +110,15 @@ module _ {ds : List Drive} {rs : List Record} {own : List Target} (shown : CanBe
   only k l e = place_is ds k unit (drive_in ds k) (pairs_rise (units_of ds) units.rising) l
       (get_or_default ds k (fresh_drive one_block) (drive_in ds k) l) (sym e)
 
+  -- or nothing is known of its drive
+  pub unknown : (f : Favorites) (at : ℕ) → AreFavored ds (take n cs) f → at ≡ drive_place ds unit
+      → knows f at ≡ false → AreFavored ds cs f
+  unknown f at h is off = record {
+    each = λ k l on. best_still cs n many (drive_in ds k).unit.number (drive_in ds k) (start_in f k)
+        (λ x. false≢true (sym off ∙ (ap (knows f) (is ∙ only k l
+        (ap (λ (c : Command). c.unit) (sym (command_is rs n inside)) ∙ x.unit)) ∙ on))) (h.each k l on);
+  }
+
   pub arrived : {f g : Favorites} (at : ℕ) (t : Start) → AreFavored ds (take n cs) f → is_clear cs n ≡ true
       → at ≡ drive_place ds unit → t.place ≡ n → t.cost ≡ order_cost (drive_at ds rs n).unit (drive_at ds rs n).head
       (record_at rs n).command.order → g.known ≡ f.known

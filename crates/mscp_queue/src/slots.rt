@@ -147,7 +147,9 @@ impl Slots {
         requires { All (λ s. by ≤ s.due) self.old }
         ensures { self.new ≡ map (lowered_by by) self.old }
     {
-        lower(&mut self.dues, self.masks.waiting, by);
+        if by > 0 {
+            lower(&mut self.dues, self.masks.waiting, by);
+        }
     }
 
     /// Lowers the dues behind the place by so much, which is no more than any of them.

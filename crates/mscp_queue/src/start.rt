@@ -175,7 +175,7 @@ fn favorite_on(backlog: &Backlog, drives: &[Drive], at: usize, favorites: &mut F
     start
 }
 
-/// The command that came last may have the best start on its drive.
+/// The command that came last may have the best start on its drive. If that drive's isn't known it is sought when it is wanted.
 pub(crate) fn favor_last(backlog: &Backlog, drives: &[Drive], favorites: &mut Favorites)
     requires some { 0 < length backlog.now.waiting }
     requires waiting { CanBeShown drives.now backlog.now.waiting backlog.now.targets }
@@ -185,10 +185,10 @@ pub(crate) fn favor_last(backlog: &Backlog, drives: &[Drive], favorites: &mut Fa
     ensures { AreFavored drives.now (commands backlog.now.waiting) favorites.new }
 {
     let place = backlog.len() - 1;
-    if backlog.is_free(place) {
+    let at = usize::from(backlog.target(place).drive);
+    if favorites.knows(at) && backlog.is_free(place) {
         let (record, drive, cylinder) = targeted_at(backlog, drives, place);
-        let start = Start::of(cost_of(record, drive, cylinder), place);
-        favorites.come(usize::from(backlog.target(place).drive), start);
+        favorites.come(at, Start::of(cost_of(record, drive, cylinder), place));
     }
 }
 

@@ -1,4 +1,4 @@
-use Rattle.mscp_queue.proofs.Common.{arith}
+use Rattle.mscp_queue.proofs.Basics.{arith, lowered_none}
 use Rattle.mscp_queue.proofs.Fallen.{enough_all, lowered_all}
 use Rattle.mscp_queue.proofs.slots.Slots.lower_all.Goals as goal
 
@@ -6,5 +6,8 @@ pub lower-requires : goal.lower-requires
 lower-requires c = enough_all c.self.inside.dues c.args.self.now c.args.by c.self.invariant.kept c.self.view_is
     c.requires
 
-pub returns : goal.returns
-returns c = search (arith, lowered_all)
+pub returns-then-by-gt0 : goal.returns-then-by-gt0
+returns-then-by-gt0 c = search (arith, lowered_all)
+
+pub returns-else-by-gt0 : goal.returns-else-by-gt0
+returns-else-by-gt0 c = lowered_none c.args.by c.args.self.now (omega (arith, c.if-by-gt0.false))
