@@ -168,8 +168,7 @@ module _ (budget : ℕ) where
   due_pushed a [] x d bare idle n = (record { bare = bare; least = omega (arith, n); most = omega (arith, n) }, tt)
   due_pushed a (s ∷ ss) x d bare idle n =
       let n' : x.due ≡ a + left_of s.item + sum_by left_of (items ss) + budget + left_of x.item =
-      omega (arith, sum_by-cons left_of s.item (items ss), n) in
-      (
+      omega (arith, sum_by-cons left_of s.item (items ss), n) in (
         subst (λ k. IsDue budget a k s) (sym (serving_pushed ss x idle)) d.0,
         due_pushed (a + left_of s.item) ss x d.1 bare idle n',
       )

@@ -1,6 +1,6 @@
 -- The best starts once a drive served a command, or one was aborted.
 use Rattle.mscp_queue.proofs.Basics.{◌≡◌, ◌≢◌, ◌⊎◌, inl, inr, ⊎_elim, ℕ, ◌+◌, ◌-◌, ◌<◌, ◌≤◌, Bool, true, false, false≢true, not, cond, if◌then◌else◌, ◌&&◌, ◌||◌, ◌++◌, List, take, drop, length, refl, ap, sym, ◌∙◌, subst, arith, nat_eq, nat_lt, eq-eqb, ne_eqb, get_or-drop, get_or-take, get_or_append_left, get_or_default, length-take-le, length-append, length-drop, Command, Drive, IsUnitList, units_of, is_sequential, no_record, drive_place, fresh_drive, pairs_rise, place_is, same_or, order_cost}
-use Rattle.mscp_queue.proofs.Common.{AreFavored, IsAhead, IsBest, IsClearOn, IsMarked, bars, command_at, cost_at, drive_in, lt-ltb, le-ltb, get_or-append_right, knows, closed, one_block, place_closed, start_in}
+use Rattle.mscp_queue.proofs.Common.{AreFavored, IsAhead, IsBest, IsClearOn, IsMarked, bars, command_at, cost_at, drive_in, lt-ltb, ltb-false, le-ltb, get_or-append_right, knows, closed, one_block, place_closed, start_in}
 use Rattle.mscp_queue.specs.declared.favorites.Favorites.{Favorites}
 use Rattle.mscp_queue.specs.Starts.{Start}
 use Rattle.mscp_queue.proofs.Opens.{all_at, at_all}
@@ -230,24 +230,49 @@ known_was at k was now b set on = by (same_or k at)
         absurd (false≢true (sym (set k b ∙ ap (λ b. cond b false (knows was k)) (eq-eqb k at e)) ∙ on))
     by (inr d) = (d, sym (ap (λ b. cond b false (knows was k)) (ne_eqb k at d)) ∙ (sym (set k b) ∙ on))
 
+-- if nobody stands behind the place, no best start is behind it
+unmoved : (cs : List Command) (gone number : ℕ) {c : ℕ → ℕ} (s : Start) → IsBest (IsClearOn cs number) c s
+    → length cs ≡ gone + 1 → s ≡ closed gone s
+unmoved cs gone number s h last = λ i. record {
+  cost = s.cost;
+  place = place_stays gone s.place (⊎_elim (λ e. inl e)
+      (λ x. inr (let b = x.0.inside in omega (arith, b, last))) h.is) i;
+}
+  where
+    place_stays : (gone p : ℕ) → (p ≡ 64) ⊎ (p ≤ gone) → p ≡ place_closed gone p
+    place_stays gone p h = grind (arith, not, eq-eqb, ltb-false)
+
 module _ {ds : List Drive} {cs : List Command} (units : IsUnitList (units_of ds)) (gone at : ℕ) (l : gone < length cs)
     (few : length cs ≤ 64) (placed : at ≡ drive_place ds (command_at cs gone).unit) where
   -- a command is served, or leaves, on the drive at a place
-  pub favored_served : {ds' : List Drive} {cs' : List Command} {f g : Favorites} (ends : Bool) → AreFavored ds cs f
+  pub favored_served : {ds' : List Drive} {cs' : List Command} {f g : Favorites} (ends moves : Bool)
+      → (moves ≡ ends) ⊎ ((moves ≡ false) × (length cs ≡ gone + 1)) → AreFavored ds cs f
       → length ds ≤ 16 → length ds' ≡ length ds → ((k : ℕ) → k ≢ at → drive_in ds' k ≡ drive_in ds k)
       → cs' ≡ cond ends (take gone cs ++ drop (gone + 1) cs) cs → IsMarked false at f g
       → ((k : ℕ) → k < length ds
-      → start_in g k ≡ cond ends (closed gone (start_in f k)) (start_in f k))
+      → start_in g k ≡ cond moves (closed gone (start_in f k)) (start_in f k))
       → AreFavored ds' cs' g
-  favored_served {ds'} {cs'} {f} {g} ends h most same drives left set starts = record {
+  favored_served {ds'} {cs'} {f} {g} ends moves how h most same drives left set starts = record {
     each = λ k b on.
         let inside : k < length ds = omega (arith, b, same) in
         let was = known_was at k f g (omega (arith, inside, most)) set on in
         subst (λ d. IsBest (IsClearOn cs' d.unit.number) (cost_at d cs') (start_in g k)) (sym (drives k was.0))
         (subst (λ cs'. IsBest (IsClearOn cs' (drive_in ds k).unit.number) (cost_at (drive_in ds k) cs') (start_in g k))
-        (sym left) (by ends k inside was.0 (h.each k inside was.1) (starts k inside)));
+        (sym left) (by ends k inside was.0 (h.each k inside was.1)
+        (starts k inside ∙ is_closed k inside was.1)));
   }
     where
+      last_stays : {s : Start} (ends : Bool) → s ≡ closed gone s → s ≡ cond ends (closed gone s) s
+      last_stays true e = e
+      last_stays false e = refl
+
+      is_closed : (k : ℕ) → k < length ds → knows f k ≡ true
+          → cond moves (closed gone (start_in f k)) (start_in f k)
+          ≡ cond ends (closed gone (start_in f k)) (start_in f k)
+      is_closed k b on = ⊎_elim (λ e. ap (λ m. cond m (closed gone (start_in f k)) (start_in f k)) e) (λ x.
+          ap (λ m. cond m (closed gone (start_in f k)) (start_in f k)) x.0
+          ∙ last_stays ends (unmoved cs gone (drive_in ds k).unit.number (start_in f k) (h.each k b on) x.1)) how
+
       by : (ends : Bool) (k : ℕ) → k < length ds → k ≢ at
           → IsBest (IsClearOn cs (drive_in ds k).unit.number) (cost_at (drive_in ds k) cs) (start_in f k)
           → start_in g k ≡ cond ends (closed gone (start_in f k)) (start_in f k)

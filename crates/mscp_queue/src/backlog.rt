@@ -166,7 +166,10 @@ impl Backlog {
         requires place { place < length self.now.waiting }
         ensures { result ≡ (record_at self.now.waiting place).passed }
     {
-        let most = self.clock + self.left_up_to(place) + self.left_behind(place) + u64::from(self.budget);
+        let most = self.clock
+            + self.left_up_to(place)
+            + self.left_behind(place)
+            + u64::from(self.budget);
         (most - self.slots.due(place)) as u32
     }
 

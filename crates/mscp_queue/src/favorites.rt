@@ -76,7 +76,7 @@ impl Favorites {
         self.known[drive] = false;
     }
 
-    /// The command at a place left: those behind it move up. So many drives there are.
+    /// The command at a place left: the starts of those behind it move up, on so many drives.
     fn close(&mut self, gone: usize, drives: usize)
         requires gone { gone < 64 }
         requires drives { drives ≤ 16 }
@@ -88,17 +88,18 @@ impl Favorites {
         }
     }
 
-    /// The drive at a place, one of so many, serves the command at the other, or that is aborted, which ends it or not.
-    pub fn serve(&mut self, place: usize, drive: usize, drives: usize, ends: bool)
+    /// The drive at a place, one of so many, serves the command at the other, or that is aborted. If it leaves, those behind it
+    /// move up.
+    pub fn serve(&mut self, place: usize, drive: usize, drives: usize, moves: bool)
         requires place { place < 64 }
         requires drive { drive < 16 }
         requires drives { drives ≤ 16 }
         ensures known { IsMarked false drive self.old self.new }
         ensures starts { (k : ℕ) → k < drives
-            → start_in self.new k ≡ cond ends (closed place (start_in self.old k)) (start_in self.old k) }
+            → start_in self.new k ≡ cond moves (closed place (start_in self.old k)) (start_in self.old k) }
     {
         self.forget(drive);
-        if ends {
+        if moves {
             self.close(place, drives);
         }
     }

@@ -1,8 +1,9 @@
 // What a queue serves next, and its steps.
 
-ghost use Rattle.std.specs.Prelude.{◌≡◌, ◌<◌, [], length, IfNone, IfSome, None, Some};
+ghost use Rattle.std.specs.Prelude.{◌≡◌, ◌<◌, [], cond, false, length, nat_lt, IfNone, IfSome, None, Some};
 ghost use Rattle.mscp_queue.specs.Common.{IsOfKind, IsOfUnit, place_served, units_of, Begins, BeginsAt, Serves, ServesAt, drive_at, record_at, IsNext, end_in, upcoming_begun, upcoming_of};
 
+use crate::backlog::Backlog;
 use crate::picker::Picker;
 use crate::plan::Plan;
 use crate::queue::Queue;
@@ -16,6 +17,13 @@ fn place_served(place: usize, ends: bool) -> Option<usize>
     ensures { result ≡ place_served ends place }
 {
     if ends { None } else { Some(place) }
+}
+
+/// Whether commands move up once the one at the place had its last step, so that it left: those behind it.
+fn moves_up(backlog: &Backlog, place: usize, ends: bool) -> bool
+    ensures { result ≡ cond ends (nat_lt place (length backlog.now.waiting)) false }
+{
+    ends && place < backlog.len()
 }
 
 impl<K: Picker> Queue<K> {
@@ -109,7 +117,8 @@ impl<K: Picker> Queue<K> {
         let ends = plan.ended.is_some();
         self.drives[at].follow(&record.command().order, &plan);
         self.backlog.serve(place, ends);
-        self.favorites.serve(place, at, drives, ends);
+        let moves = moves_up(&self.backlog, place, ends);
+        self.favorites.serve(place, at, drives, moves);
         self.begun = None;
         self.serving = place_served(place, ends);
         plan.report(&record)

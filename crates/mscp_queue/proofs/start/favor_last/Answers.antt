@@ -56,16 +56,16 @@ returns-else-knows c =
     let front = subst (λ k. AreFavored c.args.drives.now (take (k - 1) (commands rs)) c.args.favorites.now)
     (sym c.len-place.ensures.waiting) c.requires.favored in
     elim c.else-knows.branch [
-      else-knows-via-then-knows+else-is_free w ↦
+      | else-knows-via-then-knows+else-is_free w ↦
           still c.requires.waiting c.requires.units n long c.args.favorites.now front
-              (clear_is rs n (omega (arith, long))
-              ∙ (sym (free_is c.args.drives.now rs c.args.backlog.now.targets n c.requires.waiting (omega (arith, long)))
-              ∙ (sym w.is_free.ensures ∙ w.if-is_free.false)))
-    | else-knows-via-else-knows w ↦
-        unknown c.requires.waiting c.requires.units n long c.args.favorites.now c.from-at.result front
-            (has_drive c.args.drives.now rs c.args.backlog.now.targets n (record_at rs n) c.from-at.result no_target
-            c.requires.waiting (omega (arith, long))
-            (sym (get_or_default rs n (record_at rs n) no_record (omega (arith, long))))
-            (c.from-at.ensures ∙ ap (λ (a : Target). a.drive) c.target.ensures)).place
-            (sym c.knows.ensures ∙ w.if-knows.false)
+          (clear_is rs n (omega (arith, long))
+          ∙ (sym (free_is c.args.drives.now rs c.args.backlog.now.targets n c.requires.waiting
+          (omega (arith, long))) ∙ (sym w.is_free.ensures ∙ w.if-is_free.false)))
+      | else-knows-via-else-knows w ↦
+          unknown c.requires.waiting c.requires.units n long c.args.favorites.now c.from-at.result front
+          (has_drive c.args.drives.now rs c.args.backlog.now.targets n (record_at rs n) c.from-at.result no_target
+          c.requires.waiting (omega (arith, long))
+          (sym (get_or_default rs n (record_at rs n) no_record (omega (arith, long))))
+          (c.from-at.ensures ∙ ap (λ (a : Target). a.drive) c.target.ensures)).place
+          (sym c.knows.ensures ∙ w.if-knows.false)
     ]

@@ -1,4 +1,4 @@
-use Rattle.mscp_queue.proofs.Basics.{suc, ◌++◌, arith, ◌≡◌, ◌+◌, ◌<◌, length, take, drop, ap, sym, subst, ◌∙◌, refl, position, begun_name, Line, aborting, has_name, name_of, record_at, true, length-map, Command, Drive, Record, Target, drive_place}
+use Rattle.mscp_queue.proofs.Basics.{inl, suc, ◌++◌, arith, ◌≡◌, ◌+◌, ◌<◌, length, take, drop, ap, sym, subst, ◌∙◌, refl, position, begun_name, Line, aborting, has_name, name_of, record_at, true, length-map, Command, Drive, Record, Target, drive_place}
 use Rattle.mscp_queue.proofs.Common.{commands}
 use Rattle.mscp_queue.proofs.Favored.{command_is}
 use Rattle.mscp_queue.proofs.Gone.{favored_served}
@@ -41,7 +41,7 @@ invariant_of-self g c =
       favored = favored_served ready.held.units place c.from-at.result (omega (arith, inside, many))
           (omega (arith, many, fits, few))
           (found.placed ∙ ap (λ (c : Command). drive_place q.drives.items c.unit) (sym
-          (command_is rs place inside))) true
+          (command_is rs place inside))) true true (inl refl)
           c.self.invariant.favored (omega (arith, most, length-map q.drives.items (λ (d : Drive). d.unit))) refl
           (λ k d. refl) (ap commands e.waiting ∙ sym (map_cut (λ (r : Record). r.command) rs place))
           c.serve.ensures.known
