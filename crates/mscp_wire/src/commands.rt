@@ -1,6 +1,6 @@
 // The commands that are outstanding, oldest first, and what is kept beside them so that each is found soon.
 
-ghost use Rattle.std.specs.Prelude.{◌≡◌, ◌+◌, ◌-◌, ◌<◌, ◌≤◌, ◌^◌, ◌++◌, ◌∷◌, [], cond, find, if◌then◌else◌, length, map, set, take, drop, position, false, true, Some, OnOk, IfOk, IfSome};
+ghost use Rattle.std.specs.Prelude.{◌≡◌, ◌+◌, ◌<◌, ◌^◌, ◌++◌, ◌∷◌, [], find, length, map, take, drop, position, false, true, Some, OnOk, IfOk, IfSome};
 ghost use Rattle.std.specs.List.{list_any, remove};
 ghost use Rattle.mscp_wire.specs.Wire as wire;
 ghost use Rattle.mscp_wire.specs.Kept as kept;
@@ -21,7 +21,7 @@ use std::marker::Model;
 #[derive(Drop)]
 pub struct Commands<A: Allocator> {
     list: Vec<Box<Held, A>, A>,
-    /// How many commands came so far.
+    /// How many commands came so far. It may wrap: from it and the two below a place is only guessed.
     came: u32,
     /// Of each number of names how many commands came before the last one that has it, and before the last poll of it.
     last: [u32; 65536],
