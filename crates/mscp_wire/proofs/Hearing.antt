@@ -1,12 +1,11 @@
--- What is outstanding once an end came, and which rule a message breaks.
-use Rattle.std.proofs.Common.{◌≡◌, ℕ, ◌≤◌, false, List, [], ◌∷◌, refl, if◌then◌else◌, length, map, sym, ap, ◌∙◌, Option, Result, Ok, Err, true}
-use Rattle.std.proofs.lemmas.Bool.{le-leb, or_parts}
+-- Which rule a message and an end break.
+use Rattle.std.proofs.Common.{◌≡◌, ℕ, ◌≤◌, List, length, sym, ap, ◌∙◌, Option, Result, Ok, Err, true}
+use Rattle.std.proofs.lemmas.Bool.{le-leb}
 use Rattle.arrayvec.specs.ArrayVec.{ArrayVec}
-use Rattle.std.specs.List.{list_any}
 use Rattle.std.specs.Result.{IfOk}
 use Rattle.mscp_drive.specs.declared.connection.Connection.{Connection}
 use Rattle.mscp_packet.specs.Number.{num}
-use Rattle.mscp_wire.specs.Wire.{answer_by, broken, broken_at, broken_message, hears, is_hearing, is_long, is_message, left, place_of, polls, sent_by, seen_of, tells, unless}
+use Rattle.mscp_wire.specs.Wire.{answer_by, broken, broken_at, broken_message, is_long, is_message, place_of, sent_by, seen_of, unless}
 use Rattle.mscp_wire.specs.declared.moment.Moment.{Moment}
 use Rattle.mscp_wire.specs.declared.moment.Moment.TheVariants as moments
 use Rattle.mscp_wire.specs.declared.rule.Rule.{Rule}
@@ -24,24 +23,6 @@ pub long_message : (via : Connection) (b : List ℕ) (credits : Option ℕ) (xs 
 long_message via b credits xs ys s broken long is same h =
     h ∙ (ap (λ zs. broken_message credits zs s) same ∙ (ap (broken_message credits xs) is
     ∙ sym (ap (λ q. unless q rules.Message (broken_message credits xs (sent_by via b))) (le-leb 12 (length b) long))))
-
--- those that hear nothing stay as they are
-still : (y s : Sent) (e : Answer) → is_hearing y e s ≡ false → hears y e s ≡ s
-still y s e h =
-    let p = or_parts (tells y e s) (polls y s) h in
-    ap (λ b. record s {
-      told = if b then e.figure else s.told;
-      polled = if b then y.time else s.polled;
-      asked = if polls y s then left s.asked else s.asked;
-    }) p.0
-    ∙ ap (λ b. record s { told = s.told; polled = s.polled; asked = if b then left s.asked else s.asked }) p.1
-
-pub unheard : (y : Sent) (e : Answer) (xs : List Sent) → list_any (is_hearing y e) xs ≡ false
-    → xs ≡ map (hears y e) xs
-unheard y e [] h = refl
-unheard y e (x ∷ xs) h =
-    let p = or_parts (is_hearing y e x) (list_any (is_hearing y e) xs) h in
-    ap (λ z. z ∷ xs) (sym (still y x e p.0)) ∙ ap (λ zs. hears y e x ∷ zs) (unheard y e xs p.1)
 
 -- the rule that an end breaks, as long as its endcode asks
 pub ended_rule : (b : List ℕ) (xs ys : List Sent) (units : Connection → ℕ → Told) (known : Option ℕ)

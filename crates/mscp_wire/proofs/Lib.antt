@@ -1,7 +1,9 @@
 pub mod Counting
 pub mod Keys
+mod Boxes
 pub mod Hearing
 pub mod Passing
 pub mod Meaning
 pub mod Once
 mod Names
+mod Alone

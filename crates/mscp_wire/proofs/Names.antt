@@ -1,246 +1,181 @@
--- What is kept beside the commands that are outstanding stays so when one comes, ends, or hears a figure.
-use Rattle.std.proofs.Common.{◌≡◌, ℕ, zero, suc, ◌+◌, ◌<◌, Bool, true, false, cond, not, ◌&&◌, ◌||◌, List, [], ◌∷◌, ◌++◌, length, get_or, set, take, drop, map, refl, ap, sym, ◌∙◌, arith, if◌then◌else◌, Option, Some, None}
-use Rattle.std.specs.Prelude.{count_by, find, nat_eq, nat_lt}
+-- What is kept beside the commands that are outstanding: it stays so when one comes, ends, or hears a figure, and says
+-- which questions have their answer at once.
+use Rattle.std.proofs.Common.{◌≡◌, ℕ, zero, suc, ◌+◌, ◌-◌, ◌≤◌, ◌<◌, nat_eq, Bool, true, false, cond, not, ◌||◌, List, [], ◌∷◌, ◌++◌, length, get_or, set, take, drop, map, refl, ap, sym, ◌∙◌, arith, if◌then◌else◌, Option, Some, None}
+use Rattle.std.specs.Prelude.{count_by, find, is_some, nat_le, nat_lt}
 use Rattle.std.specs.List.{list_any, position, position_or_len, remove}
-use Rattle.std.proofs.lemmas.List.{drop_more, get_or_at, get_or_default, length-append, length-map, length-take, set-get_or}
-use Rattle.std.proofs.lemmas.List.Edits.{map_over_more}
-use Rattle.std.proofs.lemmas.Bool.{lt-ltb}
-use Rattle.std.proofs.lemmas.Bool.Decides.{nat_tests}
-use Rattle.std.proofs.lemmas.List.Sums.{count_by-le-length, sum_by-cons, sum_by-append, sum_by-remove}
+use Rattle.std.proofs.lemmas.Bool.{lt-ltb, or_parts}
+use Rattle.std.proofs.lemmas.List.Folds.{list_any_more}
 use Rattle.mscp_drive.specs.declared.connection.Connection.{Connection}
-use Rattle.mscp_drive.specs.declared.connection.Connection.TheVariants.{First}
-use Rattle.mscp_wire.specs.Kept.{IsKept, has_name, hears_named, is_poll, name_of, with_figure}
-use Rattle.mscp_wire.specs.Wire.{asks_oldest, command_at, command_at_place, count_on, hears, is_it, is_named, is_ordered, is_polled, is_sequential, keeps_back, key, left, polled_by, polls, same_connection, sent_by, tells}
-use Rattle.mscp_wire.specs.declared.answer.Answer.{Answer}
+use Rattle.mscp_drive.specs.declared.connection.Connection.TheVariants.{First, Second}
+use Rattle.std.proofs.lemmas.List.{get_or_default, set-get_or}
+use Rattle.std.proofs.lemmas.List.Edits.{map_over_more}
+use Rattle.std.proofs.lemmas.Bool.Decides.{nat_tests}
+use Rattle.std.proofs.lemmas.List.Sums.{sum_by-cons, sum_by_push, sum_by-remove}
+use Rattle.mscp_wire.specs.Kept.{IsCounted, IsKept, IsTally, by_asked, by_fence, by_line, by_name, fewer, is_on, leaves, more, slot_if, slot_of, tells, with_figure}
+use Rattle.mscp_wire.specs.Wire.{command_at, command_at_place, is_it, is_named, is_ordered, is_sequential, left, polls, same_connection, sent_by}
 use Rattle.mscp_wire.specs.declared.sent.Sent.{Sent}
-use Rattle.mscp_wire.proofs.Keys.{same_key}
+use Rattle.mscp_wire.specs.declared.tallies.Tallies.{Tallies}
 
--- ---- names
--- a command has this name if it is this one
-pub named_as : (via : Connection) (n : ℕ) (s : Sent) → has_name (key via n) (name_of s) ≡ is_named via n s
-named_as via n s = same_key s.connection via s.reference n
+-- ---- counts
 
-pub any_named : (via : Connection) (n : ℕ) (xs : List Sent)
-    → list_any (has_name (key via n)) (map name_of xs) ≡ list_any (is_named via n) xs
-any_named via n [] = refl
-any_named via n (x ∷ xs) =
-    ap (λ b. b || list_any (has_name (key via n)) (map name_of xs)) (named_as via n x)
-    ∙ ap (λ b. is_named via n x || b) (any_named via n xs)
+-- one more, and one less
+count_push : (p : Sent → Bool) (xs : List Sent) (s : Sent) (n : ℕ) → n ≡ count_by p xs
+    → n + cond (p s) 1 0 ≡ count_by p (xs ++ s ∷ [])
+count_push p xs s n h = ap (λ k. k + cond (p s) 1 0) h ∙ sym (sum_by_push (λ x. cond (p x) 1 0) xs s)
 
-first_named : (via : Connection) (n : ℕ) (xs : List Sent)
-    → position_or_len (has_name (key via n)) (map name_of xs) ≡ position_or_len (is_named via n) xs
-first_named via n [] = refl
-first_named via n (x ∷ xs) =
-    ap (λ b. cond (not b) (1 + position_or_len (has_name (key via n)) (map name_of xs)) 0) (named_as via n x)
-    ∙ ap (λ k. cond (not (is_named via n x)) (1 + k) 0) (first_named via n xs)
+count_remove : (p : Sent → Bool) (xs : List Sent) (i n less : ℕ) (s d : Sent) → n ≡ count_by p xs → i < length xs
+    → s ≡ get_or xs i d → less + cond (p s) 1 0 ≡ n → less ≡ count_by p (remove xs i)
+count_remove p xs i n less s d h l is c =
+    omega (arith, c, h, sum_by-remove (λ x. cond (p x) 1 0) xs i d l, ap {B = ℕ} (λ x. cond (p x) 1 0) is)
 
-many_names : (xs : List Sent) → length (map name_of xs) ≡ length xs
-many_names [] = refl
-many_names (x ∷ xs) = ap (λ k. suc k) (many_names xs)
+-- the same of numbers that were made so
+pub counted_more : (p : Sent → Bool) (xs : List Sent) (s : Sent) (n m : ℕ) (b : Bool) → b ≡ p s → n ≡ count_by p xs
+    → m ≡ n + cond b 1 0 → m ≡ count_by p (xs ++ s ∷ [])
+counted_more p xs s n m b e h k = k ∙ ap (λ q. n + cond q 1 0) e ∙ count_push p xs s n h
 
-pub place_named : (via : Connection) (n : ℕ) (xs : List Sent)
-    → position (has_name (key via n)) (map name_of xs) ≡ position (is_named via n) xs
-place_named via n xs =
-    ap (λ k. cond (nat_lt k (length (map name_of xs))) (Some k) None) (first_named via n xs)
-    ∙ ap (λ k. cond (nat_lt (position_or_len (is_named via n) xs) k) (Some (position_or_len (is_named via n) xs)) None)
-    (many_names xs)
+pub counted_less : (p : Sent → Bool) (xs : List Sent) (i : ℕ) (s : Sent) (n m : ℕ) (b : Bool) → b ≡ p s
+    → n ≡ count_by p xs → i < length xs → s ≡ command_at xs i → m + cond b 1 0 ≡ n → m ≡ count_by p (remove xs i)
+counted_less p xs i s n m b e h l is k =
+    count_remove p xs i n m s (sent_by First []) h l is (ap (λ q. m + cond q 1 0) (sym e) ∙ k)
 
--- ---- one more
-names_push : (xs : List Sent) (s : Sent) → map name_of xs ++ name_of s ∷ [] ≡ map name_of (xs ++ s ∷ [])
-names_push [] s = refl
-names_push (x ∷ xs) s = ap (λ l. name_of x ∷ l) (names_push xs s)
+pub count_at : (p : Sent → Bool) (xs : List Sent) (i : ℕ) (d : Sent) → i < length xs
+    → cond (p (get_or xs i d)) 1 0 ≤ count_by p xs
+count_at p xs i d l = omega (arith, sum_by-remove (λ x. cond (p x) 1 0) xs i d l)
 
-pub kept_push : (xs : List Sent) (names more : List ℕ) (count : ℕ) (s : Sent) → IsKept xs names count
-    → more ≡ names ++ name_of s ∷ [] → IsKept (xs ++ s ∷ []) more (count + cond (is_poll s) 1 0)
-kept_push xs names more count s k e = record {
-  names = e ∙ ap (λ l. l ++ name_of s ∷ []) k.names ∙ names_push xs s;
-  polls = omega (arith, k.polls, sum_by-append (λ x. cond (is_poll x) 1 0) xs (s ∷ []));
-}
+pub count_map : (p : Sent → Bool) (f : Sent → Sent) → ((s : Sent) → p (f s) ≡ p s) → (xs : List Sent)
+    → count_by p (map f xs) ≡ count_by p xs
+count_map p f h [] = refl
+count_map p f h (x ∷ xs) =
+    sum_by-cons (λ s. cond (p s) 1 0) (f x) (map f xs)
+    ∙ (ap (λ b. cond b 1 0 + count_by p (map f xs)) (h x)
+    ∙ (ap (λ n. cond (p x) 1 0 + n) (count_map p f h xs) ∙ sym (sum_by-cons (λ s. cond (p s) 1 0) x xs)))
 
--- ---- one less
-names_remove : (xs : List Sent) (i : ℕ) → remove (map name_of xs) i ≡ map name_of (remove xs i)
-names_remove [] zero = refl
-names_remove [] (suc i) = refl
-names_remove (x ∷ xs) zero = refl
-names_remove (x ∷ xs) (suc i) = ap (λ l. name_of x ∷ l) (names_remove xs i)
+-- the same of tallies
+less : (n : ℕ) → nat_le 255 n ≡ false → n < 255
+less n h = grind (arith, nat_tests)
 
-pub kept_remove : (xs : List Sent) (names fewer : List ℕ) (count less i : ℕ) (s d : Sent) → IsKept xs names count
-    → fewer ≡ remove names i → i < length xs → s ≡ get_or xs i d → less + cond (is_poll s) 1 0 ≡ count
-    → IsKept (remove xs i) fewer less
-kept_remove xs names fewer count less i s d k e l is c = record {
-  names = e ∙ ap (λ ns. remove ns i) k.names ∙ names_remove xs i;
-  polls = omega (
-    arith,
-    c,
-    k.polls,
-    sum_by-remove (λ x. cond (is_poll x) 1 0) xs i d l,
-    ap {B = ℕ} (λ x. cond (is_poll x) 1 0) is,
-  );
-}
-
--- ---- what is heard
-pub same_names : (f : Sent → Sent) → ((s : Sent) → name_of (f s) ≡ name_of s) → (xs : List Sent)
-    → map name_of (map f xs) ≡ map name_of xs
-same_names f h [] = refl
-same_names f h (x ∷ xs) = ap (λ n. n ∷ map name_of (map f xs)) (h x) ∙ ap (λ l. name_of x ∷ l) (same_names f h xs)
-
-pub same_polls : (f : Sent → Sent) → ((s : Sent) → is_poll (f s) ≡ is_poll s) → (xs : List Sent)
-    → count_by is_poll (map f xs) ≡ count_by is_poll xs
-same_polls f h [] = refl
-same_polls f h (x ∷ xs) =
-    sum_by-cons (λ s. cond (is_poll s) 1 0) (f x) (map f xs)
-    ∙ (ap (λ b. cond b 1 0 + count_by is_poll (map f xs)) (h x)
-    ∙ (ap (λ n. cond (is_poll x) 1 0 + n) (same_polls f h xs) ∙ sym (sum_by-cons (λ s. cond (is_poll s) 1 0) x xs)))
-
-pub kept_heard : (y : Sent) (e : Answer) (xs : List Sent) (names : List ℕ) (count : ℕ) → IsKept xs names count
-    → IsKept (map (hears y e) xs) names count
-kept_heard y e xs names count k = record {
-  names = k.names ∙ sym (same_names (hears y e) (λ s. refl) xs);
-  polls = k.polls ∙ sym (same_polls (hears y e) (λ s. refl) xs);
-}
-
-pub named_kept : (name : ℕ) (figure time : Option ℕ) (xs : List Sent) (names : List ℕ) (count : ℕ)
-    → IsKept xs names count → IsKept (map (hears_named name figure time) xs) names count
-named_kept name figure time xs names count k = record {
-  names = k.names ∙ sym (same_names (hears_named name figure time) (λ s. same_name (has_name name (name_of s)) s) xs);
-  polls = k.polls ∙ sym (same_polls (hears_named name figure time) (λ s. same_poll (has_name name (name_of s)) s) xs);
-}
+pub tally_push : (by : Sent → Option ℕ) (cs ds : List ℕ) (xs : List Sent) (s : Sent) (o : Option ℕ) → o ≡ by s
+    → IsTally by cs xs
+    → ((i : ℕ) → i < 65536 → get_or ds i 0 ≡ (if is_it o i then more (get_or cs i 0) else get_or cs i 0))
+    → IsTally by ds (xs ++ s ∷ [])
+tally_push by cs ds xs s o e h k i l m =
+    let count = sum_by_push (λ x. cond (is_it (by x) i) 1 0) xs s in
+    by_bool (is_it o i) (k i l) (ap (λ q. is_it q i) (sym e)) count
   where
-    same_name : (b : Bool) (s : Sent) → name_of (if b then with_figure figure time s else s) ≡ name_of s
-    same_name true s = refl
-    same_name false s = refl
+    by_bool : (b : Bool) → get_or ds i 0 ≡ (if b then more (get_or cs i 0) else get_or cs i 0)
+        → is_it (by s) i ≡ b
+        → count_by (λ x. is_it (by x) i) (xs ++ s ∷ []) ≡ count_by (λ x. is_it (by x) i) xs + cond (is_it (by s) i) 1 0
+        → get_or ds i 0 ≡ count_by (λ x. is_it (by x) i) (xs ++ s ∷ [])
+    by_bool true q at count = by_many (nat_le 255 (get_or cs i 0)) refl q
+      where
+        by_many : (b : Bool) → nat_le 255 (get_or cs i 0) ≡ b
+            → get_or ds i 0 ≡ (if b then 255 else get_or cs i 0 + 1)
+            → get_or ds i 0 ≡ count_by (λ x. is_it (by x) i) (xs ++ s ∷ [])
+        by_many true n q = absurd (omega (arith, q, m))
+        by_many false n q =
+            let old : get_or cs i 0 < 255 = omega (arith, q, m) in
+            omega (arith, q, count, h i l old, ap {B = ℕ} (λ x. cond x 1 0) at)
+    by_bool false q at count =
+        let old : get_or cs i 0 < 255 = omega (arith, q, m) in
+        omega (arith, q, count, h i l old, ap {B = ℕ} (λ x. cond x 1 0) at)
 
-    same_poll : (b : Bool) (s : Sent) → is_poll (if b then with_figure figure time s else s) ≡ is_poll s
-    same_poll true s = refl
-    same_poll false s = refl
-
--- no poll is outstanding
-none_polls : (y x : Sent) (xs : List Sent) → count_by is_poll (x ∷ xs) ≡ 0
-    → (polls y x ≡ false) × (count_by is_poll xs ≡ 0)
-none_polls y x xs h =
-    let whole = sum_by-cons (λ s. cond (is_poll s) 1 0) x xs in
-    by_bool (is_poll x) refl (omega (arith, h, whole))
+pub tally_remove : (by : Sent → Option ℕ) (cs ds : List ℕ) (xs : List Sent) (i : ℕ) (s : Sent) (o : Option ℕ)
+    → o ≡ by s → IsTally by cs xs → i < length xs → s ≡ command_at xs i
+    → ((j : ℕ) → j < 65536 → get_or ds j 0 ≡ (if is_it o j then fewer (get_or cs j 0) else get_or cs j 0))
+    → IsTally by ds (remove xs i)
+tally_remove by cs ds xs i s o e h l is k j m n =
+    let count = sum_by-remove (λ x. cond (is_it (by x) j) 1 0) xs i (sent_by First []) l in
+    by_bool (is_it o j) (k j m) (ap (λ x. is_it (by x) j) (sym is) ∙ ap (λ q. is_it q j) (sym e)) count
   where
-    none : (a b c : Bool) → b ≡ false → (a && b && c) ≡ false
-    none a b c e = grind arith
+    by_bool : (b : Bool) → get_or ds j 0 ≡ (if b then fewer (get_or cs j 0) else get_or cs j 0)
+        → is_it (by (command_at xs i)) j ≡ b
+        → count_by (λ x. is_it (by x) j) (remove xs i) + cond (is_it (by (command_at xs i)) j) 1 0
+        ≡ count_by (λ x. is_it (by x) j) xs
+        → get_or ds j 0 ≡ count_by (λ x. is_it (by x) j) (remove xs i)
+    by_bool true q at count = by_many (nat_le 255 (get_or cs j 0)) refl q
+      where
+        by_many : (b : Bool) → nat_le 255 (get_or cs j 0) ≡ b
+            → get_or ds j 0 ≡ (if b then 255 else get_or cs j 0 - 1)
+            → get_or ds j 0 ≡ count_by (λ x. is_it (by x) j) (remove xs i)
+        by_many true t q = absurd (omega (arith, q, n))
+        by_many false t q =
+            let old : get_or cs j 0 < 255 = less (get_or cs j 0) t in
+            omega (arith, q, count, h j m old, ap {B = ℕ} (λ x. cond x 1 0) at)
+    by_bool false q at count =
+        let old : get_or cs j 0 < 255 = omega (arith, q, n) in
+        omega (arith, q, count, h j m old, ap {B = ℕ} (λ x. cond x 1 0) at)
 
-    by_bool : (b : Bool) → is_poll x ≡ b → cond (is_poll x) 1 0 + count_by is_poll xs ≡ 0
-        → (polls y x ≡ false) × (count_by is_poll xs ≡ 0)
-    by_bool true e k = absurd (omega (arith, k, ap {B = ℕ} (λ b. cond b 1 0) e))
-    by_bool false e k = (
-      none (same_connection x.connection y.connection) (nat_eq x.opcode 2) (is_it x.parameter y.reference) e,
-      omega (arith, k),
-    )
+pub tally_map : (by : Sent → Option ℕ) (f : Sent → Sent) → ((s : Sent) → by (f s) ≡ by s) → (cs : List ℕ)
+    (xs : List Sent) → IsTally by cs xs → IsTally by cs (map f xs)
+tally_map by f e cs xs h i l m =
+    h i l m ∙ sym (count_map (λ x. is_it (by x) i) f (λ s. ap (λ q. is_it q i) (e s)) xs)
 
--- then each hears the figure that is told of it, and nothing else
-pub quiet : (y : Sent) (e : Answer) (x : Sent) (b : Bool) → polls y x ≡ false → tells y e x ≡ b
-    → hears y e x ≡ (if b then record x { told = e.figure; polled = y.time } else x)
-quiet y e x b none t =
-    ap (λ q. record x {
-      told = if q then e.figure else x.told;
-      polled = if q then y.time else x.polled;
-      asked = if polls y x then left x.asked else x.asked;
-    }) t
-    ∙ (ap (λ q. record x {
-      told = if b then e.figure else x.told;
-      polled = if b then y.time else x.polled;
-      asked = if q then left x.asked else x.asked;
-    }) none ∙ by_bool b)
+-- ---- places
+-- none of the first is sought, and one more isn't
+pub none_more : (p : Sent → Bool) (xs : List Sent) (i : ℕ) → i < length xs → list_any p (take i xs) ≡ false
+    → p (command_at xs i) ≡ false → list_any p (take (i + 1) xs) ≡ false
+none_more p xs i l h k =
+    list_any_more p xs i (sent_by First []) l ∙ ap (λ b. b || p (command_at xs i)) h ∙ k
+
+-- or it is the first
+first_at : (p : Sent → Bool) (xs : List Sent) (i : ℕ) → i < length xs → list_any p (take i xs) ≡ false
+    → p (command_at xs i) ≡ true → position_or_len p xs ≡ i
+first_at p [] i l h k = absurd (omega (arith, l))
+first_at p (x ∷ xs) zero l h k = ap (λ b. cond (not b) (1 + position_or_len p xs) 0) k
+first_at p (x ∷ xs) (suc i) l h k =
+    let parts = or_parts (p x) (list_any p (take i xs)) h in
+    let rest = first_at p xs i (omega (arith, l)) parts.1 k in
+    ap (λ b. cond (not b) (1 + position_or_len p xs) 0) parts.0 ∙ omega (arith, rest)
+
+pub place_at : (p : Sent → Bool) (xs : List Sent) (i : ℕ) → i < length xs → list_any p (take i xs) ≡ false
+    → p (command_at xs i) ≡ true → position p xs ≡ Some i
+place_at p xs i l h k =
+    ap (λ n. cond (nat_lt n (length xs)) (Some n) None) (first_at p xs i l h k)
+    ∙ ap (λ b. cond b (Some i) None) (lt-ltb i (length xs) l)
+
+-- or there is none
+none_first : (p : Sent → Bool) (xs : List Sent) → list_any p xs ≡ false → position_or_len p xs ≡ length xs
+none_first p [] h = refl
+none_first p (x ∷ xs) h =
+    let parts = or_parts (p x) (list_any p xs) h in
+    let rest = none_first p xs parts.1 in
+    ap (λ b. cond (not b) (1 + position_or_len p xs) 0) parts.0 ∙ omega (arith, rest)
+
+pub place_none : (p : Sent → Bool) (xs : List Sent) → list_any p xs ≡ false → position p xs ≡ None
+place_none p xs h =
+    ap (λ n. cond (nat_lt n (length xs)) (Some n) None) (none_first p xs h)
+    ∙ ap (λ b. cond b (Some (length xs)) None) (not_less (length xs))
   where
-    by_bool : (b : Bool) → record x {
-      told = if b then e.figure else x.told;
-      polled = if b then y.time else x.polled;
-      asked = x.asked;
-    } ≡ (if b then record x { told = e.figure; polled = y.time } else x)
-    by_bool true = refl
-    by_bool false = refl
+    not_less : (n : ℕ) → nat_lt n n ≡ false
+    not_less n = grind (arith, nat_tests)
 
-quiet_map : (y : Sent) (e : Answer) (g : Sent → Sent) (xs : List Sent) → count_by is_poll xs ≡ 0
-    → ((x : Sent) → polls y x ≡ false → hears y e x ≡ g x) → map (hears y e) xs ≡ map g xs
-quiet_map y e g [] h f = refl
-quiet_map y e g (x ∷ xs) h f =
-    let p = none_polls y x xs h in
-    ap (λ z. z ∷ map (hears y e) xs) (f x p.0) ∙ ap (λ l. g x ∷ l) (quiet_map y e g xs p.1 f)
+-- there is a first one if there is any
+further : (n m : ℕ) → nat_lt (1 + n) (suc m) ≡ nat_lt n m
+further n m = grind (arith, nat_tests)
 
-same : (xs : List Sent) → map (λ x. x) xs ≡ xs
-same [] = refl
-same (x ∷ xs) = ap (λ l. x ∷ l) (same xs)
-
--- an end that tells no figure is heard by none
-pub unheard_all : (y : Sent) (e : Answer) (xs : List Sent) → asks_oldest y.asked ≡ false → count_by is_poll xs ≡ 0
-    → map (hears y e) xs ≡ xs
-unheard_all y e xs a h =
-    quiet_map y e (λ x. x) xs h
-    (λ x p. quiet y e x false p (ap (λ b. b && is_polled e.connection (polled_by y e) x) a)) ∙ same xs
-
-pub unheard_none : (y : Sent) (e : Answer) (xs : List Sent) → polled_by y e ≡ None → count_by is_poll xs ≡ 0
-    → map (hears y e) xs ≡ xs
-unheard_none y e xs n h =
-    quiet_map y e (λ x. x) xs h
-    (λ x p. quiet y e x false p
-    (ap (λ o. asks_oldest y.asked && is_polled e.connection o x) n ∙ and_false (asks_oldest y.asked))) ∙ same xs
+some_first : (p : Sent → Bool) (xs : List Sent) → nat_lt (position_or_len p xs) (length xs) ≡ list_any p xs
+some_first p [] = refl
+some_first p (x ∷ xs) = by_bool (p x) (some_first p xs)
   where
-    and_false : (b : Bool) → (b && false) ≡ false
-    and_false b = grind arith
+    by_bool : (b : Bool) → nat_lt (position_or_len p xs) (length xs) ≡ list_any p xs
+        → nat_lt (cond (not b) (1 + position_or_len p xs) 0) (suc (length xs)) ≡ (b || list_any p xs)
+    by_bool true h = lt-ltb 0 (suc (length xs)) (omega arith)
+    by_bool false h = further (position_or_len p xs) (length xs) ∙ h
 
--- and one that tells a figure is heard by those of a name
-pub heard_named : (y : Sent) (e : Answer) (other : ℕ) (xs : List Sent) → asks_oldest y.asked ≡ true
-    → polled_by y e ≡ Some other → count_by is_poll xs ≡ 0
-    → map (hears y e) xs ≡ map (hears_named (key e.connection other) e.figure y.time) xs
-heard_named y e other xs a n h =
-    quiet_map y e (hears_named (key e.connection other) e.figure y.time) xs h
-    (λ x p. quiet y e x (has_name (key e.connection other) (name_of x)) p
-    (ap (λ b. b && is_polled e.connection (polled_by y e) x) a
-    ∙ (ap (λ o. is_polled e.connection o x) n ∙ sym (named_as e.connection other x))))
-
--- the command at a place heard it, after those before it
-pub heard_step : (name : ℕ) (figure time : Option ℕ) (xs ys zs : List Sent) (names : List ℕ) (i : ℕ) (b : Bool)
-    → i < length xs → ys ≡ map (hears_named name figure time) (take i xs) ++ drop i xs → names ≡ map name_of xs
-    → b ≡ nat_eq (get_or names i 0) name
-    → zs ≡ (if b then set ys i (with_figure figure time (command_at ys i)) else ys)
-    → zs ≡ map (hears_named name figure time) (take (i + 1) xs) ++ drop (i + 1) xs
-heard_step name figure time xs ys zs names i b l h n q e =
-    let f = hears_named name figure time in
-    let x = command_at ys i in
-    let front = map f (take i xs) in
-    let long : length front ≡ i = length-map (take i xs) f ∙ omega (arith, l, length-take i xs) in
-    let parts : ys ≡ front ++ get_or xs i nobody ∷ drop (i + 1) xs =
-    h ∙ ap (λ l. front ++ l) (drop_more xs i nobody l) in
-    let read : x ≡ get_or xs i nobody =
-    ap (λ l. get_or l i nobody) parts ∙ get_or_at front (get_or xs i nobody) (drop (i + 1) xs) nobody i long in
-    let own : get_or names i 0 ≡ name_of x =
-    ap (λ l. get_or l i 0) n ∙ (named_at i xs l ∙ sym (ap name_of read)) in
-    let there : i < length ys =
-    omega (arith, long, ap length parts, length-append front (get_or xs i nobody ∷ drop (i + 1) xs)) in
-    e
-    ∙ (by_bool b (q ∙ ap (λ k. nat_eq k name) own)
-    ∙ map_over_more f xs ys i x l h (get_or_default ys i nobody x there))
+pub some_place : (p : Sent → Bool) (xs : List Sent) → is_some (position p xs) ≡ list_any p xs
+some_place p xs = by_bool (nat_lt (position_or_len p xs) (length xs)) (some_first p xs)
   where
-    nobody : Sent
-    nobody = sent_by First []
+    by_bool : (b : Bool) → b ≡ list_any p xs → is_some (cond b (Some (position_or_len p xs)) None) ≡ list_any p xs
+    by_bool true h = h
+    by_bool false h = h
 
-    named_at : (i : ℕ) (xs : List Sent) → i < length xs → get_or (map name_of xs) i 0 ≡ name_of (get_or xs i nobody)
-    named_at i [] l = absurd (omega (arith, l))
-    named_at zero (x ∷ xs) l = refl
-    named_at (suc i) (x ∷ xs) l = named_at i xs (omega (arith, l))
-
-    by_bool : (b : Bool) → b ≡ has_name name (name_of (command_at ys i))
-        → (if b then set ys i (with_figure figure time (command_at ys i)) else ys)
-        ≡ set ys i (hears_named name figure time (command_at ys i))
-    by_bool true q =
-        ap (λ k. set ys i (if k then with_figure figure time (command_at ys i) else command_at ys i)) q
-    by_bool false q =
-        sym (set-get_or ys i (sent_by First []))
-        ∙ ap (λ k. set ys i (if k then with_figure figure time (command_at ys i) else command_at ys i)) q
-
--- ---- the first of a name
-further : (x : Sent) (xs : List Sent) (n m : ℕ)
+-- the first of a name
+further_at : (x : Sent) (xs : List Sent) (n m : ℕ)
     → command_at_place (x ∷ xs) (cond (nat_lt (1 + n) (suc m)) (Some (1 + n)) None)
     ≡ command_at_place xs (cond (nat_lt n m) (Some n) None)
-further x xs n m =
+further_at x xs n m =
     let one : 1 + n ≡ suc n = omega arith in
-    let same : nat_lt (1 + n) (suc m) ≡ nat_lt n m = grind (arith, nat_tests) in
-    ap (λ b. command_at_place (x ∷ xs) (cond b (Some (1 + n)) None)) same
+    ap (λ b. command_at_place (x ∷ xs) (cond b (Some (1 + n)) None)) (further n m)
     ∙ (ap (λ k. command_at_place (x ∷ xs) (cond (nat_lt n m) (Some k) None)) one ∙ by_bool (nat_lt n m))
   where
     by_bool : (b : Bool) → command_at_place (x ∷ xs) (cond b (Some (suc n)) None)
@@ -258,23 +193,69 @@ found_at q (x ∷ xs) = by_bool (q x) (found_at q xs)
         ≡ cond b (Some x) (find q xs)
     by_bool true h =
         ap (λ b. command_at_place (x ∷ xs) (cond b (Some 0) None)) (lt-ltb 0 (suc (length xs)) (omega arith))
-    by_bool false h = further x xs (position_or_len q xs) (length xs) ∙ h
+    by_bool false h = further_at x xs (position_or_len q xs) (length xs) ∙ h
 
--- ---- who is kept back
-pub none_kept_back : (y : Sent) (xs : List Sent) → is_sequential y.opcode ≡ false → is_ordered y.opcode ≡ false
-    → list_any (keeps_back y) xs ≡ false
-none_kept_back y [] h k = refl
-none_kept_back y (x ∷ xs) h k =
-    ap (λ b. b || list_any (keeps_back y) xs)
-    (none (same_connection x.connection y.connection) (nat_eq x.unit y.unit) (is_sequential x.opcode)
-    (is_sequential y.opcode) (is_ordered y.opcode) (is_ordered x.opcode) h k)
-    ∙ none_kept_back y xs h k
+-- ---- what is heard
+-- the command at a place changed, after those before it
+pub over_more : (f : Sent → Sent) (xs ys zs : List Sent) (i : ℕ) (x y : Sent) → i < length xs → length ys ≡ length xs
+    → ys ≡ map f (take i xs) ++ drop i xs → x ≡ command_at ys i → y ≡ f x → zs ≡ set ys i y
+    → zs ≡ map f (take (i + 1) xs) ++ drop (i + 1) xs
+over_more f xs ys zs i x y l same h is e put =
+    put ∙ ap (set ys i) e
+    ∙ map_over_more f xs ys i x l h (is ∙ get_or_default ys i (sent_by First []) x (omega (arith, l, same)))
+
+-- ---- what is kept
+-- a command that is outstanding is among those
+counted_one : (p : Sent → Bool) (xs : List Sent) (i n : ℕ) (s : Sent) → n ≡ count_by p xs → i < length xs
+    → s ≡ command_at xs i → cond (p s) 1 0 ≤ n
+counted_one p xs i n s h l is =
+    omega (arith, h, count_at p xs i (sent_by First []) l, ap {B = ℕ} (λ x. cond (p x) 1 0) is)
+
+pub kept_counted : (xs : List Sent) (kinds : Tallies) (i : ℕ) (s : Sent) → IsKept xs kinds → i < length xs
+    → s ≡ command_at xs i → IsCounted s kinds
+kept_counted xs kinds i s k l is = record {
+  first = counted_one (is_on First) xs i _ s k.first l is;
+  second = counted_one (is_on Second) xs i _ s k.second l is;
+}
+
+-- what is heard changes no count
+abbrev frame : Sent → Connection × (ℕ × (ℕ × (ℕ × Option ℕ)))
+frame s = (s.connection, (s.reference, (s.unit, (s.opcode, s.parameter))))
+
+kept_map : (f : Sent → Sent) → ((s : Sent) → frame (f s) ≡ frame s) → (xs : List Sent) (kinds : Tallies)
+    → IsKept xs kinds → IsKept (map f xs) kinds
+kept_map f same xs kinds k = record {
+  names = tally_map by_name f (λ s. ap (λ t. Some (slot_of t.0 t.1.0)) (same s)) _ xs k.names;
+  fences = tally_map by_fence f
+      (λ s. ap (λ t. if is_sequential t.1.1.1.0 then Some (slot_of t.0 t.1.1.0) else None) (same s)) _ xs k.fences;
+  lines = tally_map by_line f
+      (λ s. ap (λ t. if is_sequential t.1.1.1.0 || is_ordered t.1.1.1.0 then Some (slot_of t.0 t.1.1.0) else None)
+      (same s)) _ xs k.lines;
+  asked = tally_map by_asked f
+      (λ s. ap (λ t. if nat_eq t.1.1.1.0 2 then slot_if t.0 t.1.1.1.1 else None) (same s)) _ xs k.asked;
+  first = k.first ∙ sym (count_map (is_on First) f (λ s. ap (λ t. same_connection t.0 First) (same s)) xs);
+  second = k.second ∙ sym (count_map (is_on Second) f (λ s. ap (λ t. same_connection t.0 Second) (same s)) xs);
+}
+
+pub kept_leaves : (y : Sent) (xs : List Sent) (kinds : Tallies) → IsKept xs kinds → IsKept (map (leaves y) xs) kinds
+kept_leaves y = kept_map (leaves y) (λ s. by_bool (polls y s) s)
   where
-    none : (a b c d e f : Bool) → d ≡ false → e ≡ false → (a && b && ((c && (d || e)) || (f && d))) ≡ false
-    none a b c d e f h k = grind arith
+    by_bool : (b : Bool) (s : Sent) → frame (if b then record s { asked = left s.asked } else s) ≡ frame s
+    by_bool true s = refl
+    by_bool false s = refl
 
--- ---- credits
-pub few_on : (via : Connection) (xs : List Sent) (credits : ℕ) → length xs + 1 < credits
-    → nat_lt (count_on via xs + 1) credits ≡ true
-few_on via xs credits l = lt-ltb (count_on via xs + 1) credits
-    (omega (arith, l, count_by-le-length (λ (s : Sent). same_connection s.connection via) xs))
+pub kept_tells : (via : Connection) (n : ℕ) (figure time : Option ℕ) (xs : List Sent) (kinds : Tallies)
+    → IsKept xs kinds → IsKept (map (tells via n figure time) xs) kinds
+kept_tells via n figure time = kept_map (tells via n figure time) (λ s. by_bool (is_named via n s) s)
+  where
+    by_bool : (b : Bool) (s : Sent) → frame (if b then with_figure figure time s else s) ≡ frame s
+    by_bool true s = refl
+    by_bool false s = refl
+
+-- a command that isn't a poll of one that ended stays as it is
+pub unleft_put : (y : Sent) (xs : List Sent) (i : ℕ) → polls y (command_at xs i) ≡ false
+    → xs ≡ set xs i (leaves y (command_at xs i))
+unleft_put y xs i h =
+    sym (set-get_or xs i (sent_by First []))
+    ∙ ap (set xs i) (sym (ap (λ b. if b
+    then record (command_at xs i) { asked = left (command_at xs i).asked } else command_at xs i) h))

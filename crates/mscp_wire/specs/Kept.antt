@@ -1,30 +1,97 @@
 -- What is kept beside the commands that are outstanding, so that each is found soon.
-use Rattle.std.specs.Prelude.{◌≡◌, ℕ, Bool, nat_eq, if◌then◌else◌, List, map, count_by, Option}
+use Rattle.std.specs.Prelude.{◌≡◌, ℕ, ◌+◌, ◌-◌, ◌%◌, ◌<◌, ◌≤◌, ◌^◌, cond, nat_le, Bool, true, false, ◌||◌, nat_eq, if◌then◌else◌, Box, List, get_or, map, count_by, Option, Some, None}
+use Rattle.mscp_drive.specs.declared.connection.Connection.{Connection}
+use Rattle.mscp_drive.specs.declared.connection.Connection.TheVariants.{First, Second}
+use Rattle.mscp_wire.specs.Messages.{is_named, is_ordered, is_sequential, same_connection}
+use Rattle.mscp_wire.specs.Polls.{is_it, left, polls}
 use Rattle.mscp_wire.specs.Units.{key}
+use Rattle.mscp_wire.specs.declared.held.Held.{Held}
+use Rattle.mscp_wire.specs.declared.sent.Asked.{Asked}
+use Rattle.mscp_wire.specs.declared.sent.Asked.TheVariants.{Gone, Nothing, Oldest}
 use Rattle.mscp_wire.specs.declared.sent.Sent.{Sent}
+use Rattle.mscp_wire.specs.declared.tallies.Tallies.{Tallies}
 
--- the number of a command's connection and reference number
-abbrev pub name_of : Sent → ℕ
-name_of s = key s.connection s.reference
+-- the commands that are held
+abbrev pub sents : {A : Type 0} → List (Box Held A) → List Sent
+sents xs = map (λ b. b.value.sent) xs
 
--- a number is this name
-abbrev pub has_name : ℕ → ℕ → Bool
-has_name name number = nat_eq number name
+-- ---- what is counted
 
--- a command is a GET COMMAND STATUS
-abbrev pub is_poll : Sent → Bool
-is_poll s = nat_eq s.opcode 2
+-- the small number for a number of a connection
+abbrev pub slot_of : Connection → ℕ → ℕ
+slot_of via number = key via number % 65536
 
--- the names of these commands are kept, and how many are polls
-pub record IsKept (xs : List Sent) (numbers : List ℕ) (count : ℕ) : Type 0 where
-  pub names : numbers ≡ map name_of xs
-  pub polls : count ≡ count_by is_poll xs
+-- commands are counted by their names,
+abbrev pub by_name : Sent → Option ℕ
+by_name s = Some (slot_of s.connection s.reference)
+
+-- sequential ones by their units,
+abbrev pub by_fence : Sent → Option ℕ
+by_fence s = if is_sequential s.opcode then Some (slot_of s.connection s.unit) else None
+
+-- and so are those that are sequential or have their place beside such
+abbrev pub by_line : Sent → Option ℕ
+by_line s = if is_sequential s.opcode || is_ordered s.opcode then Some (slot_of s.connection s.unit) else None
+
+-- and polls by the names of the commands that they are about
+abbrev pub slot_if : Connection → Option ℕ → Option ℕ
+slot_if via None = None
+slot_if via (Some number) = Some (slot_of via number)
+
+abbrev pub by_asked : Sent → Option ℕ
+by_asked s = if nat_eq s.opcode 2 then slot_if s.connection s.parameter else None
+
+-- a count of 255 stays, since it isn't known how many more there were
+abbrev pub more : ℕ → ℕ
+more count = if nat_le 255 count then 255 else count + 1
+
+abbrev pub fewer : ℕ → ℕ
+fewer count = if nat_le 255 count then 255 else count - 1
+
+-- so many of the commands fall to each number, if fewer than 255 are counted
+abbrev pub IsTally : (Sent → Option ℕ) → List ℕ → List Sent → Type 0
+IsTally by counts xs =
+    (i : ℕ) → i < 65536 → get_or counts i 0 < 255 → get_or counts i 0 ≡ count_by (λ s. is_it (by s) i) xs
+
+-- a command is of a connection
+abbrev pub is_on : Connection → Sent → Bool
+is_on via s = same_connection s.connection via
+
+-- these are the counts of the commands: by their names, their units and what they ask, and of each connection
+pub record IsKept (xs : List Sent) (kinds : Tallies) : Type 0 where
+  pub names : IsTally by_name kinds.names.counts xs
+  pub fences : IsTally by_fence kinds.fences.counts xs
+  pub lines : IsTally by_line kinds.lines.counts xs
+  pub asked : IsTally by_asked kinds.asked.counts xs
+  pub first : kinds.first ≡ count_by (is_on First) xs
+  pub second : kinds.second ≡ count_by (is_on Second) xs
+
+-- the numbers of each connection's may grow
+pub record IsFew (kinds : Tallies) : Type 0 where
+  pub first : kinds.first < 2 ^ 63
+  pub second : kinds.second < 2 ^ 63
+
+-- and a command is among those
+pub record IsCounted (s : Sent) (kinds : Tallies) : Type 0 where
+  pub first : cond (is_on First s) 1 0 ≤ kinds.first
+  pub second : cond (is_on Second s) 1 0 ≤ kinds.second
+
+-- ---- what is heard
 
 -- a command, once a poll of this time told this figure of it
 abbrev pub with_figure : Option ℕ → Option ℕ → Sent → Sent
 with_figure figure time s = record s { told = figure; polled = time }
 
--- the same once it told that of the one that has a name
-abbrev pub hears_named : ℕ → Option ℕ → Option ℕ → Sent → Sent
-hears_named name figure time s =
-    if has_name name (name_of s) then with_figure figure time s else s
+-- a command, if it has this name, once a poll of this time told this figure of it
+abbrev pub tells : Connection → ℕ → Option ℕ → Option ℕ → Sent → Sent
+tells via number figure time s = if is_named via number s then with_figure figure time s else s
+
+-- a command that is outstanding, once y ended
+abbrev pub leaves : Sent → Sent → Sent
+leaves y s = if polls y s then record s { asked = left s.asked } else s
+
+-- a poll asks of a command that ended since
+abbrev pub asks_gone : Asked → Bool
+asks_gone Nothing = false
+asks_gone (Oldest last) = false
+asks_gone (Gone last) = true

@@ -3,6 +3,7 @@ pub mod Polls
 pub mod Units
 pub mod Kept
 pub mod Wire
+pub mod Sought
 pub mod Totals
 pub mod Log
 pub mod Right

@@ -107,10 +107,6 @@ tells y e s = asks_oldest y.asked && is_polled e.connection (polled_by y e) s
 abbrev pub polls : Sent → Sent → Bool
 polls y s = same_connection s.connection y.connection && nat_eq s.opcode 2 && is_it s.parameter y.reference
 
--- s hears the end e of y: it is told a figure, or it is a poll of y
-abbrev pub is_hearing : Sent → Answer → Sent → Bool
-is_hearing y e s = tells y e s || polls y s
-
 -- what a poll asks once the command that it names ended. If that came after the poll, any figure was right meanwhile
 abbrev pub left : Asked → Asked
 left (Oldest last) = Gone last

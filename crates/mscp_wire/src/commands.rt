@@ -1,125 +1,45 @@
 // The commands that are outstanding, oldest first, and what is kept beside them so that each is found soon.
 
-ghost use Rattle.std.specs.Prelude.{◌≡◌, ◌+◌, ◌<◌, ◌≤◌, ◌^◌, ◌++◌, ◌∷◌, [], cond, find, if◌then◌else◌, length, map, slice_set, position, Some, OnOk, IfSome};
-ghost use Rattle.std.specs.List.{list_any};
+ghost use Rattle.std.specs.Prelude.{◌≡◌, ◌+◌, ◌<◌, ◌^◌, ◌++◌, ◌∷◌, [], find, length, map, take, drop, position, false, true, Some, OnOk, IfOk, IfSome};
+ghost use Rattle.std.specs.List.{list_any, remove};
 ghost use Rattle.mscp_wire.specs.Wire as wire;
 ghost use Rattle.mscp_wire.specs.Kept as kept;
+ghost use Rattle.mscp_wire.specs.Sought.{is_sought};
 
-use crate::answer::{Answer, STATUS};
-use crate::outstanding::command_at_place;
-use crate::polls::{asks_oldest, hear_end};
-use crate::sent::Sent;
-use mscp_drive::Connection;
+use crate::answer::Answer;
+use crate::held::{Held, Sought, command_at, command_at_place, has, is_sought, place_in, put_at};
+use crate::outstanding::is_apart;
+use crate::polls::{asks_oldest, leave_all, leaves, tell_all, tells};
+use crate::sent::{Sent, is_ordered, is_sequential};
+use crate::tallies::{Tallies, by_asked};
+use crate::tally::slot_of;
+use mscp_drive::{Connection, OutOfMemory};
 use std::alloc::{AllocError, Allocator};
 use std::marker::Model;
 
 /// The commands that are outstanding, oldest first.
 #[derive(Drop)]
 pub struct Commands<A: Allocator> {
-    list: Vec<Sent, A>,
-    /// The name of each: a number of its connection and its reference number.
-    names: Vec<u64, A>,
-    /// How many of them are polls.
-    polls: usize,
+    list: Vec<Box<Held, A>, A>,
+    /// How many commands came so far. It may wrap: from it and the two below a place is only guessed.
+    came: u32,
+    /// Of each number of names how many commands came before the last one that has it, and before the last poll of it.
+    last: [u32; 65536],
+    last_asked: [u32; 65536],
+    tallies: Tallies,
 }
 
 // A clause sees the list of the commands.
 impl<A: Allocator> Model for Commands<A> {
     ghost use Rattle.std.specs.Prelude.{List};
     ghost use Rattle.mscp_wire.specs.declared.sent.Sent.{Sent};
-    ghost use Rattle.mscp_wire.specs.Kept.{IsKept};
+    ghost use Rattle.mscp_wire.specs.Kept.{IsKept, sents};
 
     ghost Value = { List Sent };
 
-    ghost view = { λ c. c.list.items };
+    ghost view = { λ c. sents c.list.items };
 
-    ghost invariant = { λ c. IsKept c.list.items c.names.items c.polls };
-}
-
-/// The number of a command's connection and reference number.
-fn name(connection: Connection, reference: u32) -> u64
-    ensures { result ≡ wire.key connection reference }
-{
-    match connection {
-        Connection::First => 2 * u64::from(reference),
-        Connection::Second => 2 * u64::from(reference) + 1,
-    }
-}
-
-/// Whether one of the numbers is this name.
-fn has_name(names: &[u64], name: u64) -> bool
-    ensures { result ≡ list_any (kept.has_name name) names.now }
-{
-    names.iter().any(|number| *number == name)
-}
-
-/// Where the first number stands that is this name, if one does.
-fn place_in(names: &[u64], name: u64) -> Option<usize>
-    ensures place { result ≡ position (kept.has_name name) names.now }
-    ensures bound { IfSome result (λ i. i < length names.now) }
-{
-    names.iter().position(|number| *number == name)
-}
-
-/// Whether a command is a poll.
-fn is_poll(command: &Sent) -> bool
-    ensures { result ≡ kept.is_poll command.now }
-{
-    command.opcode == STATUS
-}
-
-/// A number, or one more if that is said.
-fn one_more(count: usize, does: bool) -> usize
-    requires { count < 2 ^ 63 }
-    ensures { result ≡ count + cond does 1 0 }
-{
-    if does { count + 1 } else { count }
-}
-
-/// A number, or one less if that is said.
-fn one_less(count: usize, does: bool) -> usize
-    requires { cond does 1 0 ≤ count }
-    ensures { result + cond does 1 0 ≡ count }
-{
-    if does { count - 1 } else { count }
-}
-
-/// The command at a place hears a figure that a poll of this time told, if that is said.
-fn hear_at<A: Allocator>(
-    list: &mut Vec<Sent, A>,
-    at: usize,
-    hears: bool,
-    figure: Option<u32>,
-    time: Option<u64>,
-)
-    requires { at < length list.old.items }
-    ensures { list.new.items ≡ (if hears
-        then slice_set list.old.items at (kept.with_figure figure time (wire.command_at list.old.items at))
-        else list.old.items) }
-{
-    if hears {
-        list[at] = Sent {
-            told: figure,
-            polled: time,
-            ..list[at]
-        };
-    }
-}
-
-/// The commands of this name hear a figure that a poll of this time told.
-fn hear_named<A: Allocator>(
-    list: &mut Vec<Sent, A>,
-    names: &[u64],
-    name: u64,
-    figure: Option<u32>,
-    time: Option<u64>,
-)
-    requires { names.now ≡ map kept.name_of list.old.items }
-    ensures { list.new.items ≡ map (kept.hears_named name figure time) list.old.items }
-{
-    for at in 0..list.len() {
-        hear_at(list, at, names[at] == name, figure, time);
-    }
+    ghost invariant = { λ c. IsKept (sents c.list.items) c.tallies };
 }
 
 impl<A: Allocator + Copy> Commands<A> {
@@ -129,43 +49,119 @@ impl<A: Allocator + Copy> Commands<A> {
     {
         Commands {
             list: Vec::new(alloc),
-            names: Vec::new(alloc),
-            polls: 0,
+            came: 0,
+            last: [0; 65536],
+            last_asked: [0; 65536],
+            tallies: Tallies::none(),
         }
     }
 
-    /// No more.
-    pub fn clear(&mut self)
-        ensures { self.new ≡ [] }
+    /// How many.
+    pub fn len(&self) -> usize
+        ensures { result ≡ length self.now }
     {
-        self.list.clear();
-        self.names.clear();
-        self.polls = 0;
+        self.list.len()
     }
 
-    pub fn as_slice(&self) -> &[Sent]
-        ensures { result.now ≡ self.now }
+    /// The one at a place.
+    pub fn at(&self, place: usize) -> Sent
+        requires { place < length self.now }
+        ensures { result ≡ wire.command_at self.now place }
+    {
+        command_at(self.list.as_slice(), place)
+    }
+
+    /// The same, if there is one.
+    pub fn at_place(&self, place: Option<usize>) -> Option<Sent>
+        requires { IfSome place (λ i. i < length self.now) }
+        ensures { result ≡ wire.command_at_place self.now place }
+    {
+        command_at_place(self.list.as_slice(), place)
+    }
+
+    /// Those that came before the one at a place.
+    pub fn before(&self, place: usize) -> &[Box<Held, A>]
+        requires { place < length self.now }
+        ensures { kept.sents result.now ≡ take place self.now }
+    {
+        &self.list[..place]
+    }
+
+    /// Those that came after the one at a place.
+    pub fn behind(&self, place: usize) -> &[Box<Held, A>]
+        requires { place < length self.now }
+        ensures { kept.sents result.now ≡ drop (place + 1) self.now }
+    {
+        &self.list[place + 1..]
+    }
+
+    /// All.
+    pub fn all(&self) -> &[Box<Held, A>]
+        ensures { kept.sents result.now ≡ self.now }
     {
         self.list.as_slice()
     }
 
-    /// The list of them.
-    pub fn into_list(self) -> Vec<Sent, A>
-        ensures { result.items ≡ self }
+    /// How many are of a connection.
+    pub fn count_on(&self, connection: Connection) -> usize
+        ensures count { result ≡ wire.count_on connection self.now }
+        ensures bound { result < 2 ^ 63 }
     {
-        let Commands {
-            list,
-            names: _,
-            polls: _,
-        } = self;
-        list
+        match connection {
+            Connection::First => self.tallies.first,
+            Connection::Second => self.tallies.second,
+        }
     }
 
     /// Whether one of them has this reference number on this connection.
     pub fn has_named(&self, connection: Connection, reference: u32) -> bool
         ensures { result ≡ list_any (wire.is_named connection reference) self.now }
     {
-        has_name(self.names.as_slice(), name(connection, reference))
+        if self.tallies.names.at(slot_of(connection, reference)) == 0 {
+            return false;
+        }
+        has(self.list.as_slice(), &Sought::Named(connection, reference))
+    }
+
+    /// Where the command stands before which so many came, if it is the one that is sought.
+    fn guessed(&self, arrival: u32, sought: &Sought) -> Option<usize>
+        ensures bound { IfSome result (λ i. i < length self.now) }
+        ensures sought { IfSome result (λ i. is_sought sought.now (wire.command_at self.now i) ≡ true) }
+    {
+        match self
+            .list
+            .binary_search_by_key(&arrival, |held| held.arrival)
+        {
+            Ok(place) if self.is_at(place, sought) => Some(place),
+            _ => None,
+        }
+    }
+
+    /// Whether the one at a place is sought.
+    fn is_at(&self, place: usize, sought: &Sought) -> bool
+        requires { place < length self.now }
+        ensures { result ≡ is_sought sought.now (wire.command_at self.now place) }
+    {
+        is_sought(sought, &self.at(place))
+    }
+
+    /// Where the first stands that has this reference number on this connection, if one does.
+    fn place_named(&self, connection: Connection, reference: u32) -> Option<usize>
+        ensures place { result ≡ position (wire.is_named connection reference) self.now }
+        ensures bound { IfSome result (λ i. i < length self.now) }
+    {
+        let slot = slot_of(connection, reference);
+        let count = self.tallies.names.at(slot);
+        if count == 0 {
+            return None;
+        }
+        if count == 1 {
+            let sought = Sought::Named(connection, reference);
+            if let Some(place) = self.guessed(self.last[slot], &sought) {
+                return Some(place);
+            }
+        }
+        place_in(self.list.as_slice(), &Sought::Named(connection, reference))
     }
 
     /// Where the command that an end answers stands, if it does.
@@ -176,57 +172,140 @@ impl<A: Allocator + Copy> Commands<A> {
         self.place_named(answer.connection, answer.reference)
     }
 
-    /// Where the first stands that has this reference number on this connection, if one does.
-    fn place_named(&self, connection: Connection, reference: u32) -> Option<usize>
-        ensures place { result ≡ position (wire.is_named connection reference) self.now }
-        ensures bound { IfSome result (λ i. i < length self.now) }
-    {
-        place_in(self.names.as_slice(), name(connection, reference))
-    }
-
     /// The first that has this reference number on this connection, if one does.
     #[tactic(auto, using(crate::proofs::Names::found_at))]
     pub fn find_named(&self, connection: Connection, reference: u32) -> Option<Sent>
         ensures { result ≡ find (wire.is_named connection reference) self.now }
     {
         let place = self.place_named(connection, reference);
-        command_at_place(self.as_slice(), place)
+        self.at_place(place)
+    }
+
+    /// Whether it is soon seen that none keeps the command at a place back: if that is alone in its unit's line, or if
+    /// none there is sequential.
+    fn stands_free(&self, place: usize, command: &Sent) -> bool
+        requires bound { place < length self.now }
+        requires there { command.now ≡ wire.command_at self.now place }
+        ensures { result ≡ true → list_any (wire.keeps_back command.now) (take place self.now) ≡ false }
+    {
+        let slot = slot_of(command.connection, u32::from(command.unit));
+        if is_sequential(command.opcode) {
+            return self.tallies.lines.at(slot) == 1;
+        }
+        !is_ordered(command.opcode) || self.tallies.fences.at(slot) == 0
+    }
+
+    /// Whether the command at a place passes none of the earlier ones that it has to wait for.
+    pub fn passes_none(&self, place: usize, command: &Sent, answer: &Answer) -> bool
+        requires bound { place < length self.now }
+        requires there { command.now ≡ wire.command_at self.now place }
+        ensures { result ≡ wire.passes_none (take place self.now) command.now answer.now }
+    {
+        is_apart(answer.status_code())
+            || self.stands_free(place, command)
+            || !has(self.before(place), &Sought::Keeping(*command))
     }
 
     /// One more came.
     pub fn push(&mut self, command: Sent) -> Result<(), AllocError>
         ensures { OnOk result (self.new ≡ self.old ++ command ∷ []) }
     {
-        self.names
-            .push(name(command.connection, command.reference))?;
-        if let Err(failed) = self.list.push(command) {
-            let _ = self.names.pop();
-            return Err(failed.into());
+        let held = Held {
+            sent: command,
+            arrival: self.came,
+        };
+        let held = Box::new(*self.list.allocator(), held)?;
+        self.list.push(held)?;
+        self.last[slot_of(command.connection, command.reference)] = self.came;
+        if let Some(slot) = by_asked(&command) {
+            self.last_asked[slot] = self.came;
         }
-        self.polls = one_more(self.polls, is_poll(&command));
+        self.came = self.came.wrapping_add(1);
+        self.tallies.add(&command);
         Ok(())
+    }
+
+    /// The one at a place isn't outstanding any more.
+    fn remove(&mut self, place: usize) -> Sent
+        requires { place < length self.old }
+        ensures gone { result ≡ wire.command_at self.old place }
+        ensures others { self.new ≡ remove self.old place }
+    {
+        let Held { sent, arrival: _ } = Box::into_inner(self.list.remove(place));
+        self.tallies.subtract(&sent);
+        sent
+    }
+
+    /// No more.
+    pub fn clear(&mut self)
+        ensures { self.new ≡ [] }
+    {
+        for _ in 0..self.len() {
+            let last = self.len() - 1;
+            self.remove(last);
+        }
+    }
+
+    /// The list of them.
+    pub fn into_list(self, alloc: A) -> Result<Vec<Sent, A>, OutOfMemory>
+        ensures { IfOk result (λ list. list.items ≡ self) }
+    {
+        let mut list = Vec::new(alloc);
+        for place in 0..self.len() {
+            list.push(self.at(place))?;
+        }
+        Ok(list)
+    }
+
+    /// Those of a name are told this figure by a poll of this time.
+    fn tell(&mut self, name: (Connection, u32), figure: Option<u32>, time: Option<u64>)
+        ensures { self.new ≡ map (kept.tells name.0 name.1 figure time) self.old }
+    {
+        let slot = slot_of(name.0, name.1);
+        let count = self.tallies.names.at(slot);
+        if count == 0 {
+            return;
+        }
+        if count == 1 {
+            let sought = Sought::Named(name.0, name.1);
+            if let Some(place) = self.guessed(self.last[slot], &sought) {
+                let command = self.at(place);
+                put_at(&mut self.list, place, tells(name, figure, time, &command));
+                return;
+            }
+        }
+        tell_all(&mut self.list, name, figure, time);
+    }
+
+    /// Polls of a command that ended ask no more of it.
+    fn leave(&mut self, ended: &Sent)
+        ensures { self.new ≡ map (kept.leaves ended.now) self.old }
+    {
+        let slot = slot_of(ended.connection, ended.reference);
+        let count = self.tallies.asked.at(slot);
+        if count == 0 {
+            return;
+        }
+        if count == 1 {
+            if let Some(place) = self.guessed(self.last_asked[slot], &Sought::PollOf(*ended)) {
+                let other = self.at(place);
+                put_at(&mut self.list, place, leaves(ended, &other));
+                return;
+            }
+        }
+        leave_all(&mut self.list, ended);
     }
 
     /// They hear the end of a command.
     fn hear(&mut self, ended: &Sent, answer: &Answer)
         ensures { self.new ≡ map (wire.hears ended.now answer.now) self.old }
     {
-        if self.polls > 0 {
-            hear_end(&mut self.list, ended, answer);
-            return;
-        }
+        self.leave(ended);
         if !asks_oldest(ended.asked) {
             return;
         }
         if let Some(other) = answer.polled_by(ended) {
-            let name = name(answer.connection, other);
-            hear_named(
-                &mut self.list,
-                self.names.as_slice(),
-                name,
-                answer.figure,
-                ended.time,
-            );
+            self.tell((answer.connection, other), answer.figure, ended.time);
         }
     }
 
@@ -235,9 +314,7 @@ impl<A: Allocator + Copy> Commands<A> {
         requires { place < length self.old }
         ensures { self.new ≡ wire.after_end self.old answer.now (Some place) }
     {
-        let ended = self.list.remove(place);
-        let _ = self.names.remove(place);
-        self.polls = one_less(self.polls, is_poll(&ended));
+        let ended = self.remove(place);
         self.hear(&ended, answer);
     }
 }

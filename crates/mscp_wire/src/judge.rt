@@ -4,13 +4,15 @@ ghost use Rattle.std.specs.Prelude.{◌≡◌, ℕ, ◌<◌, ◌++◌, ◌∷◌
 ghost use Rattle.mscp_packet.specs.Number.{num};
 ghost use Rattle.mscp_drive.specs.declared.connection.Connection as connections;
 ghost use Rattle.mscp_wire.specs.Wire as wire;
+ghost use Rattle.mscp_wire.specs.Kept.{sents};
 ghost use Rattle.mscp_wire.specs.Totals as total;
 
 use crate::answer::{Answer, is_long};
 use crate::commands::Commands;
 use crate::falls::fall_found;
+use crate::held::Held;
 use crate::moment::Moment;
-use crate::outstanding::{command_at, command_at_place, count_on, has_abort, passes_none};
+use crate::outstanding::has_abort;
 use crate::polls::{asking, has_figure};
 use crate::rule::Rule;
 use crate::sent::{Sent, is_immediate};
@@ -33,15 +35,15 @@ fn limit_of(credits: Option<u32>) -> u32
 }
 
 /// Whether a host has a credit for a command.
-#[tactic(auto, using(crate::proofs::Names::few_on))]
-fn has_credit(credits: Option<u32>, commands: &[Sent], sent: &Sent) -> bool
+fn has_credit<A: Allocator + Copy>(
+    credits: Option<u32>,
+    commands: &Commands<A>,
+    sent: &Sent,
+) -> bool
     ensures { result ≡ wire.has_credit credits commands.now sent.now }
 {
     let credits = u64::from(limit_of(credits));
-    if (commands.len() as u64) + 1 < credits {
-        return true;
-    }
-    let needed = count_on(commands, sent.connection) as u64 + 1;
+    let needed = commands.count_on(sent.connection) as u64 + 1;
     needed < credits || (needed == credits && is_immediate(sent.opcode))
 }
 
@@ -56,15 +58,20 @@ fn broken_message<A: Allocator + Copy>(
     if commands.has_named(sent.connection, sent.reference) {
         return Some(Rule::Number);
     }
-    if !has_credit(credits, commands.as_slice(), sent) {
+    if !has_credit(credits, commands, sent) {
         return Some(Rule::Credits);
     }
     None
 }
 
 /// The first rule that the body of an end of this command breaks, after which these came.
-fn broken_body(later: &[Sent], command: &Sent, seen: &Seen, answer: &Answer) -> Option<Rule>
-    ensures { result ≡ wire.broken_body later.now command.now seen.now answer.now }
+fn broken_body<A: Allocator>(
+    later: &[Box<Held, A>],
+    command: &Sent,
+    seen: &Seen,
+    answer: &Answer,
+) -> Option<Rule>
+    ensures { result ≡ wire.broken_body (sents later.now) command.now seen.now answer.now }
 {
     if !answer.succeeds(answer.other_of(command)) {
         return Some(Rule::Success);
@@ -90,37 +97,39 @@ fn broken_body(later: &[Sent], command: &Sent, seen: &Seen, answer: &Answer) -> 
     None
 }
 
-/// The first rule that an end of this command breaks, before and after which these came.
-fn broken_end(
-    earlier: &[Sent],
-    later: &[Sent],
-    command: &Sent,
+/// The first rule that an end of the command at a place breaks.
+fn broken_end<A: Allocator + Copy>(
+    commands: &Commands<A>,
+    place: usize,
     seen: &Seen,
     answer: &Answer,
 ) -> Option<Rule>
-    ensures { result ≡ wire.broken_end earlier.now later.now command.now seen.now answer.now }
+    requires { place < length commands.now }
+    ensures { result ≡ wire.broken_at commands.now seen.now answer.now (Some place) }
 {
-    if !answer.names_unit(command) {
+    let command = commands.at(place);
+    let later = commands.behind(place);
+    if !answer.names_unit(&command) {
         return Some(Rule::Unit);
     }
-    if !answer.has_endcode(command) {
+    if !answer.has_endcode(&command) {
         return Some(Rule::Endcode);
     }
-    if !answer.has_status(command) {
+    if !answer.has_status(&command) {
         return Some(Rule::Status);
     }
-    if !has_abort(later, command, answer) {
+    if !has_abort(later, &command, answer) {
         return Some(Rule::Aborted);
     }
-    if !passes_none(earlier, command, answer) {
+    if !commands.passes_none(place, &command, answer) {
         return Some(Rule::Order);
     }
-    broken_body(later, command, seen, answer)
+    broken_body(later, &command, seen, answer)
 }
 
-/// The first rule that an end of the command at a place breaks, if there is one.
-fn broken_answer(
-    commands: &[Sent],
+/// The same, if there is one.
+fn broken_answer<A: Allocator + Copy>(
+    commands: &Commands<A>,
     seen: &Seen,
     answer: &Answer,
     place: Option<usize>,
@@ -129,13 +138,7 @@ fn broken_answer(
     ensures { result ≡ wire.broken_at commands.now seen.now answer.now place }
 {
     match place {
-        Some(place) => broken_end(
-            &commands[..place],
-            &commands[place + 1..],
-            &command_at(commands, place),
-            seen,
-            answer,
-        ),
+        Some(place) => broken_end(commands, place, seen, answer),
         None => Some(Rule::Outstanding),
     }
 }
@@ -288,12 +291,12 @@ impl<A: Allocator + Copy> Judge<A> {
         }
         let answer = Answer::of(connection, bytes);
         let place = self.commands.place_of(&answer);
-        let command = command_at_place(self.commands.as_slice(), place);
+        let command = self.commands.at_place(place);
         let seen = Seen {
             unit: self.units.told(connection, answer.unit),
             controller: self.controller,
         };
-        let rule = broken_answer(self.commands.as_slice(), &seen, &answer, place);
+        let rule = broken_answer(&self.commands, &seen, &answer, place);
         let fall = fall_found(&answer, command);
         if rule.is_none() {
             self.ended(&answer, place)?;

@@ -4,6 +4,7 @@
 mod answer;
 mod commands;
 mod falls;
+mod held;
 mod identity;
 mod judge;
 mod line;
@@ -13,6 +14,8 @@ mod outstanding;
 mod polls;
 mod rule;
 mod sent;
+mod tallies;
+mod tally;
 mod told;
 mod totals;
 mod units;

@@ -79,7 +79,7 @@ impl<A: Allocator + Copy> Reading<A> {
                 command,
             })),
             None => {
-                let queue = self.judge.commands.as_slice().len();
+                let queue = self.judge.commands.len();
                 self.totals.add(number, &moment, queue, fall);
                 Ok(None)
             }
@@ -135,7 +135,7 @@ fn judge_lines<A: Allocator + Copy>(
         units: _,
         commands,
     } = judge;
-    Ok(Verdict::Right(totals, commands.into_list()))
+    Ok(Verdict::Right(totals, commands.into_list(alloc)?))
 }
 
 /// What is said of a log.

@@ -1,30 +1,30 @@
 // What polls ask of commands that are outstanding, and what those hear of them.
 
-ghost use Rattle.std.specs.Prelude.{◌≡◌, ◌+◌, ◌<◌, map, find, option_copied};
+ghost use Rattle.std.specs.Prelude.{◌≡◌, ◌+◌, ◌<◌, length, map, set, find};
 ghost use Rattle.std.specs.List.{list_any};
 ghost use Rattle.mscp_wire.specs.Wire as wire;
+ghost use Rattle.mscp_wire.specs.Kept as kept;
 
 use crate::answer::{Answer, STATUS, is_it};
 use crate::commands::Commands;
-use crate::outstanding::has_named;
+use crate::held::{Held, Sought, command_at, command_at_place, has, place_in, put_at};
 use crate::sent::{Asked, Sent, is_immediate};
 use mscp_drive::Connection;
 use std::alloc::Allocator;
 
 /// Whether a command of this connection isn't answered when it arrives, so that its host waits for it.
-fn waits_on(connection: Connection, command: &Sent) -> bool
+pub fn waits_on(connection: Connection, command: &Sent) -> bool
     ensures { result ≡ wire.waits_on connection command.now }
 {
     command.connection == connection && !is_immediate(command.opcode)
 }
 
 /// The oldest of those that the host of a connection waits for.
-fn oldest_on(commands: &[Sent], connection: Connection) -> Option<&Sent>
-    ensures { option_copied result ≡ find (wire.waits_on connection) commands.now }
+fn oldest_on<A: Allocator>(commands: &[Box<Held, A>], connection: Connection) -> Option<Sent>
+    ensures { result ≡ find (wire.waits_on connection) (kept.sents commands.now) }
 {
-    commands
-        .iter()
-        .find(|command| waits_on(connection, command))
+    let place = place_in(commands, &Sought::WaitedFor(connection));
+    command_at_place(commands, place)
 }
 
 /// Whether it has this reference number, if it is there.
@@ -38,14 +38,11 @@ fn has_number(command: Option<Sent>, reference: u32) -> bool
 }
 
 /// Whether a command is the oldest that its host waits for.
-fn is_oldest(commands: &[Sent], command: &Sent) -> bool
-    ensures { result ≡ wire.is_oldest commands.now command.now }
+fn is_oldest<A: Allocator>(commands: &[Box<Held, A>], command: &Sent) -> bool
+    ensures { result ≡ wire.is_oldest (kept.sents commands.now) command.now }
 {
     !is_immediate(command.opcode)
-        && has_number(
-            oldest_on(commands, command.connection).copied(),
-            command.reference,
-        )
+        && has_number(oldest_on(commands, command.connection), command.reference)
 }
 
 /// Whether a poll of this time comes sooner than a controller timeout of so many seconds after one of that time. It
@@ -62,8 +59,13 @@ fn is_hasty(timeout: Option<u16>, last: Option<u64>, time: Option<u64>) -> bool
 }
 
 /// Whether a poll of a command may ask it for its figure.
-fn may_ask(timeout: Option<u16>, commands: &[Sent], poll: &Sent, command: &Sent) -> bool
-    ensures { result ≡ wire.may_ask timeout commands.now poll.now command.now }
+fn may_ask<A: Allocator>(
+    timeout: Option<u16>,
+    commands: &[Box<Held, A>],
+    poll: &Sent,
+    command: &Sent,
+) -> bool
+    ensures { result ≡ wire.may_ask timeout (kept.sents commands.now) poll.now command.now }
 {
     command.unit == poll.unit
         && is_oldest(commands, command)
@@ -71,8 +73,13 @@ fn may_ask(timeout: Option<u16>, commands: &[Sent], poll: &Sent, command: &Sent)
 }
 
 /// What a poll asks of the command that has the number which it names, if there is one.
-fn asked_about(timeout: Option<u16>, commands: &[Sent], poll: &Sent, named: Option<Sent>) -> Asked
-    ensures { result ≡ wire.asked_about timeout commands.now poll.now named }
+fn asked_about<A: Allocator>(
+    timeout: Option<u16>,
+    commands: &[Box<Held, A>],
+    poll: &Sent,
+    named: Option<Sent>,
+) -> Asked
+    ensures { result ≡ wire.asked_about timeout (kept.sents commands.now) poll.now named }
 {
     match named {
         None => Asked::Gone(Some(0)),
@@ -98,7 +105,7 @@ fn asked_by<A: Allocator + Copy>(
     match named {
         Some(other) if other != poll.reference => {
             let command = commands.find_named(poll.connection, other);
-            asked_about(timeout, commands.as_slice(), poll, command)
+            asked_about(timeout, commands.all(), poll, command)
         }
         _ => Asked::Nothing,
     }
@@ -151,13 +158,27 @@ fn may_tell(asked: Asked, came: bool, figure: Option<u32>) -> bool
     }
 }
 
+/// Whether it matters for a figure that isn't 0 if a command of its number came since.
+fn asks_gone(asked: Asked) -> bool
+    ensures { result ≡ kept.asks_gone asked }
+{
+    matches!(asked, Asked::Gone(_))
+}
+
 /// Whether the figure that an end tells is right, if its command is a poll of this other one. These came after the poll.
-pub fn has_figure(later: &[Sent], poll: &Sent, answer: &Answer, polled: Option<u32>) -> bool
-    ensures { result ≡ wire.has_figure later.now poll.now answer.now polled }
+pub fn has_figure<A: Allocator>(
+    later: &[Box<Held, A>],
+    poll: &Sent,
+    answer: &Answer,
+    polled: Option<u32>,
+) -> bool
+    ensures { result ≡ wire.has_figure (kept.sents later.now) poll.now answer.now polled }
 {
     match polled {
         Some(other) => {
-            let came = has_named(later, answer.connection, other);
+            let came = asks_gone(poll.asked)
+                && !is_it(answer.figure, 0)
+                && has(later, &Sought::Named(answer.connection, other));
             may_tell(poll.asked, came, answer.figure)
         }
         None => true,
@@ -171,25 +192,8 @@ pub fn asks_oldest(asked: Asked) -> bool
     matches!(asked, Asked::Oldest(_))
 }
 
-/// Whether a command is the one that is polled.
-fn is_polled(connection: Connection, polled: Option<u32>, command: &Sent) -> bool
-    ensures { result ≡ wire.is_polled connection polled command.now }
-{
-    match polled {
-        Some(other) => command.is_named(connection, other),
-        None => false,
-    }
-}
-
-/// Whether the end of a command tells the figure of another.
-fn tells(ended: &Sent, answer: &Answer, other: &Sent) -> bool
-    ensures { result ≡ wire.tells ended.now answer.now other.now }
-{
-    asks_oldest(ended.asked) && is_polled(answer.connection, answer.polled_by(ended), other)
-}
-
 /// Whether another command is a poll of this one.
-fn polls(command: &Sent, other: &Sent) -> bool
+pub fn polls(command: &Sent, other: &Sent) -> bool
     ensures { result ≡ wire.polls command.now other.now }
 {
     other.connection == command.connection
@@ -207,53 +211,74 @@ fn left(asked: Asked) -> Asked
     }
 }
 
-/// Another command, once the end of one came.
-fn heard(ended: &Sent, answer: &Answer, other: &Sent) -> Sent
-    ensures { result ≡ wire.hears ended.now answer.now other.now }
+/// Another command, once one ended.
+pub fn leaves(ended: &Sent, other: &Sent) -> Sent
+    ensures { result ≡ kept.leaves ended.now other.now }
 {
-    let (told, polled) = if tells(ended, answer, other) {
-        (answer.figure, ended.time)
+    if polls(ended, other) {
+        Sent {
+            asked: left(other.asked),
+            ..*other
+        }
     } else {
-        (other.told, other.polled)
-    };
-    let asked = if polls(ended, other) {
-        left(other.asked)
-    } else {
-        other.asked
-    };
-    Sent {
-        told,
-        polled,
-        asked,
-        ..*other
+        *other
     }
 }
 
-/// Whether another command hears the end of one.
-fn is_hearing(ended: &Sent, answer: &Answer, other: &Sent) -> bool
-    ensures { result ≡ wire.is_hearing ended.now answer.now other.now }
+/// The other command at a place, once one ended.
+fn leave_at<A: Allocator>(commands: &mut Vec<Box<Held, A>, A>, at: usize, ended: &Sent)
+    requires { at < length commands.old.items }
+    ensures sents { kept.sents commands.new.items ≡ set (kept.sents commands.old.items) at
+        (kept.leaves ended.now (wire.command_at (kept.sents commands.old.items) at)) }
+    ensures many { length commands.new.items ≡ length commands.old.items }
 {
-    tells(ended, answer, other) || polls(ended, other)
-}
-
-/// Whether one of the other commands does.
-fn is_heard(commands: &[Sent], ended: &Sent, answer: &Answer) -> bool
-    ensures { result ≡ list_any (wire.is_hearing ended.now answer.now) commands.now }
-{
-    commands
-        .iter()
-        .any(|other| is_hearing(ended, answer, other))
-}
-
-/// The other commands hear the end of one.
-pub fn hear_end<A: Allocator>(commands: &mut Vec<Sent, A>, ended: &Sent, answer: &Answer)
-    ensures { commands.new.items ≡ map (wire.hears ended.now answer.now) commands.old.items }
-{
-    // Mostly there is none, and looking is much quicker than writing.
-    if !is_heard(commands.as_slice(), ended, answer) {
+    if !polls(ended, &commands[at].sent) {
         return;
     }
+    let other = command_at(commands.as_slice(), at);
+    put_at(commands, at, leaves(ended, &other));
+}
+
+/// All of them, once one ended.
+pub fn leave_all<A: Allocator>(commands: &mut Vec<Box<Held, A>, A>, ended: &Sent)
+    ensures { kept.sents commands.new.items ≡ map (kept.leaves ended.now) (kept.sents commands.old.items) }
+{
     for at in 0..commands.len() {
-        commands[at] = heard(ended, answer, &commands[at]);
+        leave_at(commands, at, ended);
+    }
+}
+
+/// A command, if it has this name, once a poll of this time told this figure of it.
+pub fn tells(
+    name: (Connection, u32),
+    figure: Option<u32>,
+    time: Option<u64>,
+    command: &Sent,
+) -> Sent
+    ensures { result ≡ kept.tells name.0 name.1 figure time command.now }
+{
+    if command.is_named(name.0, name.1) {
+        Sent {
+            told: figure,
+            polled: time,
+            ..*command
+        }
+    } else {
+        *command
+    }
+}
+
+/// The commands, once such a poll told it.
+pub fn tell_all<A: Allocator>(
+    commands: &mut Vec<Box<Held, A>, A>,
+    name: (Connection, u32),
+    figure: Option<u32>,
+    time: Option<u64>,
+)
+    ensures { kept.sents commands.new.items ≡ map (kept.tells name.0 name.1 figure time) (kept.sents commands.old.items) }
+{
+    for at in 0..commands.len() {
+        let command = command_at(commands.as_slice(), at);
+        put_at(commands, at, tells(name, figure, time, &command));
     }
 }

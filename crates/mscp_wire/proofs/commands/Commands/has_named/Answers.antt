@@ -1,13 +1,10 @@
-use Rattle.std.proofs.Common.{ap, map, ◌∙◌}
-use Rattle.std.specs.List.{list_any}
-use Rattle.mscp_wire.specs.Kept.{has_name, name_of}
-use Rattle.mscp_wire.proofs.Names.{any_named}
+use Rattle.std.proofs.Common.{sym}
+use Rattle.mscp_wire.proofs.Alone.{named_none}
 use Rattle.mscp_wire.proofs.commands.Commands.has_named.Goals as goal
 
-pub returns : goal.returns
-returns g c =
-    c.has_name.ensures
-    ∙ (ap (λ n. list_any (has_name n) c.as_slice.result.now) c.name.ensures
-    ∙ (ap (list_any (has_name _))
-    (c.as_slice.ensures.value ∙ (c.self.invariant.names ∙ ap (map name_of) c.self.view_is))
-    ∙ any_named c.args.connection c.args.reference c.args.self.now))
+pub returns-then-at-eq0 : goal.returns-then-at-eq0
+returns-then-at-eq0 g c =
+    sym (named_none c.args.connection c.args.reference c.self.inside.tallies.names.counts c.args.self.now _
+    c.slot_of.result
+    c.at.result c.self.view_is c.slot_of.ensures.slot c.slot_of.ensures.bound c.self.invariant.names c.at.ensures
+    c.if-at-eq0.true)

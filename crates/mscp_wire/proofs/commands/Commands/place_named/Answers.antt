@@ -1,13 +1,19 @@
-use Rattle.std.proofs.Common.{ap, map, ◌∙◌}
-use Rattle.std.specs.List.{position}
-use Rattle.mscp_wire.specs.Kept.{has_name, name_of}
-use Rattle.mscp_wire.proofs.Names.{place_named}
+use Rattle.std.proofs.Common.{sym}
+use Rattle.mscp_wire.specs.Wire.{is_named}
+use Rattle.mscp_wire.proofs.Alone.{named_alone, named_none}
+use Rattle.mscp_wire.proofs.Names.{place_none}
 use Rattle.mscp_wire.proofs.commands.Commands.place_named.Goals as goal
 
-pub returns-clause-place : goal.returns-clause-place
-returns-clause-place g c =
-    c.place_in.ensures.place
-    ∙ (ap (λ n. position (has_name n) c.as_slice.result.now) c.name.ensures
-    ∙ (ap (position (has_name _))
-    (c.as_slice.ensures.value ∙ (c.self.invariant.names ∙ ap (map name_of) c.self.view_is))
-    ∙ place_named c.args.connection c.args.reference c.args.self.now))
+pub returns-then-count-eq0-clause-place : goal.returns-then-count-eq0-clause-place
+returns-then-count-eq0-clause-place g c =
+    sym (place_none (is_named c.args.connection c.args.reference) c.args.self.now
+    (named_none c.args.connection c.args.reference c.self.inside.tallies.names.counts c.args.self.now _
+    c.slot_of-slot.result c.at-count.result c.self.view_is c.slot_of-slot.ensures.slot c.slot_of-slot.ensures.bound
+    c.self.invariant.names c.at-count.ensures c.if-count-eq0.true))
+
+pub returns-in-Some-clause-place : goal.returns-in-Some-clause-place
+returns-in-Some-clause-place g c =
+    named_alone c.args.connection c.args.reference c.self.inside.tallies.names.counts c.args.self.now _
+    c.slot_of-slot.result c.at-count.result c.in-Some.place c.self.view_is c.slot_of-slot.ensures.slot
+    c.slot_of-slot.ensures.bound c.self.invariant.names c.at-count.ensures c.if-count-eq1.true
+    c.in-Some.ensures.bound c.in-Some.ensures.sought

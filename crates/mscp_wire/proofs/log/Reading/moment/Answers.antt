@@ -33,7 +33,7 @@ returns-in-None-clause-after g c = λ log s.
             (c.in_ok-rule.ensures.controller c.in-None.is);
         timeout = timeout_more log.moments c.args.moment _ _ s.timeout (c.in_ok-rule.ensures.timeout c.in-None.is);
         totals = c.add.ensures.totals log.moments s.totals
-            (ap length (c.as_slice-queue.ensures ∙ after))
+            (c.len-queue.ensures ∙ ap length after)
             (c.in_ok-rule.ensures.fall ∙ ap (λ xs. fall_after xs c.args.moment) s.commands);
       },
     )

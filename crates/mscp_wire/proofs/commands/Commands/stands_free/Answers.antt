@@ -1,0 +1,26 @@
+use Rattle.std.proofs.Common.{ap, sym, ◌∙◌}
+use Rattle.std.proofs.lemmas.Bool.{eqb-true}
+use Rattle.mscp_wire.specs.Kept.{slot_of}
+use Rattle.mscp_wire.proofs.Alone.{alone_in_line, never_kept_back, none_in_line}
+use Rattle.mscp_wire.proofs.commands.Commands.stands_free.Goals as goal
+
+pub returns-then-is_sequential : goal.returns-then-is_sequential
+returns-then-is_sequential g c = λ one.
+    alone_in_line c.args.command.now c.self.inside.tallies.lines.counts c.args.self.now _ c.slot_of-slot.result
+    c.at.result c.args.place c.self.view_is (c.slot_of-slot.ensures.slot
+    ∙ ap (slot_of c.args.command.now.connection) c.from.ensures) c.slot_of-slot.ensures.bound
+    c.self.invariant.lines c.at.ensures (sym c.is_sequential.ensures ∙ c.if-is_sequential.true) c.requires.bound
+    c.requires.there (eqb-true c.at.result 1 one)
+
+pub returns-then-not-is_ordered : goal.returns-then-not-is_ordered
+returns-then-not-is_ordered g c = λ one.
+    never_kept_back c.args.command.now _ (sym c.is_sequential.ensures ∙ c.if-is_sequential.false)
+    (sym c.is_ordered.ensures ∙ c.if-not-is_ordered.true)
+
+pub returns-else-not-is_ordered : goal.returns-else-not-is_ordered
+returns-else-not-is_ordered g c = λ none.
+    none_in_line c.args.command.now c.self.inside.tallies.fences.counts c.args.self.now _ c.slot_of-slot.result
+    c.at-else-not-is_ordered.result c.args.place c.self.view_is (c.slot_of-slot.ensures.slot
+    ∙ ap (slot_of c.args.command.now.connection) c.from.ensures)
+    c.slot_of-slot.ensures.bound c.self.invariant.fences c.at-else-not-is_ordered.ensures
+    (sym c.is_sequential.ensures ∙ c.if-is_sequential.false) (eqb-true c.at-else-not-is_ordered.result 0 none)

@@ -1,0 +1,10 @@
+use Rattle.std.proofs.Common.{◌≡◌, ◌++◌, drop, length, map, take}
+use Rattle.mscp_wire.specs.Kept.{leaves, sents}
+use Rattle.mscp_wire.proofs.polls.leave_all.Given as goal
+
+abbrev pub invariant-loop-at : goal.invariant-loop-at
+invariant-loop-at g l = record {
+  many : length l.commands.items ≡ length l.initial.commands.items;
+  sents : sents l.commands.items ≡ map (leaves l.ended) (take l.at (sents l.initial.commands.items))
+      ++ drop l.at (sents l.initial.commands.items);
+}

@@ -1,0 +1,18 @@
+use Rattle.mscp_drive.specs.declared.connection.Connection.TheVariants.{First, Second}
+use Rattle.mscp_wire.specs.Kept.{by_asked, by_fence, by_line, by_name, is_on}
+use Rattle.mscp_wire.proofs.Names.{counted_more, tally_push}
+use Rattle.mscp_wire.proofs.tallies.Tallies.add.Goals as goal
+
+pub returns : goal.returns
+returns c = λ xs k. record {
+  names = tally_push by_name _ _ xs c.args.command.now c.by_name.result c.by_name.ensures.slot k.names c.add.ensures;
+  fences = tally_push by_fence _ _ xs c.args.command.now c.by_fence.result c.by_fence.ensures.slot k.fences
+      c.add-2.ensures;
+  lines = tally_push by_line _ _ xs c.args.command.now c.by_line.result c.by_line.ensures.slot k.lines c.add-3.ensures;
+  asked = tally_push by_asked _ _ xs c.args.command.now c.by_asked.result c.by_asked.ensures.slot k.asked
+      c.add-4.ensures;
+  first = counted_more (is_on First) xs c.args.command.now _ _ c.is_on.result c.is_on.ensures k.first
+      c.one_more-self.ensures;
+  second = counted_more (is_on Second) xs c.args.command.now _ _ c.is_on-2.result c.is_on-2.ensures k.second
+      c.one_more-self-2.ensures;
+}

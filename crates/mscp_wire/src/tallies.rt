@@ -1,0 +1,138 @@
+// How many of the commands that are outstanding there are of each kind.
+
+ghost use Rattle.std.specs.Prelude.{◌≡◌, ◌+◌, ◌<◌, ◌≤◌, ◌^◌, ◌++◌, ◌∷◌, ℕ, List, [], cond, length, IfSome};
+ghost use Rattle.std.specs.List.{remove};
+ghost use Rattle.mscp_wire.specs.Wire.{command_at};
+ghost use Rattle.mscp_wire.specs.Kept as kept;
+ghost use Rattle.mscp_wire.specs.declared.sent.Sent as sents;
+
+use crate::answer::STATUS;
+use crate::sent::{Sent, is_ordered, is_sequential};
+use crate::tally::{Tally, slot_of};
+use mscp_drive::Connection;
+
+/// How many commands are outstanding of each kind.
+#[derive(Clone, Copy)]
+pub struct Tallies {
+    /// By their names.
+    pub names: Tally,
+    /// By their units, of those that are sequential.
+    pub fences: Tally,
+    /// By their units, of those that are sequential or have their place beside such.
+    pub lines: Tally,
+    /// Polls, by the names of the commands that they are about.
+    pub asked: Tally,
+    /// Of each connection.
+    pub first: usize,
+    pub second: usize,
+}
+
+/// By which number a command's name is counted.
+fn by_name(command: &Sent) -> Option<usize>
+    ensures slot { result ≡ kept.by_name command.now }
+    ensures bound { IfSome result (λ i. i < 65536) }
+{
+    Some(slot_of(command.connection, command.reference))
+}
+
+/// By which number a sequential command's unit is counted.
+fn by_fence(command: &Sent) -> Option<usize>
+    ensures slot { result ≡ kept.by_fence command.now }
+    ensures bound { IfSome result (λ i. i < 65536) }
+{
+    if is_sequential(command.opcode) {
+        Some(slot_of(command.connection, u32::from(command.unit)))
+    } else {
+        None
+    }
+}
+
+/// The same of one that is sequential or has its place beside such.
+fn by_line(command: &Sent) -> Option<usize>
+    ensures slot { result ≡ kept.by_line command.now }
+    ensures bound { IfSome result (λ i. i < 65536) }
+{
+    if is_sequential(command.opcode) || is_ordered(command.opcode) {
+        Some(slot_of(command.connection, u32::from(command.unit)))
+    } else {
+        None
+    }
+}
+
+/// By which number the name of the command is counted that this one is about, if it is a poll.
+pub fn by_asked(command: &Sent) -> Option<usize>
+    ensures slot { result ≡ kept.by_asked command.now }
+    ensures bound { IfSome result (λ i. i < 65536) }
+{
+    match command.parameter {
+        Some(other) if command.opcode == STATUS => Some(slot_of(command.connection, other)),
+        _ => None,
+    }
+}
+
+/// Whether a command is of a connection.
+fn is_on(connection: Connection, command: &Sent) -> bool
+    ensures { result ≡ kept.is_on connection command.now }
+{
+    command.connection == connection
+}
+
+/// A number, or one more if that is said.
+fn one_more(count: usize, does: bool) -> usize
+    requires { count < 2 ^ 63 }
+    ensures { result ≡ count + cond does 1 0 }
+{
+    if does { count + 1 } else { count }
+}
+
+/// A number, or one less if that is said.
+fn one_less(count: usize, does: bool) -> usize
+    requires { cond does 1 0 ≤ count }
+    ensures { result + cond does 1 0 ≡ count }
+{
+    if does { count - 1 } else { count }
+}
+
+impl Tallies {
+    /// Of no command.
+    pub fn none() -> Tallies
+        ensures { kept.IsKept [] result }
+    {
+        Tallies {
+            names: Tally::none(),
+            fences: Tally::none(),
+            lines: Tally::none(),
+            asked: Tally::none(),
+            first: 0,
+            second: 0,
+        }
+    }
+
+    /// One more came.
+    pub fn add(&mut self, command: &Sent)
+        requires { kept.IsFew self.old }
+        ensures { (xs : List sents.Sent) → kept.IsKept xs self.old
+            → kept.IsKept (xs ++ command.now ∷ []) self.new }
+    {
+        self.names.add(by_name(command));
+        self.fences.add(by_fence(command));
+        self.lines.add(by_line(command));
+        self.asked.add(by_asked(command));
+        self.first = one_more(self.first, is_on(Connection::First, command));
+        self.second = one_more(self.second, is_on(Connection::Second, command));
+    }
+
+    /// One isn't outstanding any more.
+    pub fn subtract(&mut self, command: &Sent)
+        requires { kept.IsCounted command.now self.old }
+        ensures { (xs : List sents.Sent) (i : ℕ) → i < length xs → command.now ≡ command_at xs i
+            → kept.IsKept xs self.old → kept.IsKept (remove xs i) self.new }
+    {
+        self.names.subtract(by_name(command));
+        self.fences.subtract(by_fence(command));
+        self.lines.subtract(by_line(command));
+        self.asked.subtract(by_asked(command));
+        self.first = one_less(self.first, is_on(Connection::First, command));
+        self.second = one_less(self.second, is_on(Connection::Second, command));
+    }
+}
