@@ -69,21 +69,21 @@ named_slot via n s h =
     same k = grind (arith, nat_tests)
 
 pub named_none : (via : Connection) (n : ℕ) (cs : List ℕ) (xs ys : List Sent) (slot k : ℕ) → ys ≡ xs
-    → slot ≡ slot_of via n → slot < 65536 → IsTally by_name cs ys → k ≡ get_or cs slot 0 → k ≡ 0
+    → slot ≡ slot_of via n → IsTally by_name cs ys → k ≡ get_or cs slot 255 → k ≡ 0
     → list_any (is_named via n) xs ≡ false
-named_none via n cs xs ys slot k same at l h e none =
+named_none via n cs xs ys slot k same at h e none =
     none_counted (is_named via n) (λ s. is_it (by_name s) slot)
     (λ s q. ap (is_it (by_name s)) at ∙ named_slot via n s q) xs
-    (ap (count_by (λ s. is_it (by_name s) slot)) (sym same) ∙ sym (h slot l (omega (arith, e, none))) ∙ sym e ∙ none)
+    (ap (count_by (λ s. is_it (by_name s) slot)) (sym same) ∙ sym (h slot (omega (arith, e, none))) ∙ sym e ∙ none)
 
 pub named_alone : (via : Connection) (n : ℕ) (cs : List ℕ) (xs ys : List Sent) (slot k i : ℕ) → ys ≡ xs
-    → slot ≡ slot_of via n → slot < 65536 → IsTally by_name cs ys → k ≡ get_or cs slot 0 → k ≡ 1 → i < length xs
+    → slot ≡ slot_of via n → IsTally by_name cs ys → k ≡ get_or cs slot 255 → k ≡ 1 → i < length xs
     → is_named via n (command_at xs i) ≡ true → Some i ≡ position (is_named via n) xs
-named_alone via n cs xs ys slot k i same at l h e one b named =
+named_alone via n cs xs ys slot k i same at h e one b named =
     let counts = λ (s : Sent) (q : is_named via n s ≡ true). ap (is_it (by_name s)) at ∙ named_slot via n s q in
     sym (place_at (is_named via n) xs i b
     (alone (is_named via n) (λ s. is_it (by_name s) slot) counts xs i b
-    (ap (count_by (λ s. is_it (by_name s) slot)) (sym same) ∙ sym (h slot l (omega (arith, e, one))) ∙ sym e ∙ one)
+    (ap (count_by (λ s. is_it (by_name s) slot)) (sym same) ∙ sym (h slot (omega (arith, e, one))) ∙ sym e ∙ one)
     (counts (command_at xs i) named)) named)
 
 -- ---- who is kept back
@@ -138,24 +138,24 @@ own_slot y h =
 
 -- a sequential command that is alone in its line
 pub alone_in_line : (y : Sent) (cs : List ℕ) (xs ys : List Sent) (slot k i : ℕ) → ys ≡ xs
-    → slot ≡ slot_of y.connection y.unit → slot < 65536 → IsTally by_line cs ys → k ≡ get_or cs slot 0
+    → slot ≡ slot_of y.connection y.unit → IsTally by_line cs ys → k ≡ get_or cs slot 255
     → is_sequential y.opcode ≡ true → i < length xs → y ≡ command_at xs i → k ≡ 1
     → list_any (keeps_back y) (take i xs) ≡ false
-alone_in_line y cs xs ys slot k i same at l h e seq b is one =
+alone_in_line y cs xs ys slot k i same at h e seq b is one =
     alone (keeps_back y) (λ s. is_it (by_line s) slot) (λ s q. ap (is_it (by_line s)) at ∙ line_slot y s q) xs i b
-    (ap (count_by (λ s. is_it (by_line s) slot)) (sym same) ∙ sym (h slot l (omega (arith, e, one))) ∙ sym e ∙ one)
+    (ap (count_by (λ s. is_it (by_line s) slot)) (sym same) ∙ sym (h slot (omega (arith, e, one))) ∙ sym e ∙ one)
     (ap (λ s. is_it (by_line s) slot) (sym is) ∙ ap (is_it (by_line y)) at ∙ own_slot y seq)
 
 -- one that isn't, where none in its line is sequential
 pub none_in_line : (y : Sent) (cs : List ℕ) (xs ys : List Sent) (slot k i : ℕ) → ys ≡ xs
-    → slot ≡ slot_of y.connection y.unit → slot < 65536 → IsTally by_fence cs ys → k ≡ get_or cs slot 0
+    → slot ≡ slot_of y.connection y.unit → IsTally by_fence cs ys → k ≡ get_or cs slot 255
     → is_sequential y.opcode ≡ false → k ≡ 0 → list_any (keeps_back y) (take i xs) ≡ false
-none_in_line y cs xs ys slot k i same at l h e seq empty =
+none_in_line y cs xs ys slot k i same at h e seq empty =
     let q = λ (s : Sent). is_it (by_fence s) slot in
     let whole : count_by q (take i xs) + count_by q (drop i xs) ≡ count_by q xs =
     sym (sum_by-append (λ s. cond (q s) 1 0) (take i xs) (drop i xs)) ∙ ap (count_by q) (take-append-drop i xs) in
     let none : count_by q xs ≡ 0 =
-    ap (count_by q) (sym same) ∙ sym (h slot l (omega (arith, e, empty))) ∙ sym e ∙ empty in
+    ap (count_by q) (sym same) ∙ sym (h slot (omega (arith, e, empty))) ∙ sym e ∙ empty in
     none_counted (keeps_back y) q (λ s r. ap (is_it (by_fence s)) at ∙ fence_slot y s seq r) (take i xs)
     (omega (arith, whole, none))
 
@@ -207,20 +207,20 @@ untold via n slot figure time at s h =
     (λ s q. ap (is_it (by_name s)) at ∙ named_slot via n s q) s h)
 
 pub told_none : (via : Connection) (n : ℕ) (figure time : Option ℕ) (cs : List ℕ) (xs ys : List Sent) (slot k : ℕ)
-    → ys ≡ xs → slot ≡ slot_of via n → slot < 65536 → IsTally by_name cs ys → k ≡ get_or cs slot 0 → k ≡ 0
+    → ys ≡ xs → slot ≡ slot_of via n → IsTally by_name cs ys → k ≡ get_or cs slot 255 → k ≡ 0
     → xs ≡ map (tells via n figure time) xs
-told_none via n figure time cs xs ys slot k same at l h e none =
+told_none via n figure time cs xs ys slot k same at h e none =
     sym (map_none (λ s. is_it (by_name s) slot) (tells via n figure time) (untold via n slot figure time at) xs
-    (ap (count_by (λ s. is_it (by_name s) slot)) (sym same) ∙ sym (h slot l (omega (arith, e, none))) ∙ sym e ∙ none))
+    (ap (count_by (λ s. is_it (by_name s) slot)) (sym same) ∙ sym (h slot (omega (arith, e, none))) ∙ sym e ∙ none))
 
 pub told_alone : (via : Connection) (n : ℕ) (figure time : Option ℕ) (cs : List ℕ) (xs ys zs : List Sent)
-    (slot k i : ℕ) (x y : Sent) → ys ≡ xs → slot ≡ slot_of via n → slot < 65536 → IsTally by_name cs ys
-    → k ≡ get_or cs slot 0 → k ≡ 1 → i < length xs → is_named via n (command_at xs i) ≡ true → x ≡ command_at xs i
+    (slot k i : ℕ) (x y : Sent) → ys ≡ xs → slot ≡ slot_of via n → IsTally by_name cs ys
+    → k ≡ get_or cs slot 255 → k ≡ 1 → i < length xs → is_named via n (command_at xs i) ≡ true → x ≡ command_at xs i
     → y ≡ tells via n figure time x → zs ≡ set ys i y → zs ≡ map (tells via n figure time) xs
-told_alone via n figure time cs xs ys zs slot k i x y same at l h e one b named is put new =
+told_alone via n figure time cs xs ys zs slot k i x y same at h e one b named is put new =
     new ∙ ap (λ q. set q i y) same ∙ ap (set xs i) (put ∙ ap (tells via n figure time) is)
     ∙ sym (map_alone (λ s. is_it (by_name s) slot) (tells via n figure time) (untold via n slot figure time at) xs i b
-    (ap (count_by (λ s. is_it (by_name s) slot)) (sym same) ∙ sym (h slot l (omega (arith, e, one))) ∙ sym e ∙ one)
+    (ap (count_by (λ s. is_it (by_name s) slot)) (sym same) ∙ sym (h slot (omega (arith, e, one))) ∙ sym e ∙ one)
     (ap (is_it (by_name (command_at xs i))) at ∙ named_slot via n (command_at xs i) named))
 
 -- a poll of a command is counted by that
@@ -254,21 +254,21 @@ unleft y slot at s h =
     (without (polls y) (λ s. is_it (by_asked s) slot) (λ s q. ap (is_it (by_asked s)) at ∙ asked_slot y s q) s h)
 
 pub left_none : (y : Sent) (cs : List ℕ) (xs ys : List Sent) (slot k : ℕ) → ys ≡ xs
-    → slot ≡ slot_of y.connection y.reference → slot < 65536 → IsTally by_asked cs ys → k ≡ get_or cs slot 0 → k ≡ 0
+    → slot ≡ slot_of y.connection y.reference → IsTally by_asked cs ys → k ≡ get_or cs slot 255 → k ≡ 0
     → xs ≡ map (leaves y) xs
-left_none y cs xs ys slot k same at l h e empty =
+left_none y cs xs ys slot k same at h e empty =
     sym (map_none (λ s. is_it (by_asked s) slot) (leaves y) (unleft y slot at) xs
-    (ap (count_by (λ s. is_it (by_asked s) slot)) (sym same) ∙ sym (h slot l (omega (arith, e, empty))) ∙ sym e
+    (ap (count_by (λ s. is_it (by_asked s) slot)) (sym same) ∙ sym (h slot (omega (arith, e, empty))) ∙ sym e
     ∙ empty))
 
 pub left_alone : (y : Sent) (cs : List ℕ) (xs ys zs : List Sent) (slot k i : ℕ) (s t : Sent) → ys ≡ xs
-    → slot ≡ slot_of y.connection y.reference → slot < 65536 → IsTally by_asked cs ys → k ≡ get_or cs slot 0 → k ≡ 1
+    → slot ≡ slot_of y.connection y.reference → IsTally by_asked cs ys → k ≡ get_or cs slot 255 → k ≡ 1
     → i < length xs → polls y (command_at xs i) ≡ true → s ≡ command_at xs i → t ≡ leaves y s → zs ≡ set ys i t
     → zs ≡ map (leaves y) xs
-left_alone y cs xs ys zs slot k i s t same at l h e one b polled is put new =
+left_alone y cs xs ys zs slot k i s t same at h e one b polled is put new =
     new ∙ ap (λ q. set q i t) same ∙ ap (set xs i) (put ∙ ap (leaves y) is)
     ∙ sym (map_alone (λ s. is_it (by_asked s) slot) (leaves y) (unleft y slot at) xs i b
-    (ap (count_by (λ s. is_it (by_asked s) slot)) (sym same) ∙ sym (h slot l (omega (arith, e, one))) ∙ sym e ∙ one)
+    (ap (count_by (λ s. is_it (by_asked s) slot)) (sym same) ∙ sym (h slot (omega (arith, e, one))) ∙ sym e ∙ one)
     (ap (is_it (by_asked (command_at xs i))) at ∙ asked_slot y (command_at xs i) polled))
 
 -- the end of a poll of the oldest command tells its figure to those of a name, after those that polled it were left

@@ -56,59 +56,59 @@ less n h = grind (arith, nat_tests)
 
 pub tally_push : (by : Sent → Option ℕ) (cs ds : List ℕ) (xs : List Sent) (s : Sent) (o : Option ℕ) → o ≡ by s
     → IsTally by cs xs
-    → ((i : ℕ) → i < 65536 → get_or ds i 0 ≡ (if is_it o i then more (get_or cs i 0) else get_or cs i 0))
+    → ((i : ℕ) → get_or ds i 255 ≡ (if is_it o i then more (get_or cs i 255) else get_or cs i 255))
     → IsTally by ds (xs ++ s ∷ [])
-tally_push by cs ds xs s o e h k i l m =
+tally_push by cs ds xs s o e h k i m =
     let count = sum_by_push (λ x. cond (is_it (by x) i) 1 0) xs s in
-    by_bool (is_it o i) (k i l) (ap (λ q. is_it q i) (sym e)) count
+    by_bool (is_it o i) (k i) (ap (λ q. is_it q i) (sym e)) count
   where
-    by_bool : (b : Bool) → get_or ds i 0 ≡ (if b then more (get_or cs i 0) else get_or cs i 0)
+    by_bool : (b : Bool) → get_or ds i 255 ≡ (if b then more (get_or cs i 255) else get_or cs i 255)
         → is_it (by s) i ≡ b
         → count_by (λ x. is_it (by x) i) (xs ++ s ∷ []) ≡ count_by (λ x. is_it (by x) i) xs + cond (is_it (by s) i) 1 0
-        → get_or ds i 0 ≡ count_by (λ x. is_it (by x) i) (xs ++ s ∷ [])
-    by_bool true q at count = by_many (nat_le 255 (get_or cs i 0)) refl q
+        → get_or ds i 255 ≡ count_by (λ x. is_it (by x) i) (xs ++ s ∷ [])
+    by_bool true q at count = by_many (nat_le 255 (get_or cs i 255)) refl q
       where
-        by_many : (b : Bool) → nat_le 255 (get_or cs i 0) ≡ b
-            → get_or ds i 0 ≡ (if b then 255 else get_or cs i 0 + 1)
-            → get_or ds i 0 ≡ count_by (λ x. is_it (by x) i) (xs ++ s ∷ [])
+        by_many : (b : Bool) → nat_le 255 (get_or cs i 255) ≡ b
+            → get_or ds i 255 ≡ (if b then 255 else get_or cs i 255 + 1)
+            → get_or ds i 255 ≡ count_by (λ x. is_it (by x) i) (xs ++ s ∷ [])
         by_many true n q = absurd (omega (arith, q, m))
         by_many false n q =
-            let old : get_or cs i 0 < 255 = omega (arith, q, m) in
-            omega (arith, q, count, h i l old, ap {B = ℕ} (λ x. cond x 1 0) at)
+            let old : get_or cs i 255 < 255 = omega (arith, q, m) in
+            omega (arith, q, count, h i old, ap {B = ℕ} (λ x. cond x 1 0) at)
     by_bool false q at count =
-        let old : get_or cs i 0 < 255 = omega (arith, q, m) in
-        omega (arith, q, count, h i l old, ap {B = ℕ} (λ x. cond x 1 0) at)
+        let old : get_or cs i 255 < 255 = omega (arith, q, m) in
+        omega (arith, q, count, h i old, ap {B = ℕ} (λ x. cond x 1 0) at)
 
 pub tally_remove : (by : Sent → Option ℕ) (cs ds : List ℕ) (xs : List Sent) (i : ℕ) (s : Sent) (o : Option ℕ)
     → o ≡ by s → IsTally by cs xs → i < length xs → s ≡ command_at xs i
-    → ((j : ℕ) → j < 65536 → get_or ds j 0 ≡ (if is_it o j then fewer (get_or cs j 0) else get_or cs j 0))
+    → ((j : ℕ) → get_or ds j 255 ≡ (if is_it o j then fewer (get_or cs j 255) else get_or cs j 255))
     → IsTally by ds (remove xs i)
-tally_remove by cs ds xs i s o e h l is k j m n =
+tally_remove by cs ds xs i s o e h l is k j n =
     let count = sum_by-remove (λ x. cond (is_it (by x) j) 1 0) xs i (sent_by First []) l in
-    by_bool (is_it o j) (k j m) (ap (λ x. is_it (by x) j) (sym is) ∙ ap (λ q. is_it q j) (sym e)) count
+    by_bool (is_it o j) (k j) (ap (λ x. is_it (by x) j) (sym is) ∙ ap (λ q. is_it q j) (sym e)) count
   where
-    by_bool : (b : Bool) → get_or ds j 0 ≡ (if b then fewer (get_or cs j 0) else get_or cs j 0)
+    by_bool : (b : Bool) → get_or ds j 255 ≡ (if b then fewer (get_or cs j 255) else get_or cs j 255)
         → is_it (by (command_at xs i)) j ≡ b
         → count_by (λ x. is_it (by x) j) (remove xs i) + cond (is_it (by (command_at xs i)) j) 1 0
         ≡ count_by (λ x. is_it (by x) j) xs
-        → get_or ds j 0 ≡ count_by (λ x. is_it (by x) j) (remove xs i)
-    by_bool true q at count = by_many (nat_le 255 (get_or cs j 0)) refl q
+        → get_or ds j 255 ≡ count_by (λ x. is_it (by x) j) (remove xs i)
+    by_bool true q at count = by_many (nat_le 255 (get_or cs j 255)) refl q
       where
-        by_many : (b : Bool) → nat_le 255 (get_or cs j 0) ≡ b
-            → get_or ds j 0 ≡ (if b then 255 else get_or cs j 0 - 1)
-            → get_or ds j 0 ≡ count_by (λ x. is_it (by x) j) (remove xs i)
+        by_many : (b : Bool) → nat_le 255 (get_or cs j 255) ≡ b
+            → get_or ds j 255 ≡ (if b then 255 else get_or cs j 255 - 1)
+            → get_or ds j 255 ≡ count_by (λ x. is_it (by x) j) (remove xs i)
         by_many true t q = absurd (omega (arith, q, n))
         by_many false t q =
-            let old : get_or cs j 0 < 255 = less (get_or cs j 0) t in
-            omega (arith, q, count, h j m old, ap {B = ℕ} (λ x. cond x 1 0) at)
+            let old : get_or cs j 255 < 255 = less (get_or cs j 255) t in
+            omega (arith, q, count, h j old, ap {B = ℕ} (λ x. cond x 1 0) at)
     by_bool false q at count =
-        let old : get_or cs j 0 < 255 = omega (arith, q, n) in
-        omega (arith, q, count, h j m old, ap {B = ℕ} (λ x. cond x 1 0) at)
+        let old : get_or cs j 255 < 255 = omega (arith, q, n) in
+        omega (arith, q, count, h j old, ap {B = ℕ} (λ x. cond x 1 0) at)
 
 pub tally_map : (by : Sent → Option ℕ) (f : Sent → Sent) → ((s : Sent) → by (f s) ≡ by s) → (cs : List ℕ)
     (xs : List Sent) → IsTally by cs xs → IsTally by cs (map f xs)
-tally_map by f e cs xs h i l m =
-    h i l m ∙ sym (count_map (λ x. is_it (by x) i) f (λ s. ap (λ q. is_it q i) (e s)) xs)
+tally_map by f e cs xs h i m =
+    h i m ∙ sym (count_map (λ x. is_it (by x) i) f (λ s. ap (λ q. is_it q i) (e s)) xs)
 
 -- ---- places
 -- none of the first is sought, and one more isn't
@@ -211,7 +211,14 @@ counted_one : (p : Sent → Bool) (xs : List Sent) (i n : ℕ) (s : Sent) → n 
 counted_one p xs i n s h l is =
     omega (arith, h, count_at p xs i (sent_by First []) l, ap {B = ℕ} (λ x. cond (p x) 1 0) is)
 
-pub kept_counted : (xs : List Sent) (kinds : Tallies) (i : ℕ) (s : Sent) → IsKept xs kinds → i < length xs
+-- of no command each count may be begun anew
+pub begun : {A : Type 0} (xs : List Sent) (old new : Tallies A) → length xs ≡ 0 → IsKept xs old
+    → (IsKept [] old → IsKept [] new) → IsKept xs new
+begun [] old new e k f = f k
+begun (x ∷ xs) old new e k f = absurd (omega (arith, e))
+
+pub kept_counted : {A : Type 0} (xs : List Sent) (kinds : Tallies A) (i : ℕ) (s : Sent) → IsKept xs kinds
+    → i < length xs
     → s ≡ command_at xs i → IsCounted s kinds
 kept_counted xs kinds i s k l is = record {
   first = counted_one (is_on First) xs i _ s k.first l is;
@@ -222,7 +229,7 @@ kept_counted xs kinds i s k l is = record {
 abbrev frame : Sent → Connection × (ℕ × (ℕ × (ℕ × Option ℕ)))
 frame s = (s.connection, (s.reference, (s.unit, (s.opcode, s.parameter))))
 
-kept_map : (f : Sent → Sent) → ((s : Sent) → frame (f s) ≡ frame s) → (xs : List Sent) (kinds : Tallies)
+kept_map : {A : Type 0} (f : Sent → Sent) → ((s : Sent) → frame (f s) ≡ frame s) → (xs : List Sent) (kinds : Tallies A)
     → IsKept xs kinds → IsKept (map f xs) kinds
 kept_map f same xs kinds k = record {
   names = tally_map by_name f (λ s. ap (λ t. Some (slot_of t.0 t.1.0)) (same s)) _ xs k.names;
@@ -237,14 +244,15 @@ kept_map f same xs kinds k = record {
   second = k.second ∙ sym (count_map (is_on Second) f (λ s. ap (λ t. same_connection t.0 Second) (same s)) xs);
 }
 
-pub kept_leaves : (y : Sent) (xs : List Sent) (kinds : Tallies) → IsKept xs kinds → IsKept (map (leaves y) xs) kinds
+pub kept_leaves : {A : Type 0} (y : Sent) (xs : List Sent) (kinds : Tallies A) → IsKept xs kinds
+    → IsKept (map (leaves y) xs) kinds
 kept_leaves y = kept_map (leaves y) (λ s. by_bool (polls y s) s)
   where
     by_bool : (b : Bool) (s : Sent) → frame (if b then record s { asked = left s.asked } else s) ≡ frame s
     by_bool true s = refl
     by_bool false s = refl
 
-pub kept_tells : (via : Connection) (n : ℕ) (figure time : Option ℕ) (xs : List Sent) (kinds : Tallies)
+pub kept_tells : {A : Type 0} (via : Connection) (n : ℕ) (figure time : Option ℕ) (xs : List Sent) (kinds : Tallies A)
     → IsKept xs kinds → IsKept (map (tells via n figure time) xs) kinds
 kept_tells via n figure time = kept_map (tells via n figure time) (λ s. by_bool (is_named via n s) s)
   where

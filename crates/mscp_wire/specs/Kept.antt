@@ -48,31 +48,31 @@ more count = if nat_le 255 count then 255 else count + 1
 abbrev pub fewer : ℕ → ℕ
 fewer count = if nat_le 255 count then 255 else count - 1
 
--- so many of the commands fall to each number, if fewer than 255 are counted
+-- so many of the commands fall to each number, if fewer than 255 are counted. Of a number without a count nobody knows
 abbrev pub IsTally : (Sent → Option ℕ) → List ℕ → List Sent → Type 0
 IsTally by counts xs =
-    (i : ℕ) → i < 65536 → get_or counts i 0 < 255 → get_or counts i 0 ≡ count_by (λ s. is_it (by s) i) xs
+    (i : ℕ) → get_or counts i 255 < 255 → get_or counts i 255 ≡ count_by (λ s. is_it (by s) i) xs
 
 -- a command is of a connection
 abbrev pub is_on : Connection → Sent → Bool
 is_on via s = same_connection s.connection via
 
 -- these are the counts of the commands: by their names, their units and what they ask, and of each connection
-pub record IsKept (xs : List Sent) (kinds : Tallies) : Type 0 where
-  pub names : IsTally by_name kinds.names.counts xs
-  pub fences : IsTally by_fence kinds.fences.counts xs
-  pub lines : IsTally by_line kinds.lines.counts xs
-  pub asked : IsTally by_asked kinds.asked.counts xs
+pub record IsKept {A : Type 0} (xs : List Sent) (kinds : Tallies A) : Type 0 where
+  pub names : IsTally by_name kinds.names.counts.items xs
+  pub fences : IsTally by_fence kinds.fences.counts.items xs
+  pub lines : IsTally by_line kinds.lines.counts.items xs
+  pub asked : IsTally by_asked kinds.asked.counts.items xs
   pub first : kinds.first ≡ count_by (is_on First) xs
   pub second : kinds.second ≡ count_by (is_on Second) xs
 
 -- the numbers of each connection's may grow
-pub record IsFew (kinds : Tallies) : Type 0 where
+pub record IsFew {A : Type 0} (kinds : Tallies A) : Type 0 where
   pub first : kinds.first < 2 ^ 63
   pub second : kinds.second < 2 ^ 63
 
 -- and a command is among those
-pub record IsCounted (s : Sent) (kinds : Tallies) : Type 0 where
+pub record IsCounted {A : Type 0} (s : Sent) (kinds : Tallies A) : Type 0 where
   pub first : cond (is_on First s) 1 0 ≤ kinds.first
   pub second : cond (is_on Second s) 1 0 ≤ kinds.second
 

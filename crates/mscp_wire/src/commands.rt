@@ -12,7 +12,7 @@ use crate::outstanding::is_apart;
 use crate::polls::{asks_oldest, leave_all, leaves, tell_all, tells};
 use crate::sent::{Sent, is_ordered, is_sequential};
 use crate::tallies::{Tallies, by_asked};
-use crate::tally::slot_of;
+use crate::tally::{SLOTS, slot_of};
 use mscp_drive::{Connection, OutOfMemory};
 use std::alloc::{AllocError, Allocator};
 use std::marker::Model;
@@ -24,9 +24,9 @@ pub struct Commands<A: Allocator> {
     /// How many commands came so far. It may wrap: from it and the two below a place is only guessed.
     came: u32,
     /// Of each number of names how many commands came before the last one that has it, and before the last poll of it.
-    last: [u32; 65536],
-    last_asked: [u32; 65536],
-    tallies: Tallies,
+    last: Vec<u32, A>,
+    last_asked: Vec<u32, A>,
+    tallies: Tallies<A>,
 }
 
 // A clause sees the list of the commands.
@@ -42,6 +42,15 @@ impl<A: Allocator> Model for Commands<A> {
     ghost invariant = { λ c. IsKept (sents c.list.items) c.tallies };
 }
 
+/// Keeps of a number, if there is one, how many commands came before.
+fn note<A: Allocator>(list: &mut Vec<u32, A>, slot: Option<usize>, came: u32) {
+    if let Some(slot) = slot {
+        if slot < list.len() {
+            list[slot] = came;
+        }
+    }
+}
+
 impl<A: Allocator + Copy> Commands<A> {
     /// None.
     pub fn new(alloc: A) -> Commands<A>
@@ -50,9 +59,9 @@ impl<A: Allocator + Copy> Commands<A> {
         Commands {
             list: Vec::new(alloc),
             came: 0,
-            last: [0; 65536],
-            last_asked: [0; 65536],
-            tallies: Tallies::none(),
+            last: Vec::new(alloc),
+            last_asked: Vec::new(alloc),
+            tallies: Tallies::none(alloc),
         }
     }
 
@@ -124,13 +133,13 @@ impl<A: Allocator + Copy> Commands<A> {
     }
 
     /// Where the command stands before which so many came, if it is the one that is sought.
-    fn guessed(&self, arrival: u32, sought: &Sought) -> Option<usize>
+    fn guessed(&self, arrival: Option<u32>, sought: &Sought) -> Option<usize>
         ensures bound { IfSome result (λ i. i < length self.now) }
         ensures sought { IfSome result (λ i. is_sought sought.now (wire.command_at self.now i) ≡ true) }
     {
         match self
             .list
-            .binary_search_by_key(&arrival, |held| held.arrival)
+            .binary_search_by_key(&arrival?, |held| held.arrival)
         {
             Ok(place) if self.is_at(place, sought) => Some(place),
             _ => None,
@@ -157,7 +166,7 @@ impl<A: Allocator + Copy> Commands<A> {
         }
         if count == 1 {
             let sought = Sought::Named(connection, reference);
-            if let Some(place) = self.guessed(self.last[slot], &sought) {
+            if let Some(place) = self.guessed(self.last.get(slot).copied(), &sought) {
                 return Some(place);
             }
         }
@@ -206,20 +215,33 @@ impl<A: Allocator + Copy> Commands<A> {
             || !has(self.before(place), &Sought::Keeping(*command))
     }
 
+    /// Begins to count, if no command is outstanding and nothing was counted so far.
+    fn begin(&mut self) -> Result<(), AllocError>
+        ensures { self.new ≡ self.old }
+    {
+        if self.len() > 0 || !self.tallies.names.is_unknown() {
+            return Ok(());
+        }
+        self.tallies.begin()?;
+        self.last.resize(SLOTS, 0)?;
+        self.last_asked.resize(SLOTS, 0)?;
+        Ok(())
+    }
+
     /// One more came.
     pub fn push(&mut self, command: Sent) -> Result<(), AllocError>
         ensures { OnOk result (self.new ≡ self.old ++ command ∷ []) }
     {
+        self.begin()?;
         let held = Held {
             sent: command,
             arrival: self.came,
         };
         let held = Box::new(*self.list.allocator(), held)?;
         self.list.push(held)?;
-        self.last[slot_of(command.connection, command.reference)] = self.came;
-        if let Some(slot) = by_asked(&command) {
-            self.last_asked[slot] = self.came;
-        }
+        let slot = slot_of(command.connection, command.reference);
+        note(&mut self.last, Some(slot), self.came);
+        note(&mut self.last_asked, by_asked(&command), self.came);
         self.came = self.came.wrapping_add(1);
         self.tallies.add(&command);
         Ok(())
@@ -268,7 +290,7 @@ impl<A: Allocator + Copy> Commands<A> {
         }
         if count == 1 {
             let sought = Sought::Named(name.0, name.1);
-            if let Some(place) = self.guessed(self.last[slot], &sought) {
+            if let Some(place) = self.guessed(self.last.get(slot).copied(), &sought) {
                 let command = self.at(place);
                 put_at(&mut self.list, place, tells(name, figure, time, &command));
                 return;
@@ -287,7 +309,10 @@ impl<A: Allocator + Copy> Commands<A> {
             return;
         }
         if count == 1 {
-            if let Some(place) = self.guessed(self.last_asked[slot], &Sought::PollOf(*ended)) {
+            if let Some(place) = self.guessed(
+                self.last_asked.get(slot).copied(),
+                &Sought::PollOf(*ended),
+            ) {
                 let other = self.at(place);
                 put_at(&mut self.list, place, leaves(ended, &other));
                 return;

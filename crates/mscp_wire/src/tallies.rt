@@ -10,18 +10,19 @@ use crate::answer::STATUS;
 use crate::sent::{Sent, is_ordered, is_sequential};
 use crate::tally::{Tally, slot_of};
 use mscp_drive::Connection;
+use std::alloc::{AllocError, Allocator};
 
 /// How many commands are outstanding of each kind.
-#[derive(Clone, Copy)]
-pub struct Tallies {
+#[derive(Drop)]
+pub struct Tallies<A: Allocator> {
     /// By their names.
-    pub names: Tally,
+    pub names: Tally<A>,
     /// By their units, of those that are sequential.
-    pub fences: Tally,
+    pub fences: Tally<A>,
     /// By their units, of those that are sequential or have their place beside such.
-    pub lines: Tally,
+    pub lines: Tally<A>,
     /// Polls, by the names of the commands that they are about.
-    pub asked: Tally,
+    pub asked: Tally<A>,
     /// Of each connection.
     pub first: usize,
     pub second: usize,
@@ -29,16 +30,14 @@ pub struct Tallies {
 
 /// By which number a command's name is counted.
 fn by_name(command: &Sent) -> Option<usize>
-    ensures slot { result ≡ kept.by_name command.now }
-    ensures bound { IfSome result (λ i. i < 65536) }
+    ensures { result ≡ kept.by_name command.now }
 {
     Some(slot_of(command.connection, command.reference))
 }
 
 /// By which number a sequential command's unit is counted.
 fn by_fence(command: &Sent) -> Option<usize>
-    ensures slot { result ≡ kept.by_fence command.now }
-    ensures bound { IfSome result (λ i. i < 65536) }
+    ensures { result ≡ kept.by_fence command.now }
 {
     if is_sequential(command.opcode) {
         Some(slot_of(command.connection, u32::from(command.unit)))
@@ -49,8 +48,7 @@ fn by_fence(command: &Sent) -> Option<usize>
 
 /// The same of one that is sequential or has its place beside such.
 fn by_line(command: &Sent) -> Option<usize>
-    ensures slot { result ≡ kept.by_line command.now }
-    ensures bound { IfSome result (λ i. i < 65536) }
+    ensures { result ≡ kept.by_line command.now }
 {
     if is_sequential(command.opcode) || is_ordered(command.opcode) {
         Some(slot_of(command.connection, u32::from(command.unit)))
@@ -61,8 +59,7 @@ fn by_line(command: &Sent) -> Option<usize>
 
 /// By which number the name of the command is counted that this one is about, if it is a poll.
 pub fn by_asked(command: &Sent) -> Option<usize>
-    ensures slot { result ≡ kept.by_asked command.now }
-    ensures bound { IfSome result (λ i. i < 65536) }
+    ensures { result ≡ kept.by_asked command.now }
 {
     match command.parameter {
         Some(other) if command.opcode == STATUS => Some(slot_of(command.connection, other)),
@@ -93,19 +90,30 @@ fn one_less(count: usize, does: bool) -> usize
     if does { count - 1 } else { count }
 }
 
-impl Tallies {
-    /// Of no command.
-    pub fn none() -> Tallies
+impl<A: Allocator + Copy> Tallies<A> {
+    /// Of no command: there are none on either connection.
+    pub fn none(alloc: A) -> Tallies<A>
         ensures { kept.IsKept [] result }
     {
         Tallies {
-            names: Tally::none(),
-            fences: Tally::none(),
-            lines: Tally::none(),
-            asked: Tally::none(),
+            names: Tally::unknown(alloc),
+            fences: Tally::unknown(alloc),
+            lines: Tally::unknown(alloc),
+            asked: Tally::unknown(alloc),
             first: 0,
             second: 0,
         }
+    }
+
+    /// The same, with each count known, unless memory is refused.
+    pub fn begin(&mut self) -> Result<(), AllocError>
+        ensures { kept.IsKept [] self.old → kept.IsKept [] self.new }
+    {
+        self.names.begin()?;
+        self.fences.begin()?;
+        self.lines.begin()?;
+        self.asked.begin()?;
+        Ok(())
     }
 
     /// One more came.

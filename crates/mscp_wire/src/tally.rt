@@ -1,28 +1,29 @@
 // How many of the commands that are outstanding have something in common, by small numbers of it: most questions have
 // their answer in one count.
 
-ghost use Rattle.std.specs.Prelude.{◌≡◌, ℕ, ◌<◌, if◌then◌else◌, get_or, IfSome};
+ghost use Rattle.std.specs.Prelude.{◌≡◌, ℕ, ◌<◌, if◌then◌else◌, get_or, length, nat_eq, set};
 ghost use Rattle.mscp_wire.specs.Wire.{is_it};
 ghost use Rattle.mscp_wire.specs.Kept.{fewer, more, slot_of};
 
 use mscp_drive::Connection;
+use std::alloc::{AllocError, Allocator};
 
 /// How many numbers there are.
-const SLOTS: usize = 65536;
+pub const SLOTS: usize = 65536;
 
-/// A count that stays: so many or more.
+/// A count that stays: so many or more, or nobody knows how many.
 const MANY: u8 = 255;
 
 /// How many commands fall to each number.
-#[derive(Clone, Copy)]
-pub struct Tally {
-    pub counts: [u8; SLOTS],
+#[derive(Drop)]
+pub struct Tally<A: Allocator> {
+    /// That of each number, from 0 on. Of a number behind them nobody knows how many.
+    pub counts: Vec<u8, A>,
 }
 
 /// The number for a number of a connection. Two may have the same.
 pub fn slot_of(connection: Connection, number: u32) -> usize
-    ensures slot { result ≡ slot_of connection number }
-    ensures bound { result < 65536 }
+    ensures { result ≡ slot_of connection number }
 {
     let key = match connection {
         Connection::First => 2 * u64::from(number),
@@ -49,41 +50,72 @@ fn fewer(count: u8) -> u8
     }
 }
 
-impl Tally {
-    /// Of no command.
-    pub fn none() -> Tally
-        ensures { (i : ℕ) → get_or result.counts i 0 ≡ 0 }
+impl<A: Allocator> Tally<A> {
+    /// Nothing is known.
+    pub fn unknown(alloc: A) -> Tally<A>
+        ensures { (i : ℕ) → get_or result.counts.items i 255 ≡ 255 }
     {
-        Tally { counts: [0; SLOTS] }
+        Tally {
+            counts: Vec::new(alloc),
+        }
+    }
+
+    /// Whether nothing is known.
+    pub fn is_unknown(&self) -> bool
+        ensures { result ≡ nat_eq (length self.now.counts.items) 0 }
+    {
+        self.counts.is_empty()
+    }
+
+    /// No command falls to any number. Without memory some aren't known.
+    pub fn begin(&mut self) -> Result<(), AllocError>
+        ensures { (i : ℕ) → get_or self.new.counts.items i 255 < 255 → get_or self.new.counts.items i 255 ≡ 0 }
+    {
+        self.counts.clear();
+        self.counts.reserve(SLOTS)?;
+        for _ in 0..SLOTS {
+            self.counts.push(0)?;
+        }
+        Ok(())
     }
 
     /// How many fall to a number, or 255 if that isn't known.
     pub fn at(&self, slot: usize) -> u8
-        requires { slot < 65536 }
-        ensures { result ≡ get_or self.now.counts slot 0 }
+        ensures { result ≡ get_or self.now.counts.items slot 255 }
     {
-        self.counts[slot]
+        if slot < self.counts.len() {
+            self.counts[slot]
+        } else {
+            MANY
+        }
+    }
+
+    /// So many fall to a number, if that is counted.
+    fn put(&mut self, slot: usize, count: u8)
+        ensures { self.new.counts.items ≡ set self.old.counts.items slot count }
+    {
+        if slot < self.counts.len() {
+            self.counts[slot] = count;
+        }
     }
 
     /// One more does, if it is counted.
     pub fn add(&mut self, slot: Option<usize>)
-        requires { IfSome slot (λ i. i < 65536) }
-        ensures { (i : ℕ) → i < 65536 → get_or self.new.counts i 0
-            ≡ (if is_it slot i then more (get_or self.old.counts i 0) else get_or self.old.counts i 0) }
+        ensures { (i : ℕ) → get_or self.new.counts.items i 255 ≡ (if is_it slot i
+            then more (get_or self.old.counts.items i 255) else get_or self.old.counts.items i 255) }
     {
         if let Some(slot) = slot {
-            self.counts[slot] = more(self.counts[slot]);
+            self.put(slot, more(self.at(slot)));
         }
     }
 
     /// One fewer does, if it was counted.
     pub fn subtract(&mut self, slot: Option<usize>)
-        requires { IfSome slot (λ i. i < 65536) }
-        ensures { (i : ℕ) → i < 65536 → get_or self.new.counts i 0
-            ≡ (if is_it slot i then fewer (get_or self.old.counts i 0) else get_or self.old.counts i 0) }
+        ensures { (i : ℕ) → get_or self.new.counts.items i 255 ≡ (if is_it slot i
+            then fewer (get_or self.old.counts.items i 255) else get_or self.old.counts.items i 255) }
     {
         if let Some(slot) = slot {
-            self.counts[slot] = fewer(self.counts[slot]);
+            self.put(slot, fewer(self.at(slot)));
         }
     }
 }

@@ -6,15 +6,15 @@ use Rattle.mscp_wire.proofs.commands.Commands.leave.Goals as goal
 
 pub returns-then-count-eq0 : goal.returns-then-count-eq0
 returns-then-count-eq0 g c =
-    left_none c.args.ended.now c.self.inside.tallies.asked.counts c.args.self.now _ c.slot_of-slot.result
-    c.at-count.result c.self.view_is c.slot_of-slot.ensures.slot c.slot_of-slot.ensures.bound c.self.invariant.asked
+    left_none c.args.ended.now c.self.inside.tallies.asked.counts.items c.args.self.now _ c.slot_of-slot.result
+    c.at-count.result c.self.view_is c.slot_of-slot.ensures c.self.invariant.asked
     c.at-count.ensures c.if-count-eq0.true
 
 pub returns-in-Some : goal.returns-in-Some
 returns-in-Some g c =
-    left_alone c.args.ended.now c.self.inside.tallies.asked.counts c.args.self.now _ _ c.slot_of-slot.result
-    c.at-count.result c.in-Some.place c.at-other.result c.leaves.result c.self.view_is c.slot_of-slot.ensures.slot
-    c.slot_of-slot.ensures.bound c.self.invariant.asked c.at-count.ensures c.if-count-eq1.true c.in-Some.ensures.bound
+    left_alone c.args.ended.now c.self.inside.tallies.asked.counts.items c.args.self.now _ _ c.slot_of-slot.result
+    c.at-count.result c.in-Some.place c.at-other.result c.leaves.result c.self.view_is c.slot_of-slot.ensures
+    c.self.invariant.asked c.at-count.ensures c.if-count-eq1.true c.in-Some.ensures.bound
     c.in-Some.ensures.sought c.at-other.ensures c.leaves.ensures c.put_at.ensures.sents
 
 pub invariant_of-self : goal.invariant_of-self

@@ -7,13 +7,13 @@ use Rattle.mscp_wire.proofs.commands.Commands.place_named.Goals as goal
 pub returns-then-count-eq0-clause-place : goal.returns-then-count-eq0-clause-place
 returns-then-count-eq0-clause-place g c =
     sym (place_none (is_named c.args.connection c.args.reference) c.args.self.now
-    (named_none c.args.connection c.args.reference c.self.inside.tallies.names.counts c.args.self.now _
-    c.slot_of-slot.result c.at-count.result c.self.view_is c.slot_of-slot.ensures.slot c.slot_of-slot.ensures.bound
+    (named_none c.args.connection c.args.reference c.self.inside.tallies.names.counts.items c.args.self.now _
+    c.slot_of-slot.result c.at-count.result c.self.view_is c.slot_of-slot.ensures
     c.self.invariant.names c.at-count.ensures c.if-count-eq0.true))
 
 pub returns-in-Some-clause-place : goal.returns-in-Some-clause-place
 returns-in-Some-clause-place g c =
-    named_alone c.args.connection c.args.reference c.self.inside.tallies.names.counts c.args.self.now _
-    c.slot_of-slot.result c.at-count.result c.in-Some.place c.self.view_is c.slot_of-slot.ensures.slot
-    c.slot_of-slot.ensures.bound c.self.invariant.names c.at-count.ensures c.if-count-eq1.true
+    named_alone c.args.connection c.args.reference c.self.inside.tallies.names.counts.items c.args.self.now _
+    c.slot_of-slot.result c.at-count.result c.in-Some.place c.self.view_is c.slot_of-slot.ensures
+    c.self.invariant.names c.at-count.ensures c.if-count-eq1.true
     c.in-Some.ensures.bound c.in-Some.ensures.sought

@@ -9,7 +9,8 @@ use Rattle.mscp_wire.proofs.commands.Commands.remove.Goals as goal
 pub subtract-requires : goal.subtract-requires
 subtract-requires g c =
     let xs = c.self.inside.list.items in
-    let l : c.args.place < length (sents xs) = subst (λ ys. c.args.place < length ys) (sym c.self.view_is) c.requires in
+    let l : c.args.place < length (sents xs) = subst (λ ys. c.args.place < length ys) (sym c.self.view_is)
+    c.requires in
     kept_counted (sents xs) c.self.inside.tallies c.args.place c.into_inner.result.sent c.self.invariant l
     (ap (λ (h : Held). h.sent) c.into_inner.ensures
     ∙ sent_at xs c.args.place c.remove.result (omega (arith, l, many_sents xs)) c.remove.ensures.value)
@@ -17,7 +18,8 @@ subtract-requires g c =
 pub invariant_of-self : goal.invariant_of-self
 invariant_of-self g c =
     let xs = c.self.inside.list.items in
-    let l : c.args.place < length (sents xs) = subst (λ ys. c.args.place < length ys) (sym c.self.view_is) c.requires in
+    let l : c.args.place < length (sents xs) = subst (λ ys. c.args.place < length ys) (sym c.self.view_is)
+    c.requires in
     subst (λ ys. IsKept ys c.subtract.new.self)
     (sym (ap sents c.remove.ensures.items ∙ sents_remove xs c.args.place))
     (c.subtract.ensures (sents xs) c.args.place l

@@ -6,9 +6,9 @@ use Rattle.mscp_wire.proofs.commands.Commands.stands_free.Goals as goal
 
 pub returns-then-is_sequential : goal.returns-then-is_sequential
 returns-then-is_sequential g c = λ one.
-    alone_in_line c.args.command.now c.self.inside.tallies.lines.counts c.args.self.now _ c.slot_of-slot.result
-    c.at.result c.args.place c.self.view_is (c.slot_of-slot.ensures.slot
-    ∙ ap (slot_of c.args.command.now.connection) c.from.ensures) c.slot_of-slot.ensures.bound
+    alone_in_line c.args.command.now c.self.inside.tallies.lines.counts.items c.args.self.now _ c.slot_of-slot.result
+    c.at.result c.args.place c.self.view_is (c.slot_of-slot.ensures
+    ∙ ap (slot_of c.args.command.now.connection) c.from.ensures)
     c.self.invariant.lines c.at.ensures (sym c.is_sequential.ensures ∙ c.if-is_sequential.true) c.requires.bound
     c.requires.there (eqb-true c.at.result 1 one)
 
@@ -19,8 +19,8 @@ returns-then-not-is_ordered g c = λ one.
 
 pub returns-else-not-is_ordered : goal.returns-else-not-is_ordered
 returns-else-not-is_ordered g c = λ none.
-    none_in_line c.args.command.now c.self.inside.tallies.fences.counts c.args.self.now _ c.slot_of-slot.result
-    c.at-else-not-is_ordered.result c.args.place c.self.view_is (c.slot_of-slot.ensures.slot
-    ∙ ap (slot_of c.args.command.now.connection) c.from.ensures)
-    c.slot_of-slot.ensures.bound c.self.invariant.fences c.at-else-not-is_ordered.ensures
+    none_in_line c.args.command.now c.self.inside.tallies.fences.counts.items c.args.self.now _ c.slot_of-slot.result
+    c.at-else-not-is_ordered.result c.args.place c.self.view_is (c.slot_of-slot.ensures
+    ∙ ap (slot_of c.args.command.now.connection) c.from.ensures) c.self.invariant.fences
+    c.at-else-not-is_ordered.ensures
     (sym c.is_sequential.ensures ∙ c.if-is_sequential.false) (eqb-true c.at-else-not-is_ordered.result 0 none)

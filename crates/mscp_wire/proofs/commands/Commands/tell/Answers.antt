@@ -6,15 +6,16 @@ use Rattle.mscp_wire.proofs.commands.Commands.tell.Goals as goal
 
 pub returns-then-count-eq0 : goal.returns-then-count-eq0
 returns-then-count-eq0 g c =
-    told_none c.args.name.0 c.args.name.1 c.args.figure c.args.time c.self.inside.tallies.names.counts c.args.self.now _
-    c.slot_of-slot.result c.at-count.result c.self.view_is c.slot_of-slot.ensures.slot c.slot_of-slot.ensures.bound
+    told_none c.args.name.0 c.args.name.1 c.args.figure c.args.time c.self.inside.tallies.names.counts.items
+    c.args.self.now _
+    c.slot_of-slot.result c.at-count.result c.self.view_is c.slot_of-slot.ensures
     c.self.invariant.names c.at-count.ensures c.if-count-eq0.true
 
 pub returns-in-Some : goal.returns-in-Some
 returns-in-Some g c =
-    told_alone c.args.name.0 c.args.name.1 c.args.figure c.args.time c.self.inside.tallies.names.counts
+    told_alone c.args.name.0 c.args.name.1 c.args.figure c.args.time c.self.inside.tallies.names.counts.items
     c.args.self.now _ _ c.slot_of-slot.result c.at-count.result c.in-Some.place c.at-command.result c.tells.result
-    c.self.view_is c.slot_of-slot.ensures.slot c.slot_of-slot.ensures.bound c.self.invariant.names c.at-count.ensures
+    c.self.view_is c.slot_of-slot.ensures c.self.invariant.names c.at-count.ensures
     c.if-count-eq1.true c.in-Some.ensures.bound c.in-Some.ensures.sought c.at-command.ensures c.tells.ensures
     c.put_at.ensures.sents
 
