@@ -1,2 +1,3 @@
 mod Cylinders
+mod Found
 mod Reciprocals

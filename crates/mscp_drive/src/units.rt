@@ -95,11 +95,16 @@ impl Units {
         self.list.as_slice()
     }
 
-    /// The unit of this number, if there is one.
+    /// The unit of this number, if there is one. Most stand at the place of their number, so that is looked at first.
     pub fn find(&self, number: u16) -> Option<&Unit>
         ensures { option_copied result ≡ unit_found self.now number }
     {
-        self.list().iter().find(|unit| unit.number() == number)
+        let units = self.list();
+        let likely = usize::from(number);
+        if likely < units.len() && units[likely].number() == number {
+            return Some(&units[likely]);
+        }
+        units.iter().find(|unit| unit.number() == number)
     }
 }
 

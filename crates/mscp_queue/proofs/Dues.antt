@@ -11,7 +11,7 @@ idle_left r e = ap (λ t. cond t (left_of r) 0) e
 pub serving_left : (r : Record) → is_in_service r ≡ true → left_if_serving r ≡ left_of r
 serving_left r e = ap (λ t. cond t (left_of r) 0) e
 
-serving_cons : (r : Record) (rs : List Record) → sum_by left_if_serving (r ∷ rs) ≡ left_if_serving r
+pub serving_cons : (r : Record) (rs : List Record) → sum_by left_if_serving (r ∷ rs) ≡ left_if_serving r
     + sum_by left_if_serving rs
 serving_cons r rs = sum_by-cons left_if_serving r rs
 
@@ -24,7 +24,7 @@ items_append [] ys = refl
 items_append (x ∷ xs) ys = ap (λ rs. x.item ∷ rs) (items_append xs ys)
 
 -- one between others that are not in service
-serving_mid : (front : List Record) (z : Record) (back : List Record)
+pub serving_mid : (front : List Record) (z : Record) (back : List Record)
     → AreIdle front → AreIdle back → sum_by left_if_serving (front ++ z ∷ back) ≡ left_if_serving z
 serving_mid [] z back i j = search (arith, serving_cons z back, idle_serving back j)
 serving_mid (r ∷ front) z back i j = search (
@@ -34,16 +34,6 @@ serving_mid (r ∷ front) z back i j = search (
   idle_of r i.0,
   serving_mid front z back i.1 j,
 )
-
-serving_without : (front : List Record) (x : Record) (back : List Record) → is_in_service x ≡ false
-    → sum_by left_if_serving (front ++ x ∷ back) ≡ sum_by left_if_serving (front ++ back)
-serving_without [] x back e = search (arith, serving_cons x back, idle_left x e)
-serving_without (r ∷ front) x back e =
-    search (arith, serving_cons r (front ++ x ∷ back), serving_without front x back e, serving_cons r (front ++ back))
-
-idle_append : (xs ys : List Record) → AreIdle xs → AreIdle ys → AreIdle (xs ++ ys)
-idle_append [] ys i j = j
-idle_append (x ∷ xs) ys i j = (i.0, idle_append xs ys i.1 j)
 
 pub items_fallen : (n : ℕ) (ss : List Slot) → items (map (lowered_by n) ss) ≡ items ss
 items_fallen n [] = refl
@@ -64,7 +54,7 @@ filtered (r ∷ rs) =
     search (arith, sum_by-cons left_if_serving r rs, filtered rs, sum_by-cons left_of r (filter is_in_service rs))
 
 -- a record with this count of the blocks that passed its command
-abbrev with_passed : ℕ → Record → Record
+abbrev pub with_passed : ℕ → Record → Record
 with_passed n r = record r { passed = n }
 
 -- what a step at a place makes of records: n more blocks passed those in front of it
@@ -262,86 +252,6 @@ module _ (budget : ℕ) where
         let e : a + 1 + left_of x.item ≡ a + left_of x.item + 1 = omega arith in
         let rest = ap (λ k. told budget k (front ++ z ∷ back)) e ∙ told_stepped (a + left_of x.item) front d.1 i.1 in
         λ k. with_passed (p k) x.item ∷ rest k
-
-  -- ---- an end
-  module _ (y : Slot) (back : List Slot) (j : AreIdle (items back)) (was : is_in_service y.item ≡ true) where
-    serving_before : (front : List Slot) → AreIdle (items front)
-        → left_in_service (front ++ y ∷ back) ≡ left_of y.item
-    serving_before front i = ap (sum_by left_if_serving) (items_append front (y ∷ back))
-        ∙ serving_mid (items front) y.item (items back) i j ∙ serving_left y.item was
-
-    none_after : (front : List Slot) → AreIdle (items front)
-        → left_in_service (map (lowered_by (left_of y.item)) (front ++ back)) ≡ 0
-    none_after front i = ap (sum_by left_if_serving) (items_fallen (left_of y.item) (front ++ back)
-        ∙ items_append front back) ∙ idle_serving (items front ++ items back)
-        (idle_append (items front) (items back) i j)
-
-    -- each other due is at least what is left of it
-    pub end_enough : (a : ℕ) (front : List Slot) → AreDue budget a (front ++ y ∷ back)
-        → AreIdle (items front) → AllByRecursion (λ s. left_of y.item ≤ s.due) (front ++ back)
-    end_enough a [] d i = fallen_enough a (left_of y.item) back d.1
-    end_enough a (x ∷ front) d i =
-        let least = d.0.least in
-        (omega (arith, least, serving_before front i.1), end_enough (a + left_of x.item) front d.1 i.1)
-
-    pub due_ended : (a : ℕ) (front : List Slot) → AreDue budget a (front ++ y ∷ back)
-        → AreIdle (items front) → AreDue budget a (map (lowered_by (left_of y.item)) (front ++ back))
-    due_ended a [] d i = (fallen a (left_of y.item) back d.1).dues
-    due_ended a (x ∷ front) d i =
-        let least = d.0.least in
-        let most = d.0.most in
-        let s = serving_before front i.1 in
-        let t = none_after front i.1 in (
-          record {
-            bare = d.0.bare;
-            least = omega (arith, least, s, t);
-            most = omega (arith, most, least, s, t);
-          },
-          due_ended (a + left_of x.item) front d.1 i.1,
-        )
-
-    pub told_ended : (a : ℕ) (front : List Slot) → AreDue budget a (front ++ y ∷ back) → AreIdle (items front)
-        → told budget a (map (lowered_by (left_of y.item)) (front ++ back)) ≡ take (length front)
-        (told budget a (front ++ y ∷ back)) ++ drop (suc (length front)) (told budget a (front ++ y ∷ back))
-    told_ended a [] d i = (fallen a (left_of y.item) back d.1).same
-    told_ended a (x ∷ front) d i =
-        let n = left_of y.item in
-        let least = d.0.least in
-        let p : (last_end a (left_in_service (map (lowered_by n) (front ++ back))) x + budget) - (x.due - n)
-        ≡ (last_end a (left_in_service (front ++ y ∷ back)) x + budget) - x.due =
-        omega (arith, least, serving_before front i.1, none_after front i.1) in
-        λ k. with_passed (p k) x.item ∷ told_ended (a + left_of x.item) front d.1 i.1 k
-
-  -- ---- an abort of one that wasn't started
-  module _ (y : Slot) (back : List Slot) (idle : is_in_service y.item ≡ false) where
-    serving_same : (front : List Slot) → left_in_service (front ++ map (lowered_by (left_of y.item)) back)
-        ≡ left_in_service (front ++ y ∷ back)
-    serving_same front =
-        let n = left_of y.item in ap (sum_by left_if_serving) (items_append front (map (lowered_by n) back)
-        ∙ ap (λ rs. items front ++ rs) (items_fallen n back))
-        ∙ (sym (serving_without (items front) y.item (items back) idle)
-        ∙ sym (ap (sum_by left_if_serving) (items_append front (y ∷ back))))
-
-    pub abort_enough : (a : ℕ) (front : List Slot) → AreDue budget a (front ++ y ∷ back)
-        → AllByRecursion (λ s. left_of y.item ≤ s.due) back
-    abort_enough a [] d = fallen_enough a (left_of y.item) back d.1
-    abort_enough a (x ∷ front) d = abort_enough (a + left_of x.item) front d.1
-
-    pub due_aborted : (a : ℕ) (front : List Slot) → AreDue budget a (front ++ y ∷ back)
-        → AreDue budget a (front ++ map (lowered_by (left_of y.item)) back)
-    due_aborted a [] d = (fallen a (left_of y.item) back d.1).dues
-    due_aborted a (x ∷ front) d = (
-      subst (λ k. IsDue budget a k x) (sym (serving_same front)) d.0,
-      due_aborted (a + left_of x.item) front d.1,
-    )
-
-    pub told_aborted : (a : ℕ) (front : List Slot) → AreDue budget a (front ++ y ∷ back)
-        → told budget a (front ++ map (lowered_by (left_of y.item)) back) ≡ take (length front)
-        (told budget a (front ++ y ∷ back)) ++ drop (suc (length front)) (told budget a (front ++ y ∷ back))
-    told_aborted a [] d = (fallen a (left_of y.item) back d.1).same
-    told_aborted a (x ∷ front) d =
-        let p = ap (λ k. (last_end a k x + budget) - x.due) (serving_same front) in
-        λ k. with_passed (p k) x.item ∷ told_aborted (a + left_of x.item) front d.1 k
 
   -- ---- what a due tells
   pub late : (a : ℕ) (ss : List Slot) → AreDue budget a ss → AllByRecursion (λ s. a ≤ s.due) ss

@@ -30,6 +30,7 @@ pub mod Opens
 pub mod Ranging
 pub mod Seeking
 pub mod Dues
+pub mod Leaving
 pub mod BacklogSteps
 pub mod Backlogs
 pub mod LaneBits

@@ -1,9 +1,10 @@
 // The waiting commands, and how long each may still wait.
 
-ghost use Rattle.std.specs.Prelude.{◌≡◌, ◌+◌, ◌-◌, ◌*◌, ◌<◌, ◌≤◌, ◌^◌, ◌++◌, ◌∷◌, [], true, false, cond, length, map, take, drop, slice_index_or, sum_by, All};
-ghost use Rattle.mscp_queue.specs.Common.{position, AreApart, bare, has_name, names, clock_end, figure_at, figures, advanced, is_in_service, is_unstarted, left_if_serving, left_of, passed_by, record_at, step_charge, no_target, IsOnUnit, AreOnDrive, IsBest, IsOpenOn, cost_there, is_unfenced_at, kinds_of, lowered_by};
+ghost use Rattle.std.specs.Prelude.{◌≡◌, ◌+◌, ◌-◌, ◌<◌, ◌≤◌, ◌^◌, ◌++◌, ◌∷◌, [], true, false, cond, length, map, take, drop, slice_index_or, sum_by, All};
+ghost use Rattle.mscp_queue.specs.Common.{position, AreApart, bare, has_name, names, clock_end, advanced, is_in_service, is_unstarted, left_of, passed_by, record_at, step_charge, no_target, IsOnUnit, AreOnDrive, IsBest, IsOpenOn, cost_there, is_unfenced_at, kinds_of, lowered_by};
 
 mod restoring;
+mod telling;
 
 use crate::drive::Drive;
 use crate::name::Name;
@@ -11,8 +12,6 @@ use crate::record::Record;
 use crate::slots::{Content, Slots};
 use crate::start_key::Start;
 use crate::target::Target;
-use arrayvec::ArrayVec;
-use mscp_drive::Connection;
 use std::marker::Model;
 
 /// Where the clock is set back to 0, so that no due outgrows its number.
@@ -45,18 +44,6 @@ impl Model for Backlog {
         } };
 
     ghost invariant = { λ b. AreTimed b.budget b.clock b.total b.slots };
-}
-
-/// How many steps are left of the record, if it is in service.
-fn left_if_serving(record: &Record) -> u64
-    ensures value { result ≡ left_if_serving «record».now }
-    ensures small { result < 2 ^ 32 }
-{
-    if record.is_unstarted() {
-        0
-    } else {
-        u64::from(record.left())
-    }
 }
 
 /// Sets the clock back, if it is at its end: each due falls with it.
@@ -132,57 +119,6 @@ impl Backlog {
         self.slots.item(place)
     }
 
-    /// How many steps are left of a command in service behind the place.
-    fn left_behind(&self, place: usize) -> u64
-        requires few { length self.now.waiting ≤ 64 }
-        requires place { place < length self.now.waiting }
-        ensures value { result ≡ sum_by left_if_serving (drop (place + 1) self.now.waiting) }
-        ensures small { result ≤ 64 * 2 ^ 32 }
-    {
-        let mut left = 0;
-        for behind in 0..self.len() - (place + 1) {
-            left += left_if_serving(self.record(place + 1 + behind));
-        }
-        left
-    }
-
-    /// How many steps are left of all up to the place.
-    fn left_up_to(&self, place: usize) -> u64
-        requires few { length self.now.waiting ≤ 64 }
-        requires place { place < length self.now.waiting }
-        ensures value { result ≡ sum_by left_of (take (place + 1) self.now.waiting) }
-        ensures small { result ≤ 64 * 2 ^ 32 }
-    {
-        let mut left = 0;
-        for earlier in 0..place + 1 {
-            left += u64::from(self.record(earlier).left());
-        }
-        left
-    }
-
-    /// By how many blocks the command at the place was passed.
-    pub fn passed(&self, place: usize) -> u32
-        requires few { length self.now.waiting ≤ 64 }
-        requires place { place < length self.now.waiting }
-        ensures { result ≡ (record_at self.now.waiting place).passed }
-    {
-        let most = self.clock
-            + self.left_up_to(place)
-            + self.left_behind(place)
-            + u64::from(self.budget);
-        (most - self.slots.due(place)) as u32
-    }
-
-    /// The record at the place, whole.
-    pub fn told(&self, place: usize) -> Record
-        requires few { length self.now.waiting ≤ 64 }
-        requires place { place < length self.now.waiting }
-        ensures { result ≡ record_at self.now.waiting place }
-    {
-        let record = self.record(place);
-        record.resumed(record.done(), self.passed(place))
-    }
-
     /// The place of the command of this name, in order of arrival, if it waits.
     pub fn place_of(&self, name: Name) -> Option<usize>
         requires apart { AreApart (names self.now.waiting) }
@@ -197,30 +133,6 @@ impl Backlog {
         ensures { result ≡ slice_index_or self.now.targets place no_target }
     {
         self.slots.target(place)
-    }
-
-    /// The figure of the command at the place.
-    pub fn figure(&self, place: usize) -> u32
-        requires place { place < length self.now.waiting }
-        requires small { sum_by left_of self.now.waiting + self.now.budget < 2 ^ 32 }
-        ensures { result ≡ figure_at self.now.budget self.now.waiting place }
-    {
-        let record = self.slots.item(place);
-        if record.is_unstarted() {
-            (self.slots.due(place) - self.clock) as u32
-        } else {
-            record.left()
-        }
-    }
-
-    /// What the oldest command has left of the budget, where none is in service: by so many blocks may it still be passed.
-    /// Who came earlier was passed at least as often, so that this tells it for all.
-    pub fn unspent(&self) -> u32
-        requires some { 0 < length self.now.waiting }
-        requires idle { All (λ r. r.done ≡ 0) self.now.waiting }
-        ensures { result ≡ self.now.budget - (record_at self.now.waiting 0).passed }
-    {
-        (self.slots.due(0) - self.clock - u64::from(self.slots.item(0).left())) as u32
     }
 
     /// The best start on the drive at a place: of the commands to its unit that nobody in front keeps back, the first of the
@@ -263,26 +175,6 @@ impl Backlog {
             → All (λ a. a.drive ≡ (slice_index_or self.now.targets place no_target).drive) (drop (place + 1) self.now.targets) }
     {
         self.slots.are_of_its_unit(place)
-    }
-
-    /// Connection, reference number and figure of each command, in order of arrival. It isn't made part of its caller, since
-    /// the caller's caller would then have room for a list more than once on its stack.
-    #[inline(never)]
-    pub fn look(&self) -> ArrayVec<(Connection, u32, u32), 64>
-        requires few { length self.now.waiting ≤ 64 }
-        requires small { sum_by left_of self.now.waiting + self.now.budget < 2 ^ 32 }
-        ensures { result.items ≡ figures self.now.budget self.now.waiting }
-    {
-        let mut list = ArrayVec::new();
-        for place in 0..self.len() {
-            let record = self.record(place);
-            list.push((
-                record.connection(),
-                record.command().reference,
-                self.figure(place),
-            ));
-        }
-        list
     }
 
     /// Lets a command wait, behind all that wait.

@@ -45,15 +45,19 @@ fn without(mask: u64, other: u64) -> u64
     mask & !other
 }
 
-/// Clears the bit of a slot in each of the masks.
-fn clear_in_all(masks: &mut [u64], slot: usize)
+/// Clears the bit of a slot in the masks of all slots that are taken, sixteen at a time up to the last of them: few commands
+/// have the first slots. What the masks of the other slots are then doesn't matter.
+fn clear_in_taken(masks: &mut [u64; 64], slot: usize, taken: u64)
     requires { slot < 64 }
-    ensures cleared { (i : ℕ) → i < length masks.old
-        → IsSet false slot (slice_index_or masks.old i 0) (slice_index_or masks.new i 0) }
-    ensures long { length masks.new ≡ length masks.old }
+    ensures { (k : ℕ) → bit_at taken k ≡ 1 → IsSet false slot (slice_index_or masks.old k 0) (slice_index_or masks.new k 0) }
 {
-    for i in 0..masks.len() {
-        masks[i] = with_bit(masks[i], slot, false);
+    for part in 0..4 {
+        if taken >> (16 * part) == 0 {
+            return;
+        }
+        for other in 16 * part..16 * part + 16 {
+            masks[other] = with_bit(masks[other], slot, false);
+        }
     }
 }
 
@@ -185,9 +189,8 @@ impl Masks {
         with_bit(later, slot, false)
     }
 
-    /// The command of a slot leaves it, whose unit's drive stands at this place. `earlier` may stay as it is where no command
-    /// waits: `come` writes a slot's mask there, and nobody reads the mask before. If few wait they have the first slots, and
-    /// the others aren't looked at.
+    /// The command of a slot leaves it, whose unit's drive stands at this place. In `earlier` the masks of free slots may stay as
+    /// they are: `come` writes a slot's mask there, and nobody reads the mask before.
     pub fn leave(&mut self, slot: usize, drive: usize)
         requires slot { slot < 64 }
         requires drive { drive < 16 }
@@ -196,10 +199,6 @@ impl Masks {
         self.waiting = with_bit(self.waiting, slot, false);
         self.sequential = with_bit(self.sequential, slot, false);
         self.units[drive] = with_bit(self.units[drive], slot, false);
-        if self.waiting >= 1 << 16 {
-            clear_in_all(&mut self.earlier, slot);
-        } else if self.waiting != 0 {
-            clear_in_all(&mut self.earlier[..16], slot);
-        }
+        clear_in_taken(&mut self.earlier, slot, self.waiting);
     }
 }

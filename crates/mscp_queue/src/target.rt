@@ -1,7 +1,7 @@
 // The target of a waiting command.
 
 ghost use Rattle.std.specs.Prelude.{◌≡◌, ◌<◌, ◌≤◌, true, length};
-ghost use Rattle.mscp_queue.specs.Common.{position, target_of, unit_place, has_number, is_known, units_of, first_block};
+ghost use Rattle.mscp_queue.specs.Common.{position, target_of, unit_place, IsUnitList, has_number, is_known, units_of, first_block};
 
 use crate::drive::Drive;
 use crate::ranges::range_of;
@@ -25,13 +25,18 @@ fn find_place(drives: &[Drive], number: u16) -> Option<usize>
         .position(|drive| drive.unit.number() == number)
 }
 
-/// The place of the drive of a unit that is known.
+/// The place of the drive of a unit that is known. Most stand at the place of their number, so that is looked at first.
 #[tactic(auto, using(crate::proofs::Targets::place_found, crate::proofs::Targets::place_inside))]
 fn place_of_drive(drives: &[Drive], number: u16) -> usize
-    requires { is_known (units_of drives.now) number ≡ true }
+    requires known { is_known (units_of drives.now) number ≡ true }
+    requires units { IsUnitList (units_of drives.now) }
     ensures value { result ≡ unit_place (units_of drives.now) number }
     ensures inside { result < length drives.now }
 {
+    let likely = usize::from(number);
+    if likely < drives.len() && drives[likely].unit.number() == number {
+        return likely;
+    }
     find_place(drives, number).unwrap_or(drives.len())
 }
 
@@ -49,6 +54,7 @@ impl Target {
     /// The target of a command whose unit is known.
     pub fn of(command: &Command, drives: &[Drive]) -> Target
         requires known { is_known (units_of drives.now) command.now.unit ≡ true }
+        requires units { IsUnitList (units_of drives.now) }
         requires few { length drives.now ≤ 16 }
         ensures { result ≡ target_of (units_of drives.now) command.now }
     {

@@ -1,9 +1,10 @@
 // Waiting commands as they were, and how long each may still wait.
 
 ghost use Rattle.std.specs.Prelude.{◌≡◌, ◌*◌, ◌<◌, ◌≤◌, ◌^◌, [], true, All, length, sum_by};
-ghost use Rattle.mscp_queue.specs.Common.{AreTimed, told, targets, targets_of, due_of, is_known, units_of, left_if_serving};
+ghost use Rattle.mscp_queue.specs.Common.{AreTimed, told, targets, targets_of, due_of, is_known, units_of, IsUnitList, left_if_serving};
 
-use crate::backlog::{Backlog, left_if_serving};
+use crate::backlog::Backlog;
+use crate::backlog::telling::left_if_serving;
 use crate::drive::Drive;
 use crate::record::Record;
 use crate::slots::{Content, Slots};
@@ -38,6 +39,7 @@ fn fill(slots: &mut Slots, budget: u32, records: &[Record], drives: &[Drive]) ->
     requires free { slots.old ≡ [] }
     requires few { length records.now ≤ 64 }
     requires drives { length drives.now ≤ 16 }
+    requires units { IsUnitList (units_of drives.now) }
     requires known { All (λ r. is_known (units_of drives.now) r.command.unit ≡ true) records.now }
     requires passed { All (λ r. r.passed ≤ budget) records.now }
     ensures timed { AreTimed budget 0 result slots.new }
@@ -65,6 +67,7 @@ impl Backlog {
     pub fn restore(&mut self, records: &[Record], drives: &[Drive])
         requires few { length records.now ≤ 64 }
         requires drives { length drives.now ≤ 16 }
+        requires units { IsUnitList (units_of drives.now) }
         requires known { All (λ r. is_known (units_of drives.now) r.command.unit ≡ true) records.now }
         requires passed { All (λ r. r.passed ≤ self.old.budget) records.now }
         ensures { self.new ≡ record {

@@ -1,4 +1,4 @@
-use Rattle.mscp_queue.proofs.Basics.{◌≡◌, ◌+◌, ◌-◌, ◌<◌, take, length, ap, sym, subst, ◌∙◌, arith, get_or_default, Target, no_record, no_target, record_at, has_drive, order_cost}
+use Rattle.mscp_queue.proofs.Basics.{◌≡◌, ◌+◌, ◌-◌, ◌<◌, take, length, ap, sym, subst, ◌∙◌, arith, Target, has_drive_there, order_cost}
 use Rattle.mscp_queue.proofs.Common.{AreFavored, commands}
 use Rattle.mscp_queue.proofs.Favored.{clear_is}
 use Rattle.mscp_queue.proofs.Starting.{free_is}
@@ -12,8 +12,7 @@ knows-requires c =
     let rs = c.args.backlog.now.waiting in
     let n = c.len-place.result - 1 in
     let inside : n < length rs = (let some = c.requires.some in omega (arith, some, c.len-place.ensures.waiting)) in
-    (has_drive c.args.drives.now rs c.args.backlog.now.targets n (record_at rs n) c.from-at.result no_target
-    c.requires.waiting inside (sym (get_or_default rs n (record_at rs n) no_record inside))
+    (has_drive_there c.args.drives.now rs c.args.backlog.now.targets n c.from-at.result c.requires.waiting inside
     (c.from-at.ensures ∙ ap (λ (a : Target). a.drive) c.target.ensures)).few
 
 pub come-requires : goal.come-requires
@@ -21,8 +20,7 @@ come-requires c =
     let rs = c.args.backlog.now.waiting in
     let n = c.len-place.result - 1 in
     let inside : n < length rs = (let some = c.requires.some in omega (arith, some, c.len-place.ensures.waiting)) in
-    (has_drive c.args.drives.now rs c.args.backlog.now.targets n (record_at rs n) c.from-at.result no_target
-    c.requires.waiting inside (sym (get_or_default rs n (record_at rs n) no_record inside))
+    (has_drive_there c.args.drives.now rs c.args.backlog.now.targets n c.from-at.result c.requires.waiting inside
     (c.from-at.ensures ∙ ap (λ (a : Target). a.drive) c.target.ensures)).few
 
 pub returns-then-is_free : goal.returns-then-is_free
@@ -37,9 +35,8 @@ returns-then-is_free c =
     arrived c.requires.waiting c.requires.units n long c.from-at.result _
     (subst (λ k. AreFavored c.args.drives.now (take (k - 1) (commands rs)) c.args.favorites.now)
     (sym c.len-place.ensures.waiting) c.requires.favored) clear
-    (has_drive c.args.drives.now rs c.args.backlog.now.targets n (record_at rs n) c.from-at.result no_target
-    c.requires.waiting (omega (arith, long)) (sym (get_or_default rs n (record_at rs n) no_record (omega
-    (arith, long))))
+    (has_drive_there c.args.drives.now rs c.args.backlog.now.targets n c.from-at.result c.requires.waiting
+    (omega (arith, long))
     (c.from-at.ensures ∙ ap (λ (a : Target). a.drive) c.target.ensures)).place
     (ap (λ (s : Start). s.place) c.of.ensures)
     (ap (λ (s : Start). s.cost) c.of.ensures ∙ c.cost_of.ensures.value
@@ -63,9 +60,8 @@ returns-else-knows c =
           (omega (arith, long))) ∙ (sym w.is_free.ensures ∙ w.if-is_free.false)))
       | else-knows-via-else-knows w ↦
           unknown c.requires.waiting c.requires.units n long c.args.favorites.now c.from-at.result front
-          (has_drive c.args.drives.now rs c.args.backlog.now.targets n (record_at rs n) c.from-at.result no_target
-          c.requires.waiting (omega (arith, long))
-          (sym (get_or_default rs n (record_at rs n) no_record (omega (arith, long))))
+          (has_drive_there c.args.drives.now rs c.args.backlog.now.targets n c.from-at.result c.requires.waiting
+          (omega (arith, long))
           (c.from-at.ensures ∙ ap (λ (a : Target). a.drive) c.target.ensures)).place
           (sym c.knows.ensures ∙ w.if-knows.false)
     ]
