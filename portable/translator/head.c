@@ -25,6 +25,9 @@ typedef int8_t i8;
 typedef int16_t i16;
 typedef int32_t i32;
 typedef int64_t i64;
+#ifdef __SIZEOF_INT128__
+__extension__ typedef unsigned __int128 u128;
+#endif
 
 /* What is asked of the compiler: numbers of two's complement, a shift to the right that keeps the sign, an int of 32 bits
  * or more, and handles as mscp.h says. */

@@ -11,6 +11,12 @@ from .wasm import Refusal
 READ = re.compile(r"\bt\d+\b(?! = )")
 KEPT = re.compile(r"(t\d+) = (.*;)")
 MUCH = 256 # bytes of a function's room, from which on it stands apart
+# The kit's product of two numbers of 128 bits, of which compilers with such numbers know a quicker way.
+PRODUCT = """{
+    const u128 product = ((u128)v2 << 64 | v1) * ((u128)v4 << 64 | v3);
+    s8_8(v0, (u64)product);
+    s8_8(v0 + 8, (u64)(product >> 64));
+}"""
 
 
 def read_constants(module, other):
@@ -123,8 +129,11 @@ class Program:
         gives = WIDTHS[it.gives[0]] if it.gives else "void"
         begins = "APART" if (it.frame or 0) >= MUCH else "static"
         comment = [] if self.names[number].startswith("w_") else self.said.comment(number)
-        lines = [*comment, f"{begins} {gives} {self.names[number]}({takes or 'void'})", "{", *declarations(it, body)]
-        return "\n".join(lines + [body, "}"]) + "\n"
+        lines = [*comment, f"{begins} {gives} {self.names[number]}({takes or 'void'})"]
+        if self.names[number] == "multi3":
+            lines += ["#ifdef __SIZEOF_INT128__", PRODUCT, "#else"]
+        lines += ["{", *declarations(it, body), body, "}"]
+        return "\n".join(lines + ["#endif"] if self.names[number] == "multi3" else lines) + "\n"
 
     def statement(self, line, it):
         return f"L{line}:;" if isinstance(line, int) else "    " + line
