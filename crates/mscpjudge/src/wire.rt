@@ -4,9 +4,9 @@ ghost use Rattle.std.specs.Prelude.{◌≡◌, ◌++◌, false, OnOk, IfOk};
 ghost use Rattle.mscpjudge.specs.Common.{flat_map, TellsWire, WritesOnce, breaker_name, broken_text, command_text, connection_name, meant_text, opcode_name, outstanding_text, wire_outcome, wire_text};
 ghost use Rattle.mscpjudge.specs.Wired as wired;
 
+use crate::doubts::put_doubts;
 use crate::fault::Fault;
 use crate::judging::Outcome;
-use crate::doubts::put_doubts;
 use crate::totals::put_totals;
 use mscp_controller::Connection;
 use mscp_script::{Sink, Source, read_all};
