@@ -434,8 +434,9 @@ identities_by_others() {
             "$(tells_status 3 0 3 5 0)" &&
         wire_breaks 'controller: identity' 'ONLINE 4 of unit 5' "$set" "$(tells_set 2 0 3 4 800)" "$(online 4 5)" \
             "$(tells_online 4 256 3 4 801)" &&
-        wire_is_right '4 2 0 2 0' '' "$set" "$(tells_set 2 0 3 4 800)" "$set" "$(tells_set 2 0 9 9 9)" &&
-        wire_is_right '8 4 0 4 0' '' "$set" "$(tells_set 2 0 3 4 800)" "$set" "$(tells_set 2 0 9 9 9)" "$asks" \
+        wire_is_right '4 2 0 2 0' 'doubt: 1 identity, first in line 4: SET UNIT CHARACTERISTICS 2 of unit 5' "$set" \
+            "$(tells_set 2 0 3 4 800)" "$set" "$(tells_set 2 0 9 9 9)" &&
+        wire_is_right '8 4 0 4 0' 'doubt: 1 identity, first in line 4: SET UNIT CHARACTERISTICS 2 of unit 5' "$set" "$(tells_set 2 0 3 4 800)" "$set" "$(tells_set 2 0 9 9 9)" "$asks" \
             "$(tells_status 3 0 9 9 0)" "$set" "$(tells_set 2 0 9 9 1)" &&
         wire_is_right '5 3 0 2 0' 'outstanding: second ONLINE 4 of unit 5' "second $(online 4 5)" "${told[@]}" "$asks" \
             "$(tells_status 3 0 9 9 0)"
@@ -460,6 +461,168 @@ identities_end() {
         wire_is_right '4 2 0 2 0' '' "${online[@]}" "second ${other[0]}" "second ${other[1]}" &&
         wire_breaks 'controller: identity' 'ONLINE 2 of unit 5' "${online[@]}" "$(available 3 5)" \
             "end $(packet 12 3 5 136 1)" "${other[@]}"
+}
+
+# The lines are right, and just these doubts are told of them.
+doubts_are() {
+    printf '%s\n' "${@:2}" >"$room/log"
+    "$program" wire "$room/log" </dev/null >"$room/out" 2>"$room/err" && cmp -- "$room/err" /dev/null &&
+        [ "$(head -n 1 "$room/out")" = right ] && cmp -- <(grep ^doubt "$room/out") <(printf '%s' "${1:+$1$'\n'}")
+}
+
+# Two SET UNIT CHARACTERISTICS tell two identifiers, media types or sizes, each further one of which is counted. They do
+# not if one failed, or if the unit went away between, by what either host was told.
+doubted_identities() {
+    local other set="send $(packet 36 2 5 10 0)" gone=("$(available 3 5)" "end $(packet 12 3 5 136 0)")
+    local first=("$set" "$(tells_set 2 0 3 4 800)")
+    for other in '9 4 800' '3 9 800' '3 4 9'; do
+        # shellcheck disable=SC2086 # three numbers
+        doubts_are 'doubt: 1 identity, first in line 4: SET UNIT CHARACTERISTICS 2 of unit 5' "${first[@]}" "$set" \
+            "$(tells_set 2 0 $other)" || return
+    done
+    doubts_are 'doubt: 2 identity, first in line 5: SET UNIT CHARACTERISTICS 2 of unit 5' '# one' "${first[@]}" "$set" \
+        "$(tells_set 2 0 9 4 800)" "${first[@]}" && doubts_are '' "${first[@]}" "${first[@]}" &&
+        doubts_are '' "${first[@]}" "$set" "$(tells_set 2 1 9 4 800)" &&
+        doubts_are '' "${first[@]}" "${gone[@]}" "$set" "$(tells_set 2 0 9 4 800)" &&
+        doubts_are '' "${first[@]}" "second ${gone[0]}" "second ${gone[1]}" "$set" "$(tells_set 2 0 9 4 800)" &&
+        doubts_are '' "${first[@]}" reset "$set" "$(tells_set 2 0 9 4 800)"
+}
+
+# A READ of so many bytes from a block of unit 5 on, which ends with this status.
+read_from() {
+    echo "send $(packet 32 9 5 33 0 "$1" 0 0 0 "$2")"
+    echo "end $(packet 32 9 5 161 "$3" "$1")"
+}
+
+# Unit 5 has 800 blocks, and is told to have 20 behind them: 10 in each of 2 copies. If that isn't told there may be 65535
+# in each of 255.
+doubted_sizes() {
+    local all=$((65535 * 255)) up=("$(online 1 5)" "$(tells_online 1 0 3 4 800)") table=("$(unit_status 2 5 0)")
+    local doubt='doubt: 1 size, first in line 6: READ 9 of unit 5'
+    table+=("end $(packet 48 2 5 131 0 0 0 3 7 4 0 0 0 $((10 + (2 << 24))))")
+    doubts_are '' "${up[@]}" "${table[@]}" "$(read_from 512 819 0)" &&
+        doubts_are "$doubt" "${up[@]}" "${table[@]}" "$(read_from 512 820 0)" &&
+        doubts_are "$doubt" "${up[@]}" "${table[@]}" "$(read_from 513 819 0)" &&
+        doubts_are '' "${up[@]}" "${table[@]}" "$(read_from 512 820 8)" &&
+        doubts_are '' "${table[@]}" "$(read_from 512 820 0)" &&
+        doubts_are '' "${up[@]}" "$(read_from 512 $((799 + all)) 0)" &&
+        doubts_are "${doubt/6/4}" "${up[@]}" "$(read_from 512 $((800 + all)) 0)" &&
+        doubts_are '' "${up[@]}" "${table[@]}" "${up[@]}" "$(read_from 512 820 0)" &&
+        doubts_are '' "second ${up[0]}" "${up[@]}" "${table[@]}" "$(read_from 512 820 0)" &&
+        doubts_are '' "${up[@]}" "${table[@]}" "second $(unit_status 2 5 0)" "second ${table[1]}" "$(read_from 512 820 0)" &&
+        doubts_are "$doubt" "send $(packet 36 2 5 10 0)" "$(tells_set 2 0 3 4 800)" "${table[@]}" "$(read_from 512 820 0)"
+}
+
+# Each of these is a command, its modifiers and the code of a status that it has no use for, and then of one that it has.
+doubted_statuses() {
+    local opcode modifiers code name
+    while read -r opcode modifiers code name; do
+        doubts_are "doubt: 1 status, first in line 2: $name 1 of unit 0" \
+            "send $(packet 36 1 0 "$opcode" "$modifiers" 512)" "end $(packet 44 1 0 $((opcode + 128)) "$code" 0)" || return
+    done <<-END
+		33 0 6 READ
+		16 0 6 ACCESS
+		32 0 6 COMPARE HOST DATA
+		33 0 7 READ
+		34 8192 7 WRITE
+		18 0 7 ERASE
+		9 16384 7 ONLINE
+		16 0 9 ACCESS
+		18 0 9 ERASE
+		9 0 9 ONLINE
+		10 0 9 SET UNIT CHARACTERISTICS
+		8 0 5 AVAILABLE
+		8 0 6 AVAILABLE
+		8 0 7 AVAILABLE
+		8 0 8 AVAILABLE
+		8 0 9 AVAILABLE
+	END
+    while read -r opcode modifiers code; do
+        doubts_are '' "send $(packet 36 1 0 "$opcode" "$modifiers" 512)" \
+            "end $(packet 44 1 0 $((opcode + 128)) "$code" 0)" || return
+    done <<-END
+		34 0 6
+		18 0 6
+		32 0 7
+		33 16384 7
+		34 49152 7
+		33 0 9
+		34 0 9
+		32 0 9
+		33 0 8
+		33 0 11
+		8 0 3
+		8 0 10
+		19 0 7
+		9 0 5
+	END
+    doubts_are '' "send $(packet 32 1 0 16 0 512)" "end $(packet 32 1 0 128 1)" &&
+        doubts_are 'doubt: 2 status, first in line 4: second READ 1 of unit 0' "$(reading 1)" "second $(reading 1)" \
+            "$(moved 1 0 1024)" "second $(moved 1 6 0)" "$(reading 1)" "$(moved 1 7 0)"
+}
+
+# A WRITE, or the command of another opcode, of unit 5 that ends with this status.
+write_ends() {
+    echo "send $(packet 32 9 5 "${2-34}" 0 512)"
+    echo "end $(packet 32 9 5 $((${2-34} + 128)) "$1" 512)"
+}
+
+# The flags behind the reference number say that unit 5 is protected by software or by a switch.
+doubted_protection() {
+    local flags away doubt='doubt: 1 protection, first in line 4: WRITE 9 of unit 5'
+    local up=("$(online 1 5)") free
+    free=("${up[0]}" "end $(packet 44 1 5 137 256 $((0xCFFF << 16)) 0 3 0 7)")
+    for flags in 0x1000 0x2000 0x3080; do
+        up[1]="end $(packet 44 1 5 137 0 $((flags << 16)) 0 3 0 7)"
+        doubts_are "$doubt" "${up[@]}" "$(write_ends 0)" && doubts_are '' "${up[@]}" "$(write_ends 6)" &&
+            doubts_are "${doubt/WRITE/ERASE}" "${up[@]}" "$(write_ends 0 18)" &&
+            doubts_are '' "${up[@]}" "$(write_ends 0 33)" && doubts_are '' "${up[@]}" "${free[@]}" "$(write_ends 0)" &&
+            doubts_are '' "${up[@]}" "$(available 3 5)" "end $(packet 12 3 5 136 512)" "$(write_ends 0)" || return
+    done
+    doubts_are '' "${free[@]}" "$(write_ends 0)" &&
+        doubts_are '' "${up[@]}" "second send $(packet 36 2 5 10 0)" "second $(tells_set 2 0 3 0 7)" "$(write_ends 0)" &&
+        doubts_are '' "second ${up[0]}" "${up[@]}" "$(write_ends 0)" &&
+        doubts_are "${doubt/4/6}" "${free[@]}" "${up[@]}" "$(write_ends 0)" &&
+        doubts_are "${doubt/4/6}" "${free[@]}" "send $(packet 36 2 5 10 0)" \
+            "end $(packet 44 2 5 138 0 $((0x1000 << 16)) 0 3 0 7)" "$(write_ends 0)"
+}
+
+# Units 5 and 6 come online with one identifier, as low and high words. They may have it one after the other.
+doubted_identifiers() {
+    local five=("$(online 1 5)" "$(tells_online 1 0 3 4 800)") six=("$(online 2 6)") other
+    local doubt='doubt: 1 identifier, first in line 4: ONLINE 2 of unit 6'
+    six+=("end $(packet 44 2 6 137 0 0 0 3 7 4 0 900)")
+    other="end $(packet 44 2 6 137 0 0 0 3 8 4 0 900)"
+    doubts_are "$doubt" "${five[@]}" "${six[@]}" && doubts_are '' "${five[@]}" "${six[0]}" "$other" &&
+        doubts_are '' "${five[@]}" "${five[@]}" &&
+        doubts_are "${doubt/: ONLINE/: second ONLINE}" "${five[@]}" "second ${six[0]}" "second ${six[1]}" &&
+        doubts_are "${doubt/line 4/line 6}" "${five[@]}" "${six[0]}" "$other" "${six[@]}" &&
+        doubts_are '' "${five[@]}" "$(available 3 5)" "end $(packet 12 3 5 136 0)" "${six[@]}" &&
+        doubts_are '' "${five[@]}" reset "${six[@]}" &&
+        doubts_are '' "${five[@]}" "${five[0]}" "$(tells_online 1 0 9 4 800)" "${six[@]}" &&
+        doubts_are '' "${five[@]}" "send $(packet 36 2 6 10 0)" "end $(packet 44 2 6 138 0 0 0 3 7 4 0 900)" &&
+        doubts_are 'doubt: 1 identifier, first in line 4: GET UNIT STATUS 2 of unit 6' "${five[@]}" "$(unit_status 2 6 0)" \
+            "end $(packet 48 2 6 131 0 0 0 3 7 4)"
+}
+
+# Unit 5 was told to be there, and then the next one from it on is told to be unit 6.
+doubted_next_units() {
+    local there known=("$(online 1 5)" "$(tells_online 1 0 3 4 800)") ask
+    local doubt='doubt: 1 next unit, first in line 4: GET UNIT STATUS 2 of unit 5'
+    ask=("$(unit_status 2 5 1)" "end $(packet 48 2 6 131 4 0 0 9 7 4)")
+    for there in "$(online 1 5)"$'\n'"$(tells_online 1 0 3 4 800)" "$(available 3 5)"$'\n'"end $(packet 12 3 5 136 0)" \
+        "$(reading 3 5)"$'\n'"$(moved 3 4 0 5)" "$(unit_status 3 5 0)"$'\n'"$(tells_status 3 4 3 4 0)" \
+        "$(unit_status 3 5 1)"$'\n'"$(tells_status 3 0 3 4 0)"; do
+        doubts_are "$doubt" "$there" "${ask[@]}" && doubts_are '' "$there" "$(reading 4 5)" "$(moved 4 3 0 5)" "${ask[@]}" &&
+            doubts_are '' "$there" "second $(reading 4 5)" "second $(moved 4 3 0 5)" "${ask[@]}" &&
+            doubts_are '' "$there" reset "${ask[@]}" && doubts_are '' "second ${there/$'\n'/$'\n'second }" "${ask[@]}" || return
+    done
+    doubts_are "${doubt}" "${known[@]}" "${ask[0]}" "end $(packet 48 2 6 131 0 0 0 9 7 4)" &&
+        doubts_are '' "${ask[@]}" && doubts_are '' "${known[@]}" "$(unit_status 2 6 1)" "${ask[1]}" &&
+        doubts_are '' "${known[@]}" "${ask[0]}" "$(tells_status 2 0 3 4 0)" &&
+        doubts_are '' "${known[@]}" "${ask[0]}" "end $(packet 48 2 4 131 4 0 0 9 7 4)" &&
+        doubts_are '' "${known[@]}" "${ask[0]}" "end $(packet 48 2 6 131 3)" &&
+        doubts_are '' "$(reading 3 5)" "$(moved 3 0 1024 5)" "${ask[@]}"
 }
 
 # A SET CONTROLLER CHARACTERISTICS that succeeds tells the controller's identifier, of low and high words, to both hosts.
@@ -615,7 +778,7 @@ run_is_right() {
     wire_of "$1" >"$room/log"
     "$program" wire "$room/log" </dev/null >"$room/out" 2>"$room/err" || return
     totals="^right"$'\n'"moments $(wc -l <"$room/log") messages [0-9]+ polls [0-9]+ ends $(grep -cE '^(second )?end ' "${1%.mscp}.out") "
-    [[ $(<"$room/out") =~ $totals ]]
+    [[ $(<"$room/out") =~ $totals ]] && ! grep '^doubt: ' "$room/out"
 }
 
 # Compiles these files of C to a program that logs what goes over its wire, with the library as one file.
@@ -629,7 +792,7 @@ log_the_wire() {
 
 # What was logged keeps the rules, with so many messages at least, and so many resets. Nothing is outstanding.
 logged_is_right() {
-    "$program" wire "$room/log" </dev/null >"$room/out" 2>"$room/err" && ! grep -q '^outstanding: ' "$room/out" &&
+    "$program" wire "$room/log" </dev/null >"$room/out" 2>"$room/err" && ! grep -qE '^(outstanding|doubt): ' "$room/out" &&
         [[ $(<"$room/out") =~ \ messages\ ([0-9]+)\ .*\ resets\ $2\ queue\  ]] && [ "${BASH_REMATCH[1]}" -ge "$1" ] ||
         { cat -- "$room/out" "$room/err" && return 1; }
 }

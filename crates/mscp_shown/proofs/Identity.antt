@@ -13,9 +13,10 @@ use Rattle.mscp_packet.specs.declared.end.EndBody.TheVariants as bodies
 use Rattle.mscp_drive.specs.Shape.{Shape}
 use Rattle.mscp_drive.specs.Settings.{Settings, unit_shape}
 use Rattle.mscp_drive.specs.declared.connection.Connection.{Connection}
-use Rattle.mscp_wire.specs.Wire.{History, agrees, answer_by, brings, fits, is_known_unit, is_same_unit, is_single, is_unsure, later_of, learns, leaves, same_connection, says_away, shares, status_code, tells_unit, told, told_after_end, told_after_message, turned, was_online}
+use Rattle.mscp_wire.specs.Wire.{History, agrees, answer_by, brings, fits, is_known_unit, is_same_unit, is_single, is_unsure, later_of, learns, leaves, noted_other, noted_own, same_connection, says_away, shares, status_code, tells_unit, told, told_after_end, told_after_message, turned, was_online}
 use Rattle.mscp_wire.specs.declared.answer.Answer.{Answer}
 use Rattle.mscp_wire.specs.declared.identity.Identity.{Identity}
+use Rattle.mscp_wire.specs.declared.noted.Noted.{Noted}
 use Rattle.mscp_wire.specs.declared.sent.Sent.{Sent}
 use Rattle.mscp_wire.specs.declared.told.State.{State}
 use Rattle.mscp_wire.specs.declared.told.State.TheVariants.{Away, Open, Shared}
@@ -259,7 +260,7 @@ told_more c h a known is via unit i =
     (was_online a) t a.identity
     (not (leaves a) && (brings a || t.sure || (learns t a && nat_eq a.code 0x83)))
     (if says_away a then turned t.state Away else (if brings a then turned t.state Open else t.state))
-    (known via unit i)
+    (noted_own t.noted a) (noted_other t.noted a) (known via unit i)
     (λ q. subst (λ n. HasOf (unit_shape c n) a.identity) (eqb-true a.unit unit q))
     is.1 (λ l. is.0 (and_parts (tells_unit a) (not t.sure && is_single t.state) (grouped (tells_unit a) (not t.sure)
     (is_single t.state) l)).0)
@@ -274,6 +275,7 @@ told_more c h a known is via unit i =
         same_identity x y h = cc
 
     by_cases : (here gone on learn side was : Bool) (old : Told) (new : Option Identity) (sure : Bool) (s : State)
+        (mine others : Noted)
         → (old.identity ≡ Some i → IsOf (unit_shape c unit) i)
         → (here ≡ true → HasOf (unit_shape c a.unit) new → HasOf (unit_shape c unit) new)
         → (on ≡ true → HasOf (unit_shape c a.unit) new) → (learn ≡ true → HasOf (unit_shape c a.unit) new)
@@ -281,20 +283,22 @@ told_more c h a known is via unit i =
           identity = if gone then None else (if on || learn then new else old.identity);
           sure = sure;
           state = s;
+          noted = mine;
         } else record old {
           identity = if gone || (on && not was) then None else old.identity;
           sure = not (gone || (on && not was)) && old.sure;
+          noted = others;
         })).identity ≡ Some i
         → IsOf (unit_shape c unit) i
-    by_cases false gone on learn side was old new sure s k f n l h = k h
-    by_cases true true on learn true was old new sure s k f n l h = cc
-    by_cases true true on learn false was old new sure s k f n l h = cc
-    by_cases true false true learn true was old new sure s k f n l h = there new (f refl (n refl)) h
-    by_cases true false false true true was old new sure s k f n l h = there new (f refl (l refl)) h
-    by_cases true false false false true was old new sure s k f n l h = k h
-    by_cases true false false learn false was old new sure s k f n l h = k h
-    by_cases true false true learn false true old new sure s k f n l h = k h
-    by_cases true false true learn false false old new sure s k f n l h = cc
+    by_cases false gone on learn side was old new sure s mine others k f n l h = k h
+    by_cases true true on learn true was old new sure s mine others k f n l h = cc
+    by_cases true true on learn false was old new sure s mine others k f n l h = cc
+    by_cases true false true learn true was old new sure s mine others k f n l h = there new (f refl (n refl)) h
+    by_cases true false false true true was old new sure s mine others k f n l h = there new (f refl (l refl)) h
+    by_cases true false false false true was old new sure s mine others k f n l h = k h
+    by_cases true false false learn false was old new sure s mine others k f n l h = k h
+    by_cases true false true learn false true old new sure s mine others k f n l h = k h
+    by_cases true false true learn false false old new sure s mine others k f n l h = cc
 
 -- and a command does
 pub told_sent : (t : Told) (via : Connection) (unit : ℕ) (s : Sent)

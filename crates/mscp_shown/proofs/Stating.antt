@@ -210,6 +210,7 @@ shared_end via unit t a h =
               if brings a || wire.learns t a then a.identity else t.identity);
           sure = not (wire.leaves a) && (brings a || t.sure || (wire.learns t a && nat_eq a.code 0x83));
           state = if w then turned t.state Away else (if b then turned t.state Open else t.state);
+          noted = wire.noted_own t.noted a;
         } else after_other t a)).state ≡ Shared
     by_bools false side w b = h
     by_bools true true w b = own w b

@@ -1,5 +1,5 @@
 -- What is kept of units is what was told of them once an end or a command came.
-use Rattle.std.proofs.Common.{◌≡◌, ℕ, Bool, true, false, cond, not, ◌&&◌, refl, ap, ◌∙◌, arith, if◌then◌else◌, Option, Some}
+use Rattle.std.proofs.Common.{◌≡◌, ℕ, Bool, true, false, cond, not, ◌&&◌, refl, sym, ap, ◌∙◌, arith, if◌then◌else◌, Option, Some}
 use Rattle.std.specs.Prelude.{nat_eq}
 use Rattle.std.specs.Ordering.{is_eq, nat_cmp}
 use Rattle.std.proofs.lemmas.Bool.{eqb-true}
@@ -8,6 +8,7 @@ use Rattle.mscp_drive.specs.declared.connection.Connection.{Connection}
 use Rattle.mscp_drive.specs.declared.connection.Connection.TheVariants.{First, Second}
 use Rattle.mscp_wire.specs.Units.{after_other, after_own, key, other_side, told_after_end, told_or}
 use Rattle.mscp_wire.specs.Messages.{same_connection}
+use Rattle.mscp_wire.specs.Polls.{is_it}
 use Rattle.mscp_wire.specs.declared.answer.Answer.{Answer}
 use Rattle.mscp_wire.specs.declared.told.Told.{Told}
 
@@ -35,6 +36,18 @@ put_told others old new via unit told h own number =
   where
     by_test : (b : Bool) → told_or others (cond b (Some told) (old (key own number)))
         ≡ (if b then told else told_or others (old (key own number)))
+    by_test true = refl
+    by_test false = refl
+
+-- which unit is kept of each identifier where a map was updated at one
+pub put_called : (old new : ℕ → Option ℕ) (identifier : ℕ) (unit : ℕ)
+    → ((q : ℕ) → new q ≡ cond (is_eq (nat_cmp identifier q)) (Some unit) (old q)) → (called : Option ℕ)
+    → called ≡ Some identifier → (q : ℕ) → new q ≡ (if is_it called q then Some unit else old q)
+put_called old new identifier unit h called e q =
+    h q ∙ ap (λ b. cond b (Some unit) (old q)) (at_key identifier q) ∙ by_test (nat_eq identifier q)
+    ∙ ap (λ o. if is_it o q then Some unit else old q) (sym e)
+  where
+    by_test : (b : Bool) → cond b (Some unit) (old q) ≡ (if b then Some unit else old q)
     by_test true = refl
     by_test false = refl
 

@@ -3,6 +3,7 @@ pub mod Keys
 mod Boxes
 pub mod Hearing
 pub mod Passing
+pub mod Doubting
 pub mod Meaning
 pub mod Once
 mod Names

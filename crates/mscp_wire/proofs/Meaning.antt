@@ -11,7 +11,7 @@ use Rattle.mscp_reader.specs.declared.fault.Cause.TheVariants as causes
 use Rattle.mscp_reader.specs.declared.fault.ReadFault.{ReadFault}
 use Rattle.mscp_reader.specs.declared.fault.ReadFault.TheVariants as reads
 use Rattle.mscp_wire.specs.Wire.{AreRight, History, IsRight}
-use Rattle.mscp_wire.specs.Log.{Log, is_fresh, line_says, nothing, with_line, with_lines, with_said}
+use Rattle.mscp_wire.specs.Log.{Log, is_fresh, line_says, nothing, with_line, with_lines, with_moment, with_said}
 use Rattle.mscp_wire.specs.Right.{Goes, Judges, Reaches}
 use Rattle.mscp_wire.specs.declared.line.Said.{Said}
 use Rattle.mscp_wire.specs.declared.line.Said.TheVariants as says
@@ -71,13 +71,13 @@ lines_none log = refl
 
 -- a line more
 pub lines_more : (before : List (List ℕ)) (line : List ℕ) (n : ℕ) (log next : Log) → n ≡ length before + 1
-    → with_lines 0 nothing before ≡ Ok log → (line_says n line >>= with_said log) ≡ Ok next
+    → with_lines 0 nothing before ≡ Ok log → (line_says n line >>= with_said n log) ≡ Ok next
     → with_lines 0 nothing (before ++ line ∷ []) ≡ Ok next
 unfolding with_lines with_line
 lines_more before line n log next count told goes =
     let place : n ≡ 0 + length before + 1 = omega (arith, count) in
-    let last : (line_says (0 + length before + 1) line >>= with_said log) ≡ Ok next =
-    subst (λ k. (line_says k line >>= with_said log) ≡ Ok next) place goes in
+    let last : (line_says (0 + length before + 1) line >>= with_said (0 + length before + 1) log) ≡ Ok next =
+    subst (λ k. (line_says k line >>= with_said k log) ≡ Ok next) place goes in
     lines_split before (line ∷ []) 0 nothing
     ∙ ap (λ x. x >>= λ l. with_lines (0 + length before) l (line ∷ [])) told
     ∙ ap (λ x. x >>= λ l. with_lines (0 + length before + 1) l []) last
@@ -92,33 +92,33 @@ line_faults (reads.Script fault) bytes line n log reading r goes =
       line = line;
       log = log;
       reached = subst (λ k. Reaches bytes k line log) place r;
-      cause = subst (λ k. (line_says k line >>= with_said log) ≡ Err fault.cause) place goes.1;
+      cause = subst (λ k. (line_says k line >>= with_said k log) ≡ Err fault.cause) place goes.1;
     })
 line_faults reads.OutOfMemory bytes line n log reading r goes = tt
 
 -- ---- what stands before is right if all is
 
-said_back : (said : Said) (log next : Log) → with_said log said ≡ Ok next → AreRight next.credits next.moments
+said_back : (n : ℕ) (said : Said) (log next : Log) → with_said n log said ≡ Ok next → AreRight next.credits next.moments
     → AreRight log.credits log.moments
-said_back says.Nothing log next h r =
+said_back n says.Nothing log next h r =
     let e : log ≡ next = cc in subst (λ l. AreRight l.credits l.moments) (sym e) r
-said_back (says.Attention via b) log next h r =
+said_back n (says.Attention via b) log next h r =
     let e : log ≡ next = cc in subst (λ l. AreRight l.credits l.moments) (sym e) r
-said_back (says.Credits c) log next h r = fresh_back (is_fresh log) refl h
+said_back n (says.Credits c) log next h r = fresh_back (is_fresh log) refl h
   where
     fresh_back : (b : Bool) → is_fresh log ≡ b
         → (if b then Ok (record log { credits = Some c }) else Err causes.Word) ≡ Ok next
         → AreRight log.credits log.moments
     fresh_back true f k = right_none log.credits log.moments (grind (arith, nat_tests))
     fresh_back false f k = cc
-said_back (says.Happens m) log next h r =
-    let e : record log { moments = log.moments ++ m ∷ [] } ≡ next = cc in
+said_back n (says.Happens m) log next h r =
+    let e : with_moment n log m ≡ next = cc in
     right_before log.credits log.moments m (subst (λ l. AreRight l.credits l.moments) (sym e) r)
 
-line_back : (said : Result Said Cause) (log next : Log) → (said >>= with_said log) ≡ Ok next
+line_back : (n : ℕ) (said : Result Said Cause) (log next : Log) → (said >>= with_said n log) ≡ Ok next
     → AreRight next.credits next.moments → AreRight log.credits log.moments
-line_back (Ok said) log next h r = said_back said log next h r
-line_back (Err cause) log next h r = cc
+line_back n (Ok said) log next h r = said_back n said log next h r
+line_back n (Err cause) log next h r = cc
 
 pub lines_back : (all : List (List ℕ)) (n : ℕ) (log final : Log) → with_lines n log all ≡ Ok final
     → AreRight final.credits final.moments → AreRight log.credits log.moments
@@ -132,5 +132,5 @@ lines_back (line ∷ rest) n log final h r =
         → (read >>= λ next. with_lines (n + 1) next rest) ≡ Ok final
         → ((next : Log) → with_lines (n + 1) next rest ≡ Ok final → AreRight next.credits next.moments)
         → AreRight log.credits log.moments
-    by_line (Ok next) e k on = line_back (line_says (n + 1) line) log next e (on next k)
+    by_line (Ok next) e k on = line_back (n + 1) (line_says (n + 1) line) log next e (on next k)
     by_line (Err cause) e k on = cc

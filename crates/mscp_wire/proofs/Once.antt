@@ -6,7 +6,7 @@ use Rattle.mscp_reader.specs.declared.fault.ReadFault.{ReadFault}
 use Rattle.mscp_reader.specs.declared.fault.ReadFault.TheVariants as reads
 use Rattle.mscp_reader.specs.declared.fault.ScriptFault.{ScriptFault}
 use Rattle.mscp_wire.specs.Wire.{AreRight, broken_by, command_of, outstanding}
-use Rattle.mscp_wire.specs.Log.{Log, line_says, nothing, with_line, with_lines, with_said}
+use Rattle.mscp_wire.specs.Log.{Log, line_says, nothing, with_line, with_lines, with_moment, with_said}
 use Rattle.mscp_wire.specs.Right.{Comes, IsFirstFault, IsFirstWrong, IsRightLog, IsTooLarge, Judges, Reaches, Says, Tell}
 use Rattle.mscp_wire.specs.declared.line.Said.TheVariants as says
 use Rattle.mscp_wire.specs.declared.log.Verdict.{Verdict}
@@ -65,7 +65,7 @@ module _ (bytes : List ℕ) where
       stops : Stops wrong.line w.log w.line
       stops next h r =
           let m = wrong.moment in
-          let more = record w.log { moments = w.log.moments ++ m ∷ [] } in
+          let more = with_moment wrong.line w.log m in
           let goes : Ok more ≡ Ok next = rw w.is_wrong.says at h in
           let e : more ≡ next = cc in
           let none : broken_by w.log.credits w.log.moments m ≡ None =
@@ -122,9 +122,9 @@ module _ (bytes : List ℕ) where
   wrong_fault wrong fault w (inl large) = omega (arith, large.0, w.reached.small)
   wrong_fault wrong fault w (inr f) =
       let s = stops_once wrong.line fault.line w.line f.line w.log f.log (wrong_stops wrong w) (fault_stops fault f) in
-      let e : (line_says wrong.line w.line >>= with_said w.log) ≡ Err fault.cause =
+      let e : (line_says wrong.line w.line >>= with_said wrong.line w.log) ≡ Err fault.cause =
       rw (s.number, s.words, s.before) f.cause in
-      let never : Ok (record w.log { moments = w.log.moments ++ wrong.moment ∷ [] }) ≡ Err fault.cause =
+      let never : Ok (with_moment wrong.line w.log wrong.moment) ≡ Err fault.cause =
       rw w.is_wrong.says at e in
       cc
 
@@ -175,8 +175,8 @@ module _ (bytes : List ℕ) where
   -- so what was said is all that comes of it
   pub only_from : {A : Type 0} (result : Result (Verdict A) ReadFault) → Judges result bytes
       → (came : Result (Result Log Wrong) ScriptFault) → Comes bytes came → Says result came
-  only_from (Ok (verdicts.Right totals commands)) j came k =
-      (j.0, comes_once came (Ok (Ok j.0)) k j.1, j.2, j.3)
+  only_from (Ok (verdicts.Right totals doubts commands)) j came k =
+      (j.0, comes_once came (Ok (Ok j.0)) k j.1, j.2, j.3, j.4)
   only_from (Ok (verdicts.Wrong wrong)) j came k = comes_once came (Ok (Err wrong)) k j
   only_from (Err (reads.Script fault)) j came k = comes_once came (Err fault) k j
   only_from (Err reads.OutOfMemory) j came k = tt

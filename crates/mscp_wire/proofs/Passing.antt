@@ -30,7 +30,7 @@ AreTold units h = (via : Connection) (unit : ℕ) → units via unit ≡ told h 
 
 -- a line that is at fault by itself
 pub line_fails : (said : Result Said Cause) (n : ℕ) (log : Log) (fault : ScriptFault) → in_line n said ≡ Err fault
-    → (fault.line ≡ n) × ((said >>= with_said log) ≡ Err fault.cause)
+    → (fault.line ≡ n) × ((said >>= with_said n log) ≡ Err fault.cause)
 line_fails (Ok said) n log fault h = cc
 line_fails (Err cause) n log fault h =
     let e : record { line = n; cause = cause } ≡ fault = cc in
@@ -42,15 +42,15 @@ line_goes (Ok other) n said h = cc
 line_goes (Err cause) n said h = cc
 
 -- the credits are told before anything else
-pub credits_told : (c : ℕ) (log : Log) (credits : Option ℕ) (b : Bool) (t : Totals) → credits ≡ log.credits
+pub credits_told : (n c : ℕ) (log : Log) (credits : Option ℕ) (b : Bool) (t : Totals) → credits ≡ log.credits
     → b ≡ is_some credits → b ≡ false → t ≡ totals_of log.moments → t.counts.moments ≡ 0
-    → with_said log (says.Credits c) ≡ Ok (record log { credits = Some c })
-credits_told c log credits b t p q e s z = grind (arith, nat_tests)
+    → with_said n log (says.Credits c) ≡ Ok (record log { credits = Some c })
+credits_told n c log credits b t p q e s z = grind (arith, nat_tests)
 
-pub credits_late : (c : ℕ) (log : Log) (t : Totals) (b : Bool) → t ≡ totals_of log.moments
+pub credits_late : (n c : ℕ) (log : Log) (t : Totals) (b : Bool) → t ≡ totals_of log.moments
     → b ≡ is_some log.credits → (b ≡ true) ⊎ (t.counts.moments ≢ 0)
-    → with_said log (says.Credits c) ≡ Err causes.Word
-credits_late c log t b p q h = grind (arith, nat_tests)
+    → with_said n log (says.Credits c) ≡ Err causes.Word
+credits_late n c log t b p q h = grind (arith, nat_tests)
 
 -- the same was told of a moment's unit, and of the controller
 pub seen_same : (units : Connection → ℕ → Told) (known : Option ℕ) (h : History) (m : Moment) → AreTold units h

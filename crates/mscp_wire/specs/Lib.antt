@@ -6,4 +6,5 @@ pub mod Wire
 pub mod Sought
 pub mod Totals
 pub mod Log
+pub mod Doubts
 pub mod Right

@@ -13,6 +13,7 @@ use Rattle.mscp_reader.specs.declared.fault.Cause.TheVariants as causes
 use Rattle.mscp_wire.specs.Wire.{History}
 use Rattle.mscp_wire.specs.declared.line.Said.{Said}
 use Rattle.mscp_wire.specs.declared.line.Said.TheVariants as says
+use Rattle.mscp_wire.specs.declared.moment.Moment.{Moment}
 use Rattle.mscp_wire.specs.declared.moment.Moment.TheVariants as moments
 
 -- ---- when it happened
@@ -101,28 +102,35 @@ line_says number line = said_at number line >>= λ words. said_by (time_in words
 
 -- ---- a log
 
--- how many credits each host has, if that is told, and what went over the wire so far
+-- how many credits each host has, if that is told, what went over the wire so far, and the numbers of the lines that
+-- told it
 pub record Log : Type 0 where
   pub credits : Option ℕ
   pub moments : History
+  pub lines : List ℕ
 
 abbrev pub nothing : Log
-nothing = record { credits = None; moments = [] }
+nothing = record { credits = None; moments = []; lines = [] }
 
 -- nothing was said so far: the credits may be told
 abbrev pub is_fresh : Log → Bool
 is_fresh log = is_none log.credits && nat_eq (length log.moments) 0
 
--- a log to which a line adds what it says, right or not
-abbrev pub with_said : Log → Said → Result Log Cause
-with_said log says.Nothing = Ok log
-with_said log (says.Attention via b) = Ok log
-with_said log (says.Credits c) = if is_fresh log then Ok (record log { credits = Some c }) else Err causes.Word
-with_said log (says.Happens m) = Ok (record log { moments = log.moments ++ m ∷ [] })
+-- a log to which the line of this number adds a moment
+abbrev pub with_moment : ℕ → Log → Moment → Log
+with_moment number log m = record log { moments = log.moments ++ m ∷ []; lines = log.lines ++ number ∷ [] }
+
+-- a log to which the line of this number adds what it says, right or not
+abbrev pub with_said : ℕ → Log → Said → Result Log Cause
+with_said number log says.Nothing = Ok log
+with_said number log (says.Attention via b) = Ok log
+with_said number log (says.Credits c) =
+    if is_fresh log then Ok (record log { credits = Some c }) else Err causes.Word
+with_said number log (says.Happens m) = Ok (with_moment number log m)
 
 -- the same of the line of this number
 unfoldable pub with_line : ℕ → Log → List ℕ → Result Log Cause
-with_line number log line = line_says number line >>= with_said log
+with_line number log line = line_says number line >>= with_said number log
 
 -- the same of lines that so many stand before
 unfoldable pub with_lines : ℕ → Log → List (List ℕ) → Result Log Cause

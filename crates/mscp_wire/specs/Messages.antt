@@ -1,5 +1,5 @@
 -- What messages and ends say, as far as the rules of the wire ask for it.
-use Rattle.std.specs.Prelude.{ℕ, ◌+◌, ◌%◌, Bool, true, false, not, ◌&&◌, ◌||◌, nat_eq, nat_le, nat_lt, if◌then◌else◌, List, length, slice_index, Option, Some, None}
+use Rattle.std.specs.Prelude.{ℕ, ◌+◌, ◌*◌, ◌/◌, ◌%◌, Bool, true, false, not, ◌&&◌, ◌||◌, nat_eq, nat_le, nat_lt, if◌then◌else◌, List, length, slice_index, Option, Some, None}
 use Rattle.mscp_packet.specs.Number.{num}
 use Rattle.mscp_packet.specs.Opcodes.{class, is_immediate_class}
 use Rattle.mscp_packet.specs.declared.class.Class.{Class}
@@ -30,9 +30,13 @@ asks_for_next b = nat_eq (slice_index b 8) 3 && nat_eq (num b 10 2 % 2) 1
 abbrev pub is_modified : List ℕ → Bool
 is_modified b = not (nat_eq (num b 10 2) 0)
 
+-- its modifier Compare (0x4000) is set: what is moved is compared, too (manual, "Command Modifiers")
+abbrev pub is_compared : List ℕ → Bool
+is_compared b = nat_eq (num b 10 2 / 16384 % 2) 1
+
 -- the command of a message, of which nothing was told yet (manual, "Command Messages"). Its parameter is the number in
 -- bytes 12 to 15: of an ABORT and a GET COMMAND STATUS the reference number of the command that they are about, of a
--- transfer how many bytes are to be moved
+-- transfer how many bytes are to be moved. That in bytes 28 to 31 is the first block of a transfer
 abbrev pub sent_by : Connection → List ℕ → Sent
 sent_by via b = record {
   connection = via;
@@ -42,7 +46,9 @@ sent_by via b = record {
   bytes = length b;
   next = asks_for_next b;
   modified = is_modified b;
+  compares = is_compared b;
   parameter = four_in b 12;
+  block = four_in b 28;
   time = None;
   told = None;
   polled = None;
@@ -59,6 +65,19 @@ identity_in b =
       media = num b 28 4;
       size = if nat_eq (slice_index b 8) 0x83 then None else Some (num b 36 4);
     })
+    else None
+
+-- the flags of a unit in an end say that it is protected from writing: by software (0x1000) or by a switch (0x2000)
+-- (manual, "Unit Flags")
+abbrev pub protected_in : List ℕ → Bool
+protected_in b = nat_le 16 (length b) && not (nat_eq (num b 14 2 / 4096 % 4) 0)
+
+-- how many blocks all copies of a unit's replacement and caching table have, if an end is long enough to tell it: only one
+-- of GET UNIT STATUS does (manual, "GET UNIT STATUS Command")
+abbrev pub table_in : List ℕ → Option ℕ
+table_in b =
+    if nat_eq (slice_index b 8) 0x83 && nat_le 48 (length b)
+    then Some (num b 44 2 * slice_index b 47)
     else None
 
 -- an end tells of the controller: one of SET CONTROLLER CHARACTERISTICS (0x84) that succeeded (manual, "SET CONTROLLER
@@ -86,6 +105,8 @@ answer_by via b = record {
   parameter = four_in b 12;
   figure = four_in b 16;
   identity = identity_in b;
+  protected = protected_in b;
+  table = table_in b;
   controller = controller_in b;
   timeout = timeout_in b;
 }

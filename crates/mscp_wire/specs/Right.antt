@@ -9,9 +9,10 @@ use Rattle.mscp_reader.specs.declared.fault.Cause.TheVariants as causes
 use Rattle.mscp_reader.specs.declared.fault.ReadFault.{ReadFault}
 use Rattle.mscp_reader.specs.declared.fault.ReadFault.TheVariants as reads
 use Rattle.mscp_reader.specs.declared.fault.ScriptFault.{ScriptFault}
-use Rattle.mscp_wire.specs.Wire.{AreRight, broken_by, command_of, controller, kept, outstanding, timeout, told}
+use Rattle.mscp_wire.specs.Wire.{AreRight, broken_by, called, command_of, controller, kept, kept_called, outstanding, timeout, told}
+use Rattle.mscp_wire.specs.Doubts.{AreFewDoubts, doubts_of}
 use Rattle.mscp_wire.specs.Log.{Log, line_says, nothing, with_line, with_lines, with_said}
-use Rattle.mscp_wire.specs.Totals.{totals_of}
+use Rattle.mscp_wire.specs.Totals.{IsFew, totals_of}
 use Rattle.mscp_wire.specs.declared.line.Said.{Said}
 use Rattle.mscp_wire.specs.declared.line.Said.TheVariants as says
 use Rattle.mscp_wire.specs.declared.log.Reading.{Reading}
@@ -73,8 +74,8 @@ Comes bytes (Err fault) = IsTooLarge bytes fault ⊎ IsFirstFault bytes fault
 
 -- what was said of a log is what comes of it, unless memory ran out
 abbrev pub Judges : {A : Type 0} → Result (Verdict A) ReadFault → List ℕ → Type 0
-Judges (Ok (verdicts.Right totals commands)) bytes =
-    (log : Log) × Comes bytes (Ok (Ok log)) × (totals ≡ totals_of log.moments)
+Judges (Ok (verdicts.Right totals doubts commands)) bytes =
+    (log : Log) × Comes bytes (Ok (Ok log)) × (totals ≡ totals_of log.moments) × (doubts ≡ doubts_of log)
     × (commands.items ≡ outstanding log.moments)
 Judges (Ok (verdicts.Wrong wrong)) bytes = Comes bytes (Ok (Err wrong))
 Judges (Err (reads.Script fault)) bytes = Comes bytes (Err fault)
@@ -82,8 +83,8 @@ Judges (Err reads.OutOfMemory) bytes = Unit {0}
 
 -- and this is what was said of it
 abbrev pub Says : {A : Type 0} → Result (Verdict A) ReadFault → Result (Result Log Wrong) ScriptFault → Type 0
-Says (Ok (verdicts.Right totals commands)) came =
-    (log : Log) × (came ≡ Ok (Ok log)) × (totals ≡ totals_of log.moments)
+Says (Ok (verdicts.Right totals doubts commands)) came =
+    (log : Log) × (came ≡ Ok (Ok log)) × (totals ≡ totals_of log.moments) × (doubts ≡ doubts_of log)
     × (commands.items ≡ outstanding log.moments)
 Says (Ok (verdicts.Wrong wrong)) came = came ≡ Ok (Err wrong)
 Says (Err (reads.Script fault)) came = came ≡ Err fault
@@ -99,12 +100,20 @@ pub record IsAfter {A : Type 0} (log : Log) (reading : Reading A) : Type 0 where
   pub units : (via : Connection) (unit : ℕ) → kept reading.judge.units via unit ≡ told log.moments via unit
   pub controller : reading.judge.controller ≡ controller log.moments
   pub timeout : reading.judge.timeout ≡ timeout log.moments
+  pub called : (identifier : ℕ) → kept_called reading.judge.units identifier ≡ called log.moments identifier
   pub totals : reading.totals ≡ totals_of log.moments
+  pub doubts : reading.doubts ≡ doubts_of log
+  pub lines : length log.lines ≡ length log.moments
+
+-- no count is so large
+pub record HasFew {A : Type 0} (reading : Reading A) (n : ℕ) : Type 0 where
+  pub totals : IsFew reading.totals n
+  pub doubts : AreFewDoubts reading.doubts n
 
 -- what was returned of the line of this number, which says this, and is kept then
 abbrev pub Goes : {A : Type 0} → ℕ → Log → Result Said Cause → Result (Option Wrong) ReadFault → Reading A → Type 0
-Goes number log said (Ok None) reading = (next : Log) × ((said >>= with_said log) ≡ Ok next) × IsAfter next reading
+Goes number log said (Ok None) reading = (next : Log) × ((said >>= with_said number log) ≡ Ok next) × IsAfter next reading
 Goes number log said (Ok (Some wrong)) reading = IsWrong number log said wrong
 Goes number log said (Err (reads.Script fault)) reading =
-    (fault.line ≡ number) × ((said >>= with_said log) ≡ Err fault.cause)
+    (fault.line ≡ number) × ((said >>= with_said number log) ≡ Err fault.cause)
 Goes number log said (Err reads.OutOfMemory) reading = Unit {0}

@@ -6,11 +6,13 @@ use Rattle.mscp_packet.specs.Number.{num}
 use Rattle.mscp_drive.specs.declared.connection.Connection.{Connection}
 use Rattle.mscp_drive.specs.declared.connection.Connection.TheVariants.{First, Second}
 use Rattle.mscp_wire.specs.Messages.{History, answer_by, controller_in, same_connection, timeout_in, sent_by, status_code}
+use Rattle.mscp_wire.specs.Polls.{is_it}
 use Rattle.mscp_wire.specs.declared.answer.Answer.{Answer}
 use Rattle.mscp_wire.specs.declared.identity.Identity.{Identity}
 use Rattle.mscp_wire.specs.declared.moment.Moment.{Moment}
 use Rattle.mscp_wire.specs.declared.moment.Moment.TheVariants as moments
 use Rattle.mscp_wire.specs.declared.sent.Sent.{Sent}
+use Rattle.mscp_wire.specs.declared.noted.Noted.{Noted}
 use Rattle.mscp_wire.specs.declared.told.Seen.{Seen}
 use Rattle.mscp_wire.specs.declared.told.State.{State}
 use Rattle.mscp_wire.specs.declared.told.State.TheVariants.{Away, Open, Shared}
@@ -102,15 +104,51 @@ abbrev pub turned : State → State → State
 turned Shared new = Shared
 turned old new = new
 
+-- ---- what is noted of a unit, of which no rule asks
+
+-- an end tells what its unit is and how it is set: one of ONLINE, SET UNIT CHARACTERISTICS or GET UNIT STATUS that
+-- succeeded
+abbrev pub describes : Answer → Bool
+describes e = brings e || tells_unit e
+
+-- the later of two numbers, if it is there
+abbrev pub later_of : Option ℕ → Option ℕ → Option ℕ
+later_of None known = known
+later_of (Some number) known = Some number
+
+-- the size that an end tells
+abbrev pub size_of : Option Identity → Option ℕ
+size_of None = None
+size_of (Some i) = i.size
+
+-- nothing
+abbrev pub noted_nothing : Noted
+noted_nothing = record { size = None; table = None; protected = false; present = false }
+
+-- its size in blocks, that of its replacement and caching table, whether it is protected from writing and whether it is
+-- there, once an end of its own host came that names it. If it isn't online any more its size is another's
+abbrev pub noted_own : Noted → Answer → Noted
+noted_own noted e = record {
+  size = if leaves e then None else (if describes e then later_of (size_of e.identity) noted.size else noted.size);
+  table =
+      if leaves e || brings e then None else (if describes e then later_of e.table noted.table else noted.table);
+  protected = not (leaves e) && (if describes e then e.protected else noted.protected);
+  present = not (nat_eq (status_code e) 3) && (leaves e || describes e || noted.present);
+}
+
+-- and once one of the other host did: what that changed isn't told
+abbrev pub noted_other : Noted → Answer → Noted
+noted_other noted e = if leaves e || describes e then noted_nothing else noted
+
 -- ---- what a host was told of a unit
 
 -- nothing yet
 abbrev pub told_nothing : Told
-told_nothing = record { identity = None; sure = false; state = Open }
+told_nothing = record { identity = None; sure = false; state = Open; noted = noted_nothing }
 
 -- that it isn't online, as the controller was initialised
 abbrev pub told_reset : Told
-told_reset = record { identity = None; sure = false; state = Away }
+told_reset = record { identity = None; sure = false; state = Away; noted = noted_nothing }
 
 -- it isn't known to be shared to the other host
 abbrev pub is_single : State → Bool
@@ -129,6 +167,7 @@ after_own told e = record {
   state =
       if says_away e then turned told.state Away else (
       if brings e then turned told.state Open else told.state);
+  noted = noted_own told.noted e;
 }
 
 -- and once one of the other host did. If that brought the unit online, it may be another one
@@ -136,6 +175,7 @@ abbrev pub after_other : Told → Answer → Told
 after_other told e = record told {
   identity = if leaves e || (brings e && not (was_online e)) then None else told.identity;
   sure = not (leaves e || (brings e && not (was_online e))) && told.sure;
+  noted = noted_other told.noted e;
 }
 
 -- what the host of a connection was told of a unit once an end came
@@ -164,11 +204,6 @@ told h via unit = fold (told_after via unit) told_nothing h
 
 -- ---- what was told of the controller
 
--- the later of two numbers, if it is there
-abbrev pub later_of : Option ℕ → Option ℕ → Option ℕ
-later_of None known = known
-later_of (Some number) known = Some number
-
 -- its identifier, once a moment more came
 abbrev pub controller_after : Option ℕ → Moment → Option ℕ
 controller_after known (moments.Message via b time) = known
@@ -184,6 +219,28 @@ timeout_after known moments.Reset = None
 -- what either host was told of its identifier after a history
 abbrev pub controller : History → Option ℕ
 controller h = fold controller_after None h
+
+-- the identifier of a unit, if it is told
+abbrev pub identifier_of : Option Identity → Option ℕ
+identifier_of None = None
+identifier_of (Some i) = Some i.identifier
+
+-- the identifier of a unit of which an end says that it is online: one of ONLINE or GET UNIT STATUS that succeeded
+abbrev pub called_in : Answer → Option ℕ
+called_in e = if describes e && not (nat_eq e.code 0x8A) then identifier_of e.identity else None
+
+-- which unit was last said to be online and to have an identifier, once a moment more came
+abbrev pub called_after_end : ℕ → Option ℕ → Answer → Option ℕ
+called_after_end identifier known e = if is_it (called_in e) identifier then Some e.unit else known
+
+abbrev pub called_after : ℕ → Option ℕ → Moment → Option ℕ
+called_after identifier known (moments.Message via b time) = known
+called_after identifier known (moments.End via b) = called_after_end identifier known (answer_by via b.items)
+called_after identifier known moments.Reset = None
+
+-- the same after a history
+abbrev pub called : History → ℕ → Option ℕ
+called h identifier = fold (called_after identifier) None h
 
 -- what was told of the unit that a moment's end names, and of the controller
 abbrev pub seen_of : (Connection → ℕ → Told) → Option ℕ → Moment → Seen
@@ -210,6 +267,10 @@ told_or others (Some told) = told
 -- what is kept of a unit of a connection
 abbrev pub kept : {A : Type 0} → Units A → Connection → ℕ → Told
 kept units via unit = told_or units.others (tree.get nat_cmp units.kept (key via unit))
+
+-- which unit is kept of an identifier
+abbrev pub kept_called : {A : Type 0} → Units A → ℕ → Option ℕ
+kept_called units identifier = tree.get nat_cmp units.called identifier
 
 -- this is kept of a unit of a connection, and of each other as before
 abbrev pub Puts : {A : Type 0} → Units A → Units A → Connection → ℕ → Told → Type 0

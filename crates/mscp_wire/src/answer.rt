@@ -4,7 +4,7 @@ ghost use Rattle.std.specs.Prelude.{◌≡◌, ◌≤◌, ◌<◌, ◌^◌, leng
 ghost use Rattle.mscp_wire.specs.Wire as wire;
 ghost use Rattle.mscp_wire.specs.Messages.{tells_controller};
 
-use crate::identity::Identity;
+use crate::identity::{Identity, protected_in, table_in};
 use crate::sent::{Sent, four_in, is_required, is_transfer, is_unknown};
 use mscp_drive::Connection;
 use mscp_packet::fields::{eight_at, four_at, two_at};
@@ -30,6 +30,10 @@ pub struct Answer {
     /// What it says of its unit, if it has 44 bytes at least: only an end of GET UNIT STATUS, ONLINE or SET UNIT CHARACTERISTICS
     /// does.
     pub identity: Option<Identity>,
+    /// Whether it says that its unit is protected from writing.
+    pub protected: bool,
+    /// How many blocks all copies of its unit's replacement and caching table have, if it is one of GET UNIT STATUS.
+    pub table: Option<u32>,
     /// The identifier of the controller, if a SET CONTROLLER CHARACTERISTICS succeeded.
     pub controller: Option<u64>,
     /// The controller timeout in seconds, if such an end tells it.
@@ -103,30 +107,6 @@ fn timeout_in(b: &[u8]) -> Option<u16>
     }
 }
 
-/// Whether two sizes are the same, if both are there.
-fn fits_size(one: Option<u32>, other: Option<u32>) -> bool
-    ensures { result ≡ wire.fits one other }
-{
-    match (one, other) {
-        (Some(one), Some(other)) => one == other,
-        _ => true,
-    }
-}
-
-/// Whether an end tells of a unit what is known of it.
-pub fn agrees(told: Option<Identity>, known: &Identity) -> bool
-    ensures { result ≡ wire.agrees told known.now }
-{
-    match told {
-        Some(told) => {
-            told.identifier == known.identifier
-                && told.media == known.media
-                && fits_size(told.size, known.size)
-        }
-        None => false,
-    }
-}
-
 /// Whether a number is there, and is this.
 pub fn is_it(found: Option<u32>, number: u32) -> bool
     ensures { result ≡ wire.is_it found number }
@@ -152,6 +132,8 @@ impl Answer {
             parameter: four_in(b, 12),
             figure: four_in(b, 16),
             identity: Identity::of(b),
+            protected: protected_in(b),
+            table: table_in(b),
             controller: controller_in(b),
             timeout: timeout_in(b),
         }
@@ -165,7 +147,7 @@ impl Answer {
     }
 
     /// Whether the endcode is that of an opcode which the controller knows.
-    fn is_known(&self) -> bool
+    pub fn is_known(&self) -> bool
         ensures { result ≡ wire.is_known self.now }
     {
         self.code != 0x80
@@ -339,8 +321,25 @@ impl Answer {
         self.code == 0x89 && self.status_code() == 0
     }
 
+    /// Whether it tells what its unit is and how it is set.
+    pub fn describes(&self) -> bool
+        ensures { result ≡ wire.describes self.now }
+    {
+        self.brings() || self.tells_unit()
+    }
+
+    /// The identifier of its unit, if it says that this is online.
+    pub fn called(&self) -> Option<u64>
+        ensures { result ≡ wire.called_in self.now }
+    {
+        match self.identity {
+            Some(identity) if self.describes() && self.code != 0x8A => Some(identity.identifier),
+            _ => None,
+        }
+    }
+
     /// Whether it is one of a transfer.
-    fn is_moved(&self) -> bool
+    pub fn is_moved(&self) -> bool
         ensures { result ≡ wire.is_moved self.now.code }
     {
         self.code == 0x90

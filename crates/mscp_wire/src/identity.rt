@@ -1,9 +1,9 @@
 // What ends tell of units.
 
-ghost use Rattle.std.specs.Prelude.{◌≡◌};
-ghost use Rattle.mscp_wire.specs.Wire.{identity_in};
+ghost use Rattle.std.specs.Prelude.{◌≡◌, ◌≤◌, length};
+ghost use Rattle.mscp_wire.specs.Wire as wire;
 
-use mscp_packet::fields::{eight_at, four_at};
+use mscp_packet::fields::{eight_at, four_at, two_at};
 
 /// What an end says of its unit (manual, "End Messages").
 #[derive(Clone, Copy)]
@@ -19,7 +19,7 @@ pub struct Identity {
 impl Identity {
     /// What an end in these bytes says of its unit, if it is so long.
     pub fn of(b: &[u8]) -> Option<Identity>
-        ensures { result ≡ identity_in b.now }
+        ensures { result ≡ wire.identity_in b.now }
     {
         if b.len() < 44 {
             return None;
@@ -33,5 +33,59 @@ impl Identity {
                 Some(four_at(b, 36))
             },
         })
+    }
+}
+
+/// Whether the flags of a unit in an end say that it is protected from writing (manual, "Unit Flags").
+pub fn protected_in(b: &[u8]) -> bool
+    requires { 12 ≤ length b.now }
+    ensures { result ≡ wire.protected_in b.now }
+{
+    b.len() >= 16 && two_at(b, 14) / 4096 % 4 != 0
+}
+
+/// How many blocks all copies of a unit's replacement and caching table have, if an end is long enough to tell it.
+pub fn table_in(b: &[u8]) -> Option<u32>
+    requires { 12 ≤ length b.now }
+    ensures { result ≡ wire.table_in b.now }
+{
+    if b[8] == 0x83 && b.len() >= 48 {
+        Some(u32::from(two_at(b, 44)) * u32::from(b[47]))
+    } else {
+        None
+    }
+}
+
+/// The later of two numbers, if it is there.
+pub fn later_number(new: Option<u32>, known: Option<u32>) -> Option<u32>
+    ensures { result ≡ wire.later_of new known }
+{
+    match new {
+        Some(new) => Some(new),
+        None => known,
+    }
+}
+
+/// Whether two sizes are the same, if both are there.
+fn fits_size(one: Option<u32>, other: Option<u32>) -> bool
+    ensures { result ≡ wire.fits one other }
+{
+    match (one, other) {
+        (Some(one), Some(other)) => one == other,
+        _ => true,
+    }
+}
+
+/// Whether an end tells of a unit what is known of it.
+pub fn agrees(told: Option<Identity>, known: &Identity) -> bool
+    ensures { result ≡ wire.agrees told known.now }
+{
+    match told {
+        Some(told) => {
+            told.identifier == known.identifier
+                && told.media == known.media
+                && fits_size(told.size, known.size)
+        }
+        None => false,
     }
 }

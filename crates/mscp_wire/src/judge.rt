@@ -3,12 +3,15 @@
 ghost use Rattle.std.specs.Prelude.{◌≡◌, ℕ, ◌<◌, ◌++◌, ◌∷◌, [], length, if◌then◌else◌, OnOk, IfOk, IfSome, Some, None};
 ghost use Rattle.mscp_packet.specs.Number.{num};
 ghost use Rattle.mscp_drive.specs.declared.connection.Connection as connections;
+ghost use Rattle.mscp_wire.specs.Doubts as doubt;
 ghost use Rattle.mscp_wire.specs.Wire as wire;
 ghost use Rattle.mscp_wire.specs.Kept.{sents};
 ghost use Rattle.mscp_wire.specs.Totals as total;
 
 use crate::answer::{Answer, is_long};
 use crate::commands::Commands;
+use crate::doubtful::doubtful_found;
+use crate::doubts::Doubtful;
 use crate::falls::fall_found;
 use crate::held::Held;
 use crate::moment::Moment;
@@ -152,17 +155,20 @@ pub struct Stepped {
     pub command: Option<Sent>,
     /// How far it says that a figure fell.
     pub fall: u32,
+    /// What is doubtful of it.
+    pub doubtful: Doubtful,
 }
 
 impl Stepped {
     /// Of a moment that breaks this rule, and is about no command.
     fn broken(rule: Rule) -> Stepped
-        ensures { result ≡ record { rule = Some rule; command = None; fall = 0 } }
+        ensures { result ≡ record { rule = Some rule; command = None; fall = 0; doubtful = doubt.no_doubt } }
     {
         Stepped {
             rule: Some(rule),
             command: None,
             fall: 0,
+            doubtful: Doubtful::nothing(),
         }
     }
 }
@@ -188,6 +194,7 @@ impl<A: Allocator + Copy> Judge<A> {
         ensures commands { result.commands ≡ [] }
         ensures units { (via : connections.Connection) (unit : ℕ)
             → wire.kept result.units via unit ≡ wire.told_nothing }
+        ensures called { (identifier : ℕ) → wire.kept_called result.units identifier ≡ None }
     {
         Judge {
             credits,
@@ -210,6 +217,7 @@ impl<A: Allocator + Copy> Judge<A> {
         ensures command { IfOk result (λ o. o.command
             ≡ (if wire.is_message bytes.now then Some (wire.sent_by connection bytes.now) else None)) }
         ensures fall { IfOk result (λ o. o.fall ≡ 0) }
+        ensures doubtful { IfOk result (λ o. o.doubtful ≡ doubt.no_doubt) }
         ensures after { IfOk result (λ o. o.rule ≡ None → self.new.commands
             ≡ self.old.commands
             ++ wire.asking self.old.timeout self.old.commands
@@ -217,6 +225,8 @@ impl<A: Allocator + Copy> Judge<A> {
         ensures units { IfOk result (λ o. o.rule ≡ None → (via : connections.Connection) (unit : ℕ)
             → wire.kept self.new.units via unit ≡ wire.told_after_message via unit
             (wire.kept self.old.units via unit) (wire.sent_by connection bytes.now)) }
+        ensures called { (identifier : ℕ)
+            → wire.kept_called self.new.units identifier ≡ wire.kept_called self.old.units identifier }
         ensures controller { self.new.controller ≡ self.old.controller }
         ensures timeout { self.new.timeout ≡ self.old.timeout }
         ensures credits { self.new.credits ≡ self.old.credits }
@@ -236,6 +246,7 @@ impl<A: Allocator + Copy> Judge<A> {
             rule,
             command: Some(sent),
             fall: 0,
+            doubtful: Doubtful::nothing(),
         })
     }
 
@@ -246,6 +257,8 @@ impl<A: Allocator + Copy> Judge<A> {
         ensures after { OnOk result (self.new.commands ≡ wire.after_end self.old.commands answer.now place) }
         ensures units { OnOk result ((via : connections.Connection) (unit : ℕ) → wire.kept self.new.units via unit
             ≡ wire.told_after_end via unit (wire.kept self.old.units via unit) answer.now) }
+        ensures called { OnOk result ((identifier : ℕ) → wire.kept_called self.new.units identifier
+            ≡ wire.called_after_end identifier (wire.kept_called self.old.units identifier) answer.now) }
         ensures controller { OnOk result (self.new.controller
             ≡ wire.later_of answer.now.controller self.old.controller) }
         ensures timeout { OnOk result (self.new.timeout ≡ wire.later_of answer.now.timeout self.old.timeout) }
@@ -274,12 +287,20 @@ impl<A: Allocator + Copy> Judge<A> {
         ensures fall { IfOk result (λ o. o.fall ≡ (if wire.is_long bytes.now
             then total.fall_found (wire.answer_by connection bytes.now)
             (wire.answered_by self.old.commands (wire.answer_by connection bytes.now)) else 0)) }
+        ensures doubtful { IfOk result (λ o. o.doubtful ≡ (if wire.is_long bytes.now
+            then doubt.doubtful_found (wire.kept self.old.units) (wire.kept_called self.old.units)
+            (wire.answer_by connection bytes.now)
+            (wire.answered_by self.old.commands (wire.answer_by connection bytes.now)) else doubt.no_doubt)) }
         ensures after { IfOk result (λ o. o.rule ≡ None → self.new.commands
             ≡ wire.after_end self.old.commands (wire.answer_by connection bytes.now)
             (wire.place_of self.old.commands (wire.answer_by connection bytes.now))) }
         ensures units { IfOk result (λ o. o.rule ≡ None → (via : connections.Connection) (unit : ℕ)
             → wire.kept self.new.units via unit ≡ wire.told_after_end via unit
             (wire.kept self.old.units via unit) (wire.answer_by connection bytes.now)) }
+        ensures called { IfOk result (λ o. o.rule ≡ None → (identifier : ℕ)
+            → wire.kept_called self.new.units identifier
+            ≡ wire.called_after_end identifier (wire.kept_called self.old.units identifier)
+            (wire.answer_by connection bytes.now)) }
         ensures controller { IfOk result (λ o. o.rule ≡ None → self.new.controller
             ≡ wire.later_of (wire.controller_in bytes.now) self.old.controller) }
         ensures timeout { IfOk result (λ o. o.rule ≡ None → self.new.timeout
@@ -298,6 +319,7 @@ impl<A: Allocator + Copy> Judge<A> {
         };
         let rule = broken_answer(&self.commands, &seen, &answer, place);
         let fall = fall_found(&answer, command);
+        let doubtful = doubtful_found(&self.units, &seen.unit, &answer, command);
         if rule.is_none() {
             self.ended(&answer, place)?;
         }
@@ -305,6 +327,7 @@ impl<A: Allocator + Copy> Judge<A> {
             rule,
             command,
             fall,
+            doubtful,
         })
     }
 
@@ -314,11 +337,16 @@ impl<A: Allocator + Copy> Judge<A> {
             (wire.seen_of (wire.kept self.old.units) self.old.controller moment.now) moment.now) }
         ensures command { IfOk result (λ o. o.command ≡ wire.command_of self.old.commands moment.now) }
         ensures fall { IfOk result (λ o. o.fall ≡ total.fall_after self.old.commands moment.now) }
+        ensures doubtful { IfOk result (λ o. o.doubtful ≡ doubt.doubtful self.old.commands (wire.kept self.old.units)
+            (wire.kept_called self.old.units) moment.now) }
         ensures after { IfOk result (λ o. o.rule ≡ None → self.new.commands
             ≡ wire.after self.old.timeout self.old.commands moment.now) }
         ensures units { IfOk result (λ o. o.rule ≡ None → (via : connections.Connection) (unit : ℕ)
             → wire.kept self.new.units via unit
             ≡ wire.told_after via unit (wire.kept self.old.units via unit) moment.now) }
+        ensures called { IfOk result (λ o. o.rule ≡ None → (identifier : ℕ)
+            → wire.kept_called self.new.units identifier
+            ≡ wire.called_after identifier (wire.kept_called self.old.units identifier) moment.now) }
         ensures controller { IfOk result (λ o. o.rule ≡ None → self.new.controller
             ≡ wire.controller_after self.old.controller moment.now) }
         ensures timeout { IfOk result (λ o. o.rule ≡ None → self.new.timeout
@@ -339,6 +367,7 @@ impl<A: Allocator + Copy> Judge<A> {
                     rule: None,
                     command: None,
                     fall: 0,
+                    doubtful: Doubtful::nothing(),
                 })
             }
         }

@@ -3,6 +3,8 @@
 
 mod answer;
 mod commands;
+mod doubtful;
+mod doubts;
 mod falls;
 mod held;
 mod identity;
@@ -10,6 +12,7 @@ mod judge;
 mod line;
 mod log;
 mod moment;
+mod noted;
 mod outstanding;
 mod polls;
 mod rule;
@@ -23,12 +26,14 @@ mod wrong;
 
 pub use crate::answer::Answer;
 pub use crate::commands::Commands;
+pub use crate::doubts::{Doubt, Doubtful, Doubts, Found};
 pub use crate::falls::Falls;
 pub use crate::identity::Identity;
 pub use crate::judge::{Judge, Stepped};
 pub use crate::line::{Said, line_says};
 pub use crate::log::{Reading, Verdict, judge_wire};
 pub use crate::moment::Moment;
+pub use crate::noted::Noted;
 pub use crate::rule::Rule;
 pub use crate::sent::{Asked, Sent};
 pub use crate::told::{Seen, State, Told};

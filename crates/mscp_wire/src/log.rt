@@ -3,9 +3,9 @@
 ghost use Rattle.std.specs.Prelude.{◌≡◌, ◌≤◌, ◌<◌, ◌+◌, length, Result, OnOk, IfOk};
 ghost use Rattle.mscp_wire.specs.Log as logs;
 ghost use Rattle.mscp_wire.specs.Log.{Log, nothing};
-ghost use Rattle.mscp_wire.specs.Right.{Comes, Goes, IsAfter, Judges, Says};
-ghost use Rattle.mscp_wire.specs.Totals.{IsFew};
+ghost use Rattle.mscp_wire.specs.Right.{Comes, Goes, HasFew, IsAfter, Judges, Says};
 
+use crate::doubts::Doubts;
 use crate::judge::{Judge, Stepped};
 use crate::line::{Said, line_says};
 use crate::moment::Moment;
@@ -18,8 +18,8 @@ use std::alloc::Allocator;
 /// What is said of a log.
 #[derive(Drop)]
 pub enum Verdict<A: Allocator> {
-    /// Each moment is right. These are the totals, and the commands that are still outstanding.
-    Right(Totals, Vec<Sent, A>),
+    /// Each moment is right. These are the totals, the doubts, and the commands that are still outstanding.
+    Right(Totals, Doubts, Vec<Sent, A>),
     /// This one isn't.
     Wrong(Wrong),
 }
@@ -29,25 +29,28 @@ pub enum Verdict<A: Allocator> {
 pub struct Reading<A: Allocator> {
     pub judge: Judge<A>,
     pub totals: Totals,
+    pub doubts: Doubts,
 }
 
 impl<A: Allocator + Copy> Reading<A> {
     /// Of no line.
     fn new(alloc: A) -> Reading<A>
         ensures after { IsAfter nothing result }
-        ensures few { IsFew result.totals 1 }
+        ensures few { HasFew result 1 }
     {
         Reading {
             judge: Judge::new(alloc, None),
             totals: Totals::none(),
+            doubts: Doubts::none(),
         }
     }
 
     /// What comes of it that each host has so many credits. That is told before anything else.
     fn credits(&mut self, number: u32, credits: u32) -> Result<Option<Wrong>, ReadFault>
+        requires { HasFew self.old number }
         ensures after { (log : Log) → IsAfter log self.old
             → Goes number log (Ok (Said.Credits credits)) result self.new }
-        ensures few { self.new.totals ≡ self.old.totals }
+        ensures few { OnOk result (HasFew self.new (number + 1)) }
     {
         if self.judge.credits.is_some() || self.totals.counts.moments != 0 {
             return Err(ReadFault::Script(ScriptFault {
@@ -61,15 +64,16 @@ impl<A: Allocator + Copy> Reading<A> {
 
     /// What comes of a moment.
     fn moment(&mut self, number: u32, moment: Moment) -> Result<Option<Wrong>, ReadFault>
-        requires { IsFew self.old.totals number }
+        requires { HasFew self.old number }
         ensures after { (log : Log) → IsAfter log self.old
             → Goes number log (Ok (Said.Happens moment)) result self.new }
-        ensures few { OnOk result (IsFew self.new.totals (number + 1)) }
+        ensures few { OnOk result (HasFew self.new (number + 1)) }
     {
         let Stepped {
             rule,
             command,
             fall,
+            doubtful,
         } = self.judge.step(&moment)?;
         match rule {
             Some(rule) => Ok(Some(Wrong {
@@ -81,6 +85,7 @@ impl<A: Allocator + Copy> Reading<A> {
             None => {
                 let queue = self.judge.commands.len();
                 self.totals.add(number, &moment, queue, fall);
+                self.doubts.add(number, &doubtful, command);
                 Ok(None)
             }
         }
@@ -88,10 +93,10 @@ impl<A: Allocator + Copy> Reading<A> {
 
     /// What comes of what the line of this number says.
     fn said(&mut self, number: u32, said: Said) -> Result<Option<Wrong>, ReadFault>
-        requires { IsFew self.old.totals number }
+        requires { HasFew self.old number }
         ensures after { (log : Log) → IsAfter log self.old
             → Goes number log (Ok said) result self.new }
-        ensures few { OnOk result (IsFew self.new.totals (number + 1)) }
+        ensures few { OnOk result (HasFew self.new (number + 1)) }
     {
         match said {
             Said::Nothing | Said::Attention(..) => Ok(None),
@@ -102,10 +107,10 @@ impl<A: Allocator + Copy> Reading<A> {
 
     /// What comes of the line of this number.
     fn line(&mut self, number: u32, bytes: &[u8]) -> Result<Option<Wrong>, ReadFault>
-        requires { IsFew self.old.totals number }
+        requires { HasFew self.old number }
         ensures after { (log : Log) → IsAfter log self.old
             → Goes number log (logs.line_says number bytes.now) result self.new }
-        ensures few { OnOk result (IsFew self.new.totals (number + 1)) }
+        ensures few { OnOk result (HasFew self.new (number + 1)) }
     {
         let said = line_says(number, bytes)?;
         self.said(number, said)
@@ -127,7 +132,11 @@ fn judge_lines<A: Allocator + Copy>(
             return Ok(Verdict::Wrong(wrong));
         }
     }
-    let Reading { judge, totals } = reading;
+    let Reading {
+        judge,
+        totals,
+        doubts,
+    } = reading;
     let Judge {
         credits: _,
         controller: _,
@@ -135,7 +144,7 @@ fn judge_lines<A: Allocator + Copy>(
         units: _,
         commands,
     } = judge;
-    Ok(Verdict::Right(totals, commands.into_list(alloc)?))
+    Ok(Verdict::Right(totals, doubts, commands.into_list(alloc)?))
 }
 
 /// What is said of a log.

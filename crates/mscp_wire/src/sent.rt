@@ -1,7 +1,7 @@
 // A command that is outstanding.
 
 ghost use Rattle.std.specs.Prelude.{◌≡◌, ◌≤◌, length};
-ghost use Rattle.mscp_wire.specs.Wire.{asks_for_next, four_in, is_modified, is_named, is_immediate, is_ordered, is_required, is_sequential, is_short, is_transfer, is_unknown, least_message, sent_by};
+ghost use Rattle.mscp_wire.specs.Wire.{asks_for_next, four_in, is_compared, is_modified, is_named, is_immediate, is_ordered, is_required, is_sequential, is_short, is_transfer, is_unknown, least_message, sent_by};
 
 use mscp_drive::Connection;
 use mscp_packet::fields::{four_at, two_at};
@@ -31,9 +31,13 @@ pub struct Sent {
     pub next: bool,
     /// Whether it has a modifier.
     pub modified: bool,
+    /// Whether it has the modifier Compare.
+    pub compares: bool,
     /// The number in bytes 12 to 15, if the message has them: of an ABORT and a GET COMMAND STATUS the reference number of the
     /// command that they are about, of a transfer how many bytes are to be moved.
     pub parameter: Option<u32>,
+    /// The number in bytes 28 to 31, if the message has them: the first block of a transfer.
+    pub block: Option<u32>,
     /// When it was sent, in nanoseconds, if that is told.
     pub time: Option<u64>,
     /// The figure that was last told of it by a poll of the oldest command, if one was.
@@ -72,6 +76,14 @@ fn is_modified(b: &[u8]) -> bool
     two_at(b, 10) != 0
 }
 
+/// Whether a message sets the modifier Compare (manual, "Command Modifiers").
+fn is_compared(b: &[u8]) -> bool
+    requires { 12 ≤ length b.now }
+    ensures { result ≡ is_compared b.now }
+{
+    two_at(b, 10) / 16384 % 2 == 1
+}
+
 impl Sent {
     /// The command of a message (manual, "Command Messages").
     pub fn of(connection: Connection, b: &[u8]) -> Sent
@@ -86,7 +98,9 @@ impl Sent {
             bytes: b.len(),
             next: asks_for_next(b),
             modified: is_modified(b),
+            compares: is_compared(b),
             parameter: four_in(b, 12),
+            block: four_in(b, 28),
             time: None,
             told: None,
             polled: None,

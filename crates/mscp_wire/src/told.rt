@@ -3,8 +3,9 @@
 ghost use Rattle.std.specs.Prelude.{◌≡◌};
 ghost use Rattle.mscp_wire.specs.Wire as wire;
 
-use crate::answer::{Answer, agrees};
-use crate::identity::Identity;
+use crate::answer::Answer;
+use crate::identity::{Identity, agrees};
+use crate::noted::Noted;
 
 /// What a host was told of whether a unit is online.
 #[derive(Clone, Copy)]
@@ -25,6 +26,7 @@ pub struct Told {
     /// Whether it was online then, and still is.
     pub sure: bool,
     pub state: State,
+    pub noted: Noted,
 }
 
 /// What was told before an end came.
@@ -80,7 +82,7 @@ impl State {
     }
 
     /// Whether it isn't known to be shared to the other host.
-    fn is_single(self) -> bool
+    pub fn is_single(self) -> bool
         ensures { result ≡ wire.is_single self }
     {
         !matches!(self, State::Shared)
@@ -106,6 +108,7 @@ impl Told {
             identity: None,
             sure: false,
             state: State::Open,
+            noted: Noted::nothing(),
         }
     }
 
@@ -117,6 +120,7 @@ impl Told {
             identity: None,
             sure: false,
             state: State::Away,
+            noted: Noted::nothing(),
         }
     }
 
@@ -188,6 +192,7 @@ impl Told {
             identity: self.identity_told(answer),
             sure: self.sure_told(answer),
             state: self.state_told(answer),
+            noted: self.noted.own(answer),
         }
     }
 
@@ -200,7 +205,8 @@ impl Told {
         Told {
             identity,
             sure: !is_new && self.sure,
-            ..*self
+            state: self.state,
+            noted: self.noted.other(answer),
         }
     }
 }

@@ -1,6 +1,7 @@
 // What hosts were told of units, by their numbers.
 
-ghost use Rattle.std.specs.Prelude.{◌≡◌, ℕ, OnOk};
+ghost use Rattle.std.specs.Prelude.{◌≡◌, ℕ, OnOk, None};
+ghost use Rattle.mscp_wire.specs.Doubts as doubt;
 ghost use Rattle.mscp_wire.specs.Wire as wire;
 ghost use Rattle.mscp_drive.specs.declared.connection.Connection as connections;
 
@@ -17,6 +18,8 @@ pub struct Units<A: Allocator> {
     /// What each was told of all that aren't kept.
     pub others: Told,
     pub kept: BTreeMap<u32, Told, A>,
+    /// Which unit was last said to be online and to have an identifier.
+    pub called: BTreeMap<u64, u16, A>,
 }
 
 /// The number of a unit of a connection.
@@ -39,23 +42,37 @@ fn other_side(connection: Connection) -> Connection
     }
 }
 
+/// Whether a unit was told to be online, and to have this identifier.
+fn holds(identifier: u64, told: &Told) -> bool
+    ensures { result ≡ doubt.holds identifier told.now }
+{
+    match told.identity {
+        Some(known) => told.sure && known.identifier == identifier,
+        None => false,
+    }
+}
+
 impl<A: Allocator + Copy> Units<A> {
     /// Nothing was told.
     pub fn new(alloc: A) -> Units<A>
-        ensures { (via : connections.Connection) (unit : ℕ) → wire.kept result via unit ≡ wire.told_nothing }
+        ensures told { (via : connections.Connection) (unit : ℕ) → wire.kept result via unit ≡ wire.told_nothing }
+        ensures called { (identifier : ℕ) → wire.kept_called result identifier ≡ None }
     {
         Units {
             others: Told::nothing(),
             kept: BTreeMap::new(alloc),
+            called: BTreeMap::new(alloc),
         }
     }
 
     /// No unit is online, as the controller was initialised.
     pub fn clear(&mut self)
-        ensures { (via : connections.Connection) (unit : ℕ) → wire.kept self.new via unit ≡ wire.told_reset }
+        ensures told { (via : connections.Connection) (unit : ℕ) → wire.kept self.new via unit ≡ wire.told_reset }
+        ensures called { (identifier : ℕ) → wire.kept_called self.new identifier ≡ None }
     {
         self.others = Told::reset();
         self.kept.clear();
+        self.called.clear();
     }
 
     /// What the host of a connection was told of a unit.
@@ -68,18 +85,56 @@ impl<A: Allocator + Copy> Units<A> {
         }
     }
 
+    /// Whether a unit was told to be online, and to have an identifier, by either host.
+    fn is_held(&self, identifier: u64, unit: u16) -> bool
+        ensures { result ≡ doubt.is_held (wire.kept self.now) identifier unit }
+    {
+        holds(identifier, &self.told(Connection::First, unit))
+            || holds(identifier, &self.told(Connection::Second, unit))
+    }
+
+    /// Whether an end says that its unit is online and has an identifier that another one has.
+    pub fn is_called_twice(&self, answer: &Answer) -> bool
+        ensures { result ≡ doubt.is_called_twice (wire.kept self.now) (wire.kept_called self.now)
+            (wire.called_in answer.now) answer.now }
+    {
+        let Some(identifier) = answer.called() else {
+            return false;
+        };
+        match self.called.get(&identifier).copied() {
+            Some(unit) => unit != answer.unit && self.is_held(identifier, unit),
+            None => false,
+        }
+    }
+
     /// Keeps this of a unit of a connection.
     fn put(&mut self, connection: Connection, unit: u16, told: Told) -> Result<(), AllocError>
-        ensures { OnOk result (wire.Puts self.old self.new connection unit told) }
+        ensures told { OnOk result (wire.Puts self.old self.new connection unit told) }
+        ensures called { self.new.called ≡ self.old.called }
     {
         self.kept.insert(key(connection, unit), told)?;
         Ok(())
     }
 
+    /// Which unit was last said to have an identifier once an end came.
+    fn hear_call(&mut self, answer: &Answer) -> Result<(), AllocError>
+        ensures told { (via : connections.Connection) (unit : ℕ)
+            → wire.kept self.new via unit ≡ wire.kept self.old via unit }
+        ensures called { OnOk result ((identifier : ℕ) → wire.kept_called self.new identifier
+            ≡ wire.called_after_end identifier (wire.kept_called self.old identifier) answer.now) }
+    {
+        if let Some(identifier) = answer.called() {
+            self.called.insert(identifier, answer.unit)?;
+        }
+        Ok(())
+    }
+
     /// What was told once an end came.
     pub fn hear_end(&mut self, answer: &Answer) -> Result<(), OutOfMemory>
-        ensures { OnOk result ((via : connections.Connection) (unit : ℕ) → wire.kept self.new via unit
+        ensures told { OnOk result ((via : connections.Connection) (unit : ℕ) → wire.kept self.new via unit
             ≡ wire.told_after_end via unit (wire.kept self.old via unit) answer.now) }
+        ensures called { OnOk result ((identifier : ℕ) → wire.kept_called self.new identifier
+            ≡ wire.called_after_end identifier (wire.kept_called self.old identifier) answer.now) }
     {
         if !answer.leaves() && !answer.brings() && !answer.tells_unit() {
             return Ok(());
@@ -89,13 +144,15 @@ impl<A: Allocator + Copy> Units<A> {
         let others = self.told(other, answer.unit).after_other(answer);
         self.put(answer.connection, answer.unit, own)?;
         self.put(other, answer.unit, others)?;
+        self.hear_call(answer)?;
         Ok(())
     }
 
     /// And once a command came.
     pub fn hear_command(&mut self, sent: &Sent) -> Result<(), OutOfMemory>
-        ensures { OnOk result ((via : connections.Connection) (unit : ℕ) → wire.kept self.new via unit
+        ensures told { OnOk result ((via : connections.Connection) (unit : ℕ) → wire.kept self.new via unit
             ≡ wire.told_after_message via unit (wire.kept self.old via unit) sent.now) }
+        ensures called { (identifier : ℕ) → wire.kept_called self.new identifier ≡ wire.kept_called self.old identifier }
     {
         if sent.opcode != 9 {
             return Ok(());

@@ -4,10 +4,11 @@ use Rattle.std.specs.List.{flat_map}
 use Rattle.mscp_wire.specs.Log.{Log}
 use Rattle.mscp_wire.specs.Right.{Comes, Judges}
 use Rattle.mscp_wire.specs.Totals.{totals_of}
+use Rattle.mscp_wire.specs.Doubts.{doubts_of}
 use Rattle.mscp_wire.specs.declared.log.Verdict.{Verdict}
 use Rattle.mscp_wire.specs.declared.log.Verdict.TheVariants as verdicts
 use Rattle.mscp_wire.specs.declared.wrong.Wrong.{Wrong}
-use Rattle.mscpjudge.specs.Wired.{came_outcome, came_text, outstanding_text, wire_outcome, wire_text}
+use Rattle.mscpjudge.specs.Wired.{came_outcome, came_text, doubts_text, outstanding_text, wire_outcome, wire_text}
 use Rattle.mscpjudge.specs.Counted.{totals_text}
 
 pub record Came {A : Type 0} (verdict : Verdict A) (log : List ℕ) : Type 0 where
@@ -17,11 +18,13 @@ pub record Came {A : Type 0} (verdict : Verdict A) (log : List ℕ) : Type 0 whe
   pub text : wire_text verdict ≡ came_text came
 
 pub came_of : {A : Type 0} (verdict : Verdict A) (log : List ℕ) → Judges (Ok verdict) log → Came verdict log
-came_of (verdicts.Right totals commands) log j = record {
+came_of (verdicts.Right totals doubts commands) log j = record {
   came = Ok j.0;
   comes = j.1;
   outcome = refl;
-  text = ap (λ t. totals_text t ++ flat_map outstanding_text commands.items) j.2
-      ∙ ap (λ xs. totals_text (totals_of j.0.moments) ++ flat_map outstanding_text xs) j.3;
+  text = ap (λ t. totals_text t ++ doubts_text doubts ++ flat_map outstanding_text commands.items) j.2
+      ∙ ap (λ d. totals_text (totals_of j.0.moments) ++ doubts_text d ++ flat_map outstanding_text commands.items) j.3
+      ∙ ap (λ xs. totals_text (totals_of j.0.moments) ++ doubts_text (doubts_of j.0) ++ flat_map outstanding_text xs)
+      j.4;
 }
 came_of (verdicts.Wrong wrong) log j = record { came = Err wrong; comes = j; outcome = refl; text = refl }

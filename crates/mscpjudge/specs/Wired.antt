@@ -10,6 +10,10 @@ use Rattle.mscp_wire.specs.Wire.{outstanding}
 use Rattle.mscp_wire.specs.Log.{Log}
 use Rattle.mscp_wire.specs.Right.{Comes}
 use Rattle.mscp_wire.specs.Totals.{totals_of}
+use Rattle.mscp_wire.specs.Doubts.{doubts_of}
+use Rattle.mscp_wire.specs.declared.doubts.Doubt.{Doubt}
+use Rattle.mscp_wire.specs.declared.doubts.Doubts.{Doubts}
+use Rattle.mscp_wire.specs.declared.doubts.Found.{Found}
 use Rattle.mscp_wire.specs.declared.log.Verdict.{Verdict}
 use Rattle.mscp_wire.specs.declared.log.Verdict.TheVariants as verdicts
 use Rattle.mscp_wire.specs.declared.rule.Rule.{Rule}
@@ -124,9 +128,42 @@ broken_text wrong =
     codes "line " ++ decimal wrong.line ++ codes ": not right\n" ++ rule_line wrong.rule ++ meant_text wrong.command
     ++ manual_line wrong.rule
 
+-- the end of a line about the command of a moment, if it has one
+abbrev pub answered_text : Option Sent → List ℕ
+answered_text None = codes "\n"
+answered_text (Some s) = codes ": " ++ command_text s
+
+-- the line of the doubts of one kind, if there are any: how many, and the first
+abbrev pub first_text : List ℕ → ℕ → Option Found → List ℕ
+first_text kind count None = []
+first_text kind count (Some found) =
+    (codes "doubt: " ++ decimal count) ++ codes " " ++ kind ++ (codes ", first in line " ++ decimal found.line)
+    ++ answered_text found.command
+
+unfoldable pub doubt_text : List ℕ → Doubt → List ℕ
+doubt_text kind doubt = first_text kind doubt.count doubt.first
+
+-- the lines of all kinds
+abbrev pub doubts_text : Doubts → List ℕ
+doubts_text doubts =
+    -- two identities are told of a unit, and nothing between may have changed it
+    doubt_text (codes "identity") doubts.identity
+    -- a transfer succeeds past the size of its unit and its replacement and caching table
+    ++ doubt_text (codes "size") doubts.size
+    -- a status has a code that such a command has no use for
+    ++ doubt_text (codes "status") doubts.status
+    -- a WRITE or an ERASE succeeds of a unit that is protected from writing
+    ++ doubt_text (codes "protection") doubts.protection
+    -- two units that are online have one identifier
+    ++ doubt_text (codes "identifier") doubts.identifier
+    -- a GET UNIT STATUS that asks for the next unit passes one that is there
+    ++ doubt_text (codes "next unit") doubts.next
+
 -- the lines of what came of a log
 abbrev pub came_text : Result Log Wrong → List ℕ
-came_text (Ok log) = totals_text (totals_of log.moments) ++ flat_map outstanding_text (outstanding log.moments)
+came_text (Ok log) =
+    totals_text (totals_of log.moments) ++ doubts_text (doubts_of log)
+    ++ flat_map outstanding_text (outstanding log.moments)
 came_text (Err wrong) = broken_text wrong
 
 abbrev pub came_outcome : Result Log Wrong → Outcome
@@ -135,11 +172,12 @@ came_outcome (Err wrong) = outcomes.Wrong
 
 -- the lines of a verdict, and how the log is judged by it
 abbrev pub wire_text : {A : Type 0} → Verdict A → List ℕ
-wire_text (verdicts.Right totals commands) = totals_text totals ++ flat_map outstanding_text commands.items
+wire_text (verdicts.Right totals doubts commands) =
+    totals_text totals ++ doubts_text doubts ++ flat_map outstanding_text commands.items
 wire_text (verdicts.Wrong wrong) = broken_text wrong
 
 abbrev pub wire_outcome : {A : Type 0} → Verdict A → Outcome
-wire_outcome (verdicts.Right totals commands) = outcomes.Legal
+wire_outcome (verdicts.Right totals doubts commands) = outcomes.Legal
 wire_outcome (verdicts.Wrong wrong) = outcomes.Wrong
 
 -- what is written is what came of the log that the reader gave. Nothing is written on a fault, and a fault of the log

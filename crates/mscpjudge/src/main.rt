@@ -3,6 +3,7 @@
 #![tactic(auto)]
 
 mod choosing;
+mod doubts;
 mod ending;
 mod explaining;
 mod fault;

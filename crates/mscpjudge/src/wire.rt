@@ -4,6 +4,7 @@ ghost use Rattle.std.specs.Prelude.{◌≡◌, ◌++◌, false, OnOk, IfOk};
 ghost use Rattle.mscpjudge.specs.Common.{flat_map, TellsWire, WritesOnce, breaker_name, broken_text, command_text, connection_name, meant_text, opcode_name, outstanding_text, wire_outcome, wire_text};
 ghost use Rattle.mscpjudge.specs.Wired as wired;
 
+use crate::doubts::put_doubts;
 use crate::fault::Fault;
 use crate::judging::Outcome;
 use crate::totals::put_totals;
@@ -119,7 +120,7 @@ fn rule_text(rule: Rule) -> &'static str
 }
 
 /// Appends what a command is, and ends the line.
-fn put_command<A: Allocator>(text: &mut Vec<u8, A>, command: &Sent) -> Result<(), AllocError>
+pub fn put_command<A: Allocator>(text: &mut Vec<u8, A>, command: &Sent) -> Result<(), AllocError>
     ensures { OnOk result (text.new.items ≡ text.old.items ++ command_text command.now) }
 {
     put(text, connection_name(command.connection))?;
@@ -197,8 +198,9 @@ fn put_verdict<A: Allocator>(text: &mut Vec<u8, A>, verdict: &Verdict<A>) -> Res
     ensures { OnOk result (text.new.items ≡ text.old.items ++ wire_text verdict.now) }
 {
     match verdict {
-        Verdict::Right(totals, commands) => {
+        Verdict::Right(totals, doubts, commands) => {
             put_totals(text, totals)?;
+            put_doubts(text, doubts)?;
             put_outstanding(text, commands.as_slice())
         }
         Verdict::Wrong(wrong) => put_wrong(text, wrong),

@@ -1,8 +1,7 @@
 use Rattle.std.proofs.Common.{◌≡◌, ◌+◌, ◌++◌, List, ℕ, length, Ok}
 use Rattle.mscp_reader.specs.Lexical.{lines}
 use Rattle.mscp_wire.specs.Log.{Log, nothing, with_lines}
-use Rattle.mscp_wire.specs.Right.{IsAfter}
-use Rattle.mscp_wire.specs.Totals.{IsFew}
+use Rattle.mscp_wire.specs.Right.{HasFew, IsAfter}
 use Rattle.mscp_wire.proofs.log.judge_lines.Given as goal
 
 abbrev pub invariant-loop-bytes : goal.invariant-loop-bytes
@@ -13,7 +12,7 @@ invariant-loop-bytes g l = record {
   counted : l.lines.number ≡ length before;
   told : with_lines 0 nothing before ≡ Ok log;
   after : IsAfter log l.reading;
-  few : IsFew l.reading.totals (l.lines.number + 1);
+  few : HasFew l.reading (l.lines.number + 1);
 }
 
 abbrev pub decreases-loop-bytes : goal.decreases-loop-bytes

@@ -6,7 +6,7 @@ use Rattle.mscp_wire.proofs.log.Reading.credits.Goals as goal
 pub returns-clause-after : goal.returns-clause-after
 returns-clause-after g c = λ log s. (
   record log { credits = Some c.args.credits },
-  credits_told c.args.credits log _ _ _ s.credits c.is_some.ensures c.if-is_some.false s.totals
+  credits_told c.args.number c.args.credits log _ _ _ s.credits c.is_some.ensures c.if-is_some.false s.totals
       c.if-self-ne0.false,
   record {
     right =
@@ -17,6 +17,9 @@ returns-clause-after g c = λ log s. (
     units = s.units;
     controller = s.controller;
     timeout = s.timeout;
+    called = s.called;
     totals = s.totals;
+    doubts = s.doubts;
+    lines = s.lines;
   },
 )

@@ -1,6 +1,8 @@
-use Rattle.std.proofs.Common.{[], ◌∷◌, ◌++◌, length, ap, refl, sym, ◌∙◌}
+use Rattle.std.proofs.Common.{length, ap, refl, sym, ◌∙◌}
 use Rattle.mscp_wire.specs.Totals.{fall_after}
+use Rattle.mscp_wire.specs.Log.{with_moment}
 use Rattle.mscp_wire.specs.Wire.{command_of}
+use Rattle.mscp_wire.proofs.Doubting.{called_more, doubts_kept, lines_kept}
 use Rattle.mscp_wire.proofs.Meaning.{right_more}
 use Rattle.mscp_wire.proofs.Passing.{broken_after, controller_more, pushed, timeout_more, told_more}
 use Rattle.mscp_wire.proofs.log.Reading.moment.Goals as goal
@@ -19,7 +21,7 @@ pub returns-in-None-clause-after : goal.returns-in-None-clause-after
 returns-in-None-clause-after g c = λ log s.
     let after = pushed log.moments c.args.moment _ _ _ s.timeout s.commands
     (c.in_ok-rule.ensures.after c.in-None.is) in (
-      record log { moments = log.moments ++ c.args.moment ∷ [] },
+      with_moment c.args.number log c.args.moment,
       refl,
       record {
         right =
@@ -32,6 +34,10 @@ returns-in-None-clause-after g c = λ log s.
         controller = controller_more log.moments c.args.moment _ _ s.controller
             (c.in_ok-rule.ensures.controller c.in-None.is);
         timeout = timeout_more log.moments c.args.moment _ _ s.timeout (c.in_ok-rule.ensures.timeout c.in-None.is);
+        called = called_more log.moments c.args.moment _ _ s.called (c.in_ok-rule.ensures.called c.in-None.is);
+        doubts = doubts_kept log c.args.moment c.args.number _ _ _ _ _ _ _ s.lines s.doubts s.commands s.units s.called
+            c.in_ok-rule.ensures.command c.in_ok-rule.ensures.doubtful c.add-in-None.ensures.doubts;
+        lines = lines_kept log c.args.moment c.args.number s.lines;
         totals = c.add.ensures.totals log.moments s.totals
             (c.len-queue.ensures ∙ ap length after)
             (c.in_ok-rule.ensures.fall ∙ ap (λ xs. fall_after xs c.args.moment) s.commands);

@@ -4,8 +4,8 @@ use Rattle.std.proofs.Common.{ap, cond, ◌∙◌, Some}
 use Rattle.mscp_wire.proofs.Keys.{put_told}
 use Rattle.mscp_wire.proofs.units.Units.put.Goals as goal
 
-pub returns : goal.returns
-returns g c = λ own number.
+pub returns-clause-told : goal.returns-clause-told
+returns-clause-told g c = λ own number.
     put_told c.args.self.now.others (tree.get nat_cmp c.args.self.now.kept) (tree.get nat_cmp c.insert.new.self)
     c.args.connection c.args.unit c.args.told
     (λ q. c.in_ok-insert.ensures.updates.0 q
