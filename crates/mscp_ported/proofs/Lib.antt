@@ -42,3 +42,5 @@ pub mod Keeping
 pub mod Standing
 pub mod Tallying
 pub mod Aborted
+pub mod Numbered
+pub mod Numbering
