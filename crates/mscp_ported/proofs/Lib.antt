@@ -44,3 +44,5 @@ pub mod Tallying
 pub mod Aborted
 pub mod Numbered
 pub mod Numbering
+pub mod Awaiting
+pub mod Awaits

@@ -1,6 +1,6 @@
 -- Of which message each end is that goes out to a host: of one that its controller took, and that had none so far
 -- (manual, "End Messages").
-use Rattle.std.specs.Prelude.{◌≡◌, ◌≤◌, ◌==◌, ◌&&◌, ◌++◌, ◌∷◌, [], ℕ, Bool, true, false, not, filter, is_none, is_ok, if◌then◌else◌, List, Contains, Ok}
+use Rattle.std.specs.Prelude.{◌≡◌, ◌≤◌, ◌==◌, ◌&&◌, ◌++◌, ◌∷◌, [], ℕ, Bool, true, false, not, filter, is_none, is_ok, slice_index, ◌<◌, ◌^◌, if◌then◌else◌, List, Contains, Ok}
 use Rattle.mscp_packet.specs.Number.{num}
 use Rattle.mscp_drive.specs.Settings.{IsValid, Settings}
 use Rattle.mscp_drive.specs.declared.connection.Connection.TheVariants.{First}
@@ -45,3 +45,11 @@ awaited picks start p [] a = []
 awaited picks start p (call ∷ earlier) a =
     since p.stage call (without_ends (ends_said_by call a.0 p) (awaited picks start a.0 earlier a.1))
     (taken_by call a.0)
+
+-- ---- bytes
+
+-- what is read is bytes
+abbrev pub ReadsBytes : List Call → Type 0
+ReadsBytes [] = Unit {0}
+ReadsBytes (WasRead bytes result ∷ earlier) = ((i : ℕ) → slice_index bytes i < 2 ^ 8) × ReadsBytes earlier
+ReadsBytes (call ∷ earlier) = ReadsBytes earlier
