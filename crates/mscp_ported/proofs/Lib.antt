@@ -46,3 +46,5 @@ pub mod Numbered
 pub mod Numbering
 pub mod Awaiting
 pub mod Awaits
+pub mod Dealing
+pub mod Ended

@@ -1,6 +1,7 @@
 // What is true of every port, for its host.
 
 ghost use Rattle.mscp_ported.specs.Answers.{PortsAnswerAsTheyMay, PortsHandOverTheRest};
+ghost use Rattle.mscp_ported.specs.Awaited.{PortsEndWhatTheyTook};
 ghost use Rattle.mscp_ported.specs.Ends.{PortsSayWhatWasDecided};
 ghost use Rattle.mscp_ported.specs.Making.{PortsKeepThePromise};
 ghost use Rattle.mscp_ported.specs.Mounts.{PortsCountOnTheirVolumes, PortsMoveOnTheirVolumes};
@@ -180,4 +181,15 @@ pub fn ports_keep_telling<K: Picker>(picker: &K)
     ensures { PortsKeepTelling K.picks }
 {
     let _ = picker;
+}
+
+/// Whoever calls a port, whose controller had nothing of its host's as the port was made, and what it reads being bytes: by each
+/// call, if it is no write of IP and no fatal error comes, at most one thing begins to go out, or a message is accepted, or both,
+/// if the port answers that message itself. An end of the controller's that begins to go out is that of a message that the
+/// controller took since all was forgotten last, and whose end hasn't gone out: there is just one of its number. If it is a
+/// transfer's, it counts no more bytes than that message asks for.
+pub fn ports_end_what_they_took<K: Picker>(picker: &K)
+    ensures { PortsEndWhatTheyTook K.picks picker.now }
+{
+    controllers_keep_the_promise(picker);
 }
