@@ -1,5 +1,5 @@
 -- What there is of each reference number after each call of a port.
-use Rattle.std.proofs.Common.{◌≡◌, ◌≢◌, ◌⊎◌, ◌∙◌, ◌+◌, ◌*◌, ◌^◌, ◌<◌, ◌≤◌, ◌&&◌, ◌||◌, ◌++◌, ◌∷◌, [], ℕ, Bool, true, false, cond, drop, filter, length, nat_eq, nat_lt, not, replicate, take, List, MatchOption, Option, None, Some, inl, inr, refl, ap, sym, subst, arith}
+use Rattle.std.proofs.Common.{◌≡◌, ◌≢◌, ◌⊎◌, ◌∙◌, ◌+◌, ◌*◌, ◌/◌, ◌%◌, ◌^◌, ◌<◌, ◌≤◌, ◌&&◌, ◌||◌, ◌++◌, ◌∷◌, [], ℕ, Bool, true, false, cond, drop, filter, length, nat_eq, nat_lt, not, replicate, take, List, MatchOption, Option, None, Some, inl, inr, refl, ap, sym, subst, arith}
 use Rattle.std.specs.Prelude.{◌==◌, Result, Ok, Err, find, is_none, is_ok, option_map, option_to_list, slice_get, slice_index}
 use Rattle.std.specs.List.{AllByRecursion, list_any}
 use Rattle.std.proofs.lemmas.List.{append-nil}
@@ -7,7 +7,11 @@ use Rattle.std.proofs.lemmas.List.Folds.{list_any-append}
 use Rattle.std.proofs.lemmas.Option.{none-some, same_Some}
 use Rattle.byteorder.specs.Endian.{little_bytes}
 use Rattle.mscp_packet.specs.Number.{num}
-use Rattle.mscp_packet.specs.Opcodes.{opcode_of}
+use Rattle.mscp_packet.specs.Opcodes.{move_byte, opcode_of, opcodes, row_of}
+use Rattle.mscp_packet.specs.declared.class.Opcode.TheVariants as codes
+use Rattle.mscp_packet.specs.declared.command.MoveKind.{MoveKind}
+use Rattle.mscp_packet.specs.declared.command.MoveKind.TheVariants as kinds
+use Rattle.mscp_queue.proofs.Placed.{found_is}
 use Rattle.mscp_packet.specs.Commands.{order_with}
 use Rattle.mscp_packet.specs.declared.class.Opcode.{Opcode}
 use Rattle.mscp_packet.specs.declared.command.Command.{Command}
@@ -56,7 +60,7 @@ use Rattle.mscp_port.proofs.Kept.{is_numbered}
 use Rattle.mscp_port.proofs.Loads.{looks_or_not}
 use Rattle.mscp_port.proofs.Said.{none_or_some, served_name}
 use Rattle.mscp_ported.specs.Answers.{own_answer, text_handed, volume_named}
-use Rattle.mscp_ported.specs.Awaited.{has_number, is_taken_text, taken_by, without_ends}
+use Rattle.mscp_ported.specs.Awaited.{bytes_in, is_transfer, has_number, is_taken_text, taken_by, without_ends}
 use Rattle.mscp_ported.specs.Ends.{ends_begun, ends_said_by}
 use Rattle.mscp_ported.specs.Making.{step_told}
 use Rattle.mscp_ported.specs.Talk.{is_dead, since}
@@ -91,33 +95,56 @@ nothing_kept p none no_end = record {
 
 -- ---- a message as it is handed over
 
-pub order_few : (o : Option Opcode) (b : List ℕ) → asked_by (order_with o b) ≤ num b 12 4
-order_few o b = grind arith
+pub order_few : (o : Option Opcode) (b : List ℕ) → opcode_of (slice_index b 8) ≡ o → asked_by (order_with o b) ≤ bytes_in b
+order_few None b e = omega arith
+order_few (Some (codes.Move kind)) b e =
+    let at : move_byte kind ≡ slice_index b 8 =
+    eqb-true (move_byte kind) (slice_index b 8)
+    (found_is (λ o. nat_eq (row_of o).byte (slice_index b 8)) opcodes (codes.Move kind) e) in
+    by (nat_lt (length b) 32)
+    (subst (λ n. asked_by (orders.Move kind (num b 12 4) 0) ≤ cond (is_transfer n) (num b 12 4) 0) at (moves kind))
+  where
+    moves : (kind : MoveKind) → num b 12 4 ≤ cond (is_transfer (move_byte kind)) (num b 12 4) 0
+    moves kinds.Access = omega arith
+    moves kinds.Erase = omega arith
+    moves kinds.Compare = omega arith
+    moves kinds.Read = omega arith
+    moves kinds.Write = omega arith
 
-command_few : (b : List ℕ) → asked_by (command_of b).order ≤ num b 12 4
+    by : (c : Bool) → num b 12 4 ≤ bytes_in b
+        → asked_by (cond c (orders.Invalid (slice_index b 8) 0x0001) (orders.Move kind (num b 12 4) (num b 28 4)))
+        ≤ bytes_in b
+    by true h = omega arith
+    by false h = h
+order_few (Some o) b e = grind arith
+
+command_few : (b : List ℕ) → asked_by (command_of b).order ≤ bytes_in b
 unfolding command_of
-command_few b = order_few (opcode_of (slice_index b 8)) b
+command_few b = order_few (opcode_of (slice_index b 8)) b refl
 
 -- it has the number, and asks for no more bytes
 pub record IsLikeIt (sent b : List ℕ) : Type 0 where
   pub number : num sent 0 4 ≡ num b 0 4
-  pub bytes : num sent 12 4 ≤ num b 12 4
+  pub bytes : asked_by (command_of sent).order ≤ bytes_in b
 
 stood_in : (b : List ℕ) → 12 ≤ length b → IsLikeIt (stand_in b) b
+unfolding command_of
 stood_in (a ∷ b ∷ c ∷ d ∷ e ∷ f ∷ g ∷ h ∷ rest) long =
     record { number = refl; bytes = omega arith }
 stood_in b long = search (arith, long)
 
 named_next : (b : List ℕ) (n : ℕ) → 12 ≤ length b → IsLikeIt (take 4 b ++ little_bytes 2 n ++ drop 6 b) b
-named_next (a ∷ b ∷ c ∷ d ∷ e ∷ f ∷ g ∷ h ∷ i ∷ j ∷ k ∷ l ∷ rest) n long =
-    record { number = refl; bytes = omega arith }
+named_next (a ∷ b ∷ c ∷ d ∷ e ∷ f ∷ g ∷ h ∷ i ∷ j ∷ k ∷ l ∷ rest) n long = record {
+  number = refl;
+  bytes = command_few (a ∷ b ∷ c ∷ d ∷ (n % 256) ∷ (n / 256 % 256) ∷ g ∷ h ∷ i ∷ j ∷ k ∷ l ∷ rest);
+}
 named_next b n long = search (arith, long)
 
 pub handed_like : (units : List Shape) (b : List ℕ) → 12 ≤ length b → IsLikeIt (handed units b) b
 handed_like units b long = by (is_formality (slice_index b 8)) (asks_for_next b)
   where
     itself : IsLikeIt b b
-    itself = record { number = refl; bytes = omega arith }
+    itself = record { number = refl; bytes = command_few b }
 
     by : (x y : Bool) → IsLikeIt (cond x (stand_in b)
         (cond y (take 4 b ++ little_bytes 2 (next_unit units (num b 4 2)) ++ drop 6 b) b)) b
@@ -190,10 +217,7 @@ module _ {K : Type 0} (h : Holdings K) (aw : List (List ℕ)) (bytes sent : List
   queued_so = comes_waiting aw h.waiting (ends_of h) bytes (fresh_record First (command_of sent)) nothing_there
       (is_it (fresh_record First (command_of sent)) refl like.number)
       (others (fresh_record First (command_of sent)) like.number)
-      (few (asked_by (command_of sent).order) (num sent 12 4) (num bytes 12 4) (command_few sent) like.bytes) at
-    where
-      few : (a b c : ℕ) → a ≤ b → b ≤ c → a ≤ c
-      few a b c x y = omega (arith, x, y)
+      like.bytes at
 
   aborted_so : (order : Order) → AtEach aw (unaborted First h.waiting order)
       (ends_of h ++ option_to_list (option_map aborted_record (record_aborted First h.waiting order)))

@@ -42,7 +42,7 @@ use Rattle.mscp_port.proofs.Common.{false≢true}
 use Rattle.mscp_port.proofs.Loads.{looks_or_not}
 use Rattle.mscp_port.proofs.Said.{none_or_some}
 use Rattle.mscp_ported.specs.Answers.{own_answer, text_handed, volume_named}
-use Rattle.mscp_ported.specs.Awaited.{Deals, IsAnswering, IsEnding, IsNews, IsQuiet, IsTaking, has_number, is_taken_text, taken_by, without_ends}
+use Rattle.mscp_ported.specs.Awaited.{bytes_in, Deals, IsAnswering, IsEnding, IsNews, IsQuiet, IsTaking, has_number, is_taken_text, taken_by, without_ends}
 use Rattle.mscp_ported.specs.Ends.{ends_begun, ends_said_by}
 use Rattle.mscp_ported.specs.Talk.{is_dead, since}
 use Rattle.mscp_ported.specs.Told.{accepted_by, accepted_text, accepts}
@@ -357,7 +357,7 @@ module _ {K : Type 0} (blocks : Bool) (action : Action) (bytes : List ℕ) (old 
     at : AtEach aw old.controller.waiting (e ∷ es)
     at = subst (λ xs. AtEach aw old.controller.waiting xs) whole k.each
 
-    own : (text : List ℕ) × (filter (has_number e.reference) aw ≡ text ∷ []) × (counted_in e.body ≤ num text 12 4)
+    own : (text : List ℕ) × (filter (has_number e.reference) aw ≡ text ∷ []) × (counted_in e.body ≤ bytes_in text)
     own = end_awaited aw old.controller.waiting e es at
 
     small : e.reference < 2 ^ 32
@@ -392,7 +392,7 @@ module _ {K : Type 0} (blocks : Bool) (action : Action) (bytes : List ℕ) (old 
       ended = begun;
       message = own.0;
       only = ap (λ n. filter (has_number n) aw) named ∙ own.1;
-      counts = told_counts old e (num own.0 12 4) shaped own.2;
+      counts = told_counts old e (bytes_in own.0) shaped own.2;
     }
 
   -- after which something is kept

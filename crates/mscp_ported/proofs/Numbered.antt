@@ -21,7 +21,7 @@ use Rattle.mscp_queue.specs.Records.{Record, aborted_record, advanced, has_name,
 use Rattle.mscp_queue.specs.Serving.{end_given, waiting_after}
 use Rattle.mscp_port.proofs.Common.{drop_more, eq-eqb, eqb-true, false≢true, take-append-drop}
 use Rattle.mscp_port.proofs.Kept.{is_numbered}
-use Rattle.mscp_ported.specs.Awaited.{has_number}
+use Rattle.mscp_ported.specs.Awaited.{bytes_in, has_number}
 use Rattle.mscp_ported.proofs.Coming.{brought_for}
 use Rattle.mscp_ported.proofs.Owning.{number_of}
 use Rattle.mscp_ported.proofs.Sole.{Alike, found_sole, itself, served_goes_on, served_itself, served_other, sole_beside, sole_comes, sole_left}
@@ -48,7 +48,7 @@ pub record Waits (aw : List (List ℕ)) (rs : List Record) (es : List End) (n : 
   pub message : filter (has_number n) aw ≡ text ∷ []
   pub sole : filter (is_numbered n) rs ≡ own ∷ []
   pub no_end : filter (ends_numbered n) es ≡ []
-  pub fits : asked_by own.command.order ≤ num text 12 4
+  pub fits : asked_by own.command.order ≤ bytes_in text
 
 pub record Ended (aw : List (List ℕ)) (rs : List Record) (es : List End) (n : ℕ) : Type 0 where
   pub text : List ℕ
@@ -56,7 +56,7 @@ pub record Ended (aw : List (List ℕ)) (rs : List Record) (es : List End) (n : 
   pub message : filter (has_number n) aw ≡ text ∷ []
   pub none : filter (is_numbered n) rs ≡ []
   pub sole : filter (ends_numbered n) es ≡ end ∷ []
-  pub fits : counted_in end.body ≤ num text 12 4
+  pub fits : counted_in end.body ≤ bytes_in text
 
 abbrev pub At : List (List ℕ) → List Record → List End → ℕ → Type 0
 At aw rs es n = IsNothing aw rs es n ⊎ Waits aw rs es n ⊎ Ended aw rs es n
@@ -173,7 +173,7 @@ takes_end aw rs e es at n = by (nat_eq e.reference n) refl (at n)
 
 -- and it is that of an awaited message
 pub end_awaited : (aw : List (List ℕ)) (rs : List Record) (e : End) (es : List End) → AtEach aw rs (e ∷ es)
-    → (text : List ℕ) × (filter (has_number e.reference) aw ≡ text ∷ []) × (counted_in e.body ≤ num text 12 4)
+    → (text : List ℕ) × (filter (has_number e.reference) aw ≡ text ∷ []) × (counted_in e.body ≤ bytes_in text)
 end_awaited aw rs e es at = by (at e.reference)
   where
     here : filter (ends_numbered e.reference) (e ∷ es) ≡ e ∷ filter (ends_numbered e.reference) es
@@ -181,12 +181,12 @@ end_awaited aw rs e es at = by (at e.reference)
         (eq-eqb e.reference e.reference refl)
 
     by : At aw rs (e ∷ es) e.reference
-        → (text : List ℕ) × (filter (has_number e.reference) aw ≡ text ∷ []) × (counted_in e.body ≤ num text 12 4)
+        → (text : List ℕ) × (filter (has_number e.reference) aw ≡ text ∷ []) × (counted_in e.body ≤ bytes_in text)
     by (inl none) = absurd (some_none e (filter (ends_numbered e.reference) es) (sym here ∙ none.2))
     by (inr (inl w)) = absurd (some_none e (filter (ends_numbered e.reference) es) (sym here ∙ w.no_end))
     by (inr (inr x)) = (
       x.text,
       x.message,
-      subst (λ (y : End). counted_in y.body ≤ num x.text 12 4)
+      subst (λ (y : End). counted_in y.body ≤ bytes_in x.text)
           (sym (first_of_one e x.end (filter (ends_numbered e.reference) es) (sym here ∙ x.sole)).0) x.fits,
     )

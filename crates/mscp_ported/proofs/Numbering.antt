@@ -23,7 +23,7 @@ use Rattle.mscp_queue.specs.Serving.{end_given, waiting_after}
 use Rattle.mscp_queue.proofs.Named.{same_is}
 use Rattle.mscp_port.proofs.Common.{drop_more, eq-eqb, eqb-true, false≢true, take-append-drop}
 use Rattle.mscp_port.proofs.Kept.{is_numbered}
-use Rattle.mscp_ported.specs.Awaited.{has_number}
+use Rattle.mscp_ported.specs.Awaited.{bytes_in, has_number}
 use Rattle.mscp_ported.proofs.Coming.{brought_for}
 use Rattle.mscp_ported.proofs.Keeping.{end_number}
 use Rattle.mscp_ported.proofs.Numbered.{At, AtEach, Ended, IsNothing, Waits, asked_by, counted_in, ends_numbered, filter_beside, first_of_one, none_beside, none_found, none_of_it, none_stays, some_none}
@@ -178,7 +178,7 @@ step_serves k d aw rs es place inside at n = by (is_numbered n (record_at rs pla
       message = w.message;
       sole = served_goes_on n k d rs place inside w.own w.sole is given;
       no_end = none_of r0.connection ∙ w.no_end;
-      fits = subst (λ (r : Record). asked_by r.command.order ≤ num w.text 12 4)
+      fits = subst (λ (r : Record). asked_by r.command.order ≤ bytes_in w.text)
           (sym (served_itself n k d rs place inside w.own w.sole is)) w.fits;
     }))
       where
@@ -196,8 +196,8 @@ step_serves k d aw rs es place inside at n = by (is_numbered n (record_at rs pla
           sole = ap (λ via. filter (ends_numbered n) (es ++ brought_for via (Some e))) mine.0
               ∙ sole_comes (ends_numbered n) es e w.no_end
               (eq-eqb e.reference n (end_number k d r0 e given ∙ mine.1));
-          fits = given_few k d r0 e (num w.text 12 4) given
-              (subst (λ (r : Record). asked_by r.command.order ≤ num w.text 12 4)
+          fits = given_few k d r0 e (bytes_in w.text) given
+              (subst (λ (r : Record). asked_by r.command.order ≤ bytes_in w.text)
               (sym (served_itself n k d rs place inside w.own w.sole is)) w.fits);
         }))
 
@@ -212,7 +212,7 @@ step_serves k d aw rs es place inside at n = by (is_numbered n (record_at rs pla
           message = w.message;
           sole = s.1;
           no_end = apart is ∙ w.no_end;
-          fits = subst (λ (c : Command). asked_by c.order ≤ num w.text 12 4) (sym s.2.command) w.fits;
+          fits = subst (λ (c : Command). asked_by c.order ≤ bytes_in w.text) (sym s.2.command) w.fits;
         }))
     by false is (inr (inr x)) = inr (inr (record {
       text = x.text;
@@ -301,8 +301,8 @@ aborts aw rs es m at n = by (nat_eq m n) refl (at n) (find (is_numbered m) rs) r
           none = subst (λ k. filter (is_numbered k) left ≡ []) (eqb-true m n is) (none_of_it (is_numbered m) rs);
           sole = sole_comes (ends_numbered n) es (aborted_record r) w.no_end
               (eq-eqb r.command.reference n (found_number r e ∙ eqb-true m n is));
-          fits = moved_few r.command.order r.good (num w.text 12 4)
-              (subst (λ (x : Record). asked_by x.command.order ≤ num w.text 12 4) same w.fits);
+          fits = moved_few r.command.order r.good (bytes_in w.text)
+              (subst (λ (x : Record). asked_by x.command.order ≤ bytes_in w.text) same w.fits);
         }))
     by false is (inr (inl w)) o e = inr (inl (record {
       text = w.text;
@@ -337,7 +337,7 @@ aborts aw rs es m at n = by (nat_eq m n) refl (at n) (find (is_numbered m) rs) r
 pub comes_waiting : (aw : List (List ℕ)) (rs : List Record) (es : List End) (t : List ℕ) (r : Record)
     → IsNothing aw rs es (num t 0 4) → is_numbered (num t 0 4) r ≡ true
     → ((n : ℕ) → nat_eq (num t 0 4) n ≡ false → is_numbered n r ≡ false)
-    → asked_by r.command.order ≤ num t 12 4 → AtEach aw rs es → AtEach (aw ++ t ∷ []) (rs ++ r ∷ []) es
+    → asked_by r.command.order ≤ bytes_in t → AtEach aw rs es → AtEach (aw ++ t ∷ []) (rs ++ r ∷ []) es
 comes_waiting aw rs es t r new is others few at n = by (nat_eq (num t 0 4) n) refl (at n)
   where
     by : (c : Bool) → nat_eq (num t 0 4) n ≡ c → At aw rs es n → At (aw ++ t ∷ []) (rs ++ r ∷ []) es n
@@ -369,7 +369,7 @@ comes_waiting aw rs es t r new is others few at n = by (nat_eq (num t 0 4) n) re
     }))
 
 pub comes_ended : (aw : List (List ℕ)) (rs : List Record) (es : List End) (t : List ℕ) (x : End)
-    → IsNothing aw rs es (num t 0 4) → x.reference ≡ num t 0 4 → counted_in x.body ≤ num t 12 4
+    → IsNothing aw rs es (num t 0 4) → x.reference ≡ num t 0 4 → counted_in x.body ≤ bytes_in t
     → AtEach aw rs es → AtEach (aw ++ t ∷ []) rs (es ++ x ∷ [])
 comes_ended aw rs es t x new own few at n = by (nat_eq (num t 0 4) n) refl (at n)
   where

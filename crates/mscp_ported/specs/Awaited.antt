@@ -1,6 +1,6 @@
 -- Of which message each end is that goes out to a host: of one that its controller took, and that had none so far
 -- (manual, "End Messages").
-use Rattle.std.specs.Prelude.{◌≡◌, ◌≢◌, ◌⊎◌, ◌≤◌, Some, None, slice_index, ◌==◌, ◌&&◌, ◌++◌, ◌∷◌, [], ℕ, Bool, true, false, not, filter, is_none, is_ok, ◌<◌, ◌^◌, if◌then◌else◌, List, Contains, Ok}
+use Rattle.std.specs.Prelude.{◌≡◌, ◌≢◌, ◌⊎◌, ◌≤◌, Some, None, slice_index, ◌==◌, ◌&&◌, ◌||◌, ◌++◌, ◌∷◌, [], ℕ, Bool, true, false, not, filter, is_none, is_ok, ◌<◌, ◌^◌, if◌then◌else◌, List, Contains, Ok}
 use Rattle.mscp_packet.specs.Number.{num}
 use Rattle.mscp_drive.specs.Settings.{IsValid, Settings}
 use Rattle.mscp_drive.specs.declared.connection.Connection.TheVariants.{First}
@@ -38,6 +38,14 @@ taken_by call old = []
 -- the message has this reference number
 abbrev pub has_number : ℕ → List ℕ → Bool
 has_number n b = num b 0 4 == n
+
+-- READ, WRITE, COMPARE HOST DATA, ERASE and ACCESS are transfers, and of one's message bytes 12 to 15 say how many bytes
+-- it asks for
+abbrev pub is_transfer : ℕ → Bool
+is_transfer opcode = opcode == 16 || opcode == 18 || opcode == 32 || opcode == 33 || opcode == 34
+
+abbrev pub bytes_in : List ℕ → ℕ
+bytes_in b = if is_transfer (slice_index b 8) then num b 12 4 else 0
 
 -- those that have other numbers than these ends
 abbrev pub without_ends : List (List ℕ) → List (List ℕ) → List (List ℕ)
@@ -92,7 +100,7 @@ pub record IsEnding {K : Type 0} (messages : List (List ℕ)) (call : Call) (old
   pub message : List ℕ
   pub only : filter (has_number (num out.bytes.items 0 4)) messages ≡ message ∷ []
   pub counts : kind_of_code (slice_index out.bytes.items 8) ≡ Some Moved
-      → num out.bytes.items 12 4 ≤ num message 12 4
+      → num out.bytes.items 12 4 ≤ bytes_in message
 
 -- a message is read, and the controller takes it
 pub record IsTaking {K : Type 0} (call : Call) (old new : Port K) : Type 0 where
