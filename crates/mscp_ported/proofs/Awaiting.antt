@@ -201,8 +201,11 @@ module _ {K : Type 0} (h : Holdings K) (aw : List (List ℕ)) (bytes sent : List
       (none_ended number (ends_of h) (search (arith, list_any-append, or_parts, holds_not))) (at number)
 
   is_it : (r : Record) → r.connection ≡ First → r.command.reference ≡ number → is_numbered number r ≡ true
-  is_it r first named = search (arith, is_same (name_of r) (name_on First number)
-      (search (arith, first, named)))
+  is_it r first named = search (
+    arith,
+    is_same (name_of r) (name_on First number)
+        (search (arith, first, named)),
+  )
 
   others : (r : Record) → r.command.reference ≡ number → (n : ℕ) → nat_eq number n ≡ false → is_numbered n r ≡ false
   others r named n d = by (is_numbered n r) refl

@@ -446,13 +446,14 @@ module _ {K : Type 0} (blocks : Bool) (action : Action) (bytes : List ℕ) (old 
           kind = kinds.Attention;
         })) e;
         kind = refl;
+        code = refl;
         accepted = refl;
         taken = refl;
         ended = ap (λ o. ends_begun o new.outgoing) none ∙ ap (ends_begun None) (is ∙ h.0
             ∙ ap (option_map (λ unit. record {
-          bytes = record { items = Rattle.mscp_port.specs.Leaving.attention unit (Rattle.mscp_port.specs.Volumes.volume_at before place) };
-          kind = kinds.Attention;
-        })) e);
+              bytes = record { items = Rattle.mscp_port.specs.Leaving.attention unit (Rattle.mscp_port.specs.Volumes.volume_at before place) };
+              kind = kinds.Attention;
+            })) e);
       }))
 
   -- and what it deals with, where each end has the body of its endcode

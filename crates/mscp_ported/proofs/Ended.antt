@@ -153,8 +153,11 @@ module _ {K : Type 0} (picks : Picking K) (c : Settings) (picker : K)
       no_numbers (r ∷ rs) e = absurd (search (arith, e))
 
       start_at : (n : ℕ) → Rattle.mscp_ported.proofs.Numbered.At [] controller.waiting (ends_of controller) n
-      start_at n = inl (refl, none_waits controller.waiting n (no_numbers (waiting_on First controller.waiting) parts.0),
-          ap (filter (ends_numbered n)) (no_ends (of First controller.untaken) parts.1))
+      start_at n = inl (
+        refl,
+        none_waits controller.waiting n (no_numbers (waiting_on First controller.waiting) parts.0),
+        ap (filter (ends_numbered n)) (no_ends (of First controller.untaken) parts.1),
+      )
   kept p (WriteIp ∷ calls) reads a =
       nothing_kept p (ap (λ (h : Holdings K). h.waiting) a.2.controller) (ap (λ h. ends_of h) a.2.controller)
   kept p (Next blocks action bytes ∷ calls) reads a =

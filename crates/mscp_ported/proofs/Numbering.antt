@@ -280,14 +280,20 @@ aborts aw rs es m at n = by (nat_eq m n) refl (at n) (find (is_numbered m) rs) r
     by : (c : Bool) → nat_eq m n ≡ c → At aw rs es n → (o : Option Record) → find (is_numbered m) rs ≡ o
         → At aw left (es ++ option_to_list (option_map aborted_record o)) n
     by c is (inl none) None e =
-        inl (none.0, none_stays (is_numbered n) (λ r. not (is_numbered m r)) rs none.1,
-        ap (filter (ends_numbered n)) (append-nil es) ∙ none.2)
+        inl (
+          none.0,
+          none_stays (is_numbered n) (λ r. not (is_numbered m r)) rs none.1,
+          ap (filter (ends_numbered n)) (append-nil es) ∙ none.2,
+        )
     by true is (inl none) (Some r) e = absurd (none-some r
         (sym (none_found (is_numbered m) rs (subst (λ k. filter (is_numbered k) rs ≡ [])
         (sym (eqb-true m n is)) none.1)) ∙ e))
     by false is (inl none) (Some r) e =
-        inl (none.0, none_stays (is_numbered n) (λ r. not (is_numbered m r)) rs none.1,
-        apart is (Some r) e ∙ none.2)
+        inl (
+          none.0,
+          none_stays (is_numbered n) (λ r. not (is_numbered m r)) rs none.1,
+          apart is (Some r) e ∙ none.2,
+        )
     by true is (inr (inl w)) None e = absurd (none-some w.own
         (sym e ∙ found_sole (is_numbered m) rs w.own (subst (λ k. filter (is_numbered k) rs ≡ w.own ∷ [])
         (sym (eqb-true m n is)) w.sole)))
@@ -349,8 +355,11 @@ comes_waiting aw rs es t r new is others few at n = by (nat_eq (num t 0 4) n) re
       no_end = new.2;
       fits = few;
     })))
-    by false e (inl none) = inl (none_beside (has_number n) aw t e ∙ none.0,
-        none_beside (is_numbered n) rs r (others n e) ∙ none.1, none.2)
+    by false e (inl none) = inl (
+      none_beside (has_number n) aw t e ∙ none.0,
+      none_beside (is_numbered n) rs r (others n e) ∙ none.1,
+      none.2,
+    )
     by false e (inr (inl w)) = inr (inl (record {
       text = w.text;
       own = w.own;
@@ -385,8 +394,11 @@ comes_ended aw rs es t x new own few at n = by (nat_eq (num t 0 4) n) refl (at n
       sole = sole_comes (ends_numbered (num t 0 4)) es x new.2 (eq-eqb x.reference (num t 0 4) own);
       fits = few;
     })))
-    by false e (inl none) = inl (none_beside (has_number n) aw t e ∙ none.0, none.1,
-        none_beside (ends_numbered n) es x (other e) ∙ none.2)
+    by false e (inl none) = inl (
+      none_beside (has_number n) aw t e ∙ none.0,
+      none.1,
+      none_beside (ends_numbered n) es x (other e) ∙ none.2,
+    )
     by false e (inr (inl w)) = inr (inl (record {
       text = w.text;
       own = w.own;

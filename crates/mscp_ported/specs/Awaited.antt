@@ -83,6 +83,7 @@ pub record IsNews {K : Type 0} (call : Call) (old new : Port K) : Type 0 where
   pub nothing : old.outgoing ≡ None
   pub begun : new.outgoing ≡ Some out
   pub kind : out.kind ≡ kinds.Attention
+  pub code : slice_index out.bytes.items 8 ≡ 0x40
   pub accepted : accepted_by call old ≡ []
   pub taken : taken_by call old ≡ []
   pub ended : ends_said_by call old new ≡ []

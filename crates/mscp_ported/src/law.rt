@@ -11,7 +11,7 @@ ghost use Rattle.mscp_ported.specs.Owed.{PortsDoWhatIsDue};
 ghost use Rattle.mscp_ported.specs.Polls.{PortsAnswerPolls};
 ghost use Rattle.mscp_ported.specs.Soon.{PortsKeepTelling, PortsTellSoon};
 ghost use Rattle.mscp_ported.specs.Transfers.{PortsCountWhatTheyMoved, PortsCountWhatWasAborted, PortsMoveEachBlock};
-ghost use Rattle.mscp_ported.specs.Told.{PortsHearInOrder, PortsTellInOrder};
+ghost use Rattle.mscp_ported.specs.Told.{PortsHearInOrder, PortsOpenWhatTheyAccept, PortsTellInOrder};
 
 use mscp_controller::controllers_keep_the_promise;
 use mscp_queue::Picker;
@@ -192,4 +192,12 @@ pub fn ports_end_what_they_took<K: Picker>(picker: &K)
     ensures { PortsEndWhatTheyTook K.picks picker.now }
 {
     controllers_keep_the_promise(picker);
+}
+
+/// Of such a port, whose holder tells of actions only after they were wanted: where a text is accepted, the header in front of it
+/// was read.
+pub fn ports_open_what_they_accept<K: Picker>(picker: &K)
+    ensures { PortsOpenWhatTheyAccept K.picks }
+{
+    let _ = picker;
 }
