@@ -16,7 +16,10 @@ use Rattle.mscp_packet.specs.declared.end.End.{End}
 use Rattle.mscp_host.specs.declared.asked.Asked.{Asked}
 use Rattle.mscp_host.specs.declared.envelope.Envelope.{Envelope}
 use Rattle.mscp_host.specs.declared.heard.Heard.{Heard}
+use Rattle.mscp_host.specs.declared.heard.Heard.TheVariants as heards
 use Rattle.mscp_host.specs.declared.message.HearFault.{HearFault}
+use Rattle.mscp_host.specs.declared.news.News.{News}
+use Rattle.mscp_host.specs.declared.news.News.TheVariants as news
 use Rattle.mscp_host.specs.declared.message.Message.{Message}
 use Rattle.mscp_host.specs.declared.message.Message.TheVariants as messages
 use Rattle.mscp_host.specs.declared.news.HostFault.{HostFault}
@@ -25,7 +28,7 @@ use Rattle.mscp_host.specs.declared.news.Poll.TheVariants as polls
 use Rattle.mscp_host.specs.declared.submission.Submission.{Submission}
 use Rattle.mscp_host.specs.Accounts.{Account, asks, asks_unless, has_reference, oldest, poll_of, polls_oldest, refusal, submits, submits_unless}
 use Rattle.mscp_host.specs.Messages.{message_in}
-use Rattle.mscp_host.specs.PortAccounts.{PortAccount, asked_of, bytes_of, credit_fault, ends_of, heard_of, hears, is_of, is_to_poll, may_be_of, polled_with, port_polls, port_submits, submits_unless_faulty, submitted_with, without_by}
+use Rattle.mscp_host.specs.PortAccounts.{PortAccount, asked_of, bytes_of, credit_fault, ends_of, heard_of, hears, is_of, is_to_poll, is_too_much, news_said, may_be_of, polled_with, port_polls, port_submits, submits_unless_faulty, submitted_with, without_by}
 use Rattle.mscp_host.specs.PortHistories.{Ask, Hear, Other, PortAnswers, PortMoment, Resume, Submit}
 use Rattle.mscp_ported.specs.Awaited.{bytes_in, is_transfer}
 use Rattle.mscp_heard.specs.Deeds.{HasNumber, is_hearing, sent_by}
@@ -161,7 +164,7 @@ module _ (old new : PortAccount) (n : ℕ) (small : n < 2 ^ 32) (same : SameNumb
       items (Ok (polls.Ask b), x) = b.items
       items (other, x) = []
 
-  poll_sends : (message : ArrayVec ℕ) → port_polls old n ≡ (Ok (polls.Ask message), new) → Sends old new message.items
+  pub poll_sends : (message : ArrayVec ℕ) → port_polls old n ≡ (Ok (polls.Ask message), new) → Sends old new message.items
   poll_sends message e = by (nat_eq old.credits 0 && is_to_poll old.account) e
     where
       about : (o : Option Submission) → oldest old.account ≡ o
@@ -180,7 +183,7 @@ module _ (old new : PortAccount) (n : ℕ) (small : n < 2 ^ 32) (same : SameNumb
       by true h = absurd (search (arith, h))
       by false h = busy (is_some old.account.watch) h
 
-  poll_still : (answer : Result Poll HostFault) → is_ask answer ≡ false → port_polls old n ≡ (answer, new)
+  pub poll_still : (answer : Result Poll HostFault) → is_ask answer ≡ false → port_polls old n ≡ (answer, new)
       → new.asked ≡ old.asked
   poll_still answer none e = by (nat_eq old.credits 0 && is_to_poll old.account) e
     where
@@ -226,3 +229,60 @@ hear_settles old new v b answer e = by (message_in v b) e
     by (Ok (messages.Attention code unit)) h = inl (sym (ap (λ y. y.1.asked) h))
     by (Ok messages.Datagram) h = inl (sym (ap (λ y. y.1.asked) h))
     by (Ok messages.Credits) h = inl (sym (ap (λ y. y.1.asked) h))
+
+abbrev is_it : Result Heard HearFault × PortAccount → Bool
+is_it (Ok (heards.MovedTooMuch x y), p) = true
+is_it (r, p) = false
+
+-- too many bytes are said of an end that counts them
+pub hears_too_much : (old new : PortAccount) (v : Envelope) (b : List ℕ) (e : End) (asked : Asked)
+    → hears old v b ≡ (Ok (heards.MovedTooMuch e asked), new)
+    → (end : End) × (x : Asked) × (message_in v b ≡ Ok (messages.End end))
+    × (find (is_of end.reference) old.asked ≡ Some x) × (is_too_much end.body x.bytes ≡ true)
+hears_too_much old new v b e asked h = by (message_in v b) h
+  where
+    says : (end : End) (x : Asked) (poll c : Bool) → is_too_much end.body x.bytes ≡ c → (n : News)
+        → is_it (Ok (news_said poll end x n), old) ≡ true → is_too_much end.body x.bytes ≡ true
+    says end x true c is (news.Ended read) h = absurd (search (arith, h))
+    says end x false true is (news.Ended read) h = is
+    says end x false false is (news.Ended read) h = absurd (search (arith, h, ap (λ y. is_it (Ok (cond y
+        (heards.MovedTooMuch end x) (heards.Ended end x)), old)) is))
+    says end x poll c is (news.Progress figure) h = absurd (search (arith, h))
+    says end x poll c is (news.First figure) h = absurd (search (arith, h))
+    says end x poll c is news.Late h = absurd (search (arith, h))
+    says end x poll c is news.Reset h = absurd (search (arith, h))
+    says end x poll c is news.Lost h = absurd (search (arith, h))
+
+    judged : (end : End) (x : Asked) (c : Bool)
+        → ◌≡◌ {A = Result Heard HearFault × PortAccount} (cond c
+        (Ok (Rattle.mscp_host.specs.PortAccounts.end_says old end x),
+        Rattle.mscp_host.specs.PortAccounts.granted v.credits (Rattle.mscp_host.specs.PortAccounts.ended old end))
+        (Err Rattle.mscp_host.specs.declared.message.HearFault.TheVariants.Unknown, old))
+        (Ok (heards.MovedTooMuch e asked), new) → is_too_much end.body x.bytes ≡ true
+    judged end x true h = says end x (Rattle.mscp_host.specs.PortAccounts.is_poll_of old.account.watch end.reference)
+        (is_too_much end.body x.bytes) refl
+        (Rattle.mscp_host.specs.Accounts.news_with old.account (Rattle.mscp_host.specs.PortAccounts.as_read end)
+        (Rattle.mscp_host.specs.Accounts.answered old.account.watch (Rattle.mscp_host.specs.PortAccounts.as_read end)))
+        (ap (λ y. is_it (y.0, old)) h)
+    judged end x false h = absurd (search (arith, h))
+
+    found : (end : End) (o : Option Asked) → find (is_of end.reference) old.asked ≡ o
+        → ends_of old v.credits end o ≡ (Ok (heards.MovedTooMuch e asked), new)
+        → (x : Asked) × (find (is_of end.reference) old.asked ≡ Some x) × (is_too_much end.body x.bytes ≡ true)
+    found end None is h = absurd (search (arith, h))
+    found end (Some x) is h = (x, is, judged end x (may_be_of old end x) h)
+
+    by : (r : Result Message HearFault) → heard_of old v.credits r ≡ (Ok (heards.MovedTooMuch e asked), new)
+        → (end : End) × (x : Asked) × (r ≡ Ok (messages.End end))
+        × (find (is_of end.reference) old.asked ≡ Some x) × (is_too_much end.body x.bytes ≡ true)
+    by (Err fault) h = absurd (search (arith, h))
+    by (Ok (messages.End end)) h =
+        let x = found end (find (is_of end.reference) old.asked) refl h in (end, x.0, refl, x.1, x.2)
+    by (Ok (messages.Attention code unit)) h = absurd (not_news (nat_eq code 0x40)
+        (ap (λ y. is_it (y.0, old)) h))
+      where
+        not_news : (c : Bool) → is_it (Ok (cond c (heards.Available unit) (heards.Attention code unit)), old) ≡ true → ⊥
+        not_news true h = search (arith, h)
+        not_news false h = search (arith, h)
+    by (Ok messages.Datagram) h = absurd (search (arith, h))
+    by (Ok messages.Credits) h = absurd (search (arith, h))

@@ -1,2 +1,5 @@
 pub mod Claims
 pub mod Hosts
+pub mod Moving
+pub mod Packets
+pub mod Joined

@@ -3,7 +3,10 @@
 ghost use Rattle.mscp_heard.specs.Hearing.{HostsHearTheirOwnEnds};
 
 use mscp_host::port_hosts_keep_their_history;
-use mscp_ported::{ports_end_what_they_took, ports_hear_in_order, ports_tell_in_order};
+use mscp_ported::{
+    ports_answer_as_they_may, ports_end_what_they_took, ports_hear_in_order,
+    ports_open_what_they_accept, ports_tell_in_order,
+};
 use mscp_queue::Picker;
 
 /// A host and a port, whose controller had nothing of the host's as the port was made. Whoever calls the port tells of actions
@@ -14,8 +17,10 @@ use mscp_queue::Picker;
 pub fn hosts_hear_their_own_ends<K: Picker>(picker: &K)
     ensures { HostsHearTheirOwnEnds K.picks picker.now }
 {
+    ports_answer_as_they_may(picker);
     ports_end_what_they_took(picker);
     ports_hear_in_order(picker);
+    ports_open_what_they_accept(picker);
     ports_tell_in_order(picker);
     port_hosts_keep_their_history();
 }
