@@ -1,9 +1,8 @@
 -- What a host is owed: an end for each number, of no more than so many bytes.
-use Rattle.std.proofs.Common.{◌≡◌, ◌≢◌, ◌⊎◌, ◌∙◌, ◌+◌, ◌<◌, ◌≤◌, ◌++◌, ◌∷◌, [], ℕ, suc, Bool, true, false, cond, drop, filter, length, map, nat_eq, not, List, Option, None, Some, inl, inr, refl, ap, sym, subst, arith, append_assoc}
-use Rattle.std.specs.Prelude.{◌==◌, find, flat_map, slice_get, slice_index}
-use Rattle.std.specs.List.{AllByRecursion, list_any}
-use Rattle.std.proofs.lemmas.List.{append-nil}
-use Rattle.std.proofs.lemmas.Option.{none-some, same_Some}
+use Rattle.std.proofs.Common.{◌≡◌, ◌∙◌, ◌+◌, ◌≤◌, ◌++◌, ◌∷◌, [], ℕ, Bool, true, false, cond, map, nat_eq, List, Option, None, Some, refl, ap, sym, subst, arith}
+use Rattle.std.specs.Prelude.{find, slice_index}
+use Rattle.std.specs.List.{AllByRecursion}
+use Rattle.std.proofs.lemmas.Option.{none-some}
 use Rattle.mscp_packet.specs.Number.{num}
 use Rattle.mscp_packet.specs.Ends.{kind_of_code}
 use Rattle.mscp_packet.specs.declared.end.BodyKind.{BodyKind}
@@ -13,8 +12,8 @@ use Rattle.mscp_host.specs.PortAccounts.{is_of, without_by}
 use Rattle.mscp_port.specs.declared.port.OutgoingKind.{OutgoingKind}
 use Rattle.mscp_port.specs.declared.port.OutgoingKind.TheVariants as kinds
 use Rattle.mscp_port.proofs.Common.{eq-eqb, eqb-true, false≢true}
-use Rattle.mscp_queue.proofs.Lists.{every_append, every_parts, every_weaker}
-use Rattle.mscp_ported.specs.Awaited.{bytes_in, has_number}
+use Rattle.mscp_queue.proofs.Lists.{every_append, every_weaker}
+use Rattle.mscp_ported.specs.Awaited.{bytes_in}
 use Rattle.mscp_ported.specs.Told.{Said}
 
 pub record Claim : Type 0 where

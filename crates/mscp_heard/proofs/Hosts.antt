@@ -1,14 +1,13 @@
 -- What each moment of a host makes of the commands whose ends it hasn't heard.
-use Rattle.std.proofs.Common.{◌≡◌, ◌≢◌, ◌⊎◌, ◌∙◌, ◌+◌, ◌-◌, ◌^◌, ◌*◌, ◌/◌, ◌%◌, ◌<◌, ◌≤◌, ◌&&◌, ◌||◌, ◌++◌, ◌∷◌, [], ℕ, Bool, true, false, cond, drop, length, map, nat_eq, nat_lt, nat_le, not, take, List, Option, None, Some, inl, inr, refl, ap, sym, subst, arith}
-use Rattle.std.specs.Prelude.{Result, Ok, Err, find, is_none, is_some, slice_index}
+use Rattle.std.proofs.Common.{◌≡◌, ◌⊎◌, ◌∙◌, ◌+◌, ◌^◌, ◌*◌, ◌/◌, ◌%◌, ◌<◌, ◌≤◌, ◌&&◌, ◌||◌, ◌++◌, ◌∷◌, [], ℕ, Bool, true, false, cond, map, nat_eq, List, Option, None, Some, inl, inr, refl, ap, sym, subst, arith}
+use Rattle.std.specs.Prelude.{Result, Ok, Err, find, is_some}
 use Rattle.std.specs.List.{list_any}
-use Rattle.std.proofs.lemmas.Option.{none-some, same_Some}
+use Rattle.std.proofs.lemmas.Option.{none-some}
 use Rattle.arrayvec.specs.ArrayVec.{ArrayVec}
 use Rattle.mscp_packet.proofs.Numbers.{four}
 use Rattle.mscp_packet.specs.Number.{num}
 use Rattle.mscp_packet.specs.Commands.{command_bytes, opcode_byte}
 use Rattle.mscp_packet.specs.declared.command.Command.{Command}
-use Rattle.mscp_packet.specs.declared.command.MoveKind.{MoveKind}
 use Rattle.mscp_packet.specs.declared.command.MoveKind.TheVariants as moves
 use Rattle.mscp_packet.specs.declared.command.Order.{Order}
 use Rattle.mscp_packet.specs.declared.command.Order.TheVariants as orders
@@ -29,10 +28,7 @@ use Rattle.mscp_host.specs.declared.submission.Submission.{Submission}
 use Rattle.mscp_host.specs.Accounts.{Account, asks, asks_unless, has_reference, oldest, poll_of, polls_oldest, refusal, submits, submits_unless}
 use Rattle.mscp_host.specs.Messages.{message_in}
 use Rattle.mscp_host.specs.PortAccounts.{PortAccount, asked_of, bytes_of, credit_fault, ends_of, heard_of, hears, is_of, is_to_poll, is_too_much, news_said, may_be_of, polled_with, port_polls, port_submits, submits_unless_faulty, submitted_with, without_by}
-use Rattle.mscp_host.specs.PortHistories.{Ask, Hear, Other, PortAnswers, PortMoment, Resume, Submit}
 use Rattle.mscp_ported.specs.Awaited.{bytes_in, is_transfer}
-use Rattle.mscp_heard.specs.Deeds.{HasNumber, is_hearing, sent_by}
-use Rattle.mscp_heard.proofs.Claims.{Claim, claim_of}
 
 -- ---- the message of a command
 
@@ -210,9 +206,10 @@ pub hear_settles : (old new : PortAccount) (v : Envelope) (b : List ℕ) (answer
 hear_settles old new v b answer e = by (message_in v b) e
   where
     judged : (end : End) (x : Asked) (c : Bool)
-        → ◌≡◌ {A = Result Heard HearFault × PortAccount} (cond c
-        (Ok (Rattle.mscp_host.specs.PortAccounts.end_says old end x),
-        Rattle.mscp_host.specs.PortAccounts.granted v.credits (Rattle.mscp_host.specs.PortAccounts.ended old end))
+        → ◌≡◌ {A = Result Heard HearFault × PortAccount} (cond c (
+          Ok (Rattle.mscp_host.specs.PortAccounts.end_says old end x),
+          Rattle.mscp_host.specs.PortAccounts.granted v.credits (Rattle.mscp_host.specs.PortAccounts.ended old end),
+        )
         (Err Rattle.mscp_host.specs.declared.message.HearFault.TheVariants.Unknown, old)) (answer, new)
         → Settles old.asked new.asked (Ok (messages.End end))
     judged end x true h = inr (end, refl, sym (ap (λ y. y.1.asked) h))
@@ -245,8 +242,15 @@ hears_too_much old new v b e asked h = by (message_in v b) h
         → is_it (Ok (news_said poll end x n), old) ≡ true → is_too_much end.body x.bytes ≡ true
     says end x true c is (news.Ended read) h = absurd (search (arith, h))
     says end x false true is (news.Ended read) h = is
-    says end x false false is (news.Ended read) h = absurd (search (arith, h, ap (λ y. is_it (Ok (cond y
-        (heards.MovedTooMuch end x) (heards.Ended end x)), old)) is))
+    says end x false false is (news.Ended read) h = absurd (search (
+      arith,
+      h,
+      ap (λ y. is_it (
+        Ok (cond y
+            (heards.MovedTooMuch end x) (heards.Ended end x)),
+        old,
+      )) is,
+    ))
     says end x poll c is (news.Progress figure) h = absurd (search (arith, h))
     says end x poll c is (news.First figure) h = absurd (search (arith, h))
     says end x poll c is news.Late h = absurd (search (arith, h))
@@ -254,9 +258,10 @@ hears_too_much old new v b e asked h = by (message_in v b) h
     says end x poll c is news.Lost h = absurd (search (arith, h))
 
     judged : (end : End) (x : Asked) (c : Bool)
-        → ◌≡◌ {A = Result Heard HearFault × PortAccount} (cond c
-        (Ok (Rattle.mscp_host.specs.PortAccounts.end_says old end x),
-        Rattle.mscp_host.specs.PortAccounts.granted v.credits (Rattle.mscp_host.specs.PortAccounts.ended old end))
+        → ◌≡◌ {A = Result Heard HearFault × PortAccount} (cond c (
+          Ok (Rattle.mscp_host.specs.PortAccounts.end_says old end x),
+          Rattle.mscp_host.specs.PortAccounts.granted v.credits (Rattle.mscp_host.specs.PortAccounts.ended old end),
+        )
         (Err Rattle.mscp_host.specs.declared.message.HearFault.TheVariants.Unknown, old))
         (Ok (heards.MovedTooMuch e asked), new) → is_too_much end.body x.bytes ≡ true
     judged end x true h = says end x (Rattle.mscp_host.specs.PortAccounts.is_poll_of old.account.watch end.reference)

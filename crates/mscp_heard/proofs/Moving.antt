@@ -1,5 +1,5 @@
 -- How what a host is owed moves through a port.
-use Rattle.std.proofs.Common.{◌≡◌, ◌≢◌, ◌⊎◌, ◌∙◌, ◌+◌, ◌<◌, ◌≤◌, ◌++◌, ◌∷◌, [], ℕ, zero, suc, Bool, true, false, cond, drop, filter, length, map, nat_eq, not, List, Option, None, Some, inl, inr, refl, ap, sym, subst, arith, append_assoc}
+use Rattle.std.proofs.Common.{◌≡◌, ◌∙◌, ◌+◌, ◌≤◌, ◌++◌, ◌∷◌, [], ℕ, zero, suc, Bool, true, false, cond, drop, filter, length, map, nat_eq, not, List, Some, refl, ap, sym, subst, arith, append_assoc}
 use Rattle.std.specs.Prelude.{find, slice_get, slice_index}
 use Rattle.std.specs.List.{AllByRecursion}
 use Rattle.std.proofs.lemmas.List.{append-nil, map-append}
@@ -140,9 +140,14 @@ module _ (asked : List Asked) (us : List Said) (ts ms : List (List ℕ)) (o : Ow
       (owes_same asked (claims us ts ms) ((claims_said us ++ mine ∷ []) ++ (map claim_of left ++ map claim_of ms))
       (λ m. as_often m n t left mine refl (tally_one n m ts t only) one.1)
       (every_append (IsOwed asked) (claims_said us ++ mine ∷ []) (map claim_of left ++ map claim_of ms)
-      (every_append (IsOwed asked) (claims_said us) (mine ∷ []) parts.0
-      ((one.0.0, subst (λ k. find (is_of k) asked ≡ Some one.0.0) one.1 one.0.1,
-      less mine.bytes (bytes_in t) one.0.0.bytes few one.0.2), tt))
+      (every_append (IsOwed asked) (claims_said us) (mine ∷ []) parts.0 (
+        (
+          one.0.0,
+          subst (λ k. find (is_of k) asked ≡ Some one.0.0) one.1 one.0.1,
+          less mine.bytes (bytes_in t) one.0.0.bytes few one.0.2,
+        ),
+        tt,
+      ))
       (every_append (IsOwed asked) (map claim_of left) (map claim_of ms)
       (known_left (IsOwed asked) (λ x. not (has_number n x)) ts rest.0) rest.1)) o)
     where
@@ -194,9 +199,14 @@ text_answered asked us ts ms s m kind named none o =
     (owes_same asked (claims us ts (m ∷ ms)) ((claims_said us ++ mine ∷ []) ++ (map claim_of ts ++ map claim_of ms))
     (λ n. as_often n mine named)
     (every_append (IsOwed asked) (claims_said us ++ mine ∷ []) (map claim_of ts ++ map claim_of ms)
-    (every_append (IsOwed asked) (claims_said us) (mine ∷ []) parts.0
-    ((rest.1.0.0, subst (λ k. find (is_of k) asked ≡ Some rest.1.0.0) (sym named) rest.1.0.1,
-    subst (λ k. k ≤ rest.1.0.0.bytes) (sym none) (search arith)), tt))
+    (every_append (IsOwed asked) (claims_said us) (mine ∷ []) parts.0 (
+      (
+        rest.1.0.0,
+        subst (λ k. find (is_of k) asked ≡ Some rest.1.0.0) (sym named) rest.1.0.1,
+        subst (λ k. k ≤ rest.1.0.0.bytes) (sym none) (search arith),
+      ),
+      tt,
+    ))
     (every_append (IsOwed asked) (map claim_of ts) (map claim_of ms) rest.0 rest.1.1)) o)
   where
     as_often : (n : ℕ) (mine : Claim) → mine.number ≡ num m 0 4

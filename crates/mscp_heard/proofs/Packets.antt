@@ -1,5 +1,5 @@
 -- What a host reads in a packet that a port told.
-use Rattle.std.proofs.Common.{◌≡◌, ◌≢◌, ◌⊎◌, ◌∙◌, ◌+◌, ◌*◌, ◌/◌, ◌%◌, ◌<◌, ◌≤◌, ◌++◌, ◌∷◌, [], ℕ, Bool, true, false, cond, drop, length, min, nat_eq, nat_le, nat_lt, not, take, List, Option, None, Some, inl, inr, refl, ap, sym, subst, arith}
+use Rattle.std.proofs.Common.{◌≡◌, ◌∙◌, ◌+◌, ◌*◌, ◌<◌, ◌≤◌, ℕ, Bool, true, false, cond, length, min, nat_eq, nat_le, nat_lt, not, take, List, Option, None, Some, refl, ap, sym, subst, arith}
 use Rattle.std.specs.Prelude.{Result, Ok, Err, slice_index}
 use Rattle.std.proofs.lemmas.List.{get_or-take, length-take}
 use Rattle.mscp_packet.specs.Number.{num}
@@ -7,9 +7,6 @@ use Rattle.mscp_packet.specs.Ends.{body_at, end_at, end_length, kind_of_code, re
 use Rattle.mscp_packet.specs.declared.end.BodyKind.{BodyKind}
 use Rattle.mscp_packet.specs.declared.end.BodyKind.TheVariants as bodykinds
 use Rattle.mscp_packet.specs.declared.end.End.{End}
-use Rattle.mscp_packet.specs.declared.end.EndBody.{EndBody}
-use Rattle.mscp_packet.specs.declared.end.EndBody.TheVariants as bodies
-use Rattle.mscp_packet.specs.declared.reading.EndFault.{EndFault}
 use Rattle.mscp_packet.specs.declared.reading.EndFault.TheVariants as endfaults
 use Rattle.mscp_host.specs.declared.envelope.Envelope.{Envelope}
 use Rattle.mscp_host.specs.declared.message.HearFault.{HearFault}

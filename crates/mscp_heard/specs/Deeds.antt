@@ -1,7 +1,7 @@
 -- What is done at a port and by its host, and how one gets what the other has said: the port reads the host's messages
 -- in the order in which it sent them, and the host hears the port's packets in the order in which they were told (port:
 -- UQSSP, "Ring Entries", "Envelope Header").
-use Rattle.std.specs.Prelude.{◌≡◌, ◌<◌, ◌+◌, ◌^◌, ◌++◌, ◌∷◌, [], ℕ, Bool, true, false, drop, filter, flat_map, length, slice_get, List, Some, Ok}
+use Rattle.std.specs.Prelude.{◌≡◌, ◌<◌, ◌^◌, ◌++◌, ◌∷◌, [], ℕ, Bool, true, false, drop, filter, flat_map, length, slice_get, List, Some, Ok}
 use Rattle.mscp_packet.specs.Number.{num}
 use Rattle.mscp_host.specs.declared.envelope.Envelope.{Envelope}
 use Rattle.mscp_host.specs.declared.news.Poll.TheVariants as polls

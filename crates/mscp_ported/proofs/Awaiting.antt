@@ -1,10 +1,9 @@
 -- What there is of each reference number after each call of a port.
-use Rattle.std.proofs.Common.{◌≡◌, ◌≢◌, ◌⊎◌, ◌∙◌, ◌+◌, ◌*◌, ◌/◌, ◌%◌, ◌^◌, ◌<◌, ◌≤◌, ◌&&◌, ◌||◌, ◌++◌, ◌∷◌, [], ℕ, Bool, true, false, cond, drop, filter, length, nat_eq, nat_lt, not, replicate, take, List, MatchOption, Option, None, Some, inl, inr, refl, ap, sym, subst, arith}
-use Rattle.std.specs.Prelude.{◌==◌, Result, Ok, Err, find, is_none, is_ok, option_map, option_to_list, slice_get, slice_index}
+use Rattle.std.proofs.Common.{◌≡◌, ◌∙◌, ◌/◌, ◌%◌, ◌^◌, ◌<◌, ◌≤◌, ◌++◌, ◌∷◌, [], ℕ, Bool, true, false, cond, drop, filter, length, nat_eq, nat_lt, take, List, Option, None, Some, inl, inr, refl, ap, sym, subst, arith}
+use Rattle.std.specs.Prelude.{option_map, option_to_list, slice_index}
 use Rattle.std.specs.List.{AllByRecursion, list_any}
 use Rattle.std.proofs.lemmas.List.{append-nil}
 use Rattle.std.proofs.lemmas.List.Folds.{list_any-append}
-use Rattle.std.proofs.lemmas.Option.{none-some, same_Some}
 use Rattle.byteorder.specs.Endian.{little_bytes}
 use Rattle.mscp_packet.specs.Number.{num}
 use Rattle.mscp_packet.specs.Opcodes.{move_byte, opcode_of, opcodes, row_of}
@@ -23,56 +22,28 @@ use Rattle.mscp_drive.specs.Settings.{Settings}
 use Rattle.mscp_drive.specs.Shape.{Shape}
 use Rattle.mscp_drive.specs.declared.connection.Connection.TheVariants.{First}
 use Rattle.mscp_queue.specs.declared.name.Name.{Name}
-use Rattle.mscp_queue.specs.declared.report.Report.{Report}
-use Rattle.mscp_queue.specs.declared.report.Report.TheVariants as reports
 use Rattle.mscp_queue.specs.Names.{name_on}
-use Rattle.mscp_queue.specs.Records.{Record, aborted_record, drive_at, fresh_record, name_of, record_at}
-use Rattle.mscp_queue.specs.Serving.{end_given, is_begun}
-use Rattle.mscp_queue.proofs.Lists.{every_append, every_kept}
+use Rattle.mscp_queue.specs.Records.{Record, aborted_record, fresh_record, name_of}
 use Rattle.mscp_queue.proofs.Named.{is_same, same_is}
-use Rattle.mscp_controller.specs.Arrival.{fault_of, holds, is_queued, refusal}
+use Rattle.mscp_controller.specs.Arrival.{holds, refusal}
 use Rattle.mscp_controller.specs.Outcomes.{own_end_with}
-use Rattle.mscp_controller.specs.declared.entry.NotBegun.{NotBegun}
-use Rattle.mscp_controller.specs.declared.entry.SendFault.{SendFault}
-use Rattle.mscp_controller.specs.Holdings.{Finishes, Holdings, aborting, answer_to_message, answered_end, arrives, balance_of, held_unless, numbers_ended, outstanding_of, queued, record_aborted, sent_unless, taken_as, unaborted, with_end}
-use Rattle.mscp_port.specs.declared.action.Action.{Action}
-use Rattle.mscp_port.specs.declared.action.Outcome.{Outcome}
-use Rattle.mscp_port.specs.declared.port.Outgoing.{Outgoing}
+use Rattle.mscp_controller.specs.Holdings.{Holdings, balance_of, numbers_ended, outstanding_of, record_aborted, unaborted}
 use Rattle.mscp_port.specs.declared.port.Port.{Port}
-use Rattle.mscp_port.specs.declared.slot.Descriptor.{Descriptor}
-use Rattle.mscp_port.specs.declared.stage.Stage.TheVariants as stages
-use Rattle.mscp_port.specs.declared.task.Task.{Task}
-use Rattle.mscp_port.specs.declared.task.Task.TheVariants as tasks
-use Rattle.mscp_port.specs.declared.verdict.Verdict.{Verdict}
-use Rattle.mscp_port.specs.Blocks.{block_told}
-use Rattle.mscp_port.specs.Calls.{Dies, Goes, Hears, Wants}
+use Rattle.mscp_port.specs.Calls.{Dies}
 use Rattle.mscp_port.specs.Formalities.{is_formality, stand_in}
-use Rattle.mscp_port.specs.Histories.{Becomes, Call, Picking, WriteIp, Next, WasRead, Went}
-use Rattle.mscp_port.specs.Leaving.{end_left, told_end}
-use Rattle.mscp_port.specs.Messages.{handed, next_named, next_unit, own_end_of, asks_for_next}
-use Rattle.mscp_port.specs.Moved.{HeedsStep, TakesBegun, TakesBlock, block_begun, block_served, end_brought}
-use Rattle.mscp_port.specs.Outgoings.{IsNews, MayBegin, Says, news_place}
-use Rattle.mscp_port.specs.Ports.{IsReadingText}
-use Rattle.mscp_port.specs.Seen.{SeesText, answered_to}
+use Rattle.mscp_port.specs.Histories.{Call}
+use Rattle.mscp_port.specs.Messages.{handed, next_unit, asks_for_next}
 use Rattle.mscp_port.proofs.Come.{none_waits, taken_number}
 use Rattle.mscp_port.proofs.Common.{eq-eqb, eqb-true, false≢true, or_parts}
 use Rattle.mscp_port.proofs.Kept.{is_numbered}
-use Rattle.mscp_port.proofs.Loads.{looks_or_not}
-use Rattle.mscp_port.proofs.Said.{none_or_some, served_name}
-use Rattle.mscp_ported.specs.Answers.{own_answer, text_handed, volume_named}
-use Rattle.mscp_ported.specs.Awaited.{bytes_in, is_transfer, has_number, is_taken_text, taken_by, without_ends}
-use Rattle.mscp_ported.specs.Ends.{ends_begun, ends_said_by}
-use Rattle.mscp_ported.specs.Making.{step_told}
+use Rattle.mscp_ported.specs.Awaited.{bytes_in, is_transfer, has_number, taken_by, without_ends}
+use Rattle.mscp_ported.specs.Ends.{ends_said_by}
 use Rattle.mscp_ported.specs.Talk.{is_dead, since}
-use Rattle.mscp_ported.proofs.Answering.{handed_so, none_so, own_so}
-use Rattle.mscp_ported.proofs.Coming.{brought_for, ends_of, steps_bring}
-use Rattle.mscp_ported.proofs.Numbered.{At, AtEach, Ended, IsNothing, Waits, asked_by, counted_in, ends_numbered, none_stays, some_none, takes_end}
-use Rattle.mscp_ported.proofs.Numbering.{aborts, comes_ended, comes_waiting, step_serves}
-use Rattle.mscp_ported.proofs.Owning.{and_false}
+use Rattle.mscp_ported.proofs.Coming.{ends_of}
+use Rattle.mscp_ported.proofs.Numbered.{At, AtEach, IsNothing, asked_by, counted_in, ends_numbered, some_none}
+use Rattle.mscp_ported.proofs.Numbering.{aborts, comes_ended, comes_waiting}
 use Rattle.mscp_ported.proofs.Sole.{none_passes}
-use Rattle.mscp_ported.proofs.Staying.{IsPassive, Stays, passive_stays, went_stays}
-use Rattle.mscp_ported.proofs.Decided.{read_stays}
-use Rattle.mscp_ported.proofs.Wanting.{alive_or_dead}
+use Rattle.mscp_ported.proofs.Staying.{Stays}
 
 abbrev pub IsSmall : List ℕ → Type 0
 IsSmall t = num t 0 4 < 2 ^ 32

@@ -1,11 +1,8 @@
 -- Each end that goes out is that of a message that is awaited.
-use Rattle.std.proofs.Common.{◌≡◌, ◌≢◌, ◌⊎◌, ◌∙◌, ◌+◌, ◌^◌, ◌<◌, ◌≤◌, ◌&&◌, ◌++◌, ◌∷◌, [], ℕ, Bool, true, false, cond, drop, filter, length, nat_eq, nat_lt, not, List, MatchOption, Option, None, Some, inl, inr, refl, ap, sym, subst, arith}
-use Rattle.std.specs.Prelude.{◌==◌, Result, Ok, Err, is_none, is_ok, option_map, option_to_list, slice_get, slice_index}
-use Rattle.std.specs.List.{AllByRecursion}
+use Rattle.std.proofs.Common.{◌≡◌, ◌≢◌, ◌∙◌, ◌&&◌, ◌++◌, ◌∷◌, [], ℕ, Bool, true, false, cond, List, MatchOption, Option, None, Some, inl, inr, refl, ap, sym, subst, arith}
+use Rattle.std.specs.Prelude.{Result, Ok, Err, is_none, is_ok}
 use Rattle.std.proofs.lemmas.List.{append-nil}
-use Rattle.std.proofs.lemmas.Option.{none-some, same_Some}
-use Rattle.mscp_packet.specs.Number.{num}
-use Rattle.mscp_packet.specs.declared.command.Command.{Command}
+use Rattle.std.proofs.lemmas.Option.{none-some}
 use Rattle.mscp_packet.specs.declared.end.End.{End}
 unfoldable use Rattle.mscp_packet.specs.Commands.{command_of}
 use Rattle.mscp_drive.specs.declared.connection.Connection.TheVariants.{First}
@@ -13,48 +10,38 @@ use Rattle.mscp_queue.specs.declared.name.Name.{Name}
 use Rattle.mscp_queue.specs.declared.report.Report.{Report}
 use Rattle.mscp_queue.specs.declared.report.Report.TheVariants as reports
 use Rattle.mscp_queue.specs.Names.{name_on}
-use Rattle.mscp_queue.specs.Records.{Record, aborted_record, drive_at, name_of, record_at}
-use Rattle.mscp_queue.specs.Serving.{end_given, is_begun, waiting_after}
-use Rattle.mscp_queue.proofs.Lists.{every_append, every_kept}
-use Rattle.mscp_queue.proofs.Named.{is_same}
+use Rattle.mscp_queue.specs.Records.{drive_at, record_at}
+use Rattle.mscp_queue.specs.Serving.{end_given, waiting_after}
+use Rattle.mscp_queue.proofs.Lists.{every_append}
 use Rattle.mscp_controller.specs.Arrival.{fault_of, is_queued, refusal}
 use Rattle.mscp_controller.specs.declared.entry.NotBegun.{NotBegun}
 use Rattle.mscp_controller.specs.declared.entry.SendFault.{SendFault}
-use Rattle.mscp_controller.specs.Holdings.{Finishes, Holdings, aborting, answer_to_message, answered_end, arrives, balance_of, held_unless, outstanding_of, queued, record_aborted, sent_unless, taken_as, unaborted, waiting_on, with_end}
-use Rattle.mscp_port.specs.declared.action.Action.{Action}
+use Rattle.mscp_controller.specs.Holdings.{Finishes, Holdings, aborting, answer_to_message, answered_end, arrives, balance_of, held_unless, outstanding_of, queued, sent_unless, taken_as, with_end}
 use Rattle.mscp_port.specs.declared.action.Outcome.{Outcome}
-use Rattle.mscp_port.specs.declared.hardware.Hardware.{Hardware}
-use Rattle.mscp_port.specs.declared.port.Outgoing.{Outgoing}
 use Rattle.mscp_port.specs.declared.port.Port.{Port}
 use Rattle.mscp_port.specs.declared.slot.Descriptor.{Descriptor}
 use Rattle.mscp_port.specs.declared.task.Task.{Task}
 use Rattle.mscp_port.specs.declared.task.Task.TheVariants as tasks
 use Rattle.mscp_port.specs.declared.verdict.Verdict.{Verdict}
 use Rattle.mscp_port.specs.Blocks.{block_told}
-use Rattle.mscp_port.specs.Calls.{Dies, Goes, Hears, IsMadeOf, Wants}
-use Rattle.mscp_port.specs.Histories.{Answered, Becomes, Call, Picking, WriteIp, Next, WasRead, Went}
-use Rattle.mscp_port.specs.Leaving.{end_left, told_end}
+use Rattle.mscp_port.specs.Calls.{Goes, Hears}
+use Rattle.mscp_port.specs.Histories.{WasRead, Went}
 use Rattle.mscp_port.specs.Messages.{handed, own_end_of}
-use Rattle.mscp_port.specs.Moved.{HeedsStep, TakesBegun, TakesBlock, block_begun, block_served, end_brought}
-use Rattle.mscp_port.specs.Outgoings.{IsNews, MayBegin, Says, news_place}
+use Rattle.mscp_port.specs.Moved.{TakesBegun, TakesBlock, block_begun, block_served, end_brought}
 use Rattle.mscp_port.specs.Ports.{IsReadingText}
 use Rattle.mscp_port.specs.Seen.{SeesText, answered_to}
-use Rattle.mscp_port.proofs.Common.{false≢true}
-use Rattle.mscp_port.proofs.Loads.{looks_or_not}
 use Rattle.mscp_port.proofs.Said.{none_or_some, served_name}
-use Rattle.mscp_ported.specs.Answers.{own_answer, text_handed, volume_named}
-use Rattle.mscp_ported.specs.Awaited.{ReadsBytes, awaited, has_number, is_taken_text, taken_by, without_ends}
-use Rattle.mscp_ported.specs.Ends.{ends_begun, ends_said_by}
-use Rattle.mscp_ported.specs.Making.{step_told}
+use Rattle.mscp_ported.specs.Answers.{own_answer, volume_named}
+use Rattle.mscp_ported.specs.Awaited.{is_taken_text, taken_by}
 use Rattle.mscp_ported.specs.Talk.{is_dead, since}
 use Rattle.mscp_ported.proofs.Answering.{handed_so, none_so, own_so}
-use Rattle.mscp_ported.proofs.Awaiting.{IsLikeIt, IsNoReset, IsSmall, Kept, answered_so, became, dies_so, handed_like, lives_so, nothing_kept, own_bytes, own_number, queued_so, same_so, stays_so}
+use Rattle.mscp_ported.proofs.Awaiting.{IsLikeIt, IsNoReset, IsSmall, Kept, answered_so, handed_like, lives_so, own_bytes, own_number, queued_so, same_so, stays_so}
 use Rattle.mscp_ported.proofs.Coming.{brought_for, ends_of, steps_bring}
-use Rattle.mscp_ported.proofs.Decided.{passive_said, read_stays, step_frame}
-use Rattle.mscp_ported.proofs.Numbered.{AtEach, counted_in, ends_numbered, takes_end}
+use Rattle.mscp_ported.proofs.Decided.{read_stays}
+use Rattle.mscp_ported.proofs.Numbered.{AtEach}
 use Rattle.mscp_ported.proofs.Numbering.{step_serves}
 use Rattle.mscp_ported.proofs.Owning.{and_false}
-use Rattle.mscp_ported.proofs.Staying.{IsPassive, Stays, passive_stays, went_stays}
+use Rattle.mscp_ported.proofs.Staying.{went_stays}
 use Rattle.mscp_ported.proofs.Wanting.{alive_or_dead}
 
 -- ---- a message

@@ -1,5 +1,5 @@
 -- What each call of a port deals with.
-use Rattle.std.proofs.Common.{◌≡◌, ◌≢◌, ◌⊎◌, ◌∙◌, ◌+◌, ◌*◌, ◌/◌, ◌%◌, ◌^◌, ◌<◌, ◌≤◌, ◌&&◌, ◌++◌, ◌∷◌, [], ℕ, Bool, true, false, cond, drop, filter, length, nat_eq, not, List, Option, None, Some, inl, inr, refl, ap, sym, subst, arith}
+use Rattle.std.proofs.Common.{◌≡◌, ◌≢◌, ◌⊎◌, ◌∙◌, ◌+◌, ◌*◌, ◌/◌, ◌%◌, ◌^◌, ◌<◌, ◌≤◌, ◌&&◌, ◌++◌, ◌∷◌, [], ℕ, Bool, true, false, cond, drop, filter, not, List, Option, None, Some, inl, inr, refl, ap, sym, subst, arith}
 use Rattle.std.specs.Prelude.{Result, Ok, Err, is_none, is_ok, option_map, slice_get, slice_index}
 use Rattle.std.specs.List.{AllByRecursion}
 use Rattle.std.proofs.lemmas.List.{append-nil}
@@ -14,7 +14,7 @@ use Rattle.mscp_packet.specs.declared.end.EndBody.TheVariants as bodies
 use Rattle.mscp_drive.specs.Shape.{Shape}
 use Rattle.mscp_drive.specs.declared.connection.Connection.TheVariants.{First}
 use Rattle.mscp_queue.proofs.Lists.{every_kept}
-use Rattle.mscp_controller.specs.Holdings.{Holdings, after_take, answer_to_message}
+use Rattle.mscp_controller.specs.Holdings.{Holdings, answer_to_message}
 use Rattle.mscp_controller.specs.declared.entry.SendFault.{SendFault}
 use Rattle.mscp_controller.specs.declared.entry.Sent.{Sent}
 use Rattle.mscp_port.specs.declared.action.Action.{Action}
@@ -25,29 +25,27 @@ use Rattle.mscp_port.specs.declared.port.Outgoing.{Outgoing}
 use Rattle.mscp_port.specs.declared.port.OutgoingKind.TheVariants as kinds
 use Rattle.mscp_port.specs.declared.port.Port.{Port}
 use Rattle.mscp_port.specs.declared.slot.Descriptor.{Descriptor}
-use Rattle.mscp_port.specs.declared.stage.Stage.{Stage}
-use Rattle.mscp_port.specs.declared.stage.Stage.TheVariants as stages
 use Rattle.mscp_port.specs.declared.task.Task.{Task}
 use Rattle.mscp_port.specs.declared.task.Task.TheVariants as tasks
 use Rattle.mscp_port.specs.declared.volumes.Volume.{Volume}
-use Rattle.mscp_port.specs.Calls.{Goes, Hears, Wants}
+use Rattle.mscp_port.specs.Calls.{Hears, Wants}
 use Rattle.mscp_port.specs.Departures.{begins}
 use Rattle.mscp_port.specs.Formalities.{ends_formality}
 use Rattle.mscp_port.specs.Histories.{Becomes, Call, Picking, WriteIp, ReadIp, WriteSa, Next, PutAside, WasRead, Went, LookAgain, Tick, VolumeCame, VolumeWent, Protect}
 use Rattle.mscp_port.specs.Leaving.{end_left, end_told, end_with_body, news_at, told_end}
 use Rattle.mscp_port.specs.Messages.{own_end_of}
-use Rattle.mscp_port.specs.Outgoings.{IsNews as TellsOf, MayBegin, Says, TakesEnd, TellsNews, news_place}
+use Rattle.mscp_port.specs.Outgoings.{IsNews as TellsOf, MayBegin, TakesEnd, news_place}
 use Rattle.mscp_port.specs.Seen.{SeesText, answered_to}
 use Rattle.mscp_port.proofs.Common.{false≢true}
 use Rattle.mscp_port.proofs.Loads.{looks_or_not}
 use Rattle.mscp_port.proofs.Said.{none_or_some}
-use Rattle.mscp_ported.specs.Answers.{own_answer, text_handed, volume_named}
-use Rattle.mscp_ported.specs.Awaited.{bytes_in, Deals, IsAnswering, IsEnding, IsNews, IsQuiet, IsTaking, has_number, is_taken_text, taken_by, without_ends}
-use Rattle.mscp_ported.specs.Ends.{ends_begun, ends_said_by}
+use Rattle.mscp_ported.specs.Answers.{own_answer, volume_named}
+use Rattle.mscp_ported.specs.Awaited.{bytes_in, Deals, IsEnding, has_number, is_taken_text, taken_by, without_ends}
+use Rattle.mscp_ported.specs.Ends.{ends_begun}
 use Rattle.mscp_ported.specs.Talk.{is_dead, since}
 use Rattle.mscp_ported.specs.Told.{accepted_by, accepted_text, accepts}
 use Rattle.mscp_ported.proofs.Answering.{handed_so, none_so, own_so}
-use Rattle.mscp_ported.proofs.Awaiting.{IsNoReset, IsSmall, Kept, became, dies_so, lives_so, same_so}
+use Rattle.mscp_ported.proofs.Awaiting.{IsNoReset, IsSmall, Kept, lives_so, same_so}
 use Rattle.mscp_ported.proofs.Coming.{ends_of}
 use Rattle.mscp_ported.proofs.Decided.{passive_said}
 use Rattle.mscp_ported.proofs.Numbered.{AtEach, counted_in, end_awaited, takes_end}

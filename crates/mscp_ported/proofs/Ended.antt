@@ -1,9 +1,8 @@
 -- Each call of a port deals with one thing at most, over a whole list of calls.
-use Rattle.std.proofs.Common.{All, ◌≡◌, ◌≢◌, ◌⊎◌, ◌∙◌, ◌+◌, ◌*◌, ◌^◌, ◌<◌, ◌≤◌, ◌++◌, ◌∷◌, [], ℕ, Bool, true, false, cond, drop, length, List, Option, None, Some, inl, inr, refl, ap, sym, subst, arith}
-use Rattle.std.specs.Prelude.{Ok, Err, count_by, filter, slice_get, slice_index}
+use Rattle.std.proofs.Common.{All, ◌≡◌, ◌≢◌, ◌∙◌, ◌+◌, ◌*◌, ◌^◌, ◌<◌, ◌++◌, ◌∷◌, [], ℕ, Bool, true, false, List, Some, inl, inr, refl, ap, sym, subst, arith}
+use Rattle.std.specs.Prelude.{Ok, Err, filter, slice_get, slice_index}
 use Rattle.std.proofs.lemmas.Option.{none-some, same_Some}
 use Rattle.std.proofs.lemmas.List.Elements.{All-drop, All-head}
-use Rattle.mscp_packet.specs.Number.{num}
 use Rattle.mscp_packet.specs.Ends.{IsOfKind}
 use Rattle.mscp_packet.specs.declared.end.End.{End}
 use Rattle.mscp_drive.specs.Both.{of}
@@ -12,7 +11,6 @@ use Rattle.mscp_drive.specs.declared.connection.Connection.TheVariants.{First}
 use Rattle.mscp_queue.specs.Records.{Record}
 use Rattle.mscp_controller.specs.Account.{ends}
 unfoldable use Rattle.mscp_controller.specs.Account.{untaken}
-use Rattle.mscp_controller.specs.Commands.{ends_in}
 use Rattle.mscp_controller.specs.Calls.{AnsweredCalls, Call as Made, history}
 use Rattle.mscp_controller.specs.Controllers.{ControllersKeepThePromise, KeepsPromise}
 use Rattle.mscp_controller.specs.Holdings.{Holdings, fresh, numbers_ended, outstanding_of, waiting_on}
@@ -23,16 +21,15 @@ use Rattle.mscp_port.specs.declared.stage.Stage.TheVariants as stages
 use Rattle.mscp_port.specs.Calls.{IsMadeOf}
 use Rattle.mscp_port.specs.Histories.{Answered, Becomes, Call, Picking, WriteIp, ReadIp, WriteSa, Next, PutAside, WasRead, Went, LookAgain, Tick, VolumeCame, VolumeWent, Protect}
 use Rattle.mscp_port.proofs.Kept.{is_numbered}
-use Rattle.mscp_ported.specs.Awaited.{Deals, ReadsBytes, awaited, taken_by, without_ends}
-use Rattle.mscp_ported.specs.Ends.{ends_said_by}
-use Rattle.mscp_ported.specs.Talk.{is_dead, since}
+use Rattle.mscp_ported.specs.Awaited.{Deals, ReadsBytes, awaited}
+use Rattle.mscp_ported.specs.Talk.{is_dead}
 use Rattle.mscp_ported.proofs.Awaiting.{IsNoReset, IsSmall, Kept, nothing_kept, stays_so}
 use Rattle.mscp_ported.proofs.Awaits.{read_so, went_so}
 use Rattle.mscp_ported.proofs.Coming.{ends_of}
 use Rattle.mscp_ported.proofs.Dealing.{next_deals, next_so, passive_deals, passive_taken, read_deals, went_deals}
 use Rattle.mscp_ported.proofs.Decided.{passive_said}
 use Rattle.mscp_ported.proofs.Numbered.{AtEach, ends_numbered}
-use Rattle.mscp_ported.proofs.Promised.{Knows, knows}
+use Rattle.mscp_ported.proofs.Promised.{knows}
 use Rattle.mscp_ported.proofs.Staying.{IsPassive, passive_stays}
 
 -- ---- a fatal error stays

@@ -1,6 +1,6 @@
 -- What there is of each reference number after a step of a command, and after a message.
-use Rattle.std.proofs.Common.{◌≡◌, ◌≢◌, ◌⊎◌, ◌∙◌, ◌+◌, ◌<◌, ◌≤◌, ◌&&◌, ◌++◌, ◌∷◌, [], ℕ, Bool, true, false, cond, drop, filter, length, map, min, nat_eq, not, take, List, Option, None, Some, inl, inr, refl, ap, sym, subst, arith}
-use Rattle.std.specs.Prelude.{find, if◌then◌else◌, option_map, option_to_list}
+use Rattle.std.proofs.Common.{◌≡◌, ◌∙◌, ◌+◌, ◌<◌, ◌≤◌, ◌++◌, ◌∷◌, [], ℕ, Bool, true, false, cond, drop, filter, length, map, nat_eq, not, take, List, Option, None, Some, inl, inr, refl, ap, sym, subst, arith}
+use Rattle.std.specs.Prelude.{find, option_map, option_to_list}
 use Rattle.std.proofs.lemmas.List.{append-nil}
 use Rattle.std.proofs.lemmas.Option.{none-some, same_Some}
 use Rattle.mscp_packet.specs.Number.{num}
@@ -8,27 +8,25 @@ use Rattle.mscp_packet.specs.declared.command.Command.{Command}
 use Rattle.mscp_packet.specs.declared.command.Order.{Order}
 use Rattle.mscp_packet.specs.declared.command.Order.TheVariants as orders
 use Rattle.mscp_packet.specs.declared.end.End.{End}
-use Rattle.mscp_packet.specs.Ends.{kind_of_code, refused_body}
+use Rattle.mscp_packet.specs.Ends.{refused_body}
 use Rattle.mscp_drive.specs.Shape.{Shape}
 use Rattle.mscp_drive.specs.declared.block.Block.{Block}
 use Rattle.mscp_drive.specs.declared.connection.Connection.{Connection}
 use Rattle.mscp_drive.specs.declared.connection.Connection.TheVariants.{First, Second}
 use Rattle.mscp_queue.specs.declared.drive.Drive.{Drive}
-use Rattle.mscp_queue.specs.declared.name.Name.{Name}
 use Rattle.mscp_queue.specs.Names.{name_on}
 use Rattle.mscp_queue.specs.Orders.{endcode}
 use Rattle.mscp_queue.specs.Outcomes.{goes_on, moved_body, outcome_at, outcome_body}
-use Rattle.mscp_queue.specs.Records.{Record, aborted_record, advanced, fresh_record, left_of, name_of, no_record, passed_by, record_at, remains, step_charge, without}
+use Rattle.mscp_queue.specs.Records.{Record, aborted_record, advanced, left_of, no_record, passed_by, record_at, remains, step_charge, without}
 use Rattle.mscp_queue.specs.Serving.{end_given, waiting_after}
-use Rattle.mscp_queue.proofs.Named.{same_is}
 use Rattle.mscp_port.proofs.Common.{drop_more, eq-eqb, eqb-true, false≢true, take-append-drop}
 use Rattle.mscp_port.proofs.Kept.{is_numbered}
 use Rattle.mscp_ported.specs.Awaited.{bytes_in, has_number}
 use Rattle.mscp_ported.proofs.Coming.{brought_for}
 use Rattle.mscp_ported.proofs.Keeping.{end_number}
-use Rattle.mscp_ported.proofs.Numbered.{At, AtEach, Ended, IsNothing, Waits, asked_by, counted_in, ends_numbered, filter_beside, first_of_one, none_beside, none_found, none_of_it, none_stays, some_none}
+use Rattle.mscp_ported.proofs.Numbered.{At, AtEach, IsNothing, Waits, asked_by, counted_in, ends_numbered, filter_beside, none_beside, none_found, none_of_it, none_stays, some_none}
 use Rattle.mscp_ported.proofs.Owning.{apart_numbers, number_of}
-use Rattle.mscp_ported.proofs.Sole.{Alike, found_sole, itself, served_goes_on, served_itself, served_other, sole_beside, sole_comes, sole_left, this_one}
+use Rattle.mscp_ported.proofs.Sole.{found_sole, served_goes_on, served_itself, served_other, sole_beside, sole_comes, sole_left, this_one}
 
 -- ---- what an end counts
 

@@ -1,6 +1,6 @@
 -- Of which message each end is that goes out to a host: of one that its controller took, and that had none so far
 -- (manual, "End Messages").
-use Rattle.std.specs.Prelude.{◌≡◌, ◌≢◌, ◌⊎◌, ◌≤◌, Some, None, slice_index, ◌==◌, ◌&&◌, ◌||◌, ◌++◌, ◌∷◌, [], ℕ, Bool, true, false, not, filter, is_none, is_ok, ◌<◌, ◌^◌, if◌then◌else◌, List, Contains, Ok}
+use Rattle.std.specs.Prelude.{◌≡◌, ◌≢◌, ◌⊎◌, ◌≤◌, Some, None, slice_index, ◌==◌, ◌&&◌, ◌||◌, ◌∷◌, [], ℕ, Bool, false, not, filter, is_none, is_ok, ◌<◌, ◌^◌, if◌then◌else◌, List, Ok}
 use Rattle.mscp_packet.specs.Number.{num}
 use Rattle.mscp_drive.specs.Settings.{IsValid, Settings}
 use Rattle.mscp_drive.specs.declared.connection.Connection.TheVariants.{First}
