@@ -1,12 +1,13 @@
 -- What each call of a port deals with.
-use Rattle.std.proofs.Common.{◌≡◌, ◌≢◌, ◌⊎◌, ◌∙◌, ◌+◌, ◌*◌, ◌/◌, ◌%◌, ◌^◌, ◌<◌, ◌≤◌, ◌&&◌, ◌++◌, ◌∷◌, [], ℕ, Bool, true, false, cond, drop, filter, not, List, Option, None, Some, inl, inr, refl, ap, sym, subst, arith}
-use Rattle.std.specs.Prelude.{Result, Ok, Err, is_none, is_ok, option_map, slice_get, slice_index}
+use Rattle.std.proofs.Common.{length, nat_eq, ◌≡◌, ◌≢◌, ◌⊎◌, ◌∙◌, ◌+◌, ◌*◌, ◌/◌, ◌%◌, ◌^◌, ◌<◌, ◌≤◌, ◌&&◌, ◌++◌, ◌∷◌, [], ℕ, Bool, true, false, cond, drop, filter, not, List, Option, None, Some, inl, inr, refl, ap, sym, subst, arith}
+use Rattle.std.specs.Prelude.{Result, Ok, Err, find, is_none, is_ok, option_map, slice_get, slice_index}
 use Rattle.std.specs.List.{AllByRecursion}
 use Rattle.std.proofs.lemmas.List.{append-nil}
 use Rattle.std.proofs.lemmas.Option.{none-some, same_Some}
 use Rattle.mscp_packet.proofs.Numbers.{four}
 use Rattle.mscp_packet.specs.Number.{num}
-use Rattle.mscp_packet.specs.Ends.{IsOfKind, end_bytes, kind_of_code}
+use Rattle.mscp_packet.specs.Ends.{IsOfKind, end_bytes, endcodes, kind_of_code}
+use Rattle.mscp_packet.specs.declared.end.BodyKind.{BodyKind}
 use Rattle.mscp_packet.specs.declared.end.BodyKind.TheVariants.{Moved}
 use Rattle.mscp_packet.specs.declared.end.End.{End}
 use Rattle.mscp_packet.specs.declared.end.EndBody.{EndBody}
@@ -40,7 +41,7 @@ use Rattle.mscp_port.proofs.Common.{false≢true}
 use Rattle.mscp_port.proofs.Loads.{looks_or_not}
 use Rattle.mscp_port.proofs.Said.{none_or_some}
 use Rattle.mscp_ported.specs.Answers.{own_answer, volume_named}
-use Rattle.mscp_ported.specs.Awaited.{bytes_in, Deals, IsEnding, has_number, is_taken_text, taken_by, without_ends}
+use Rattle.mscp_ported.specs.Awaited.{IsWhole, bytes_in, Deals, IsEnding, has_number, is_taken_text, taken_by, without_ends}
 use Rattle.mscp_ported.specs.Ends.{ends_begun}
 use Rattle.mscp_ported.specs.Talk.{is_dead, since}
 use Rattle.mscp_ported.specs.Told.{accepted_by, accepted_text, accepts}
@@ -118,6 +119,86 @@ told_counts {K} p e n shaped few = by (slice_get p.decided.items 0)
         cases true formal is = absurd (formal_kind d.code formal is)
         cases false formal is = body_counts e.body e d unit p.hardware n shaped refl few
             (sym (ap kind_of_code (code_of e.body e d unit p.hardware)) ∙ is)
+
+-- it is a whole end
+code_top : (code : ℕ) (k : BodyKind) → kind_of_code code ≡ Some k → 0x80 ≤ code
+code_top code k e = found endcodes tops e
+  where
+    tops : AllByRecursion (λ x. 0x80 ≤ x.0) endcodes
+    tops = grind arith
+
+    found : (xs : List (ℕ × BodyKind)) → AllByRecursion (λ x. 0x80 ≤ x.0) xs
+        → option_map (λ x. x.1) (find (λ x. nat_eq x.0 code) xs) ≡ Some k → 0x80 ≤ code
+    found [] all h = absurd (none-some k h)
+    found (x ∷ xs) all h = by (nat_eq x.0 code) refl h (λ y. found xs all.1 y)
+      where
+        by : (b : Bool) → nat_eq x.0 code ≡ b
+            → option_map (λ (y : ℕ × BodyKind). y.1) (cond b (Some x) (find (λ y. nat_eq y.0 code) xs)) ≡ Some k
+            → (option_map (λ (y : ℕ × BodyKind). y.1) (find (λ y. nat_eq y.0 code) xs) ≡ Some k → 0x80 ≤ code)
+            → 0x80 ≤ code
+        by true is h rest = subst (λ m. 0x80 ≤ m) (Rattle.mscp_port.proofs.Common.eqb-true x.0 code is) all.0
+        by false is h rest = rest h
+
+body_long : (body : EndBody) (e : End) (d : Decided) (o : Option Shape) (h : Hardware) → e.body ≡ body
+    → (Rattle.mscp_packet.specs.Ends.end_length (Rattle.mscp_packet.specs.Ends.kind_of_body body)
+    ≤ length (end_with_body body e d o h)) × (12 ≤ length (end_with_body body e d o h))
+    × (length (end_with_body body e d o h) ≤ 64)
+body_long body e d o h same = grind (arith, same)
+
+plain_long : (body : EndBody) (e : End) → e.body ≡ body
+    → (Rattle.mscp_packet.specs.Ends.end_length (Rattle.mscp_packet.specs.Ends.kind_of_body body)
+    ≤ length (end_bytes e)) × (12 ≤ length (end_bytes e)) × (length (end_bytes e) ≤ 64)
+plain_long body e same = grind (arith, same)
+
+formal_top : (code : ℕ) → ends_formality code ≡ true → 0x80 ≤ code
+formal_top code e = grind (arith, e)
+
+formal_none : (code : ℕ) (k : BodyKind) → ends_formality code ≡ true → kind_of_code code ≡ Some k → ⊥
+formal_none code k e h = grind (arith, none-some, e, h)
+
+told_whole : {K : Type 0} (p : Port K) (e : End) → IsOfKind e → IsWhole (told_end p e)
+told_whole {K} p e shaped = by (slice_get p.decided.items 0)
+  where
+    unit : Option Shape
+    unit = Rattle.mscp_drive.specs.UnitList.unit_found p.controller.settings.units e.unit
+
+    lengths : (n m : ℕ) (k : BodyKind) → kind_of_code e.code ≡ Some k
+        → Rattle.mscp_packet.specs.Ends.end_length (Rattle.mscp_packet.specs.Ends.kind_of_body e.body) ≤ n
+        → Rattle.mscp_packet.specs.Ends.end_length k ≤ n
+    lengths n m k is h = subst (λ x. Rattle.mscp_packet.specs.Ends.end_length x ≤ n)
+        (same_Some (Rattle.mscp_packet.specs.Ends.kind_of_body e.body) k (sym shaped ∙ is)) h
+
+    by : (o : Option Decided) → IsWhole (end_left e o unit p.hardware)
+    by None =
+        let l = plain_long e.body e refl in
+        record {
+          long = l.1;
+          short = l.2;
+          top = code_top e.code (Rattle.mscp_packet.specs.Ends.kind_of_body e.body) shaped;
+          body = λ k is. lengths (length (end_bytes e)) 0 k is l.0;
+        }
+    by (Some d) = cases (ends_formality d.code) refl
+      where
+        cases : (c : Bool) → ends_formality d.code ≡ c
+            → IsWhole (cond c (Rattle.mscp_port.specs.Leaving.head e.reference e.unit d.code d.status)
+            (end_with_body e.body e d unit p.hardware))
+        cases true formal = record {
+          long = omega arith;
+          short = omega arith;
+          top = formal_top d.code formal;
+          body = λ k is. absurd (formal_none d.code k formal is);
+        }
+        cases false formal =
+            let l = body_long e.body e d unit p.hardware refl in
+            let code = code_of e.body e d unit p.hardware in
+            record {
+              long = l.1;
+              short = l.2;
+              top = subst (λ x. 0x80 ≤ x) (sym code)
+                  (code_top e.code (Rattle.mscp_packet.specs.Ends.kind_of_body e.body) shaped);
+              body = λ k is. lengths (length (end_with_body e.body e d unit p.hardware)) 0 k
+                  (sym (ap kind_of_code code) ∙ is) l.0;
+            }
 
 -- ---- what goes out
 
@@ -391,6 +472,7 @@ module _ {K : Type 0} (blocks : Bool) (action : Action) (bytes : List ℕ) (old 
       message = own.0;
       only = ap (λ n. filter (has_number n) aw) named ∙ own.1;
       counts = told_counts old e (bytes_in own.0) shaped own.2;
+      whole = told_whole old e shaped;
     }
 
   -- after which something is kept
@@ -445,6 +527,7 @@ module _ {K : Type 0} (blocks : Bool) (action : Action) (bytes : List ℕ) (old 
         })) e;
         kind = refl;
         code = refl;
+        long = (omega arith, omega arith);
         accepted = refl;
         taken = refl;
         ended = ap (λ o. ends_begun o new.outgoing) none ∙ ap (ends_begun None) (is ∙ h.0

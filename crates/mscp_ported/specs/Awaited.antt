@@ -1,12 +1,13 @@
 -- Of which message each end is that goes out to a host: of one that its controller took, and that had none so far
 -- (manual, "End Messages").
-use Rattle.std.specs.Prelude.{◌≡◌, ◌≢◌, ◌⊎◌, ◌≤◌, Some, None, slice_index, ◌==◌, ◌&&◌, ◌||◌, ◌∷◌, [], ℕ, Bool, false, not, filter, is_none, is_ok, ◌<◌, ◌^◌, if◌then◌else◌, List, Ok}
+use Rattle.std.specs.Prelude.{◌≡◌, ◌≢◌, ◌⊎◌, ◌≤◌, Some, None, slice_index, ◌==◌, ◌&&◌, ◌||◌, ◌∷◌, [], ℕ, Bool, false, not, filter, is_none, is_ok, ◌<◌, ◌^◌, if◌then◌else◌, List, length, Ok}
 use Rattle.mscp_packet.specs.Number.{num}
 use Rattle.mscp_drive.specs.Settings.{IsValid, Settings}
 use Rattle.mscp_drive.specs.declared.connection.Connection.TheVariants.{First}
 use Rattle.mscp_controller.specs.Calls.{AnsweredCalls, Call as Made}
 use Rattle.mscp_controller.specs.Holdings.{Holdings, answer_to_message, fresh, outstanding_of}
-use Rattle.mscp_packet.specs.Ends.{kind_of_code}
+use Rattle.mscp_packet.specs.Ends.{end_length, kind_of_code}
+use Rattle.mscp_packet.specs.declared.end.BodyKind.{BodyKind}
 use Rattle.mscp_packet.specs.declared.end.BodyKind.TheVariants.{Moved}
 use Rattle.mscp_port.specs.declared.hardware.Hardware.{Hardware}
 use Rattle.mscp_port.specs.declared.port.Outgoing.{Outgoing}
@@ -70,6 +71,13 @@ ReadsBytes (call ∷ earlier) = ReadsBytes earlier
 
 -- ---- what a call deals with
 
+-- a text is an end: its code has the top bit, and it has all bytes that an end of its code has
+pub record IsWhole (text : List ℕ) : Type 0 where
+  pub long : 12 ≤ length text
+  pub short : length text ≤ 64
+  pub top : 0x80 ≤ slice_index text 8
+  pub body : (kind : BodyKind) → kind_of_code (slice_index text 8) ≡ Some kind → end_length kind ≤ length text
+
 -- nothing is accepted, and nothing begins to go out
 pub record IsQuiet {K : Type 0} (call : Call) (old new : Port K) : Type 0 where
   pub begun : begins old.outgoing new.outgoing ≡ []
@@ -84,6 +92,7 @@ pub record IsNews {K : Type 0} (call : Call) (old new : Port K) : Type 0 where
   pub begun : new.outgoing ≡ Some out
   pub kind : out.kind ≡ kinds.Attention
   pub code : slice_index out.bytes.items 8 ≡ 0x40
+  pub long : (12 ≤ length out.bytes.items) × (length out.bytes.items ≤ 64)
   pub accepted : accepted_by call old ≡ []
   pub taken : taken_by call old ≡ []
   pub ended : ends_said_by call old new ≡ []
@@ -102,6 +111,7 @@ pub record IsEnding {K : Type 0} (messages : List (List ℕ)) (call : Call) (old
   pub only : filter (has_number (num out.bytes.items 0 4)) messages ≡ message ∷ []
   pub counts : kind_of_code (slice_index out.bytes.items 8) ≡ Some Moved
       → num out.bytes.items 12 4 ≤ bytes_in message
+  pub whole : IsWhole out.bytes.items
 
 -- a message is read, and the controller takes it
 pub record IsTaking {K : Type 0} (call : Call) (old new : Port K) : Type 0 where
