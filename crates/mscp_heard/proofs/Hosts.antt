@@ -17,6 +17,7 @@ use Rattle.mscp_host.specs.declared.envelope.Envelope.{Envelope}
 use Rattle.mscp_host.specs.declared.heard.Heard.{Heard}
 use Rattle.mscp_host.specs.declared.heard.Heard.TheVariants as heards
 use Rattle.mscp_host.specs.declared.message.HearFault.{HearFault}
+use Rattle.mscp_host.specs.declared.message.HearFault.TheVariants as faults
 use Rattle.mscp_host.specs.declared.news.News.{News}
 use Rattle.mscp_host.specs.declared.news.News.TheVariants as news
 use Rattle.mscp_host.specs.declared.message.Message.{Message}
@@ -291,3 +292,29 @@ hears_too_much old new v b e asked h = by (message_in v b) h
         not_news false h = search (arith, h)
     by (Ok messages.Datagram) h = absurd (search (arith, h))
     by (Ok messages.Credits) h = absurd (search (arith, h))
+
+-- a message that is read is refused only as an end that is Unknown
+pub hears_refused : (old new : PortAccount) (v : Envelope) (b : List ℕ) (m : Message) (fault : HearFault)
+    → message_in v b ≡ Ok m → hears old v b ≡ (Err fault, new)
+    → (fault ≡ faults.Unknown) × ((e : End) × (message_in v b ≡ Ok (messages.End e)))
+hears_refused old new v b m fault is h =
+    by m is (subst (λ r. heard_of old v.credits r ≡ (Err fault, new)) is h)
+  where
+    judged : (end : End) (x : Asked) (c : Bool)
+        → ◌≡◌ {A = Result Heard HearFault × PortAccount} (cond c
+        (Ok (Rattle.mscp_host.specs.PortAccounts.end_says old end x),
+        Rattle.mscp_host.specs.PortAccounts.granted v.credits (Rattle.mscp_host.specs.PortAccounts.ended old end))
+        (Err faults.Unknown, old)) (Err fault, new) → fault ≡ faults.Unknown
+    judged end x true h = absurd (search (arith, h))
+    judged end x false h = search (arith, h)
+
+    found : (end : End) (o : Option Asked) → ends_of old v.credits end o ≡ (Err fault, new) → fault ≡ faults.Unknown
+    found end None h = search (arith, h)
+    found end (Some x) h = judged end x (may_be_of old end x) h
+
+    by : (m : Message) → message_in v b ≡ Ok m → heard_of old v.credits (Ok m) ≡ (Err fault, new)
+        → (fault ≡ faults.Unknown) × ((e : End) × (message_in v b ≡ Ok (messages.End e)))
+    by (messages.End end) is h = (found end (find (is_of end.reference) old.asked) h, (end, is))
+    by (messages.Attention code unit) is h = absurd (search (arith, h))
+    by messages.Datagram is h = absurd (search (arith, h))
+    by messages.Credits is h = absurd (search (arith, h))

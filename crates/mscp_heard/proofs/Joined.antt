@@ -1,6 +1,6 @@
 -- What a host is owed after each deed at its port.
 use Rattle.std.proofs.Common.{◌≡◌, ◌≢◌, ◌∙◌, ◌+◌, ◌-◌, ◌*◌, ◌^◌, ◌<◌, ◌≤◌, ◌++◌, ◌∷◌, [], ℕ, zero, suc, Bool, true, false, cond, drop, filter, length, map, not, List, Option, None, Some, inl, inr, refl, ap, sym, subst, arith, append_assoc}
-use Rattle.std.specs.Prelude.{Result, Ok, Err, count_by, find, flat_map, option_to_list, slice_get, slice_index}
+use Rattle.std.specs.Prelude.{◌%◌, ◌/◌, ◌==◌, ◌&&◌, ◌||◌, is_none, option_map, Result, Ok, Err, count_by, find, flat_map, option_to_list, slice_get, slice_index}
 use Rattle.std.specs.List.{AllByRecursion}
 use Rattle.std.proofs.lemmas.Grind.{flat_map-append}
 use Rattle.std.proofs.lemmas.List.Elements.{filter-append}
@@ -8,7 +8,7 @@ use Rattle.std.proofs.lemmas.List.{append-nil, length-append, length-map}
 use Rattle.std.proofs.lemmas.Option.{none-some, same_Some}
 use Rattle.mscp_packet.proofs.Numbers.{four}
 use Rattle.mscp_packet.specs.Number.{num}
-use Rattle.mscp_packet.specs.Ends.{kind_of_code}
+use Rattle.mscp_packet.specs.Ends.{end_length, kind_of_code}
 use Rattle.mscp_packet.specs.declared.end.BodyKind.{BodyKind}
 use Rattle.mscp_packet.specs.declared.end.BodyKind.TheVariants as bodykinds
 use Rattle.mscp_packet.specs.declared.end.End.{End}
@@ -37,24 +37,24 @@ use Rattle.mscp_port.specs.Calls.{IsMadeOf}
 use Rattle.mscp_port.specs.Departures.{begins}
 use Rattle.mscp_port.specs.Histories.{Answered, Call, Picking, WasRead, Went, WriteIp}
 use Rattle.mscp_queue.proofs.Lists.{every_append}
-use Rattle.mscp_ported.specs.Answers.{Own, PortsAnswerAsTheyMay, is_for_utilities, kind_answered, own_text}
-use Rattle.mscp_ported.specs.Awaited.{Deals, IsAnswering, IsTaking, PortsEndWhatTheyTook, ReadsBytes, awaited, bytes_in, has_number, taken_by, without_ends}
+use Rattle.mscp_port.specs.declared.volumes.Volume.{Volume}
+use Rattle.mscp_ported.specs.Answers.{asks_nothing, moves_data, own_answer, own_refusal, volume_named, Own, PortsAnswerAsTheyMay, is_for_utilities, kind_answered, own_text}
+use Rattle.mscp_ported.specs.Awaited.{IsWhole, Deals, IsAnswering, IsTaking, PortsEndWhatTheyTook, ReadsBytes, awaited, bytes_in, has_number, taken_by, without_ends}
 use Rattle.mscp_ported.specs.Ends.{ends_said_by}
 use Rattle.mscp_ported.specs.Talk.{AsksAlways, Message as Read_one, Opened, Packet, Read, Slot, Talk, Turn, is_dead, since, talk_of}
 use Rattle.mscp_ported.specs.Told.{AreAccepted, PortsHearInOrder, PortsOpenWhatTheyAccept, PortsTellInOrder, Said, TellAll, Tells, accepted, accepted_by, connection_told, credits_in, held, left_after, message_text, packet_with, said, said_in}
 use Rattle.mscp_heard.specs.Deeds.{AreJoined, Called, Deed, Did, HasNumber, HaveNumbers, HearsInOrder, IsNextText, IsPacket, IsTextOf, ReadsInOrder, calls_in, did, hearings, is_hearing, sent, sent_by}
 use Rattle.mscp_heard.specs.Hearing.{HearsItsOwn}
 use Rattle.mscp_heard.proofs.Claims.{Claim, IsOwed, Owes, claim_of, claim_said, claims, claims_said, moved_in, owes_less, owes_more, owes_rest}
-use Rattle.mscp_heard.proofs.Hosts.{SameNumbers, Sends, Settles, hear_settles, hears_too_much, poll_sends, poll_still, submit_refused, submit_sends}
+use Rattle.mscp_heard.proofs.Hosts.{hears_refused, SameNumbers, Sends, Settles, hear_settles, hears_too_much, poll_sends, poll_still, submit_refused, submit_sends}
 use Rattle.mscp_heard.proofs.Moving.{drop_at, drop_beside, end_said, news_said, text_answered, text_taken}
-use Rattle.mscp_heard.proofs.Packets.{end_heard}
+use Rattle.mscp_heard.proofs.Packets.{IsMessage, IsRead, end_heard, message_read}
 
 same_ok : {X E : Type 0} (x y : X) → ◌≡◌ {A = Result X E} (Ok x) (Ok y) → x ≡ y
 same_ok x y e = search (arith, e)
 
--- news have a code of their own
 abbrev pub IsCoded : Said → Type 0
-IsCoded s = s.kind ≡ kinds.Attention → slice_index s.text 8 ≡ 0x40
+IsCoded s = IsRead s.kind s.text
 
 -- so much was heard of what was said, and so many messages of those that were sent were read
 pub record Inv (asked : List Asked) (said : List Said) (k : ℕ) (aw sent : List (List ℕ)) (n : ℕ) : Type 0 where
@@ -95,6 +95,91 @@ own_bytes b own = by own.tells_bytes
     by true = refl
     by false = refl
 
+-- what the port answers is whole
+abbrev moves_opcode : ℕ → Bool
+moves_opcode n = n == 16 || n == 18 || n == 32 || n == 33 || n == 34
+
+formal_none : (opcode : ℕ) (k : BodyKind) → asks_nothing opcode ≡ true → kind_of_code (opcode + 0x80) ≡ Some k → ⊥
+formal_none opcode k e h = by (opcode == 11) refl (opcode == 17) refl (opcode == 19) refl e
+  where
+    none : (n : ℕ) → opcode ≡ n → kind_of_code (n + 0x80) ≡ None → ⊥
+    none n is nobody = none-some k (sym (subst (λ m. kind_of_code (m + 0x80) ≡ None) (sym is) nobody) ∙ h)
+
+    by : (a : Bool) → (opcode == 11) ≡ a → (b : Bool) → (opcode == 17) ≡ b → (c : Bool) → (opcode == 19) ≡ c
+        → (a || b || c) ≡ true → ⊥
+    by true x b y c z h = none 11 (Rattle.mscp_port.proofs.Common.eqb-true opcode 11 x) refl
+    by false x true y c z h = none 17 (Rattle.mscp_port.proofs.Common.eqb-true opcode 17 y) refl
+    by false x false y true z h = none 19 (Rattle.mscp_port.proofs.Common.eqb-true opcode 19 z) refl
+    by false x false y false z h = search (arith, h)
+
+high : (n : ℕ) → 0x80 ≤ n + 0x80
+high n = omega arith
+
+low_body : (k : BodyKind) (opcode : ℕ) → moves_opcode opcode ≡ true → kind_of_code (opcode + 0x80) ≡ Some k
+    → end_length k ≤ 32
+low_body k opcode e h = grind (arith, e, h)
+
+own_whole : (v : Option Volume) (b : List ℕ) (own : Own) → own_answer false v b ≡ Some own → IsWhole (own_text b own)
+own_whole v b own h = by (is_none v && asks_nothing (slice_index b 8)) refl h
+  where
+    refused : (o : Option Volume) → option_map (λ status. record {
+      code = slice_index b 8 + 0x80;
+      status = status;
+      tells_bytes = true;
+    }) (own_refusal b o) ≡ Some own → IsWhole (own_text b own)
+    refused None h = absurd (none-some own h)
+    refused (Some x) h = cases (x.is_there) (moves_data b) refl h
+      where
+        got : (o : Option ℕ) → moves_data b ≡ true → option_map (λ status. record {
+          code = slice_index b 8 + 0x80;
+          status = status;
+          tells_bytes = true;
+        }) o ≡ Some own → IsWhole (own_text b own)
+        got None moves h = absurd (none-some own h)
+        got (Some status) moves h = subst (λ y. IsWhole (own_text b y)) (same_Some (record {
+          code = slice_index b 8 + 0x80;
+          status = status;
+          tells_bytes = true;
+        }) own h) (record {
+          long = omega arith;
+          short = omega arith;
+          top = high (slice_index b 8);
+          body = λ k is. low_body k (slice_index b 8) (Rattle.mscp_port.proofs.Common.and_parts
+              (moves_opcode (slice_index b 8)) (Rattle.std.specs.Prelude.nat_le 32 (length b)) moves).0 is;
+        })
+
+        cases : (there moves : Bool) → moves_data b ≡ moves → option_map (λ status. record {
+          code = slice_index b 8 + 0x80;
+          status = status;
+          tells_bytes = true;
+        }) (cond (there && moves) (Rattle.mscp_ported.specs.Answers.past_end x.size (num b 28 4) (num b 12 4)) None)
+            ≡ Some own → IsWhole (own_text b own)
+        cases true true is h = got (Rattle.mscp_ported.specs.Answers.past_end x.size (num b 28 4) (num b 12 4)) is h
+        cases true false is h = absurd (none-some own h)
+        cases false m is h = absurd (none-some own h)
+
+    by : (c : Bool) → (is_none v && asks_nothing (slice_index b 8)) ≡ c → cond c (Some (record {
+      code = slice_index b 8 + 0x80;
+      status = 0;
+      tells_bytes = false;
+    })) (option_map (λ status. record {
+      code = slice_index b 8 + 0x80;
+      status = status;
+      tells_bytes = true;
+    }) (own_refusal b v)) ≡ Some own → IsWhole (own_text b own)
+    by true is h = subst (λ y. IsWhole (own_text b y)) (same_Some (record {
+      code = slice_index b 8 + 0x80;
+      status = 0;
+      tells_bytes = false;
+    }) own h) (record {
+      long = omega arith;
+      short = omega arith;
+      top = high (slice_index b 8);
+      body = λ k e. absurd (formal_none (slice_index b 8) k (Rattle.mscp_port.proofs.Common.and_parts (is_none v)
+          (asks_nothing (slice_index b 8)) is).1 e);
+    })
+    by false is h = refused v h
+
 small_number : (b : List ℕ) → ((i : ℕ) → slice_index b i < 2 ^ 8) → num b 0 4 < 2 ^ 32
 small_number b h = few (slice_index b 0) (slice_index b 1) (slice_index b 2) (slice_index b 3) (h 0) (h 1) (h 2) (h 3)
   where
@@ -106,28 +191,28 @@ small_number b h = few (slice_index b 0) (slice_index b 1) (slice_index b 2) (sl
 
 module _ (asked : List Asked) (ss : List Said) (k : ℕ) (aw ms : List (List ℕ)) (n : ℕ) (i : Inv asked ss k aw ms n) where
   -- news
-  by_news : (s : Said) → s.kind ≡ kinds.Attention → slice_index s.text 8 ≡ 0x40 → Inv asked (ss ++ s ∷ []) k aw ms n
+  by_news : (s : Said) → s.kind ≡ kinds.Attention → IsCoded s → Inv asked (ss ++ s ∷ []) k aw ms n
   by_news s kind code = record {
     owes = subst (λ us. Owes asked (claims us aw (drop n ms))) (sym (drop_beside k ss s i.heard))
         (news_said asked (drop k ss) aw (drop n ms) i.owes s (ap (λ x. claim_said x s.text) kind));
     heard = search (arith, i.heard, length-append ss (s ∷ []));
     read = i.read;
     news = subst (λ us. AllByRecursion IsCoded us) (sym (drop_beside k ss s i.heard))
-        (every_append IsCoded (drop k ss) (s ∷ []) i.news (λ _. code, tt));
+        (every_append IsCoded (drop k ss) (s ∷ []) i.news (code, tt));
   }
 
   -- the end of a message
-  by_end : (s : Said) (t : List ℕ) → s.kind ≡ kinds.End → filter (has_number (num s.text 0 4)) aw ≡ t ∷ []
+  by_end : (s : Said) (t : List ℕ) → s.kind ≡ kinds.End → IsCoded s → filter (has_number (num s.text 0 4)) aw ≡ t ∷ []
       → moved_in (kind_of_code (slice_index s.text 8)) (num s.text 12 4) ≤ bytes_in t
       → Inv asked (ss ++ s ∷ []) k (filter (λ x. not (has_number (num s.text 0 4) x)) aw) ms n
-  by_end s t kind only few = record {
+  by_end s t kind code only few = record {
     owes = subst (λ us. Owes asked (claims us (filter (λ x. not (has_number (num s.text 0 4) x)) aw) (drop n ms)))
         (sym (drop_beside k ss s i.heard))
         (end_said asked (drop k ss) aw (drop n ms) i.owes s t kind only few);
     heard = search (arith, i.heard, length-append ss (s ∷ []));
     read = i.read;
     news = subst (λ us. AllByRecursion IsCoded us) (sym (drop_beside k ss s i.heard))
-        (every_append IsCoded (drop k ss) (s ∷ []) i.news (λ e. search (arith, kind, e), tt));
+        (every_append IsCoded (drop k ss) (s ∷ []) i.news (code, tt));
   }
 
   -- a message that the controller takes
@@ -143,9 +228,9 @@ module _ (asked : List Asked) (ss : List Said) (k : ℕ) (aw ms : List (List ℕ
       }
 
   -- or that the port answers
-  by_answer : (s : Said) (t m : List ℕ) → slice_get ms n ≡ Some m → IsTextOf t m → s.kind ≡ kinds.End
+  by_answer : (s : Said) (t m : List ℕ) → slice_get ms n ≡ Some m → IsTextOf t m → s.kind ≡ kinds.End → IsCoded s
       → num s.text 0 4 ≡ num t 0 4 → num s.text 12 4 ≡ 0 → Inv asked (ss ++ s ∷ []) k aw ms (suc n)
-  by_answer s t m at is kind named none =
+  by_answer s t m at is kind code named none =
       let d = drop_at n ms m at in
       record {
         owes = subst (λ us. Owes asked (claims us aw (drop (suc n) ms))) (sym (drop_beside k ss s i.heard))
@@ -155,7 +240,7 @@ module _ (asked : List Asked) (ss : List Said) (k : ℕ) (aw ms : List (List ℕ
         heard = search (arith, i.heard, length-append ss (s ∷ []));
         read = d.1;
         news = subst (λ us. AllByRecursion IsCoded us) (sym (drop_beside k ss s i.heard))
-            (every_append IsCoded (drop k ss) (s ∷ []) i.news (λ e. search (arith, kind, e), tt));
+            (every_append IsCoded (drop k ss) (s ∷ []) i.news (code, tt));
       }
 
 one_more : {X : Type 0} (xs ys : List X) (x : X) → ys ≡ xs ++ x ∷ [] → length ys ≡ suc (length xs)
@@ -261,6 +346,9 @@ module _ {K : Type 0} (picks : Picking K) (c : Settings) (picker : K) (ends : Po
         (ap (λ xs. accepted picks start a.0 calls a.1 ++ xs) d.accepted))
         (by_answer asked (said picks start a.0 calls a.1) (hearings h) (awaited picks start a.0 calls a.1) (sent h)
         (length (accepted picks start a.0 calls a.1)) i (said_in d.out) bytes x.message x.at x.is kind
+        (subst (λ y. IsRead y d.out.bytes.items) (sym kind)
+        (subst (λ b. IsWhole b) (sym own.2) (own_whole (volume_named a.0 bytes) bytes own.0
+        (ap (λ f. own_answer f (volume_named a.0 bytes) bytes) (sym x.disks) ∙ own.1))))
         (ap (λ b. num b 0 4) own.2 ∙ own_number bytes own.0 (small_number bytes small.0))
         (ap (λ b. num b 12 4) own.2 ∙ own_bytes bytes own.0))
     answers_it call a asks small reads d i = absurd (search (arith, d.read.1))
@@ -290,7 +378,8 @@ module _ {K : Type 0} (picks : Picking K) (c : Settings) (picker : K) (ends : Po
         (ap length (ap (λ xs. accepted picks start a.0 calls a.1 ++ xs) q.accepted
         ∙ append-nil (accepted picks start a.0 calls a.1)))
         (by_news asked (said picks start a.0 calls a.1) (hearings h) (awaited picks start a.0 calls a.1) (sent h)
-        (length (accepted picks start a.0 calls a.1)) i (said_in q.out) q.kind q.code)
+        (length (accepted picks start a.0 calls a.1)) i (said_in q.out) q.kind
+        (subst (λ x. IsRead x q.out.bytes.items) (sym q.kind) (q.code, q.long.0, q.long.1)))
     deals_so call a asks small reads (inr (inr (inl q))) i =
         inv_as asked _ (said picks start a.0 calls a.1 ++ said_in q.out ∷ []) (hearings h) _
         (filter (λ x. not (has_number (num q.out.bytes.items 0 4) x)) (awaited picks start a.0 calls a.1)) (sent h) _
@@ -304,7 +393,8 @@ module _ {K : Type 0} (picks : Picking K) (c : Settings) (picker : K) (ends : Po
         (ap length (ap (λ xs. accepted picks start a.0 calls a.1 ++ xs) q.accepted
         ∙ append-nil (accepted picks start a.0 calls a.1)))
         (by_end asked (said picks start a.0 calls a.1) (hearings h) (awaited picks start a.0 calls a.1) (sent h)
-        (length (accepted picks start a.0 calls a.1)) i (said_in q.out) q.message q.kind q.only
+        (length (accepted picks start a.0 calls a.1)) i (said_in q.out) q.message q.kind
+        (subst (λ x. IsRead x q.out.bytes.items) (sym q.kind) q.whole) q.only
         (moved_few (kind_of_code (slice_index q.out.bytes.items 8)) (num q.out.bytes.items 12 4) (bytes_in q.message)
         q.counts))
     deals_so call a asks small reads (inr (inr (inr (inl q)))) i =
@@ -400,7 +490,7 @@ module _ {K : Type 0} (picks : Picking K) (c : Settings) (picker : K) (ends : Po
               → Settles asked new (message_in v b) → Owes new (claims (drop (suc k) ss) aw (drop n ms))
           by kinds.Attention kind o code (inl same) = subst (λ xs. Owes xs (claims (drop (suc k) ss) aw (drop n ms)))
               (sym same) (subst (λ x. Owes asked (claim_said x s.text ++ claims (drop (suc k) ss) aw (drop n ms))) kind o)
-          by kinds.Attention kind o code (inr r) = absurd (not_heard r.0 kind (code kind) r.1)
+          by kinds.Attention kind o code (inr r) = absurd (not_heard r.0 kind (subst (λ x. IsRead x s.text) kind code).0 r.1)
           by kinds.UtilitiesEnd kind o code (inl same) = subst (λ xs. Owes xs (claims (drop (suc k) ss) aw (drop n ms)))
               (sym same) (subst (λ x. Owes asked (claim_said x s.text ++ claims (drop (suc k) ss) aw (drop n ms))) kind o)
           by kinds.UtilitiesEnd kind o code (inr r) = absurd (not_disk r.0 kind r.1)
@@ -435,7 +525,7 @@ module _ {K : Type 0} (picks : Picking K) (c : Settings) (picker : K) (ends : Po
               → AllByRecursion (IsOwed asked) (claim_said s.kind s.text ++ claims (drop (suc k) ss) aw (drop n ms))
               → (x : Asked) × (find (is_of e.reference) asked ≡ Some x) × (is_too_much e.body x.bytes ≡ false)
           by kinds.Attention kind code h all =
-              absurd (search (arith, h.1, ap (λ x. slice_index x 8) text ∙ code kind))
+              absurd (search (arith, h.1, ap (λ x. slice_index x 8) text ∙ (subst (λ x. IsRead x s.text) kind code).0))
           by kinds.UtilitiesEnd kind code h all =
               absurd (search (arith, sym h.0 ∙ (connection ∙ ap connection_told kind)))
           by kinds.End kind code h all =
@@ -462,11 +552,21 @@ module _ {K : Type 0} (picks : Picking K) (c : Settings) (picker : K) (ends : Po
   first_part (x ∷ xs) ys zero s e = e
   first_part (x ∷ xs) ys (suc k) s e = first_part xs ys k s e
 
+  size_of : (n : ℕ) → 0 + n % 256 * 1 + n / 256 % 256 * 256 ≡ n % 0x1_0000
+  size_of n = omega arith
+
+  few_credits : (left : ℕ) (kind : OutgoingKind) → credits_in left kind / 16 ≡ 0
+  few_credits left kinds.Attention = refl
+  few_credits left kinds.End = omega arith
+  few_credits left kinds.UtilitiesEnd = refl
+
   record IsHeard (ss : List Said) (k : ℕ) (v : Envelope) (b : List ℕ) : Type 0 where
     said : Said
     at : slice_get ss k ≡ Some said
     text : b ≡ said.text
     connection : v.connection ≡ connection_told said.kind
+    size : v.length ≡ length said.text % 0x1_0000
+    kind : v.kind ≡ 0
 
   hears_said : (p : Port K) (calls : List Call) (a : Answered picks start calls p) (k : ℕ) (v : Envelope) (b : List ℕ)
       (packet : Packet) → AsksAlways calls → slice_get (talk_of picks start p calls a).told k ≡ Some packet
@@ -480,6 +580,10 @@ module _ {K : Type 0} (picks : Picking K) (c : Settings) (picker : K) (ends : Po
         text = is.text ∙ ap (drop 4) x.3.1;
         connection = ap (λ (w : Envelope). w.connection) is.envelope
             ∙ ap (λ bytes. (envelope_in bytes).connection) x.3.1;
+        size = ap (λ (w : Envelope). w.length) is.envelope ∙ ap (λ bytes. (envelope_in bytes).length) x.3.1
+            ∙ size_of (length x.0.text);
+        kind = ap (λ (w : Envelope). w.kind) is.envelope ∙ ap (λ bytes. (envelope_in bytes).kind) x.3.1
+            ∙ few_credits x.1 x.0.kind;
       }
 
   -- ---- lists of moments
@@ -629,14 +733,35 @@ module _ {K : Type 0} (picks : Picking K) (c : Settings) (picker : K) (ends : Po
       λ e h. heard_own old.asked (Rattle.mscp_ported.specs.Told.said picks start p (calls_in deeds) a)
       (hearings (did deeds)) (awaited picks start p (calls_in deeds) a) (sent (did deeds))
       (length (accepted picks start p (calls_in deeds) a)) i x.said v b e x.at x.text x.connection h in
+      let d = drop_at (hearings (did deeds)) (Rattle.mscp_ported.specs.Told.said picks start p (calls_in deeds) a) x.said
+      x.at in
+      let read : IsRead x.said.kind x.said.text = (subst (λ us. AllByRecursion IsCoded us) d.0 i.news).0 in
+      let message : IsMessage (message_in v b) = subst (λ t. IsMessage (message_in v t)) (sym x.text)
+      (message_read x.said.kind x.said.text v read
+      (x.size ∙ small_size (length x.said.text) (read_short x.said.kind x.said.text read))
+      (x.connection ∙ read_disk x.said.kind x.said.text read) x.kind) in
       record {
         ends = own;
+        refused = λ fault h. hears_refused old new v b message.0 fault message.1 (r ∙ ap (λ y. (y, new)) h);
         moved = λ e asked h.
             let m = hears_too_much old new v b e asked (r ∙ ap (λ y. (y, new)) h) in
             let o = own m.0 m.2 in
             not_both m.0 m.1 o.0 (same_Some m.1 o.0 (sym m.3 ∙ o.1)) m.4 o.2;
       }
     where
+      read_short : (kind : OutgoingKind) (t : List ℕ) → IsRead kind t → length t ≤ 64
+      read_short kinds.Attention t r = r.2
+      read_short kinds.End t r = r.short
+      read_short kinds.UtilitiesEnd t r = absurd r
+
+      read_disk : (kind : OutgoingKind) (t : List ℕ) → IsRead kind t → connection_told kind ≡ 0
+      read_disk kinds.Attention t r = refl
+      read_disk kinds.End t r = refl
+      read_disk kinds.UtilitiesEnd t r = absurd r
+
+      small_size : (n : ℕ) → n ≤ 64 → n % 0x1_0000 ≡ n
+      small_size n h = omega (arith, h)
+
       not_both : (e : End) (x y : Asked) → x ≡ y → is_too_much e.body x.bytes ≡ true → is_too_much e.body y.bytes ≡ false
           → ⊥
       not_both e x y same is not_so = search (arith, ap (λ z. is_too_much e.body z.bytes) same, is, not_so)

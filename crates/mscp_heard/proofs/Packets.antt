@@ -1,7 +1,8 @@
 -- What a host reads in a packet that a port told.
 use Rattle.std.proofs.Common.{◌≡◌, ◌∙◌, ◌+◌, ◌*◌, ◌<◌, ◌≤◌, ℕ, Bool, true, false, cond, length, min, nat_eq, nat_le, nat_lt, not, take, List, Option, None, Some, refl, ap, sym, subst, arith}
 use Rattle.std.specs.Prelude.{Result, Ok, Err, slice_index}
-use Rattle.std.proofs.lemmas.List.{get_or-take, length-take}
+use Rattle.std.specs.Prelude.{◌&&◌}
+use Rattle.std.proofs.lemmas.List.{take_all, get_or-take, length-take}
 use Rattle.mscp_packet.specs.Number.{num}
 use Rattle.mscp_packet.specs.Ends.{body_at, end_at, end_length, kind_of_code, reading_with}
 use Rattle.mscp_packet.specs.declared.end.BodyKind.{BodyKind}
@@ -10,6 +11,10 @@ use Rattle.mscp_packet.specs.declared.end.End.{End}
 use Rattle.mscp_packet.specs.declared.reading.EndFault.TheVariants as endfaults
 use Rattle.mscp_host.specs.declared.envelope.Envelope.{Envelope}
 use Rattle.mscp_host.specs.declared.message.HearFault.{HearFault}
+use Rattle.mscp_host.specs.declared.message.HearFault.TheVariants as faults
+use Rattle.mscp_port.specs.declared.port.OutgoingKind.{OutgoingKind}
+use Rattle.mscp_port.specs.declared.port.OutgoingKind.TheVariants as kinds
+use Rattle.mscp_ported.specs.Awaited.{IsWhole}
 use Rattle.mscp_host.specs.declared.message.Message.{Message}
 use Rattle.mscp_host.specs.declared.message.Message.TheVariants as messages
 use Rattle.mscp_host.specs.Accounts.{end_in}
@@ -183,3 +188,65 @@ end_heard v b e h = by (nat_lt (length b) v.length) (nat_eq v.connection 0) refl
     by false false is h = search (arith, h)
     by false true is h = so (typed_so v.kind (take v.length b) e h)
         (Rattle.mscp_port.proofs.Common.eqb-true v.connection 0 is)
+
+-- ---- what is read
+
+-- what a port tells of this kind is read as a message
+abbrev pub IsRead : OutgoingKind → List ℕ → Type 0
+IsRead kinds.Attention text = (slice_index text 8 ≡ 0x40) × (12 ≤ length text) × (length text ≤ 64)
+IsRead kinds.End text = IsWhole text
+IsRead kinds.UtilitiesEnd text = ⊥
+
+abbrev pub IsMessage : Result Message HearFault → Type 0
+IsMessage r = (m : Message) × (r ≡ Ok m)
+
+at_least : (n m : ℕ) → n ≤ m → nat_le n m ≡ true
+at_least n m h = search (arith, h)
+
+whole_so : (t : List ℕ) → IsWhole t → IsMessage (sequential_in t)
+whole_so t w =
+    subst (λ b. IsMessage (cond b (Err faults.Unreadable) (cond (nat_le 0x80 (slice_index t 8)) (any_end t (end_in t))
+    (cond (nat_le 0x40 (slice_index t 8)) (Ok (messages.Attention (slice_index t 8) (num t 4 2)))
+    (Err faults.Unreadable))))) (sym (not_more (length t) 12 w.long))
+    (subst (λ b. IsMessage (cond b (any_end t (end_in t))
+    (cond (nat_le 0x40 (slice_index t 8)) (Ok (messages.Attention (slice_index t 8) (num t 4 2)))
+    (Err faults.Unreadable)))) (sym (at_least 0x80 (slice_index t 8) w.top))
+    (subst (λ b. IsMessage (any_end t (cond (b && nat_le (length t) 64) (reading_with (kind_of_code (slice_index t 8)) t)
+    (Err endfaults.Length)))) (sym (at_least 12 (length t) w.long))
+    (subst (λ b. IsMessage (any_end t (cond b (reading_with (kind_of_code (slice_index t 8)) t)
+    (Err endfaults.Length)))) (sym (at_least (length t) 64 w.short))
+    (by (kind_of_code (slice_index t 8)) refl))))
+  where
+    by : (k : Option BodyKind) → kind_of_code (slice_index t 8) ≡ k → IsMessage (any_end t (reading_with k t))
+    by None is = (messages.End (bare_end t), refl)
+    by (Some k) is = subst (λ b. IsMessage (any_end t (cond b (Err endfaults.Length) (Ok (end_at k t)))))
+        (sym (not_more (length t) (end_length k) (w.body k is))) (messages.End (end_at k t), refl)
+
+news_so : (t : List ℕ) → slice_index t 8 ≡ 0x40 → 12 ≤ length t → IsMessage (sequential_in t)
+news_so t code long =
+    subst (λ b. IsMessage (cond b (Err faults.Unreadable) (cond (nat_le 0x80 (slice_index t 8)) (any_end t (end_in t))
+    (cond (nat_le 0x40 (slice_index t 8)) (Ok (messages.Attention (slice_index t 8) (num t 4 2)))
+    (Err faults.Unreadable))))) (sym (not_more (length t) 12 long))
+    (subst (λ c. IsMessage (cond (nat_le 0x80 c) (any_end t (end_in t))
+    (cond (nat_le 0x40 c) (Ok (messages.Attention (slice_index t 8) (num t 4 2)))
+    (Err faults.Unreadable)))) (sym code) (messages.Attention (slice_index t 8) (num t 4 2), refl))
+
+sequential_read : (kind : OutgoingKind) (t : List ℕ) → IsRead kind t → IsMessage (sequential_in t)
+sequential_read kinds.Attention t r = news_so t r.0 r.1
+sequential_read kinds.End t r = whole_so t r
+sequential_read kinds.UtilitiesEnd t r = absurd r
+
+-- behind its envelope
+pub message_read : (kind : OutgoingKind) (t : List ℕ) (v : Envelope) → IsRead kind t → v.length ≡ length t
+    → v.connection ≡ 0 → v.kind ≡ 0 → IsMessage (message_in v t)
+message_read kind t v r size disk sequential =
+    subst (λ n. IsMessage (cond (nat_lt (length t) n) (Err faults.Cut)
+    (cond (not (nat_eq v.connection 0)) (Err faults.Connection) (typed_in v.kind (take n t))))) (sym size)
+    (subst (λ b. IsMessage (cond b (Err faults.Cut)
+    (cond (not (nat_eq v.connection 0)) (Err faults.Connection) (typed_in v.kind (take (length t) t)))))
+    (sym (not_more (length t) (length t) (search arith)))
+    (subst (λ n. IsMessage (cond (not (nat_eq n 0)) (Err faults.Connection) (typed_in v.kind (take (length t) t))))
+    (sym disk)
+    (subst (λ n. IsMessage (typed_in n (take (length t) t))) (sym sequential)
+    (subst (λ xs. IsMessage (sequential_in xs)) (sym (take_all (length t) t (search arith)))
+    (sequential_read kind t r)))))

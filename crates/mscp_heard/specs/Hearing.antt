@@ -1,5 +1,5 @@
 -- What a host hears through a port: the ends of its own commands.
-use Rattle.std.specs.Prelude.{◌≡◌, ◌≢◌, ◌∷◌, [], ℕ, false, find, List, Some, Result, Ok}
+use Rattle.std.specs.Prelude.{◌≡◌, ◌≢◌, ◌∷◌, [], ℕ, false, find, List, Some, Result, Ok, Err}
 use Rattle.mscp_packet.specs.declared.end.End.{End}
 use Rattle.mscp_drive.specs.Settings.{IsValid, Settings}
 use Rattle.mscp_drive.specs.declared.connection.Connection.TheVariants.{First}
@@ -10,6 +10,7 @@ use Rattle.mscp_host.specs.declared.envelope.Envelope.{Envelope}
 use Rattle.mscp_host.specs.declared.heard.Heard.{Heard}
 use Rattle.mscp_host.specs.declared.heard.Heard.TheVariants as heards
 use Rattle.mscp_host.specs.declared.message.HearFault.{HearFault}
+use Rattle.mscp_host.specs.declared.message.HearFault.TheVariants as faults
 use Rattle.mscp_host.specs.declared.message.Message.TheVariants as messages
 use Rattle.mscp_host.specs.Messages.{message_in}
 use Rattle.mscp_host.specs.PortAccounts.{PortAccount, fresh_of_port, is_of, is_too_much}
@@ -28,6 +29,9 @@ pub record HearsItsOwn (old : PortAccount) (v : Envelope) (b : List ℕ) (answer
   -- that asked for
   pub ends : (e : End) → message_in v b ≡ Ok (messages.End e)
       → (asked : Asked) × (find (is_of e.reference) old.asked ≡ Some asked) × (is_too_much e.body asked.bytes ≡ false)
+  -- what is refused is such an end, as Unknown: nothing is cut, unreadable, of another connection or of another type
+  pub refused : (fault : HearFault) → answer ≡ Err fault
+      → (fault ≡ faults.Unknown) × ((e : End) × (message_in v b ≡ Ok (messages.End e)))
   -- and so it never says that too many bytes were moved
   pub moved : (e : End) (asked : Asked) → answer ≢ Ok (heards.MovedTooMuch e asked)
 
