@@ -301,9 +301,10 @@ hears_refused old new v b m fault is h =
     by m is (subst (λ r. heard_of old v.credits r ≡ (Err fault, new)) is h)
   where
     judged : (end : End) (x : Asked) (c : Bool)
-        → ◌≡◌ {A = Result Heard HearFault × PortAccount} (cond c
-        (Ok (Rattle.mscp_host.specs.PortAccounts.end_says old end x),
-        Rattle.mscp_host.specs.PortAccounts.granted v.credits (Rattle.mscp_host.specs.PortAccounts.ended old end))
+        → ◌≡◌ {A = Result Heard HearFault × PortAccount} (cond c (
+          Ok (Rattle.mscp_host.specs.PortAccounts.end_says old end x),
+          Rattle.mscp_host.specs.PortAccounts.granted v.credits (Rattle.mscp_host.specs.PortAccounts.ended old end),
+        )
         (Err faults.Unknown, old)) (Err fault, new) → fault ≡ faults.Unknown
     judged end x true h = absurd (search (arith, h))
     judged end x false h = search (arith, h)

@@ -13,7 +13,8 @@ use mscp_queue::Picker;
 /// only after they were wanted; the port reads the messages that the host sent, in order, and the host hears the packets that
 /// the port told, in order; and if IP is written the host is a new one. Then each end that the host hears has the number of a
 /// command that it sent, and whose end it hasn't heard; and no end counts more bytes than its command asked for: the host never
-/// says `MovedTooMuch`.
+/// says `MovedTooMuch`. What it refuses is such an end, as `Unknown`: no message is cut, unreadable, or of another connection or
+/// type.
 pub fn hosts_hear_their_own_ends<K: Picker>(picker: &K)
     ensures { HostsHearTheirOwnEnds K.picks picker.now }
 {

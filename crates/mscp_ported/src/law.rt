@@ -187,7 +187,7 @@ pub fn ports_keep_telling<K: Picker>(picker: &K)
 /// call, if it is no write of IP and no fatal error comes, at most one thing begins to go out, or a message is accepted, or both,
 /// if the port answers that message itself. An end of the controller's that begins to go out is that of a message that the
 /// controller took since all was forgotten last, and whose end hasn't gone out: there is just one of its number. If it is a
-/// transfer's, it counts no more bytes than that message asks for.
+/// transfer's, it counts no more bytes than that message asks for; and it has all bytes of an end of its code.
 pub fn ports_end_what_they_took<K: Picker>(picker: &K)
     ensures { PortsEndWhatTheyTook K.picks picker.now }
 {
