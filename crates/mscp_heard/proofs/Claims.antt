@@ -59,7 +59,8 @@ pub record Owes (asked : List Asked) (cs : List Claim) : Type 0 where
 
 pub tally_append : (n : ℕ) (cs ds : List Claim) → tally n (cs ++ ds) ≡ tally n cs + tally n ds
 tally_append n [] ds = omega arith
-tally_append n (c ∷ cs) ds = by (nat_eq c.number n) (tally n (cs ++ ds)) (tally n cs) (tally n ds) (tally_append n cs ds)
+tally_append n (c ∷ cs) ds = by (nat_eq c.number n) (tally n (cs
+    ++ ds)) (tally n cs) (tally n ds) (tally_append n cs ds)
   where
     by : (b : Bool) (x y z : ℕ) → x ≡ y + z → cond b (1 + x) x ≡ cond b (1 + y) y + z
     by true x y z e = omega (arith, e)
@@ -82,7 +83,8 @@ others_apart n [] e = tt
 others_apart n (c ∷ cs) e = by (nat_eq c.number n) refl e (λ h. others_apart n cs h)
   where
     by : (b : Bool) → nat_eq c.number n ≡ b → cond b (1 + tally n cs) (tally n cs) ≡ 0
-        → (tally n cs ≡ 0 → AllByRecursion (λ c. nat_eq c.number n ≡ false) cs) → (nat_eq c.number n ≡ false) × AllByRecursion (λ c. nat_eq c.number n ≡ false) cs
+        → (tally n cs ≡ 0 → AllByRecursion (λ c. nat_eq c.number n ≡ false) cs)
+        → (nat_eq c.number n ≡ false) × AllByRecursion (λ c. nat_eq c.number n ≡ false) cs
     by true is h rest = absurd (search (arith, h))
     by false is h rest = (is, rest h)
 
@@ -94,7 +96,8 @@ find_more n [] x y e = absurd (none-some x e)
 find_more n (a ∷ asked) x y e = by (is_of n a) e (λ h. find_more n asked x y h)
   where
     by : (b : Bool) → cond b (Some a) (find (is_of n) asked) ≡ Some x
-        → (find (is_of n) asked ≡ Some x → find (is_of n) (asked ++ y ∷ []) ≡ Some x) → cond b (Some a) (find (is_of n) (asked ++ y ∷ [])) ≡ Some x
+        → (find (is_of n) asked ≡ Some x → find (is_of n) (asked ++ y ∷ []) ≡ Some x)
+        → cond b (Some a) (find (is_of n) (asked ++ y ∷ [])) ≡ Some x
     by true h rest = h
     by false h rest = rest h
 
@@ -104,7 +107,8 @@ find_new n [] y e is = ap (λ b. cond b (Some y) None) is
 find_new n (a ∷ asked) y e is = by (is_of n a) e (λ h. find_new n asked y h is)
   where
     by : (b : Bool) → cond b (Some a) (find (is_of n) asked) ≡ None
-        → (find (is_of n) asked ≡ None → find (is_of n) (asked ++ y ∷ []) ≡ Some y) → cond b (Some a) (find (is_of n) (asked ++ y ∷ [])) ≡ Some y
+        → (find (is_of n) asked ≡ None → find (is_of n) (asked ++ y ∷ []) ≡ Some y)
+        → cond b (Some a) (find (is_of n) (asked ++ y ∷ [])) ≡ Some y
     by true h rest = absurd (none-some a (sym h))
     by false h rest = rest h
 
@@ -114,7 +118,8 @@ find_left n m [] d = refl
 find_left n m (a ∷ asked) d = by (is_of m a) refl (is_of n a) refl (find_left n m asked d)
   where
     by : (b : Bool) → is_of m a ≡ b → (c : Bool) → is_of n a ≡ c
-        → find (is_of n) (without_by (is_of m) asked) ≡ find (is_of n) asked → find (is_of n) (cond b asked (a ∷ without_by (is_of m) asked))
+        → find (is_of n) (without_by (is_of m) asked) ≡ find (is_of n) asked
+        → find (is_of n) (cond b asked (a ∷ without_by (is_of m) asked))
         ≡ cond c (Some a) (find (is_of n) asked)
     by true e true f rest = absurd (false≢true (sym d ∙ eq-eqb n m
         (sym (eqb-true a.reference n f) ∙ eqb-true a.reference m e)))
@@ -186,7 +191,11 @@ owes_rest asked c cs o = record { known = o.known.1; once = λ n. less (nat_eq c
 -- the same claims as often, each owed
 pub owes_same : (asked : List Asked) (cs ds : List Claim) → ((n : ℕ) → tally n ds ≤ tally n cs)
     → AllByRecursion (IsOwed asked) ds → Owes asked cs → Owes asked ds
-owes_same asked cs ds fewer known o = record { known = known; once = λ n. few (tally n ds) (tally n cs) (fewer n) (o.once n) }
+owes_same asked cs ds fewer known o = record {
+  known = known;
+  once = λ n. few (tally n ds) (tally n cs)
+      (fewer n) (o.once n);
+}
   where
     few : (x y : ℕ) → x ≤ y → y ≤ 1 → x ≤ 1
     few x y h k = omega (arith, h, k)

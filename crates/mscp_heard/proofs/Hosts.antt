@@ -1,4 +1,5 @@
 -- What each moment of a host makes of the commands whose ends it hasn't heard.
+use Rattle.mscp_host.specs.PortAccounts.{end_says, ended, granted}
 use Rattle.std.proofs.Common.{◌≡◌, ◌⊎◌, ◌∙◌, ◌+◌, ◌^◌, ◌*◌, ◌/◌, ◌%◌, ◌<◌, ◌≤◌, ◌&&◌, ◌||◌, ◌++◌, ◌∷◌, [], ℕ, Bool, true, false, cond, map, nat_eq, List, Option, None, Some, inl, inr, refl, ap, sym, subst, arith}
 use Rattle.std.specs.Prelude.{Result, Ok, Err, find, is_some}
 use Rattle.std.specs.List.{list_any}
@@ -78,9 +79,11 @@ SameNumbers p = map (λ a. a.reference) p.asked ≡ map (λ s. s.reference) p.ac
 
 unused : (p : PortAccount) (n : ℕ) → SameNumbers p → list_any (has_reference n) p.account.outstanding ≡ false
     → find (is_of n) p.asked ≡ None
-unused p n same e = none_any n p.asked (ap (list_any (λ r. nat_eq r n)) same ∙ sym (any_same n p.account.outstanding) ∙ e)
+unused p n same e = none_any n p.asked (ap (list_any (λ r. nat_eq r n)) same
+    ∙ sym (any_same n p.account.outstanding) ∙ e)
 
-not_doubled : (a : Account) (opcode n : ℕ) → refusal a opcode n ≡ None → list_any (has_reference n) a.outstanding ≡ false
+not_doubled : (a : Account) (opcode n : ℕ) → refusal a opcode n ≡ None
+    → list_any (has_reference n) a.outstanding ≡ false
 not_doubled a opcode n e = grind (arith, none-some)
 
 -- ---- a command is sent
@@ -161,7 +164,8 @@ module _ (old new : PortAccount) (n : ℕ) (small : n < 2 ^ 32) (same : SameNumb
       items (Ok (polls.Ask b), x) = b.items
       items (other, x) = []
 
-  pub poll_sends : (message : ArrayVec ℕ) → port_polls old n ≡ (Ok (polls.Ask message), new) → Sends old new message.items
+  pub poll_sends : (message : ArrayVec ℕ) → port_polls old n ≡ (Ok (polls.Ask message), new)
+      → Sends old new message.items
   poll_sends message e = by (nat_eq old.credits 0 && is_to_poll old.account) e
     where
       about : (o : Option Submission) → oldest old.account ≡ o
@@ -208,10 +212,10 @@ hear_settles old new v b answer e = by (message_in v b) e
   where
     judged : (end : End) (x : Asked) (c : Bool)
         → ◌≡◌ {A = Result Heard HearFault × PortAccount} (cond c (
-          Ok (Rattle.mscp_host.specs.PortAccounts.end_says old end x),
-          Rattle.mscp_host.specs.PortAccounts.granted v.credits (Rattle.mscp_host.specs.PortAccounts.ended old end),
+          Ok (end_says old end x),
+          granted v.credits (ended old end),
         )
-        (Err Rattle.mscp_host.specs.declared.message.HearFault.TheVariants.Unknown, old)) (answer, new)
+        (Err faults.Unknown, old)) (answer, new)
         → Settles old.asked new.asked (Ok (messages.End end))
     judged end x true h = inr (end, refl, sym (ap (λ y. y.1.asked) h))
     judged end x false h = inl (sym (ap (λ y. y.1.asked) h))
@@ -260,10 +264,10 @@ hears_too_much old new v b e asked h = by (message_in v b) h
 
     judged : (end : End) (x : Asked) (c : Bool)
         → ◌≡◌ {A = Result Heard HearFault × PortAccount} (cond c (
-          Ok (Rattle.mscp_host.specs.PortAccounts.end_says old end x),
-          Rattle.mscp_host.specs.PortAccounts.granted v.credits (Rattle.mscp_host.specs.PortAccounts.ended old end),
+          Ok (end_says old end x),
+          granted v.credits (ended old end),
         )
-        (Err Rattle.mscp_host.specs.declared.message.HearFault.TheVariants.Unknown, old))
+        (Err faults.Unknown, old))
         (Ok (heards.MovedTooMuch e asked), new) → is_too_much end.body x.bytes ≡ true
     judged end x true h = says end x (Rattle.mscp_host.specs.PortAccounts.is_poll_of old.account.watch end.reference)
         (is_too_much end.body x.bytes) refl
@@ -287,7 +291,8 @@ hears_too_much old new v b e asked h = by (message_in v b) h
     by (Ok (messages.Attention code unit)) h = absurd (not_news (nat_eq code 0x40)
         (ap (λ y. is_it (y.0, old)) h))
       where
-        not_news : (c : Bool) → is_it (Ok (cond c (heards.Available unit) (heards.Attention code unit)), old) ≡ true → ⊥
+        not_news : (c : Bool)
+            → is_it (Ok (cond c (heards.Available unit) (heards.Attention code unit)), old) ≡ true → ⊥
         not_news true h = search (arith, h)
         not_news false h = search (arith, h)
     by (Ok messages.Datagram) h = absurd (search (arith, h))
@@ -302,8 +307,8 @@ hears_refused old new v b m fault is h =
   where
     judged : (end : End) (x : Asked) (c : Bool)
         → ◌≡◌ {A = Result Heard HearFault × PortAccount} (cond c (
-          Ok (Rattle.mscp_host.specs.PortAccounts.end_says old end x),
-          Rattle.mscp_host.specs.PortAccounts.granted v.credits (Rattle.mscp_host.specs.PortAccounts.ended old end),
+          Ok (end_says old end x),
+          granted v.credits (ended old end),
         )
         (Err faults.Unknown, old)) (Err fault, new) → fault ≡ faults.Unknown
     judged end x true h = absurd (search (arith, h))

@@ -1,4 +1,7 @@
 -- What a host is owed after each deed at its port.
+use Rattle.mscp_ported.specs.Told.{said as all_said}
+use Rattle.byteorder.specs.Endian.{little_bytes}
+use Rattle.std.specs.Prelude.{replicate}
 use Rattle.std.proofs.Common.{◌≡◌, ◌≢◌, ◌∙◌, ◌+◌, ◌-◌, ◌*◌, ◌^◌, ◌<◌, ◌≤◌, ◌++◌, ◌∷◌, [], ℕ, zero, suc, Bool, true, false, cond, drop, filter, length, map, not, List, Option, None, Some, inl, inr, refl, ap, sym, subst, arith, append_assoc}
 use Rattle.std.specs.Prelude.{◌%◌, ◌/◌, ◌==◌, ◌&&◌, ◌||◌, is_none, option_map, Result, Ok, Err, count_by, find, flat_map, option_to_list, slice_get, slice_index}
 use Rattle.std.specs.List.{AllByRecursion}
@@ -90,8 +93,8 @@ own_number b own small = four (num b 0 4) small
 own_bytes : (b : List ℕ) (own : Own) → num (own_text b own) 12 4 ≡ 0
 own_bytes b own = by own.tells_bytes
   where
-    by : (c : Bool) → num (Rattle.byteorder.specs.Endian.little_bytes 4 (num b 0 4) ++ Rattle.byteorder.specs.Endian.little_bytes 2 (num b 4 2) ++ (0 ∷ 0 ∷ own.code ∷ 0 ∷ [])
-        ++ Rattle.byteorder.specs.Endian.little_bytes 2 own.status ++ cond c (Rattle.std.specs.Prelude.replicate 20 0) []) 12 4 ≡ 0
+    by : (c : Bool) → num (little_bytes 4 (num b 0 4) ++ little_bytes 2 (num b 4 2) ++ (0 ∷ 0 ∷ own.code ∷ 0 ∷ [])
+        ++ little_bytes 2 own.status ++ cond c (replicate 20 0) []) 12 4 ≡ 0
     by true = refl
     by false = refl
 
@@ -189,7 +192,8 @@ small_number b h = few (slice_index b 0) (slice_index b 1) (slice_index b 2) (sl
 
 -- ---- a call
 
-module _ (asked : List Asked) (ss : List Said) (k : ℕ) (aw ms : List (List ℕ)) (n : ℕ) (i : Inv asked ss k aw ms n) where
+module _ (asked : List Asked) (ss : List Said) (k : ℕ) (aw ms : List (List ℕ)) (n : ℕ)
+    (i : Inv asked ss k aw ms n) where
   -- news
   by_news : (s : Said) → s.kind ≡ kinds.Attention → IsCoded s → Inv asked (ss ++ s ∷ []) k aw ms n
   by_news s kind code = record {
@@ -265,7 +269,8 @@ module _ {K : Type 0} (picks : Picking K) (c : Settings) (picker : K) (ends : Po
   reads_before call calls reads = reads
 
   abbrev State : (p : Port K) (calls : List Call) → Answered picks start calls p → List Asked → PortHistory → Type 0
-  State p calls a asked h = Inv asked (said picks start p calls a) (hearings h) (awaited picks start p calls a) (sent h)
+  State p calls a asked h = Inv asked (said picks start p calls a) (hearings h) (awaited picks start p calls a)
+      (sent h)
       (length (accepted picks start p calls a))
 
   -- a message that is accepted is the next one that was sent
@@ -389,7 +394,8 @@ module _ {K : Type 0} (picks : Picking K) (c : Settings) (picker : K) (ends : Po
         (ap (λ xs. without_ends xs (awaited picks start a.0 calls a.1) ++ taken_by call a.0) q.ended
         ∙ ap (λ xs. filter (λ x. not (has_number (num q.out.bytes.items 0 4) x)) (awaited picks start a.0 calls a.1)
         ++ xs) q.taken
-        ∙ append-nil (filter (λ x. not (has_number (num q.out.bytes.items 0 4) x)) (awaited picks start a.0 calls a.1)))
+        ∙ append-nil (filter (λ x. not (has_number (num q.out.bytes.items 0 4) x))
+        (awaited picks start a.0 calls a.1)))
         (ap length (ap (λ xs. accepted picks start a.0 calls a.1 ++ xs) q.accepted
         ∙ append-nil (accepted picks start a.0 calls a.1)))
         (by_end asked (said picks start a.0 calls a.1) (hearings h) (awaited picks start a.0 calls a.1) (sent h)
@@ -421,7 +427,8 @@ module _ {K : Type 0} (picks : Picking K) (c : Settings) (picker : K) (ends : Po
         → is_dead p.stage ≡ false → (is_dead a.0.stage ≡ false → State a.0 calls a.1 asked h)
         → State p (call ∷ calls) a asked h
     called call a asks small reads never lives get =
-        let d = ends c before controller hardware credits start p call calls valid was quiet made small a never lives in
+        let d = ends c before controller hardware credits start p call calls valid was quiet made small a never
+        lives in
         inv_as asked _ (said picks start a.0 calls a.1 ++ map said_in (begins a.0.outgoing p.outgoing)) (hearings h) _
         (without_ends (ends_said_by call a.0 p) (awaited picks start a.0 calls a.1) ++ taken_by call a.0) (sent h) _
         (length (accepted picks start a.0 calls a.1 ++ accepted_by call a.0))
@@ -437,13 +444,15 @@ module _ {K : Type 0} (picks : Picking K) (c : Settings) (picker : K) (ends : Po
       by_message : (old new : PortAccount) (m : List ℕ) → old.asked ≡ asked → Sends old new m
           → Inv new.asked ss k aw (ms ++ m ∷ []) n
       by_message old new m same s =
-          let longer : claims (drop k ss) aw (drop n (ms ++ m ∷ [])) ≡ claims (drop k ss) aw (drop n ms) ++ claim_of m ∷ [] =
+          let longer : claims (drop k ss) aw (drop n (ms ++ m ∷ []))
+          ≡ claims (drop k ss) aw (drop n ms) ++ claim_of m ∷ [] =
           ap (λ xs. claims (drop k ss) aw xs) (drop_beside n ms m i.read)
           ∙ ap (λ xs. claims_said (drop k ss) ++ (map claim_of aw ++ xs))
           (Rattle.std.proofs.lemmas.List.map-append claim_of (drop n ms) (m ∷ []))
           ∙ ap (λ xs. claims_said (drop k ss) ++ xs)
           (sym (append_assoc (map claim_of aw) (map claim_of (drop n ms)) (claim_of m ∷ [])))
-          ∙ sym (append_assoc (claims_said (drop k ss)) (map claim_of aw ++ map claim_of (drop n ms)) (claim_of m ∷ [])) in
+          ∙ sym (append_assoc (claims_said (drop k ss)) (map claim_of aw
+          ++ map claim_of (drop n ms)) (claim_of m ∷ [])) in
           record {
             owes = subst (λ xs. Owes xs (claims (drop k ss) aw (drop n (ms ++ m ∷ []))))
                 (sym (s.asked ∙ ap (λ xs. xs ++ s.more ∷ []) same))
@@ -464,7 +473,8 @@ module _ {K : Type 0} (picks : Picking K) (c : Settings) (picker : K) (ends : Po
           let whole : claims (drop k ss) aw (drop n ms)
           ≡ claim_said s.kind s.text ++ claims (drop (suc k) ss) aw (drop n ms) =
           ap (λ us. claims us aw (drop n ms)) d.0
-          ∙ append_assoc (claim_said s.kind s.text) (claims_said (drop (suc k) ss)) (map claim_of aw ++ map claim_of (drop n ms)) in
+          ∙ append_assoc (claim_said s.kind s.text) (claims_said (drop (suc k) ss)) (map claim_of aw
+          ++ map claim_of (drop n ms)) in
           let news = subst (λ us. AllByRecursion IsCoded us) d.0 i.news in
           record {
             owes = by s.kind refl (subst (λ cs. Owes asked cs) whole i.owes) news.0 settles;
@@ -489,10 +499,14 @@ module _ {K : Type 0} (picks : Picking K) (c : Settings) (picker : K) (ends : Po
               → Owes asked (claim_said s.kind s.text ++ claims (drop (suc k) ss) aw (drop n ms)) → IsCoded s
               → Settles asked new (message_in v b) → Owes new (claims (drop (suc k) ss) aw (drop n ms))
           by kinds.Attention kind o code (inl same) = subst (λ xs. Owes xs (claims (drop (suc k) ss) aw (drop n ms)))
-              (sym same) (subst (λ x. Owes asked (claim_said x s.text ++ claims (drop (suc k) ss) aw (drop n ms))) kind o)
-          by kinds.Attention kind o code (inr r) = absurd (not_heard r.0 kind (subst (λ x. IsRead x s.text) kind code).0 r.1)
-          by kinds.UtilitiesEnd kind o code (inl same) = subst (λ xs. Owes xs (claims (drop (suc k) ss) aw (drop n ms)))
-              (sym same) (subst (λ x. Owes asked (claim_said x s.text ++ claims (drop (suc k) ss) aw (drop n ms))) kind o)
+              (sym same) (subst (λ x. Owes asked (claim_said x s.text
+              ++ claims (drop (suc k) ss) aw (drop n ms))) kind o)
+          by kinds.Attention kind o code (inr r) = absurd (not_heard r.0 kind (subst
+              (λ x. IsRead x s.text) kind code).0 r.1)
+          by kinds.UtilitiesEnd kind o code (inl same) = subst (λ xs. Owes xs (claims (drop (suc k) ss) aw
+              (drop n ms)))
+              (sym same) (subst (λ x. Owes asked (claim_said x s.text
+              ++ claims (drop (suc k) ss) aw (drop n ms))) kind o)
           by kinds.UtilitiesEnd kind o code (inr r) = absurd (not_disk r.0 kind r.1)
           by kinds.End kind o code (inl same) = subst (λ xs. Owes xs (claims (drop (suc k) ss) aw (drop n ms)))
               (sym same) (owes_rest asked _ (claims (drop (suc k) ss) aw (drop n ms))
@@ -516,7 +530,8 @@ module _ {K : Type 0} (picks : Picking K) (c : Settings) (picker : K) (ends : Po
           let news = subst (λ us. AllByRecursion IsCoded us) d.0 i.news in
           by s.kind refl news.0 h
           (subst (λ cs. AllByRecursion (IsOwed asked) cs) (ap (λ us. claims us aw (drop n ms)) d.0
-          ∙ append_assoc (claim_said s.kind s.text) (claims_said (drop (suc k) ss)) (map claim_of aw ++ map claim_of (drop n ms)))
+          ∙ append_assoc (claim_said s.kind s.text) (claims_said (drop (suc k) ss)) (map claim_of aw
+          ++ map claim_of (drop n ms)))
           i.owes.known)
         where
           by : (kind : OutgoingKind) → s.kind ≡ kind → IsCoded s
@@ -570,7 +585,7 @@ module _ {K : Type 0} (picks : Picking K) (c : Settings) (picker : K) (ends : Po
 
   hears_said : (p : Port K) (calls : List Call) (a : Answered picks start calls p) (k : ℕ) (v : Envelope) (b : List ℕ)
       (packet : Packet) → AsksAlways calls → slice_get (talk_of picks start p calls a).told k ≡ Some packet
-      → IsPacket packet v b → IsHeard (Rattle.mscp_ported.specs.Told.said picks start p calls a) k v b
+      → IsPacket packet v b → IsHeard (all_said picks start p calls a) k v b
   hears_said p calls a k v b packet asks at is =
       let t = (tell hardware credits controller start p calls made asks a).0 in
       let x = tell_at (credits - 1) (talk_of picks start p calls a).told t.0 k packet t.2 at in
@@ -595,7 +610,8 @@ module _ {K : Type 0} (picks : Picking K) (c : Settings) (picker : K) (ends : Po
   answered_last old new (x ∷ h) m r =
       let rest = answered_last r.0 new h m r.2 in (rest.0, (r.0, r.1, rest.1), rest.2)
 
-  heard_last : (h : PortHistory) (m : PortMoment) → hearings (h ++ m ∷ []) ≡ cond (is_hearing m) (suc (hearings h)) (hearings h)
+  heard_last : (h : PortHistory) (m : PortMoment)
+      → hearings (h ++ m ∷ []) ≡ cond (is_hearing m) (suc (hearings h)) (hearings h)
   heard_last h m = ap length (filter-append is_hearing h (m ∷ []))
       ∙ length-append (filter is_hearing h) (filter is_hearing (m ∷ []))
       ∙ by (is_hearing m) (length (filter is_hearing h))
@@ -609,9 +625,11 @@ module _ {K : Type 0} (picks : Picking K) (c : Settings) (picker : K) (ends : Po
 
   same_numbers : (hist : History) (j : ℕ) (xs : List ℕ)
       → map (λ (x : Asked). x.reference) (map (asked_at hist) xs)
-      ≡ map (λ (x : Rattle.mscp_host.specs.declared.submission.Submission.Submission). x.reference) (map (submission_at hist j) xs)
+      ≡ map (λ (x : Rattle.mscp_host.specs.declared.submission.Submission.Submission). x.reference) (map
+      (submission_at hist j) xs)
   same_numbers hist j [] = refl
-  same_numbers hist j (x ∷ xs) = ap (λ ys. Rattle.mscp_host.specs.Histories.reference hist x ∷ ys) (same_numbers hist j xs)
+  same_numbers hist j (x ∷ xs) = ap (λ ys. Rattle.mscp_host.specs.Histories.reference hist x ∷ ys)
+      (same_numbers hist j xs)
 
   numbered : (h : PortHistory) (host : PortAccount) → PortAnswered fresh_of_port h host → SameNumbers host
   numbered h host r =
@@ -631,33 +649,33 @@ module _ {K : Type 0} (picks : Picking K) (c : Settings) (picker : K) (ends : Po
     abbrev Then : PortMoment → Type 0
     Then m = State p calls a new.asked (h ++ m ∷ [])
 
-    as_last : (m : PortMoment) → Inv new.asked (Rattle.mscp_ported.specs.Told.said picks start p calls a)
+    as_last : (m : PortMoment) → Inv new.asked (all_said picks start p calls a)
         (cond (is_hearing m) (suc (hearings h)) (hearings h)) (awaited picks start p calls a) (sent h ++ sent_by m)
         (length (accepted picks start p calls a)) → Then m
-    as_last m x = subst (λ k. Inv new.asked (Rattle.mscp_ported.specs.Told.said picks start p calls a) k
+    as_last m x = subst (λ k. Inv new.asked (all_said picks start p calls a) k
         (awaited picks start p calls a) (sent (h ++ m ∷ [])) (length (accepted picks start p calls a)))
         (sym (heard_last h m))
-        (subst (λ ms. Inv new.asked (Rattle.mscp_ported.specs.Told.said picks start p calls a)
+        (subst (λ ms. Inv new.asked (all_said picks start p calls a)
         (cond (is_hearing m) (suc (hearings h)) (hearings h)) (awaited picks start p calls a) ms
         (length (accepted picks start p calls a))) (sym (sent_last h m)) x)
 
-    still : new.asked ≡ mid.asked → Inv new.asked (Rattle.mscp_ported.specs.Told.said picks start p calls a) (hearings h)
+    still : new.asked ≡ mid.asked → Inv new.asked (all_said picks start p calls a) (hearings h)
         (awaited picks start p calls a) (sent h ++ []) (length (accepted picks start p calls a))
-    still same = subst (λ xs. Inv xs (Rattle.mscp_ported.specs.Told.said picks start p calls a) (hearings h)
+    still same = subst (λ xs. Inv xs (all_said picks start p calls a) (hearings h)
         (awaited picks start p calls a) (sent h ++ []) (length (accepted picks start p calls a))) (sym same)
-        (subst (λ ms. Inv mid.asked (Rattle.mscp_ported.specs.Told.said picks start p calls a) (hearings h)
+        (subst (λ ms. Inv mid.asked (all_said picks start p calls a) (hearings h)
         (awaited picks start p calls a) ms (length (accepted picks start p calls a))) (sym (append-nil (sent h))) i)
 
     pub moment : (m : PortMoment) → HasNumber m → HearsInOrder m (talk_of picks start p calls a) (hearings h)
         → PortAnswers mid m new → Then m
     moment (Submit command (Ok message)) small joined r = as_last (Submit command (Ok message))
-        (by_message mid.asked (Rattle.mscp_ported.specs.Told.said picks start p calls a) (hearings h)
+        (by_message mid.asked (all_said picks start p calls a) (hearings h)
         (awaited picks start p calls a) (sent h) (length (accepted picks start p calls a)) i mid new message.items refl
         (submit_sends mid new command message small sane r))
     moment (Submit command (Err fault)) small joined r = as_last (Submit command (Err fault))
         (still (submit_refused mid new command fault r))
     moment (Ask n (Ok (polls.Ask message))) small joined r = as_last (Ask n (Ok (polls.Ask message)))
-        (by_message mid.asked (Rattle.mscp_ported.specs.Told.said picks start p calls a) (hearings h)
+        (by_message mid.asked (all_said picks start p calls a) (hearings h)
         (awaited picks start p calls a) (sent h) (length (accepted picks start p calls a)) i mid new message.items refl
         (poll_sends mid new n small sane message r))
     moment (Ask n (Ok polls.Nothing)) small joined r = as_last (Ask n (Ok polls.Nothing))
@@ -669,9 +687,9 @@ module _ {K : Type 0} (picks : Picking K) (c : Settings) (picker : K) (ends : Po
     moment (Hear v b answer) small joined r =
         let x = hears_said p calls a (hearings h) v b joined.0 asks joined.1 joined.2 in
         as_last (Hear v b answer)
-        (subst (λ ms. Inv new.asked (Rattle.mscp_ported.specs.Told.said picks start p calls a) (suc (hearings h))
+        (subst (λ ms. Inv new.asked (all_said picks start p calls a) (suc (hearings h))
         (awaited picks start p calls a) ms (length (accepted picks start p calls a))) (sym (append-nil (sent h)))
-        (by_hearing mid.asked (Rattle.mscp_ported.specs.Told.said picks start p calls a) (hearings h)
+        (by_hearing mid.asked (all_said picks start p calls a) (hearings h)
         (awaited picks start p calls a) (sent h) (length (accepted picks start p calls a)) i x.said v b new.asked x.at
         x.text x.connection (hear_settles mid new v b answer r)))
     moment (Resume b) small joined r = as_last (Resume b)
@@ -730,10 +748,10 @@ module _ {K : Type 0} (picks : Picking K) (c : Settings) (picker : K) (ends : Po
       let x = hears_said p (calls_in deeds) a (hearings (did deeds)) v b joined.0.0 asks joined.0.1 joined.0.2 in
       let own : (e : End) → message_in v b ≡ Ok (messages.End e)
       → (y : Asked) × (find (is_of e.reference) old.asked ≡ Some y) × (is_too_much e.body y.bytes ≡ false) =
-      λ e h. heard_own old.asked (Rattle.mscp_ported.specs.Told.said picks start p (calls_in deeds) a)
+      λ e h. heard_own old.asked (all_said picks start p (calls_in deeds) a)
       (hearings (did deeds)) (awaited picks start p (calls_in deeds) a) (sent (did deeds))
       (length (accepted picks start p (calls_in deeds) a)) i x.said v b e x.at x.text x.connection h in
-      let d = drop_at (hearings (did deeds)) (Rattle.mscp_ported.specs.Told.said picks start p (calls_in deeds) a) x.said
+      let d = drop_at (hearings (did deeds)) (all_said picks start p (calls_in deeds) a) x.said
       x.at in
       let read : IsRead x.said.kind x.said.text = (subst (λ us. AllByRecursion IsCoded us) d.0 i.news).0 in
       let message : IsMessage (message_in v b) = subst (λ t. IsMessage (message_in v t)) (sym x.text)
@@ -762,6 +780,7 @@ module _ {K : Type 0} (picks : Picking K) (c : Settings) (picker : K) (ends : Po
       small_size : (n : ℕ) → n ≤ 64 → n % 0x1_0000 ≡ n
       small_size n h = omega (arith, h)
 
-      not_both : (e : End) (x y : Asked) → x ≡ y → is_too_much e.body x.bytes ≡ true → is_too_much e.body y.bytes ≡ false
+      not_both : (e : End) (x y : Asked) → x ≡ y → is_too_much e.body x.bytes ≡ true
+          → is_too_much e.body y.bytes ≡ false
           → ⊥
       not_both e x y same is not_so = search (arith, ap (λ z. is_too_much e.body z.bytes) same, is, not_so)

@@ -18,7 +18,8 @@ use Rattle.mscp_heard.proofs.Claims.{Claim, IsOwed, Owes, claim_of, claim_said, 
 
 -- ---- lists
 
-pub drop_beside : {X : Type 0} (k : ℕ) (xs : List X) (x : X) → k ≤ length xs → drop k (xs ++ x ∷ []) ≡ drop k xs ++ x ∷ []
+pub drop_beside : {X : Type 0} (k : ℕ) (xs : List X) (x : X) → k ≤ length xs
+    → drop k (xs ++ x ∷ []) ≡ drop k xs ++ x ∷ []
 drop_beside zero xs x h = refl
 drop_beside (suc k) [] x h = absurd (search (arith, h))
 drop_beside (suc k) (y ∷ xs) x h = drop_beside k xs x (search (arith, h))
@@ -52,7 +53,8 @@ same_head x y xs e = search (arith, e)
 
 -- taken out, what is claimed for it is claimed once more
 tally_one : (n m : ℕ) (ts : List (List ℕ)) (t : List ℕ) → filter (has_number n) ts ≡ t ∷ []
-    → tally m (map claim_of ts) ≡ tally m (claim_of t ∷ []) + tally m (map claim_of (filter (λ x. not (has_number n x)) ts))
+    → tally m (map claim_of ts)
+    ≡ tally m (claim_of t ∷ []) + tally m (map claim_of (filter (λ x. not (has_number n x)) ts))
 tally_one n m [] t e = absurd (search (arith, e))
 tally_one n m (x ∷ ts) t e = by (has_number n x) e (tally_one n m ts t)
   where
@@ -156,7 +158,8 @@ module _ (asked : List Asked) (us : List Said) (ts ms : List (List ℕ)) (o : Ow
 
       as_often : (m n : ℕ) (t : List ℕ) (left : List (List ℕ)) (mine : Claim) → mine.number ≡ n
           → tally m (map claim_of ts) ≡ tally m (claim_of t ∷ []) + tally m (map claim_of left) → num t 0 4 ≡ n
-          → tally m ((claims_said us ++ mine ∷ []) ++ (map claim_of left ++ map claim_of ms)) ≤ tally m (claims us ts ms)
+          → tally m ((claims_said us ++ mine ∷ []) ++ (map claim_of left
+          ++ map claim_of ms)) ≤ tally m (claims us ts ms)
       as_often m n t left mine is one named =
           let same : tally m (mine ∷ []) ≡ tally m (claim_of t ∷ []) =
           ap (λ k. cond (nat_eq k m) (1 + 0) 0) (is ∙ sym named) in

@@ -85,7 +85,7 @@ module _ (t : List ℕ) (e : End) (long : 12 ≤ length t) (top : 0x80 ≤ slice
   read_so : any_end t (end_in t) ≡ Ok (messages.End e) → IsEndIn e t
   read_so h = by (nat_le 12 (length t)) (nat_le (length t) 64) h
     where
-      by : (a b : Bool) → any_end t (cond (Rattle.std.specs.Prelude.◌&&◌ a b) (reading_with (kind_of_code (slice_index t 8)) t)
+      by : (a b : Bool) → any_end t (cond (a && b) (reading_with (kind_of_code (slice_index t 8)) t)
           (Err endfaults.Length)) ≡ Ok (messages.End e) → IsEndIn e t
       by true true h = read_with (kind_of_code (slice_index t 8)) refl h
       by true false h = search (arith, h)
@@ -96,16 +96,16 @@ sequential_so t e h = by (nat_lt (length t) 12) refl h
   where
     low : (b c : Bool) → (is : nat_le 0x80 (slice_index t 8) ≡ b) → 12 ≤ length t
         → cond b (any_end t (end_in t)) (cond c (Ok (messages.Attention (slice_index t 8) (num t 4 2)))
-        (Err Rattle.mscp_host.specs.declared.message.HearFault.TheVariants.Unreadable)) ≡ Ok (messages.End e) → IsEndIn e t
+        (Err faults.Unreadable)) ≡ Ok (messages.End e) → IsEndIn e t
     low true c is long h = read_so t e long (top_bit (slice_index t 8) is) h
     low false true is long h = search (arith, h)
     low false false is long h = search (arith, h)
 
     by : (b : Bool) → nat_lt (length t) 12 ≡ b
-        → cond b (Err Rattle.mscp_host.specs.declared.message.HearFault.TheVariants.Unreadable)
+        → cond b (Err faults.Unreadable)
         (cond (nat_le 0x80 (slice_index t 8)) (any_end t (end_in t))
         (cond (nat_le 0x40 (slice_index t 8)) (Ok (messages.Attention (slice_index t 8) (num t 4 2)))
-        (Err Rattle.mscp_host.specs.declared.message.HearFault.TheVariants.Unreadable))) ≡ Ok (messages.End e)
+        (Err faults.Unreadable))) ≡ Ok (messages.End e)
         → IsEndIn e t
     by true is h = search (arith, h)
     by false is h = low (nat_le 0x80 (slice_index t 8)) (nat_le 0x40 (slice_index t 8)) refl
@@ -115,7 +115,7 @@ typed_so : (kind : ℕ) (t : List ℕ) (e : End) → typed_in kind t ≡ Ok (mes
 typed_so kind t e h = by (nat_eq kind 0) (nat_eq kind 1) (nat_eq kind 2) h
   where
     by : (a b c : Bool) → cond a (sequential_in t) (cond b (Ok messages.Datagram) (cond c (Ok messages.Credits)
-        (Err Rattle.mscp_host.specs.declared.message.HearFault.TheVariants.Kind))) ≡ Ok (messages.End e) → IsEndIn e t
+        (Err faults.Kind))) ≡ Ok (messages.End e) → IsEndIn e t
     by true b c h = sequential_so t e h
     by false true c h = search (arith, h)
     by false false true h = search (arith, h)
@@ -179,8 +179,8 @@ end_heard v b e h = by (nat_lt (length b) v.length) (nat_eq v.connection 0) refl
         counts k is n few = subst (λ o. moved_in o (num (take v.length b) 12 4) ≤ n) (sym is) (search arith)
 
     by : (a c : Bool) → nat_eq v.connection 0 ≡ c
-        → cond a (Err Rattle.mscp_host.specs.declared.message.HearFault.TheVariants.Cut)
-        (cond (not c) (Err Rattle.mscp_host.specs.declared.message.HearFault.TheVariants.Connection)
+        → cond a (Err faults.Cut)
+        (cond (not c) (Err faults.Connection)
         (typed_in v.kind (take v.length b))) ≡ Ok (messages.End e)
         → (v.connection ≡ 0) × (0x80 ≤ slice_index b 8) × (e.reference ≡ num b 0 4)
         × ((n : ℕ) → moved_in (kind_of_code (slice_index b 8)) (num b 12 4) ≤ n → is_too_much e.body n ≡ false)
@@ -211,7 +211,8 @@ whole_so t w =
     (subst (λ b. IsMessage (cond b (any_end t (end_in t))
     (cond (nat_le 0x40 (slice_index t 8)) (Ok (messages.Attention (slice_index t 8) (num t 4 2)))
     (Err faults.Unreadable)))) (sym (at_least 0x80 (slice_index t 8) w.top))
-    (subst (λ b. IsMessage (any_end t (cond (b && nat_le (length t) 64) (reading_with (kind_of_code (slice_index t 8)) t)
+    (subst (λ b. IsMessage (any_end t (cond (b && nat_le (length t) 64) (reading_with (kind_of_code
+    (slice_index t 8)) t)
     (Err endfaults.Length)))) (sym (at_least 12 (length t) w.long))
     (subst (λ b. IsMessage (any_end t (cond b (reading_with (kind_of_code (slice_index t 8)) t)
     (Err endfaults.Length)))) (sym (at_least (length t) 64 w.short))

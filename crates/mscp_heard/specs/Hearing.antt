@@ -25,8 +25,8 @@ use Rattle.mscp_heard.specs.Deeds.{AreJoined, Deed, Did, HaveNumbers, calls_in, 
 
 -- what a host that kept this hears in an envelope and a text, and says of it
 pub record HearsItsOwn (old : PortAccount) (v : Envelope) (b : List ℕ) (answer : Result Heard HearFault) : Type 0 where
-  -- each end has the number of a command that the host sent, and whose end it hasn't heard; and counts no more bytes than
-  -- that asked for
+  -- each end has the number of a command that the host sent, and whose end it hasn't heard; and counts no more bytes
+  -- than that asked for
   pub ends : (e : End) → message_in v b ≡ Ok (messages.End e)
       → (asked : Asked) × (find (is_of e.reference) old.asked ≡ Some asked) × (is_too_much e.body asked.bytes ≡ false)
   -- what is refused is such an end, as Unknown: nothing is cut, unreadable, of another connection or of another type

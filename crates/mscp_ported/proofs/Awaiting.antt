@@ -66,7 +66,8 @@ nothing_kept p none no_end = record {
 
 -- ---- a message as it is handed over
 
-pub order_few : (o : Option Opcode) (b : List ℕ) → opcode_of (slice_index b 8) ≡ o → asked_by (order_with o b) ≤ bytes_in b
+pub order_few : (o : Option Opcode) (b : List ℕ) → opcode_of (slice_index b 8) ≡ o
+    → asked_by (order_with o b) ≤ bytes_in b
 order_few None b e = omega arith
 order_few (Some (codes.Move kind)) b e =
     let at : move_byte kind ≡ slice_index b 8 =

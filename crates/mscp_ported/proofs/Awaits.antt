@@ -1,4 +1,6 @@
 -- Each end that goes out is that of a message that is awaited.
+use Rattle.mscp_port.specs.declared.stage.Stage.TheVariants as stages
+use Rattle.mscp_port.specs.Seen.{heard, heeded}
 use Rattle.std.proofs.Common.{◌≡◌, ◌≢◌, ◌∙◌, ◌&&◌, ◌++◌, ◌∷◌, [], ℕ, Bool, true, false, cond, List, MatchOption, Option, None, Some, inl, inr, refl, ap, sym, subst, arith}
 use Rattle.std.specs.Prelude.{Result, Ok, Err, is_none, is_ok}
 use Rattle.std.proofs.lemmas.List.{append-nil}
@@ -63,7 +65,7 @@ module _ {K : Type 0} (bytes : List ℕ) (done : Unit) (old new : Port K) (aw : 
         | inr d ↦ absurd (search (arith, r.dead d.0 d.1))
       ]
         where
-          none : (s : _) → old.stage ≡ s → ((code : ℕ) → old.stage ≢ Rattle.mscp_port.specs.declared.stage.Stage.TheVariants.Dead code) → is_dead old.stage ≡ false
+          none : (s : _) → old.stage ≡ s → ((code : ℕ) → old.stage ≢ stages.Dead code) → is_dead old.stage ≡ false
           none s e alive = search (arith, alive)
 
   module _ (slot : Descriptor) (size : ℕ) (foreign : Bool) (at : old.task ≡ tasks.Text slot size foreign) where
@@ -88,7 +90,8 @@ module _ {K : Type 0} (bytes : List ℕ) (done : Unit) (old new : Port K) (aw : 
         → taken_by (WasRead bytes (Ok done)) old ≡ []
     none_taken e = taken_is ∙ ap (λ b. cond b (bytes ∷ []) []) e
 
-    still : taken_by (WasRead bytes (Ok done)) old ≡ [] → new.controller ≡ old.controller → new.stage ≡ old.stage → After
+    still : taken_by (WasRead bytes (Ok done)) old ≡ [] → new.controller ≡ old.controller
+        → new.stage ≡ old.stage → After
     still none same stage = same_so (WasRead bytes (Ok done)) old new aw k calm refl none
         (ap (λ (h : Holdings K). h.waiting) same) (ap (λ (h : Holdings K). ends_of h) same)
         (λ d. sym (ap is_dead stage) ∙ d)
@@ -134,7 +137,7 @@ module _ {K : Type 0} (bytes : List ℕ) (done : Unit) (old new : Port K) (aw : 
         (by (is_queued h.settings command)))
         (every_append IsSmall aw (bytes ∷ []) k.small (small, tt))
       where
-        heeded_stage : (s : _) → (Rattle.mscp_port.specs.Seen.heeded s bytes (Rattle.mscp_port.specs.Seen.heard old)).stage ≡ old.stage
+        heeded_stage : (s : _) → (heeded s bytes (heard old)).stage ≡ old.stage
         heeded_stage s = grind arith
 
         like : IsLikeIt sent bytes
@@ -150,7 +153,8 @@ module _ {K : Type 0} (bytes : List ℕ) (done : Unit) (old new : Port K) (aw : 
         by true = queued_so old.controller aw bytes sent sees.long like new_is k.each
         by false = answered_so old.controller aw bytes sent sees.long like new_is k.each
             (answered_end First old.controller (command_of sent))
-            (own_number old.controller.settings _ _ (command_of sent) (fault_of old.controller.settings (command_of sent))
+            (own_number old.controller.settings _ _ (command_of sent) (fault_of old.controller.settings
+            (command_of sent))
             ∙ like.number)
             (own_bytes old.controller.settings _ _ (command_of sent)
             (fault_of old.controller.settings (command_of sent))) (command_of sent).order
@@ -190,7 +194,7 @@ module _ {K : Type 0} (picks : List _ → ℕ → Type 0) (outcome : Outcome) (d
     | inr d ↦ absurd (search (arith, r.dead d.0 d.1))
   ]
     where
-      none : (s : _) → old.stage ≡ s → ((code : ℕ) → old.stage ≢ Rattle.mscp_port.specs.declared.stage.Stage.TheVariants.Dead code) → is_dead old.stage ≡ false
+      none : (s : _) → old.stage ≡ s → ((code : ℕ) → old.stage ≢ stages.Dead code) → is_dead old.stage ≡ false
       none s e alive = search (arith, alive)
 
   step_so : (verdict : Verdict) → TakesBegun picks verdict old new → (new.stage ≡ old.stage) → Behind

@@ -1,4 +1,8 @@
 -- What each call of a port deals with.
+use Rattle.mscp_drive.specs.UnitList.{unit_found}
+use Rattle.mscp_port.specs.Leaving.{attention, head}
+use Rattle.mscp_port.specs.Volumes.{volume_at}
+use Rattle.mscp_packet.specs.Ends.{end_length, kind_of_body}
 use Rattle.std.proofs.Common.{length, nat_eq, ◌≡◌, ◌≢◌, ◌⊎◌, ◌∙◌, ◌+◌, ◌*◌, ◌/◌, ◌%◌, ◌^◌, ◌<◌, ◌≤◌, ◌&&◌, ◌++◌, ◌∷◌, [], ℕ, Bool, true, false, cond, drop, filter, not, List, Option, None, Some, inl, inr, refl, ap, sym, subst, arith}
 use Rattle.std.specs.Prelude.{Result, Ok, Err, find, is_none, is_ok, option_map, slice_get, slice_index}
 use Rattle.std.specs.List.{AllByRecursion}
@@ -64,12 +68,13 @@ body_number body e d o h small = grind (arith, four e.reference small)
 told_number : {K : Type 0} (p : Port K) (e : End) → e.reference < 2 ^ 32 → num (told_end p e) 0 4 ≡ e.reference
 told_number p e small = by (slice_get p.decided.items 0)
   where
-    by : (o : Option Decided) → num (end_left e o (Rattle.mscp_drive.specs.UnitList.unit_found p.controller.settings.units e.unit) p.hardware) 0 4 ≡ e.reference
+    by : (o : Option Decided)
+        → num (end_left e o (unit_found p.controller.settings.units e.unit) p.hardware) 0 4 ≡ e.reference
     by None = four e.reference small
     by (Some d) = cases (ends_formality d.code)
       where
-        cases : (c : Bool) → num (cond c (Rattle.mscp_port.specs.Leaving.head e.reference e.unit d.code d.status)
-            (end_with_body e.body e d (Rattle.mscp_drive.specs.UnitList.unit_found p.controller.settings.units e.unit) p.hardware)) 0 4 ≡ e.reference
+        cases : (c : Bool) → num (cond c (head e.reference e.unit d.code d.status)
+            (end_with_body e.body e d (unit_found p.controller.settings.units e.unit) p.hardware)) 0 4 ≡ e.reference
         cases true = four e.reference small
         cases false = body_number e.body e d _ p.hardware small
 
@@ -82,7 +87,7 @@ formal_kind : (code : ℕ) → ends_formality code ≡ true → kind_of_code cod
 formal_kind code e h = grind (arith, none-some, e, h)
 
 body_counts : (body : EndBody) (e : End) (d : Decided) (o : Option Shape) (h : Hardware) (n : ℕ)
-    → kind_of_code e.code ≡ Some (Rattle.mscp_packet.specs.Ends.kind_of_body body) → e.body ≡ body → counted_in body ≤ n
+    → kind_of_code e.code ≡ Some (kind_of_body body) → e.body ≡ body → counted_in body ≤ n
     → kind_of_code e.code ≡ Some Moved → num (end_with_body body e d o h) 12 4 ≤ n
 body_counts (bodies.Moved count) e d o h n shaped same few is =
     subst (λ b. num (end_bytes (record e { status = d.status; body = b })) 12 4 ≤ n) (sym same) (few_bytes count n few)
@@ -97,9 +102,9 @@ told_counts : {K : Type 0} (p : Port K) (e : End) (n : ℕ) → IsOfKind e → c
 told_counts {K} p e n shaped few = by (slice_get p.decided.items 0)
   where
     unit : Option Shape
-    unit = Rattle.mscp_drive.specs.UnitList.unit_found p.controller.settings.units e.unit
+    unit = unit_found p.controller.settings.units e.unit
 
-    plain : (body : EndBody) → e.body ≡ body → kind_of_code e.code ≡ Some (Rattle.mscp_packet.specs.Ends.kind_of_body body)
+    plain : (body : EndBody) → e.body ≡ body → kind_of_code e.code ≡ Some (kind_of_body body)
         → counted_in body ≤ n → kind_of_code e.code ≡ Some Moved
         → num (end_bytes e) 12 4 ≤ n
     plain (bodies.Moved count) same shaped few is =
@@ -112,9 +117,9 @@ told_counts {K} p e n shaped few = by (slice_get p.decided.items 0)
     by (Some d) is = cases (ends_formality d.code) refl is
       where
         cases : (c : Bool) → ends_formality d.code ≡ c
-            → kind_of_code (slice_index (cond c (Rattle.mscp_port.specs.Leaving.head e.reference e.unit d.code d.status)
+            → kind_of_code (slice_index (cond c (head e.reference e.unit d.code d.status)
             (end_with_body e.body e d unit p.hardware)) 8) ≡ Some Moved
-            → num (cond c (Rattle.mscp_port.specs.Leaving.head e.reference e.unit d.code d.status)
+            → num (cond c (head e.reference e.unit d.code d.status)
             (end_with_body e.body e d unit p.hardware)) 12 4 ≤ n
         cases true formal is = absurd (formal_kind d.code formal is)
         cases false formal is = body_counts e.body e d unit p.hardware n shaped refl few
@@ -140,13 +145,13 @@ code_top code k e = found endcodes tops e
         by false is h rest = rest h
 
 body_long : (body : EndBody) (e : End) (d : Decided) (o : Option Shape) (h : Hardware) → e.body ≡ body
-    → (Rattle.mscp_packet.specs.Ends.end_length (Rattle.mscp_packet.specs.Ends.kind_of_body body)
+    → (end_length (kind_of_body body)
     ≤ length (end_with_body body e d o h)) × (12 ≤ length (end_with_body body e d o h))
     × (length (end_with_body body e d o h) ≤ 64)
 body_long body e d o h same = grind (arith, same)
 
 plain_long : (body : EndBody) (e : End) → e.body ≡ body
-    → (Rattle.mscp_packet.specs.Ends.end_length (Rattle.mscp_packet.specs.Ends.kind_of_body body)
+    → (end_length (kind_of_body body)
     ≤ length (end_bytes e)) × (12 ≤ length (end_bytes e)) × (length (end_bytes e) ≤ 64)
 plain_long body e same = grind (arith, same)
 
@@ -160,13 +165,13 @@ told_whole : {K : Type 0} (p : Port K) (e : End) → IsOfKind e → IsWhole (tol
 told_whole {K} p e shaped = by (slice_get p.decided.items 0)
   where
     unit : Option Shape
-    unit = Rattle.mscp_drive.specs.UnitList.unit_found p.controller.settings.units e.unit
+    unit = unit_found p.controller.settings.units e.unit
 
     lengths : (n m : ℕ) (k : BodyKind) → kind_of_code e.code ≡ Some k
-        → Rattle.mscp_packet.specs.Ends.end_length (Rattle.mscp_packet.specs.Ends.kind_of_body e.body) ≤ n
-        → Rattle.mscp_packet.specs.Ends.end_length k ≤ n
-    lengths n m k is h = subst (λ x. Rattle.mscp_packet.specs.Ends.end_length x ≤ n)
-        (same_Some (Rattle.mscp_packet.specs.Ends.kind_of_body e.body) k (sym shaped ∙ is)) h
+        → end_length (kind_of_body e.body) ≤ n
+        → end_length k ≤ n
+    lengths n m k is h = subst (λ x. end_length x ≤ n)
+        (same_Some (kind_of_body e.body) k (sym shaped ∙ is)) h
 
     by : (o : Option Decided) → IsWhole (end_left e o unit p.hardware)
     by None =
@@ -174,13 +179,13 @@ told_whole {K} p e shaped = by (slice_get p.decided.items 0)
         record {
           long = l.1;
           short = l.2;
-          top = code_top e.code (Rattle.mscp_packet.specs.Ends.kind_of_body e.body) shaped;
+          top = code_top e.code (kind_of_body e.body) shaped;
           body = λ k is. lengths (length (end_bytes e)) 0 k is l.0;
         }
     by (Some d) = cases (ends_formality d.code) refl
       where
         cases : (c : Bool) → ends_formality d.code ≡ c
-            → IsWhole (cond c (Rattle.mscp_port.specs.Leaving.head e.reference e.unit d.code d.status)
+            → IsWhole (cond c (head e.reference e.unit d.code d.status)
             (end_with_body e.body e d unit p.hardware))
         cases true formal = record {
           long = omega arith;
@@ -195,7 +200,7 @@ told_whole {K} p e shaped = by (slice_get p.decided.items 0)
               long = l.1;
               short = l.2;
               top = subst (λ x. 0x80 ≤ x) (sym code)
-                  (code_top e.code (Rattle.mscp_packet.specs.Ends.kind_of_body e.body) shaped);
+                  (code_top e.code (kind_of_body e.body) shaped);
               body = λ k is. lengths (length (end_with_body e.body e d unit p.hardware)) 0 k
                   (sym (ap kind_of_code code) ∙ is) l.0;
             }
@@ -336,7 +341,8 @@ module _ {K : Type 0} (bytes : List ℕ) (done : Unit) (old new : Port K) (aw : 
     handed_deals none (Ok s) answer = inr (inr (inr (inl (record {
       message = bytes;
       read = (done, refl);
-      begun = begins_same old.outgoing new.outgoing (inl (ap (λ (q : Port K). q.outgoing) (sees.sent s none answer).frame
+      begun = begins_same old.outgoing new.outgoing (inl (ap (λ (q : Port K). q.outgoing)
+          (sees.sent s none answer).frame
           ∙ heeded_out s));
       accepted = accepted_is ∙ ap (λ x. cond (accepts x old.outgoing (answered_to old bytes)) (bytes ∷ []) []) none
           ∙ ap (λ x. cond (accepts None old.outgoing x) (bytes ∷ []) []) answer;
@@ -512,17 +518,17 @@ module _ {K : Type 0} (blocks : Bool) (action : Action) (bytes : List ℕ) (old 
     where
       by : (x : Option Shape) → slice_get units place ≡ x → Deals aw (Next blocks action bytes) old new
       by None e = quiet_next (is ∙ h.0 ∙ ap (option_map (λ unit. record {
-        bytes = record { items = Rattle.mscp_port.specs.Leaving.attention unit (Rattle.mscp_port.specs.Volumes.volume_at before place) };
+        bytes = record { items = attention unit (volume_at before place) };
         kind = kinds.Attention;
       })) e ∙ sym none)
       by (Some unit) e = inr (inl (record {
         out = record {
-          bytes = record { items = Rattle.mscp_port.specs.Leaving.attention unit (Rattle.mscp_port.specs.Volumes.volume_at before place) };
+          bytes = record { items = attention unit (volume_at before place) };
           kind = kinds.Attention;
         };
         nothing = none;
         begun = is ∙ h.0 ∙ ap (option_map (λ unit. record {
-          bytes = record { items = Rattle.mscp_port.specs.Leaving.attention unit (Rattle.mscp_port.specs.Volumes.volume_at before place) };
+          bytes = record { items = attention unit (volume_at before place) };
           kind = kinds.Attention;
         })) e;
         kind = refl;
@@ -532,7 +538,7 @@ module _ {K : Type 0} (blocks : Bool) (action : Action) (bytes : List ℕ) (old 
         taken = refl;
         ended = ap (λ o. ends_begun o new.outgoing) none ∙ ap (ends_begun None) (is ∙ h.0
             ∙ ap (option_map (λ unit. record {
-              bytes = record { items = Rattle.mscp_port.specs.Leaving.attention unit (Rattle.mscp_port.specs.Volumes.volume_at before place) };
+              bytes = record { items = attention unit (volume_at before place) };
               kind = kinds.Attention;
             })) e);
       }))

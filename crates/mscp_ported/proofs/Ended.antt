@@ -1,4 +1,5 @@
 -- Each call of a port deals with one thing at most, over a whole list of calls.
+use Rattle.mscp_ported.proofs.Numbered.{At}
 use Rattle.std.proofs.Common.{All, ◌≡◌, ◌≢◌, ◌∙◌, ◌+◌, ◌*◌, ◌^◌, ◌<◌, ◌++◌, ◌∷◌, [], ℕ, Bool, true, false, List, Some, inl, inr, refl, ap, sym, subst, arith}
 use Rattle.std.specs.Prelude.{Ok, Err, filter, slice_get, slice_index}
 use Rattle.std.proofs.lemmas.Option.{none-some, same_Some}
@@ -115,9 +116,11 @@ module _ {K : Type 0} (picks : Picking K) (c : Settings) (picker : K)
   unfolding untaken
   shaped p calls a e h =
       let k = knows picks c picker keeps valid before hardware credits controller start was made p calls a in
-      let promised : KeepsPromise (picks picker) c k.made p.controller = keeps c k.made p.controller valid k.answered in
+      let promised : KeepsPromise
+      (picks picker) c k.made p.controller = keeps c k.made p.controller valid k.answered in
       first_of_all IsOfKind (ends_of p.controller) e
-      (subst (λ es. All IsOfKind es) (sym (promised.untaken First)) (All-drop IsOfKind _ (ends c First (history k.made)) (promised.promise.shaped First)))
+      (subst (λ es. All IsOfKind es) (sym (promised.untaken First)) (All-drop IsOfKind _ (ends c First
+      (history k.made)) (promised.promise.shaped First)))
       h
 
   passive_kept : (p : Port K) (call : Call) (calls : List Call) (a : Answered picks start (call ∷ calls) p)
@@ -134,7 +137,7 @@ module _ {K : Type 0} (picks : Picking K) (c : Settings) (picker : K)
   kept p [] reads a =
       let same : p.controller ≡ controller = ap (λ (q : Port K). q.controller) a ∙ made.over in
       record {
-        each = λ n. subst (λ (h : Holdings K). Rattle.mscp_ported.proofs.Numbered.At [] h.waiting (ends_of h) n) (sym same)
+        each = λ n. subst (λ (h : Holdings K). At [] h.waiting (ends_of h) n) (sym same)
             (start_at n);
         small = tt;
         dead = λ d. refl;
@@ -149,7 +152,7 @@ module _ {K : Type 0} (picks : Picking K) (c : Settings) (picker : K)
       no_numbers [] e = refl
       no_numbers (r ∷ rs) e = absurd (search (arith, e))
 
-      start_at : (n : ℕ) → Rattle.mscp_ported.proofs.Numbered.At [] controller.waiting (ends_of controller) n
+      start_at : (n : ℕ) → At [] controller.waiting (ends_of controller) n
       start_at n = inl (
         refl,
         none_waits controller.waiting n (no_numbers (waiting_on First controller.waiting) parts.0),

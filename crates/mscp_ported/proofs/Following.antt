@@ -33,7 +33,8 @@ told_of : {K : Type 0} (call : Call) (old new : Port K) (t : Talk) (w : Option W
 told_of call old new t None said texts some k get = absurd (some refl)
 told_of call old new t (Some x) said texts some k get = get x k
 
-module _ {K : Type 0} (picks : Picking K) (old new : Port K) (t : Talk) (said : List Said) (texts : List (List ℕ)) where
+module _ {K : Type 0} (picks : Picking K) (old new : Port K) (t : Talk) (said : List Said) (texts : List
+    (List ℕ)) where
   -- a call that is no report of an action
   plain : (call : Call) → ((w : Option Wish) (x : Talk) → talk_by old.stage w call x ≡ x)
       → IsNoReset call → accepted_by call old ≡ []

@@ -40,8 +40,8 @@ taken_by call old = []
 abbrev pub has_number : ℕ → List ℕ → Bool
 has_number n b = num b 0 4 == n
 
--- READ, WRITE, COMPARE HOST DATA, ERASE and ACCESS are transfers, and of one's message bytes 12 to 15 say how many bytes
--- it asks for
+-- READ, WRITE, COMPARE HOST DATA, ERASE and ACCESS are transfers, and bytes 12 to 15 of a message of one say how many
+-- bytes it asks for
 abbrev pub is_transfer : ℕ → Bool
 is_transfer opcode = opcode == 16 || opcode == 18 || opcode == 32 || opcode == 33 || opcode == 34
 
@@ -139,9 +139,9 @@ Deals messages call old new =
     ⊎ IsAnswering call old new
 
 -- the law of ends: a port was made over a controller, which had answered some calls before and has nothing of its
--- host's. Whoever calls the port, what it reads being bytes: each call that is no write of IP, and behind which there is
--- no fatal error, deals with no more than one thing; and an end of the controller's that begins to go out is that of a
--- message which the controller took, and whose end didn't go out before
+-- host's. Whoever calls the port, what it reads being bytes: each call that is no write of IP, and behind which there
+-- is no fatal error, deals with no more than one thing; and an end of the controller's that begins to go out is that
+-- of a message which the controller took, and whose end didn't go out before
 abbrev pub PortsEndWhatTheyTook : {K : Type 0} → Picking K → K → Type 0
 PortsEndWhatTheyTook {K} picks picker =
     (c : Settings) (before : List Made) (controller : Holdings K) (hardware : Hardware) (credits : ℕ)
