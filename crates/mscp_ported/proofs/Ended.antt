@@ -29,7 +29,7 @@ use Rattle.mscp_ported.proofs.Awaits.{read_so, went_so}
 use Rattle.mscp_ported.proofs.Coming.{ends_of}
 use Rattle.mscp_ported.proofs.Dealing.{next_deals, next_so, passive_deals, passive_taken, read_deals, went_deals}
 use Rattle.mscp_ported.proofs.Decided.{passive_said}
-use Rattle.mscp_ported.proofs.Numbered.{AtEach, ends_numbered}
+use Rattle.mscp_ported.proofs.Numbered.{ends_numbered}
 use Rattle.mscp_ported.proofs.Promised.{knows}
 use Rattle.mscp_ported.proofs.Staying.{IsPassive, passive_stays}
 

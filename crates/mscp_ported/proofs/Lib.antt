@@ -46,5 +46,6 @@ pub mod Numbered
 pub mod Numbering
 pub mod Awaiting
 pub mod Awaits
+pub mod Whole
 pub mod Dealing
 pub mod Ended
