@@ -41,7 +41,8 @@ pub record Inv (asked : List Asked) (said : List Said) (k : ℕ) (aw sent : List
   pub read : n ≤ length sent
   pub news : AllByRecursion IsCoded (drop k said)
 
-pub inv_as : (asked : List Asked) (ss ss' : List Said) (k : ℕ) (aw aw' ms : List (List ℕ)) (n n' : ℕ) → ss ≡ ss' → aw ≡ aw'
+pub inv_as : (asked : List Asked) (ss ss' : List Said) (k : ℕ) (aw aw' ms : List (List ℕ)) (n n' : ℕ) → ss ≡ ss'
+    → aw ≡ aw'
     → n ≡ n' → Inv asked ss' k aw' ms n' → Inv asked ss k aw ms n
 inv_as asked ss ss' k aw aw' ms n n' e f g i =
     subst (λ x. Inv asked x k aw ms n) (sym e)
@@ -97,7 +98,8 @@ low_body : (k : BodyKind) (opcode : ℕ) → moves_opcode opcode ≡ true → ki
     → end_length k ≤ 32
 low_body k opcode e h = grind (arith, e, h)
 
-pub own_whole : (v : Option Volume) (b : List ℕ) (own : Own) → own_answer false v b ≡ Some own → IsWhole (own_text b own)
+pub own_whole : (v : Option Volume) (b : List ℕ) (own : Own) → own_answer false v b ≡ Some own
+    → IsWhole (own_text b own)
 own_whole v b own h = by (is_none v && asks_nothing (slice_index b 8)) refl h
   where
     refused : (o : Option Volume) → option_map (λ status. record {
@@ -181,7 +183,8 @@ module _ (asked : List Asked) (ss : List Said) (k : ℕ) (aw ms : List (List ℕ
   }
 
   -- the end of a message
-  pub by_end : (s : Said) (t : List ℕ) → s.kind ≡ kinds.End → IsCoded s → filter (has_number (num s.text 0 4)) aw ≡ t ∷ []
+  pub by_end : (s : Said) (t : List ℕ) → s.kind ≡ kinds.End → IsCoded s
+      → filter (has_number (num s.text 0 4)) aw ≡ t ∷ []
       → moved_in (kind_of_code (slice_index s.text 8)) (num s.text 12 4) ≤ bytes_in t
       → Inv asked (ss ++ s ∷ []) k (filter (λ x. not (has_number (num s.text 0 4) x)) aw) ms n
   by_end s t kind code only few = record {
