@@ -57,7 +57,7 @@ passive_came (Went outcome (Ok done)) old new is = absurd is
 passive_came (Went outcome (Err unasked)) old new is = refl
 passive_came call old new is = refl
 
-passive_said : {K : Type 0} (call : Call) (old new : Port K) → IsPassive call → ends_said_by call old new ≡ []
+pub passive_said : {K : Type 0} (call : Call) (old new : Port K) → IsPassive call → ends_said_by call old new ≡ []
 passive_said (Next blocks action bytes) old new is = absurd is
 passive_said call old new is = refl
 
@@ -280,7 +280,7 @@ module _ {K : Type 0} (picks : Picking K) (c : Settings) (picker : K)
       by task at = others (λ h. subst (λ x. IsReadingText x) at h)
 
   -- a step that is told of keeps stage and hardware
-  step_frame : (verdict : Verdict) (old new : Port K) → TakesBegun (picks old.controller.picker) verdict old new
+  pub step_frame : (verdict : Verdict) (old new : Port K) → TakesBegun (picks old.controller.picker) verdict old new
       → (new.stage ≡ old.stage) × (new.hardware ≡ old.hardware)
   step_frame verdict old new takes = by old.controller.begun takes
     where

@@ -15,10 +15,10 @@ use Rattle.mscp_port.specs.Histories.{Answered, Becomes, Call, Picking, WriteIp,
 use Rattle.mscp_port.specs.Ports.{IsOfBlock}
 use Rattle.mscp_port.specs.Volumes.{place_in}
 use Rattle.mscp_ported.specs.Owed.{IsOwed}
-use Rattle.mscp_ported.specs.Talk.{AsksAlways, Idle, Message, Read, Talk, Turn, Wish, silence, talk_by, talk_of, wish}
-use Rattle.mscp_ported.specs.Told.{AreAccepted, Said, accepted, accepted_by, message_text, said, said_in}
+use Rattle.mscp_ported.specs.Talk.{AsksAlways, Idle, Message, Opened, Read, Slot, Talk, Turn, Wish, silence, talk_by, talk_of, wish}
+use Rattle.mscp_ported.specs.Told.{AreAccepted, Said, accepted, accepted_by, accepted_text, message_text, said, said_in}
 use Rattle.mscp_ported.proofs.After.{After, IsNoReset, IsPlain}
-use Rattle.mscp_ported.proofs.Look.{Fits, HasLeft, Hears, InStep, IsClear, IsOfRings, IsWide, NeedsOut, has_area, in_hand, look}
+use Rattle.mscp_ported.proofs.Look.{Fits, HasLeft, Hears, InStep, IsClear, IsOfRings, IsWide, NeedsOut, has_area, in_hand, look, slot_at}
 use Rattle.mscp_ported.proofs.Going.{went}
 use Rattle.mscp_ported.proofs.Hearing.{was_read}
 use Rattle.mscp_ported.proofs.Plain.{again_so, aside_so, dies, lets_be, same_port, step_so, writes_ip}
@@ -33,7 +33,8 @@ told_of : {K : Type 0} (call : Call) (old new : Port K) (t : Talk) (w : Option W
 told_of call old new t None said texts some k get = absurd (some refl)
 told_of call old new t (Some x) said texts some k get = get x k
 
-module _ {K : Type 0} (picks : Picking K) (old new : Port K) (t : Talk) (said : List Said) (texts : List (List ℕ)) where
+module _ {K : Type 0} (picks : Picking K) (old new : Port K) (t : Talk) (said : List Said) (texts : List
+    (List ℕ)) where
   -- a call that is no report of an action
   plain : (call : Call) → ((w : Option Wish) (x : Talk) → talk_by old.stage w call x ≡ x)
       → IsNoReset call → accepted_by call old ≡ []
@@ -179,3 +180,21 @@ pub accepted_so : (task : Task) (turn : Turn) (heard : List Message) (texts : Li
 accepted_so (tasks.Return Commands slot) (Read at header text) heard texts h =
     inr (at, header, text, refl, sym h)
 accepted_so task turn heard texts h = inl (sym h ∙ append-nil (map message_text heard))
+
+-- where a text is accepted, its header was read
+opened_so : {K : Type 0} (old : Port K) (task : Task) (turn : Turn) (bytes text : List ℕ) (more : List (List ℕ))
+    → Fits (look old) task turn → accepted_text old task bytes ≡ text ∷ more
+    → (slot : Slot) × (header : ℕ) × (turn ≡ Opened slot header)
+opened_so old (tasks.Text slot size foreign) turn bytes text more fits e =
+    (slot_at (look old) Commands slot.word, fits.0, fits.1)
+opened_so old task turn bytes text more fits e = absurd (search (arith, e))
+
+pub opens : {K : Type 0} (picks : Picking K) (hardware : Hardware) (credits : ℕ) (controller : Holdings K)
+    (start p : Port K) (calls : List Call) (bytes : List ℕ) (done : Unit) (text : List ℕ) (more : List (List ℕ))
+    → IsMadeOf hardware credits controller start → AsksAlways (WasRead bytes (Ok done) ∷ calls)
+    → (a : Answered picks start (WasRead bytes (Ok done) ∷ calls) p)
+    → accepted_by (WasRead bytes (Ok done)) a.0 ≡ text ∷ more
+    → (slot : Slot) × (header : ℕ) × ((talk_of picks start a.0 calls a.1).turn ≡ Opened slot header)
+opens picks hardware credits controller start p calls bytes done text more made asks a e =
+    opened_so a.0 a.0.task (talk_of picks start a.0 calls a.1).turn bytes text more
+    (in_step picks hardware credits controller start made a.0 calls asks.1 a.1).hand.fits e

@@ -42,3 +42,10 @@ pub mod Keeping
 pub mod Standing
 pub mod Tallying
 pub mod Aborted
+pub mod Numbered
+pub mod Numbering
+pub mod Awaiting
+pub mod Awaits
+pub mod Whole
+pub mod Dealing
+pub mod Ended

@@ -137,7 +137,7 @@ pub number_of : (n : ℕ) (r : Record) → is_numbered n r ≡ true → (r.conne
 number_of n r is = let e = same_is (name_of r) (name_on First n) is in
     (ap (λ (x : Name). x.connection) e, ap (λ (x : Name). x.reference) e)
 
-apart_numbers : (n m : ℕ) (r : Record) → n ≢ m → is_numbered n r ≡ true → not (is_numbered m r) ≡ true
+pub apart_numbers : (n m : ℕ) (r : Record) → n ≢ m → is_numbered n r ≡ true → not (is_numbered m r) ≡ true
 apart_numbers n m r ne is = by (is_numbered m r) refl
   where
     by : (b : Bool) → is_numbered m r ≡ b → not b ≡ true

@@ -12,3 +12,4 @@ pub mod Polls
 pub mod News
 pub mod Soon
 pub mod Transfers
+pub mod Awaited

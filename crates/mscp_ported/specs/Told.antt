@@ -21,7 +21,7 @@ use Rattle.mscp_port.specs.Departures.{begins}
 use Rattle.mscp_port.specs.Histories.{Answered, Call, Picking, WasRead}
 use Rattle.mscp_port.specs.Messages.{own_end_of}
 use Rattle.mscp_port.specs.Seen.{answered_to}
-use Rattle.mscp_ported.specs.Talk.{AsksAlways, Message, Packet, Read, Slot, Turn, address_in, since, talk_of}
+use Rattle.mscp_ported.specs.Talk.{AsksAlways, Message, Opened, Packet, Read, Slot, Turn, address_in, since, talk_of}
 use Rattle.mscp_ported.specs.Rings.{is_ports, text_place}
 
 -- ---- slots
@@ -155,3 +155,13 @@ PortsHearInOrder {K} picks =
     (accepted picks start p calls a)
     × StandInOrder (talk_of picks start p calls a).rings Commands 0
     (map message_slot (talk_of picks start p calls a).heard)
+
+-- the law of headers: of such a port: where a text is accepted, the header in front of it was read
+abbrev pub PortsOpenWhatTheyAccept : {K : Type 0} → Picking K → Type 0
+PortsOpenWhatTheyAccept {K} picks =
+    (hardware : Hardware) (credits : ℕ) (controller : Holdings K) (start p : Port K) (calls : List Call)
+    (bytes : List ℕ) (done : Unit) (text : List ℕ) (more : List (List ℕ))
+    → IsMadeOf hardware credits controller start → AsksAlways (WasRead bytes (Ok done) ∷ calls)
+    → (a : Answered picks start (WasRead bytes (Ok done) ∷ calls) p)
+    → accepted_by (WasRead bytes (Ok done)) a.0 ≡ text ∷ more
+    → (slot : Slot) × (header : ℕ) × ((talk_of picks start a.0 calls a.1).turn ≡ Opened slot header)

@@ -1,6 +1,7 @@
 // What is true of every port, for its host.
 
 ghost use Rattle.mscp_ported.specs.Answers.{PortsAnswerAsTheyMay, PortsHandOverTheRest};
+ghost use Rattle.mscp_ported.specs.Awaited.{PortsEndWhatTheyTook};
 ghost use Rattle.mscp_ported.specs.Ends.{PortsSayWhatWasDecided};
 ghost use Rattle.mscp_ported.specs.Making.{PortsKeepThePromise};
 ghost use Rattle.mscp_ported.specs.Mounts.{PortsCountOnTheirVolumes, PortsMoveOnTheirVolumes};
@@ -10,7 +11,7 @@ ghost use Rattle.mscp_ported.specs.Owed.{PortsDoWhatIsDue};
 ghost use Rattle.mscp_ported.specs.Polls.{PortsAnswerPolls};
 ghost use Rattle.mscp_ported.specs.Soon.{PortsKeepTelling, PortsTellSoon};
 ghost use Rattle.mscp_ported.specs.Transfers.{PortsCountWhatTheyMoved, PortsCountWhatWasAborted, PortsMoveEachBlock};
-ghost use Rattle.mscp_ported.specs.Told.{PortsHearInOrder, PortsTellInOrder};
+ghost use Rattle.mscp_ported.specs.Told.{PortsHearInOrder, PortsOpenWhatTheyAccept, PortsTellInOrder};
 
 use mscp_controller::controllers_keep_the_promise;
 use mscp_queue::Picker;
@@ -178,6 +179,25 @@ pub fn ports_tell_soon<K: Picker>(picker: &K)
 /// front of it is gone after more than `17 * (n + 1)` actions.
 pub fn ports_keep_telling<K: Picker>(picker: &K)
     ensures { PortsKeepTelling K.picks }
+{
+    let _ = picker;
+}
+
+/// Whoever calls a port, whose controller had nothing of its host's as the port was made, and what it reads being bytes: by each
+/// call, if it is no write of IP and no fatal error comes, at most one thing begins to go out, or a message is accepted, or both,
+/// if the port answers that message itself. An end of the controller's that begins to go out is that of a message that the
+/// controller took since all was forgotten last, and whose end hasn't gone out: there is just one of its number. If it is a
+/// transfer's, it counts no more bytes than that message asks for; and it has all bytes of an end of its code.
+pub fn ports_end_what_they_took<K: Picker>(picker: &K)
+    ensures { PortsEndWhatTheyTook K.picks picker.now }
+{
+    controllers_keep_the_promise(picker);
+}
+
+/// Of such a port, whose holder tells of actions only after they were wanted: where a text is accepted, the header in front of it
+/// was read.
+pub fn ports_open_what_they_accept<K: Picker>(picker: &K)
+    ensures { PortsOpenWhatTheyAccept K.picks }
 {
     let _ = picker;
 }

@@ -1,0 +1,201 @@
+-- What a host is owed: an end for each number, of no more than so many bytes.
+use Rattle.std.proofs.Common.{◌≡◌, ◌∙◌, ◌+◌, ◌≤◌, ◌++◌, ◌∷◌, [], ℕ, Bool, true, false, cond, map, nat_eq, List, Option, None, Some, refl, ap, sym, subst, arith}
+use Rattle.std.specs.Prelude.{find, slice_index}
+use Rattle.std.specs.List.{AllByRecursion}
+use Rattle.std.proofs.lemmas.Option.{none-some}
+use Rattle.mscp_packet.specs.Number.{num}
+use Rattle.mscp_packet.specs.Ends.{kind_of_code}
+use Rattle.mscp_packet.specs.declared.end.BodyKind.{BodyKind}
+use Rattle.mscp_packet.specs.declared.end.BodyKind.TheVariants as bodykinds
+use Rattle.mscp_host.specs.declared.asked.Asked.{Asked}
+use Rattle.mscp_host.specs.PortAccounts.{is_of, without_by}
+use Rattle.mscp_port.specs.declared.port.OutgoingKind.{OutgoingKind}
+use Rattle.mscp_port.specs.declared.port.OutgoingKind.TheVariants as kinds
+use Rattle.mscp_port.proofs.Common.{eq-eqb, eqb-true, false≢true}
+use Rattle.mscp_queue.proofs.Lists.{every_append, every_weaker}
+use Rattle.mscp_ported.specs.Awaited.{bytes_in}
+use Rattle.mscp_ported.specs.Told.{Said}
+
+pub record Claim : Type 0 where
+  pub number : ℕ
+  pub bytes : ℕ
+
+-- a message, whose end is to come
+abbrev pub claim_of : List ℕ → Claim
+claim_of t = record { number = num t 0 4; bytes = bytes_in t }
+
+-- what an end counts, by the body of its endcode
+abbrev pub moved_in : Option BodyKind → ℕ → ℕ
+moved_in (Some bodykinds.Moved) n = n
+moved_in kind n = 0
+
+abbrev pub claim_said : OutgoingKind → List ℕ → List Claim
+claim_said kinds.Attention text = []
+claim_said kinds.End text =
+    record { number = num text 0 4; bytes = moved_in (kind_of_code (slice_index text 8)) (num text 12 4) } ∷ []
+claim_said kinds.UtilitiesEnd text = []
+
+abbrev pub claims_said : List Said → List Claim
+claims_said [] = []
+claims_said (s ∷ more) = claim_said s.kind s.text ++ claims_said more
+
+-- what was said and not heard, what is awaited, and what was sent and not read
+abbrev pub claims : List Said → List (List ℕ) → List (List ℕ) → List Claim
+claims unheard awaited unread = claims_said unheard ++ (map claim_of awaited ++ map claim_of unread)
+
+-- the command of that number is outstanding, and asks for no fewer bytes
+abbrev pub IsOwed : List Asked → Claim → Type 0
+IsOwed asked c = (x : Asked) × (find (is_of c.number) asked ≡ Some x) × (c.bytes ≤ x.bytes)
+
+abbrev pub tally : ℕ → List Claim → ℕ
+tally n [] = 0
+tally n (c ∷ cs) = cond (nat_eq c.number n) (1 + tally n cs) (tally n cs)
+
+pub record Owes (asked : List Asked) (cs : List Claim) : Type 0 where
+  pub known : AllByRecursion (IsOwed asked) cs
+  pub once : (n : ℕ) → tally n cs ≤ 1
+
+-- ---- how often
+
+pub tally_append : (n : ℕ) (cs ds : List Claim) → tally n (cs ++ ds) ≡ tally n cs + tally n ds
+tally_append n [] ds = omega arith
+tally_append n (c ∷ cs) ds = by (nat_eq c.number n) (tally n (cs
+    ++ ds)) (tally n cs) (tally n ds) (tally_append n cs ds)
+  where
+    by : (b : Bool) (x y z : ℕ) → x ≡ y + z → cond b (1 + x) x ≡ cond b (1 + y) y + z
+    by true x y z e = omega (arith, e)
+    by false x y z e = e
+
+-- a number that isn't found is owed by none
+pub none_owed : (asked : List Asked) (cs : List Claim) (n : ℕ) → AllByRecursion (IsOwed asked) cs
+    → find (is_of n) asked ≡ None → tally n cs ≡ 0
+none_owed asked [] n all none = refl
+none_owed asked (c ∷ cs) n all none = by (nat_eq c.number n) refl (none_owed asked cs n all.1 none)
+  where
+    by : (b : Bool) → nat_eq c.number n ≡ b → tally n cs ≡ 0 → cond b (1 + tally n cs) (tally n cs) ≡ 0
+    by true is rest = absurd (none-some all.0.0 (sym none
+        ∙ subst (λ m. find (is_of m) asked ≡ Some all.0.0) (eqb-true c.number n is) all.0.1))
+    by false is rest = rest
+
+-- and one that is owed once, by no other
+pub others_apart : (n : ℕ) (cs : List Claim) → tally n cs ≡ 0 → AllByRecursion (λ c. nat_eq c.number n ≡ false) cs
+others_apart n [] e = tt
+others_apart n (c ∷ cs) e = by (nat_eq c.number n) refl e (λ h. others_apart n cs h)
+  where
+    by : (b : Bool) → nat_eq c.number n ≡ b → cond b (1 + tally n cs) (tally n cs) ≡ 0
+        → (tally n cs ≡ 0 → AllByRecursion (λ c. nat_eq c.number n ≡ false) cs)
+        → (nat_eq c.number n ≡ false) × AllByRecursion (λ c. nat_eq c.number n ≡ false) cs
+    by true is h rest = absurd (search (arith, h))
+    by false is h rest = (is, rest h)
+
+-- ---- commands
+
+pub find_more : (n : ℕ) (asked : List Asked) (x y : Asked) → find (is_of n) asked ≡ Some x
+    → find (is_of n) (asked ++ y ∷ []) ≡ Some x
+find_more n [] x y e = absurd (none-some x e)
+find_more n (a ∷ asked) x y e = by (is_of n a) e (λ h. find_more n asked x y h)
+  where
+    by : (b : Bool) → cond b (Some a) (find (is_of n) asked) ≡ Some x
+        → (find (is_of n) asked ≡ Some x → find (is_of n) (asked ++ y ∷ []) ≡ Some x)
+        → cond b (Some a) (find (is_of n) (asked ++ y ∷ [])) ≡ Some x
+    by true h rest = h
+    by false h rest = rest h
+
+pub find_new : (n : ℕ) (asked : List Asked) (y : Asked) → find (is_of n) asked ≡ None → is_of n y ≡ true
+    → find (is_of n) (asked ++ y ∷ []) ≡ Some y
+find_new n [] y e is = ap (λ b. cond b (Some y) None) is
+find_new n (a ∷ asked) y e is = by (is_of n a) e (λ h. find_new n asked y h is)
+  where
+    by : (b : Bool) → cond b (Some a) (find (is_of n) asked) ≡ None
+        → (find (is_of n) asked ≡ None → find (is_of n) (asked ++ y ∷ []) ≡ Some y)
+        → cond b (Some a) (find (is_of n) (asked ++ y ∷ [])) ≡ Some y
+    by true h rest = absurd (none-some a (sym h))
+    by false h rest = rest h
+
+pub find_left : (n m : ℕ) (asked : List Asked) → nat_eq n m ≡ false
+    → find (is_of n) (without_by (is_of m) asked) ≡ find (is_of n) asked
+find_left n m [] d = refl
+find_left n m (a ∷ asked) d = by (is_of m a) refl (is_of n a) refl (find_left n m asked d)
+  where
+    by : (b : Bool) → is_of m a ≡ b → (c : Bool) → is_of n a ≡ c
+        → find (is_of n) (without_by (is_of m) asked) ≡ find (is_of n) asked
+        → find (is_of n) (cond b asked (a ∷ without_by (is_of m) asked))
+        ≡ cond c (Some a) (find (is_of n) asked)
+    by true e true f rest = absurd (false≢true (sym d ∙ eq-eqb n m
+        (sym (eqb-true a.reference n f) ∙ eqb-true a.reference m e)))
+    by true e false f rest = refl
+    by false e c f rest = ap (λ x. cond x (Some a) (find (is_of n) (without_by (is_of m) asked))) f
+        ∙ ap (λ o. cond c (Some a) o) rest
+
+-- ---- a command is sent
+
+pub owes_more : (asked : List Asked) (cs : List Claim) (x : Asked) (c : Claim) → find (is_of c.number) asked ≡ None
+    → x.reference ≡ c.number → c.bytes ≤ x.bytes → Owes asked cs → Owes (asked ++ x ∷ []) (cs ++ c ∷ [])
+owes_more asked cs x c new own few o = record {
+  known = every_append (IsOwed (asked ++ x ∷ [])) cs (c ∷ [])
+      (every_weaker (IsOwed asked) (IsOwed (asked ++ x ∷ []))
+      (λ d k. (k.0, find_more d.number asked k.0 x k.1, k.2)) cs o.known)
+      ((x, find_new c.number asked x new (eq-eqb x.reference c.number own), few), tt);
+  once = λ n. one n (nat_eq c.number n) refl;
+}
+  where
+    one : (n : ℕ) (b : Bool) → nat_eq c.number n ≡ b → tally n (cs ++ c ∷ []) ≤ 1
+    one n true is =
+        let none : tally n cs ≡ 0 = none_owed asked cs n o.known
+        (subst (λ m. find (is_of m) asked ≡ None) (eqb-true c.number n is) new) in
+        let here : tally n (c ∷ []) ≡ 1 = ap (λ b. cond b (1 + 0) 0) is in
+        omega (arith, tally_append n cs (c ∷ []), none, here)
+    one n false is =
+        let here : tally n (c ∷ []) ≡ 0 = ap (λ b. cond b (1 + 0) 0) is in
+        omega (arith, tally_append n cs (c ∷ []), here, o.once n)
+
+-- ---- the first claim is met
+
+-- by an end that was heard, or not
+pub owes_less : (asked : List Asked) (c : Claim) (cs : List Claim) → Owes asked (c ∷ cs)
+    → Owes (without_by (is_of c.number) asked) cs
+owes_less asked c cs o =
+    let none : tally c.number cs ≡ 0 = few (tally c.number cs)
+    (subst (λ b. cond b (1 + tally c.number cs) (tally c.number cs) ≤ 1) (eq-eqb c.number c.number refl)
+    (o.once c.number)) in
+    record {
+      known = left cs o.known.1 (others_apart c.number cs none);
+      once = λ n. less (nat_eq c.number n) (tally n cs) (o.once n);
+    }
+  where
+    few : (k : ℕ) → 1 + k ≤ 1 → k ≡ 0
+    few k h = omega (arith, h)
+
+    less : (b : Bool) (k : ℕ) → cond b (1 + k) k ≤ 1 → k ≤ 1
+    less true k h = omega (arith, h)
+    less false k h = h
+
+    left : (ds : List Claim) → AllByRecursion (IsOwed asked) ds
+        → AllByRecursion (λ d. nat_eq d.number c.number ≡ false) ds
+        → AllByRecursion (IsOwed (without_by (is_of c.number) asked)) ds
+    left [] all apart = tt
+    left (d ∷ ds) all apart = (
+      (all.0.0, find_left d.number c.number asked apart.0 ∙ all.0.1, all.0.2),
+      left ds all.1 apart.1,
+    )
+
+pub owes_rest : (asked : List Asked) (c : Claim) (cs : List Claim) → Owes asked (c ∷ cs) → Owes asked cs
+owes_rest asked c cs o = record { known = o.known.1; once = λ n. less (nat_eq c.number n) (tally n cs) (o.once n) }
+  where
+    less : (b : Bool) (k : ℕ) → cond b (1 + k) k ≤ 1 → k ≤ 1
+    less true k h = omega (arith, h)
+    less false k h = h
+
+-- ---- claims that move
+
+-- the same claims as often, each owed
+pub owes_same : (asked : List Asked) (cs ds : List Claim) → ((n : ℕ) → tally n ds ≤ tally n cs)
+    → AllByRecursion (IsOwed asked) ds → Owes asked cs → Owes asked ds
+owes_same asked cs ds fewer known o = record {
+  known = known;
+  once = λ n. few (tally n ds) (tally n cs)
+      (fewer n) (o.once n);
+}
+  where
+    few : (x y : ℕ) → x ≤ y → y ≤ 1 → x ≤ 1
+    few x y h k = omega (arith, h, k)

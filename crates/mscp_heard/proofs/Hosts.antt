@@ -1,0 +1,326 @@
+-- What each moment of a host makes of the commands whose ends it hasn't heard.
+use Rattle.mscp_host.specs.PortAccounts.{end_says, ended, granted}
+use Rattle.std.proofs.Common.{◌≡◌, ◌⊎◌, ◌∙◌, ◌+◌, ◌^◌, ◌*◌, ◌/◌, ◌%◌, ◌<◌, ◌≤◌, ◌&&◌, ◌||◌, ◌++◌, ◌∷◌, [], ℕ, Bool, true, false, cond, map, nat_eq, List, Option, None, Some, inl, inr, refl, ap, sym, subst, arith}
+use Rattle.std.specs.Prelude.{Result, Ok, Err, find, is_some}
+use Rattle.std.specs.List.{list_any}
+use Rattle.std.proofs.lemmas.Option.{none-some}
+use Rattle.arrayvec.specs.ArrayVec.{ArrayVec}
+use Rattle.mscp_packet.proofs.Numbers.{four}
+use Rattle.mscp_packet.specs.Number.{num}
+use Rattle.mscp_packet.specs.Commands.{command_bytes, opcode_byte}
+use Rattle.mscp_packet.specs.declared.command.Command.{Command}
+use Rattle.mscp_packet.specs.declared.command.MoveKind.TheVariants as moves
+use Rattle.mscp_packet.specs.declared.command.Order.{Order}
+use Rattle.mscp_packet.specs.declared.command.Order.TheVariants as orders
+use Rattle.mscp_packet.specs.declared.end.End.{End}
+use Rattle.mscp_host.specs.declared.asked.Asked.{Asked}
+use Rattle.mscp_host.specs.declared.envelope.Envelope.{Envelope}
+use Rattle.mscp_host.specs.declared.heard.Heard.{Heard}
+use Rattle.mscp_host.specs.declared.heard.Heard.TheVariants as heards
+use Rattle.mscp_host.specs.declared.message.HearFault.{HearFault}
+use Rattle.mscp_host.specs.declared.message.HearFault.TheVariants as faults
+use Rattle.mscp_host.specs.declared.news.News.{News}
+use Rattle.mscp_host.specs.declared.news.News.TheVariants as news
+use Rattle.mscp_host.specs.declared.message.Message.{Message}
+use Rattle.mscp_host.specs.declared.message.Message.TheVariants as messages
+use Rattle.mscp_host.specs.declared.news.HostFault.{HostFault}
+use Rattle.mscp_host.specs.declared.news.Poll.{Poll}
+use Rattle.mscp_host.specs.declared.news.Poll.TheVariants as polls
+use Rattle.mscp_host.specs.declared.submission.Submission.{Submission}
+use Rattle.mscp_host.specs.Accounts.{Account, asks, asks_unless, has_reference, oldest, poll_of, polls_oldest, refusal, submits, submits_unless}
+use Rattle.mscp_host.specs.Messages.{message_in}
+use Rattle.mscp_host.specs.PortAccounts.{PortAccount, asked_of, bytes_of, credit_fault, ends_of, heard_of, hears, is_of, is_to_poll, is_too_much, news_said, may_be_of, polled_with, port_polls, port_submits, submits_unless_faulty, submitted_with, without_by}
+use Rattle.mscp_ported.specs.Awaited.{bytes_in, is_transfer}
+
+-- ---- the message of a command
+
+message_number : (c : Command) → c.reference < 2 ^ 32 → num (command_bytes c) 0 4 ≡ c.reference
+message_number c small = four c.reference small
+
+few_bytes : (x : ℕ)
+    → 0 + x % 256 * 1 + x / 256 % 256 * 256 + x / 65536 % 256 * 65536 + x / 16777216 % 256 * 16777216 ≤ x
+few_bytes x = omega arith
+
+order_bytes : (reference unit : ℕ) (order : Order)
+    → bytes_in (command_bytes (record { reference = reference; unit = unit; order = order })) ≤ bytes_of order
+order_bytes reference unit (orders.Move moves.Access count block) = few_bytes count
+order_bytes reference unit (orders.Move moves.Erase count block) = few_bytes count
+order_bytes reference unit (orders.Move moves.Compare count block) = few_bytes count
+order_bytes reference unit (orders.Move moves.Read count block) = few_bytes count
+order_bytes reference unit (orders.Move moves.Write count block) = few_bytes count
+order_bytes reference unit (orders.Invalid byte status) = by (is_transfer byte)
+  where
+    by : (b : Bool) → cond b 0 0 ≤ 0
+    by true = omega arith
+    by false = omega arith
+order_bytes reference unit order = omega arith
+
+-- ---- what is found
+
+none_any : (n : ℕ) (asked : List Asked) → list_any (λ r. nat_eq r n) (map (λ a. a.reference) asked) ≡ false
+    → find (is_of n) asked ≡ None
+none_any n [] e = refl
+none_any n (a ∷ asked) e = by (nat_eq a.reference n) e (none_any n asked)
+  where
+    by : (b : Bool) → (b || list_any (λ r. nat_eq r n) (map (λ a. a.reference) asked)) ≡ false
+        → (list_any (λ r. nat_eq r n) (map (λ a. a.reference) asked) ≡ false → find (is_of n) asked ≡ None)
+        → cond b (Some a) (find (is_of n) asked) ≡ None
+    by true h rest = absurd (search (arith, h))
+    by false h rest = rest h
+
+any_same : (n : ℕ) (xs : List Submission)
+    → list_any (has_reference n) xs ≡ list_any (λ r. nat_eq r n) (map (λ s. s.reference) xs)
+any_same n [] = refl
+any_same n (x ∷ xs) = ap (λ b. nat_eq x.reference n || b) (any_same n xs)
+
+-- the commands are those of the account, by number
+abbrev pub SameNumbers : PortAccount → Type 0
+SameNumbers p = map (λ a. a.reference) p.asked ≡ map (λ s. s.reference) p.account.outstanding
+
+unused : (p : PortAccount) (n : ℕ) → SameNumbers p → list_any (has_reference n) p.account.outstanding ≡ false
+    → find (is_of n) p.asked ≡ None
+unused p n same e = none_any n p.asked (ap (list_any (λ r. nat_eq r n)) same
+    ∙ sym (any_same n p.account.outstanding) ∙ e)
+
+not_doubled : (a : Account) (opcode n : ℕ) → refusal a opcode n ≡ None
+    → list_any (has_reference n) a.outstanding ≡ false
+not_doubled a opcode n e = grind (arith, none-some)
+
+-- ---- a command is sent
+
+pub record Sends (old new : PortAccount) (message : List ℕ) : Type 0 where
+  pub more : Asked
+  pub asked : new.asked ≡ old.asked ++ more ∷ []
+  pub new_number : find (is_of (num message 0 4)) old.asked ≡ None
+  pub number : more.reference ≡ num message 0 4
+  pub bytes : bytes_in message ≤ more.bytes
+
+sends : (old new : PortAccount) (message : ArrayVec ℕ) (c : Command) → c.reference < 2 ^ 32 → SameNumbers old
+    → list_any (has_reference c.reference) old.account.outstanding ≡ false → message.items ≡ command_bytes c
+    → new.asked ≡ old.asked ++ asked_of c ∷ [] → Sends old new message.items
+sends old new message c small same free is asked =
+    let number : num message.items 0 4 ≡ c.reference = ap (λ b. num b 0 4) is ∙ message_number c small in
+    record {
+      more = asked_of c;
+      asked = asked;
+      new_number = subst (λ n. find (is_of n) old.asked ≡ None) (sym number) (unused old c.reference same free);
+      number = sym number;
+      bytes = subst (λ b. bytes_in b ≤ bytes_of c.order) (sym is) (order_bytes c.reference c.unit c.order);
+    }
+
+items_or : {E X : Type 0} → Result (ArrayVec ℕ) E × X → List ℕ
+items_or (Ok b, x) = b.items
+items_or (Err e, x) = []
+
+pub submit_sends : (old new : PortAccount) (c : Command) (message : ArrayVec ℕ) → c.reference < 2 ^ 32
+    → SameNumbers old → port_submits old c ≡ (Ok message, new) → Sends old new message.items
+submit_sends old new c message small same e = by (credit_fault old.credits (opcode_byte c.order)) e
+  where
+    judged : (o : Option HostFault) → refusal old.account (opcode_byte c.order) c.reference ≡ o
+        → submitted_with old c (submits_unless old.account c o) ≡ (Ok message, new) → Sends old new message.items
+    judged (Some fault) r h = absurd (search (arith, h))
+    judged None r h = sends old new message c small same
+        (not_doubled old.account (opcode_byte c.order) c.reference r) (sym (ap items h))
+        (sym (ap (λ x. x.1.asked) h))
+      where
+        items : Result (ArrayVec ℕ) HostFault × PortAccount → List ℕ
+        items (Ok b, x) = b.items
+        items (Err f, x) = []
+
+    by : (o : Option HostFault) → submits_unless_faulty old c o ≡ (Ok message, new) → Sends old new message.items
+    by (Some fault) h = absurd (search (arith, h))
+    by None h = judged (refusal old.account (opcode_byte c.order) c.reference) refl h
+
+pub submit_refused : (old new : PortAccount) (c : Command) (fault : HostFault) → port_submits old c ≡ (Err fault, new)
+    → new.asked ≡ old.asked
+submit_refused old new c fault e = by (credit_fault old.credits (opcode_byte c.order)) e
+  where
+    judged : (o : Option HostFault) → submitted_with old c (submits_unless old.account c o) ≡ (Err fault, new)
+        → new.asked ≡ old.asked
+    judged (Some other) h = sym (ap (λ x. x.1.asked) h)
+    judged None h = absurd (search (arith, h))
+
+    by : (o : Option HostFault) → submits_unless_faulty old c o ≡ (Err fault, new) → new.asked ≡ old.asked
+    by (Some other) h = sym (ap (λ x. x.1.asked) h)
+    by None h = judged (refusal old.account (opcode_byte c.order) c.reference) h
+
+-- ---- a poll
+
+abbrev pub is_ask : Result Poll HostFault → Bool
+is_ask (Ok (polls.Ask message)) = true
+is_ask other = false
+
+module _ (old new : PortAccount) (n : ℕ) (small : n < 2 ^ 32) (same : SameNumbers old) where
+  asked_so : (message : ArrayVec ℕ) (s : Submission) (o : Option HostFault)
+      → refusal old.account (opcode_byte (poll_of n s).order) n ≡ o → oldest old.account ≡ Some s
+      → polled_with old n (asks_unless old.account n s o) ≡ (Ok (polls.Ask message), new) → Sends old new message.items
+  asked_so message s (Some fault) r at h = absurd (search (arith, h))
+  asked_so message s None r at h = sends old new message (poll_of n s) small same
+      (not_doubled old.account (opcode_byte (poll_of n s).order) n r) (sym (ap items h))
+      (sym (ap (λ x. x.1.asked) h) ∙ ap (λ o. (Rattle.mscp_host.specs.PortAccounts.noted_poll old
+      (Rattle.mscp_host.specs.Accounts.watching old.account n s) n o).asked) at)
+    where
+      items : Result Poll HostFault × PortAccount → List ℕ
+      items (Ok (polls.Ask b), x) = b.items
+      items (other, x) = []
+
+  pub poll_sends : (message : ArrayVec ℕ) → port_polls old n ≡ (Ok (polls.Ask message), new)
+      → Sends old new message.items
+  poll_sends message e = by (nat_eq old.credits 0 && is_to_poll old.account) e
+    where
+      about : (o : Option Submission) → oldest old.account ≡ o
+          → polled_with old n (asks old.account n o) ≡ (Ok (polls.Ask message), new) → Sends old new message.items
+      about None at h = absurd (search (arith, h))
+      about (Some s) at h = asked_so message s (refusal old.account (opcode_byte (poll_of n s).order) n) refl at h
+
+      busy : (b : Bool) → polled_with old n (cond b (Ok polls.Busy, old.account) (asks old.account n
+          (oldest old.account))) ≡ (Ok (polls.Ask message), new) → Sends old new message.items
+      busy true h = absurd (search (arith, h))
+      busy false h = about (oldest old.account) refl h
+
+      by : (b : Bool) → ◌≡◌ {A = Result Poll HostFault × PortAccount}
+          (cond b (Err Rattle.mscp_host.specs.declared.news.HostFault.TheVariants.NoCredit, old)
+          (polled_with old n (polls_oldest old.account n))) (Ok (polls.Ask message), new) → Sends old new message.items
+      by true h = absurd (search (arith, h))
+      by false h = busy (is_some old.account.watch) h
+
+  pub poll_still : (answer : Result Poll HostFault) → is_ask answer ≡ false → port_polls old n ≡ (answer, new)
+      → new.asked ≡ old.asked
+  poll_still answer none e = by (nat_eq old.credits 0 && is_to_poll old.account) e
+    where
+      with_so : (x : Result Poll HostFault × Account) → polled_with old n x ≡ (answer, new) → new.asked ≡ old.asked
+      with_so (Ok (polls.Ask message), a) h = absurd (search (arith, none, ap (λ y. is_ask y.0) h))
+      with_so (Ok polls.Nothing, a) h = sym (ap (λ y. y.1.asked) h)
+      with_so (Ok polls.Busy, a) h = sym (ap (λ y. y.1.asked) h)
+      with_so (Err fault, a) h = sym (ap (λ y. y.1.asked) h)
+
+      by : (b : Bool) → ◌≡◌ {A = Result Poll HostFault × PortAccount}
+          (cond b (Err Rattle.mscp_host.specs.declared.news.HostFault.TheVariants.NoCredit, old)
+          (polled_with old n (polls_oldest old.account n))) (answer, new) → new.asked ≡ old.asked
+      by true h = sym (ap (λ y. y.1.asked) h)
+      by false h = with_so (polls_oldest old.account n) h
+
+-- ---- something is heard
+
+-- what is outstanding stays so, or the command of an end is it no more
+abbrev pub Settles : List Asked → List Asked → Result Message HearFault → Type 0
+Settles old new r = (new ≡ old) ⊎ ((e : End) × (r ≡ Ok (messages.End e)) × (new ≡ without_by (is_of e.reference) old))
+
+pub hear_settles : (old new : PortAccount) (v : Envelope) (b : List ℕ) (answer : Result Heard HearFault)
+    → hears old v b ≡ (answer, new) → Settles old.asked new.asked (message_in v b)
+hear_settles old new v b answer e = by (message_in v b) e
+  where
+    judged : (end : End) (x : Asked) (c : Bool)
+        → ◌≡◌ {A = Result Heard HearFault × PortAccount} (cond c (
+          Ok (end_says old end x),
+          granted v.credits (ended old end),
+        )
+        (Err faults.Unknown, old)) (answer, new)
+        → Settles old.asked new.asked (Ok (messages.End end))
+    judged end x true h = inr (end, refl, sym (ap (λ y. y.1.asked) h))
+    judged end x false h = inl (sym (ap (λ y. y.1.asked) h))
+
+    found : (end : End) (o : Option Asked) → ends_of old v.credits end o ≡ (answer, new)
+        → Settles old.asked new.asked (Ok (messages.End end))
+    found end None h = inl (sym (ap (λ y. y.1.asked) h))
+    found end (Some x) h = judged end x (may_be_of old end x) h
+
+    by : (r : Result Message HearFault) → heard_of old v.credits r ≡ (answer, new) → Settles old.asked new.asked r
+    by (Err fault) h = inl (sym (ap (λ y. y.1.asked) h))
+    by (Ok (messages.End end)) h = found end (find (is_of end.reference) old.asked) h
+    by (Ok (messages.Attention code unit)) h = inl (sym (ap (λ y. y.1.asked) h))
+    by (Ok messages.Datagram) h = inl (sym (ap (λ y. y.1.asked) h))
+    by (Ok messages.Credits) h = inl (sym (ap (λ y. y.1.asked) h))
+
+abbrev is_it : Result Heard HearFault × PortAccount → Bool
+is_it (Ok (heards.MovedTooMuch x y), p) = true
+is_it (r, p) = false
+
+-- too many bytes are said of an end that counts them
+pub hears_too_much : (old new : PortAccount) (v : Envelope) (b : List ℕ) (e : End) (asked : Asked)
+    → hears old v b ≡ (Ok (heards.MovedTooMuch e asked), new)
+    → (end : End) × (x : Asked) × (message_in v b ≡ Ok (messages.End end))
+    × (find (is_of end.reference) old.asked ≡ Some x) × (is_too_much end.body x.bytes ≡ true)
+hears_too_much old new v b e asked h = by (message_in v b) h
+  where
+    says : (end : End) (x : Asked) (poll c : Bool) → is_too_much end.body x.bytes ≡ c → (n : News)
+        → is_it (Ok (news_said poll end x n), old) ≡ true → is_too_much end.body x.bytes ≡ true
+    says end x true c is (news.Ended read) h = absurd (search (arith, h))
+    says end x false true is (news.Ended read) h = is
+    says end x false false is (news.Ended read) h = absurd (search (
+      arith,
+      h,
+      ap (λ y. is_it (
+        Ok (cond y
+            (heards.MovedTooMuch end x) (heards.Ended end x)),
+        old,
+      )) is,
+    ))
+    says end x poll c is (news.Progress figure) h = absurd (search (arith, h))
+    says end x poll c is (news.First figure) h = absurd (search (arith, h))
+    says end x poll c is news.Late h = absurd (search (arith, h))
+    says end x poll c is news.Reset h = absurd (search (arith, h))
+    says end x poll c is news.Lost h = absurd (search (arith, h))
+
+    judged : (end : End) (x : Asked) (c : Bool)
+        → ◌≡◌ {A = Result Heard HearFault × PortAccount} (cond c (
+          Ok (end_says old end x),
+          granted v.credits (ended old end),
+        )
+        (Err faults.Unknown, old))
+        (Ok (heards.MovedTooMuch e asked), new) → is_too_much end.body x.bytes ≡ true
+    judged end x true h = says end x (Rattle.mscp_host.specs.PortAccounts.is_poll_of old.account.watch end.reference)
+        (is_too_much end.body x.bytes) refl
+        (Rattle.mscp_host.specs.Accounts.news_with old.account (Rattle.mscp_host.specs.PortAccounts.as_read end)
+        (Rattle.mscp_host.specs.Accounts.answered old.account.watch (Rattle.mscp_host.specs.PortAccounts.as_read end)))
+        (ap (λ y. is_it (y.0, old)) h)
+    judged end x false h = absurd (search (arith, h))
+
+    found : (end : End) (o : Option Asked) → find (is_of end.reference) old.asked ≡ o
+        → ends_of old v.credits end o ≡ (Ok (heards.MovedTooMuch e asked), new)
+        → (x : Asked) × (find (is_of end.reference) old.asked ≡ Some x) × (is_too_much end.body x.bytes ≡ true)
+    found end None is h = absurd (search (arith, h))
+    found end (Some x) is h = (x, is, judged end x (may_be_of old end x) h)
+
+    by : (r : Result Message HearFault) → heard_of old v.credits r ≡ (Ok (heards.MovedTooMuch e asked), new)
+        → (end : End) × (x : Asked) × (r ≡ Ok (messages.End end))
+        × (find (is_of end.reference) old.asked ≡ Some x) × (is_too_much end.body x.bytes ≡ true)
+    by (Err fault) h = absurd (search (arith, h))
+    by (Ok (messages.End end)) h =
+        let x = found end (find (is_of end.reference) old.asked) refl h in (end, x.0, refl, x.1, x.2)
+    by (Ok (messages.Attention code unit)) h = absurd (not_news (nat_eq code 0x40)
+        (ap (λ y. is_it (y.0, old)) h))
+      where
+        not_news : (c : Bool)
+            → is_it (Ok (cond c (heards.Available unit) (heards.Attention code unit)), old) ≡ true → ⊥
+        not_news true h = search (arith, h)
+        not_news false h = search (arith, h)
+    by (Ok messages.Datagram) h = absurd (search (arith, h))
+    by (Ok messages.Credits) h = absurd (search (arith, h))
+
+-- a message that is read is refused only as an end that is Unknown
+pub hears_refused : (old new : PortAccount) (v : Envelope) (b : List ℕ) (m : Message) (fault : HearFault)
+    → message_in v b ≡ Ok m → hears old v b ≡ (Err fault, new)
+    → (fault ≡ faults.Unknown) × ((e : End) × (message_in v b ≡ Ok (messages.End e)))
+hears_refused old new v b m fault is h =
+    by m is (subst (λ r. heard_of old v.credits r ≡ (Err fault, new)) is h)
+  where
+    judged : (end : End) (x : Asked) (c : Bool)
+        → ◌≡◌ {A = Result Heard HearFault × PortAccount} (cond c (
+          Ok (end_says old end x),
+          granted v.credits (ended old end),
+        )
+        (Err faults.Unknown, old)) (Err fault, new) → fault ≡ faults.Unknown
+    judged end x true h = absurd (search (arith, h))
+    judged end x false h = search (arith, h)
+
+    found : (end : End) (o : Option Asked) → ends_of old v.credits end o ≡ (Err fault, new) → fault ≡ faults.Unknown
+    found end None h = search (arith, h)
+    found end (Some x) h = judged end x (may_be_of old end x) h
+
+    by : (m : Message) → message_in v b ≡ Ok m → heard_of old v.credits (Ok m) ≡ (Err fault, new)
+        → (fault ≡ faults.Unknown) × ((e : End) × (message_in v b ≡ Ok (messages.End e)))
+    by (messages.End end) is h = (found end (find (is_of end.reference) old.asked) h, (end, is))
+    by (messages.Attention code unit) is h = absurd (search (arith, h))
+    by messages.Datagram is h = absurd (search (arith, h))
+    by messages.Credits is h = absurd (search (arith, h))

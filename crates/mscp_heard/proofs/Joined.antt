@@ -1,0 +1,578 @@
+-- What a host is owed after each deed at its port.
+use Rattle.mscp_ported.specs.Told.{said as all_said}
+use Rattle.std.proofs.Common.{◌≡◌, ◌≢◌, ◌∙◌, ◌+◌, ◌-◌, ◌*◌, ◌≤◌, ◌++◌, ◌∷◌, [], ℕ, zero, suc, Bool, true, false, cond, drop, filter, length, map, not, List, Some, inl, inr, refl, ap, sym, subst, arith, append_assoc}
+use Rattle.std.specs.Prelude.{◌%◌, ◌/◌, Result, Ok, Err, find, slice_get, slice_index}
+use Rattle.std.specs.List.{AllByRecursion}
+use Rattle.std.proofs.lemmas.Grind.{flat_map-append}
+use Rattle.std.proofs.lemmas.List.Elements.{filter-append}
+use Rattle.std.proofs.lemmas.List.{append-nil, length-append, length-map}
+use Rattle.std.proofs.lemmas.Option.{none-some, same_Some}
+use Rattle.mscp_packet.specs.Number.{num}
+use Rattle.mscp_packet.specs.Ends.{kind_of_code}
+use Rattle.mscp_packet.specs.declared.end.End.{End}
+use Rattle.mscp_drive.specs.Settings.{IsValid, Settings}
+use Rattle.mscp_drive.specs.declared.connection.Connection.TheVariants.{First}
+use Rattle.mscp_controller.specs.Calls.{AnsweredCalls, Call as Made}
+use Rattle.mscp_controller.specs.Holdings.{Holdings, fresh, outstanding_of}
+use Rattle.mscp_host.specs.declared.asked.Asked.{Asked}
+use Rattle.mscp_host.specs.declared.envelope.Envelope.{Envelope}
+use Rattle.mscp_host.specs.declared.heard.Heard.{Heard}
+use Rattle.mscp_host.specs.declared.message.HearFault.{HearFault}
+use Rattle.mscp_host.specs.declared.message.Message.TheVariants as messages
+use Rattle.mscp_host.specs.declared.news.Poll.TheVariants as polls
+use Rattle.mscp_host.specs.Histories.{History, outstanding, submission_at}
+use Rattle.mscp_host.specs.Messages.{envelope_in, message_in}
+use Rattle.mscp_host.specs.PortAccounts.{PortAccount, fresh_of_port, is_of, is_too_much}
+use Rattle.mscp_host.specs.PortHistories.{Ask, Hear, Other, PortAnswered, PortAnswers, PortHistory, PortMoment, Resume, Submit, asked_at, seen}
+use Rattle.mscp_host.specs.PortLaw.{PortHostsKeepTheirHistory}
+use Rattle.mscp_port.specs.declared.hardware.Hardware.{Hardware}
+use Rattle.mscp_port.specs.declared.port.OutgoingKind.{OutgoingKind}
+use Rattle.mscp_port.specs.declared.port.OutgoingKind.TheVariants as kinds
+use Rattle.mscp_port.specs.declared.port.Port.{Port}
+use Rattle.mscp_port.specs.Calls.{IsMadeOf}
+use Rattle.mscp_port.specs.Departures.{begins}
+use Rattle.mscp_port.specs.Histories.{Answered, Call, Picking, WasRead, Went, WriteIp}
+use Rattle.mscp_ported.specs.Answers.{own_answer, volume_named, PortsAnswerAsTheyMay, is_for_utilities, kind_answered}
+use Rattle.mscp_ported.specs.Awaited.{IsWhole, Deals, IsAnswering, IsTaking, PortsEndWhatTheyTook, ReadsBytes, awaited, bytes_in, has_number, taken_by, without_ends}
+use Rattle.mscp_ported.specs.Ends.{ends_said_by}
+use Rattle.mscp_ported.specs.Talk.{AsksAlways, Message as Read_one, Opened, Packet, Read, Slot, Talk, Turn, is_dead, since, talk_of}
+use Rattle.mscp_ported.specs.Told.{AreAccepted, PortsHearInOrder, PortsOpenWhatTheyAccept, PortsTellInOrder, Said, TellAll, Tells, accepted, accepted_by, connection_told, credits_in, held, left_after, message_text, said, said_in}
+use Rattle.mscp_heard.specs.Deeds.{AreJoined, Called, Deed, Did, HasNumber, HaveNumbers, HearsInOrder, IsNextText, IsPacket, IsTextOf, ReadsInOrder, calls_in, did, hearings, is_hearing, sent, sent_by}
+use Rattle.mscp_heard.specs.Hearing.{HearsItsOwn}
+use Rattle.mscp_heard.proofs.Claims.{Claim, IsOwed, Owes, claim_of, claim_said, claims, claims_said, moved_in, owes_less, owes_more, owes_rest}
+use Rattle.mscp_heard.proofs.Hosts.{hears_refused, SameNumbers, Sends, Settles, hear_settles, hears_too_much, poll_sends, poll_still, submit_refused, submit_sends}
+use Rattle.mscp_heard.proofs.Moving.{drop_at, drop_beside}
+use Rattle.mscp_heard.proofs.Packets.{IsMessage, IsRead, end_heard, message_read}
+use Rattle.mscp_heard.proofs.Owing.{Inv, IsCoded, same_ok, inv_as, since_alive, moved_few, own_number, own_bytes, own_whole, small_number, by_news, by_end, by_text, by_answer, one_more, begun_one}
+
+module _ {K : Type 0} (picks : Picking K) (c : Settings) (picker : K) (ends : PortsEndWhatTheyTook picks picker)
+    (hear : PortsHearInOrder picks) (tell : PortsTellInOrder picks) (open_so : PortsOpenWhatTheyAccept picks)
+    (answer_so : PortsAnswerAsTheyMay picks) (history : PortHostsKeepTheirHistory)
+    (before : List Made) (controller : Holdings K) (hardware : Hardware) (credits : ℕ) (start : Port K)
+    (valid : IsValid c) (was : AnsweredCalls (picks picker) (fresh c picker) before controller)
+    (quiet : outstanding_of First controller ≡ []) (made : IsMadeOf hardware credits controller start) where
+  asked_before : (call : Call) (calls : List Call) → AsksAlways (call ∷ calls) → AsksAlways calls
+  asked_before (WasRead bytes (Ok done)) calls asks = asks.1
+  asked_before (Went outcome (Ok done)) calls asks = asks.1
+  asked_before call calls asks = asks
+
+  reads_before : (call : Call) (calls : List Call) → ReadsBytes (call ∷ calls) → ReadsBytes calls
+  reads_before (WasRead bytes result) calls reads = reads.1
+  reads_before call calls reads = reads
+
+  abbrev State : (p : Port K) (calls : List Call) → Answered picks start calls p → List Asked → PortHistory → Type 0
+  State p calls a asked h = Inv asked (said picks start p calls a) (hearings h) (awaited picks start p calls a)
+      (sent h)
+      (length (accepted picks start p calls a))
+
+  -- a message that is accepted is the next one that was sent
+  record IsNext (text : List ℕ) (header : ℕ) (ms : List (List ℕ)) (n : ℕ) : Type 0 where
+    disks : is_for_utilities header ≡ false
+    message : List ℕ
+    at : slice_get ms n ≡ Some message
+    is : IsTextOf text message
+
+  counted : (t : Talk) (texts : List (List ℕ)) (slot : Slot) (header : ℕ) → t.turn ≡ Opened slot header
+      → AreAccepted t.heard t.turn texts → length t.heard ≡ length texts
+  counted t texts slot header opened (inl e) = sym (ap length e ∙ length-map t.heard message_text)
+  counted t texts slot header opened (inr r) = absurd (search (arith, sym opened ∙ r.3))
+
+  next_of : (p : Port K) (calls : List Call) (bytes : List ℕ) (done : Unit) (ms : List (List ℕ)) (slot : Slot)
+      (header : ℕ) → AsksAlways (WasRead bytes (Ok done) ∷ calls)
+      → (a : Answered picks start (WasRead bytes (Ok done) ∷ calls) p)
+      → (talk_of picks start a.0 calls a.1).turn ≡ Opened slot header
+      → ReadsInOrder (WasRead bytes (Ok done)) (talk_of picks start a.0 calls a.1) ms
+      → IsNext bytes header ms (length (accepted picks start a.0 calls a.1))
+  next_of p calls bytes done ms slot header asks a opened reads =
+      let t = talk_of picks start a.0 calls a.1 in
+      let r : IsNextText (Opened slot header) (length t.heard) ms bytes =
+      subst (λ x. IsNextText x (length t.heard) ms bytes) opened reads in
+      let same = counted t (accepted picks start a.0 calls a.1) slot header opened
+      (hear hardware credits controller start a.0 calls made asks.1 a.1).0 in
+      record {
+        disks = r.0;
+        message = r.1.0;
+        at = subst (λ n. slice_get ms n ≡ Some r.1.0) same r.1.1;
+        is = r.1.2;
+      }
+
+  module _ (p : Port K) (calls : List Call) (asked : List Asked) (h : PortHistory) where
+    takes_it : (call : Call) (a : Answered picks start (call ∷ calls) p) → AsksAlways (call ∷ calls)
+        → ReadsInOrder call (talk_of picks start a.0 calls a.1) (sent h) → IsTaking call a.0 p
+        → State a.0 calls a.1 asked h
+        → Inv asked (said picks start a.0 calls a.1) (hearings h)
+        (awaited picks start a.0 calls a.1 ++ taken_by call a.0) (sent h)
+        (length (accepted picks start a.0 calls a.1 ++ accepted_by call a.0))
+    takes_it (WasRead bytes (Ok done)) a asks reads d i =
+        let o = open_so hardware credits controller start p calls bytes done d.message [] made asks a d.accepted in
+        let x = next_of p calls bytes done (sent h) o.0 o.1 asks a o.2 reads in
+        let same : bytes ≡ d.message = ap bytes_read d.read.1 in
+        inv_as asked (said picks start a.0 calls a.1) (said picks start a.0 calls a.1) (hearings h)
+        (awaited picks start a.0 calls a.1 ++ taken_by (WasRead bytes (Ok done)) a.0)
+        (awaited picks start a.0 calls a.1 ++ bytes ∷ []) (sent h)
+        (length (accepted picks start a.0 calls a.1 ++ accepted_by (WasRead bytes (Ok done)) a.0))
+        (suc (length (accepted picks start a.0 calls a.1))) refl
+        (ap (λ xs. awaited picks start a.0 calls a.1 ++ xs) (d.taken ∙ ap (λ y. y ∷ []) (sym same)))
+        (one_more (accepted picks start a.0 calls a.1) _ d.message
+        (ap (λ xs. accepted picks start a.0 calls a.1 ++ xs) d.accepted))
+        (by_text asked (said picks start a.0 calls a.1) (hearings h) (awaited picks start a.0 calls a.1) (sent h)
+        (length (accepted picks start a.0 calls a.1)) i bytes x.message x.at x.is)
+      where
+        bytes_read : Call → List ℕ
+        bytes_read (WasRead b r) = b
+        bytes_read call = bytes
+    takes_it call a asks reads d i = absurd (search (arith, d.read.1))
+
+    answers_it : (call : Call) (a : Answered picks start (call ∷ calls) p) → AsksAlways (call ∷ calls)
+        → ReadsBytes (call ∷ calls) → ReadsInOrder call (talk_of picks start a.0 calls a.1) (sent h)
+        → (d : IsAnswering call a.0 p) → State a.0 calls a.1 asked h
+        → Inv asked (said picks start a.0 calls a.1 ++ said_in d.out ∷ []) (hearings h)
+        (awaited picks start a.0 calls a.1) (sent h)
+        (length (accepted picks start a.0 calls a.1 ++ accepted_by call a.0))
+    answers_it (WasRead bytes (Ok done)) a asks small reads d i =
+        let r = answer_so hardware credits controller start p calls bytes done d.out made asks a d.nothing d.begun in
+        let x = next_of p calls bytes done (sent h) r.0 r.1 asks a r.2 reads in
+        let own = r.3.own in
+        let kind : d.out.kind ≡ kinds.End = r.3.kind ∙ ap kind_answered x.disks in
+        inv_as asked (said picks start a.0 calls a.1 ++ said_in d.out ∷ [])
+        (said picks start a.0 calls a.1 ++ said_in d.out ∷ []) (hearings h)
+        (awaited picks start a.0 calls a.1) (awaited picks start a.0 calls a.1) (sent h)
+        (length (accepted picks start a.0 calls a.1 ++ accepted_by (WasRead bytes (Ok done)) a.0))
+        (suc (length (accepted picks start a.0 calls a.1))) refl refl
+        (one_more (accepted picks start a.0 calls a.1) _ d.message
+        (ap (λ xs. accepted picks start a.0 calls a.1 ++ xs) d.accepted))
+        (by_answer asked (said picks start a.0 calls a.1) (hearings h) (awaited picks start a.0 calls a.1) (sent h)
+        (length (accepted picks start a.0 calls a.1)) i (said_in d.out) bytes x.message x.at x.is kind
+        (subst (λ y. IsRead y d.out.bytes.items) (sym kind)
+        (subst (λ b. IsWhole b) (sym own.2) (own_whole (volume_named a.0 bytes) bytes own.0
+        (ap (λ f. own_answer f (volume_named a.0 bytes) bytes) (sym x.disks) ∙ own.1))))
+        (ap (λ b. num b 0 4) own.2 ∙ own_number bytes own.0 (small_number bytes small.0))
+        (ap (λ b. num b 12 4) own.2 ∙ own_bytes bytes own.0))
+    answers_it call a asks small reads d i = absurd (search (arith, d.read.1))
+
+    deals_so : (call : Call) (a : Answered picks start (call ∷ calls) p) → AsksAlways (call ∷ calls)
+        → ReadsBytes (call ∷ calls) → ReadsInOrder call (talk_of picks start a.0 calls a.1) (sent h)
+        → Deals (awaited picks start a.0 calls a.1) call a.0 p → State a.0 calls a.1 asked h
+        → Inv asked (said picks start a.0 calls a.1 ++ map said_in (begins a.0.outgoing p.outgoing)) (hearings h)
+        (without_ends (ends_said_by call a.0 p) (awaited picks start a.0 calls a.1) ++ taken_by call a.0) (sent h)
+        (length (accepted picks start a.0 calls a.1 ++ accepted_by call a.0))
+    deals_so call a asks small reads (inl q) i =
+        inv_as asked _ (said picks start a.0 calls a.1) (hearings h) _ (awaited picks start a.0 calls a.1) (sent h) _
+        (length (accepted picks start a.0 calls a.1))
+        (ap (λ xs. said picks start a.0 calls a.1 ++ map said_in xs) q.begun
+        ∙ append-nil (said picks start a.0 calls a.1))
+        (ap (λ xs. without_ends xs (awaited picks start a.0 calls a.1) ++ taken_by call a.0) q.ended
+        ∙ ap (λ xs. awaited picks start a.0 calls a.1 ++ xs) q.taken ∙ append-nil (awaited picks start a.0 calls a.1))
+        (ap length (ap (λ xs. accepted picks start a.0 calls a.1 ++ xs) q.accepted
+        ∙ append-nil (accepted picks start a.0 calls a.1))) i
+    deals_so call a asks small reads (inr (inl q)) i =
+        inv_as asked _ (said picks start a.0 calls a.1 ++ said_in q.out ∷ []) (hearings h) _
+        (awaited picks start a.0 calls a.1) (sent h) _ (length (accepted picks start a.0 calls a.1))
+        (ap (λ xs. said picks start a.0 calls a.1 ++ map said_in xs)
+        (begun_one a.0.outgoing p.outgoing q.out q.nothing q.begun))
+        (ap (λ xs. without_ends xs (awaited picks start a.0 calls a.1) ++ taken_by call a.0) q.ended
+        ∙ ap (λ xs. awaited picks start a.0 calls a.1 ++ xs) q.taken ∙ append-nil (awaited picks start a.0 calls a.1))
+        (ap length (ap (λ xs. accepted picks start a.0 calls a.1 ++ xs) q.accepted
+        ∙ append-nil (accepted picks start a.0 calls a.1)))
+        (by_news asked (said picks start a.0 calls a.1) (hearings h) (awaited picks start a.0 calls a.1) (sent h)
+        (length (accepted picks start a.0 calls a.1)) i (said_in q.out) q.kind
+        (subst (λ x. IsRead x q.out.bytes.items) (sym q.kind) (q.code, q.long.0, q.long.1)))
+    deals_so call a asks small reads (inr (inr (inl q))) i =
+        inv_as asked _ (said picks start a.0 calls a.1 ++ said_in q.out ∷ []) (hearings h) _
+        (filter (λ x. not (has_number (num q.out.bytes.items 0 4) x)) (awaited picks start a.0 calls a.1)) (sent h) _
+        (length (accepted picks start a.0 calls a.1))
+        (ap (λ xs. said picks start a.0 calls a.1 ++ map said_in xs)
+        (begun_one a.0.outgoing p.outgoing q.out q.nothing q.begun))
+        (ap (λ xs. without_ends xs (awaited picks start a.0 calls a.1) ++ taken_by call a.0) q.ended
+        ∙ ap (λ xs. filter (λ x. not (has_number (num q.out.bytes.items 0 4) x)) (awaited picks start a.0 calls a.1)
+        ++ xs) q.taken
+        ∙ append-nil (filter (λ x. not (has_number (num q.out.bytes.items 0 4) x))
+        (awaited picks start a.0 calls a.1)))
+        (ap length (ap (λ xs. accepted picks start a.0 calls a.1 ++ xs) q.accepted
+        ∙ append-nil (accepted picks start a.0 calls a.1)))
+        (by_end asked (said picks start a.0 calls a.1) (hearings h) (awaited picks start a.0 calls a.1) (sent h)
+        (length (accepted picks start a.0 calls a.1)) i (said_in q.out) q.message q.kind
+        (subst (λ x. IsRead x q.out.bytes.items) (sym q.kind) q.whole) q.only
+        (moved_few (kind_of_code (slice_index q.out.bytes.items 8)) (num q.out.bytes.items 12 4) (bytes_in q.message)
+        q.counts))
+    deals_so call a asks small reads (inr (inr (inr (inl q)))) i =
+        inv_as asked _ (said picks start a.0 calls a.1) (hearings h) _
+        (awaited picks start a.0 calls a.1 ++ taken_by call a.0) (sent h) _
+        (length (accepted picks start a.0 calls a.1 ++ accepted_by call a.0))
+        (ap (λ xs. said picks start a.0 calls a.1 ++ map said_in xs) q.begun
+        ∙ append-nil (said picks start a.0 calls a.1))
+        (ap (λ xs. without_ends xs (awaited picks start a.0 calls a.1) ++ taken_by call a.0) q.ended) refl
+        (takes_it call a asks reads q i)
+    deals_so call a asks small reads (inr (inr (inr (inr q)))) i =
+        inv_as asked _ (said picks start a.0 calls a.1 ++ said_in q.out ∷ []) (hearings h) _
+        (awaited picks start a.0 calls a.1) (sent h) _
+        (length (accepted picks start a.0 calls a.1 ++ accepted_by call a.0))
+        (ap (λ xs. said picks start a.0 calls a.1 ++ map said_in xs)
+        (begun_one a.0.outgoing p.outgoing q.out q.nothing q.begun))
+        (ap (λ xs. without_ends xs (awaited picks start a.0 calls a.1) ++ taken_by call a.0) q.ended
+        ∙ ap (λ xs. awaited picks start a.0 calls a.1 ++ xs) q.taken ∙ append-nil (awaited picks start a.0 calls a.1))
+        refl (answers_it call a asks small reads q i)
+
+    -- behind a call that is no write of IP
+    pub called : (call : Call) (a : Answered picks start (call ∷ calls) p) → AsksAlways (call ∷ calls)
+        → ReadsBytes (call ∷ calls) → ReadsInOrder call (talk_of picks start a.0 calls a.1) (sent h) → call ≢ WriteIp
+        → is_dead p.stage ≡ false → (is_dead a.0.stage ≡ false → State a.0 calls a.1 asked h)
+        → State p (call ∷ calls) a asked h
+    called call a asks small reads never lives get =
+        let d = ends c before controller hardware credits start p call calls valid was quiet made small a never
+        lives in
+        inv_as asked _ (said picks start a.0 calls a.1 ++ map said_in (begins a.0.outgoing p.outgoing)) (hearings h) _
+        (without_ends (ends_said_by call a.0 p) (awaited picks start a.0 calls a.1) ++ taken_by call a.0) (sent h) _
+        (length (accepted picks start a.0 calls a.1 ++ accepted_by call a.0))
+        (since_alive p.stage call _ _ never lives) (since_alive p.stage call _ _ never lives)
+        (ap length (since_alive p.stage call _ _ never lives))
+        (deals_so call a asks small reads d.1 (get d.0))
+
+  -- ---- what the host does
+
+  module _ (asked : List Asked) (ss : List Said) (k : ℕ) (aw ms : List (List ℕ)) (n : ℕ) (i : Inv asked ss k aw ms n)
+    where
+      -- it sends a message
+      by_message : (old new : PortAccount) (m : List ℕ) → old.asked ≡ asked → Sends old new m
+          → Inv new.asked ss k aw (ms ++ m ∷ []) n
+      by_message old new m same s =
+          let longer : claims (drop k ss) aw (drop n (ms ++ m ∷ []))
+          ≡ claims (drop k ss) aw (drop n ms) ++ claim_of m ∷ [] =
+          ap (λ xs. claims (drop k ss) aw xs) (drop_beside n ms m i.read)
+          ∙ ap (λ xs. claims_said (drop k ss) ++ (map claim_of aw ++ xs))
+          (Rattle.std.proofs.lemmas.List.map-append claim_of (drop n ms) (m ∷ []))
+          ∙ ap (λ xs. claims_said (drop k ss) ++ xs)
+          (sym (append_assoc (map claim_of aw) (map claim_of (drop n ms)) (claim_of m ∷ [])))
+          ∙ sym (append_assoc (claims_said (drop k ss)) (map claim_of aw
+          ++ map claim_of (drop n ms)) (claim_of m ∷ [])) in
+          record {
+            owes = subst (λ xs. Owes xs (claims (drop k ss) aw (drop n (ms ++ m ∷ []))))
+                (sym (s.asked ∙ ap (λ xs. xs ++ s.more ∷ []) same))
+                (subst (λ cs. Owes (asked ++ s.more ∷ []) cs) (sym longer)
+                (owes_more asked (claims (drop k ss) aw (drop n ms)) s.more (claim_of m)
+                (ap (find (is_of (num m 0 4))) (sym same) ∙ s.new_number) s.number s.bytes i.owes));
+            heard = i.heard;
+            read = search (arith, i.read, length-append ms (m ∷ []));
+            news = i.news;
+          }
+
+      -- it hears what was said next
+      by_hearing : (s : Said) (v : Envelope) (b : List ℕ) (new : List Asked) → slice_get ss k ≡ Some s
+          → b ≡ s.text → v.connection ≡ connection_told s.kind → Settles asked new (message_in v b)
+          → Inv new ss (suc k) aw ms n
+      by_hearing s v b new at text connection settles =
+          let d = drop_at k ss s at in
+          let whole : claims (drop k ss) aw (drop n ms)
+          ≡ claim_said s.kind s.text ++ claims (drop (suc k) ss) aw (drop n ms) =
+          ap (λ us. claims us aw (drop n ms)) d.0
+          ∙ append_assoc (claim_said s.kind s.text) (claims_said (drop (suc k) ss)) (map claim_of aw
+          ++ map claim_of (drop n ms)) in
+          let news = subst (λ us. AllByRecursion IsCoded us) d.0 i.news in
+          record {
+            owes = by s.kind refl (subst (λ cs. Owes asked cs) whole i.owes) news.0 settles;
+            heard = d.1;
+            read = i.read;
+            news = news.1;
+          }
+        where
+          rest : List Claim
+          rest = claims (drop (suc k) ss) aw (drop n ms)
+
+          not_heard : (e : End) → s.kind ≡ kinds.Attention → slice_index s.text 8 ≡ 0x40
+              → message_in v b ≡ Ok (messages.End e) → ⊥
+          not_heard e kind code r =
+              let h = end_heard v b e r in search (arith, h.1, ap (λ x. slice_index x 8) text ∙ code)
+
+          not_disk : (e : End) → s.kind ≡ kinds.UtilitiesEnd → message_in v b ≡ Ok (messages.End e) → ⊥
+          not_disk e kind r =
+              let h = end_heard v b e r in search (arith, sym h.0 ∙ (connection ∙ ap connection_told kind))
+
+          by : (kind : OutgoingKind) → s.kind ≡ kind
+              → Owes asked (claim_said s.kind s.text ++ claims (drop (suc k) ss) aw (drop n ms)) → IsCoded s
+              → Settles asked new (message_in v b) → Owes new (claims (drop (suc k) ss) aw (drop n ms))
+          by kinds.Attention kind o code (inl same) = subst (λ xs. Owes xs (claims (drop (suc k) ss) aw (drop n ms)))
+              (sym same) (subst (λ x. Owes asked (claim_said x s.text
+              ++ claims (drop (suc k) ss) aw (drop n ms))) kind o)
+          by kinds.Attention kind o code (inr r) = absurd (not_heard r.0 kind (subst
+              (λ x. IsRead x s.text) kind code).0 r.1)
+          by kinds.UtilitiesEnd kind o code (inl same) = subst (λ xs. Owes xs (claims (drop (suc k) ss) aw
+              (drop n ms)))
+              (sym same) (subst (λ x. Owes asked (claim_said x s.text
+              ++ claims (drop (suc k) ss) aw (drop n ms))) kind o)
+          by kinds.UtilitiesEnd kind o code (inr r) = absurd (not_disk r.0 kind r.1)
+          by kinds.End kind o code (inl same) = subst (λ xs. Owes xs (claims (drop (suc k) ss) aw (drop n ms)))
+              (sym same) (owes_rest asked _ (claims (drop (suc k) ss) aw (drop n ms))
+              (subst (λ x. Owes asked (claim_said x s.text ++ claims (drop (suc k) ss) aw (drop n ms))) kind o))
+          by kinds.End kind o code (inr r) =
+              let h = end_heard v b r.0 r.1 in
+              let named : r.0.reference ≡ num s.text 0 4 = h.2 ∙ ap (λ x. num x 0 4) text in
+              subst (λ xs. Owes xs (claims (drop (suc k) ss) aw (drop n ms))) (sym r.2)
+              (subst (λ m. Owes (Rattle.mscp_host.specs.PortAccounts.without_by (is_of m) asked)
+              (claims (drop (suc k) ss) aw (drop n ms))) (sym named)
+              (owes_less asked _ (claims (drop (suc k) ss) aw (drop n ms))
+              (subst (λ x. Owes asked (claim_said x s.text ++ claims (drop (suc k) ss) aw (drop n ms))) kind o)))
+
+      -- and each end in it is that of a command
+      heard_own : (s : Said) (v : Envelope) (b : List ℕ) (e : End) → slice_get ss k ≡ Some s → b ≡ s.text
+          → v.connection ≡ connection_told s.kind → message_in v b ≡ Ok (messages.End e)
+          → (x : Asked) × (find (is_of e.reference) asked ≡ Some x) × (is_too_much e.body x.bytes ≡ false)
+      heard_own s v b e at text connection r =
+          let d = drop_at k ss s at in
+          let h = end_heard v b e r in
+          let news = subst (λ us. AllByRecursion IsCoded us) d.0 i.news in
+          by s.kind refl news.0 h
+          (subst (λ cs. AllByRecursion (IsOwed asked) cs) (ap (λ us. claims us aw (drop n ms)) d.0
+          ∙ append_assoc (claim_said s.kind s.text) (claims_said (drop (suc k) ss)) (map claim_of aw
+          ++ map claim_of (drop n ms)))
+          i.owes.known)
+        where
+          by : (kind : OutgoingKind) → s.kind ≡ kind → IsCoded s
+              → ((v.connection ≡ 0) × (0x80 ≤ slice_index b 8) × (e.reference ≡ num b 0 4)
+              × ((m : ℕ) → moved_in (kind_of_code (slice_index b 8)) (num b 12 4) ≤ m → is_too_much e.body m ≡ false))
+              → AllByRecursion (IsOwed asked) (claim_said s.kind s.text ++ claims (drop (suc k) ss) aw (drop n ms))
+              → (x : Asked) × (find (is_of e.reference) asked ≡ Some x) × (is_too_much e.body x.bytes ≡ false)
+          by kinds.Attention kind code h all =
+              absurd (search (arith, h.1, ap (λ x. slice_index x 8) text ∙ (subst (λ x. IsRead x s.text) kind code).0))
+          by kinds.UtilitiesEnd kind code h all =
+              absurd (search (arith, sym h.0 ∙ (connection ∙ ap connection_told kind)))
+          by kinds.End kind code h all =
+              let mine = (subst (λ x. AllByRecursion (IsOwed asked)
+              (claim_said x s.text ++ claims (drop (suc k) ss) aw (drop n ms))) kind all).0 in (
+                mine.0,
+                ap (λ m. find (is_of m) asked) (h.2 ∙ ap (λ x. num x 0 4) text) ∙ mine.1,
+                h.3 mine.0.bytes (subst (λ x. moved_in (kind_of_code (slice_index x 8)) (num x 12 4) ≤ mine.0.bytes)
+                    (sym text) mine.2),
+              )
+
+  -- ---- what was told
+
+  tell_at : (left : ℕ) (told : List Packet) (gone : List Said) (k : ℕ) (packet : Packet) → TellAll left told gone
+      → slice_get told k ≡ Some packet → (s : Said) × (rest : ℕ) × (slice_get gone k ≡ Some s) × Tells rest packet s
+  tell_at left [] gone k packet t e = absurd (none-some packet e)
+  tell_at left (x ∷ told) [] k packet t e = absurd t
+  tell_at left (x ∷ told) (s ∷ gone) zero packet t e =
+      (s, left, refl, subst (λ y. Tells left y s) (same_Some x packet e) t.0)
+  tell_at left (x ∷ told) (s ∷ gone) (suc k) packet t e = tell_at (left_after left s.kind) told gone k packet t.1 e
+
+  first_part : (xs ys : List Said) (k : ℕ) (s : Said) → slice_get xs k ≡ Some s → slice_get (xs ++ ys) k ≡ Some s
+  first_part [] ys k s e = absurd (none-some s e)
+  first_part (x ∷ xs) ys zero s e = e
+  first_part (x ∷ xs) ys (suc k) s e = first_part xs ys k s e
+
+  size_of : (n : ℕ) → 0 + n % 256 * 1 + n / 256 % 256 * 256 ≡ n % 0x1_0000
+  size_of n = omega arith
+
+  few_credits : (left : ℕ) (kind : OutgoingKind) → credits_in left kind / 16 ≡ 0
+  few_credits left kinds.Attention = refl
+  few_credits left kinds.End = omega arith
+  few_credits left kinds.UtilitiesEnd = refl
+
+  record IsHeard (ss : List Said) (k : ℕ) (v : Envelope) (b : List ℕ) : Type 0 where
+    said : Said
+    at : slice_get ss k ≡ Some said
+    text : b ≡ said.text
+    connection : v.connection ≡ connection_told said.kind
+    size : v.length ≡ length said.text % 0x1_0000
+    kind : v.kind ≡ 0
+
+  hears_said : (p : Port K) (calls : List Call) (a : Answered picks start calls p) (k : ℕ) (v : Envelope) (b : List ℕ)
+      (packet : Packet) → AsksAlways calls → slice_get (talk_of picks start p calls a).told k ≡ Some packet
+      → IsPacket packet v b → IsHeard (all_said picks start p calls a) k v b
+  hears_said p calls a k v b packet asks at is =
+      let t = (tell hardware credits controller start p calls made asks a).0 in
+      let x = tell_at (credits - 1) (talk_of picks start p calls a).told t.0 k packet t.2 at in
+      record {
+        said = x.0;
+        at = ap (λ xs. slice_get xs k) (sym t.1) ∙ first_part t.0 (held p) k x.0 x.2;
+        text = is.text ∙ ap (drop 4) x.3.1;
+        connection = ap (λ (w : Envelope). w.connection) is.envelope
+            ∙ ap (λ bytes. (envelope_in bytes).connection) x.3.1;
+        size = ap (λ (w : Envelope). w.length) is.envelope ∙ ap (λ bytes. (envelope_in bytes).length) x.3.1
+            ∙ size_of (length x.0.text);
+        kind = ap (λ (w : Envelope). w.kind) is.envelope ∙ ap (λ bytes. (envelope_in bytes).kind) x.3.1
+            ∙ few_credits x.1 x.0.kind;
+      }
+
+  -- ---- lists of moments
+
+  answered_last : (old new : PortAccount) (h : PortHistory) (m : PortMoment) → PortAnswered old (h ++ m ∷ []) new
+      → (mid : PortAccount) × PortAnswered old h mid × PortAnswers mid m new
+  answered_last old new [] m r =
+      (old, refl, subst (λ x. PortAnswers old m x) (sym r.2) r.1)
+  answered_last old new (x ∷ h) m r =
+      let rest = answered_last r.0 new h m r.2 in (rest.0, (r.0, r.1, rest.1), rest.2)
+
+  heard_last : (h : PortHistory) (m : PortMoment)
+      → hearings (h ++ m ∷ []) ≡ cond (is_hearing m) (suc (hearings h)) (hearings h)
+  heard_last h m = ap length (filter-append is_hearing h (m ∷ []))
+      ∙ length-append (filter is_hearing h) (filter is_hearing (m ∷ []))
+      ∙ by (is_hearing m) (length (filter is_hearing h))
+    where
+      by : (b : Bool) (n : ℕ) → n + length (cond b (m ∷ []) []) ≡ cond b (suc n) n
+      by true n = omega arith
+      by false n = omega arith
+
+  sent_last : (h : PortHistory) (m : PortMoment) → sent (h ++ m ∷ []) ≡ sent h ++ sent_by m
+  sent_last h m = flat_map-append sent_by h (m ∷ []) ∙ ap (λ xs. sent h ++ xs) (append-nil (sent_by m))
+
+  same_numbers : (hist : History) (j : ℕ) (xs : List ℕ)
+      → map (λ (x : Asked). x.reference) (map (asked_at hist) xs)
+      ≡ map (λ (x : Rattle.mscp_host.specs.declared.submission.Submission.Submission). x.reference) (map
+      (submission_at hist j) xs)
+  same_numbers hist j [] = refl
+  same_numbers hist j (x ∷ xs) = ap (λ ys. Rattle.mscp_host.specs.Histories.reference hist x ∷ ys)
+      (same_numbers hist j xs)
+
+  numbered : (h : PortHistory) (host : PortAccount) → PortAnswered fresh_of_port h host → SameNumbers host
+  numbered h host r =
+      let k = history h host r in
+      let hist = map seen h in
+      ap (map (λ (x : Asked). x.reference)) k.asked
+      ∙ same_numbers hist (length hist) (outstanding hist (length h))
+      ∙ ap (λ j. map (λ x. x.reference) (map (submission_at hist (length hist)) (outstanding hist j)))
+      (sym (length-map h seen))
+      ∙ sym (ap (λ (x : Rattle.mscp_host.specs.Accounts.Account). map (λ s. s.reference) x.outstanding) k.host.keeps)
+
+  -- ---- each deed
+
+  -- the host did this
+  module _ (p : Port K) (calls : List Call) (a : Answered picks start calls p) (asks : AsksAlways calls)
+      (h : PortHistory) (mid new : PortAccount) (sane : SameNumbers mid) (i : State p calls a mid.asked h) where
+    abbrev Then : PortMoment → Type 0
+    Then m = State p calls a new.asked (h ++ m ∷ [])
+
+    as_last : (m : PortMoment) → Inv new.asked (all_said picks start p calls a)
+        (cond (is_hearing m) (suc (hearings h)) (hearings h)) (awaited picks start p calls a) (sent h ++ sent_by m)
+        (length (accepted picks start p calls a)) → Then m
+    as_last m x = subst (λ k. Inv new.asked (all_said picks start p calls a) k
+        (awaited picks start p calls a) (sent (h ++ m ∷ [])) (length (accepted picks start p calls a)))
+        (sym (heard_last h m))
+        (subst (λ ms. Inv new.asked (all_said picks start p calls a)
+        (cond (is_hearing m) (suc (hearings h)) (hearings h)) (awaited picks start p calls a) ms
+        (length (accepted picks start p calls a))) (sym (sent_last h m)) x)
+
+    still : new.asked ≡ mid.asked → Inv new.asked (all_said picks start p calls a) (hearings h)
+        (awaited picks start p calls a) (sent h ++ []) (length (accepted picks start p calls a))
+    still same = subst (λ xs. Inv xs (all_said picks start p calls a) (hearings h)
+        (awaited picks start p calls a) (sent h ++ []) (length (accepted picks start p calls a))) (sym same)
+        (subst (λ ms. Inv mid.asked (all_said picks start p calls a) (hearings h)
+        (awaited picks start p calls a) ms (length (accepted picks start p calls a))) (sym (append-nil (sent h))) i)
+
+    pub moment : (m : PortMoment) → HasNumber m → HearsInOrder m (talk_of picks start p calls a) (hearings h)
+        → PortAnswers mid m new → Then m
+    moment (Submit command (Ok message)) small joined r = as_last (Submit command (Ok message))
+        (by_message mid.asked (all_said picks start p calls a) (hearings h)
+        (awaited picks start p calls a) (sent h) (length (accepted picks start p calls a)) i mid new message.items refl
+        (submit_sends mid new command message small sane r))
+    moment (Submit command (Err fault)) small joined r = as_last (Submit command (Err fault))
+        (still (submit_refused mid new command fault r))
+    moment (Ask n (Ok (polls.Ask message))) small joined r = as_last (Ask n (Ok (polls.Ask message)))
+        (by_message mid.asked (all_said picks start p calls a) (hearings h)
+        (awaited picks start p calls a) (sent h) (length (accepted picks start p calls a)) i mid new message.items refl
+        (poll_sends mid new n small sane message r))
+    moment (Ask n (Ok polls.Nothing)) small joined r = as_last (Ask n (Ok polls.Nothing))
+        (still (poll_still mid new n small sane (Ok polls.Nothing) refl r))
+    moment (Ask n (Ok polls.Busy)) small joined r = as_last (Ask n (Ok polls.Busy))
+        (still (poll_still mid new n small sane (Ok polls.Busy) refl r))
+    moment (Ask n (Err fault)) small joined r = as_last (Ask n (Err fault))
+        (still (poll_still mid new n small sane (Err fault) refl r))
+    moment (Hear v b answer) small joined r =
+        let x = hears_said p calls a (hearings h) v b joined.0 asks joined.1 joined.2 in
+        as_last (Hear v b answer)
+        (subst (λ ms. Inv new.asked (all_said picks start p calls a) (suc (hearings h))
+        (awaited picks start p calls a) ms (length (accepted picks start p calls a))) (sym (append-nil (sent h)))
+        (by_hearing mid.asked (all_said picks start p calls a) (hearings h)
+        (awaited picks start p calls a) (sent h) (length (accepted picks start p calls a)) i x.said v b new.asked x.at
+        x.text x.connection (hear_settles mid new v b answer r)))
+    moment (Resume b) small joined r = as_last (Resume b)
+        (still (ap (λ (q : PortAccount). q.asked) (same_ok new mid (sym r.1 ∙ r.0.back))))
+    moment Other small joined r = as_last Other (still (ap (λ (q : PortAccount). q.asked) r))
+
+  -- and so it is after all deeds
+  pub owed : (p : Port K) (deeds : List Deed) → AsksAlways (calls_in deeds) → ReadsBytes (calls_in deeds)
+      → HaveNumbers deeds → (a : Answered picks start (calls_in deeds) p) → AreJoined picks start p deeds a
+      → is_dead p.stage ≡ false → (host : PortAccount) → PortAnswered fresh_of_port (did deeds) host
+      → State p (calls_in deeds) a host.asked (did deeds)
+  owed p [] asks small numbers a joined lives host r = record {
+    owes = record { known = tt; once = λ n. search arith };
+    heard = search arith;
+    read = search arith;
+    news = tt;
+  }
+  owed p (Called WriteIp ∷ deeds) asks small numbers a joined lives host r = record {
+    owes = record { known = tt; once = λ n. search arith };
+    heard = search arith;
+    read = search arith;
+    news = tt;
+  }
+  owed p (Called call ∷ deeds) asks small numbers a joined lives host r =
+      called p (calls_in deeds) host.asked (did deeds) call a asks small joined.0 (λ e. search (arith, e)) lives
+      (λ alive. owed a.0 deeds (asked_before call (calls_in deeds) asks) (reads_before call (calls_in deeds) small)
+      numbers a.1 joined.1 alive host r)
+  owed p (Did m ∷ deeds) asks small numbers a joined lives host r =
+      let x = answered_last fresh_of_port host (did deeds) m r in
+      moment p (calls_in deeds) a asks (did deeds) x.0 host (numbered (did deeds) x.0 x.1)
+      (owed p deeds asks small numbers.1 a joined.1 lives x.0 x.1) m numbers.0 joined.0 x.2
+
+  -- ---- the law
+
+  -- a dead port has told nothing
+  none_told : (p : Port K) (calls : List Call) (a : Answered picks start calls p) (k : ℕ) (packet : Packet)
+      → slice_get (talk_of picks start p calls a).told k ≡ Some packet → is_dead p.stage ≡ false
+  none_told p [] a k packet e = absurd (none-some packet e)
+  none_told p (call ∷ calls) a k packet e = by (is_dead p.stage) refl e
+    where
+      by : (b : Bool) → is_dead p.stage ≡ b
+          → slice_get (cond b Rattle.mscp_ported.specs.Talk.silence (Rattle.mscp_ported.specs.Talk.stepped a.0.stage
+          p.stage (Rattle.mscp_ported.specs.Talk.talk_by a.0.stage (Rattle.mscp_ported.specs.Talk.wish calls) call
+          (talk_of picks start a.0 calls a.1)))).told k ≡ Some packet → b ≡ false
+      by false is h = refl
+      by true is h = absurd (none-some packet h)
+
+  pub hears_own : (p : Port K) (deeds : List Deed) (old new : PortAccount) (v : Envelope) (b : List ℕ)
+      (answer : Result Heard HearFault) → AsksAlways (calls_in deeds) → ReadsBytes (calls_in deeds)
+      → HaveNumbers deeds → (a : Answered picks start (calls_in deeds) p)
+      → AreJoined picks start p (Did (Hear v b answer) ∷ deeds) a → PortAnswered fresh_of_port (did deeds) old
+      → PortAnswers old (Hear v b answer) new → HearsItsOwn old v b answer
+  hears_own p deeds old new v b answer asks small numbers a joined answered r =
+      let lives = none_told p (calls_in deeds) a (hearings (did deeds)) joined.0.0 joined.0.1 in
+      let i = owed p deeds asks small numbers a joined.1 lives old answered in
+      let x = hears_said p (calls_in deeds) a (hearings (did deeds)) v b joined.0.0 asks joined.0.1 joined.0.2 in
+      let own : (e : End) → message_in v b ≡ Ok (messages.End e)
+      → (y : Asked) × (find (is_of e.reference) old.asked ≡ Some y) × (is_too_much e.body y.bytes ≡ false) =
+      λ e h. heard_own old.asked (all_said picks start p (calls_in deeds) a)
+      (hearings (did deeds)) (awaited picks start p (calls_in deeds) a) (sent (did deeds))
+      (length (accepted picks start p (calls_in deeds) a)) i x.said v b e x.at x.text x.connection h in
+      let d = drop_at (hearings (did deeds)) (all_said picks start p (calls_in deeds) a) x.said
+      x.at in
+      let read : IsRead x.said.kind x.said.text = (subst (λ us. AllByRecursion IsCoded us) d.0 i.news).0 in
+      let message : IsMessage (message_in v b) = subst (λ t. IsMessage (message_in v t)) (sym x.text)
+      (message_read x.said.kind x.said.text v read
+      (x.size ∙ small_size (length x.said.text) (read_short x.said.kind x.said.text read))
+      (x.connection ∙ read_disk x.said.kind x.said.text read) x.kind) in
+      record {
+        ends = own;
+        refused = λ fault h. hears_refused old new v b message.0 fault message.1 (r ∙ ap (λ y. (y, new)) h);
+        moved = λ e asked h.
+            let m = hears_too_much old new v b e asked (r ∙ ap (λ y. (y, new)) h) in
+            let o = own m.0 m.2 in
+            not_both m.0 m.1 o.0 (same_Some m.1 o.0 (sym m.3 ∙ o.1)) m.4 o.2;
+      }
+    where
+      read_short : (kind : OutgoingKind) (t : List ℕ) → IsRead kind t → length t ≤ 64
+      read_short kinds.Attention t r = r.2
+      read_short kinds.End t r = r.short
+      read_short kinds.UtilitiesEnd t r = absurd r
+
+      read_disk : (kind : OutgoingKind) (t : List ℕ) → IsRead kind t → connection_told kind ≡ 0
+      read_disk kinds.Attention t r = refl
+      read_disk kinds.End t r = refl
+      read_disk kinds.UtilitiesEnd t r = absurd r
+
+      small_size : (n : ℕ) → n ≤ 64 → n % 0x1_0000 ≡ n
+      small_size n h = omega (arith, h)
+
+      not_both : (e : End) (x y : Asked) → x ≡ y → is_too_much e.body x.bytes ≡ true
+          → is_too_much e.body y.bytes ≡ false
+          → ⊥
+      not_both e x y same is not_so = search (arith, ap (λ z. is_too_much e.body z.bytes) same, is, not_so)

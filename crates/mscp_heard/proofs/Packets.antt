@@ -1,0 +1,253 @@
+-- What a host reads in a packet that a port told.
+use Rattle.std.proofs.Common.{◌≡◌, ◌∙◌, ◌+◌, ◌*◌, ◌<◌, ◌≤◌, ℕ, Bool, true, false, cond, length, min, nat_eq, nat_le, nat_lt, not, take, List, Option, None, Some, refl, ap, sym, subst, arith}
+use Rattle.std.specs.Prelude.{Result, Ok, Err, slice_index}
+use Rattle.std.specs.Prelude.{◌&&◌}
+use Rattle.std.proofs.lemmas.List.{take_all, get_or-take, length-take}
+use Rattle.mscp_packet.specs.Number.{num}
+use Rattle.mscp_packet.specs.Ends.{body_at, end_at, end_length, kind_of_code, reading_with}
+use Rattle.mscp_packet.specs.declared.end.BodyKind.{BodyKind}
+use Rattle.mscp_packet.specs.declared.end.BodyKind.TheVariants as bodykinds
+use Rattle.mscp_packet.specs.declared.end.End.{End}
+use Rattle.mscp_packet.specs.declared.reading.EndFault.TheVariants as endfaults
+use Rattle.mscp_host.specs.declared.envelope.Envelope.{Envelope}
+use Rattle.mscp_host.specs.declared.message.HearFault.{HearFault}
+use Rattle.mscp_host.specs.declared.message.HearFault.TheVariants as faults
+use Rattle.mscp_port.specs.declared.port.OutgoingKind.{OutgoingKind}
+use Rattle.mscp_port.specs.declared.port.OutgoingKind.TheVariants as kinds
+use Rattle.mscp_ported.specs.Awaited.{IsWhole}
+use Rattle.mscp_host.specs.declared.message.Message.{Message}
+use Rattle.mscp_host.specs.declared.message.Message.TheVariants as messages
+use Rattle.mscp_host.specs.Accounts.{end_in}
+use Rattle.mscp_host.specs.Messages.{any_end, bare_end, message_in, sequential_in, typed_in}
+use Rattle.mscp_host.specs.PortAccounts.{is_too_much}
+use Rattle.mscp_heard.proofs.Claims.{moved_in}
+
+-- an end in a text
+pub record IsEndIn (e : End) (t : List ℕ) : Type 0 where
+  pub long : 12 ≤ length t
+  pub top : 0x80 ≤ slice_index t 8
+  pub reference : e.reference ≡ num t 0 4
+  pub moved : (n : ℕ) → moved_in (kind_of_code (slice_index t 8)) (num t 12 4) ≤ n → is_too_much e.body n ≡ false
+  pub whole : kind_of_code (slice_index t 8) ≡ Some bodykinds.Moved → 32 ≤ length t
+
+abbrev message_or : Result Message HearFault → End → End
+message_or (Ok (messages.End e)) other = e
+message_or r other = other
+
+not_more : (n m : ℕ) → m ≤ n → nat_lt n m ≡ false
+not_more n m h = search (arith, h)
+
+not_less : (n m : ℕ) → nat_lt n m ≡ false → m ≤ n
+not_less n m h = search (arith, h)
+
+top_bit : (n : ℕ) → nat_le 0x80 n ≡ true → 0x80 ≤ n
+top_bit n h = search (arith, h)
+
+module _ (t : List ℕ) (e : End) (long : 12 ≤ length t) (top : 0x80 ≤ slice_index t 8) where
+  body_few : (k : BodyKind) (n : ℕ) → moved_in (Some k) (num t 12 4) ≤ n → is_too_much (body_at k t) n ≡ false
+  body_few bodykinds.Moved n h = not_more n (num t 12 4) h
+  body_few bodykinds.Bare n h = refl
+  body_few bodykinds.Abort n h = refl
+  body_few bodykinds.Status n h = refl
+  body_few bodykinds.UnitStatus n h = refl
+  body_few bodykinds.Controller n h = refl
+  body_few bodykinds.Online n h = refl
+
+  read_with : (k : Option BodyKind) → kind_of_code (slice_index t 8) ≡ k
+      → any_end t (reading_with k t) ≡ Ok (messages.End e) → IsEndIn e t
+  read_with None is h =
+      let same : bare_end t ≡ e = ap (λ r. message_or r e) h in
+      record {
+        long = long;
+        top = top;
+        reference = ap (λ (x : End). x.reference) (sym same);
+        moved = λ n few. subst (λ (x : End). is_too_much x.body n ≡ false) same refl;
+        whole = λ m. search (arith, sym is ∙ m);
+      }
+  read_with (Some k) is h = by (nat_lt (length t) (end_length k)) refl h
+    where
+      by : (b : Bool) → nat_lt (length t) (end_length k) ≡ b
+          → any_end t (cond b (Err endfaults.Length) (Ok (end_at k t))) ≡ Ok (messages.End e) → IsEndIn e t
+      by true is_short h = search (arith, h)
+      by false is_long h =
+          let same : end_at k t ≡ e = ap (λ r. message_or r e) h in
+          record {
+            long = long;
+            top = top;
+            reference = ap (λ (x : End). x.reference) (sym same);
+            moved = λ n few. subst (λ (x : End). is_too_much x.body n ≡ false) same
+                (body_few k n (subst (λ o. moved_in o (num t 12 4) ≤ n) is few));
+            whole = λ m. subst (λ (x : BodyKind). end_length x ≤ length t)
+                (Rattle.std.proofs.lemmas.Option.same_Some k bodykinds.Moved (sym is ∙ m))
+                (not_less (length t) (end_length k) is_long);
+          }
+
+  read_so : any_end t (end_in t) ≡ Ok (messages.End e) → IsEndIn e t
+  read_so h = by (nat_le 12 (length t)) (nat_le (length t) 64) h
+    where
+      by : (a b : Bool) → any_end t (cond (a && b) (reading_with (kind_of_code (slice_index t 8)) t)
+          (Err endfaults.Length)) ≡ Ok (messages.End e) → IsEndIn e t
+      by true true h = read_with (kind_of_code (slice_index t 8)) refl h
+      by true false h = search (arith, h)
+      by false b h = search (arith, h)
+
+sequential_so : (t : List ℕ) (e : End) → sequential_in t ≡ Ok (messages.End e) → IsEndIn e t
+sequential_so t e h = by (nat_lt (length t) 12) refl h
+  where
+    low : (b c : Bool) → (is : nat_le 0x80 (slice_index t 8) ≡ b) → 12 ≤ length t
+        → cond b (any_end t (end_in t)) (cond c (Ok (messages.Attention (slice_index t 8) (num t 4 2)))
+        (Err faults.Unreadable)) ≡ Ok (messages.End e) → IsEndIn e t
+    low true c is long h = read_so t e long (top_bit (slice_index t 8) is) h
+    low false true is long h = search (arith, h)
+    low false false is long h = search (arith, h)
+
+    by : (b : Bool) → nat_lt (length t) 12 ≡ b
+        → cond b (Err faults.Unreadable)
+        (cond (nat_le 0x80 (slice_index t 8)) (any_end t (end_in t))
+        (cond (nat_le 0x40 (slice_index t 8)) (Ok (messages.Attention (slice_index t 8) (num t 4 2)))
+        (Err faults.Unreadable))) ≡ Ok (messages.End e)
+        → IsEndIn e t
+    by true is h = search (arith, h)
+    by false is h = low (nat_le 0x80 (slice_index t 8)) (nat_le 0x40 (slice_index t 8)) refl
+        (not_less (length t) 12 is) h
+
+typed_so : (kind : ℕ) (t : List ℕ) (e : End) → typed_in kind t ≡ Ok (messages.End e) → IsEndIn e t
+typed_so kind t e h = by (nat_eq kind 0) (nat_eq kind 1) (nat_eq kind 2) h
+  where
+    by : (a b c : Bool) → cond a (sequential_in t) (cond b (Ok messages.Datagram) (cond c (Ok messages.Credits)
+        (Err faults.Kind))) ≡ Ok (messages.End e) → IsEndIn e t
+    by true b c h = sequential_so t e h
+    by false true c h = search (arith, h)
+    by false false true h = search (arith, h)
+    by false false false h = search (arith, h)
+
+taken_byte : (n : ℕ) (b : List ℕ) (i : ℕ) → i < length (take n b) → slice_index (take n b) i ≡ slice_index b i
+taken_byte n b i h = get_or-take n b i 0 (few (length (take n b)) n (length b) (length-take n b) h)
+  where
+    few : (x n m : ℕ) → x ≡ min n m → i < x → i < n
+    few x n m e h = search (arith, e, h)
+
+-- the text behind an envelope
+pub end_heard : (v : Envelope) (b : List ℕ) (e : End) → message_in v b ≡ Ok (messages.End e)
+    → (v.connection ≡ 0) × (0x80 ≤ slice_index b 8) × (e.reference ≡ num b 0 4)
+    × ((n : ℕ) → moved_in (kind_of_code (slice_index b 8)) (num b 12 4) ≤ n → is_too_much e.body n ≡ false)
+end_heard v b e h = by (nat_lt (length b) v.length) (nat_eq v.connection 0) refl h
+  where
+    t : List ℕ
+    t = take v.length b
+
+    so : IsEndIn e (take v.length b) → (v.connection ≡ 0) → (v.connection ≡ 0) × (0x80 ≤ slice_index b 8)
+        × (e.reference ≡ num b 0 4)
+        × ((n : ℕ) → moved_in (kind_of_code (slice_index b 8)) (num b 12 4) ≤ n → is_too_much e.body n ≡ false)
+    so x disk =
+        let at : (i : ℕ) → i < 12 → slice_index (take v.length b) i ≡ slice_index b i =
+        λ i low. taken_byte v.length b i (search (arith, low, x.long)) in
+        let code = at 8 (search arith) in
+        let number : num (take v.length b) 0 4 ≡ num b 0 4 =
+        ap (λ y. 0 + y * 1 + slice_index (take v.length b) 1 * 256 + slice_index (take v.length b) 2 * 65536
+        + slice_index (take v.length b) 3 * 16777216) (at 0 (search arith))
+        ∙ ap (λ y. 0 + slice_index b 0 * 1 + y * 256 + slice_index (take v.length b) 2 * 65536
+        + slice_index (take v.length b) 3 * 16777216) (at 1 (search arith))
+        ∙ ap (λ y. 0 + slice_index b 0 * 1 + slice_index b 1 * 256 + y * 65536
+        + slice_index (take v.length b) 3 * 16777216) (at 2 (search arith))
+        ∙ ap (λ y. 0 + slice_index b 0 * 1 + slice_index b 1 * 256 + slice_index b 2 * 65536 + y * 16777216)
+        (at 3 (search arith)) in (
+          disk,
+          subst (λ y. 0x80 ≤ y) code x.top,
+          x.reference ∙ number,
+          λ n few. x.moved n (counts (kind_of_code (slice_index (take v.length b) 8)) refl n
+              (subst (λ y. moved_in (kind_of_code y) (num b 12 4) ≤ n) (sym code) few)),
+        )
+      where
+        counts : (k : Option BodyKind) → kind_of_code (slice_index (take v.length b) 8) ≡ k → (n : ℕ)
+            → moved_in (kind_of_code (slice_index (take v.length b) 8)) (num b 12 4) ≤ n
+            → moved_in (kind_of_code (slice_index (take v.length b) 8)) (num (take v.length b) 12 4) ≤ n
+        counts (Some bodykinds.Moved) is n few =
+            let long = x.whole is in
+            let at : (i : ℕ) → i < 32 → slice_index (take v.length b) i ≡ slice_index b i =
+            λ i low. taken_byte v.length b i (search (arith, low, long)) in
+            let same : num (take v.length b) 12 4 ≡ num b 12 4 =
+            ap (λ y. 0 + y * 1 + slice_index (take v.length b) 13 * 256 + slice_index (take v.length b) 14 * 65536
+            + slice_index (take v.length b) 15 * 16777216) (at 12 (search arith))
+            ∙ ap (λ y. 0 + slice_index b 12 * 1 + y * 256 + slice_index (take v.length b) 14 * 65536
+            + slice_index (take v.length b) 15 * 16777216) (at 13 (search arith))
+            ∙ ap (λ y. 0 + slice_index b 12 * 1 + slice_index b 13 * 256 + y * 65536
+            + slice_index (take v.length b) 15 * 16777216) (at 14 (search arith))
+            ∙ ap (λ y. 0 + slice_index b 12 * 1 + slice_index b 13 * 256 + slice_index b 14 * 65536 + y * 16777216)
+            (at 15 (search arith)) in
+            subst (λ y. moved_in (kind_of_code (slice_index (take v.length b) 8)) y ≤ n) (sym same) few
+        counts k is n few = subst (λ o. moved_in o (num (take v.length b) 12 4) ≤ n) (sym is) (search arith)
+
+    by : (a c : Bool) → nat_eq v.connection 0 ≡ c
+        → cond a (Err faults.Cut)
+        (cond (not c) (Err faults.Connection)
+        (typed_in v.kind (take v.length b))) ≡ Ok (messages.End e)
+        → (v.connection ≡ 0) × (0x80 ≤ slice_index b 8) × (e.reference ≡ num b 0 4)
+        × ((n : ℕ) → moved_in (kind_of_code (slice_index b 8)) (num b 12 4) ≤ n → is_too_much e.body n ≡ false)
+    by true c is h = search (arith, h)
+    by false false is h = search (arith, h)
+    by false true is h = so (typed_so v.kind (take v.length b) e h)
+        (Rattle.mscp_port.proofs.Common.eqb-true v.connection 0 is)
+
+-- ---- what is read
+
+-- what a port tells of this kind is read as a message
+abbrev pub IsRead : OutgoingKind → List ℕ → Type 0
+IsRead kinds.Attention text = (slice_index text 8 ≡ 0x40) × (12 ≤ length text) × (length text ≤ 64)
+IsRead kinds.End text = IsWhole text
+IsRead kinds.UtilitiesEnd text = ⊥
+
+abbrev pub IsMessage : Result Message HearFault → Type 0
+IsMessage r = (m : Message) × (r ≡ Ok m)
+
+at_least : (n m : ℕ) → n ≤ m → nat_le n m ≡ true
+at_least n m h = search (arith, h)
+
+whole_so : (t : List ℕ) → IsWhole t → IsMessage (sequential_in t)
+whole_so t w =
+    subst (λ b. IsMessage (cond b (Err faults.Unreadable) (cond (nat_le 0x80 (slice_index t 8)) (any_end t (end_in t))
+    (cond (nat_le 0x40 (slice_index t 8)) (Ok (messages.Attention (slice_index t 8) (num t 4 2)))
+    (Err faults.Unreadable))))) (sym (not_more (length t) 12 w.long))
+    (subst (λ b. IsMessage (cond b (any_end t (end_in t))
+    (cond (nat_le 0x40 (slice_index t 8)) (Ok (messages.Attention (slice_index t 8) (num t 4 2)))
+    (Err faults.Unreadable)))) (sym (at_least 0x80 (slice_index t 8) w.top))
+    (subst (λ b. IsMessage (any_end t (cond (b && nat_le (length t) 64) (reading_with (kind_of_code
+    (slice_index t 8)) t)
+    (Err endfaults.Length)))) (sym (at_least 12 (length t) w.long))
+    (subst (λ b. IsMessage (any_end t (cond b (reading_with (kind_of_code (slice_index t 8)) t)
+    (Err endfaults.Length)))) (sym (at_least (length t) 64 w.short))
+    (by (kind_of_code (slice_index t 8)) refl))))
+  where
+    by : (k : Option BodyKind) → kind_of_code (slice_index t 8) ≡ k → IsMessage (any_end t (reading_with k t))
+    by None is = (messages.End (bare_end t), refl)
+    by (Some k) is = subst (λ b. IsMessage (any_end t (cond b (Err endfaults.Length) (Ok (end_at k t)))))
+        (sym (not_more (length t) (end_length k) (w.body k is))) (messages.End (end_at k t), refl)
+
+news_so : (t : List ℕ) → slice_index t 8 ≡ 0x40 → 12 ≤ length t → IsMessage (sequential_in t)
+news_so t code long =
+    subst (λ b. IsMessage (cond b (Err faults.Unreadable) (cond (nat_le 0x80 (slice_index t 8)) (any_end t (end_in t))
+    (cond (nat_le 0x40 (slice_index t 8)) (Ok (messages.Attention (slice_index t 8) (num t 4 2)))
+    (Err faults.Unreadable))))) (sym (not_more (length t) 12 long))
+    (subst (λ c. IsMessage (cond (nat_le 0x80 c) (any_end t (end_in t))
+    (cond (nat_le 0x40 c) (Ok (messages.Attention (slice_index t 8) (num t 4 2)))
+    (Err faults.Unreadable)))) (sym code) (messages.Attention (slice_index t 8) (num t 4 2), refl))
+
+sequential_read : (kind : OutgoingKind) (t : List ℕ) → IsRead kind t → IsMessage (sequential_in t)
+sequential_read kinds.Attention t r = news_so t r.0 r.1
+sequential_read kinds.End t r = whole_so t r
+sequential_read kinds.UtilitiesEnd t r = absurd r
+
+-- behind its envelope
+pub message_read : (kind : OutgoingKind) (t : List ℕ) (v : Envelope) → IsRead kind t → v.length ≡ length t
+    → v.connection ≡ 0 → v.kind ≡ 0 → IsMessage (message_in v t)
+message_read kind t v r size disk sequential =
+    subst (λ n. IsMessage (cond (nat_lt (length t) n) (Err faults.Cut)
+    (cond (not (nat_eq v.connection 0)) (Err faults.Connection) (typed_in v.kind (take n t))))) (sym size)
+    (subst (λ b. IsMessage (cond b (Err faults.Cut)
+    (cond (not (nat_eq v.connection 0)) (Err faults.Connection) (typed_in v.kind (take (length t) t)))))
+    (sym (not_more (length t) (length t) (search arith)))
+    (subst (λ n. IsMessage (cond (not (nat_eq n 0)) (Err faults.Connection) (typed_in v.kind (take (length t) t))))
+    (sym disk)
+    (subst (λ n. IsMessage (typed_in n (take (length t) t))) (sym sequential)
+    (subst (λ xs. IsMessage (sequential_in xs)) (sym (take_all (length t) t (search arith)))
+    (sequential_read kind t r)))))

@@ -1,0 +1,27 @@
+// What is true of each host of a port.
+
+ghost use Rattle.mscp_heard.specs.Hearing.{HostsHearTheirOwnEnds};
+
+use mscp_host::port_hosts_keep_their_history;
+use mscp_ported::{
+    ports_answer_as_they_may, ports_end_what_they_took, ports_hear_in_order,
+    ports_open_what_they_accept, ports_tell_in_order,
+};
+use mscp_queue::Picker;
+
+/// A host and a port, whose controller had nothing of the host's as the port was made. Whoever calls the port tells of actions
+/// only after they were wanted; the port reads the messages that the host sent, in order, and the host hears the packets that
+/// the port told, in order; and if IP is written the host is a new one. Then each end that the host hears has the number of a
+/// command that it sent, and whose end it hasn't heard; and no end counts more bytes than its command asked for: the host never
+/// says `MovedTooMuch`. What it refuses is such an end, as `Unknown`: no message is cut, unreadable, or of another connection or
+/// type.
+pub fn hosts_hear_their_own_ends<K: Picker>(picker: &K)
+    ensures { HostsHearTheirOwnEnds K.picks picker.now }
+{
+    ports_answer_as_they_may(picker);
+    ports_end_what_they_took(picker);
+    ports_hear_in_order(picker);
+    ports_open_what_they_accept(picker);
+    ports_tell_in_order(picker);
+    port_hosts_keep_their_history();
+}

@@ -1,0 +1,6 @@
+//! What a host hears through a port.
+#![tactic(auto)]
+
+mod law;
+
+pub use crate::law::hosts_hear_their_own_ends;

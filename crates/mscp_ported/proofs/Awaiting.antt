@@ -1,0 +1,261 @@
+-- What there is of each reference number after each call of a port.
+use Rattle.std.proofs.Common.{◌≡◌, ◌∙◌, ◌/◌, ◌%◌, ◌^◌, ◌<◌, ◌≤◌, ◌++◌, ◌∷◌, [], ℕ, Bool, true, false, cond, drop, filter, length, nat_eq, nat_lt, take, List, Option, None, Some, inl, inr, refl, ap, sym, subst, arith}
+use Rattle.std.specs.Prelude.{option_map, option_to_list, slice_index}
+use Rattle.std.specs.List.{AllByRecursion, list_any}
+use Rattle.std.proofs.lemmas.List.{append-nil}
+use Rattle.std.proofs.lemmas.List.Folds.{list_any-append}
+use Rattle.byteorder.specs.Endian.{little_bytes}
+use Rattle.mscp_packet.specs.Number.{num}
+use Rattle.mscp_packet.specs.Opcodes.{move_byte, opcode_of, opcodes, row_of}
+use Rattle.mscp_packet.specs.declared.class.Opcode.TheVariants as codes
+use Rattle.mscp_packet.specs.declared.command.MoveKind.{MoveKind}
+use Rattle.mscp_packet.specs.declared.command.MoveKind.TheVariants as kinds
+use Rattle.mscp_queue.proofs.Placed.{found_is}
+use Rattle.mscp_packet.specs.Commands.{order_with}
+use Rattle.mscp_packet.specs.declared.class.Opcode.{Opcode}
+use Rattle.mscp_packet.specs.declared.command.Command.{Command}
+use Rattle.mscp_packet.specs.declared.command.Order.{Order}
+use Rattle.mscp_packet.specs.declared.command.Order.TheVariants as orders
+use Rattle.mscp_packet.specs.declared.end.End.{End}
+unfoldable use Rattle.mscp_packet.specs.Commands.{command_of}
+use Rattle.mscp_drive.specs.Settings.{Settings}
+use Rattle.mscp_drive.specs.Shape.{Shape}
+use Rattle.mscp_drive.specs.declared.connection.Connection.TheVariants.{First}
+use Rattle.mscp_queue.specs.declared.name.Name.{Name}
+use Rattle.mscp_queue.specs.Names.{name_on}
+use Rattle.mscp_queue.specs.Records.{Record, aborted_record, fresh_record, name_of}
+use Rattle.mscp_queue.proofs.Named.{is_same, same_is}
+use Rattle.mscp_controller.specs.Arrival.{holds, refusal}
+use Rattle.mscp_controller.specs.Outcomes.{own_end_with}
+use Rattle.mscp_controller.specs.Holdings.{Holdings, balance_of, numbers_ended, outstanding_of, record_aborted, unaborted}
+use Rattle.mscp_port.specs.declared.port.Port.{Port}
+use Rattle.mscp_port.specs.Calls.{Dies}
+use Rattle.mscp_port.specs.Formalities.{is_formality, stand_in}
+use Rattle.mscp_port.specs.Histories.{Call}
+use Rattle.mscp_port.specs.Messages.{handed, next_unit, asks_for_next}
+use Rattle.mscp_port.proofs.Come.{none_waits, taken_number}
+use Rattle.mscp_port.proofs.Common.{eq-eqb, eqb-true, false≢true, or_parts}
+use Rattle.mscp_port.proofs.Kept.{is_numbered}
+use Rattle.mscp_ported.specs.Awaited.{bytes_in, is_transfer, has_number, taken_by, without_ends}
+use Rattle.mscp_ported.specs.Ends.{ends_said_by}
+use Rattle.mscp_ported.specs.Talk.{is_dead, since}
+use Rattle.mscp_ported.proofs.Coming.{ends_of}
+use Rattle.mscp_ported.proofs.Numbered.{At, AtEach, IsNothing, asked_by, counted_in, ends_numbered, some_none}
+use Rattle.mscp_ported.proofs.Numbering.{aborts, comes_ended, comes_waiting}
+use Rattle.mscp_ported.proofs.Sole.{none_passes}
+use Rattle.mscp_ported.proofs.Staying.{Stays}
+
+abbrev pub IsSmall : List ℕ → Type 0
+IsSmall t = num t 0 4 < 2 ^ 32
+
+pub record Kept {K : Type 0} (p : Port K) (aw : List (List ℕ)) : Type 0 where
+  pub each : AtEach aw p.controller.waiting (ends_of p.controller)
+  pub small : AllByRecursion IsSmall aw
+  pub dead : is_dead p.stage ≡ true → aw ≡ []
+
+-- a call is no write of IP
+pub record IsNoReset (call : Call) : Type 0 where
+  pub texts : (s : _) (xs ys : List (List ℕ)) → since s call xs ys ≡ cond (is_dead s) [] (xs ++ ys)
+
+pub nothing_kept : {K : Type 0} (p : Port K) → p.controller.waiting ≡ [] → ends_of p.controller ≡ [] → Kept p []
+nothing_kept p none no_end = record {
+  each = λ n. inl (refl, ap (filter (is_numbered n)) none, ap (filter (ends_numbered n)) no_end);
+  small = tt;
+  dead = λ d. refl;
+}
+
+-- ---- a message as it is handed over
+
+pub order_few : (o : Option Opcode) (b : List ℕ) → opcode_of (slice_index b 8) ≡ o
+    → asked_by (order_with o b) ≤ bytes_in b
+order_few None b e = omega arith
+order_few (Some (codes.Move kind)) b e =
+    let at : move_byte kind ≡ slice_index b 8 =
+    eqb-true (move_byte kind) (slice_index b 8)
+    (found_is (λ o. nat_eq (row_of o).byte (slice_index b 8)) opcodes (codes.Move kind) e) in
+    by (nat_lt (length b) 32)
+    (subst (λ n. asked_by (orders.Move kind (num b 12 4) 0) ≤ cond (is_transfer n) (num b 12 4) 0) at (moves kind))
+  where
+    moves : (kind : MoveKind) → num b 12 4 ≤ cond (is_transfer (move_byte kind)) (num b 12 4) 0
+    moves kinds.Access = omega arith
+    moves kinds.Erase = omega arith
+    moves kinds.Compare = omega arith
+    moves kinds.Read = omega arith
+    moves kinds.Write = omega arith
+
+    by : (c : Bool) → num b 12 4 ≤ bytes_in b
+        → asked_by (cond c (orders.Invalid (slice_index b 8) 0x0001) (orders.Move kind (num b 12 4) (num b 28 4)))
+        ≤ bytes_in b
+    by true h = omega arith
+    by false h = h
+order_few (Some o) b e = grind arith
+
+command_few : (b : List ℕ) → asked_by (command_of b).order ≤ bytes_in b
+unfolding command_of
+command_few b = order_few (opcode_of (slice_index b 8)) b refl
+
+-- it has the number, and asks for no more bytes
+pub record IsLikeIt (sent b : List ℕ) : Type 0 where
+  pub number : num sent 0 4 ≡ num b 0 4
+  pub bytes : asked_by (command_of sent).order ≤ bytes_in b
+
+stood_in : (b : List ℕ) → 12 ≤ length b → IsLikeIt (stand_in b) b
+unfolding command_of
+stood_in (a ∷ b ∷ c ∷ d ∷ e ∷ f ∷ g ∷ h ∷ rest) long =
+    record { number = refl; bytes = omega arith }
+stood_in b long = search (arith, long)
+
+named_next : (b : List ℕ) (n : ℕ) → 12 ≤ length b → IsLikeIt (take 4 b ++ little_bytes 2 n ++ drop 6 b) b
+named_next (a ∷ b ∷ c ∷ d ∷ e ∷ f ∷ g ∷ h ∷ i ∷ j ∷ k ∷ l ∷ rest) n long = record {
+  number = refl;
+  bytes = command_few (a ∷ b ∷ c ∷ d ∷ (n % 256) ∷ (n / 256 % 256) ∷ g ∷ h ∷ i ∷ j ∷ k ∷ l ∷ rest);
+}
+named_next b n long = search (arith, long)
+
+pub handed_like : (units : List Shape) (b : List ℕ) → 12 ≤ length b → IsLikeIt (handed units b) b
+handed_like units b long = by (is_formality (slice_index b 8)) (asks_for_next b)
+  where
+    itself : IsLikeIt b b
+    itself = record { number = refl; bytes = command_few b }
+
+    by : (x y : Bool) → IsLikeIt (cond x (stand_in b)
+        (cond y (take 4 b ++ little_bytes 2 (next_unit units (num b 4 2)) ++ drop 6 b) b)) b
+    by true y = stood_in b long
+    by false true = named_next b (next_unit units (num b 4 2)) long
+    by false false = itself
+
+-- ---- its number is new
+
+none_ended : (n : ℕ) (es : List End) → list_any (λ x. nat_eq x n) (numbers_ended es) ≡ false
+    → filter (ends_numbered n) es ≡ []
+none_ended n [] e = refl
+none_ended n (x ∷ es) e =
+    let o = or_parts (nat_eq x.reference n) (list_any (λ y. nat_eq y n) (numbers_ended es)) e in
+    ap (λ c. cond c (x ∷ filter (ends_numbered n) es) (filter (ends_numbered n) es)) o.0 ∙ none_ended n es o.1
+
+nothing_of : (aw : List (List ℕ)) (rs : List Record) (es : List End) (n : ℕ) → filter (is_numbered n) rs ≡ []
+    → filter (ends_numbered n) es ≡ [] → At aw rs es n → IsNothing aw rs es n
+nothing_of aw rs es n none no_end (inl x) = x
+nothing_of aw rs es n none no_end (inr (inl w)) = absurd (some_none w.own [] (sym w.sole ∙ none))
+nothing_of aw rs es n none no_end (inr (inr x)) = absurd (some_none x.end [] (sym x.sole ∙ no_end))
+
+nothing_by : (aw : List (List ℕ)) (rs : List Record) (es : List End) (n : ℕ) → filter (has_number n) aw ≡ []
+    → At aw rs es n → IsNothing aw rs es n
+nothing_by aw rs es n none (inl x) = x
+nothing_by aw rs es n none (inr (inl w)) = absurd (some_none w.text [] (sym w.message ∙ none))
+nothing_by aw rs es n none (inr (inr x)) = absurd (some_none x.text [] (sym x.message ∙ none))
+
+-- ---- an end that is answered at once
+
+pub own_number : (c : Settings) (online : Bool) (figure : ℕ) (command : Command) (o : Option ℕ)
+    → (own_end_with c online figure command o).reference ≡ command.reference
+own_number c online figure command o = grind arith
+
+pub own_bytes : (c : Settings) (online : Bool) (figure : ℕ) (command : Command) (o : Option ℕ)
+    → counted_in (own_end_with c online figure command o).body ≡ 0
+own_bytes c online figure command o = grind arith
+
+-- ---- a message
+
+module _ {K : Type 0} (h : Holdings K) (aw : List (List ℕ)) (bytes sent : List ℕ) (long : 12 ≤ length bytes)
+    (like : IsLikeIt sent bytes) (new : refusal (balance_of First h) (outstanding_of First h) sent ≡ None)
+    (at : AtEach aw h.waiting (ends_of h)) where
+  abbrev number : ℕ
+  number = num bytes 0 4
+
+  holds_not : holds (outstanding_of First h) number ≡ false
+  holds_not = ap (holds (outstanding_of First h)) (sym like.number)
+      ∙ (taken_number (balance_of First h) (outstanding_of First h) sent new).1
+
+  nothing_there : IsNothing aw h.waiting (ends_of h) number
+  nothing_there = nothing_of aw h.waiting (ends_of h) number
+      (none_passes (is_numbered number) h.waiting (none_waits h number holds_not))
+      (none_ended number (ends_of h) (search (arith, list_any-append, or_parts, holds_not))) (at number)
+
+  is_it : (r : Record) → r.connection ≡ First → r.command.reference ≡ number → is_numbered number r ≡ true
+  is_it r first named = search (
+    arith,
+    is_same (name_of r) (name_on First number)
+        (search (arith, first, named)),
+  )
+
+  others : (r : Record) → r.command.reference ≡ number → (n : ℕ) → nat_eq number n ≡ false → is_numbered n r ≡ false
+  others r named n d = by (is_numbered n r) refl
+    where
+      by : (c : Bool) → is_numbered n r ≡ c → c ≡ false
+      by false e = refl
+      by true e = absurd (false≢true (sym d ∙ eq-eqb number n (sym named
+          ∙ ap (λ (x : Name). x.reference) (same_is (name_of r) (name_on First n) e))))
+
+  pub queued_so : AtEach (aw ++ bytes ∷ []) (h.waiting ++ fresh_record First (command_of sent) ∷ []) (ends_of h)
+  unfolding command_of
+  queued_so = comes_waiting aw h.waiting (ends_of h) bytes (fresh_record First (command_of sent)) nothing_there
+      (is_it (fresh_record First (command_of sent)) refl like.number)
+      (others (fresh_record First (command_of sent)) like.number)
+      like.bytes at
+
+  aborted_so : (order : Order) → AtEach aw (unaborted First h.waiting order)
+      (ends_of h ++ option_to_list (option_map aborted_record (record_aborted First h.waiting order)))
+  aborted_so (orders.Abort m) = aborts aw h.waiting (ends_of h) m at
+  aborted_so order = subst (λ es. AtEach aw h.waiting es) (sym (append-nil (ends_of h))) at
+
+  pub answered_so : (e : End) → e.reference ≡ number → counted_in e.body ≡ 0 → (order : Order)
+      → AtEach (aw ++ bytes ∷ []) (unaborted First h.waiting order)
+      ((ends_of h ++ option_to_list (option_map aborted_record (record_aborted First h.waiting order))) ++ e ∷ [])
+  answered_so e named none order = comes_ended aw (unaborted First h.waiting order)
+      (ends_of h ++ option_to_list (option_map aborted_record (record_aborted First h.waiting order))) bytes e
+      (nothing_by aw (unaborted First h.waiting order)
+      (ends_of h ++ option_to_list (option_map aborted_record (record_aborted First h.waiting order))) number
+      nothing_there.0 (aborted_so order number)) named (search (arith, none)) (aborted_so order)
+
+-- ---- each call
+
+module _ {K : Type 0} (call : Call) (old new : Port K) (aw : List (List ℕ)) (k : Kept old aw)
+    (calm : IsNoReset call) where
+  abbrev So : Type 0
+  So = Kept new (since new.stage call (without_ends (ends_said_by call old new) aw) (taken_by call old))
+
+  pub became : (xs : List (List ℕ))
+      → since new.stage call (without_ends (ends_said_by call old new) aw) (taken_by call old) ≡ xs → Kept new xs → So
+  became xs e x = subst (λ z. Kept new z) (sym e) x
+
+  pub dies_so : Dies old new → So
+  dies_so d = became [] (calm.texts new.stage (without_ends (ends_said_by call old new) aw) (taken_by call old)
+      ∙ ap (λ b. cond b [] (without_ends (ends_said_by call old new) aw ++ taken_by call old)) (ap is_dead d.1.stage))
+      (nothing_kept new (ap (λ (h : Holdings K). h.waiting) d.1.controller)
+      (ap (λ (h : Holdings K). ends_of h) d.1.controller))
+
+  -- neither ends nor messages change
+  pub same_so : ends_said_by call old new ≡ [] → taken_by call old ≡ []
+      → new.controller.waiting ≡ old.controller.waiting → ends_of new.controller ≡ ends_of old.controller
+      → (is_dead new.stage ≡ true → is_dead old.stage ≡ true) → So
+  same_so said taken waiting ends dead = became aw (by (is_dead new.stage) refl) (record {
+    each = subst (λ rs. AtEach aw rs (ends_of new.controller)) (sym waiting)
+        (subst (λ es. AtEach aw old.controller.waiting es) (sym ends) k.each);
+    small = k.small;
+    dead = λ d. k.dead (dead d);
+  })
+    where
+      by : (b : Bool) → is_dead new.stage ≡ b
+          → since new.stage call (without_ends (ends_said_by call old new) aw) (taken_by call old) ≡ aw
+      by true is = calm.texts new.stage _ _
+          ∙ ap (λ b. cond b [] (without_ends (ends_said_by call old new) aw ++ taken_by call old)) is
+          ∙ sym (k.dead (dead is))
+      by false is = calm.texts new.stage _ _
+          ∙ ap (λ b. cond b [] (without_ends (ends_said_by call old new) aw ++ taken_by call old)) is
+          ∙ ap (λ xs. without_ends xs aw ++ taken_by call old) said ∙ ap (λ xs. aw ++ xs) taken ∙ append-nil aw
+
+  -- while there is no fatal error
+  pub lives_so : (xs : List (List ℕ)) → is_dead new.stage ≡ false
+      → without_ends (ends_said_by call old new) aw ++ taken_by call old ≡ xs
+      → AtEach xs new.controller.waiting (ends_of new.controller) → AllByRecursion IsSmall xs → So
+  lives_so xs alive e at small = became xs (calm.texts new.stage _ _
+      ∙ ap (λ b. cond b [] (without_ends (ends_said_by call old new) aw ++ taken_by call old)) alive ∙ e)
+      (record { each = at; small = small; dead = λ d. search (arith, d, alive) })
+
+  pub stays_so : ends_said_by call old new ≡ [] → taken_by call old ≡ [] → Stays old new → So
+  stays_so said taken either = elim either [
+    | inl same ↦ same_so said taken (ap (λ (h : Holdings K). h.waiting) same.0)
+        (ap (λ (h : Holdings K). ends_of h) same.0) same.3
+    | inr d ↦ dies_so d
+  ]

@@ -1,0 +1,400 @@
+-- What each call of a port deals with.
+use Rattle.mscp_port.specs.Leaving.{attention}
+use Rattle.mscp_port.specs.Volumes.{volume_at}
+use Rattle.std.proofs.Common.{◌≡◌, ◌≢◌, ◌⊎◌, ◌∙◌, ◌^◌, ◌<◌, ◌≤◌, ◌&&◌, ◌++◌, ◌∷◌, [], ℕ, Bool, true, false, cond, drop, filter, not, List, Option, None, Some, inl, inr, refl, ap, sym, subst, arith}
+use Rattle.std.specs.Prelude.{Result, Ok, Err, find, is_none, is_ok, option_map, slice_get, slice_index}
+use Rattle.std.specs.List.{AllByRecursion}
+use Rattle.std.proofs.lemmas.List.{append-nil}
+use Rattle.std.proofs.lemmas.Option.{none-some, same_Some}
+use Rattle.mscp_packet.specs.Number.{num}
+use Rattle.mscp_packet.specs.Ends.{IsOfKind, end_bytes}
+use Rattle.mscp_packet.specs.declared.end.End.{End}
+use Rattle.mscp_drive.specs.Shape.{Shape}
+use Rattle.mscp_drive.specs.declared.connection.Connection.TheVariants.{First}
+use Rattle.mscp_queue.proofs.Lists.{every_kept}
+use Rattle.mscp_controller.specs.Holdings.{Holdings, answer_to_message}
+use Rattle.mscp_controller.specs.declared.entry.SendFault.{SendFault}
+use Rattle.mscp_controller.specs.declared.entry.Sent.{Sent}
+use Rattle.mscp_port.specs.declared.action.Action.{Action}
+use Rattle.mscp_port.specs.declared.action.Outcome.{Outcome}
+use Rattle.mscp_port.specs.declared.port.Outgoing.{Outgoing}
+use Rattle.mscp_port.specs.declared.port.OutgoingKind.TheVariants as kinds
+use Rattle.mscp_port.specs.declared.port.Port.{Port}
+use Rattle.mscp_port.specs.declared.slot.Descriptor.{Descriptor}
+use Rattle.mscp_port.specs.declared.task.Task.{Task}
+use Rattle.mscp_port.specs.declared.task.Task.TheVariants as tasks
+use Rattle.mscp_port.specs.declared.volumes.Volume.{Volume}
+use Rattle.mscp_port.specs.Calls.{Hears, Wants}
+use Rattle.mscp_port.specs.Departures.{begins}
+use Rattle.mscp_port.specs.Histories.{Becomes, Call, Picking, WriteIp, ReadIp, WriteSa, Next, PutAside, WasRead, Went, LookAgain, Tick, VolumeCame, VolumeWent, Protect}
+use Rattle.mscp_port.specs.Leaving.{told_end}
+use Rattle.mscp_port.specs.Messages.{own_end_of}
+use Rattle.mscp_port.specs.Outgoings.{IsNews as TellsOf, MayBegin, TakesEnd, news_place}
+use Rattle.mscp_port.specs.Seen.{SeesText, answered_to}
+use Rattle.mscp_port.proofs.Common.{false≢true}
+use Rattle.mscp_port.proofs.Loads.{looks_or_not}
+use Rattle.mscp_port.proofs.Said.{none_or_some}
+use Rattle.mscp_ported.specs.Answers.{own_answer, volume_named}
+use Rattle.mscp_ported.specs.Awaited.{bytes_in, Deals, IsEnding, has_number, is_taken_text, taken_by, without_ends}
+use Rattle.mscp_ported.specs.Ends.{ends_begun}
+use Rattle.mscp_ported.specs.Talk.{is_dead, since}
+use Rattle.mscp_ported.specs.Told.{accepted_by, accepted_text, accepts}
+use Rattle.mscp_ported.proofs.Answering.{handed_so, none_so, own_so}
+use Rattle.mscp_ported.proofs.Awaiting.{IsNoReset, IsSmall, Kept, lives_so, same_so}
+use Rattle.mscp_ported.proofs.Coming.{ends_of}
+use Rattle.mscp_ported.proofs.Decided.{passive_said}
+use Rattle.mscp_ported.proofs.Numbered.{AtEach, counted_in, end_awaited, takes_end}
+use Rattle.mscp_ported.proofs.Owning.{and_false}
+use Rattle.mscp_ported.proofs.Staying.{IsPassive}
+use Rattle.mscp_ported.proofs.Wanting.{alive_or_dead}
+use Rattle.mscp_ported.proofs.Whole.{told_counts, told_number, told_whole}
+
+-- ---- what goes out
+
+begins_same : (o q : Option Outgoing) → (q ≡ o) ⊎ (q ≡ None) → begins o q ≡ []
+begins_same None q (inl e) = ap (begins None) e
+begins_same None q (inr e) = ap (begins None) e
+begins_same (Some x) q either = refl
+
+passive_out : {K : Type 0} (picks : Picking K) (call : Call) (old new : Port K) → Becomes picks call old new
+    → IsPassive call → (new.outgoing ≡ old.outgoing) ⊎ (new.outgoing ≡ None)
+passive_out picks WriteIp old new r is = absurd is
+passive_out picks (Next blocks action bytes) old new r is = absurd is
+passive_out picks (WasRead bytes (Ok done)) old new r is = absurd is
+passive_out picks (Went outcome (Ok done)) old new r is = absurd is
+passive_out {K} picks ReadIp old new r is = elim r.frame
+    [ inl e ↦ inl (ap (λ (p : Port K). p.outgoing) e) | inr dead ↦ inr dead.1.outgoing ]
+passive_out {K} picks (WriteSa word) old new r is = elim r.frame
+    [ inl e ↦ inl (ap (λ (p : Port K). p.outgoing) e) | inr dead ↦ inr dead.1.outgoing ]
+passive_out {K} picks PutAside old new r is = inl (ap (λ (p : Port K). p.outgoing) r)
+passive_out {K} picks (WasRead bytes (Err unasked)) old new r is = inl (ap (λ (p : Port K). p.outgoing) r.unasked)
+passive_out {K} picks (Went outcome (Err unasked)) old new r is = inl (ap (λ (p : Port K). p.outgoing) r.unasked)
+passive_out {K} picks LookAgain old new r is = inl (ap (λ (p : Port K). p.outgoing) r)
+passive_out {K} picks Tick old new r is = elim r.either
+    [ inl e ↦ inl (ap (λ (p : Port K). p.outgoing) e) | inr dead ↦ inr dead.outgoing ]
+passive_out {K} picks (VolumeCame m unit (Ok done)) old new r is = inl (ap (λ (p : Port K). p.outgoing) (r.came refl))
+passive_out {K} picks (VolumeCame m unit (Err fault)) old new r is = inl (ap (λ (p : Port K). p.outgoing) r.refused)
+passive_out {K} picks (VolumeWent unit result) old new r is = inl (ap (λ (p : Port K). p.outgoing) r.frame)
+passive_out {K} picks (Protect protected unit result) old new r is = inl (ap (λ (p : Port K). p.outgoing) r.frame)
+
+passive_accepted : {K : Type 0} (call : Call) (old : Port K) → IsPassive call → accepted_by call old ≡ []
+passive_accepted (WasRead bytes (Ok done)) old is = absurd is
+passive_accepted (WasRead bytes (Err unasked)) old is = refl
+passive_accepted call old is = refl
+
+pub passive_taken : {K : Type 0} (call : Call) (old : Port K) → IsPassive call → taken_by call old ≡ []
+passive_taken (WasRead bytes (Ok done)) old is = absurd is
+passive_taken (WasRead bytes (Err unasked)) old is = refl
+passive_taken call old is = refl
+
+pub passive_deals : {K : Type 0} (picks : Picking K) (call : Call) (old new : Port K) (aw : List (List ℕ))
+    → Becomes picks call old new → IsPassive call → Deals aw call old new
+passive_deals picks call old new aw r is = inl (record {
+  begun = begins_same old.outgoing new.outgoing (passive_out picks call old new r is);
+  accepted = passive_accepted call old is;
+  taken = passive_taken call old is;
+  ended = passive_said call old new is;
+})
+
+pub went_deals : {K : Type 0} (picks : Picking K) (outcome : Outcome) (done : Unit) (old new : Port K)
+    (aw : List (List ℕ)) → Becomes picks (Went outcome (Ok done)) old new → Deals aw (Went outcome (Ok done)) old new
+went_deals picks outcome done old new aw r = inl (record {
+  begun = begins_same old.outgoing new.outgoing (elim r.out [
+    | inl e ↦ inl e
+    | inr more ↦ elim more [ inl x ↦ inr x.out | inr dead ↦ inr dead.1.outgoing ]
+  ]);
+  accepted = refl;
+  taken = refl;
+  ended = refl;
+})
+
+-- ---- a message
+
+module _ {K : Type 0} (bytes : List ℕ) (done : Unit) (old new : Port K) (aw : List (List ℕ))
+    (r : Hears bytes old (Ok done) new) (lives : is_dead new.stage ≡ false) where
+  abbrev Said_so : Type 0
+  Said_so = Deals aw (WasRead bytes (Ok done)) old new
+
+  quiet : begins old.outgoing new.outgoing ≡ [] → accepted_by (WasRead bytes (Ok done)) old ≡ []
+      → taken_by (WasRead bytes (Ok done)) old ≡ [] → Said_so
+  quiet a b c = inl (record { begun = a; accepted = b; taken = c; ended = refl })
+
+  not_text : (t : Task) → old.task ≡ t → accepted_text old t bytes ≡ [] → is_taken_text old bytes t ≡ false
+      → (Rattle.mscp_port.specs.Ports.IsReadingText t → ⊥) → Said_so
+  not_text t at none_accepted none_taken never = quiet (elim r.out [
+    | inl e ↦ begins_same old.outgoing new.outgoing (inl e)
+    | inr more ↦ elim more [
+      | inl x ↦ absurd (never (subst (λ y. Rattle.mscp_port.specs.Ports.IsReadingText y) (sym x.3 ∙ at) tt))
+      | inr dead ↦ begins_same old.outgoing new.outgoing (inr dead.1.outgoing)
+    ]
+  ]) (ap (λ x. accepted_text old x bytes) at ∙ none_accepted)
+      (ap (λ x. cond (is_taken_text old bytes x) (bytes ∷ []) []) at ∙ ap (λ b. cond b (bytes ∷ []) []) none_taken)
+
+  module _ (slot : Descriptor) (size : ℕ) (foreign : Bool) (at : old.task ≡ tasks.Text slot size foreign) where
+    sees : SeesText slot foreign bytes old new
+    sees = (r.sees refl).text slot size foreign at
+
+    accepted_is : accepted_by (WasRead bytes (Ok done)) old
+        ≡ cond (accepts (own_end_of old foreign bytes) old.outgoing (answered_to old bytes)) (bytes ∷ []) []
+    accepted_is = ap (λ t. accepted_text old t bytes) at
+
+    taken_is : taken_by (WasRead bytes (Ok done)) old
+        ≡ cond (is_none (own_answer foreign (volume_named old bytes) bytes) && is_ok (answered_to old bytes))
+        (bytes ∷ []) []
+    taken_is = ap (λ t. cond (is_taken_text old bytes t) (bytes ∷ []) []) at
+        ∙ ap (λ b. cond (is_none (own_answer foreign (volume_named old bytes) bytes)
+        && is_ok (answer_to_message First old.controller b)) (bytes ∷ []) [])
+        (sym (handed_so old.controller.settings.units bytes))
+
+    own_taken : (e : End) → own_end_of old foreign bytes ≡ Some e → taken_by (WasRead bytes (Ok done)) old ≡ []
+    own_taken e own =
+        let o = own_so foreign (volume_named old bytes) bytes e own in
+        taken_is ∙ ap (λ b. cond (is_none b && is_ok (answered_to old bytes)) (bytes ∷ []) []) o.1
+
+    own_deals : (e : End) → own_end_of old foreign bytes ≡ Some e → (o : Option Outgoing) → old.outgoing ≡ o → Said_so
+    own_deals e own None none =
+        let some : own_end_of old foreign bytes ≢ None = λ x. none-some e (sym x ∙ own) in
+        outs new.outgoing refl (subst (λ q. Rattle.std.specs.Prelude.IsSomeAnd q (λ x.
+        Rattle.std.specs.Prelude.IsSomeAnd new.outgoing (λ y. (y.bytes.items ≡ end_bytes x)
+        × (y.kind ≡ Rattle.mscp_port.specs.Packets.end_kind foreign)))) own (sees.own some none).1.out)
+      where
+        outs : (q : Option Outgoing) → new.outgoing ≡ q
+            → Rattle.std.specs.Prelude.IsSomeAnd q (λ y. (y.bytes.items ≡ end_bytes e)
+            × (y.kind ≡ Rattle.mscp_port.specs.Packets.end_kind foreign)) → Said_so
+        outs None is h = absurd h
+        outs (Some o) is h = inr (inr (inr (inr (record {
+          message = bytes;
+          read = (done, refl);
+          out = o;
+          nothing = none;
+          begun = is;
+          accepted = accepted_is ∙ ap (λ x. cond (accepts x old.outgoing (answered_to old bytes)) (bytes ∷ []) []) own
+              ∙ ap (λ x. cond (accepts (Some e) x (answered_to old bytes)) (bytes ∷ []) []) none;
+          taken = own_taken e own;
+          ended = refl;
+        }))))
+    own_deals e own (Some x) some =
+        let is : own_end_of old foreign bytes ≢ None = λ n. none-some e (sym n ∙ own) in
+        let same = sees.own_waits is (λ n. none-some x (sym n ∙ some)) in
+        quiet (begins_same old.outgoing new.outgoing (inl (ap (λ (q : Port K). q.outgoing) same)))
+        (accepted_is ∙ ap (λ y. cond (accepts y old.outgoing (answered_to old bytes)) (bytes ∷ []) []) own
+        ∙ ap (λ y. cond (accepts (Some e) y (answered_to old bytes)) (bytes ∷ []) []) some) (own_taken e own)
+
+    handed_deals : own_end_of old foreign bytes ≡ None → (a : Result Sent SendFault) → answered_to old bytes ≡ a
+        → Said_so
+    handed_deals none (Ok s) answer = inr (inr (inr (inl (record {
+      message = bytes;
+      read = (done, refl);
+      begun = begins_same old.outgoing new.outgoing (inl (ap (λ (q : Port K). q.outgoing)
+          (sees.sent s none answer).frame
+          ∙ heeded_out s));
+      accepted = accepted_is ∙ ap (λ x. cond (accepts x old.outgoing (answered_to old bytes)) (bytes ∷ []) []) none
+          ∙ ap (λ x. cond (accepts None old.outgoing x) (bytes ∷ []) []) answer;
+      taken = taken_is ∙ ap (λ x. cond (is_none x && is_ok (answered_to old bytes)) (bytes ∷ []) [])
+          (none_so foreign (volume_named old bytes) bytes none) ∙ ap (λ x. cond (is_ok x) (bytes ∷ []) []) answer;
+      ended = refl;
+    }))))
+      where
+        heeded_out : (s : Sent) → (Rattle.mscp_port.specs.Seen.heeded s bytes
+            (Rattle.mscp_port.specs.Seen.heard old)).outgoing ≡ old.outgoing
+        heeded_out s = grind arith
+    handed_deals none (Err fault) answer = quiet
+        (begins_same old.outgoing new.outgoing (inl (ap (λ (q : Port K). q.outgoing) (sees.waits fault none answer))))
+        (accepted_is ∙ ap (λ x. cond (accepts x old.outgoing (answered_to old bytes)) (bytes ∷ []) []) none
+        ∙ ap (λ x. cond (accepts None old.outgoing x) (bytes ∷ []) []) answer)
+        (taken_is ∙ ap (λ x. cond x (bytes ∷ []) []) (and_false (is_none (own_answer foreign (volume_named old bytes)
+        bytes)) (is_ok (answered_to old bytes)) (ap is_ok answer)))
+
+    text_deals : Said_so
+    text_deals = elim (none_or_some (own_end_of old foreign bytes)) [
+      | inl none ↦ handed_deals none (answered_to old bytes) refl
+      | inr own ↦ own_deals own.0 own.1 old.outgoing refl
+    ]
+
+  pub read_deals : Said_so
+  read_deals = by old.task refl
+    where
+      by : (t : Task) → old.task ≡ t → Said_so
+      by (tasks.Text slot size foreign) at = text_deals slot size foreign at
+      by tasks.Free at = not_text tasks.Free at refl refl (λ x. x)
+      by tasks.Settle at = not_text tasks.Settle at refl refl (λ x. x)
+      by (tasks.Clear n) at = not_text (tasks.Clear n) at refl refl (λ x. x)
+      by (tasks.Slot side) at = not_text (tasks.Slot side) at refl refl (λ x. x)
+      by (tasks.Header s) at = not_text (tasks.Header s) at refl refl (λ x. x)
+      by (tasks.Packet s) at = not_text (tasks.Packet s) at refl refl (λ x. x)
+      by (tasks.Return side s) at = not_text (tasks.Return side s) at refl refl (λ x. x)
+      by (tasks.Neighbour side) at = not_text (tasks.Neighbour side) at refl refl (λ x. x)
+      by (tasks.Word side) at = not_text (tasks.Word side) at refl refl (λ x. x)
+      by tasks.Interrupt at = not_text tasks.Interrupt at refl refl (λ x. x)
+      by (tasks.Step v) at = not_text (tasks.Step v) at refl refl (λ x. x)
+      by tasks.Transfer at = not_text tasks.Transfer at refl refl (λ x. x)
+
+-- ---- something is wanted
+
+one_of : {X : Type 0} (P : X → Type 0) (f : X → Bool) (xs : List X) (x : X) → AllByRecursion P xs
+    → filter f xs ≡ x ∷ [] → P x × (f x ≡ true)
+one_of P f [] x all e = search (arith, e)
+one_of {X} P f (y ∷ ys) x all e = by (f y) refl e (λ h. one_of P f ys x all.1 h)
+  where
+    by : (c : Bool) → f y ≡ c → cond c (y ∷ filter f ys) (filter f ys) ≡ x ∷ []
+        → (filter f ys ≡ x ∷ [] → P x × (f x ≡ true)) → P x × (f x ≡ true)
+    by true is h rest =
+        let same : y ≡ x = (Rattle.mscp_ported.proofs.Numbered.first_of_one y x (filter f ys) h).0 in
+        (subst P same all.0, subst (λ z. f z ≡ true) same is)
+    by false is h rest = rest h
+
+head_so : (es : List End) (e : End) → slice_get es 0 ≡ Some e → es ≡ e ∷ drop 1 es
+head_so [] e h = absurd (none-some e h)
+head_so (x ∷ es) e h = ap (λ y. y ∷ es) (same_Some x e h)
+
+-- a call by which something is wanted: what there is then, and what it deals with
+module _ {K : Type 0} (blocks : Bool) (action : Action) (bytes : List ℕ) (old new : Port K) (aw : List (List ℕ))
+    (k : Kept old aw) (picks : List _ → ℕ → Type 0) (r : Wants picks blocks old action new) where
+  abbrev After_it : Type 0
+  After_it = Kept new (since new.stage (Next blocks action bytes)
+      (without_ends (ends_begun old.outgoing new.outgoing) aw) [])
+
+  calm : IsNoReset (Next blocks action bytes)
+  calm = record { texts = λ s xs ys. refl }
+
+  stage : new.stage ≡ old.stage
+  stage = ap (λ (q : Port K). q.stage) r.frame
+
+  begun_same : (o : Option Outgoing) → ends_begun o o ≡ []
+  begun_same None = refl
+  begun_same (Some o) = refl
+
+  news_none : (volumes before : List Volume) (units : List Shape) (place : Option ℕ) (o : Option Outgoing)
+      → TellsOf units before place o volumes → ends_begun None o ≡ []
+  news_none volumes before units place o n = grind (arith, none-some)
+
+  still : ends_begun old.outgoing new.outgoing ≡ [] → MayBegin old.controller new.controller → After_it
+  still none may = same_so (Next blocks action bytes) old new aw k calm none refl
+      (ap (λ (h : Holdings K). h.waiting) may) (ap (λ (h : Holdings K). ends_of h) may)
+      (λ d. sym (ap is_dead stage) ∙ d)
+
+  module _ (t : TakesEnd old new) where
+    abbrev e : End
+    e = t.out.0
+
+    abbrev es : List End
+    es = drop 1 (ends_of old.controller)
+
+    whole : ends_of old.controller ≡ e ∷ es
+    whole = head_so (ends_of old.controller) e t.out.1
+
+    at : AtEach aw old.controller.waiting (e ∷ es)
+    at = subst (λ xs. AtEach aw old.controller.waiting xs) whole k.each
+
+    own : (text : List ℕ) × (filter (has_number e.reference) aw ≡ text ∷ []) × (counted_in e.body ≤ bytes_in text)
+    own = end_awaited aw old.controller.waiting e es at
+
+    small : e.reference < 2 ^ 32
+    small =
+        let x = one_of IsSmall (has_number e.reference) aw own.0 k.small own.1 in
+        subst (λ n. n < 2 ^ 32) (Rattle.mscp_port.proofs.Common.eqb-true (num own.0 0 4) e.reference x.1) x.0
+
+    named : num (told_end old e) 0 4 ≡ e.reference
+    named = told_number old e small
+
+    begun : ends_begun old.outgoing new.outgoing ≡ told_end old e ∷ []
+    begun = ap (λ o. ends_begun o new.outgoing) t.nothing ∙ ap (ends_begun None) t.out.2
+
+    taken_end : is_dead old.stage ≡ false → After_it
+    taken_end lives = lives_so (Next blocks action bytes) old new aw k calm
+        (filter (λ x. not (has_number e.reference x)) aw) (ap is_dead stage ∙ lives)
+        (ap (λ xs. without_ends xs aw ++ []) begun
+        ∙ append-nil (filter (λ x. not (has_number (num (told_end old e) 0 4) x)) aw)
+        ∙ ap (λ n. filter (λ x. not (has_number n x)) aw) named)
+        (subst (λ (h : Holdings K). AtEach (filter (λ x. not (has_number e.reference x)) aw) h.waiting (ends_of h))
+        (sym t.controller) (takes_end aw old.controller.waiting e es at))
+        (every_kept IsSmall (λ x. not (has_number e.reference x)) aw k.small)
+
+    ends_it : IsOfKind e → IsEnding aw (Next blocks action bytes) old new
+    ends_it shaped = record {
+      out = record { bytes = record { items = told_end old e }; kind = kinds.End };
+      nothing = t.nothing;
+      begun = t.out.2;
+      kind = refl;
+      accepted = refl;
+      taken = refl;
+      ended = begun;
+      message = own.0;
+      only = ap (λ n. filter (has_number n) aw) named ∙ own.1;
+      counts = told_counts old e (bytes_in own.0) shaped own.2;
+      whole = told_whole old e shaped;
+    }
+
+  -- after which something is kept
+  pub next_so : After_it
+  next_so = elim (alive_or_dead old old.stage refl) [
+    | inr d ↦
+        let e = (r.dead d.0 d.1).1 in
+        still (ap (ends_begun old.outgoing) (ap (λ (q : Port K). q.outgoing) e) ∙ begun_same old.outgoing)
+        (ap (λ (q : Port K). q.controller) e
+        ∙ ap (λ b. record old.controller { begun = b }) (sym (ap (λ (q : Port K). q.controller.begun) e)))
+    | inl alive ↦ elim (looks_or_not old) [
+      | inl looks ↦ elim (r.says.looks looks) [
+        | inl t ↦ taken_end t (ap is_dead looks.up)
+        | inr n ↦ still (ap (λ o. ends_begun o new.outgoing) n.nothing
+            ∙ news_none new.volumes old.volumes old.controller.settings.units (news_place old) new.outgoing n.out)
+            n.controller
+      ]
+      | inr never ↦
+          let q = r.says.keeps never in
+          still (ap (ends_begun old.outgoing) q.outgoing ∙ begun_same old.outgoing) q.controller
+    ]
+  ]
+
+  quiet_next : (new.outgoing ≡ old.outgoing) → Deals aw (Next blocks action bytes) old new
+  quiet_next same = inl (record {
+    begun = begins_same old.outgoing new.outgoing (inl same);
+    accepted = refl;
+    taken = refl;
+    ended = ap (ends_begun old.outgoing) same ∙ begun_same old.outgoing;
+  })
+
+  news_so : (place : Option ℕ) (units : List Shape) (before after : List Volume) (q : Option Outgoing)
+      → new.outgoing ≡ q → old.outgoing ≡ None → TellsOf units before place q after
+      → Deals aw (Next blocks action bytes) old new
+  news_so None units before after q is none h = quiet_next (is ∙ h.0 ∙ sym none)
+  news_so (Some place) units before after q is none h = by (slice_get units place) refl
+    where
+      by : (x : Option Shape) → slice_get units place ≡ x → Deals aw (Next blocks action bytes) old new
+      by None e = quiet_next (is ∙ h.0 ∙ ap (option_map (λ unit. record {
+        bytes = record { items = attention unit (volume_at before place) };
+        kind = kinds.Attention;
+      })) e ∙ sym none)
+      by (Some unit) e = inr (inl (record {
+        out = record {
+          bytes = record { items = attention unit (volume_at before place) };
+          kind = kinds.Attention;
+        };
+        nothing = none;
+        begun = is ∙ h.0 ∙ ap (option_map (λ unit. record {
+          bytes = record { items = attention unit (volume_at before place) };
+          kind = kinds.Attention;
+        })) e;
+        kind = refl;
+        code = refl;
+        long = (omega arith, omega arith);
+        accepted = refl;
+        taken = refl;
+        ended = ap (λ o. ends_begun o new.outgoing) none ∙ ap (ends_begun None) (is ∙ h.0
+            ∙ ap (option_map (λ unit. record {
+              bytes = record { items = attention unit (volume_at before place) };
+              kind = kinds.Attention;
+            })) e);
+      }))
+
+  -- and what it deals with, where each end has the body of its endcode
+  pub next_deals : ((e : End) → slice_get (ends_of old.controller) 0 ≡ Some e → IsOfKind e)
+      → Deals aw (Next blocks action bytes) old new
+  next_deals shaped = elim (looks_or_not old) [
+    | inl looks ↦ elim (r.says.looks looks) [
+      | inl t ↦ inr (inr (inl (ends_it t (shaped t.out.0 t.out.1))))
+      | inr n ↦ news_so (news_place old) old.controller.settings.units old.volumes new.volumes new.outgoing refl
+          n.nothing n.out
+    ]
+    | inr never ↦ quiet_next (r.says.keeps never).outgoing
+  ]

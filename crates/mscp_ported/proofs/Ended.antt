@@ -1,0 +1,222 @@
+-- Each call of a port deals with one thing at most, over a whole list of calls.
+use Rattle.mscp_ported.proofs.Numbered.{At}
+use Rattle.std.proofs.Common.{All, ◌≡◌, ◌≢◌, ◌∙◌, ◌+◌, ◌*◌, ◌^◌, ◌<◌, ◌++◌, ◌∷◌, [], ℕ, Bool, true, false, List, Some, inl, inr, refl, ap, sym, subst, arith}
+use Rattle.std.specs.Prelude.{Ok, Err, filter, slice_get, slice_index}
+use Rattle.std.proofs.lemmas.Option.{none-some, same_Some}
+use Rattle.std.proofs.lemmas.List.Elements.{All-drop, All-head}
+use Rattle.mscp_packet.specs.Ends.{IsOfKind}
+use Rattle.mscp_packet.specs.declared.end.End.{End}
+use Rattle.mscp_drive.specs.Both.{of}
+use Rattle.mscp_drive.specs.Settings.{IsValid, Settings}
+use Rattle.mscp_drive.specs.declared.connection.Connection.TheVariants.{First}
+use Rattle.mscp_queue.specs.Records.{Record}
+use Rattle.mscp_controller.specs.Account.{ends}
+unfoldable use Rattle.mscp_controller.specs.Account.{untaken}
+use Rattle.mscp_controller.specs.Calls.{AnsweredCalls, Call as Made, history}
+use Rattle.mscp_controller.specs.Controllers.{ControllersKeepThePromise, KeepsPromise}
+use Rattle.mscp_controller.specs.Holdings.{Holdings, fresh, numbers_ended, outstanding_of, waiting_on}
+use Rattle.mscp_port.specs.declared.hardware.Hardware.{Hardware}
+use Rattle.mscp_port.specs.declared.port.Port.{Port}
+use Rattle.mscp_port.specs.declared.stage.Stage.{Stage}
+use Rattle.mscp_port.specs.declared.stage.Stage.TheVariants as stages
+use Rattle.mscp_port.specs.Calls.{IsMadeOf}
+use Rattle.mscp_port.specs.Histories.{Answered, Becomes, Call, Picking, WriteIp, ReadIp, WriteSa, Next, PutAside, WasRead, Went, LookAgain, Tick, VolumeCame, VolumeWent, Protect}
+use Rattle.mscp_port.proofs.Kept.{is_numbered}
+use Rattle.mscp_ported.specs.Awaited.{Deals, ReadsBytes, awaited}
+use Rattle.mscp_ported.specs.Talk.{is_dead}
+use Rattle.mscp_ported.proofs.Awaiting.{IsNoReset, IsSmall, Kept, nothing_kept, stays_so}
+use Rattle.mscp_ported.proofs.Awaits.{read_so, went_so}
+use Rattle.mscp_ported.proofs.Coming.{ends_of}
+use Rattle.mscp_ported.proofs.Dealing.{next_deals, next_so, passive_deals, passive_taken, read_deals, went_deals}
+use Rattle.mscp_ported.proofs.Decided.{passive_said}
+use Rattle.mscp_ported.proofs.Numbered.{ends_numbered}
+use Rattle.mscp_ported.proofs.Promised.{knows}
+use Rattle.mscp_ported.proofs.Staying.{IsPassive, passive_stays}
+
+-- ---- a fatal error stays
+
+dead_code : (s : Stage) → is_dead s ≡ true → (code : ℕ) × (s ≡ stages.Dead code)
+dead_code (stages.Dead code) e = (code, refl)
+dead_code s e = absurd (search (arith, e))
+
+module _ {K : Type 0} (picks : Picking K) (old new : Port K) where
+  stays_dead : new ≡ old → is_dead old.stage ≡ true → is_dead new.stage ≡ true
+  stays_dead e d = ap (λ (q : Port K). is_dead q.stage) e ∙ d
+
+  same_dead : new.stage ≡ old.stage → is_dead old.stage ≡ true → is_dead new.stage ≡ true
+  same_dead e d = ap is_dead e ∙ d
+
+  dead_on : (call : Call) → call ≢ WriteIp → Becomes picks call old new → is_dead old.stage ≡ true
+      → is_dead new.stage ≡ true
+  dead_on WriteIp never r d = absurd (never refl)
+  dead_on ReadIp never r d =
+      let c = dead_code old.stage d in
+      stays_dead (r.elsewhere (λ e. search (arith, c.1, e)) (λ e. search (arith, c.1, e))) d
+  dead_on (WriteSa word) never r d = let c = dead_code old.stage d in stays_dead (r.dead c.0 c.1) d
+  dead_on (Next blocks action bytes) never r d =
+      let c = dead_code old.stage d in stays_dead (r.0.dead c.0 c.1).1 d
+  dead_on PutAside never r d = same_dead (ap (λ (q : Port K). q.stage) r) d
+  dead_on (WasRead bytes (Ok done)) never r d =
+      let c = dead_code old.stage d in absurd (search (arith, r.dead c.0 c.1))
+  dead_on (WasRead bytes (Err unasked)) never r d = stays_dead r.unasked d
+  dead_on (Went outcome (Ok done)) never r d =
+      let c = dead_code old.stage d in absurd (search (arith, r.dead c.0 c.1))
+  dead_on (Went outcome (Err unasked)) never r d = stays_dead r.unasked d
+  dead_on LookAgain never r d = same_dead (ap (λ (q : Port K). q.stage) r) d
+  dead_on Tick never r d = elim r.either [
+    | inl e ↦ same_dead (ap (λ (q : Port K). q.stage) e) d
+    | inr n ↦ ap is_dead n.stage
+  ]
+  dead_on (VolumeCame m unit (Ok done)) never r d = same_dead (ap (λ (q : Port K). q.stage) (r.came refl)) d
+  dead_on (VolumeCame m unit (Err fault)) never r d = stays_dead r.refused d
+  dead_on (VolumeWent unit result) never r d = same_dead (ap (λ (q : Port K). q.stage) r.frame) d
+  dead_on (Protect protected unit result) never r d = same_dead (ap (λ (q : Port K). q.stage) r.frame) d
+
+  lived : (call : Call) → call ≢ WriteIp → Becomes picks call old new → is_dead new.stage ≡ false
+      → is_dead old.stage ≡ false
+  lived call never r lives = by (is_dead old.stage) refl
+    where
+      by : (b : Bool) → is_dead old.stage ≡ b → b ≡ false
+      by false e = refl
+      by true e = search (arith, dead_on call never r e, lives)
+
+-- ---- at the start
+
+nothing_two : {X : Type 0} (xs ys : List X) → xs ++ ys ≡ [] → (xs ≡ []) × (ys ≡ [])
+nothing_two [] ys e = (refl, e)
+nothing_two (x ∷ xs) ys e = absurd (search (arith, e))
+
+no_ends : (es : List End) → numbers_ended es ≡ [] → es ≡ []
+no_ends [] e = refl
+no_ends (x ∷ es) e = absurd (search (arith, e))
+
+none_waits : (rs : List Record) (n : ℕ) → waiting_on First rs ≡ [] → filter (is_numbered n) rs ≡ []
+none_waits [] n e = refl
+none_waits (r ∷ rs) n e = search (arith, none_waits rs n)
+
+bytes_small : (b : List ℕ) → ((i : ℕ) → slice_index b i < 2 ^ 8) → IsSmall b
+bytes_small b h = few (slice_index b 0) (slice_index b 1) (slice_index b 2) (slice_index b 3) (h 0) (h 1) (h 2) (h 3)
+  where
+    few : (x y z w : ℕ) → x < 2 ^ 8 → y < 2 ^ 8 → z < 2 ^ 8 → w < 2 ^ 8
+        → 0 + x * 1 + y * 256 + z * 65536 + w * 16777216 < 2 ^ 32
+    few x y z w a b c d = omega (arith, a, b, c, d)
+
+first_of_all : (P : End → Type 0) (es : List End) (e : End) → All P es → slice_get es 0 ≡ Some e → P e
+first_of_all P [] e all h = absurd (none-some e h)
+first_of_all P (x ∷ es) e all h = subst P (same_Some x e h) (All-head P x es all)
+
+module _ {K : Type 0} (picks : Picking K) (c : Settings) (picker : K)
+    (keeps : ControllersKeepThePromise (picks picker) picker) (valid : IsValid c) (before : List Made)
+    (hardware : Hardware) (credits : ℕ) (controller : Holdings K) (start : Port K)
+    (was : AnsweredCalls (picks picker) (fresh c picker) before controller)
+    (made : IsMadeOf hardware credits controller start) (quiet : outstanding_of First controller ≡ []) where
+  -- each end that waits has the body of its endcode
+  shaped : (p : Port K) (calls : List Call) (a : Answered picks start calls p) (e : End)
+      → slice_get (ends_of p.controller) 0 ≡ Some e → IsOfKind e
+  unfolding untaken
+  shaped p calls a e h =
+      let k = knows picks c picker keeps valid before hardware credits controller start was made p calls a in
+      let promised : KeepsPromise
+      (picks picker) c k.made p.controller = keeps c k.made p.controller valid k.answered in
+      first_of_all IsOfKind (ends_of p.controller) e
+      (subst (λ es. All IsOfKind es) (sym (promised.untaken First)) (All-drop IsOfKind _ (ends c First
+      (history k.made)) (promised.promise.shaped First)))
+      h
+
+  passive_kept : (p : Port K) (call : Call) (calls : List Call) (a : Answered picks start (call ∷ calls) p)
+      → IsPassive call → Kept a.0 (awaited picks start a.0 calls a.1) → Kept p (awaited picks start p (call ∷ calls) a)
+  passive_kept p call calls a is k = stays_so call a.0 p (awaited picks start a.0 calls a.1) k (calm call is)
+      (passive_said call a.0 p is) (passive_taken call a.0 is) (passive_stays picks call a.0 p a.2 is)
+    where
+      calm : (call : Call) → IsPassive call → IsNoReset call
+      calm WriteIp is = absurd is
+      calm call is = record { texts = λ s xs ys. refl }
+
+  pub kept : (p : Port K) (calls : List Call) → ReadsBytes calls → (a : Answered picks start calls p)
+      → Kept p (awaited picks start p calls a)
+  kept p [] reads a =
+      let same : p.controller ≡ controller = ap (λ (q : Port K). q.controller) a ∙ made.over in
+      record {
+        each = λ n. subst (λ (h : Holdings K). At [] h.waiting (ends_of h) n) (sym same)
+            (start_at n);
+        small = tt;
+        dead = λ d. refl;
+      }
+    where
+      parts : (Rattle.mscp_controller.specs.Holdings.numbers (waiting_on First controller.waiting) ≡ [])
+          × (numbers_ended (of First controller.untaken) ≡ [])
+      parts = nothing_two (Rattle.mscp_controller.specs.Holdings.numbers (waiting_on First controller.waiting))
+          (numbers_ended (of First controller.untaken)) quiet
+
+      no_numbers : (rs : List Record) → Rattle.mscp_controller.specs.Holdings.numbers rs ≡ [] → rs ≡ []
+      no_numbers [] e = refl
+      no_numbers (r ∷ rs) e = absurd (search (arith, e))
+
+      start_at : (n : ℕ) → At [] controller.waiting (ends_of controller) n
+      start_at n = inl (
+        refl,
+        none_waits controller.waiting n (no_numbers (waiting_on First controller.waiting) parts.0),
+        ap (filter (ends_numbered n)) (no_ends (of First controller.untaken) parts.1),
+      )
+  kept p (WriteIp ∷ calls) reads a =
+      nothing_kept p (ap (λ (h : Holdings K). h.waiting) a.2.controller) (ap (λ h. ends_of h) a.2.controller)
+  kept p (Next blocks action bytes ∷ calls) reads a =
+      next_so blocks action bytes a.0 p (awaited picks start a.0 calls a.1) (kept a.0 calls reads a.1)
+      (picks a.0.controller.picker) a.2.0
+  kept p (WasRead bytes (Ok done) ∷ calls) reads a =
+      read_so bytes done a.0 p (awaited picks start a.0 calls a.1) (kept a.0 calls reads.1 a.1) a.2
+      (bytes_small bytes reads.0)
+  kept p (WasRead bytes (Err unasked) ∷ calls) reads a =
+      passive_kept p (WasRead bytes (Err unasked)) calls a tt (kept a.0 calls reads.1 a.1)
+  kept p (Went outcome (Ok done) ∷ calls) reads a =
+      went_so (picks a.0.controller.picker) outcome done a.0 p (awaited picks start a.0 calls a.1)
+      (kept a.0 calls reads a.1) a.2
+  kept p (Went outcome (Err unasked) ∷ calls) reads a =
+      passive_kept p (Went outcome (Err unasked)) calls a tt (kept a.0 calls reads a.1)
+  kept p (ReadIp ∷ calls) reads a = passive_kept p ReadIp calls a tt (kept a.0 calls reads a.1)
+  kept p (WriteSa word ∷ calls) reads a = passive_kept p (WriteSa word) calls a tt (kept a.0 calls reads a.1)
+  kept p (PutAside ∷ calls) reads a = passive_kept p PutAside calls a tt (kept a.0 calls reads a.1)
+  kept p (LookAgain ∷ calls) reads a = passive_kept p LookAgain calls a tt (kept a.0 calls reads a.1)
+  kept p (Tick ∷ calls) reads a = passive_kept p Tick calls a tt (kept a.0 calls reads a.1)
+  kept p (VolumeCame m unit result ∷ calls) reads a =
+      passive_kept p (VolumeCame m unit result) calls a tt (kept a.0 calls reads a.1)
+  kept p (VolumeWent unit result ∷ calls) reads a =
+      passive_kept p (VolumeWent unit result) calls a tt (kept a.0 calls reads a.1)
+  kept p (Protect protected unit result ∷ calls) reads a =
+      passive_kept p (Protect protected unit result) calls a tt (kept a.0 calls reads a.1)
+
+  reads_before : (call : Call) (calls : List Call) → ReadsBytes (call ∷ calls) → ReadsBytes calls
+  reads_before (WasRead bytes result) calls reads = reads.1
+  reads_before call calls reads = reads
+
+  pub deals : (p : Port K) (call : Call) (calls : List Call) → ReadsBytes (call ∷ calls)
+      → (a : Answered picks start (call ∷ calls) p) → call ≢ WriteIp → is_dead p.stage ≡ false
+      → (is_dead a.0.stage ≡ false) × Deals (awaited picks start a.0 calls a.1) call a.0 p
+  deals p call calls reads a never lives = (lived picks a.0 p call never a.2 lives, by call a reads never)
+    where
+      by : (call : Call) (a : Answered picks start (call ∷ calls) p) → ReadsBytes (call ∷ calls) → call ≢ WriteIp
+          → Deals (awaited picks start a.0 calls a.1) call a.0 p
+      by WriteIp a reads never = absurd (never refl)
+      by (Next blocks action bytes) a reads never =
+          next_deals blocks action bytes a.0 p (awaited picks start a.0 calls a.1) (kept a.0 calls reads a.1)
+          (picks a.0.controller.picker) a.2.0 (shaped a.0 calls a.1)
+      by (WasRead bytes (Ok done)) a reads never =
+          read_deals bytes done a.0 p (awaited picks start a.0 calls a.1) a.2 lives
+      by (Went outcome (Ok done)) a reads never =
+          went_deals picks outcome done a.0 p (awaited picks start a.0 calls a.1) a.2
+      by (WasRead bytes (Err unasked)) a reads never =
+          passive_deals picks (WasRead bytes (Err unasked)) a.0 p (awaited picks start a.0 calls a.1) a.2 tt
+      by (Went outcome (Err unasked)) a reads never =
+          passive_deals picks (Went outcome (Err unasked)) a.0 p (awaited picks start a.0 calls a.1) a.2 tt
+      by ReadIp a reads never = passive_deals picks ReadIp a.0 p (awaited picks start a.0 calls a.1) a.2 tt
+      by (WriteSa word) a reads never =
+          passive_deals picks (WriteSa word) a.0 p (awaited picks start a.0 calls a.1) a.2 tt
+      by PutAside a reads never = passive_deals picks PutAside a.0 p (awaited picks start a.0 calls a.1) a.2 tt
+      by LookAgain a reads never = passive_deals picks LookAgain a.0 p (awaited picks start a.0 calls a.1) a.2 tt
+      by Tick a reads never = passive_deals picks Tick a.0 p (awaited picks start a.0 calls a.1) a.2 tt
+      by (VolumeCame m unit result) a reads never =
+          passive_deals picks (VolumeCame m unit result) a.0 p (awaited picks start a.0 calls a.1) a.2 tt
+      by (VolumeWent unit result) a reads never =
+          passive_deals picks (VolumeWent unit result) a.0 p (awaited picks start a.0 calls a.1) a.2 tt
+      by (Protect protected unit result) a reads never =
+          passive_deals picks (Protect protected unit result) a.0 p (awaited picks start a.0 calls a.1) a.2 tt

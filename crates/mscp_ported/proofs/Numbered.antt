@@ -1,0 +1,180 @@
+-- What there is of each reference number: nothing; a message whose command waits; or one whose end waits.
+use Rattle.std.proofs.Common.{◌≡◌, ◌⊎◌, ◌∙◌, ◌≤◌, ◌++◌, ◌∷◌, [], ℕ, Bool, true, false, cond, filter, nat_eq, not, List, None, Some, inl, inr, refl, ap, sym, subst, arith}
+use Rattle.std.specs.Prelude.{find}
+use Rattle.std.proofs.lemmas.List.{append-nil}
+use Rattle.mscp_packet.specs.Number.{num}
+use Rattle.mscp_packet.specs.declared.command.Order.{Order}
+use Rattle.mscp_packet.specs.declared.command.Order.TheVariants as orders
+use Rattle.mscp_packet.specs.declared.end.End.{End}
+use Rattle.mscp_packet.specs.declared.end.EndBody.{EndBody}
+use Rattle.mscp_packet.specs.declared.end.EndBody.TheVariants as bodies
+use Rattle.mscp_queue.specs.Records.{Record}
+use Rattle.mscp_port.proofs.Common.{eq-eqb, eqb-true, false≢true}
+use Rattle.mscp_port.proofs.Kept.{is_numbered}
+use Rattle.mscp_ported.specs.Awaited.{bytes_in, has_number}
+use Rattle.mscp_ported.proofs.Sole.{sole_left}
+
+abbrev pub ends_numbered : ℕ → End → Bool
+ends_numbered n e = nat_eq e.reference n
+
+-- how many bytes an order asks for, and how many an end counts
+abbrev pub asked_by : Order → ℕ
+asked_by (orders.Move kind count block) = count
+asked_by order = 0
+
+abbrev pub counted_in : EndBody → ℕ
+counted_in (bodies.Moved count) = count
+counted_in body = 0
+
+abbrev pub IsNothing : List (List ℕ) → List Record → List End → ℕ → Type 0
+IsNothing aw rs es n = (filter (has_number n) aw ≡ []) × (filter (is_numbered n) rs ≡ [])
+    × (filter (ends_numbered n) es ≡ [])
+
+pub record Waits (aw : List (List ℕ)) (rs : List Record) (es : List End) (n : ℕ) : Type 0 where
+  pub text : List ℕ
+  pub own : Record
+  pub message : filter (has_number n) aw ≡ text ∷ []
+  pub sole : filter (is_numbered n) rs ≡ own ∷ []
+  pub no_end : filter (ends_numbered n) es ≡ []
+  pub fits : asked_by own.command.order ≤ bytes_in text
+
+pub record Ended (aw : List (List ℕ)) (rs : List Record) (es : List End) (n : ℕ) : Type 0 where
+  pub text : List ℕ
+  pub end : End
+  pub message : filter (has_number n) aw ≡ text ∷ []
+  pub none : filter (is_numbered n) rs ≡ []
+  pub sole : filter (ends_numbered n) es ≡ end ∷ []
+  pub fits : counted_in end.body ≤ bytes_in text
+
+abbrev pub At : List (List ℕ) → List Record → List End → ℕ → Type 0
+At aw rs es n = IsNothing aw rs es n ⊎ Waits aw rs es n ⊎ Ended aw rs es n
+
+abbrev pub AtEach : List (List ℕ) → List Record → List End → Type 0
+AtEach aw rs es = (n : ℕ) → At aw rs es n
+
+-- ---- filters
+
+module _ {X : Type 0} where
+  pub filter_beside : (f : X → Bool) (xs ys : List X) → filter f (xs ++ ys) ≡ filter f xs ++ filter f ys
+  filter_beside f [] ys = refl
+  filter_beside f (x ∷ xs) ys = by (f x) (filter_beside f xs ys)
+    where
+      by : (c : Bool) → filter f (xs ++ ys) ≡ filter f xs ++ filter f ys
+          → cond c (x ∷ filter f (xs ++ ys)) (filter f (xs ++ ys))
+          ≡ cond c (x ∷ filter f xs) (filter f xs) ++ filter f ys
+      by true rest = ap (λ zs. x ∷ zs) rest
+      by false rest = rest
+
+  pub none_beside : (f : X → Bool) (xs : List X) (y : X) → f y ≡ false → filter f (xs ++ y ∷ []) ≡ filter f xs
+  none_beside f xs y e = filter_beside f xs (y ∷ [])
+      ∙ ap (λ c. filter f xs ++ cond c (y ∷ []) []) e ∙ append-nil (filter f xs)
+
+  pub none_stays : (f g : X → Bool) (xs : List X) → filter f xs ≡ [] → filter f (filter g xs) ≡ []
+  none_stays f g [] e = refl
+  none_stays f g (x ∷ xs) e = by (g x) (f x) refl e (none_stays f g xs)
+    where
+      by : (c d : Bool) → f x ≡ d → cond d (x ∷ filter f xs) (filter f xs) ≡ []
+          → (filter f xs ≡ [] → filter f (filter g xs) ≡ [])
+          → filter f (cond c (x ∷ filter g xs) (filter g xs)) ≡ []
+      by c true is h rest = absurd (search (arith, h))
+      by true false is h rest = ap (λ b. cond b (x ∷ filter f (filter g xs)) (filter f (filter g xs))) is ∙ rest h
+      by false false is h rest = rest h
+
+  pub none_of_it : (f : X → Bool) (xs : List X) → filter f (filter (λ x. not (f x)) xs) ≡ []
+  none_of_it f [] = refl
+  none_of_it f (x ∷ xs) = by (f x) refl (none_of_it f xs)
+    where
+      by : (c : Bool) → f x ≡ c → filter f (filter (λ x. not (f x)) xs) ≡ []
+          → filter f (cond (not c) (x ∷ filter (λ x. not (f x)) xs) (filter (λ x. not (f x)) xs)) ≡ []
+      by true is rest = rest
+      by false is rest = ap (λ b. cond b (x ∷ filter f (filter (λ x. not (f x)) xs))
+          (filter f (filter (λ x. not (f x)) xs))) is ∙ rest
+
+  pub none_found : (f : X → Bool) (xs : List X) → filter f xs ≡ [] → find f xs ≡ None
+  none_found f [] e = refl
+  none_found f (x ∷ xs) e = by (f x) e (none_found f xs)
+    where
+      by : (c : Bool) → cond c (x ∷ filter f xs) (filter f xs) ≡ [] → (filter f xs ≡ [] → find f xs ≡ None)
+          → cond c (Some x) (find f xs) ≡ None
+      by true h rest = absurd (search (arith, h))
+      by false h rest = rest h
+
+  pub first_of_one : (x y : X) (xs : List X) → x ∷ xs ≡ y ∷ [] → (x ≡ y) × (xs ≡ [])
+  first_of_one x y xs e = search (arith, e)
+
+  pub some_none : (x : X) (xs : List X) → x ∷ xs ≡ [] → ⊥
+  some_none x xs e = search (arith, e)
+
+other_number : (n m : ℕ) → nat_eq m n ≡ false → (k : ℕ) → nat_eq k n ≡ true → not (nat_eq k m) ≡ true
+other_number n m d k e = by (nat_eq k m) refl
+  where
+    by : (c : Bool) → nat_eq k m ≡ c → not c ≡ true
+    by false h = refl
+    by true h = absurd (false≢true (sym d ∙ eq-eqb m n (sym (eqb-true k m h) ∙ eqb-true k n e)))
+
+-- ---- an end is taken
+
+pub takes_end : (aw : List (List ℕ)) (rs : List Record) (e : End) (es : List End) → AtEach aw rs (e ∷ es)
+    → AtEach (filter (λ t. not (has_number e.reference t)) aw) rs es
+takes_end aw rs e es at n = by (nat_eq e.reference n) refl (at n)
+  where
+    left : List (List ℕ)
+    left = filter (λ t. not (has_number e.reference t)) aw
+
+    gone : nat_eq e.reference n ≡ true → filter (has_number n) left ≡ []
+    gone is = subst (λ m. filter (has_number m) left ≡ []) (eqb-true e.reference n is)
+        (none_of_it (has_number e.reference) aw)
+
+    same : nat_eq e.reference n ≡ false → filter (has_number n) left ≡ filter (has_number n) aw
+    same d = sole_left (has_number n) (λ t. not (has_number e.reference t)) aw
+        (λ t is. other_number n e.reference d (num t 0 4) is)
+
+    here : (c : Bool) → nat_eq e.reference n ≡ c → filter (ends_numbered n) (e ∷ es)
+        ≡ cond c (e ∷ filter (ends_numbered n) es) (filter (ends_numbered n) es)
+    here c is = ap (λ b. cond b (e ∷ filter (ends_numbered n) es) (filter (ends_numbered n) es)) is
+
+    by : (c : Bool) → nat_eq e.reference n ≡ c → At aw rs (e ∷ es) n → At left rs es n
+    by true is (inl none) = absurd (some_none e (filter (ends_numbered n) es) (sym (here true is) ∙ none.2))
+    by true is (inr (inl w)) = absurd (some_none e (filter (ends_numbered n) es) (sym (here true is) ∙ w.no_end))
+    by true is (inr (inr x)) = inl (
+      gone is,
+      x.none,
+      (first_of_one e x.end (filter (ends_numbered n) es) (sym (here true is) ∙ x.sole)).1,
+    )
+    by false is (inl none) = inl (same is ∙ none.0, none.1, sym (here false is) ∙ none.2)
+    by false is (inr (inl w)) = inr (inl (record {
+      text = w.text;
+      own = w.own;
+      message = same is ∙ w.message;
+      sole = w.sole;
+      no_end = sym (here false is) ∙ w.no_end;
+      fits = w.fits;
+    }))
+    by false is (inr (inr x)) = inr (inr (record {
+      text = x.text;
+      end = x.end;
+      message = same is ∙ x.message;
+      none = x.none;
+      sole = sym (here false is) ∙ x.sole;
+      fits = x.fits;
+    }))
+
+-- and it is that of an awaited message
+pub end_awaited : (aw : List (List ℕ)) (rs : List Record) (e : End) (es : List End) → AtEach aw rs (e ∷ es)
+    → (text : List ℕ) × (filter (has_number e.reference) aw ≡ text ∷ []) × (counted_in e.body ≤ bytes_in text)
+end_awaited aw rs e es at = by (at e.reference)
+  where
+    here : filter (ends_numbered e.reference) (e ∷ es) ≡ e ∷ filter (ends_numbered e.reference) es
+    here = ap (λ b. cond b (e ∷ filter (ends_numbered e.reference) es) (filter (ends_numbered e.reference) es))
+        (eq-eqb e.reference e.reference refl)
+
+    by : At aw rs (e ∷ es) e.reference
+        → (text : List ℕ) × (filter (has_number e.reference) aw ≡ text ∷ []) × (counted_in e.body ≤ bytes_in text)
+    by (inl none) = absurd (some_none e (filter (ends_numbered e.reference) es) (sym here ∙ none.2))
+    by (inr (inl w)) = absurd (some_none e (filter (ends_numbered e.reference) es) (sym here ∙ w.no_end))
+    by (inr (inr x)) = (
+      x.text,
+      x.message,
+      subst (λ (y : End). counted_in y.body ≤ bytes_in x.text)
+          (sym (first_of_one e x.end (filter (ends_numbered e.reference) es) (sym here ∙ x.sole)).0) x.fits,
+    )
