@@ -6,6 +6,8 @@ pub mod PortLent
 pub mod Ascending
 pub mod Configured
 pub mod Handled
+pub mod HostHandled
+pub mod DriverHandled
 pub mod Reading
 pub mod Written
 pub mod Resumed

@@ -9,17 +9,17 @@ use Rattle.mscp_port.specs.Histories as calls
 -- what a call on a handle tells, and the call of the port that it is
 record Is (call : HandleCall) (old new : Held) : Type 0 where
   next : List Call
-  tells : Tells call next
+  tells : Tells old call next
   becomes : (start : Held) (told : List Call) → Answered PolicyPicks start told old
       → Answered PolicyPicks start (next ++ told) new
 
 -- it is this call of the port
-one : (call : HandleCall) (it : Call) (old new : Held) → Tells call (it ∷ []) → Becomes PolicyPicks it old new
+one : (call : HandleCall) (it : Call) (old new : Held) → Tells old call (it ∷ []) → Becomes PolicyPicks it old new
     → Is call old new
 one call it old new tells b = record { next = it ∷ []; tells = tells; becomes = λ start told a. (old, a, b) }
 
 -- or none
-none : (call : HandleCall) (old new : Held) → Tells call [] → new ≡ old → Is call old new
+none : (call : HandleCall) (old new : Held) → Tells old call [] → new ≡ old → Is call old new
 none call old new tells e =
     record { next = []; tells = tells; becomes = λ start told a. subst (Answered PolicyPicks start told) (sym e) a }
 
@@ -43,7 +43,7 @@ went number block status (Some outcome) old new t = (
 call_is : (call : HandleCall) (old new : Handle) → AnswersHandle old call new → Is call old.held new.held
 call_is (ReadIp status) old new r = one (ReadIp status) calls.ReadIp old.held new.held (refl, r.1) r.0.leaves
 call_is (WriteIp status) old new r = one (WriteIp status) calls.WriteIp old.held new.held (refl, r.1) r.0.leaves
-call_is (ReadSa answer) old new r = none (ReadSa answer) old.held new.held refl (ap (λ h. h.held) r.1)
+call_is (ReadSa answer) old new r = none (ReadSa answer) old.held new.held (refl, r.0) (ap (λ h. h.held) r.1)
 call_is (WriteSa word status) old new r =
     one (WriteSa word status) (calls.WriteSa word) old.held new.held (refl, r.1) r.0.leaves
 call_is (Next before status after) old new r =
@@ -71,20 +71,20 @@ call_is (VolumeWent unit status) old new r =
 call_is (Protect unit flag status) old new r =
     one (Protect unit flag status) (calls.Protect _ unit r.answer) old.held new.held (r.answer, refl, r.code) r.changes
 call_is (Configured limits units answer limits' units') old new r =
-    none (Configured limits units answer limits' units') old.held new.held refl (ap (λ h. h.held) r.1)
+    none (Configured limits units answer limits' units') old.held new.held (refl, r.0) (ap (λ h. h.held) r.1)
 call_is (Hardware before status after) old new r =
-    none (Hardware before status after) old.held new.held refl (ap (λ h. h.held) r.2)
+    none (Hardware before status after) old.held new.held (refl, r.0, r.1) (ap (λ h. h.held) r.2)
 call_is (State before status after) old new r =
-    none (State before status after) old.held new.held refl (ap (λ h. h.held) r.2)
+    none (State before status after) old.held new.held (refl, r.0, r.1) (ap (λ h. h.held) r.2)
 call_is (Volume unit before status after) old new r =
-    none (Volume unit before status after) old.held new.held refl (ap (λ h. h.held) r.2)
+    none (Volume unit before status after) old.held new.held (refl, r.0, r.1) (ap (λ h. h.held) r.2)
 call_is (Begun before status after) old new r =
-    none (Begun before status after) old.held new.held refl (ap (λ h. h.held) r.2)
+    none (Begun before status after) old.held new.held (refl, r.0, r.1) (ap (λ h. h.held) r.2)
 call_is (Look before answer after) old new r =
-    none (Look before answer after) old.held new.held refl (ap (λ h. h.held) r.2)
+    none (Look before answer after) old.held new.held (refl, r.0, r.1) (ap (λ h. h.held) r.2)
 call_is (Why number reference before answer after) old new r =
-    none (Why number reference before answer after) old.held new.held refl (ap (λ h. h.held) r.1)
-call_is (Resume bytes) old new r = none (Resume bytes) old.held new.held refl r.1
+    none (Why number reference before answer after) old.held new.held (refl, r.0) (ap (λ h. h.held) r.1)
+call_is (Resume bytes) old new r = none (Resume bytes) old.held new.held (refl, r.0) r.1
 
 pub keeps_promise : (made : List HandleCall) (start h : Handle) → AnsweredByHandle start made h
     → KeepsPortPromise start.held made h.held
@@ -94,6 +94,6 @@ keeps_promise (call ∷ earlier) start h a =
     let is = call_is call a.0 h a.2 in
     record {
       told = is.next ++ before.told;
-      tells = (is.next, before.told, refl, is.tells, before.tells);
+      tells = (is.next, before.told, a.0.held, refl, before.answered, is.tells, before.tells);
       answered = is.becomes start.held before.told before.answered;
     }

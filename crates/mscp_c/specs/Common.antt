@@ -1,6 +1,8 @@
 -- What the code of this crate takes from specifications.
+pub use Rattle.mscp_c.specs.DriverHandleCalls.{DriverHandlesKeepTheirHistory}
 pub use Rattle.mscp_c.specs.Given.{connection_given, limits_told, units_told}
 pub use Rattle.mscp_c.specs.HandleCalls.{AnswersHandle, HandlesKeepThePromise}
+pub use Rattle.mscp_c.specs.HostHandleCalls.{HostHandlesKeepTheirHistory}
 pub use Rattle.mscp_c.specs.Hosted.{PollTold, message_read, news_code, news_told, poll_code, submits_message}
 pub use Rattle.mscp_c.specs.Made.{init_answer, init_code, init_fault, made_unless}
 pub use Rattle.mscp_c.specs.PortGiven.{medium_given, outcome_given}

@@ -3,7 +3,6 @@ use Rattle.std.specs.Prelude.{ℕ, ℤ, if◌then◌else◌, nat_lt, List, ◌++
 use Rattle.mscp_packet.specs.declared.command.Command.{Command}
 use Rattle.mscp_packet.specs.declared.end.End.{End}
 use Rattle.mscp_packet.specs.declared.reading.PacketFault.{PacketFault}
-use Rattle.mscp_packet.specs.declared.reading.PacketFault.TheVariants as sizes
 use Rattle.mscp_host.specs.declared.asked.Asked.{Asked}
 use Rattle.mscp_host.specs.declared.heard.Heard.{Heard}
 use Rattle.mscp_host.specs.declared.heard.Heard.TheVariants as heards
@@ -19,7 +18,7 @@ use Rattle.mscp_memory.specs.declared.fault.RoomFault.{RoomFault}
 use Rattle.mscp_memory.specs.DriverHandles.{Handle, placed, room_fault}
 use Rattle.mscp_c.specs.declared.status.TheConstants as status
 use Rattle.mscp_c.specs.declared.outs.HeardOut.{HeardOut}
-use Rattle.mscp_c.specs.Hosted.{message_read, moved_in, submit_code}
+use Rattle.mscp_c.specs.Hosted.{message_read, moved_in, size_code, submit_code}
 use Rattle.mscp_c.specs.Statuses.{hear_code, room_code}
 
 -- the status of an init, and the handle after it: the first fault, or an account of one credit
@@ -32,8 +31,7 @@ driver_inits h = driver_init_unless (room_fault h) h
 
 -- the status of a submission of what was read, and what is kept after it
 abbrev pub driver_submits_read : PortAccount → Result Command PacketFault → ℤ × PortAccount
-driver_submits_read p (Err sizes.Short) = (status.SHORT, p)
-driver_submits_read p (Err sizes.Long) = (status.LONG, p)
+driver_submits_read p (Err fault) = (size_code fault, p)
 driver_submits_read p (Ok command) = (submit_code (port_submits p command).0, (port_submits p command).1)
 
 abbrev pub driver_submits : PortAccount → List ℕ → ℤ × PortAccount

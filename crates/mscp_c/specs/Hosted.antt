@@ -45,10 +45,14 @@ abbrev pub message_read : List ℕ → Result Command PacketFault
 message_read b = if nat_lt (length b) 12 then Err sizes.Short
     else (if nat_lt 64 (length b) then Err sizes.Long else Ok (command_of b))
 
+-- the status of a message of another size
+abbrev pub size_code : PacketFault → ℤ
+size_code sizes.Short = status.SHORT
+size_code sizes.Long = status.LONG
+
 -- the status of a submission of what was read, and what is kept after it
 abbrev pub submits_read : Account → Result Command PacketFault → ℤ × Account
-submits_read a (Err sizes.Short) = (status.SHORT, a)
-submits_read a (Err sizes.Long) = (status.LONG, a)
+submits_read a (Err fault) = (size_code fault, a)
 submits_read a (Ok command) = (submit_code (submits a command).0, (submits a command).1)
 
 -- the status of a submission, and what is kept after it

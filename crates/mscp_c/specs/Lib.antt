@@ -1,8 +1,10 @@
 pub mod CommandWritten
+pub mod DriverHandleCalls
 pub mod DriverSaving
 pub mod EndRead
 pub mod Given
 pub mod HandleCalls
+pub mod HostHandleCalls
 pub mod HostSaving
 pub mod Hosted
 pub mod Made

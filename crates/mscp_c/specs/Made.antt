@@ -1,7 +1,7 @@
 -- What comes of an init.
 use Rattle.std.specs.Prelude.{ℕ, ℤ, List, Option, Some, None, is_none, option_map, unwrap_or, Result, Ok, Err}
 use Rattle.mscp_controller.specs.Holdings.{fresh}
-use Rattle.mscp_drive.specs.Settings.{Settings, limit_fault}
+use Rattle.mscp_drive.specs.Settings.{limit_fault}
 use Rattle.mscp_memory.specs.ControllerHandles.{Handle, placed, room_fault}
 use Rattle.mscp_memory.specs.declared.policy.Policy.TheVariants.{Oldest}
 use Rattle.mscp_c.specs.declared.status.TheConstants.{DONE, BAD_PICKER}

@@ -125,47 +125,57 @@ abbrev pub TellsOutcome : Outcome → ℤ → List Call → Type 0
 TellsOutcome outcome status next =
     (answer : Result (Unit {0}) Unasked) × (next ≡ calls.Went outcome answer ∷ []) × (status ≡ told_code answer)
 
--- the call on the handle is this call of its port, or none: status and out-struct tell what the port answers (profile)
-abbrev pub Tells : HandleCall → List Call → Type 0
-Tells (ReadIp status) next = (next ≡ calls.ReadIp ∷ []) × (status ≡ DONE)
-Tells (WriteIp status) next = (next ≡ calls.WriteIp ∷ []) × (status ≡ DONE)
-Tells (ReadSa answer) next = next ≡ []
-Tells (WriteSa word status) next = (next ≡ calls.WriteSa word ∷ []) × (status ≡ DONE)
-Tells (Next before status after) next =
+-- the call on the handle is this call of its port, or none: status and out-struct tell what the port answers. A look
+-- tells what the port is then (profile)
+abbrev pub Tells : Held → HandleCall → List Call → Type 0
+Tells p (ReadIp status) next = (next ≡ calls.ReadIp ∷ []) × (status ≡ DONE)
+Tells p (WriteIp status) next = (next ≡ calls.WriteIp ∷ []) × (status ≡ DONE)
+Tells p (ReadSa answer) next = (next ≡ []) × (answer ≡ pos (ports.sa_of p))
+Tells p (WriteSa word status) next = (next ≡ calls.WriteSa word ∷ []) × (status ≡ DONE)
+Tells p (Next before status after) next =
     (action : Action) × (bytes : List ℕ) × (next ≡ calls.Next true action bytes ∷ [])
     × (status ≡ next_code action) × (after ≡ action_told action bytes before)
-Tells (NextMessage before status after) next =
+Tells p (NextMessage before status after) next =
     (action : Action) × (bytes : List ℕ) × (next ≡ calls.Next false action bytes ∷ calls.PutAside ∷ [])
     × (status ≡ next_code action) × (after ≡ action_told action bytes before)
-Tells (WasRead bytes status) next =
+Tells p (WasRead bytes status) next =
     (answer : Result (Unit {0}) Unasked) × (next ≡ calls.WasRead bytes answer ∷ []) × (status ≡ told_code answer)
-Tells (Went number block status) next =
+Tells p (Went number block status) next =
     MatchOption (outcome_given number block) ((next ≡ []) × (status ≡ BAD_OUTCOME))
     (λ outcome. TellsOutcome outcome status next)
-Tells (LookAgain status) next = (next ≡ calls.LookAgain ∷ []) × (status ≡ DONE)
-Tells (Tick status) next = (next ≡ calls.Tick ∷ []) × (status ≡ DONE)
-Tells (VolumeCame unit medium status) next =
+Tells p (LookAgain status) next = (next ≡ calls.LookAgain ∷ []) × (status ≡ DONE)
+Tells p (Tick status) next = (next ≡ calls.Tick ∷ []) × (status ≡ DONE)
+Tells p (VolumeCame unit medium status) next =
     (answer : Result (Unit {0}) VolumeFault) × (next ≡ calls.VolumeCame (medium_given medium) unit answer ∷ [])
     × (status ≡ put_code answer)
-Tells (VolumeWent unit status) next =
+Tells p (VolumeWent unit status) next =
     (answer : Result (Unit {0}) NoUnit) × (next ≡ calls.VolumeWent unit answer ∷ []) × (status ≡ volume_code answer)
-Tells (Protect unit flag status) next =
+Tells p (Protect unit flag status) next =
     (answer : Result (Unit {0}) NoUnit) × (next ≡ calls.Protect (not (flag == 0)) unit answer ∷ [])
     × (status ≡ volume_code answer)
-Tells (Configured limits units answer limits' units') next = next ≡ []
-Tells (Hardware before status after) next = next ≡ []
-Tells (State before status after) next = next ≡ []
-Tells (Volume unit before status after) next = next ≡ []
-Tells (Begun before status after) next = next ≡ []
-Tells (Look before answer after) next = next ≡ []
-Tells (Why number reference before answer after) next = next ≡ []
-Tells (Resume bytes) next = next ≡ []
+Tells p (Configured limits units answer limits' units') next =
+    (next ≡ []) × TellsSettings p.controller.settings units answer limits' units'
+Tells p (Hardware before status after) next =
+    (next ≡ []) × (after ≡ hardware_told p.hardware) × (status ≡ DONE)
+Tells p (State before status after) next = (next ≡ []) × (after ≡ state_told p) × (status ≡ DONE)
+Tells p (Volume unit before status after) next =
+    (next ≡ []) × (after ≡ volume_told (volume_of p unit) before) × (status ≡ seen_code (volume_of p unit))
+Tells p (Begun before status after) next =
+    (next ≡ []) × (after ≡ upcoming_told (begun_step p.controller) before)
+    × (status ≡ begin_code (begun_step p.controller))
+Tells p (Look before answer after) next =
+    (next ≡ []) × (after ≡ figures_told (figures_in p.controller) before)
+    × (answer ≡ pos (length (figures_in p.controller)))
+Tells p (Why number reference before answer after) next =
+    (next ≡ []) × TellsHolders (connection_given number) reference p before answer after
+Tells p (Resume bytes) next = (next ≡ []) × (restored_by bytes ≡ Ok p)
 
--- the same of calls, the last one first
-abbrev pub TellsAll : List HandleCall → List Call → Type 0
-TellsAll [] told = told ≡ []
-TellsAll (call ∷ earlier) told =
-    (next : List Call) × (before : List Call) × (told ≡ next ++ before) × Tells call next × TellsAll earlier before
+-- the same of calls, the last one first: each is of the port to which those before it led
+abbrev pub TellsAll : Held → List HandleCall → List Call → Type 0
+TellsAll start [] told = told ≡ []
+TellsAll start (call ∷ earlier) told =
+    (next : List Call) × (before : List Call) × (p : Held) × (told ≡ next ++ before)
+    × Answered PolicyPicks start before p × Tells p call next × TellsAll start earlier before
 
 -- ---- the promise
 
@@ -173,7 +183,7 @@ TellsAll (call ∷ earlier) told =
 pub record KeepsPortPromise (start : Held) (made : List HandleCall) (held : Held) : Type 0 where
   -- the calls on the handle are these of its port
   pub told : List Call
-  pub tells : TellsAll made told
+  pub tells : TellsAll start made told
   -- in their order, so that each law of ports is about them
   pub answered : Answered PolicyPicks start told held
 

@@ -1,12 +1,11 @@
 // The calls of a driver's account of its port.
 #![tactic(auto, using(crate::proofs::Lent::lent_back))]
 
-ghost use Rattle.std.specs.Prelude.{◌≡◌, true, false, pos, length};
-ghost use Rattle.mscp_host.specs.PortAccounts.{port_polls};
-ghost use Rattle.mscp_host.specs.Watching.{ticks};
-ghost use Rattle.mscp_memory.specs.DriverHandles.{is_made, row_alignment, row_size, with_held};
-ghost use Rattle.mscp_c.specs.Common.{PollTold, flag, poll_code};
-ghost use Rattle.mscp_c.specs.Driven.{advice_code, asked_told, driver_hears, driver_inits, driver_submits, heard_code, heard_told, watch_told};
+ghost use Rattle.std.specs.Prelude.{◌≡◌, true, false};
+ghost use Rattle.mscp_memory.specs.DriverHandles.{is_made, row_alignment, row_size};
+ghost use Rattle.mscp_c.specs.Driven.{driver_hears, driver_inits, watch_told};
+ghost use Rattle.mscp_c.specs.DriverHandleCalls as calls;
+ghost use Rattle.mscp_c.specs.DriverHandleCalls.{AnswersHandle};
 
 use crate::hearing::tell_poll;
 use crate::heeding::{code_of_advice, tell_asked, tell_heard};
@@ -48,9 +47,8 @@ pub extern "C" fn mscp_driver_init_at(handle: &mut Handle) -> i32
 /// How many credits are free.
 #[unsafe(no_mangle)]
 pub extern "C" fn mscp_driver_credits(handle: &mut Handle) -> i64
-    ensures value { is_made handle.old ≡ true → result ≡ pos handle.old.held.credits }
-    ensures same { handle.new ≡ handle.old }
-    ensures unmade { is_made handle.old ≡ false → result ≡ NOT_MADE }
+    ensures call { is_made handle.old ≡ true → AnswersHandle handle.old (calls.Credits result) handle.new }
+    ensures unmade { is_made handle.old ≡ false → (result ≡ NOT_MADE) × (handle.new ≡ handle.old) }
 {
     if !is_made(handle) {
         return i64::from(NOT_MADE);
@@ -61,9 +59,7 @@ pub extern "C" fn mscp_driver_credits(handle: &mut Handle) -> i64
 /// A message is to be sent: from now on its command is outstanding, or it may not be sent.
 #[unsafe(no_mangle)]
 pub extern "C" fn mscp_driver_submit_at(handle: &mut Handle, message: &[u8]) -> i32
-    ensures code { is_made handle.old ≡ true → result ≡ (driver_submits handle.old.held message.now).0 }
-    ensures after { is_made handle.old ≡ true
-        → handle.new ≡ with_held handle.old (driver_submits handle.old.held message.now).1 }
+    ensures call { is_made handle.old ≡ true → AnswersHandle handle.old (calls.Submit message.now result) handle.new }
     ensures unmade { is_made handle.old ≡ false → (result ≡ NOT_MADE) × (handle.new ≡ handle.old) }
 {
     if !is_made(handle) {
@@ -83,10 +79,8 @@ pub extern "C" fn mscp_driver_submit_at(handle: &mut Handle, message: &[u8]) -> 
 /// What there is to do to poll the oldest command that isn't answered when it arrives.
 #[unsafe(no_mangle)]
 pub extern "C" fn mscp_driver_poll(handle: &mut Handle, reference: u32, out: &mut PacketOut) -> i32
-    ensures code { is_made handle.old ≡ true → result ≡ poll_code (port_polls handle.old.held reference).0 }
-    ensures told { is_made handle.old ≡ true → PollTold (port_polls handle.old.held reference).0 out.old out.new }
-    ensures after { is_made handle.old ≡ true
-        → handle.new ≡ with_held handle.old (port_polls handle.old.held reference).1 }
+    ensures call { is_made handle.old ≡ true
+        → AnswersHandle handle.old (calls.Poll reference out.old result out.new) handle.new }
     ensures unmade { is_made handle.old ≡ false
         → (result ≡ NOT_MADE) × (handle.new ≡ handle.old) × (out.new ≡ out.old) }
 {
@@ -124,13 +118,8 @@ pub extern "C" fn mscp_driver_hear_at(
     bytes: &[u8],
     out: &mut HeardOut,
 ) -> i32
-    ensures code { is_made handle.old ≡ true → result ≡ heard_code (driver_hears handle.old.held bytes.now).0 }
-    ensures told { is_made handle.old ≡ true
-        → out.new ≡ heard_told (driver_hears handle.old.held bytes.now).0 out.old }
-    ensures watch { is_made handle.old ≡ true
-        → watch.new ≡ watch_told (driver_hears handle.old.held bytes.now).0 watch.old }
-    ensures after { is_made handle.old ≡ true
-        → handle.new ≡ with_held handle.old (driver_hears handle.old.held bytes.now).1 }
+    ensures call { is_made handle.old ≡ true
+        → AnswersHandle handle.old (calls.Hear bytes.now watch.old out.old result watch.new out.new) handle.new }
     ensures unmade { is_made handle.old ≡ false
         → (result ≡ NOT_MADE) × (handle.new ≡ handle.old) × (watch.new ≡ watch.old) × (out.new ≡ out.old) }
 {
@@ -145,10 +134,10 @@ pub extern "C" fn mscp_driver_hear_at(
 /// A tick of the driver's timer: whether it is to poll, or to reset the port.
 #[unsafe(no_mangle)]
 pub extern "C" fn mscp_driver_tick(handle: &mut Handle, watch: &mut Watch) -> i32
-    ensures code { is_made handle.old ≡ true → result ≡ advice_code (ticks watch.old handle.old.held).0 }
-    ensures watch { is_made handle.old ≡ true → watch.new ≡ (ticks watch.old handle.old.held).1 }
-    ensures same { handle.new ≡ handle.old }
-    ensures unmade { is_made handle.old ≡ false → (result ≡ NOT_MADE) × (watch.new ≡ watch.old) }
+    ensures call { is_made handle.old ≡ true
+        → AnswersHandle handle.old (calls.Tick watch.old result watch.new) handle.new }
+    ensures unmade { is_made handle.old ≡ false
+        → (result ≡ NOT_MADE) × (handle.new ≡ handle.old) × (watch.new ≡ watch.old) }
 {
     if !is_made(handle) {
         return NOT_MADE;
@@ -160,10 +149,10 @@ pub extern "C" fn mscp_driver_tick(handle: &mut Handle, watch: &mut Watch) -> i3
 /// The commands whose ends weren't heard, in the order of sending, as many as there is room for: how many there are.
 #[unsafe(no_mangle)]
 pub extern "C" fn mscp_driver_outstanding_at(handle: &mut Handle, out: &mut [Asked]) -> i32
-    ensures count { is_made handle.old ≡ true → result ≡ pos (length handle.old.held.asked) }
-    ensures told { is_made handle.old ≡ true → out.new ≡ asked_told handle.old.held.asked out.old }
-    ensures same { handle.new ≡ handle.old }
-    ensures unmade { is_made handle.old ≡ false → (result ≡ NOT_MADE) × (out.new ≡ out.old) }
+    ensures call { is_made handle.old ≡ true
+        → AnswersHandle handle.old (calls.Outstanding out.old result out.new) handle.new }
+    ensures unmade { is_made handle.old ≡ false
+        → (result ≡ NOT_MADE) × (handle.new ≡ handle.old) × (out.new ≡ out.old) }
 {
     if !is_made(handle) {
         return NOT_MADE;

@@ -1,9 +1,11 @@
 // The calls of a host.
 #![tactic(auto, using(crate::proofs::Lent::lent_back))]
 
-ghost use Rattle.std.specs.Prelude.{◌≡◌, true, false, pos};
-ghost use Rattle.mscp_c.specs.Common.{balance, heard, polls_oldest, PollTold, message_read, news_code, news_told, poll_code, submits_message};
-ghost use Rattle.mscp_memory.specs.HostHandles.{is_made, row_alignment, row_size, with_held};
+ghost use Rattle.std.specs.Prelude.{◌≡◌, true, false};
+ghost use Rattle.mscp_c.specs.Common.{message_read};
+ghost use Rattle.mscp_memory.specs.HostHandles.{is_made, row_alignment, row_size};
+ghost use Rattle.mscp_c.specs.HostHandleCalls as calls;
+ghost use Rattle.mscp_c.specs.HostHandleCalls.{AnswersHandle};
 ghost use Rattle.mscp_c.specs.Hosted.{inits};
 
 use crate::hearing::{tell_news, tell_poll};
@@ -49,9 +51,8 @@ pub extern "C" fn mscp_host_init_at(handle: &mut Handle, credits: u32) -> i32
 /// How many credits are free.
 #[unsafe(no_mangle)]
 pub extern "C" fn mscp_host_balance(handle: &mut Handle) -> i64
-    ensures value { is_made handle.old ≡ true → result ≡ pos (balance handle.old.held) }
-    ensures same { handle.new ≡ handle.old }
-    ensures unmade { is_made handle.old ≡ false → result ≡ NOT_MADE }
+    ensures call { is_made handle.old ≡ true → AnswersHandle handle.old (calls.Balance result) handle.new }
+    ensures unmade { is_made handle.old ≡ false → (result ≡ NOT_MADE) × (handle.new ≡ handle.old) }
 {
     if !is_made(handle) {
         return i64::from(NOT_MADE);
@@ -69,9 +70,7 @@ pub(crate) fn message_in(message: &[u8]) -> Result<Command, PacketFault>
 /// A message is to be sent: from now on its command is outstanding, or it may not be sent.
 #[unsafe(no_mangle)]
 pub extern "C" fn mscp_host_submit_at(handle: &mut Handle, message: &[u8]) -> i32
-    ensures code { is_made handle.old ≡ true → result ≡ (submits_message handle.old.held message.now).0 }
-    ensures after { is_made handle.old ≡ true
-        → handle.new ≡ with_held handle.old (submits_message handle.old.held message.now).1 }
+    ensures call { is_made handle.old ≡ true → AnswersHandle handle.old (calls.Submit message.now result) handle.new }
     ensures unmade { is_made handle.old ≡ false → (result ≡ NOT_MADE) × (handle.new ≡ handle.old) }
 {
     if !is_made(handle) {
@@ -91,10 +90,8 @@ pub extern "C" fn mscp_host_submit_at(handle: &mut Handle, message: &[u8]) -> i3
 /// What there is to do to poll the oldest command that isn't answered when it arrives.
 #[unsafe(no_mangle)]
 pub extern "C" fn mscp_host_poll(handle: &mut Handle, reference: u32, out: &mut PacketOut) -> i32
-    ensures code { is_made handle.old ≡ true → result ≡ poll_code (polls_oldest handle.old.held reference).0 }
-    ensures told { is_made handle.old ≡ true → PollTold (polls_oldest handle.old.held reference).0 out.old out.new }
-    ensures after { is_made handle.old ≡ true
-        → handle.new ≡ with_held handle.old (polls_oldest handle.old.held reference).1 }
+    ensures call { is_made handle.old ≡ true
+        → AnswersHandle handle.old (calls.Poll reference out.old result out.new) handle.new }
     ensures unmade { is_made handle.old ≡ false
         → (result ≡ NOT_MADE) × (handle.new ≡ handle.old) × (out.new ≡ out.old) }
 {
@@ -108,10 +105,8 @@ pub extern "C" fn mscp_host_poll(handle: &mut Handle, reference: u32, out: &mut 
 /// What an end says that was received.
 #[unsafe(no_mangle)]
 pub extern "C" fn mscp_host_receive_at(handle: &mut Handle, bytes: &[u8], out: &mut NewsOut) -> i32
-    ensures code { is_made handle.old ≡ true → result ≡ news_code (heard handle.old.held bytes.now).0 }
-    ensures told { is_made handle.old ≡ true → out.new ≡ news_told (heard handle.old.held bytes.now).0 out.old }
-    ensures after { is_made handle.old ≡ true
-        → handle.new ≡ with_held handle.old (heard handle.old.held bytes.now).1 }
+    ensures call { is_made handle.old ≡ true
+        → AnswersHandle handle.old (calls.Receive bytes.now out.old result out.new) handle.new }
     ensures unmade { is_made handle.old ≡ false
         → (result ≡ NOT_MADE) × (handle.new ≡ handle.old) × (out.new ≡ out.old) }
 {

@@ -1,11 +1,12 @@
 // What is promised of who calls from C.
 
 ghost use Rattle.std.specs.Prelude.{◌≡◌, pos, true};
-ghost use Rattle.mscp_c.specs.Common.{IsValid, HandlesKeepThePromise, PortHandlesKeepThePromise, minus};
+ghost use Rattle.mscp_c.specs.Common.{IsValid, DriverHandlesKeepTheirHistory, HandlesKeepThePromise, HostHandlesKeepTheirHistory, PortHandlesKeepThePromise, minus};
 ghost use Rattle.mscp_memory.specs.ControllerHandles.{is_made};
 
 use crate::status::*;
 use mscp_controller::controllers_keep_the_promise;
+use mscp_host::{hosts_keep_their_history, port_hosts_keep_count, port_hosts_keep_their_history};
 use mscp_memory::Policy;
 use mscp_memory::controller::{Handle, lend};
 
@@ -31,11 +32,29 @@ pub fn handles_keep_the_promise(policy: Policy)
 }
 
 /// Calls on a port's handle, one after the other, each answered as the relation of such calls says, are calls of a port, also
-/// where it was saved and restored in between: each law of ports is about them. Statuses and out-structs of those that change
-/// the port tell what it answers; of those that only look nothing is told here.
+/// where it was saved and restored in between: each law of ports is about them. Statuses and out-structs tell what the port
+/// answers, and what looks tell is so of the port to which the calls before led.
 pub fn port_handles_keep_the_promise()
     ensures { PortHandlesKeepThePromise }
 {}
+
+/// Calls on a host's handle, one after the other from an init on, are the history of a host, with all that is promised of
+/// that, also where it was saved and restored in between: each submission, poll and end that was received is the next moment
+/// of it, and statuses and out-structs tell what the host answers. Bytes that are no message change nothing.
+pub fn host_handles_keep_their_history()
+    ensures { HostHandlesKeepTheirHistory }
+{
+    hosts_keep_their_history();
+}
+
+/// The same of calls on a driver's handle, which are the history of a host of a port. What looks and ticks tell is so of what
+/// the host keeps then.
+pub fn driver_handles_keep_their_history()
+    ensures { DriverHandlesKeepTheirHistory }
+{
+    port_hosts_keep_their_history();
+    port_hosts_keep_count();
+}
 
 /// Each status is the number that the header has under its name.
 pub fn statuses_are_these()

@@ -33,6 +33,6 @@ mod telling;
 mod units;
 
 pub use crate::law::{
-    handles_keep_the_promise, made_handles_are_valid, port_handles_keep_the_promise,
-    statuses_are_these,
+    driver_handles_keep_their_history, handles_keep_the_promise, host_handles_keep_their_history,
+    made_handles_are_valid, port_handles_keep_the_promise, statuses_are_these,
 };

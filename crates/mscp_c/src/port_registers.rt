@@ -1,8 +1,9 @@
 // The registers of a port.
 #![tactic(auto, using(crate::proofs::Lent::lent_back))]
 
-ghost use Rattle.std.specs.Prelude.{◌≡◌, true, false, pos};
-ghost use Rattle.mscp_c.specs.Common.{ReadsIp, WritesIp, WritesSa, sa_of, Holds};
+ghost use Rattle.std.specs.Prelude.{◌≡◌, true, false};
+ghost use Rattle.mscp_c.specs.PortHandleCalls as calls;
+ghost use Rattle.mscp_c.specs.PortHandleCalls.{AnswersHandle};
 ghost use Rattle.mscp_memory.specs.PortHandles.{is_made};
 
 use crate::status::{DONE, NOT_MADE};
@@ -11,8 +12,7 @@ use mscp_memory::port::{Handle, is_made, lend};
 /// The host reads IP, which shows 0.
 #[unsafe(no_mangle)]
 pub extern "C" fn mscp_port_read_ip(handle: &mut Handle) -> i32
-    ensures after { is_made handle.old ≡ true → Holds ReadsIp handle.old handle.new }
-    ensures done { is_made handle.old ≡ true → result ≡ DONE }
+    ensures call { is_made handle.old ≡ true → AnswersHandle handle.old (calls.ReadIp result) handle.new }
     ensures unmade { is_made handle.old ≡ false → (result ≡ NOT_MADE) × (handle.new ≡ handle.old) }
 {
     if !is_made(handle) {
@@ -25,8 +25,7 @@ pub extern "C" fn mscp_port_read_ip(handle: &mut Handle) -> i32
 /// The host writes IP, whatever it writes there, or its bus is reset.
 #[unsafe(no_mangle)]
 pub extern "C" fn mscp_port_write_ip(handle: &mut Handle) -> i32
-    ensures after { is_made handle.old ≡ true → Holds WritesIp handle.old handle.new }
-    ensures done { is_made handle.old ≡ true → result ≡ DONE }
+    ensures call { is_made handle.old ≡ true → AnswersHandle handle.old (calls.WriteIp result) handle.new }
     ensures unmade { is_made handle.old ≡ false → (result ≡ NOT_MADE) × (handle.new ≡ handle.old) }
 {
     if !is_made(handle) {
@@ -39,9 +38,8 @@ pub extern "C" fn mscp_port_write_ip(handle: &mut Handle) -> i32
 /// What SA shows.
 #[unsafe(no_mangle)]
 pub extern "C" fn mscp_port_read_sa(handle: &mut Handle) -> i32
-    ensures value { is_made handle.old ≡ true → result ≡ pos (sa_of handle.old.held) }
-    ensures same { handle.new ≡ handle.old }
-    ensures unmade { is_made handle.old ≡ false → result ≡ NOT_MADE }
+    ensures call { is_made handle.old ≡ true → AnswersHandle handle.old (calls.ReadSa result) handle.new }
+    ensures unmade { is_made handle.old ≡ false → (result ≡ NOT_MADE) × (handle.new ≡ handle.old) }
 {
     if !is_made(handle) {
         return NOT_MADE;
@@ -52,8 +50,7 @@ pub extern "C" fn mscp_port_read_sa(handle: &mut Handle) -> i32
 /// The host writes this word to SA.
 #[unsafe(no_mangle)]
 pub extern "C" fn mscp_port_write_sa(handle: &mut Handle, word: u16) -> i32
-    ensures after { is_made handle.old ≡ true → Holds (WritesSa word) handle.old handle.new }
-    ensures done { is_made handle.old ≡ true → result ≡ DONE }
+    ensures call { is_made handle.old ≡ true → AnswersHandle handle.old (calls.WriteSa word result) handle.new }
     ensures unmade { is_made handle.old ≡ false → (result ≡ NOT_MADE) × (handle.new ≡ handle.old) }
 {
     if !is_made(handle) {

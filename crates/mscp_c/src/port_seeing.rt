@@ -1,8 +1,9 @@
 // What a port is. These calls change nothing.
 #![tactic(auto, using(crate::proofs::Lent::lent_back))]
 
-ghost use Rattle.std.specs.Prelude.{◌≡◌, true, false, pos, length, IfSome, None};
-ghost use Rattle.mscp_c.specs.Common.{begin_code, begun_step, connection_given, figures_in, figures_told, hardware_told, holders_in, holders_told, limits_told, seen_code, state_told, units_told, upcoming_told, volume_of, volume_told};
+ghost use Rattle.std.specs.Prelude.{◌≡◌, true, false};
+ghost use Rattle.mscp_c.specs.PortHandleCalls as calls;
+ghost use Rattle.mscp_c.specs.PortHandleCalls.{AnswersHandle};
 ghost use Rattle.mscp_memory.specs.PortHandles.{is_made};
 
 use crate::outs::{FigureOut, HolderOut, StateOut, UpcomingOut, VolumeOut};
@@ -15,10 +16,10 @@ use mscp_memory::port::{Handle, is_made, lend};
 /// What kind of port it is.
 #[unsafe(no_mangle)]
 pub extern "C" fn mscp_port_hardware(handle: &mut Handle, out: &mut HardwareIn) -> i32
-    ensures told { is_made handle.old ≡ true → out.new ≡ hardware_told handle.old.held.hardware }
-    ensures done { is_made handle.old ≡ true → result ≡ DONE }
-    ensures same { handle.new ≡ handle.old }
-    ensures unmade { is_made handle.old ≡ false → (result ≡ NOT_MADE) × (out.new ≡ out.old) }
+    ensures call { is_made handle.old ≡ true
+        → AnswersHandle handle.old (calls.Hardware out.old result out.new) handle.new }
+    ensures unmade { is_made handle.old ≡ false
+        → (result ≡ NOT_MADE) × (handle.new ≡ handle.old) × (out.new ≡ out.old) }
 {
     if !is_made(handle) {
         return NOT_MADE;
@@ -30,10 +31,10 @@ pub extern "C" fn mscp_port_hardware(handle: &mut Handle, out: &mut HardwareIn) 
 /// How far the port has come.
 #[unsafe(no_mangle)]
 pub extern "C" fn mscp_port_state(handle: &mut Handle, out: &mut StateOut) -> i32
-    ensures told { is_made handle.old ≡ true → out.new ≡ state_told handle.old.held }
-    ensures done { is_made handle.old ≡ true → result ≡ DONE }
-    ensures same { handle.new ≡ handle.old }
-    ensures unmade { is_made handle.old ≡ false → (result ≡ NOT_MADE) × (out.new ≡ out.old) }
+    ensures call { is_made handle.old ≡ true
+        → AnswersHandle handle.old (calls.State out.old result out.new) handle.new }
+    ensures unmade { is_made handle.old ≡ false
+        → (result ≡ NOT_MADE) × (handle.new ≡ handle.old) × (out.new ≡ out.old) }
 {
     if !is_made(handle) {
         return NOT_MADE;
@@ -54,13 +55,10 @@ pub extern "C" fn mscp_port_settings_at(
     limits: &mut Limits,
     units: &mut [UnitIn],
 ) -> i32
-    ensures count { is_made handle.old ≡ true → result ≡ pos (length handle.old.held.controller.settings.units) }
-    ensures limits { is_made handle.old ≡ true → limits.new ≡ limits_told handle.old.held.controller.settings }
-    ensures told { is_made handle.old ≡ true
-        → units.new ≡ units_told handle.old.held.controller.settings.units units.old }
-    ensures same { handle.new ≡ handle.old }
+    ensures call { is_made handle.old ≡ true
+        → AnswersHandle handle.old (calls.Configured limits.old units.old result limits.new units.new) handle.new }
     ensures unmade { is_made handle.old ≡ false
-        → (result ≡ NOT_MADE) × (limits.new ≡ limits.old) × (units.new ≡ units.old) }
+        → (result ≡ NOT_MADE) × (handle.new ≡ handle.old) × (limits.new ≡ limits.old) × (units.new ≡ units.old) }
 {
     if !is_made(handle) {
         return NOT_MADE;
@@ -71,10 +69,10 @@ pub extern "C" fn mscp_port_settings_at(
 /// The volume of a unit.
 #[unsafe(no_mangle)]
 pub extern "C" fn mscp_port_volume(handle: &mut Handle, unit: u16, out: &mut VolumeOut) -> i32
-    ensures code { is_made handle.old ≡ true → result ≡ seen_code (volume_of handle.old.held unit) }
-    ensures told { is_made handle.old ≡ true → out.new ≡ volume_told (volume_of handle.old.held unit) out.old }
-    ensures same { handle.new ≡ handle.old }
-    ensures unmade { is_made handle.old ≡ false → (result ≡ NOT_MADE) × (out.new ≡ out.old) }
+    ensures call { is_made handle.old ≡ true
+        → AnswersHandle handle.old (calls.Volume unit out.old result out.new) handle.new }
+    ensures unmade { is_made handle.old ≡ false
+        → (result ≡ NOT_MADE) × (handle.new ≡ handle.old) × (out.new ≡ out.old) }
 {
     if !is_made(handle) {
         return NOT_MADE;
@@ -86,11 +84,10 @@ pub extern "C" fn mscp_port_volume(handle: &mut Handle, unit: u16, out: &mut Vol
 /// The step that the port's controller has begun: that of the block which the port wants moved.
 #[unsafe(no_mangle)]
 pub extern "C" fn mscp_port_begun(handle: &mut Handle, out: &mut UpcomingOut) -> i32
-    ensures code { is_made handle.old ≡ true → result ≡ begin_code (begun_step handle.old.held.controller) }
-    ensures told { is_made handle.old ≡ true
-        → out.new ≡ upcoming_told (begun_step handle.old.held.controller) out.old }
-    ensures same { handle.new ≡ handle.old }
-    ensures unmade { is_made handle.old ≡ false → (result ≡ NOT_MADE) × (out.new ≡ out.old) }
+    ensures call { is_made handle.old ≡ true
+        → AnswersHandle handle.old (calls.Begun out.old result out.new) handle.new }
+    ensures unmade { is_made handle.old ≡ false
+        → (result ≡ NOT_MADE) × (handle.new ≡ handle.old) × (out.new ≡ out.old) }
 {
     if !is_made(handle) {
         return NOT_MADE;
@@ -102,11 +99,9 @@ pub extern "C" fn mscp_port_begun(handle: &mut Handle, out: &mut UpcomingOut) ->
 /// The figures of the commands that wait, oldest first, as many as there is room for: how many wait.
 #[unsafe(no_mangle)]
 pub extern "C" fn mscp_port_look_at(handle: &mut Handle, out: &mut [FigureOut]) -> i32
-    ensures count { is_made handle.old ≡ true → result ≡ pos (length (figures_in handle.old.held.controller)) }
-    ensures told { is_made handle.old ≡ true
-        → out.new ≡ figures_told (figures_in handle.old.held.controller) out.old }
-    ensures same { handle.new ≡ handle.old }
-    ensures unmade { is_made handle.old ≡ false → (result ≡ NOT_MADE) × (out.new ≡ out.old) }
+    ensures call { is_made handle.old ≡ true → AnswersHandle handle.old (calls.Look out.old result out.new) handle.new }
+    ensures unmade { is_made handle.old ≡ false
+        → (result ≡ NOT_MADE) × (handle.new ≡ handle.old) × (out.new ≡ out.old) }
 {
     if !is_made(handle) {
         return NOT_MADE;
@@ -124,14 +119,10 @@ pub extern "C" fn mscp_port_why_at(
     reference: u32,
     out: &mut [HolderOut],
 ) -> i32
-    ensures count { is_made handle.old ≡ true → IfSome (connection_given connection) (λ via.
-        result ≡ pos (length (holders_in handle.old.held.controller via reference))) }
-    ensures told { is_made handle.old ≡ true → IfSome (connection_given connection) (λ via.
-        out.new ≡ holders_told (holders_in handle.old.held.controller via reference) out.old) }
-    ensures no_connection { is_made handle.old ≡ true → connection_given connection ≡ None
-        → (result ≡ BAD_CONNECTION) × (out.new ≡ out.old) }
-    ensures same { handle.new ≡ handle.old }
-    ensures unmade { is_made handle.old ≡ false → (result ≡ NOT_MADE) × (out.new ≡ out.old) }
+    ensures call { is_made handle.old ≡ true
+        → AnswersHandle handle.old (calls.Why connection reference out.old result out.new) handle.new }
+    ensures unmade { is_made handle.old ≡ false
+        → (result ≡ NOT_MADE) × (handle.new ≡ handle.old) × (out.new ≡ out.old) }
 {
     if !is_made(handle) {
         return NOT_MADE;

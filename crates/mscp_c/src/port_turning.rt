@@ -1,7 +1,9 @@
 // What a port wants done, and how that went.
 
-ghost use Rattle.std.specs.Prelude.{◌≡◌, true, false, IfSome, None};
-ghost use Rattle.mscp_c.specs.Common.{outcome_given, TellsHeard, TellsWanted, TellsWent};
+ghost use Rattle.std.specs.Prelude.{◌≡◌, true, false};
+ghost use Rattle.mscp_c.specs.Common.{TellsWanted};
+ghost use Rattle.mscp_c.specs.PortHandleCalls as calls;
+ghost use Rattle.mscp_c.specs.PortHandleCalls.{AnswersHandle};
 ghost use Rattle.mscp_memory.specs.PortHandles.{is_made};
 
 use crate::outs::ActionOut;
@@ -28,7 +30,7 @@ fn tell_next(handle: &mut Handle, out: &mut ActionOut, ask: Ask) -> i32
 /// What the port wants done next.
 #[unsafe(no_mangle)]
 pub extern "C" fn mscp_port_next(handle: &mut Handle, out: &mut ActionOut) -> i32
-    ensures wanted { is_made handle.old ≡ true → TellsWanted Ask.All handle.old out.old result handle.new out.new }
+    ensures call { is_made handle.old ≡ true → AnswersHandle handle.old (calls.Next out.old result out.new) handle.new }
     ensures unmade { is_made handle.old ≡ false
         → (result ≡ NOT_MADE) × (handle.new ≡ handle.old) × (out.new ≡ out.old) }
 {
@@ -38,8 +40,8 @@ pub extern "C" fn mscp_port_next(handle: &mut Handle, out: &mut ActionOut) -> i3
 /// What the port wants done next beside blocks, while one takes its time.
 #[unsafe(no_mangle)]
 pub extern "C" fn mscp_port_next_message(handle: &mut Handle, out: &mut ActionOut) -> i32
-    ensures wanted { is_made handle.old ≡ true
-        → TellsWanted Ask.Messages handle.old out.old result handle.new out.new }
+    ensures call { is_made handle.old ≡ true
+        → AnswersHandle handle.old (calls.NextMessage out.old result out.new) handle.new }
     ensures unmade { is_made handle.old ≡ false
         → (result ≡ NOT_MADE) × (handle.new ≡ handle.old) × (out.new ≡ out.old) }
 {
@@ -49,7 +51,7 @@ pub extern "C" fn mscp_port_next_message(handle: &mut Handle, out: &mut ActionOu
 /// These bytes were read in host memory, as the port wanted.
 #[unsafe(no_mangle)]
 pub extern "C" fn mscp_port_was_read_at(handle: &mut Handle, bytes: &[u8]) -> i32
-    ensures heard { is_made handle.old ≡ true → TellsHeard bytes.now handle.old result handle.new }
+    ensures call { is_made handle.old ≡ true → AnswersHandle handle.old (calls.WasRead bytes.now result) handle.new }
     ensures unmade { is_made handle.old ≡ false → (result ≡ NOT_MADE) × (handle.new ≡ handle.old) }
 {
     if !is_made(handle) {
@@ -61,10 +63,7 @@ pub extern "C" fn mscp_port_was_read_at(handle: &mut Handle, bytes: &[u8]) -> i3
 /// What the port wanted went so: by this number, and by this status where its block couldn't be moved.
 #[unsafe(no_mangle)]
 pub extern "C" fn mscp_port_went(handle: &mut Handle, outcome: u32, status: u16) -> i32
-    ensures went { is_made handle.old ≡ true → IfSome (outcome_given outcome status) (λ outcome.
-        TellsWent outcome handle.old result handle.new) }
-    ensures no_outcome { is_made handle.old ≡ true → outcome_given outcome status ≡ None
-        → (result ≡ BAD_OUTCOME) × (handle.new ≡ handle.old) }
+    ensures call { is_made handle.old ≡ true → AnswersHandle handle.old (calls.Went outcome status result) handle.new }
     ensures unmade { is_made handle.old ≡ false → (result ≡ NOT_MADE) × (handle.new ≡ handle.old) }
 {
     if !is_made(handle) {

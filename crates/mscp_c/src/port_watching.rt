@@ -1,7 +1,8 @@
 // What comes to a port from elsewhere than its host: volumes, and time.
 
-ghost use Rattle.std.specs.Prelude.{◌≡◌, ◌==◌, not, true, false};
-ghost use Rattle.mscp_c.specs.Common.{LooksAgain, Ticks, Holds, TellsPut, TellsVolume, medium_given, volume_changed, volume_protected};
+ghost use Rattle.std.specs.Prelude.{◌≡◌, true, false};
+ghost use Rattle.mscp_c.specs.PortHandleCalls as calls;
+ghost use Rattle.mscp_c.specs.PortHandleCalls.{AnswersHandle};
 ghost use Rattle.mscp_memory.specs.PortHandles.{is_made};
 
 use crate::port_given::{MediumIn, medium_of};
@@ -11,8 +12,7 @@ use mscp_memory::port::{Handle, is_made, lend};
 /// The host may have given slots of its ring of ends back, of which nothing tells.
 #[unsafe(no_mangle)]
 pub extern "C" fn mscp_port_look_again(handle: &mut Handle) -> i32
-    ensures after { is_made handle.old ≡ true → Holds LooksAgain handle.old handle.new }
-    ensures done { is_made handle.old ≡ true → result ≡ DONE }
+    ensures call { is_made handle.old ≡ true → AnswersHandle handle.old (calls.LookAgain result) handle.new }
     ensures unmade { is_made handle.old ≡ false → (result ≡ NOT_MADE) × (handle.new ≡ handle.old) }
 {
     if !is_made(handle) {
@@ -25,8 +25,7 @@ pub extern "C" fn mscp_port_look_again(handle: &mut Handle) -> i32
 /// A second went by.
 #[unsafe(no_mangle)]
 pub extern "C" fn mscp_port_tick(handle: &mut Handle) -> i32
-    ensures after { is_made handle.old ≡ true → Holds Ticks handle.old handle.new }
-    ensures done { is_made handle.old ≡ true → result ≡ DONE }
+    ensures call { is_made handle.old ≡ true → AnswersHandle handle.old (calls.Tick result) handle.new }
     ensures unmade { is_made handle.old ≡ false → (result ≡ NOT_MADE) × (handle.new ≡ handle.old) }
 {
     if !is_made(handle) {
@@ -39,8 +38,8 @@ pub extern "C" fn mscp_port_tick(handle: &mut Handle) -> i32
 /// A volume came into a unit.
 #[unsafe(no_mangle)]
 pub extern "C" fn mscp_port_volume_came(handle: &mut Handle, unit: u16, medium: &MediumIn) -> i32
-    ensures came { is_made handle.old ≡ true
-        → TellsPut (medium_given medium.now) unit handle.old result handle.new }
+    ensures call { is_made handle.old ≡ true
+        → AnswersHandle handle.old (calls.VolumeCame unit medium.now result) handle.new }
     ensures unmade { is_made handle.old ≡ false → (result ≡ NOT_MADE) × (handle.new ≡ handle.old) }
 {
     if !is_made(handle) {
@@ -52,7 +51,7 @@ pub extern "C" fn mscp_port_volume_came(handle: &mut Handle, unit: u16, medium: 
 /// The volume of a unit went.
 #[unsafe(no_mangle)]
 pub extern "C" fn mscp_port_volume_went(handle: &mut Handle, unit: u16) -> i32
-    ensures went { is_made handle.old ≡ true → TellsVolume (volume_changed false) unit handle.old result handle.new }
+    ensures call { is_made handle.old ≡ true → AnswersHandle handle.old (calls.VolumeWent unit result) handle.new }
     ensures unmade { is_made handle.old ≡ false → (result ≡ NOT_MADE) × (handle.new ≡ handle.old) }
 {
     if !is_made(handle) {
@@ -64,8 +63,8 @@ pub extern "C" fn mscp_port_volume_went(handle: &mut Handle, unit: u16) -> i32
 /// Nothing may be written on the volume of a unit from now on, or something may again where the flag is 0.
 #[unsafe(no_mangle)]
 pub extern "C" fn mscp_port_protect(handle: &mut Handle, unit: u16, is_protected: u32) -> i32
-    ensures protects { is_made handle.old ≡ true
-        → TellsVolume (volume_protected (not (is_protected == 0))) unit handle.old result handle.new }
+    ensures call { is_made handle.old ≡ true
+        → AnswersHandle handle.old (calls.Protect unit is_protected result) handle.new }
     ensures unmade { is_made handle.old ≡ false → (result ≡ NOT_MADE) × (handle.new ≡ handle.old) }
 {
     if !is_made(handle) {

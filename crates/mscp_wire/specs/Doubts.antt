@@ -50,10 +50,10 @@ is_past unit y e =
     is_moved e.code && nat_eq (status_code e) 0 && is_single unit.state
     && ends_past unit.noted.size unit.noted.table y.block y.parameter
 
--- a command has no use for a status of this code (manual, "Status and Event Codes"): an ACCESS (16), a COMPARE HOST DATA
--- (32) or a READ (33) that is Write Protected (6), a Compare Error (7) of anything but a COMPARE HOST DATA or a transfer
--- with the modifier Compare, a Host Buffer Access Error (9) without a buffer, which a COMPARE HOST DATA, a READ and a
--- WRITE (34) have, and of an AVAILABLE (8) all codes of a medium, of data or of a buffer (5 to 9)
+-- a command has no use for a status of this code (manual, "Status and Event Codes"): an ACCESS (16), a COMPARE HOST
+-- DATA (32) or a READ (33) that is Write Protected (6), a Compare Error (7) of anything but a COMPARE HOST DATA or a
+-- transfer with the modifier Compare, a Host Buffer Access Error (9) without a buffer, which a COMPARE HOST DATA, a
+-- READ and a WRITE (34) have, and of an AVAILABLE (8) all codes of a medium, of data or of a buffer (5 to 9)
 abbrev pub has_no_use : Sent → ℕ → Bool
 has_no_use y code =
     (nat_eq code 6 && (nat_eq y.opcode 16 || nat_eq y.opcode 32 || nat_eq y.opcode 33))

@@ -72,8 +72,8 @@ identity_in b =
 abbrev pub protected_in : List ℕ → Bool
 protected_in b = nat_le 16 (length b) && not (nat_eq (num b 14 2 / 4096 % 4) 0)
 
--- how many blocks all copies of a unit's replacement and caching table have, if an end is long enough to tell it: only one
--- of GET UNIT STATUS does (manual, "GET UNIT STATUS Command")
+-- how many blocks all copies of a unit's replacement and caching table have, if an end is long enough to tell it: only
+-- one of GET UNIT STATUS does (manual, "GET UNIT STATUS Command")
 abbrev pub table_in : List ℕ → Option ℕ
 table_in b =
     if nat_eq (slice_index b 8) 0x83 && nat_le 48 (length b)

@@ -112,7 +112,8 @@ pub record HasFew {A : Type 0} (reading : Reading A) (n : ℕ) : Type 0 where
 
 -- what was returned of the line of this number, which says this, and is kept then
 abbrev pub Goes : {A : Type 0} → ℕ → Log → Result Said Cause → Result (Option Wrong) ReadFault → Reading A → Type 0
-Goes number log said (Ok None) reading = (next : Log) × ((said >>= with_said number log) ≡ Ok next) × IsAfter next reading
+Goes number log said (Ok None) reading =
+    (next : Log) × ((said >>= with_said number log) ≡ Ok next) × IsAfter next reading
 Goes number log said (Ok (Some wrong)) reading = IsWrong number log said wrong
 Goes number log said (Err (reads.Script fault)) reading =
     (fault.line ≡ number) × ((said >>= with_said number log) ≡ Err fault.cause)

@@ -3,8 +3,8 @@ use Rattle.mscp_c.proofs.PortLent.{put_told}
 use Rattle.mscp_c.specs.PortGiven.{medium_given}
 use Rattle.mscp_c.proofs.port_watching.mscp_port_volume_came.Goals as goal
 
-pub returns-clause-came : goal.returns-clause-came
-returns-clause-came c made =
+pub returns-clause-call : goal.returns-clause-call
+returns-clause-call c made =
     put_told c.is_made.new.handle c.args.handle.now c.lend.result.now c.volume_came.new.self c.lend.ensures.value
     c.is_made.ensures.same (medium_given c.args.medium.now) c.args.unit c.volume_came.result _ (search rules)
     (search rules)
