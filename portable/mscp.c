@@ -1588,7 +1588,7 @@ L22:;
     return;
 }
 
-/* mscp_c::mscp_driver_hear_at, crates/mscp_c/src/driving.rt:115 */
+/* mscp_c::mscp_driver_hear_at, crates/mscp_c/src/driving.rt:116 */
 static u32 export_mscp_driver_hear_at(u64 v0, u64 v1, u64 v2, u64 v3, u64 v4)
 {
     ROOM(frame, 160);
@@ -2121,7 +2121,7 @@ L1:;
     return v1;
 }
 
-/* mscp_c::mscp_driver_outstanding_at, crates/mscp_c/src/driving.rt:151 */
+/* mscp_c::mscp_driver_outstanding_at, crates/mscp_c/src/driving.rt:152 */
 static u32 export_mscp_driver_outstanding_at(u64 v0, u64 v1, u64 v2)
 {
     u32 v3 = 0;
@@ -2338,7 +2338,7 @@ L1:;
     return;
 }
 
-/* mscp_c::mscp_driver_poll, crates/mscp_c/src/driving.rt:81 */
+/* mscp_c::mscp_driver_poll, crates/mscp_c/src/driving.rt:82 */
 static u32 export_mscp_driver_poll(u64 v0, u32 v1, u64 v2)
 {
     ROOM(frame, 208);
@@ -3435,7 +3435,7 @@ L1:;
     TRAP();
 }
 
-/* mscp_c::mscp_driver_submit_at, crates/mscp_c/src/driving.rt:61 */
+/* mscp_c::mscp_driver_submit_at, crates/mscp_c/src/driving.rt:62 */
 static u32 export_mscp_driver_submit_at(u64 v0, u64 v1, u64 v2)
 {
     ROOM(frame, 112);
@@ -3600,7 +3600,7 @@ L1:;
     return v3;
 }
 
-/* mscp_c::mscp_driver_tick, crates/mscp_c/src/driving.rt:136 */
+/* mscp_c::mscp_driver_tick, crates/mscp_c/src/driving.rt:137 */
 static u32 export_mscp_driver_tick(u64 v0, u64 v1)
 {
     u32 v2 = 0, v5 = 0, v6 = 0, v7 = 0, v8 = 0;
@@ -4673,7 +4673,7 @@ L1:;
     return v1;
 }
 
-/* mscp_c::mscp_host_poll, crates/mscp_c/src/hosting.rt:92 */
+/* mscp_c::mscp_host_poll, crates/mscp_c/src/hosting.rt:93 */
 static u32 export_mscp_host_poll(u64 v0, u32 v1, u64 v2)
 {
     ROOM(frame, 144);
@@ -4775,7 +4775,7 @@ L1:;
     return v1;
 }
 
-/* mscp_c::mscp_host_receive_at, crates/mscp_c/src/hosting.rt:107 */
+/* mscp_c::mscp_host_receive_at, crates/mscp_c/src/hosting.rt:108 */
 static u32 export_mscp_host_receive_at(u64 v0, u64 v1, u64 v2, u64 v3)
 {
     ROOM(frame, 240);
@@ -5184,7 +5184,7 @@ L1:;
     return 1056ull;
 }
 
-/* mscp_c::mscp_host_submit_at, crates/mscp_c/src/hosting.rt:72 */
+/* mscp_c::mscp_host_submit_at, crates/mscp_c/src/hosting.rt:73 */
 static u32 export_mscp_host_submit_at(u64 v0, u64 v1, u64 v2)
 {
     ROOM(frame, 112);
@@ -6475,7 +6475,7 @@ L1:;
     return 8ull;
 }
 
-/* mscp_c::mscp_port_begun, crates/mscp_c/src/port_seeing.rt:86 */
+/* mscp_c::mscp_port_begun, crates/mscp_c/src/port_seeing.rt:87 */
 static u32 export_mscp_port_begun(u64 v0, u64 v1)
 {
     u32 v4 = 0, v5 = 0, v7 = 0, v8 = 0, v9 = 0, v10 = 0, v11 = 0, v12 = 0, v13 = 0, v14 = 0;
@@ -7258,7 +7258,7 @@ L1:;
     return v1;
 }
 
-/* mscp_c::mscp_port_look_at, crates/mscp_c/src/port_seeing.rt:101 */
+/* mscp_c::mscp_port_look_at, crates/mscp_c/src/port_seeing.rt:102 */
 APART u32 export_mscp_port_look_at(u64 v0, u64 v1, u64 v2)
 {
     ROOM(frame, 784);
@@ -13944,7 +13944,7 @@ L1:;
     return v1;
 }
 
-/* mscp_c::mscp_port_volume, crates/mscp_c/src/port_seeing.rt:71 */
+/* mscp_c::mscp_port_volume, crates/mscp_c/src/port_seeing.rt:72 */
 static u32 export_mscp_port_volume(u64 v0, u32 v1, u64 v2)
 {
     u32 v3 = 0, v7 = 0;
@@ -16370,7 +16370,7 @@ L2:;
     TRAP();
 }
 
-/* mscp_c::mscp_port_why_at, crates/mscp_c/src/port_seeing.rt:116 */
+/* mscp_c::mscp_port_why_at, crates/mscp_c/src/port_seeing.rt:117 */
 APART u32 export_mscp_port_why_at(u64 v0, u32 v1, u32 v2, u64 v3, u64 v4)
 {
     ROOM(frame, 1552);
@@ -16478,7 +16478,7 @@ L1:;
     return v1;
 }
 
-/* mscp_c::mscp_port_write_sa, crates/mscp_c/src/port_registers.rt:52 */
+/* mscp_c::mscp_port_write_sa, crates/mscp_c/src/port_registers.rt:53 */
 static u32 export_mscp_port_write_sa(u64 v0, u32 v1)
 {
     u32 v3 = 0;

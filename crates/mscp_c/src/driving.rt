@@ -48,7 +48,8 @@ pub extern "C" fn mscp_driver_init_at(handle: &mut Handle) -> i32
 #[unsafe(no_mangle)]
 pub extern "C" fn mscp_driver_credits(handle: &mut Handle) -> i64
     ensures call { is_made handle.old ≡ true → AnswersHandle handle.old (calls.Credits result) handle.new }
-    ensures unmade { is_made handle.old ≡ false → (result ≡ NOT_MADE) × (handle.new ≡ handle.old) }
+    ensures same { handle.new ≡ handle.old }
+    ensures unmade { is_made handle.old ≡ false → result ≡ NOT_MADE }
 {
     if !is_made(handle) {
         return i64::from(NOT_MADE);
@@ -136,8 +137,8 @@ pub extern "C" fn mscp_driver_hear_at(
 pub extern "C" fn mscp_driver_tick(handle: &mut Handle, watch: &mut Watch) -> i32
     ensures call { is_made handle.old ≡ true
         → AnswersHandle handle.old (calls.Tick watch.old result watch.new) handle.new }
-    ensures unmade { is_made handle.old ≡ false
-        → (result ≡ NOT_MADE) × (handle.new ≡ handle.old) × (watch.new ≡ watch.old) }
+    ensures same { handle.new ≡ handle.old }
+    ensures unmade { is_made handle.old ≡ false → (result ≡ NOT_MADE) × (watch.new ≡ watch.old) }
 {
     if !is_made(handle) {
         return NOT_MADE;
@@ -151,8 +152,8 @@ pub extern "C" fn mscp_driver_tick(handle: &mut Handle, watch: &mut Watch) -> i3
 pub extern "C" fn mscp_driver_outstanding_at(handle: &mut Handle, out: &mut [Asked]) -> i32
     ensures call { is_made handle.old ≡ true
         → AnswersHandle handle.old (calls.Outstanding out.old result out.new) handle.new }
-    ensures unmade { is_made handle.old ≡ false
-        → (result ≡ NOT_MADE) × (handle.new ≡ handle.old) × (out.new ≡ out.old) }
+    ensures same { handle.new ≡ handle.old }
+    ensures unmade { is_made handle.old ≡ false → (result ≡ NOT_MADE) × (out.new ≡ out.old) }
 {
     if !is_made(handle) {
         return NOT_MADE;

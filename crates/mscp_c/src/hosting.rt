@@ -52,7 +52,8 @@ pub extern "C" fn mscp_host_init_at(handle: &mut Handle, credits: u32) -> i32
 #[unsafe(no_mangle)]
 pub extern "C" fn mscp_host_balance(handle: &mut Handle) -> i64
     ensures call { is_made handle.old ≡ true → AnswersHandle handle.old (calls.Balance result) handle.new }
-    ensures unmade { is_made handle.old ≡ false → (result ≡ NOT_MADE) × (handle.new ≡ handle.old) }
+    ensures same { handle.new ≡ handle.old }
+    ensures unmade { is_made handle.old ≡ false → result ≡ NOT_MADE }
 {
     if !is_made(handle) {
         return i64::from(NOT_MADE);

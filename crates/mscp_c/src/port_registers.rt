@@ -39,7 +39,8 @@ pub extern "C" fn mscp_port_write_ip(handle: &mut Handle) -> i32
 #[unsafe(no_mangle)]
 pub extern "C" fn mscp_port_read_sa(handle: &mut Handle) -> i32
     ensures call { is_made handle.old ≡ true → AnswersHandle handle.old (calls.ReadSa result) handle.new }
-    ensures unmade { is_made handle.old ≡ false → (result ≡ NOT_MADE) × (handle.new ≡ handle.old) }
+    ensures same { handle.new ≡ handle.old }
+    ensures unmade { is_made handle.old ≡ false → result ≡ NOT_MADE }
 {
     if !is_made(handle) {
         return NOT_MADE;

@@ -18,8 +18,8 @@ use mscp_memory::port::{Handle, is_made, lend};
 pub extern "C" fn mscp_port_hardware(handle: &mut Handle, out: &mut HardwareIn) -> i32
     ensures call { is_made handle.old ≡ true
         → AnswersHandle handle.old (calls.Hardware out.old result out.new) handle.new }
-    ensures unmade { is_made handle.old ≡ false
-        → (result ≡ NOT_MADE) × (handle.new ≡ handle.old) × (out.new ≡ out.old) }
+    ensures same { handle.new ≡ handle.old }
+    ensures unmade { is_made handle.old ≡ false → (result ≡ NOT_MADE) × (out.new ≡ out.old) }
 {
     if !is_made(handle) {
         return NOT_MADE;
@@ -33,8 +33,8 @@ pub extern "C" fn mscp_port_hardware(handle: &mut Handle, out: &mut HardwareIn) 
 pub extern "C" fn mscp_port_state(handle: &mut Handle, out: &mut StateOut) -> i32
     ensures call { is_made handle.old ≡ true
         → AnswersHandle handle.old (calls.State out.old result out.new) handle.new }
-    ensures unmade { is_made handle.old ≡ false
-        → (result ≡ NOT_MADE) × (handle.new ≡ handle.old) × (out.new ≡ out.old) }
+    ensures same { handle.new ≡ handle.old }
+    ensures unmade { is_made handle.old ≡ false → (result ≡ NOT_MADE) × (out.new ≡ out.old) }
 {
     if !is_made(handle) {
         return NOT_MADE;
@@ -57,8 +57,9 @@ pub extern "C" fn mscp_port_settings_at(
 ) -> i32
     ensures call { is_made handle.old ≡ true
         → AnswersHandle handle.old (calls.Configured limits.old units.old result limits.new units.new) handle.new }
+    ensures same { handle.new ≡ handle.old }
     ensures unmade { is_made handle.old ≡ false
-        → (result ≡ NOT_MADE) × (handle.new ≡ handle.old) × (limits.new ≡ limits.old) × (units.new ≡ units.old) }
+        → (result ≡ NOT_MADE) × (limits.new ≡ limits.old) × (units.new ≡ units.old) }
 {
     if !is_made(handle) {
         return NOT_MADE;
@@ -71,8 +72,8 @@ pub extern "C" fn mscp_port_settings_at(
 pub extern "C" fn mscp_port_volume(handle: &mut Handle, unit: u16, out: &mut VolumeOut) -> i32
     ensures call { is_made handle.old ≡ true
         → AnswersHandle handle.old (calls.Volume unit out.old result out.new) handle.new }
-    ensures unmade { is_made handle.old ≡ false
-        → (result ≡ NOT_MADE) × (handle.new ≡ handle.old) × (out.new ≡ out.old) }
+    ensures same { handle.new ≡ handle.old }
+    ensures unmade { is_made handle.old ≡ false → (result ≡ NOT_MADE) × (out.new ≡ out.old) }
 {
     if !is_made(handle) {
         return NOT_MADE;
@@ -86,8 +87,8 @@ pub extern "C" fn mscp_port_volume(handle: &mut Handle, unit: u16, out: &mut Vol
 pub extern "C" fn mscp_port_begun(handle: &mut Handle, out: &mut UpcomingOut) -> i32
     ensures call { is_made handle.old ≡ true
         → AnswersHandle handle.old (calls.Begun out.old result out.new) handle.new }
-    ensures unmade { is_made handle.old ≡ false
-        → (result ≡ NOT_MADE) × (handle.new ≡ handle.old) × (out.new ≡ out.old) }
+    ensures same { handle.new ≡ handle.old }
+    ensures unmade { is_made handle.old ≡ false → (result ≡ NOT_MADE) × (out.new ≡ out.old) }
 {
     if !is_made(handle) {
         return NOT_MADE;
@@ -100,8 +101,8 @@ pub extern "C" fn mscp_port_begun(handle: &mut Handle, out: &mut UpcomingOut) ->
 #[unsafe(no_mangle)]
 pub extern "C" fn mscp_port_look_at(handle: &mut Handle, out: &mut [FigureOut]) -> i32
     ensures call { is_made handle.old ≡ true → AnswersHandle handle.old (calls.Look out.old result out.new) handle.new }
-    ensures unmade { is_made handle.old ≡ false
-        → (result ≡ NOT_MADE) × (handle.new ≡ handle.old) × (out.new ≡ out.old) }
+    ensures same { handle.new ≡ handle.old }
+    ensures unmade { is_made handle.old ≡ false → (result ≡ NOT_MADE) × (out.new ≡ out.old) }
 {
     if !is_made(handle) {
         return NOT_MADE;
@@ -121,8 +122,8 @@ pub extern "C" fn mscp_port_why_at(
 ) -> i32
     ensures call { is_made handle.old ≡ true
         → AnswersHandle handle.old (calls.Why connection reference out.old result out.new) handle.new }
-    ensures unmade { is_made handle.old ≡ false
-        → (result ≡ NOT_MADE) × (handle.new ≡ handle.old) × (out.new ≡ out.old) }
+    ensures same { handle.new ≡ handle.old }
+    ensures unmade { is_made handle.old ≡ false → (result ≡ NOT_MADE) × (out.new ≡ out.old) }
 {
     if !is_made(handle) {
         return NOT_MADE;
