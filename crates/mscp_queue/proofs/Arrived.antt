@@ -1,6 +1,6 @@
 -- The best starts once a command came, behind all that wait.
 use Rattle.mscp_queue.proofs.Basics.{◌≡◌, ◌≢◌, ◌⊎◌, inl, inr, ⊎_elim, ℕ, ◌+◌, ◌<◌, ◌≤◌, true, false, List, take, length, get_or, refl, ap, sym, ◌∙◌, subst, arith, ext_get_or, false≢true, get_or-take, get_or_default, length-map, length-take-le, Command, Drive, Target, IsUnitList, CanBeShown, is_known, units_of, drive_place, fresh_drive, known_at, place_is, pairs_rise, same_or, Record, no_record, record_at, drive_at, order_cost}
-use Rattle.mscp_queue.proofs.Common.{AreFavored, IsBest, IsClearOn, IsLearned, bars, comes_before, cond, command_at, commands, cost_at, drive_in, is_clear, knows, list_all, not, one_block, start_in}
+use Rattle.mscp_queue.proofs.Common.{AreFavored, IsBest, IsClearOn, IsLearned, bars, comes_before, cond, command_at, commands, cost_at, drive_in, is_clear, knows, list_all, nat_eq, not, one_block, start_in}
 use Rattle.mscp_queue.specs.declared.favorites.Favorites.{Favorites}
 use Rattle.mscp_queue.specs.Starts.{Start}
 use Rattle.mscp_queue.proofs.Best.{best_of_two, best_same}
@@ -121,10 +121,10 @@ module _ {ds : List Drive} {rs : List Record} {own : List Target} (shown : CanBe
 
   pub arrived : {f g : Favorites} (at : ℕ) (t : Start) → AreFavored ds (take n cs) f → is_clear cs n ≡ true
       → at ≡ drive_place ds unit → t.place ≡ n → t.cost ≡ order_cost (drive_at ds rs n).unit (drive_at ds rs n).head
-      (record_at rs n).command.order → g.known ≡ f.known
+      (record_at rs n).command.order → knows f at ≡ true
       → IsLearned at (cond (comes_before (start_in f at) t) (start_in f at) t) f g
       → AreFavored ds cs g
-  arrived {f} {g} at t h clear is place cost same learned = record { each = λ k l on. by k l on (same_or k at) }
+  arrived {f} {g} at t h clear is place cost known_at_it learned = record { each = λ k l on. by k l on (same_or k at) }
     where
       c : command_at cs n ≡ (record_at rs n).command
       c = command_is rs n inside
@@ -154,11 +154,10 @@ module _ {ds : List Drive} {rs : List Record} {own : List Target} (shown : CanBe
           (subst (IsBest (IsClearOn cs (drive_in ds at).unit.number) (cost_at (drive_in ds at) cs)) (sym learned.own)
           (best_last cs n many (drive_in ds at).unit.number (drive_in ds at) (start_in f at) t own_clear
           (let few = shown.few in omega (arith, few, long)) place costs
-          (h.each at (subst (λ i. i < length ds) e l)
-          (ap (λ m. get_or m at false) (sym same) ∙ (ap (knows g) (sym e) ∙ on)))))
+          (h.each at (subst (λ i. i < length ds) e l) known_at_it)))
       by k l on (inr d) =
           subst (IsBest (IsClearOn cs (drive_in ds k).unit.number) (cost_at (drive_in ds k) cs)) (sym
           (learned.other k d))
           (best_still cs n many (drive_in ds k).unit.number (drive_in ds k) (start_in f k)
           (λ x. d (sym (only k l (ap (λ (c : Command). c.unit) (sym c) ∙ x.unit)) ∙ sym is))
-          (h.each k l (ap (λ m. get_or m k false) (sym same) ∙ on)))
+          (h.each k l (ap (λ (s : Start). not (nat_eq s.place 255)) (sym (learned.other k d)) ∙ on)))

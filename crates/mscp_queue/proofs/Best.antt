@@ -1,5 +1,5 @@
 -- The first of the cheapest of some starts.
-use Rattle.mscp_queue.proofs.Common.{◌≡◌, ◌⊎◌, inl, inr, ⊎_elim, ℕ, ◌<◌, Bool, true, false, cond, sym, ◌∙◌, subst, arith, eq-eqb, eqb-true, eqb-false, ltb-true, ltb-false, IsAhead, IsBest, comes_before}
+use Rattle.mscp_queue.proofs.Common.{◌≡◌, ◌⊎◌, inl, inr, ⊎_elim, ℕ, ◌<◌, ◌≤◌, Bool, true, false, cond, sym, ◌∙◌, subst, arith, eqb-true, eqb-false, ltb-true, ltb-false, IsAhead, IsBest, comes_before}
 use Rattle.mscp_queue.specs.Starts.{Start}
 
 -- the same places at the same costs
@@ -18,18 +18,22 @@ ahead_of : (a b : Start) (cost place : ℕ) → IsAhead a b.cost b.place → IsA
 ahead_of a b cost place h k = grind arith
 
 -- of two
-before : (one other : Start) → comes_before one other ≡ true
+before : (one other : Start) → other.place ≤ 64 → comes_before one other ≡ true
     → (one.place ≡ 64 → ⊥) × ((other.place ≡ 64) ⊎ IsAhead one other.cost other.place)
-before one other e = grind (arith, eqb-true, ltb-true, eq-eqb)
+before one other l e = grind (arith, eqb-true, ltb-true, ltb-false)
 
-not_before : (one other : Start) → comes_before one other ≡ false
+not_before : (one other : Start) → one.place ≤ 64 → comes_before one other ≡ false
     → (one.place ≡ 64) ⊎ ((other.place ≡ 64 → ⊥) × IsAhead other one.cost one.place)
-not_before one other e = grind (arith, eqb-false, ltb-false, eq-eqb)
+not_before one other l e = grind (arith, eqb-false, ltb-true, ltb-false)
+
+-- the best is a command's or none's
+best_known : {P : ℕ → Type 0} {c : ℕ → ℕ} {s : Start} → IsBest P c s → s.place ≤ 64
+best_known {P} {c} {s} h = ⊎_elim (λ e. omega (arith, e)) (λ x. let l = (h.each s.place x.0).0 in omega (arith, l)) h.is
 
 pub best_of_two : {P Q : ℕ → Type 0} {c : ℕ → ℕ} {one other : Start} (s : Start) (b : Bool) → IsBest P c one
     → IsBest Q c other → b ≡ comes_before other one → s ≡ cond b other one → IsBest (λ p. P p ⊎ Q p) c s
 best_of_two {P} {Q} {c} {one} {other} s true h k e f =
-    let t = before other one (sym e) in
+    let t = before other one (best_known h) (sym e) in
     subst (IsBest (λ p. P p ⊎ Q p) c) (sym f) (record {
       is = ⊎_elim (λ x. absurd (t.0 x)) (λ x. inr (inr x.0, x.1)) k.is;
       each = λ p x. ⊎_elim
@@ -45,7 +49,7 @@ best_of_two {P} {Q} {c} {one} {other} s true h k e f =
         → other.place < 64
     below o d = ⊎_elim (λ z. absurd (d z)) (λ z. (k.each other.place z.0).0) o
 best_of_two {P} {Q} {c} {one} {other} s false h k e f =
-    let t = not_before other one (sym e) in
+    let t = not_before other one (best_known k) (sym e) in
     subst (IsBest (λ p. P p ⊎ Q p) c) (sym f) (record {
       is = ⊎_elim (λ x. inl x) (λ x. inr (inl x.0, x.1)) h.is;
       each = λ p x. ⊎_elim (λ y. h.each p y)

@@ -29,8 +29,8 @@ pub use Rattle.mscp_packet.specs.declared.command.Order.{Order}
 pub use Rattle.mscp_packet.specs.declared.end.BodyKind.{BodyKind}
 pub use Rattle.mscp_packet.specs.declared.end.End.{End}
 pub use Rattle.mscp_queue.specs.Buckets.{AreBuckets, IsPut, bucket_at, bucket_of}
-pub use Rattle.mscp_queue.specs.Starts.{closed, comes_before, is_none, place_closed, start_of}
-pub use Rattle.mscp_queue.specs.Favorites.{AreFavored, AreOnDrive, IsAhead, IsBest, IsClear, IsClearOn, IsFirstOf, IsLearned, IsMarked, IsNearOf, IsOpenOn, KnowsNothing, bars, command_at, commands, cost_at, cost_of, cost_on, cost_there, drive_in, is_clear, kind_there, knows, start_in}
+pub use Rattle.mscp_queue.specs.Starts.{closed, comes_before, is_one, place_closed, start_of}
+pub use Rattle.mscp_queue.specs.Favorites.{AreFavored, AreOnDrive, IsAhead, IsBest, IsClear, IsClearOn, IsFirstOf, IsLearned, IsNearOf, IsOpenOn, KnowsNothing, bars, command_at, commands, cost_at, cost_of, cost_on, cost_there, drive_in, is_clear, kind_there, knows, start_in}
 pub use Rattle.mscp_queue.specs.Drives.{IsOnUnit, drive_of, fresh_drive, has_number, replaced}
 pub use Rattle.mscp_queue.specs.Dues.{AreDue, AreTimed, IsDue, due_of, last_end, left_in_service, told}
 pub use Rattle.mscp_queue.specs.Figures.{figure_at, figures_from, looked_at}

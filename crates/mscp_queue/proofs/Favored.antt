@@ -1,6 +1,6 @@
 -- The best starts that a queue keeps are those that the slots tell.
-use Rattle.mscp_queue.proofs.Basics.{◌≡◌, ⊎_elim, ℕ, ◌<◌, ◌≤◌, Bool, true, false, not, ◌||◌, List, map, take, get_or, length, refl, ap, sym, ◌∙◌, subst, arith, list_all, false≢true, get_or-map, get_or_default, length-map, take-map, all_shown, Command, Order, cylinder_of, first_block, is_move, is_sequential, order_cost, Drive, Kind, Record, Target, CanBeShown, IsUnitList, is_known, units_of, no_record, no_target, record_at, target_of, unit_place, AreOnDrive, cond, ne_eqb, same_or, drive_of, fresh_drive, known_at, place_is, pairs_rise, place_same, cylinder_within, is_free, leads_to, LeadsTo, kinds_of, no_kind, own_target}
-use Rattle.mscp_queue.proofs.Common.{AreFavored, IsBest, IsClearOn, IsLearned, IsMarked, IsOpenOn, KnowsNothing, bars, command_at, commands, cost_at, cost_on, cost_there, drive_in, is_clear, kind_there, knows, last_cylinder, one_block, range_of, start_in}
+use Rattle.mscp_queue.proofs.Basics.{◌≡◌, ⊎_elim, ℕ, ◌<◌, ◌≤◌, Bool, true, false, not, ◌||◌, List, map, take, get_or, length, refl, ap, sym, ◌∙◌, subst, arith, list_all, nat_eq, false≢true, get_or-map, get_or_default, length-map, take-map, all_shown, Command, Order, cylinder_of, first_block, is_move, is_sequential, order_cost, Drive, Kind, Record, Target, CanBeShown, IsUnitList, is_known, units_of, no_record, no_target, record_at, target_of, unit_place, AreOnDrive, same_or, drive_of, fresh_drive, known_at, place_is, pairs_rise, place_same, cylinder_within, is_free, leads_to, LeadsTo, kinds_of, no_kind, own_target}
+use Rattle.mscp_queue.proofs.Common.{AreFavored, IsBest, IsClearOn, IsLearned, IsOpenOn, KnowsNothing, bars, command_at, commands, cost_at, cost_on, cost_there, drive_in, is_clear, kind_there, last_cylinder, one_block, range_of, start_in}
 use Rattle.mscp_queue.proofs.Turns.{found_unit}
 use Rattle.mscp_queue.specs.Starts.{Start}
 use Rattle.mscp_queue.specs.declared.favorites.Favorites.{Favorites}
@@ -140,16 +140,16 @@ module _ {ds : List Drive} {rs : List Record} {own : List Target} (shown : CanBe
 
 -- ---- a start is learned
 pub favored_more : {ds : List Drive} {cs : List Command} {f g : Favorites} (at : ℕ) (s : Start) → AreFavored ds cs f
-    → length ds ≤ 16 → IsBest (IsClearOn cs (drive_in ds at).unit.number) (cost_at (drive_in ds at) cs) s
-    → IsMarked true at f g → IsLearned at s f g → AreFavored ds cs g
-favored_more {ds} {cs} {f} {g} at s h few best set learned = record {
+    → IsBest (IsClearOn cs (drive_in ds at).unit.number) (cost_at (drive_in ds at) cs) s
+    → IsLearned at s f g → AreFavored ds cs g
+favored_more {ds} {cs} {f} {g} at s h best learned = record {
   each = λ k l on. ⊎_elim
       (λ e. subst (λ k. IsBest (IsClearOn cs (drive_in ds k).unit.number) (cost_at (drive_in ds k) cs)
       (start_in g k)) (sym e)
       (subst (IsBest (IsClearOn cs (drive_in ds at).unit.number) (cost_at (drive_in ds at) cs)) (sym learned.own) best))
       (λ d. subst (IsBest (IsClearOn cs (drive_in ds k).unit.number) (cost_at (drive_in ds k) cs)) (sym
       (learned.other k d))
-      (h.each k l (sym (set k (omega (arith, l, few)) ∙ ap (λ b. cond b true (knows f k)) (ne_eqb k at d)) ∙ on)))
+      (h.each k l (ap (λ (s : Start). not (nat_eq s.place 255)) (sym (learned.other k d)) ∙ on)))
       (same_or k at);
 }
 

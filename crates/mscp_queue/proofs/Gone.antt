@@ -1,6 +1,6 @@
 -- The best starts once a drive served a command, or one was aborted.
-use Rattle.mscp_queue.proofs.Basics.{◌≡◌, ◌≢◌, ◌⊎◌, inl, inr, ⊎_elim, ℕ, ◌+◌, ◌-◌, ◌<◌, ◌≤◌, Bool, true, false, false≢true, not, cond, if◌then◌else◌, ◌&&◌, ◌||◌, ◌++◌, List, take, drop, length, refl, ap, sym, ◌∙◌, subst, arith, nat_eq, nat_lt, eq-eqb, ne_eqb, get_or-drop, get_or-take, get_or_append_left, get_or_default, length-take-le, length-append, length-drop, Command, Drive, IsUnitList, units_of, is_sequential, no_record, drive_place, fresh_drive, pairs_rise, place_is, same_or, order_cost}
-use Rattle.mscp_queue.proofs.Common.{AreFavored, IsAhead, IsBest, IsClearOn, IsMarked, bars, command_at, cost_at, drive_in, lt-ltb, ltb-false, le-ltb, get_or-append_right, knows, closed, one_block, place_closed, start_in}
+use Rattle.mscp_queue.proofs.Basics.{◌≡◌, ◌≢◌, ◌⊎◌, inl, inr, ⊎_elim, ℕ, ◌+◌, ◌-◌, ◌<◌, ◌≤◌, Bool, true, false, false≢true, not, cond, if◌then◌else◌, ◌&&◌, ◌||◌, ◌++◌, List, take, drop, length, refl, ap, sym, ◌∙◌, subst, arith, nat_eq, nat_lt, eq-eqb, ltb-true, ne_eqb, get_or-drop, get_or-take, get_or_append_left, get_or_default, length-take-le, length-append, length-drop, Command, Drive, IsUnitList, units_of, is_sequential, no_record, drive_place, fresh_drive, pairs_rise, place_is, same_or, order_cost}
+use Rattle.mscp_queue.proofs.Common.{AreFavored, IsAhead, IsBest, IsClearOn, bars, command_at, cost_at, drive_in, lt-ltb, ltb-false, le-ltb, get_or-append_right, knows, closed, one_block, place_closed, start_in}
 use Rattle.mscp_queue.specs.declared.favorites.Favorites.{Favorites}
 use Rattle.mscp_queue.specs.Starts.{Start}
 use Rattle.mscp_queue.proofs.Opens.{all_at, at_all}
@@ -26,11 +26,11 @@ closed_none gone = by (nat_lt gone 64)
     by false = refl
 
 closed_below : (gone p : ℕ) → p ≤ gone → place_closed gone p ≡ p
-closed_below gone p l = ap (λ b. if b && not (nat_eq p 64) then p - 1 else p) (le-ltb gone p l)
+closed_below gone p l = ap (λ b. if b && nat_lt p 64 then p - 1 else p) (le-ltb gone p l)
 
 closed_above : (gone p : ℕ) → gone < p → p < 64 → place_closed gone p ≡ p - 1
-closed_above gone p l few = ap (λ b. if b && not (nat_eq p 64) then p - 1 else p) (lt-ltb gone p l)
-    ∙ ap (λ b. if not b then p - 1 else p) (ne_eqb p 64 (λ e. omega (arith, e, few)))
+closed_above gone p l few = ap (λ b. if b && nat_lt p 64 then p - 1 else p) (lt-ltb gone p l)
+    ∙ ap (λ b. if b then p - 1 else p) (lt-ltb p 64 few)
 
 -- those places are each other's
 up_closed : (gone p : ℕ) → p ≢ gone → p < 64 → up gone (place_closed gone p) ≡ p
@@ -221,14 +221,21 @@ other_unit ds cs gone at k units placed b d e = d (sym (place_is ds k (command_a
     ∙ sym placed)
 
 -- what is known then was known, and is another drive's
-known_was : (at k : ℕ) (was now : Favorites) → k < 16 → IsMarked false at was now → knows now k ≡ true
+known_was : (at k gone : ℕ) (moves : Bool) (was now : Favorites) → knows now at ≡ false
+    → (k ≢ at → start_in now k ≡ cond moves (closed gone (start_in was k)) (start_in was k)) → knows now k ≡ true
     → (k ≢ at) × (knows was k ≡ true)
-known_was at k was now b set on = by (same_or k at)
+known_was at k gone moves was now off starts on = by (same_or k at)
   where
+    closed_known : (moves : Bool) (s : Start) → not (nat_eq (cond moves (closed gone s) s).place 255) ≡ true
+        → not (nat_eq s.place 255) ≡ true
+    closed_known moves s e = grind (arith, not, eq-eqb, ltb-true)
+
     by : (k ≡ at) ⊎ (k ≢ at) → (k ≢ at) × (knows was k ≡ true)
-    by (inl e) =
-        absurd (false≢true (sym (set k b ∙ ap (λ b. cond b false (knows was k)) (eq-eqb k at e)) ∙ on))
-    by (inr d) = (d, sym (ap (λ b. cond b false (knows was k)) (ne_eqb k at d)) ∙ (sym (set k b) ∙ on))
+    by (inl e) = absurd (false≢true (sym off ∙ (ap (knows now) (sym e) ∙ on)))
+    by (inr d) = (
+      d,
+      closed_known moves (start_in was k) (ap (λ (s : Start). not (nat_eq s.place 255)) (sym (starts d)) ∙ on),
+    )
 
 -- if nobody stands behind the place, no best start is behind it
 unmoved : (cs : List Command) (gone number : ℕ) {c : ℕ → ℕ} (s : Start) → IsBest (IsClearOn cs number) c s
@@ -247,19 +254,19 @@ module _ {ds : List Drive} {cs : List Command} (units : IsUnitList (units_of ds)
   -- a command is served, or leaves, on the drive at a place
   pub favored_served : {ds' : List Drive} {cs' : List Command} {f g : Favorites} (ends moves : Bool)
       → (moves ≡ ends) ⊎ ((moves ≡ false) × (length cs ≡ gone + 1)) → AreFavored ds cs f
-      → length ds ≤ 16 → length ds' ≡ length ds → ((k : ℕ) → k ≢ at → drive_in ds' k ≡ drive_in ds k)
-      → cs' ≡ cond ends (take gone cs ++ drop (gone + 1) cs) cs → IsMarked false at f g
-      → ((k : ℕ) → k < length ds
+      → length ds' ≡ length ds → ((k : ℕ) → k ≢ at → drive_in ds' k ≡ drive_in ds k)
+      → cs' ≡ cond ends (take gone cs ++ drop (gone + 1) cs) cs → knows g at ≡ false
+      → ((k : ℕ) → k < length ds → k ≢ at
       → start_in g k ≡ cond moves (closed gone (start_in f k)) (start_in f k))
       → AreFavored ds' cs' g
-  favored_served {ds'} {cs'} {f} {g} ends moves how h most same drives left set starts = record {
+  favored_served {ds'} {cs'} {f} {g} ends moves how h same drives left off starts = record {
     each = λ k b on.
         let inside : k < length ds = omega (arith, b, same) in
-        let was = known_was at k f g (omega (arith, inside, most)) set on in
+        let was = known_was at k gone moves f g off (starts k inside) on in
         subst (λ d. IsBest (IsClearOn cs' d.unit.number) (cost_at d cs') (start_in g k)) (sym (drives k was.0))
         (subst (λ cs'. IsBest (IsClearOn cs' (drive_in ds k).unit.number) (cost_at (drive_in ds k) cs') (start_in g k))
         (sym left) (by ends k inside was.0 (h.each k inside was.1)
-        (starts k inside ∙ is_closed k inside was.1)));
+        (starts k inside was.0 ∙ is_closed k inside was.1)));
   }
     where
       last_stays : {s : Start} (ends : Bool) → s ≡ closed gone s → s ≡ cond ends (closed gone s) s

@@ -1,6 +1,6 @@
 -- A step of the record at a place, as it is planned and written.
-use Rattle.mscp_queue.proofs.Basics.{◌≡◌, ℕ, ◌+◌, ◌<◌, Bool, true, false, cond, ◌⊎◌, inl, inr, nat_lt, ltb-false, length-append, length-drop, length-take-le, List, [], ◌∷◌, ◌++◌, map, take, drop, set, get_or, length, refl, ap, sym, ◌∙◌, subst, arith, is_some, Option, Some, refill, length-set, Order, Block, Drive, Name, Plan, Choice, Command, IsOnUnit, IsHeld, Line, fresh_drive, get_or-set_other, length-map, drive_place, Record, advanced, drive_at, no_record, passed_by, record_at, step_charge, IsNext, IsServable, drive_after, plan_of, state_left, touched, cylinder_within, set_replaced, refilled, StepMade, head_kept, touched_inside}
-use Rattle.mscp_queue.proofs.Common.{AreFavored, IsMarked, commands, drive_in, closed, one_block, start_in}
+use Rattle.mscp_queue.proofs.Basics.{◌≡◌, ◌≢◌, ℕ, ◌+◌, ◌<◌, Bool, true, false, cond, ◌⊎◌, inl, inr, nat_lt, ltb-false, length-append, length-drop, length-take-le, List, [], ◌∷◌, ◌++◌, map, take, drop, set, get_or, length, refl, ap, sym, ◌∙◌, subst, arith, is_some, Option, Some, refill, length-set, Order, Block, Drive, Name, Plan, Choice, Command, IsOnUnit, IsHeld, Line, fresh_drive, get_or-set_other, length-map, drive_place, Record, advanced, drive_at, no_record, passed_by, record_at, step_charge, IsNext, IsServable, drive_after, plan_of, state_left, touched, cylinder_within, set_replaced, refilled, StepMade, head_kept, touched_inside}
+use Rattle.mscp_queue.proofs.Common.{AreFavored, commands, drive_in, closed, knows, one_block, start_in}
 use Rattle.mscp_queue.specs.declared.favorites.Favorites.{Favorites}
 use Rattle.mscp_queue.proofs.Favored.{command_is}
 use Rattle.mscp_queue.proofs.Gone.{favored_served}
@@ -58,15 +58,14 @@ step_made {room} {budget} {longest} {place} {at} {rs} {new} {ds} {ls} {begun} {s
 pub favored_step : {room budget longest place at : ℕ} {rs new : List Record} {ds ds' : List Drive} {begun : Option Name}
     {serving ends moves : Bool} {k : Block} {f g : Favorites} → IsHeld room budget longest rs ds begun serving
     → IsServable budget rs place → IsDriveOf ds rs place at → StepMade k place rs new ds ds' ends
-    → AreFavored ds (commands rs) f → moves ≡ cond ends (nat_lt place (length new)) false → IsMarked false at f g
-    → ((k : ℕ) → k < length ds → start_in g k ≡ cond moves (closed place (start_in f k)) (start_in f k))
+    → AreFavored ds (commands rs) f → moves ≡ cond ends (nat_lt place (length new)) false → knows g at ≡ false
+    → ((k : ℕ) → k < length ds → k ≢ at → start_in g k ≡ cond moves (closed place (start_in f k)) (start_in f k))
     → AreFavored ds' (commands new) g
 favored_step {place = place} {at = at} {rs = rs} {new = new} {ds = ds} {ds' = ds'} {ends = ends} {moves = moves} held
     servable found m favored moved known starts =
     let r = record_at rs place in
     let set_at : ds' ≡ set ds at m.d' = m.drives ∙ sym (set_replaced ds at r.command.unit m.d' (drive_at ds rs place)
     held.units (held.each place no_record servable.inside).waitable.known found.placed) in
-    let most = held.units.few in
     let fits = held.fits in
     let few = held.few in
     let many = length-map rs (λ (r : Record). r.command) in
@@ -74,7 +73,7 @@ favored_step {place = place} {at = at} {rs = rs} {new = new} {ds = ds} {ds' = ds
     (omega (arith, many, fits, few))
     (found.placed ∙ ap (λ (c : Command). drive_place ds c.unit) (sym (command_is rs place servable.inside))) ends
     moves (moves_or ends moved m.records) favored
-    (omega (arith, most, length-map ds (λ (d : Drive). d.unit))) (ap length set_at ∙ length-set ds at m.d')
+    (ap length set_at ∙ length-set ds at m.d')
     (λ k d. ap (λ ds. drive_in ds k) set_at ∙ get_or-set_other ds at k m.d' (fresh_drive one_block) d)
     (sym (made_served (λ by command. command) rs new place (step_charge r) ends servable.inside m.records))
     known starts

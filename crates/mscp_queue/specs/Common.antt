@@ -6,7 +6,7 @@ pub use Rattle.mscp_drive.specs.declared.connection.Connection.TheVariants.{Firs
 pub use Rattle.mscp_packet.specs.Ends.{IsOfKind}
 pub use Rattle.mscp_packet.specs.declared.class.Class.TheVariants.{Immediate}
 pub use Rattle.mscp_queue.specs.Buckets.{IsPut, bucket_of}
-pub use Rattle.mscp_queue.specs.Favorites.{AreFavored, AreOnDrive, IsBest, IsClearOn, IsFirstOf, IsLearned, IsMarked, IsNearOf, IsOpenOn, IsPrepared, KnowsNothing, commands, cost_at, cost_on, cost_there, drive_in, knows, start_in}
+pub use Rattle.mscp_queue.specs.Favorites.{AreFavored, AreOnDrive, IsBest, IsClearOn, IsFirstOf, IsLearned, IsNearOf, IsOpenOn, IsPrepared, KnowsNothing, commands, cost_at, cost_on, cost_there, drive_in, knows, start_in}
 pub use Rattle.mscp_queue.specs.Starts.{closed, comes_before, cost_end}
 pub use Rattle.mscp_queue.specs.Drives.{IsOnUnit, drive_of, fresh_drive, has_number, is_online_in}
 pub use Rattle.mscp_queue.specs.Dues.{AreTimed, clock_end, due_of, told}

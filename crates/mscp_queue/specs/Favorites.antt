@@ -13,7 +13,7 @@ use Rattle.mscp_queue.specs.Masks.{Kind}
 use Rattle.mscp_queue.specs.Orders.{is_sequential, order_cost}
 use Rattle.mscp_queue.specs.Records.{Record, no_record}
 use Rattle.mscp_queue.specs.Slots.{is_unfenced_at, no_kind}
-use Rattle.mscp_queue.specs.Starts.{Start, start_of}
+use Rattle.mscp_queue.specs.Starts.{Start}
 use Rattle.mscp_queue.specs.Ranges.{IsIn, IsSooner, range_at}
 use Rattle.mscp_queue.specs.Targets.{no_target, range_of}
 use Rattle.mscp_queue.specs.Waiters.{Waiters}
@@ -91,21 +91,17 @@ cost_at d cs place = order_cost d.unit d.head (command_at cs place).order
 abbrev pub drive_in : List Drive → ℕ → Drive
 drive_in ds at = slice_index_or ds at (fresh_drive one_block)
 
+-- the start that is kept for a drive
+abbrev pub start_in : Favorites → ℕ → Start
+start_in f k = slice_index_or f.starts k (record { cost = 0; place = 255 })
+
 -- whether the best start of a drive is known
 abbrev pub knows : Favorites → ℕ → Bool
-knows f k = slice_index_or f.known k false
+knows f k = not (nat_eq (start_in f k).place 255)
 
 -- the best start of no drive is known
 abbrev pub KnowsNothing : Favorites → Type 0
 KnowsNothing f = (k : ℕ) → knows f k ≡ false
-
--- which are known is as before, but for that of one drive
-abbrev pub IsMarked : Bool → ℕ → Favorites → Favorites → Type 0
-IsMarked on drive old new = (k : ℕ) → k < 16 → knows new k ≡ (if nat_eq k drive then on else knows old k)
-
--- the start that is kept for a drive
-abbrev pub start_in : Favorites → ℕ → Start
-start_in f k = slice_index_or f.starts k (start_of 0)
 
 -- the starts are as before but for one
 pub record IsLearned (drive : ℕ) (start : Start) (old new : Favorites) : Type 0 where

@@ -1,15 +1,14 @@
 // The best start of each drive. A pick compares these, one for each unit, and looks at no command of a unit whose best
 // start is known: it stays the best until the head of its unit moves, or the command leaves.
 
-ghost use Rattle.std.specs.Prelude.{◌≡◌, ℕ, ◌<◌, ◌≤◌, true, false, cond, nat_eq, slice_index_or};
-ghost use Rattle.mscp_queue.specs.Common.{KnowsNothing, IsLearned, IsMarked, closed, comes_before, knows, start_in};
+ghost use Rattle.std.specs.Prelude.{◌≡◌, ◌≢◌, ℕ, ◌<◌, ◌≤◌, false, cond};
+ghost use Rattle.mscp_queue.specs.Common.{KnowsNothing, IsLearned, closed, comes_before, knows, start_in};
 
 use crate::start_key::Start;
 
-/// The best start of each drive, by the place of the drive, if it is known.
+/// The best start of each drive, by the place of the drive, or one that isn't known.
 #[derive(Drop)]
 pub(crate) struct Favorites {
-    pub known: [bool; 16],
     pub starts: [Start; 16],
 }
 
@@ -19,8 +18,7 @@ impl Favorites {
         ensures { KnowsNothing result }
     {
         Favorites {
-            known: [false; 16],
-            starts: [Start::none(); 16],
+            starts: [Start::unknown(); 16],
         }
     }
 
@@ -28,7 +26,7 @@ impl Favorites {
     pub fn clear(&mut self)
         ensures { KnowsNothing self.new }
     {
-        self.known = [false; 16];
+        *self = Favorites::new();
     }
 
     /// Whether the best start of a drive is known.
@@ -36,10 +34,10 @@ impl Favorites {
         requires { drive < 16 }
         ensures { result ≡ knows self.now drive }
     {
-        self.known[drive]
+        self.starts[drive].is_known()
     }
 
-    /// The best start of a drive, if it is known.
+    /// The best start of a drive, or one that isn't known.
     pub fn start(&self, drive: usize) -> Start
         requires { drive < 16 }
         ensures { result ≡ start_in self.now drive }
@@ -50,18 +48,15 @@ impl Favorites {
     /// The best start of a drive is this one.
     pub fn learn(&mut self, drive: usize, start: Start)
         requires { drive < 16 }
-        ensures known { IsMarked true drive self.old self.new }
-        ensures starts { IsLearned drive start self.old self.new }
+        ensures { IsLearned drive start self.old self.new }
     {
-        self.known[drive] = true;
         self.starts[drive] = start;
     }
 
     /// A start on a drive comes, behind all that are there.
     pub fn come(&mut self, drive: usize, start: Start)
         requires { drive < 16 }
-        ensures known { self.new.known ≡ self.old.known }
-        ensures starts { IsLearned drive (cond (comes_before (start_in self.old drive) start)
+        ensures { IsLearned drive (cond (comes_before (start_in self.old drive) start)
             (start_in self.old drive) start) self.old self.new }
     {
         self.starts[drive] = self.starts[drive].or_earlier(start);
@@ -70,18 +65,18 @@ impl Favorites {
     /// The best start of a drive isn't known any more.
     fn forget(&mut self, drive: usize)
         requires { drive < 16 }
-        ensures same { self.new ≡ record self.old { known = self.new.known } }
-        ensures known { IsMarked false drive self.old self.new }
+        ensures own { knows self.new drive ≡ false }
+        ensures others { (k : ℕ) → k ≢ drive → start_in self.new k ≡ start_in self.old k }
     {
-        self.known[drive] = false;
+        self.starts[drive] = Start::unknown();
     }
 
     /// The command at a place left: the starts of those behind it move up, on so many drives.
     fn close(&mut self, gone: usize, drives: usize)
         requires gone { gone < 64 }
         requires drives { drives ≤ 16 }
-        ensures known { self.new.known ≡ self.old.known }
-        ensures starts { (k : ℕ) → k < drives → start_in self.new k ≡ closed gone (start_in self.old k) }
+        ensures below { (k : ℕ) → k < drives → start_in self.new k ≡ closed gone (start_in self.old k) }
+        ensures above { (k : ℕ) → drives ≤ k → start_in self.new k ≡ start_in self.old k }
     {
         for k in 0..drives {
             self.starts[k] = self.starts[k].closed(gone as u8);
@@ -94,8 +89,8 @@ impl Favorites {
         requires place { place < 64 }
         requires drive { drive < 16 }
         requires drives { drives ≤ 16 }
-        ensures known { IsMarked false drive self.old self.new }
-        ensures starts { (k : ℕ) → k < drives
+        ensures own { knows self.new drive ≡ false }
+        ensures others { (k : ℕ) → k < drives → k ≢ drive
             → start_in self.new k ≡ cond moves (closed place (start_in self.old k)) (start_in self.old k) }
     {
         self.forget(drive);

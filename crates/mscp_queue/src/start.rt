@@ -167,8 +167,9 @@ fn favorite_on(backlog: &Backlog, drives: &[Drive], at: usize, favorites: &mut F
         (cost_at (drive_in drives.now at) (commands backlog.now.waiting)) result }
     ensures favored { AreFavored drives.now (commands backlog.now.waiting) favorites.new }
 {
-    if favorites.knows(at) {
-        return favorites.start(at);
+    let kept = favorites.start(at);
+    if kept.is_known() {
+        return kept;
     }
     let start = backlog.favorite(&drives[at], at);
     favorites.learn(at, start);

@@ -1,13 +1,16 @@
 // What the start of a command costs, and where its command stands, as one number: of two starts the one that comes first
-// is the lesser. So a pick among sixteen drives compares one number of each.
+// is the lesser, and one that is no command's is greater. So a pick among sixteen drives looks at one number of each.
 
-ghost use Rattle.std.specs.Prelude.{◌≡◌, ◌<◌, cond};
+ghost use Rattle.std.specs.Prelude.{◌≡◌, ◌<◌, cond, nat_eq, not};
 ghost use Rattle.mscp_queue.specs.Common.{closed, comes_before, cost_end};
 
 use std::marker::Model;
 
 /// The place of no command.
 const NO_PLACE: u8 = 64;
+
+/// The place of a start of which it isn't known whose it is.
+const UNKNOWN_PLACE: u8 = 255;
 
 /// More than any start costs.
 const COST_END: u64 = (1 << 56) - 1;
@@ -43,6 +46,15 @@ impl Start {
         }
     }
 
+    /// One of which it isn't known whose it is.
+    pub fn unknown() -> Start
+        ensures { result.place ≡ 255 }
+    {
+        Start {
+            key: COST_END * 256 + u64::from(UNKNOWN_PLACE),
+        }
+    }
+
     /// That of the command at a place.
     pub fn of(cost: u64, place: usize) -> Start
         requires cost { cost < cost_end }
@@ -54,15 +66,22 @@ impl Start {
         }
     }
 
-    /// The place of its command, 64 if it is that of none.
+    /// Whether it is known whose it is: a command's, or none's.
+    pub fn is_known(self) -> bool
+        ensures { result ≡ not (nat_eq self.place 255) }
+    {
+        self.place() != UNKNOWN_PLACE
+    }
+
+    /// The place of its command, 64 if it is that of none, and 255 if it isn't known.
     pub fn place(self) -> u8
         ensures { result ≡ self.place }
     {
         (self.key & 255) as u8
     }
 
-    /// This one, if it is a command's, and the other is none, or costs more, or as much where its command came later. Or
-    /// else the other.
+    /// This one, if it is a command's and the other isn't, or costs more, or as much where its command came later. Or else the
+    /// other; but of two that are no command's the one whose place is less.
     pub fn or_earlier(self, other: Start) -> Start
         ensures { result ≡ cond (comes_before self other) self other }
     {
@@ -74,7 +93,7 @@ impl Start {
         requires { gone < 64 }
         ensures { result ≡ closed gone self }
     {
-        if gone < self.place() && self.place() != NO_PLACE {
+        if gone < self.place() && self.place() < NO_PLACE {
             Start { key: self.key - 1 }
         } else {
             self

@@ -42,7 +42,7 @@ returns-then-is_free c =
     (ap (λ (s : Start). s.cost) c.of.ensures ∙ c.cost_of.ensures.value
     ∙ (λ i. order_cost (c.targeted_at-cylinder.ensures.drive i).unit
     (c.targeted_at-cylinder.ensures.drive i).head (c.targeted_at-cylinder.ensures.record i).command.order))
-    c.come.ensures.known c.come.ensures.starts
+    (sym c.knows.ensures ∙ c.if-knows.true) c.come.ensures
 
 pub returns-else-knows : goal.returns-else-knows
 returns-else-knows c =

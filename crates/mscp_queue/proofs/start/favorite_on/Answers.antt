@@ -1,12 +1,14 @@
-use Rattle.mscp_queue.proofs.Common.{sym, ◌∙◌, subst, IsBest, IsClearOn, commands, cost_at, drive_in}
+use Rattle.mscp_queue.proofs.Common.{ap, not, nat_eq, sym, ◌∙◌, subst, IsBest, IsClearOn, commands, cost_at, drive_in}
 use Rattle.mscp_queue.proofs.Favored.{all_on_drive, favored, favored_more}
+use Rattle.mscp_queue.specs.Starts.{Start}
 use Rattle.mscp_queue.proofs.start.favorite_on.Goals as goal
 
-pub returns-then-knows-clause-best : goal.returns-then-knows-clause-best
-returns-then-knows-clause-best c =
+pub returns-then-is_known-clause-best : goal.returns-then-is_known-clause-best
+returns-then-is_known-clause-best c =
     subst (IsBest (IsClearOn (commands c.args.backlog.now.waiting) (drive_in c.args.drives.now c.args.at).unit.number)
-    (cost_at (drive_in c.args.drives.now c.args.at) (commands c.args.backlog.now.waiting))) (sym c.start.ensures)
-    (c.requires.favored.each c.args.at c.requires.drive (sym c.knows.ensures ∙ c.if-knows.true))
+    (cost_at (drive_in c.args.drives.now c.args.at) (commands c.args.backlog.now.waiting))) (sym c.start-kept.ensures)
+    (c.requires.favored.each c.args.at c.requires.drive (ap (λ (s : Start). not (nat_eq s.place 255)) (sym c.start-kept.ensures)
+    ∙ (sym c.is_known.ensures ∙ c.if-is_known.true)))
 
 pub favorite-start-requires-clause-to : goal.favorite-start-requires-clause-to
 favorite-start-requires-clause-to c = all_on_drive c.requires.waiting c.requires.units
@@ -18,5 +20,4 @@ returns-clause-best c = favored c.requires.waiting c.requires.units
 
 pub returns-clause-favored : goal.returns-clause-favored
 returns-clause-favored c =
-    favored_more c.args.at c.favorite-start.result c.requires.favored c.requires.waiting.drives (returns-clause-best c)
-    c.learn.ensures.known c.learn.ensures.starts
+    favored_more c.args.at c.favorite-start.result c.requires.favored (returns-clause-best c) c.learn.ensures

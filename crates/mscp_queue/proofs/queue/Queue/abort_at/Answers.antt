@@ -31,7 +31,6 @@ invariant_of-self g c =
     let place = c.args.place in
     let found = drive_found q.backlog.targets place _ ready.held ready.targeted inside
     (c.from-at.ensures ∙ ap (λ (a : Target). a.drive) c.target.ensures) in
-    let most = ready.held.units.few in
     let fits = ready.held.fits in
     let few = ready.held.few in
     let many = length-map rs (λ (r : Record). r.command) in
@@ -42,10 +41,10 @@ invariant_of-self g c =
           (omega (arith, many, fits, few))
           (found.placed ∙ ap (λ (c : Command). drive_place q.drives.items c.unit) (sym
           (command_is rs place inside))) true true (inl refl)
-          c.self.invariant.favored (omega (arith, most, length-map q.drives.items (λ (d : Drive). d.unit))) refl
+          c.self.invariant.favored refl
           (λ k d. refl) (ap commands e.waiting ∙ sym (map_cut (λ (r : Record). r.command) rs place))
-          c.serve.ensures.known
-          (λ k l. c.serve.ensures.starts k (omega (arith, l, c.len.ensures)));
+          c.serve.ensures.own
+          (λ k l. c.serve.ensures.others k (omega (arith, l, c.len.ensures)));
     }
 
 pub returns-clause-after : goal.returns-clause-after

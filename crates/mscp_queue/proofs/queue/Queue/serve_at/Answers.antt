@@ -66,8 +66,8 @@ invariant_of-self g c =
       ready = ready_step {new = c.serve.new.self}
           ready servable made c.serve.ensures.budget c.serve.ensures.targets c.place_served-self-inside.ensures;
       favored = favored_step ready.held servable found made
-          c.self.invariant.favored c.moves_up-moves.ensures c.serve-2.ensures.known
-          (λ k l. c.serve-2.ensures.starts k (omega (arith, l, c.len-drives.ensures)));
+          c.self.invariant.favored c.moves_up-moves.ensures c.serve-2.ensures.own
+          (λ k l. c.serve-2.ensures.others k (omega (arith, l, c.len-drives.ensures)));
     }
 
 pub returns-clause-units : goal.returns-clause-units
