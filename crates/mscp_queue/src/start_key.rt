@@ -93,7 +93,9 @@ impl Start {
         requires { gone < 64 }
         ensures { result ≡ closed gone self }
     {
-        if gone < self.place() && self.place() < NO_PLACE {
+        // How far it stands behind the next place. Those in front, and those of no command, stand too far behind.
+        let behind = self.place().wrapping_sub(gone + 1);
+        if behind < NO_PLACE - 1 - gone {
             Start { key: self.key - 1 }
         } else {
             self
