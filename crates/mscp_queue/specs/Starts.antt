@@ -1,7 +1,7 @@
 -- The start of a command.
 use Rattle.std.specs.Prelude.{◌≡◌, ◌⊎◌, ℕ, ◌-◌, ◌/◌, ◌^◌, ◌%◌, ◌<◌, ◌≤◌, Bool, ◌&&◌, ◌||◌, if◌then◌else◌, nat_eq, nat_lt}
 
--- what it costs, and the place of the command in order of arrival: 64 of no command, and 255 if it isn't known whose it is
+-- what it costs, and the place of the command in order of arrival: 64 of no command, 255 if it isn't known
 pub record Start : Type 0 where
   pub cost : ℕ
   pub place : ℕ

@@ -7,7 +7,8 @@ pub returns-then-is_known-clause-best : goal.returns-then-is_known-clause-best
 returns-then-is_known-clause-best c =
     subst (IsBest (IsClearOn (commands c.args.backlog.now.waiting) (drive_in c.args.drives.now c.args.at).unit.number)
     (cost_at (drive_in c.args.drives.now c.args.at) (commands c.args.backlog.now.waiting))) (sym c.start-kept.ensures)
-    (c.requires.favored.each c.args.at c.requires.drive (ap (λ (s : Start). not (nat_eq s.place 255)) (sym c.start-kept.ensures)
+    (c.requires.favored.each c.args.at c.requires.drive
+    (ap (λ (s : Start). not (nat_eq s.place 255)) (sym c.start-kept.ensures)
     ∙ (sym c.is_known.ensures ∙ c.if-is_known.true)))
 
 pub favorite-start-requires-clause-to : goal.favorite-start-requires-clause-to
