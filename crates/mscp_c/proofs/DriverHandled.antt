@@ -13,7 +13,8 @@ use Rattle.mscp_host.specs.PortLaw.{PortHostsKeepCount, PortHostsKeepTheirHistor
 use Rattle.mscp_memory.specs.DriverHandles.{Handle, Held}
 use Rattle.mscp_c.specs.declared.outs.HeardOut.{HeardOut}
 use Rattle.mscp_c.specs.Driven.{driver_submits_read, heard_code, heard_told, watch_told}
-use Rattle.mscp_c.specs.DriverHandleCalls.{AnsweredByHandle, AnswersHandle, DriverHandlesKeepTheirHistory, HandleCall, Tells, TellsAll, TellsHeard, TellsSubmitted}
+use Rattle.mscp_c.specs.DriverHandleCalls.{AnsweredByHandle, AnswersHandle, DriverHandlesKeepTheirHistory, HandleCall, Tells, TellsAll, TellsHeard}
+use Rattle.mscp_c.specs.Hosted.{TellsSubmitted}
 use Rattle.mscp_c.specs.DriverHandleCalls as made
 
 -- ---- one more moment of a host
@@ -36,64 +37,66 @@ same : (so_far : PortHistory) (held held' : Held) → PortAnswered fresh_of_port
 same so_far held held' a e = subst (λ h. PortAnswered fresh_of_port h held') (sym (append-nil so_far))
     (subst (λ (x : Held). PortAnswered fresh_of_port so_far x) (sym e) a)
 
--- the call is no moment of the host
+-- the call is this moment of the host
+one : (so_far : PortHistory) (call : HandleCall) (m : PortMoment) (old new : Held)
+    → PortAnswered fresh_of_port so_far old → Tells old call (m ∷ []) → PortAnswers old m new
+    → Goes so_far call old new
+one so_far call m old new a tells r =
+    record { next = m ∷ []; tells = tells; follows = moment_more fresh_of_port so_far old m new a r }
+
+-- or none
 none : (so_far : PortHistory) (call : HandleCall) (old new : Held) → PortAnswered fresh_of_port so_far old
     → Tells old call [] → new ≡ old → Goes so_far call old new
 none so_far call old new a tells e = record { next = []; tells = tells; follows = same so_far old new a e }
 
-submitted : (so_far : PortHistory) (status : ℤ) (held held' : Held) (r : Result Command PacketFault)
-    → PortAnswered fresh_of_port so_far held → status ≡ (driver_submits_read held r).0
-    → held' ≡ (driver_submits_read held r).1
-    → (next : PortHistory) × TellsSubmitted r status next × PortAnswered fresh_of_port (so_far ++ next) held'
-submitted so_far status held held' (Err fault) a code e = ([], (refl, code), same so_far held held' a e)
-submitted so_far status held held' (Ok command) a code e =
+submitted : (so_far : PortHistory) (message : List ℕ) (status : ℤ) (held held' : Held)
+    (r : Result Command PacketFault) → message_read message ≡ r → PortAnswered fresh_of_port so_far held
+    → status ≡ (driver_submits_read held r).0 → held' ≡ (driver_submits_read held r).1
+    → Goes so_far (made.Submit message status) held held'
+submitted so_far message status held held' (Err fault) read a code e =
+    none so_far (made.Submit message status) held held' a
+    (subst (λ r. TellsSubmitted hosts.Submit r status []) (sym read) (refl, code)) e
+submitted so_far message status held held' (Ok command) read a code e =
     let answer = (port_submits held command).0 in
-    let m = hosts.Submit command answer in (
-      m ∷ [],
-      (answer, refl, code),
-      moment_more fresh_of_port so_far held m held' a (λ i. (answer, sym e i)),
-    )
+    let m = hosts.Submit command answer in
+    one so_far (made.Submit message status) m held held' a
+    (subst (λ r. TellsSubmitted hosts.Submit r status (m ∷ [])) (sym read) (answer, refl, code))
+    (λ i. (answer, sym e i))
 
 -- what is heard, unless the bytes are cut
 abbrev heard_unless : Bool → Held → Envelope → List ℕ → Result Heard HearFault × PortAccount
 heard_unless cut held v text = if cut then (Err faults.Cut, held) else hears held v text
 
 heard : (cut : Bool) (so_far : PortHistory) (bytes : List ℕ) (watch : Watch) (before : HeardOut) (status : ℤ)
-    (watch' : Watch) (after : HeardOut) (held held' : Held) → PortAnswered fresh_of_port so_far held
+    (watch' : Watch) (after : HeardOut) (held held' : Held) → nat_lt (length bytes) 4 ≡ cut
+    → PortAnswered fresh_of_port so_far held
     → status ≡ heard_code (heard_unless cut held (envelope_in bytes) (drop 4 bytes)).0
     → after ≡ heard_told (heard_unless cut held (envelope_in bytes) (drop 4 bytes)).0 before
     → watch' ≡ watch_told (heard_unless cut held (envelope_in bytes) (drop 4 bytes)).0 watch
     → held' ≡ (heard_unless cut held (envelope_in bytes) (drop 4 bytes)).1
-    → (next : PortHistory) × TellsHeard cut bytes watch before status watch' after next
-    × PortAnswered fresh_of_port (so_far ++ next) held'
-heard true so_far bytes watch before status watch' after held held' a code told watched e =
-    ([], (refl, code, told, watched), same so_far held held' a e)
-heard false so_far bytes watch before status watch' after held held' a code told watched e =
+    → Goes so_far (made.Hear bytes watch before status watch' after) held held'
+heard true so_far bytes watch before status watch' after held held' is a code told watched e =
+    none so_far (made.Hear bytes watch before status watch' after) held held' a
+    (subst (λ cut. TellsHeard cut bytes watch before status watch' after []) (sym is) (refl, code, told, watched)) e
+heard false so_far bytes watch before status watch' after held held' is a code told watched e =
     let answer = (hears held (envelope_in bytes) (drop 4 bytes)).0 in
-    let m = hosts.Hear (envelope_in bytes) (drop 4 bytes) answer in (
-      m ∷ [],
-      (answer, refl, code, told, watched),
-      moment_more fresh_of_port so_far held m held' a (λ i. (answer, sym e i)),
-    )
+    let m = hosts.Hear (envelope_in bytes) (drop 4 bytes) answer in
+    one so_far (made.Hear bytes watch before status watch' after) m held held' a
+    (subst (λ cut. TellsHeard cut bytes watch before status watch' after (m ∷ [])) (sym is)
+    (answer, refl, code, told, watched)) (λ i. (answer, sym e i))
 
 goes : (so_far : PortHistory) (h h' : Handle) (call : HandleCall) → PortAnswered fresh_of_port so_far h.held
     → AnswersHandle h call h' → Goes so_far call h.held h'.held
 goes so_far h h' (made.Submit message status) a r =
-    let s = submitted so_far status h.held h'.held (message_read message) a r.0 (ap (λ (x : Handle). x.held) r.1) in
-    record { next = s.0; tells = s.1; follows = s.2 }
+    submitted so_far message status h.held h'.held (message_read message) refl a r.0 (ap (λ (x : Handle). x.held) r.1)
 goes so_far h h' (made.Poll reference before status after) a r =
     let answer = (port_polls h.held reference).0 in
-    let m = hosts.Ask reference answer in
     let e = ap (λ (x : Handle). x.held) r.2 in
-    record {
-      next = m ∷ [];
-      tells = (answer, refl, r.0, r.1);
-      follows = moment_more fresh_of_port so_far h.held m h'.held a (λ i. (answer, sym e i));
-    }
+    one so_far (made.Poll reference before status after) (hosts.Ask reference answer) h.held h'.held a
+    (answer, refl, r.0, r.1) (λ i. (answer, sym e i))
 goes so_far h h' (made.Hear bytes watch before status watch' after) a r =
-    let s = heard (nat_lt (length bytes) 4) so_far bytes watch before status watch' after h.held h'.held a r.0 r.1 r.2
-    (ap (λ (x : Handle). x.held) r.3) in
-    record { next = s.0; tells = s.1; follows = s.2 }
+    heard (nat_lt (length bytes) 4) so_far bytes watch before status watch' after h.held h'.held refl a r.0 r.1 r.2
+    (ap (λ (x : Handle). x.held) r.3)
 goes so_far h h' (made.Tick watch status watch') a r =
     none so_far (made.Tick watch status watch') h.held h'.held a (refl, r.0, r.1) (ap (λ (x : Handle). x.held) r.2)
 goes so_far h h' (made.Credits answer) a r =

@@ -5,7 +5,8 @@ use Rattle.mscp_host.specs.Histories as hosts
 use Rattle.mscp_host.specs.Histories.{History, Moment, account_at}
 use Rattle.mscp_host.specs.Law.{Answered, Answers, HostsKeepTheirHistory}
 use Rattle.mscp_memory.specs.HostHandles.{Handle, Held}
-use Rattle.mscp_c.specs.HostHandleCalls.{AnsweredByHandle, AnswersHandle, HandleCall, HostHandlesKeepTheirHistory, Tells, TellsAll, TellsSubmitted}
+use Rattle.mscp_c.specs.HostHandleCalls.{AnsweredByHandle, AnswersHandle, HandleCall, HostHandlesKeepTheirHistory, Tells, TellsAll}
+use Rattle.mscp_c.specs.Hosted.{TellsSubmitted}
 use Rattle.mscp_c.specs.HostHandleCalls as made
 
 -- ---- one more moment of a host
@@ -18,61 +19,65 @@ moment_more old (x ∷ h) kept m new a r = (a.0, a.1, moment_more a.0 h kept m n
 -- ---- a call on a handle
 
 -- what is told of a call after a history, and what is known after it
-record Goes (credits : ℕ) (so_far : History) (call : HandleCall) (new : Handle) : Type 0 where
+record Goes (credits : ℕ) (so_far : History) (call : HandleCall) (new : Held) : Type 0 where
   pub next : History
   pub tells : Tells credits so_far call next
-  pub follows : Answered (fresh credits) (so_far ++ next) new.held
+  pub follows : Answered (fresh credits) (so_far ++ next) new
 
 same : (credits : ℕ) (so_far : History) (held held' : Held) → Answered (fresh credits) so_far held → held' ≡ held
     → Answered (fresh credits) (so_far ++ []) held'
 same credits so_far held held' a e = subst (λ h. Answered (fresh credits) h held') (sym (append-nil so_far))
     (subst (λ (x : Held). Answered (fresh credits) so_far x) (sym e) a)
 
+-- the call is this moment of the host
+one : (credits : ℕ) (so_far : History) (call : HandleCall) (m : Moment) (old new : Held)
+    → Answered (fresh credits) so_far old → Tells credits so_far call (m ∷ []) → Answers old m new
+    → Goes credits so_far call new
+one credits so_far call m old new a tells r =
+    record { next = m ∷ []; tells = tells; follows = moment_more (fresh credits) so_far old m new a r }
+
+-- or none
+none : (credits : ℕ) (so_far : History) (call : HandleCall) (old new : Held) → Answered (fresh credits) so_far old
+    → Tells credits so_far call [] → new ≡ old → Goes credits so_far call new
+none credits so_far call old new a tells e =
+    record { next = []; tells = tells; follows = same credits so_far old new a e }
+
 submitted : (credits : ℕ) (so_far : History) (message : List ℕ) (status : ℤ) (held held' : Held)
-    (r : Result Command PacketFault) → Answered (fresh credits) so_far held → status ≡ (submits_read held r).0
-    → held' ≡ (submits_read held r).1
-    → (next : History) × TellsSubmitted r status next × Answered (fresh credits) (so_far ++ next) held'
-submitted credits so_far message status held held' (Err fault) a code e =
-    ([], (refl, code), same credits so_far held held' a e)
-submitted credits so_far message status held held' (Ok command) a code e =
+    (r : Result Command PacketFault) → message_read message ≡ r → Answered (fresh credits) so_far held
+    → status ≡ (submits_read held r).0 → held' ≡ (submits_read held r).1
+    → Goes credits so_far (made.Submit message status) held'
+submitted credits so_far message status held held' (Err fault) read a code e =
+    none credits so_far (made.Submit message status) held held' a
+    (subst (λ r. TellsSubmitted hosts.Submit r status []) (sym read) (refl, code)) e
+submitted credits so_far message status held held' (Ok command) read a code e =
     let answer = (submits held command).0 in
-    let m = hosts.Submit command answer in (
-      m ∷ [],
-      (answer, refl, code),
-      moment_more (fresh credits) so_far held m held' a (λ i. (answer, sym e i)),
-    )
+    let m = hosts.Submit command answer in
+    one credits so_far (made.Submit message status) m held held' a
+    (subst (λ r. TellsSubmitted hosts.Submit r status (m ∷ [])) (sym read) (answer, refl, code))
+    (λ i. (answer, sym e i))
 
 goes : (credits : ℕ) → HostsKeepTheirHistory → (so_far : History) (h h' : Handle) (call : HandleCall)
-    → Answered (fresh credits) so_far h.held → AnswersHandle h call h' → Goes credits so_far call h'
+    → Answered (fresh credits) so_far h.held → AnswersHandle h call h' → Goes credits so_far call h'.held
 goes credits law so_far h h' (made.Submit message status) a r =
-    let s = submitted credits so_far message status h.held h'.held (message_read message) a r.0
-    (ap (λ (x : Handle). x.held) r.1) in
-    record { next = s.0; tells = s.1; follows = s.2 }
+    submitted credits so_far message status h.held h'.held (message_read message) refl a r.0
+    (ap (λ (x : Handle). x.held) r.1)
 goes credits law so_far h h' (made.Poll reference before status after) a r =
     let answer = (polls_oldest h.held reference).0 in
-    let m = hosts.Ask reference answer in
     let e = ap (λ (x : Handle). x.held) r.2 in
-    record {
-      next = m ∷ [];
-      tells = (answer, refl, r.0, r.1);
-      follows = moment_more (fresh credits) so_far h.held m h'.held a (λ i. (answer, sym e i));
-    }
+    one credits so_far (made.Poll reference before status after) (hosts.Ask reference answer) h.held h'.held a
+    (answer, refl, r.0, r.1) (λ i. (answer, sym e i))
 goes credits law so_far h h' (made.Receive bytes before status after) a r =
     let answer = (heard h.held bytes).0 in
-    let m = hosts.Receive bytes answer in
     let e = ap (λ (x : Handle). x.held) r.2 in
-    record {
-      next = m ∷ [];
-      tells = (answer, refl, r.0, r.1);
-      follows = moment_more (fresh credits) so_far h.held m h'.held a (λ i. (answer, sym e i));
-    }
-goes credits law so_far h h' (made.Balance answer) a r = record {
-  next = [];
-  tells = (refl, r.0 ∙ ap (λ (x : Account). pos (balance x)) (law credits so_far h.held a).keeps);
-  follows = same credits so_far h.held h'.held a (ap (λ (x : Handle). x.held) r.1);
-}
+    one credits so_far (made.Receive bytes before status after) (hosts.Receive bytes answer) h.held h'.held a
+    (answer, refl, r.0, r.1) (λ i. (answer, sym e i))
+goes credits law so_far h h' (made.Balance answer) a r =
+    none credits so_far (made.Balance answer) h.held h'.held a
+    (refl, r.0 ∙ ap (λ (x : Account). pos (balance x)) (law credits so_far h.held a).keeps)
+    (ap (λ (x : Handle). x.held) r.1)
 goes credits law so_far h h' (made.Resume bytes) a r =
-    record { next = []; tells = refl; follows = same credits so_far h.held h'.held a r.1 }
+    none credits so_far (made.Resume bytes) h.held h'.held a
+    (refl, r.0 ∙ ap (λ (x : Account). Ok x) (law credits so_far h.held a).keeps) r.1
 
 -- ---- all calls
 

@@ -1,8 +1,5 @@
 -- What somebody calls from C who holds a handle on a driver's account of its port, what is told, and what is promised.
-use Rattle.std.specs.Prelude.{◌≡◌, ℕ, ℤ, pos, Bool, true, false, nat_lt, List, [], ◌∷◌, ◌++◌, length, drop, Result, Ok, Err}
-use Rattle.arrayvec.specs.ArrayVec.{ArrayVec}
-use Rattle.mscp_packet.specs.declared.command.Command.{Command}
-use Rattle.mscp_packet.specs.declared.reading.PacketFault.{PacketFault}
+use Rattle.std.specs.Prelude.{◌≡◌, ℕ, ℤ, pos, Bool, true, false, nat_lt, List, [], ◌∷◌, ◌++◌, length, drop, Result, Ok}
 use Rattle.mscp_host.specs.declared.asked.Asked.{Asked}
 use Rattle.mscp_host.specs.declared.heard.Heard.{Heard}
 use Rattle.mscp_host.specs.declared.message.HearFault.{HearFault}
@@ -21,7 +18,7 @@ use Rattle.mscp_c.specs.declared.outs.HeardOut.{HeardOut}
 use Rattle.mscp_c.specs.declared.outs.PacketOut.{PacketOut}
 use Rattle.mscp_c.specs.declared.status.TheConstants.{CUT}
 use Rattle.mscp_c.specs.Driven.{advice_code, asked_told, driver_hears, driver_submits, heard_code, heard_told, watch_told}
-use Rattle.mscp_c.specs.Hosted.{PollTold, message_read, poll_code, size_code, submit_code}
+use Rattle.mscp_c.specs.Hosted.{PollTold, TellsSubmitted, message_read, poll_code}
 
 -- ---- calls
 
@@ -65,12 +62,6 @@ AnsweredByHandle old (call ∷ more) new = (next : Handle) × AnswersHandle old 
 
 -- ---- what they tell
 
--- bytes that are no message change nothing; else what was answered to a submission is told
-abbrev pub TellsSubmitted : Result Command PacketFault → ℤ → PortHistory → Type 0
-TellsSubmitted (Err fault) status next = (next ≡ []) × (status ≡ size_code fault)
-TellsSubmitted (Ok command) status next =
-    (answer : Result (ArrayVec ℕ) HostFault) × (next ≡ hosts.Submit command answer ∷ []) × (status ≡ submit_code answer)
-
 -- bytes that are cut change nothing; else what was heard is told
 abbrev pub TellsHeard : Bool → List ℕ → Watch → HeardOut → ℤ → Watch → HeardOut → PortHistory → Type 0
 TellsHeard true bytes watch before status watch' after next =
@@ -82,7 +73,7 @@ TellsHeard false bytes watch before status watch' after next =
 -- the call on the handle is the next moment of its host, or none: status and out-struct tell what the host answers. A
 -- look tells what the host keeps then (profile)
 abbrev pub Tells : PortAccount → HandleCall → PortHistory → Type 0
-Tells p (Submit message status) next = TellsSubmitted (message_read message) status next
+Tells p (Submit message status) next = TellsSubmitted hosts.Submit (message_read message) status next
 Tells p (Poll reference before status after) next =
     (answer : Result Polled HostFault) × (next ≡ hosts.Ask reference answer ∷ [])
     × (status ≡ poll_code answer) × PollTold answer before after

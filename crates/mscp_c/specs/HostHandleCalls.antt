@@ -1,8 +1,5 @@
 -- What somebody calls from C who holds a handle on a host, what is told, and what is promised of it.
-use Rattle.std.specs.Prelude.{◌≡◌, ℕ, ℤ, pos, List, [], ◌∷◌, ◌++◌, length, Result, Ok, Err}
-use Rattle.arrayvec.specs.ArrayVec.{ArrayVec}
-use Rattle.mscp_packet.specs.declared.command.Command.{Command}
-use Rattle.mscp_packet.specs.declared.reading.PacketFault.{PacketFault}
+use Rattle.std.specs.Prelude.{◌≡◌, ℕ, ℤ, pos, List, [], ◌∷◌, ◌++◌, length, Result, Ok}
 use Rattle.mscp_host.specs.declared.news.HostFault.{HostFault}
 use Rattle.mscp_host.specs.declared.news.News.{News}
 use Rattle.mscp_host.specs.declared.news.Poll.{Poll as Asked}
@@ -14,7 +11,7 @@ use Rattle.mscp_host.specs.Restored.{restored}
 use Rattle.mscp_memory.specs.HostHandles.{Handle, Held, with_held}
 use Rattle.mscp_c.specs.declared.outs.NewsOut.{NewsOut}
 use Rattle.mscp_c.specs.declared.outs.PacketOut.{PacketOut}
-use Rattle.mscp_c.specs.Hosted.{PollTold, message_read, news_code, news_told, poll_code, size_code, submit_code, submits_message}
+use Rattle.mscp_c.specs.Hosted.{PollTold, TellsSubmitted, message_read, news_code, news_told, poll_code, submits_message}
 
 -- ---- calls
 
@@ -51,16 +48,10 @@ AnsweredByHandle old (call ∷ more) new = (next : Handle) × AnswersHandle old 
 
 -- ---- what they tell
 
--- bytes that are no message change nothing; else what was answered to a submission is told
-abbrev pub TellsSubmitted : Result Command PacketFault → ℤ → History → Type 0
-TellsSubmitted (Err fault) status next = (next ≡ []) × (status ≡ size_code fault)
-TellsSubmitted (Ok command) status next =
-    (answer : Result (ArrayVec ℕ) HostFault) × (next ≡ hosts.Submit command answer ∷ []) × (status ≡ submit_code answer)
-
 -- after this history of a host of so many credits the call on its handle is the next moment of it, or is none and tells
 -- what is so then: status, number and out-struct tell what the host answers (profile)
 abbrev pub Tells : ℕ → History → HandleCall → History → Type 0
-Tells credits so_far (Submit message status) next = TellsSubmitted (message_read message) status next
+Tells credits so_far (Submit message status) next = TellsSubmitted hosts.Submit (message_read message) status next
 Tells credits so_far (Poll reference before status after) next =
     (answer : Result Asked HostFault) × (next ≡ hosts.Ask reference answer ∷ [])
     × (status ≡ poll_code answer) × PollTold answer before after
@@ -69,7 +60,8 @@ Tells credits so_far (Receive bytes before status after) next =
     × (status ≡ news_code answer) × (after ≡ news_told answer before)
 Tells credits so_far (Balance answer) next =
     (next ≡ []) × (answer ≡ pos (balance (account_at credits so_far (length so_far))))
-Tells credits so_far (Resume bytes) next = next ≡ []
+Tells credits so_far (Resume bytes) next =
+    (next ≡ []) × (restored bytes ≡ Ok (account_at credits so_far (length so_far)))
 
 -- the same of calls, one after the other
 abbrev pub TellsAll : ℕ → History → List HandleCall → History → Type 0

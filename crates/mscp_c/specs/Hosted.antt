@@ -1,5 +1,5 @@
 -- What comes of a host's calls, and how it is told.
-use Rattle.std.specs.Prelude.{◌≡◌, ℕ, ◌||◌, ℤ, nat_lt, if◌then◌else◌, List, length, Option, Some, None, Result, Ok, Err}
+use Rattle.std.specs.Prelude.{◌≡◌, ℕ, ◌||◌, ℤ, nat_lt, if◌then◌else◌, List, [], ◌∷◌, length, Option, Some, None, Result, Ok, Err}
 use Rattle.arrayvec.specs.ArrayVec.{ArrayVec}
 use Rattle.mscp_packet.specs.declared.command.Command.{Command}
 use Rattle.mscp_packet.specs.declared.reading.PacketFault.{PacketFault}
@@ -58,6 +58,14 @@ submits_read a (Ok command) = (submit_code (submits a command).0, (submits a com
 -- the status of a submission, and what is kept after it
 abbrev pub submits_message : Account → List ℕ → ℤ × Account
 submits_message a b = submits_read a (message_read b)
+
+-- a submission from C is a moment of this kind in a host's history: bytes that are no message change nothing; else
+-- what was answered to it is told
+abbrev pub TellsSubmitted : {M : Type 0} → (Command → Result (ArrayVec ℕ) HostFault → M) → Result Command PacketFault
+    → ℤ → List M → Type 0
+TellsSubmitted moment (Err fault) status next = (next ≡ []) × (status ≡ size_code fault)
+TellsSubmitted moment (Ok command) status next =
+    (answer : Result (ArrayVec ℕ) HostFault) × (next ≡ moment command answer ∷ []) × (status ≡ submit_code answer)
 
 -- ---- a poll
 
