@@ -3,4 +3,7 @@ pub mod Hosts
 pub mod Moving
 pub mod Packets
 pub mod Owing
+pub mod Sending
+pub mod Telling
+pub mod Moments
 pub mod Joined

@@ -144,14 +144,8 @@ end_heard v b e h = by (nat_lt (length b) v.length) (nat_eq v.connection 0) refl
         λ i low. taken_byte v.length b i (search (arith, low, x.long)) in
         let code = at 8 (search arith) in
         let number : num (take v.length b) 0 4 ≡ num b 0 4 =
-        ap (λ y. 0 + y * 1 + slice_index (take v.length b) 1 * 256 + slice_index (take v.length b) 2 * 65536
-        + slice_index (take v.length b) 3 * 16777216) (at 0 (search arith))
-        ∙ ap (λ y. 0 + slice_index b 0 * 1 + y * 256 + slice_index (take v.length b) 2 * 65536
-        + slice_index (take v.length b) 3 * 16777216) (at 1 (search arith))
-        ∙ ap (λ y. 0 + slice_index b 0 * 1 + slice_index b 1 * 256 + y * 65536
-        + slice_index (take v.length b) 3 * 16777216) (at 2 (search arith))
-        ∙ ap (λ y. 0 + slice_index b 0 * 1 + slice_index b 1 * 256 + slice_index b 2 * 65536 + y * 16777216)
-        (at 3 (search arith)) in (
+        (λ j. 0 + at 0 (search arith) j * 1 + at 1 (search arith) j * 256 + at 2 (search arith) j * 65536
+        + at 3 (search arith) j * 16777216) in (
           disk,
           subst (λ y. 0x80 ≤ y) code x.top,
           x.reference ∙ number,
@@ -167,14 +161,8 @@ end_heard v b e h = by (nat_lt (length b) v.length) (nat_eq v.connection 0) refl
             let at : (i : ℕ) → i < 32 → slice_index (take v.length b) i ≡ slice_index b i =
             λ i low. taken_byte v.length b i (search (arith, low, long)) in
             let same : num (take v.length b) 12 4 ≡ num b 12 4 =
-            ap (λ y. 0 + y * 1 + slice_index (take v.length b) 13 * 256 + slice_index (take v.length b) 14 * 65536
-            + slice_index (take v.length b) 15 * 16777216) (at 12 (search arith))
-            ∙ ap (λ y. 0 + slice_index b 12 * 1 + y * 256 + slice_index (take v.length b) 14 * 65536
-            + slice_index (take v.length b) 15 * 16777216) (at 13 (search arith))
-            ∙ ap (λ y. 0 + slice_index b 12 * 1 + slice_index b 13 * 256 + y * 65536
-            + slice_index (take v.length b) 15 * 16777216) (at 14 (search arith))
-            ∙ ap (λ y. 0 + slice_index b 12 * 1 + slice_index b 13 * 256 + slice_index b 14 * 65536 + y * 16777216)
-            (at 15 (search arith)) in
+            (λ j. 0 + at 12 (search arith) j * 1 + at 13 (search arith) j * 256 + at 14 (search arith) j * 65536
+            + at 15 (search arith) j * 16777216) in
             subst (λ y. moved_in (kind_of_code (slice_index (take v.length b) 8)) y ≤ n) (sym same) few
         counts k is n few = subst (λ o. moved_in o (num (take v.length b) 12 4) ≤ n) (sym is) (search arith)
 

@@ -43,6 +43,7 @@ pub mod Standing
 pub mod Tallying
 pub mod Aborted
 pub mod Numbered
+pub mod Counted
 pub mod Numbering
 pub mod Awaiting
 pub mod Awaits
