@@ -50,3 +50,13 @@ pub mod Awaits
 pub mod Whole
 pub mod Dealing
 pub mod Ended
+pub mod Falling
+pub mod Codes
+pub mod Buffered
+pub mod Fitting
+pub mod Fitted
+pub mod Untouched
+pub mod Formal
+pub mod Opcodes
+pub mod Heeding
+pub mod ByOpcode

@@ -13,3 +13,5 @@ pub mod News
 pub mod Soon
 pub mod Transfers
 pub mod Awaited
+pub mod Figures
+pub mod Fitting
