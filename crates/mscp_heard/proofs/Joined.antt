@@ -35,7 +35,7 @@ use Rattle.mscp_ported.specs.Awaited.{IsWhole, Deals, IsAnswering, IsTaking, Por
 use Rattle.mscp_ported.specs.Ends.{ends_said_by}
 use Rattle.mscp_ported.specs.Talk.{AsksAlways, Opened, Packet, Slot, Talk, is_dead, talk_of}
 use Rattle.mscp_ported.specs.Told.{PortsHearInOrder, PortsOpenWhatTheyAccept, PortsTellInOrder, accepted, accepted_by, connection_told, held, said, said_in}
-use Rattle.mscp_heard.specs.Deeds.{AreJoined, Called, Deed, Did, HasNumber, HaveNumbers, HearsInOrder, IsNextText, IsPacket, IsTextOf, ReadsInOrder, calls_in, did, hearings, is_hearing, sent, sent_by}
+use Rattle.mscp_heard.specs.Deeds.{AreJoined, Called, Deed, Did, HasNumber, HaveNumbers, HearsInOrder, IsNextText, Likeness, IsPacket, IsTextOf, ReadsInOrder, calls_in, did, hearings, is_hearing, sent, sent_by}
 use Rattle.mscp_heard.specs.Hearing.{HearsItsOwn}
 use Rattle.mscp_heard.proofs.Moments.{answered_last, asked_before, heard_last, reads_before, same_numbers, sent_last}
 use Rattle.mscp_heard.proofs.Sending.{by_hearing, by_message, heard_own}
@@ -51,28 +51,28 @@ module _ {K : Type 0} (picks : Picking K) (c : Settings) (picker : K) (ends : Po
     (before : List Made) (controller : Holdings K) (hardware : Hardware) (credits : ℕ) (start : Port K)
     (valid : IsValid c) (was : AnsweredCalls (picks picker) (fresh c picker) before controller)
     (quiet : outstanding_of First controller ≡ []) (made : IsMadeOf hardware credits controller start) where
-  abbrev State : (p : Port K) (calls : List Call) → Answered picks start calls p → List Asked → PortHistory → Type 0
+  abbrev pub State : (p : Port K) (calls : List Call) → Answered picks start calls p → List Asked → PortHistory → Type 0
   State p calls a asked h = Inv asked (said picks start p calls a) (hearings h) (awaited picks start p calls a)
       (sent h)
       (length (accepted picks start p calls a))
 
   -- a message that is accepted is the next one that was sent
-  record IsNext (text : List ℕ) (header : ℕ) (ms : List (List ℕ)) (n : ℕ) : Type 0 where
-    disks : is_for_utilities header ≡ false
-    message : List ℕ
-    at : slice_get ms n ≡ Some message
-    is : IsTextOf text message
+  pub record IsNext (Like : Likeness) (text : List ℕ) (header : ℕ) (ms : List (List ℕ)) (n : ℕ) : Type 0 where
+    pub disks : is_for_utilities header ≡ false
+    pub message : List ℕ
+    pub at : slice_get ms n ≡ Some message
+    pub is : Like text message
 
-  next_of : (p : Port K) (calls : List Call) (bytes : List ℕ) (done : Unit) (ms : List (List ℕ)) (slot : Slot)
+  pub next_of : (Like : Likeness) (p : Port K) (calls : List Call) (bytes : List ℕ) (done : Unit) (ms : List (List ℕ)) (slot : Slot)
       (header : ℕ) → AsksAlways (WasRead bytes (Ok done) ∷ calls)
       → (a : Answered picks start (WasRead bytes (Ok done) ∷ calls) p)
       → (talk_of picks start a.0 calls a.1).turn ≡ Opened slot header
-      → ReadsInOrder (WasRead bytes (Ok done)) (talk_of picks start a.0 calls a.1) ms
-      → IsNext bytes header ms (length (accepted picks start a.0 calls a.1))
-  next_of p calls bytes done ms slot header asks a opened reads =
+      → ReadsInOrder Like (WasRead bytes (Ok done)) (talk_of picks start a.0 calls a.1) ms
+      → IsNext Like bytes header ms (length (accepted picks start a.0 calls a.1))
+  next_of Like p calls bytes done ms slot header asks a opened reads =
       let t = talk_of picks start a.0 calls a.1 in
-      let r : IsNextText (Opened slot header) (length t.heard) ms bytes =
-      subst (λ x. IsNextText x (length t.heard) ms bytes) opened reads in
+      let r : IsNextText Like (Opened slot header) (length t.heard) ms bytes =
+      subst (λ x. IsNextText Like x (length t.heard) ms bytes) opened reads in
       let same = counted t (accepted picks start a.0 calls a.1) slot header opened
       (hear hardware credits controller start a.0 calls made asks.1 a.1).0 in
       record {
@@ -84,14 +84,14 @@ module _ {K : Type 0} (picks : Picking K) (c : Settings) (picker : K) (ends : Po
 
   module _ (p : Port K) (calls : List Call) (asked : List Asked) (h : PortHistory) where
     takes_it : (call : Call) (a : Answered picks start (call ∷ calls) p) → AsksAlways (call ∷ calls)
-        → ReadsInOrder call (talk_of picks start a.0 calls a.1) (sent h) → IsTaking call a.0 p
+        → ReadsInOrder IsTextOf call (talk_of picks start a.0 calls a.1) (sent h) → IsTaking call a.0 p
         → State a.0 calls a.1 asked h
         → Inv asked (said picks start a.0 calls a.1) (hearings h)
         (awaited picks start a.0 calls a.1 ++ taken_by call a.0) (sent h)
         (length (accepted picks start a.0 calls a.1 ++ accepted_by call a.0))
     takes_it (WasRead bytes (Ok done)) a asks reads d i =
         let o = open_so hardware credits controller start p calls bytes done d.message [] made asks a d.accepted in
-        let x = next_of p calls bytes done (sent h) o.0 o.1 asks a o.2 reads in
+        let x = next_of IsTextOf p calls bytes done (sent h) o.0 o.1 asks a o.2 reads in
         let same : bytes ≡ d.message = ap bytes_read d.read.1 in
         inv_as asked (said picks start a.0 calls a.1) (said picks start a.0 calls a.1) (hearings h)
         (awaited picks start a.0 calls a.1 ++ taken_by (WasRead bytes (Ok done)) a.0)
@@ -110,14 +110,14 @@ module _ {K : Type 0} (picks : Picking K) (c : Settings) (picker : K) (ends : Po
     takes_it call a asks reads d i = absurd (search (arith, d.read.1))
 
     answers_it : (call : Call) (a : Answered picks start (call ∷ calls) p) → AsksAlways (call ∷ calls)
-        → ReadsBytes (call ∷ calls) → ReadsInOrder call (talk_of picks start a.0 calls a.1) (sent h)
+        → ReadsBytes (call ∷ calls) → ReadsInOrder IsTextOf call (talk_of picks start a.0 calls a.1) (sent h)
         → (d : IsAnswering call a.0 p) → State a.0 calls a.1 asked h
         → Inv asked (said picks start a.0 calls a.1 ++ said_in d.out ∷ []) (hearings h)
         (awaited picks start a.0 calls a.1) (sent h)
         (length (accepted picks start a.0 calls a.1 ++ accepted_by call a.0))
     answers_it (WasRead bytes (Ok done)) a asks small reads d i =
         let r = answer_so hardware credits controller start p calls bytes done d.out made asks a d.nothing d.begun in
-        let x = next_of p calls bytes done (sent h) r.0 r.1 asks a r.2 reads in
+        let x = next_of IsTextOf p calls bytes done (sent h) r.0 r.1 asks a r.2 reads in
         let own = r.3.own in
         let kind : d.out.kind ≡ kinds.End = r.3.kind ∙ ap kind_answered x.disks in
         inv_as asked (said picks start a.0 calls a.1 ++ said_in d.out ∷ [])
@@ -137,7 +137,7 @@ module _ {K : Type 0} (picks : Picking K) (c : Settings) (picker : K) (ends : Po
     answers_it call a asks small reads d i = absurd (search (arith, d.read.1))
 
     deals_so : (call : Call) (a : Answered picks start (call ∷ calls) p) → AsksAlways (call ∷ calls)
-        → ReadsBytes (call ∷ calls) → ReadsInOrder call (talk_of picks start a.0 calls a.1) (sent h)
+        → ReadsBytes (call ∷ calls) → ReadsInOrder IsTextOf call (talk_of picks start a.0 calls a.1) (sent h)
         → Deals (awaited picks start a.0 calls a.1) call a.0 p → State a.0 calls a.1 asked h
         → Inv asked (said picks start a.0 calls a.1 ++ map said_in (begins a.0.outgoing p.outgoing)) (hearings h)
         (without_ends (ends_said_by call a.0 p) (awaited picks start a.0 calls a.1) ++ taken_by call a.0) (sent h)
@@ -201,7 +201,7 @@ module _ {K : Type 0} (picks : Picking K) (c : Settings) (picker : K) (ends : Po
 
     -- behind a call that is no write of IP
     pub called : (call : Call) (a : Answered picks start (call ∷ calls) p) → AsksAlways (call ∷ calls)
-        → ReadsBytes (call ∷ calls) → ReadsInOrder call (talk_of picks start a.0 calls a.1) (sent h) → call ≢ WriteIp
+        → ReadsBytes (call ∷ calls) → ReadsInOrder IsTextOf call (talk_of picks start a.0 calls a.1) (sent h) → call ≢ WriteIp
         → is_dead p.stage ≡ false → (is_dead a.0.stage ≡ false → State a.0 calls a.1 asked h)
         → State p (call ∷ calls) a asked h
     called call a asks small reads never lives get =
@@ -216,7 +216,7 @@ module _ {K : Type 0} (picks : Picking K) (c : Settings) (picker : K) (ends : Po
 
   -- ---- what was told
 
-  hears_said : (p : Port K) (calls : List Call) (a : Answered picks start calls p) (k : ℕ) (v : Envelope) (b : List ℕ)
+  pub hears_said : (p : Port K) (calls : List Call) (a : Answered picks start calls p) (k : ℕ) (v : Envelope) (b : List ℕ)
       (packet : Packet) → AsksAlways calls → slice_get (talk_of picks start p calls a).told k ≡ Some packet
       → IsPacket packet v b → IsHeard (all_said picks start p calls a) k v b
   hears_said p calls a k v b packet asks at is =
@@ -234,7 +234,7 @@ module _ {K : Type 0} (picks : Picking K) (c : Settings) (picker : K) (ends : Po
             ∙ few_credits x.1 x.0.kind;
       }
 
-  numbered : (h : PortHistory) (host : PortAccount) → PortAnswered fresh_of_port h host → SameNumbers host
+  pub numbered : (h : PortHistory) (host : PortAccount) → PortAnswered fresh_of_port h host → SameNumbers host
   numbered h host r =
       let k = history h host r in
       let hist = map seen h in
@@ -301,7 +301,7 @@ module _ {K : Type 0} (picks : Picking K) (c : Settings) (picker : K) (ends : Po
 
   -- and so it is after all deeds
   pub owed : (p : Port K) (deeds : List Deed) → AsksAlways (calls_in deeds) → ReadsBytes (calls_in deeds)
-      → HaveNumbers deeds → (a : Answered picks start (calls_in deeds) p) → AreJoined picks start p deeds a
+      → HaveNumbers deeds → (a : Answered picks start (calls_in deeds) p) → AreJoined IsTextOf picks start p deeds a
       → is_dead p.stage ≡ false → (host : PortAccount) → PortAnswered fresh_of_port (did deeds) host
       → State p (calls_in deeds) a host.asked (did deeds)
   owed p [] asks small numbers a joined lives host r = record {
@@ -328,7 +328,7 @@ module _ {K : Type 0} (picks : Picking K) (c : Settings) (picker : K) (ends : Po
   -- ---- the law
 
   -- a dead port has told nothing
-  none_told : (p : Port K) (calls : List Call) (a : Answered picks start calls p) (k : ℕ) (packet : Packet)
+  pub none_told : (p : Port K) (calls : List Call) (a : Answered picks start calls p) (k : ℕ) (packet : Packet)
       → slice_get (talk_of picks start p calls a).told k ≡ Some packet → is_dead p.stage ≡ false
   none_told p [] a k packet e = absurd (none-some packet e)
   none_told p (call ∷ calls) a k packet e = by (is_dead p.stage) refl e
@@ -343,7 +343,7 @@ module _ {K : Type 0} (picks : Picking K) (c : Settings) (picker : K) (ends : Po
   pub hears_own : (p : Port K) (deeds : List Deed) (old new : PortAccount) (v : Envelope) (b : List ℕ)
       (answer : Result Heard HearFault) → AsksAlways (calls_in deeds) → ReadsBytes (calls_in deeds)
       → HaveNumbers deeds → (a : Answered picks start (calls_in deeds) p)
-      → AreJoined picks start p (Did (Hear v b answer) ∷ deeds) a → PortAnswered fresh_of_port (did deeds) old
+      → AreJoined IsTextOf picks start p (Did (Hear v b answer) ∷ deeds) a → PortAnswered fresh_of_port (did deeds) old
       → PortAnswers old (Hear v b answer) new → HearsItsOwn old v b answer
   hears_own p deeds old new v b answer asks small numbers a joined answered r =
       let lives = none_told p (calls_in deeds) a (hearings (did deeds)) joined.0.0 joined.0.1 in

@@ -7,3 +7,8 @@ pub mod Sending
 pub mod Telling
 pub mod Moments
 pub mod Joined
+pub mod Watching
+pub mod Notes
+pub mod Noting
+pub mod Dealt
+pub mod Refusing

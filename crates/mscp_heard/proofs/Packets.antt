@@ -8,6 +8,7 @@ use Rattle.mscp_packet.specs.Ends.{body_at, end_at, end_length, kind_of_code, re
 use Rattle.mscp_packet.specs.declared.end.BodyKind.{BodyKind}
 use Rattle.mscp_packet.specs.declared.end.BodyKind.TheVariants as bodykinds
 use Rattle.mscp_packet.specs.declared.end.End.{End}
+use Rattle.mscp_packet.specs.declared.end.EndBody.TheVariants as bodies
 use Rattle.mscp_packet.specs.declared.reading.EndFault.TheVariants as endfaults
 use Rattle.mscp_host.specs.declared.envelope.Envelope.{Envelope}
 use Rattle.mscp_host.specs.declared.message.HearFault.{HearFault}
@@ -29,6 +30,9 @@ pub record IsEndIn (e : End) (t : List ℕ) : Type 0 where
   pub reference : e.reference ≡ num t 0 4
   pub moved : (n : ℕ) → moved_in (kind_of_code (slice_index t 8)) (num t 12 4) ≤ n → is_too_much e.body n ≡ false
   pub whole : kind_of_code (slice_index t 8) ≡ Some bodykinds.Moved → 32 ≤ length t
+  pub code : e.code ≡ slice_index t 8
+  pub told : (other figure : ℕ) → e.body ≡ bodies.Status other figure
+      → (other ≡ num t 12 4) × (figure ≡ num t 16 4) × (20 ≤ length t)
 
 abbrev message_or : Result Message HearFault → End → End
 message_or (Ok (messages.End e)) other = e
@@ -53,6 +57,16 @@ module _ (t : List ℕ) (e : End) (long : 12 ≤ length t) (top : 0x80 ≤ slice
   body_few bodykinds.Controller n h = refl
   body_few bodykinds.Online n h = refl
 
+  tells : (k : BodyKind) (other figure : ℕ) → body_at k t ≡ bodies.Status other figure → end_length k ≤ length t
+      → (other ≡ num t 12 4) × (figure ≡ num t 16 4) × (20 ≤ length t)
+  tells bodykinds.Status other figure e long = search (arith, e, long)
+  tells bodykinds.Moved other figure e long = absurd (search (arith, e))
+  tells bodykinds.Bare other figure e long = absurd (search (arith, e))
+  tells bodykinds.Abort other figure e long = absurd (search (arith, e))
+  tells bodykinds.UnitStatus other figure e long = absurd (search (arith, e))
+  tells bodykinds.Controller other figure e long = absurd (search (arith, e))
+  tells bodykinds.Online other figure e long = absurd (search (arith, e))
+
   read_with : (k : Option BodyKind) → kind_of_code (slice_index t 8) ≡ k
       → any_end t (reading_with k t) ≡ Ok (messages.End e) → IsEndIn e t
   read_with None is h =
@@ -63,6 +77,8 @@ module _ (t : List ℕ) (e : End) (long : 12 ≤ length t) (top : 0x80 ≤ slice
         reference = ap (λ (x : End). x.reference) (sym same);
         moved = λ n few. subst (λ (x : End). is_too_much x.body n ≡ false) same refl;
         whole = λ m. search (arith, sym is ∙ m);
+        code = ap (λ (x : End). x.code) (sym same);
+        told = λ other figure body. absurd (search (arith, ap (λ (x : End). x.body) same ∙ body));
       }
   read_with (Some k) is h = by (nat_lt (length t) (end_length k)) refl h
     where
@@ -79,6 +95,9 @@ module _ (t : List ℕ) (e : End) (long : 12 ≤ length t) (top : 0x80 ≤ slice
                 (body_few k n (subst (λ o. moved_in o (num t 12 4) ≤ n) is few));
             whole = λ m. subst (λ (x : BodyKind). end_length x ≤ length t)
                 (Rattle.std.proofs.lemmas.Option.same_Some k bodykinds.Moved (sym is ∙ m))
+                (not_less (length t) (end_length k) is_long);
+            code = ap (λ (x : End). x.code) (sym same);
+            told = λ other figure body. tells k other figure (ap (λ (x : End). x.body) same ∙ body)
                 (not_less (length t) (end_length k) is_long);
           }
 
@@ -176,6 +195,35 @@ end_heard v b e h = by (nat_lt (length b) v.length) (nat_eq v.connection 0) refl
     by false false is h = search (arith, h)
     by false true is h = so (typed_so v.kind (take v.length b) e h)
         (Rattle.mscp_port.proofs.Common.eqb-true v.connection 0 is)
+
+-- its code, and if it is that of a poll, the command that it is about and the figure that it tells
+pub end_read : (v : Envelope) (b : List ℕ) (e : End) → message_in v b ≡ Ok (messages.End e)
+    → (e.code ≡ slice_index b 8) × ((other figure : ℕ) → e.body ≡ bodies.Status other figure
+    → (other ≡ num b 12 4) × (figure ≡ num b 16 4))
+end_read v b e h = by (nat_lt (length b) v.length) (nat_eq v.connection 0) h
+  where
+    so : IsEndIn e (take v.length b) → (e.code ≡ slice_index b 8) × ((other figure : ℕ)
+        → e.body ≡ bodies.Status other figure → (other ≡ num b 12 4) × (figure ≡ num b 16 4))
+    so x = (
+      x.code ∙ taken_byte v.length b 8 (search (arith, x.long)),
+      λ other figure body.
+          let y = x.told other figure body in
+          let at : (i : ℕ) → i < 20 → slice_index (take v.length b) i ≡ slice_index b i =
+          λ i low. taken_byte v.length b i (search (arith, low, y.2)) in (
+            y.0 ∙ (λ j. 0 + at 12 (search arith) j * 1 + at 13 (search arith) j * 256
+                + at 14 (search arith) j * 65536 + at 15 (search arith) j * 16777216),
+            y.1 ∙ (λ j. 0 + at 16 (search arith) j * 1 + at 17 (search arith) j * 256
+                + at 18 (search arith) j * 65536 + at 19 (search arith) j * 16777216),
+          ),
+    )
+
+    by : (a c : Bool) → cond a (Err faults.Cut) (cond (not c) (Err faults.Connection)
+        (typed_in v.kind (take v.length b))) ≡ Ok (messages.End e)
+        → (e.code ≡ slice_index b 8) × ((other figure : ℕ) → e.body ≡ bodies.Status other figure
+        → (other ≡ num b 12 4) × (figure ≡ num b 16 4))
+    by true c h = absurd (search (arith, h))
+    by false false h = absurd (search (arith, h))
+    by false true h = so (typed_so v.kind (take v.length b) e h)
 
 -- ---- what is read
 

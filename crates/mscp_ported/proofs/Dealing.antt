@@ -231,7 +231,7 @@ module _ {K : Type 0} (bytes : List ℕ) (done : Unit) (old new : Port K) (aw : 
 
 -- ---- something is wanted
 
-one_of : {X : Type 0} (P : X → Type 0) (f : X → Bool) (xs : List X) (x : X) → AllByRecursion P xs
+pub one_of : {X : Type 0} (P : X → Type 0) (f : X → Bool) (xs : List X) (x : X) → AllByRecursion P xs
     → filter f xs ≡ x ∷ [] → P x × (f x ≡ true)
 one_of P f [] x all e = search (arith, e)
 one_of {X} P f (y ∷ ys) x all e = by (f y) refl e (λ h. one_of P f ys x all.1 h)

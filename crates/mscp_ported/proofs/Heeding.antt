@@ -27,7 +27,6 @@ use Rattle.mscp_port.specs.Ports.{IsReadingText}
 use Rattle.mscp_port.specs.Seen.{SeesText, Sends, answered_to, changes_at}
 use Rattle.mscp_port.specs.Volumes.{place_in, volume_at}
 use Rattle.mscp_port.specs.declared.port.Port.{Port}
-use Rattle.mscp_port.specs.declared.rings.Side.TheVariants.{Commands}
 use Rattle.mscp_port.specs.declared.slot.Descriptor.{Descriptor}
 use Rattle.mscp_port.specs.declared.task.Task.{Task}
 use Rattle.mscp_ported.proofs.Answering.{none_so, own_so}
