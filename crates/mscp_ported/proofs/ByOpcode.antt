@@ -1,4 +1,5 @@
 -- Each end that goes out fits its message, over a whole list of calls.
+use Rattle.mscp_ported.proofs.Holding.{small_figure}
 use Rattle.mscp_ported.proofs.Untouched.{passive_buffers}
 use Rattle.mscp_controller.specs.Calls.{AnsweredCalls, Call as Made}
 use Rattle.mscp_controller.specs.Controllers.{ControllersKeepThePromise, KeepsPromise}
@@ -86,6 +87,7 @@ module _ {K : Type 0} (picks : Picking K) (c : Settings) (picker : K)
   fitting p (WasRead bytes (Ok done) ∷ calls) reads a =
       read_fits bytes done a.0 p (awaited picks start a.0 calls a.1) (numbers_kept a.0 calls reads.1 a.1)
       (fitting a.0 calls reads.1 a.1) a.2 reads.0 c valid sizes (promised a.0 calls a.1).1.settings
+      (λ n. small_figure (picks picker) c (promised a.0 calls a.1).0 a.0.controller (promised a.0 calls a.1).1 n valid)
   fitting p (WasRead bytes (Err unasked) ∷ calls) reads a =
       passive_fits p (WasRead bytes (Err unasked)) calls a tt (fitting a.0 calls reads.1 a.1)
   fitting p (Went outcome (Ok done) ∷ calls) reads a =

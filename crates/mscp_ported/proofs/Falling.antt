@@ -74,7 +74,7 @@ use Rattle.mscp_ported.proofs.Promised.{Knows, knows, pickers_kept}
 -- ---- one moment more
 
 -- what is found is as all are, and passes
-found_of : (P : ℕ → Type 0) (f : ℕ → Bool) (xs : List ℕ) (x : ℕ) → AllByRecursion P xs → find f xs ≡ Some x
+pub found_of : (P : ℕ → Type 0) (f : ℕ → Bool) (xs : List ℕ) (x : ℕ) → AllByRecursion P xs → find f xs ≡ Some x
     → P x × (f x ≡ true)
 found_of P f [] x all e = absurd (none-some x e)
 found_of P f (y ∷ ys) x all e = by (f y) refl e (λ h. found_of P f ys x all.1 h)

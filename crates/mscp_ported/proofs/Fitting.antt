@@ -1,9 +1,11 @@
 -- Each end that waits fits the message whose end it is.
 use Rattle.std.proofs.Common.{◌≡◌, ◌∙◌, ◌+◌, ◌^◌, ◌<◌, ◌≤◌, ◌++◌, ◌∷◌, [], ℕ, Bool, true, false, cond, filter, length, nat_eq, not, List, Option, None, Some, inl, inr, refl, ap, sym, subst, arith}
-use Rattle.std.specs.Prelude.{find, position, slice_get, slice_index}
+use Rattle.std.specs.Prelude.{find, option_map, position, slice_get, slice_index}
 use Rattle.std.specs.List.{AllByRecursion}
 use Rattle.mscp_packet.specs.Number.{num}
-use Rattle.mscp_packet.specs.Ends.{IsOfKind, end_bytes, kind_of_body, kind_of_code, refused_body}
+use Rattle.mscp_packet.specs.declared.end.BodyKind.{BodyKind}
+use Rattle.mscp_packet.specs.declared.end.BodyKind.TheVariants as kinds_of
+use Rattle.mscp_packet.specs.Ends.{IsOfKind, endcodes, end_bytes, kind_of_body, kind_of_code, refused_body}
 use Rattle.mscp_packet.proofs.Numbers.{four}
 use Rattle.mscp_drive.specs.UnitList.{unit_found}
 use Rattle.mscp_packet.specs.declared.command.Order.{Order}
@@ -33,6 +35,7 @@ use Rattle.mscp_port.proofs.Common.{eq-eqb, eqb-true, none-some, same_Some}
 use Rattle.mscp_ported.specs.Awaited.{has_number}
 use Rattle.mscp_ported.specs.Ends.{Leaving}
 use Rattle.mscp_ported.specs.Fitting.{IsCodeFor}
+use Rattle.mscp_ported.specs.Passing.{figure_in}
 use Rattle.mscp_ported.proofs.Buffered.{FitsBuffer}
 use Rattle.mscp_ported.proofs.Ending.{left_with, zipped}
 use Rattle.mscp_ported.proofs.Numbered.{ends_numbered, none_beside, none_of_it, other_number, some_none}
@@ -46,6 +49,9 @@ pub record FitsEnd (l : Leaving) (t : List ℕ) : Type 0 where
   pub code : IsCodeFor (cond (ends_formality l.fields.code) l.fields.code l.end.code) t
   pub about : 16 ≤ length t → (other figure : ℕ) → l.end.body ≡ bodies.Status other figure
       → (other ≡ num t 12 4) × (other < 2 ^ 32)
+  -- a poll's end leaves with its own code, and its figure fits its bytes
+  pub polled : (other figure : ℕ) → l.end.body ≡ bodies.Status other figure
+      → (l.fields.code ≡ l.end.code) × (figure < 2 ^ 32)
 
 -- and so it does the awaited message of its number
 abbrev pub FitsIn : List (List ℕ) → Leaving → Type 0
@@ -117,6 +123,9 @@ module _ (bs : List Buffer) (e : End) (t : List ℕ) where
       by false is = itself_coded (subst (λ n. IsCodeFor n t) (sym same)
           (f.code (ap is_formality (sym f.opcode) ∙ is)))
 
+  pub bare_same : filter (is_of First e.reference) bs ≡ [] → told ≡ e.code
+  bare_same none = ap (λ o. code_told o e.code) (kept_none e.reference bs none)
+
   -- and one of which nothing is kept
   pub bare_coded : filter (is_of First e.reference) bs ≡ [] → IsCodeFor e.code t → Coded told
   bare_coded none is = subst (λ o. Coded (code_told o e.code)) (sym (kept_none e.reference bs none)) (itself_coded is)
@@ -172,6 +181,7 @@ plain_fits bs r b e d t plain one f same = record {
   code = subst (λ c. IsCodeFor (cond (ends_formality c) c e.code) t) (sym same)
       (kept_coded bs e t r b one f plain.code);
   about = λ long other figure is. absurd (plain.no_figure f.no_figure other figure is);
+  polled = λ other figure is. absurd (plain.no_figure f.no_figure other figure is);
 }
 
 -- ---- messages and ends beside each other
@@ -261,3 +271,78 @@ told_about p e d some t shaped fits is long =
         ≡ num t 12 4
     by true formal poll = absurd (not_formal d.code formal poll)
     by false formal poll = plain e.body refl shaped poll
+
+-- the code of a poll's end
+status_code : (code : ℕ) → kind_of_code code ≡ Some kinds_of.Status → code ≡ 0x82
+status_code code e = found endcodes rows e
+  where
+    rows : AllByRecursion (λ x. x.1 ≡ kinds_of.Status → x.0 ≡ 0x82) endcodes
+    rows = grind arith
+
+    found : (xs : List (ℕ × BodyKind)) → AllByRecursion (λ x. x.1 ≡ kinds_of.Status → x.0 ≡ 0x82) xs
+        → option_map (λ x. x.1) (find (λ x. nat_eq x.0 code) xs) ≡ Some kinds_of.Status → code ≡ 0x82
+    found [] all h = absurd (none-some kinds_of.Status h)
+    found (x ∷ xs) all h = by (nat_eq x.0 code) refl h (λ y. found xs all.1 y)
+      where
+        by : (b : Bool) → nat_eq x.0 code ≡ b
+            → option_map (λ (y : ℕ × BodyKind). y.1) (cond b (Some x) (find (λ y. nat_eq y.0 code) xs))
+            ≡ Some kinds_of.Status
+            → (option_map (λ (y : ℕ × BodyKind). y.1) (find (λ y. nat_eq y.0 code) xs) ≡ Some kinds_of.Status
+            → code ≡ 0x82) → code ≡ 0x82
+        by true is h rest = sym (eqb-true x.0 code is) ∙ all.0 (same_Some x.1 kinds_of.Status h)
+        by false is h rest = rest h
+
+-- what is told of the figure
+pub told_figure : {K : Type 0} (p : Port K) (e : End) (d : Decided) → slice_get p.decided.items 0 ≡ Some d
+    → (t : List ℕ) → IsOfKind e → FitsEnd (left_with e d) t
+    → cond (nat_eq (slice_index (told_end p e) 8) 0x82) (num (told_end p e) 16 4) 0 ≡ figure_in e.body
+told_figure p e d some t shaped fits = by e.body refl
+  where
+    unit : Option Shape
+    unit = unit_found p.controller.settings.units e.unit
+
+    text : List ℕ
+    text = told_end p e
+
+    not_poll : (body : EndBody) → kind_of_code e.code ≡ Some (kind_of_body body)
+        → (kind_of_body body ≡ kinds_of.Status → ⊥) → nat_eq (slice_index (told_end p e) 8) 0x82 ≡ false
+    not_poll body kind other = none (nat_eq (slice_index (told_end p e) 8) 0x82) refl
+      where
+        formal : (c : Bool) → ends_formality d.code ≡ c → cond c d.code e.code ≡ 0x82 → ⊥
+        formal true is poll = search (arith, sym is ∙ ap ends_formality poll)
+        formal false is poll = other (same_Some (kind_of_body body) kinds_of.Status
+            (sym kind ∙ ap kind_of_code poll))
+
+        none : (b : Bool) → nat_eq (slice_index (told_end p e) 8) 0x82 ≡ b → b ≡ false
+        none false is = refl
+        none true is = absurd (formal (ends_formality d.code) refl
+            (sym (told_code p e d some) ∙ eqb-true (slice_index (told_end p e) 8) 0x82 is))
+
+    nothing : (body : EndBody) → e.body ≡ body → (kind_of_body body ≡ kinds_of.Status → ⊥) → figure_in body ≡ 0
+        → cond (nat_eq (slice_index (told_end p e) 8) 0x82) (num (told_end p e) 16 4) 0 ≡ figure_in e.body
+    nothing body same other zero =
+        ap (λ b. cond b (num (told_end p e) 16 4) 0)
+        (not_poll body (shaped ∙ ap (λ x. Some (kind_of_body x)) same) other)
+        ∙ sym (ap figure_in same ∙ zero)
+
+    by : (body : EndBody) → e.body ≡ body
+        → cond (nat_eq (slice_index (told_end p e) 8) 0x82) (num (told_end p e) 16 4) 0 ≡ figure_in e.body
+    by (bodies.Status other figure) same =
+        let x = fits.polled other figure same in
+        let code : e.code ≡ 0x82 = status_code e.code (shaped ∙ ap (λ b. Some (kind_of_body b)) same) in
+        let formal : ends_formality d.code ≡ false = ap ends_formality (x.0 ∙ code) in
+        let told : slice_index (told_end p e) 8 ≡ 0x82 =
+        told_code p e d some ∙ ap (λ c. cond c d.code e.code) formal ∙ code in
+        ap (λ b. cond b (num (told_end p e) 16 4) 0) (eq-eqb (slice_index (told_end p e) 8) 0x82 told)
+        ∙ ap (λ o. num (end_left e o unit p.hardware) 16 4) some
+        ∙ ap (λ c. num (cond c (head e.reference e.unit d.code d.status)
+        (end_with_body e.body e d unit p.hardware)) 16 4) formal
+        ∙ ap (λ b. num (end_with_body b e d unit p.hardware) 16 4) same
+        ∙ ap (λ b. num (end_bytes (record e { status = d.status; body = b })) 16 4) same
+        ∙ four figure x.1 ∙ sym (ap figure_in same)
+    by (bodies.Moved count) same = nothing (bodies.Moved count) same (λ k. search (arith, k)) refl
+    by bodies.Bare same = nothing bodies.Bare same (λ k. search (arith, k)) refl
+    by (bodies.Abort other) same = nothing (bodies.Abort other) same (λ k. search (arith, k)) refl
+    by (bodies.UnitStatus x y z v w) same = nothing (bodies.UnitStatus x y z v w) same (λ k. search (arith, k)) refl
+    by (bodies.Controller x y) same = nothing (bodies.Controller x y) same (λ k. search (arith, k)) refl
+    by (bodies.Online x y z v) same = nothing (bodies.Online x y z v) same (λ k. search (arith, k)) refl

@@ -1,4 +1,11 @@
 -- Behind a message that a port read each end that waits fits its message still.
+use Rattle.mscp_packet.specs.declared.end.BodyKind.{BodyKind}
+use Rattle.mscp_packet.specs.declared.end.BodyKind.TheVariants as kinds_of
+use Rattle.mscp_packet.specs.Ends.{kind_of_code, zero_body}
+use Rattle.mscp_controller.specs.Holdings.{figure_polled}
+use Rattle.mscp_controller.specs.Outcomes.{answer_body}
+use Rattle.mscp_ported.specs.Figures.{figure_on}
+use Rattle.mscp_ported.specs.Passing.{figure_in}
 use Rattle.mscp_ported.proofs.Untouched.{read_keeps}
 use Rattle.mscp_controller.specs.declared.entry.Sent.TheVariants as sents
 use Rattle.mscp_controller.specs.declared.entry.SendFault.TheVariants as faults
@@ -39,7 +46,7 @@ use Rattle.mscp_ported.proofs.Decided.{read_stays}
 use Rattle.mscp_ported.proofs.Ended.{bytes_small}
 use Rattle.mscp_ported.proofs.Ending.{Grows, left_with, zipped}
 use Rattle.mscp_ported.proofs.Fitted.{Fitting, became, grown_fits, grown_long, stays, unchanged}
-use Rattle.mscp_ported.proofs.Fitting.{FitsEnd, FitsIn, aborted_plain, bare_coded, decided_code, every_beside, plain_fits}
+use Rattle.mscp_ported.proofs.Fitting.{FitsEnd, FitsIn, aborted_plain, bare_coded, bare_same, decided_code, every_beside, plain_fits}
 use Rattle.mscp_ported.proofs.Formal.{formal_queued}
 use Rattle.mscp_ported.proofs.Leaving.{text_grows}
 use Rattle.mscp_ported.proofs.Numbered.{At, IsNothing, first_of_one, none_beside, none_found, none_stays, some_none}
@@ -69,6 +76,35 @@ num_small b h = few (slice_index b 12) (slice_index b 13) (slice_index b 14) (sl
         → 0 + x * 1 + y * 256 + z * 65536 + w * 16777216 < 2 ^ 32
     few x y z w a b c d = omega (arith, a, b, c, d)
 
+-- an end that is answered at once tells no greater figure
+zero_figure : (kind : Option BodyKind) → figure_in (zero_body kind) ≡ 0
+zero_figure None = refl
+zero_figure (Some kinds_of.Bare) = refl
+zero_figure (Some kinds_of.Abort) = refl
+zero_figure (Some kinds_of.Status) = refl
+zero_figure (Some kinds_of.UnitStatus) = refl
+zero_figure (Some kinds_of.Controller) = refl
+zero_figure (Some kinds_of.Online) = refl
+zero_figure (Some kinds_of.Moved) = refl
+
+zero_least : (y figure : ℕ) → y ≡ 0 → y ≤ figure
+zero_least y figure e = search (arith, e)
+
+own_figure : (s : Settings) (online : Bool) (figure : ℕ) (x : Command) (o : Option ℕ)
+    → figure_in (own_end_with s online figure x o).body ≤ figure
+own_figure s online figure x (Some status) =
+    zero_least (figure_in (zero_body (kind_of_code (endcode x.order)))) figure
+    (zero_figure (kind_of_code (endcode x.order)))
+own_figure s online figure x None = by x.order
+  where
+    by : (order : Order) → figure_in (answer_body s figure x.unit order) ≤ figure
+    by (orders.Status other) = search arith
+    by (orders.Abort other) = search arith
+    by orders.UnitStatus = search arith
+    by (orders.SetController version) = search arith
+    by order = zero_least (figure_in (zero_body (kind_of_code (endcode order)))) figure
+        (zero_figure (kind_of_code (endcode order)))
+
 -- a message that isn't refused finds a credit
 none_refused : (short long none : Bool) (o : Option SendFault) → none ≡ true
     → cond short (Some faults.Short) (cond long (Some faults.Long) (cond none (Some faults.NoCredit) o)) ≡ None → ⊥
@@ -84,7 +120,7 @@ some_balance balance os b e = by (nat_eq balance 0) refl
 module _ {K : Type 0} (bytes : List ℕ) (done : Unit) (old new : Port K) (aw : List (List ℕ)) (k : Kept old aw)
     (f : Fitting old aw) (r : Hears bytes old (Ok done) new) (small : (i : ℕ) → slice_index bytes i < 2 ^ 8)
     (c : Settings) (valid : IsValid c) (sizes : All (λ unit. 0 < unit.size) c.units)
-    (settings : old.controller.settings ≡ c) where
+    (settings : old.controller.settings ≡ c) (low : (n : ℕ) → figure_on old n < 2 ^ 32) where
   abbrev After : Type 0
   After = Fitting new (since new.stage (WasRead bytes (Ok done)) aw (taken_by (WasRead bytes (Ok done)) old))
 
@@ -254,6 +290,15 @@ module _ {K : Type 0} (bytes : List ℕ) (done : Unit) (old new : Port K) (aw : 
                 (sym (answered_about h.settings _ _ old.controller.settings.units bytes long other figure is))
                 (num_small bytes small),
           );
+          polled = λ other figure is. (
+            decided_code _ _ own new.controller.settings.units new.flags _
+                ∙ bare_same old.buffers.items own bytes
+                (ap (λ m. filter (is_of First m) old.buffers.items) own_named ∙ (f.kept n).none nothing.1),
+            under figure (figure_polled h.settings First h.waiting command.order)
+                (subst (λ b. figure_in b ≤ figure_polled h.settings First h.waiting command.order) is
+                (own_figure h.settings _ (figure_polled h.settings First h.waiting command.order) command
+                (fault_of h.settings command))) (polled_low command.order),
+          );
         })
           where
             same : bytes ≡ t
@@ -273,6 +318,13 @@ module _ {K : Type 0} (bytes : List ℕ) (done : Unit) (old new : Port K) (aw : 
                       (subst (λ s. own_end foreign (option_map (volume_at old.volumes)
                       (place_in s.units (num bytes 4 2))) bytes ≡ None) settings none) e),
                 )
+
+            under : (a b : ℕ) → a ≤ b → b < 2 ^ 32 → a < 2 ^ 32
+            under a b h k = omega (arith, h, k)
+
+            polled_low : (order : Order) → figure_polled h.settings First h.waiting order < 2 ^ 32
+            polled_low (orders.Status other) = low other
+            polled_low order = omega arith
 
             own_code : (s : Settings) (online : Bool) (figure : ℕ) (x : Command) (o : Option ℕ)
                 → (own_end_with s online figure x o).code ≡ endcode x.order

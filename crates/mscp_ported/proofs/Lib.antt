@@ -60,3 +60,6 @@ pub mod Formal
 pub mod Opcodes
 pub mod Heeding
 pub mod ByOpcode
+pub mod Holding
+pub mod Passing
+pub mod Passed

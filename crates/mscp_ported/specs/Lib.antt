@@ -15,3 +15,4 @@ pub mod Transfers
 pub mod Awaited
 pub mod Figures
 pub mod Fitting
+pub mod Passing

@@ -10,6 +10,7 @@ ghost use Rattle.mscp_ported.specs.Mounts.{PortsCountOnTheirVolumes, PortsMoveOn
 ghost use Rattle.mscp_ported.specs.Moved.{PortsMoveWhatTheySay};
 ghost use Rattle.mscp_ported.specs.News.{PortsAnnounceAvailableUnits};
 ghost use Rattle.mscp_ported.specs.Owed.{PortsDoWhatIsDue};
+ghost use Rattle.mscp_ported.specs.Passing.{PortsHoldWhatIsAwaited, PortsPassEndsOn};
 ghost use Rattle.mscp_ported.specs.Polls.{PortsAnswerPolls};
 ghost use Rattle.mscp_ported.specs.Soon.{PortsKeepTelling, PortsTellSoon};
 ghost use Rattle.mscp_ported.specs.Transfers.{PortsCountWhatTheyMoved, PortsCountWhatWasAborted, PortsMoveEachBlock};
@@ -218,6 +219,24 @@ pub fn ports_lower_figures<K: Picker>(picker: &K)
 /// the one of an unknown opcode. The end of a poll is about the command that the poll names.
 pub fn ports_end_by_opcode<K: Picker>(picker: &K)
     ensures { PortsEndByOpcode K.picks picker.now }
+{
+    controllers_keep_the_promise(picker);
+}
+
+/// Whoever calls a port, whose controller had nothing of its host's as the port was made, and what it reads being bytes: of each
+/// message that its controller took since all was forgotten last, and whose end hasn't gone out, the command waits, and has a figure
+/// of 1 or more, or the controller holds its end; and there is no other command and no other end of the host's.
+pub fn ports_hold_what_is_awaited<K: Picker>(picker: &K)
+    ensures { PortsHoldWhatIsAwaited K.picks picker.now }
+{
+    controllers_keep_the_promise(picker);
+}
+
+/// Of such a port, whose units have blocks, and whose holder tells of actions only after they were wanted: while no fatal error comes
+/// and the host writes no IP, ends pass on to the host in the order in which they came. A poll that the controller takes brings one
+/// end, with the figure that its command has then.
+pub fn ports_pass_ends_on<K: Picker>(picker: &K)
+    ensures { PortsPassEndsOn K.picks picker.now }
 {
     controllers_keep_the_promise(picker);
 }
