@@ -20,7 +20,7 @@ use Rattle.mscp_port.specs.declared.hardware.Hardware.{Hardware}
 use Rattle.mscp_port.specs.declared.port.Outgoing.{Outgoing}
 use Rattle.mscp_port.specs.declared.port.Port.{Port}
 use Rattle.mscp_port.specs.declared.volumes.Volume.{Volume}
-use Rattle.mscp_ported.specs.Answers.{Own, PortsAnswerAsTheyMay, asks_nothing, moves_data, own_answer, own_refusal, past_end, volume_named}
+use Rattle.mscp_ported.specs.Answers.{kind_answered, Own, PortsAnswerAsTheyMay, asks_nothing, moves_data, own_answer, own_refusal, past_end, volume_named}
 use Rattle.mscp_ported.specs.Awaited.{Deals, IsAnswering, IsTaking, PortsEndWhatTheyTook, ReadsBytes, awaited, has_number, is_transfer, taken_by, without_ends}
 use Rattle.mscp_ported.specs.Ends.{ends_said_by}
 use Rattle.mscp_ported.specs.Fitting.{Fits, PortsEndByOpcode}
@@ -91,34 +91,41 @@ own_coded v b own h = by (is_none v && asks_nothing (slice_index b 8)) refl h
 
 -- what was said and not heard, what is awaited, and what was sent and not read, before a call and behind it: nothing
 -- changes, or news are said, or a message's end, or the next message is taken, or answered
-abbrev pub Dealt : (us : List Said) (ts ms : List (List ℕ)) (us' : List Said) (ts' ms' : List (List ℕ)) → Type 0
-Dealt us ts ms us' ts' ms' =
-    ((us' ≡ us) × (ts' ≡ ts) × (ms' ≡ ms))
-    ⊎ ((s : Said) × (s.kind ≡ kinds.Attention) × (us' ≡ us ++ s ∷ []) × (ts' ≡ ts) × (ms' ≡ ms))
+abbrev pub Dealt : (Took : List ℕ → Type 0) (texts : List (List ℕ)) (us : List Said) (ts ms : List (List ℕ))
+    (us' : List Said) (ts' ms' : List (List ℕ)) → Type 0
+Dealt Took texts us ts ms us' ts' ms' =
+    ((us' ≡ us) × (ts' ≡ ts) × (ms' ≡ ms) × (texts ≡ []))
+    ⊎ ((s : Said) × (s.kind ≡ kinds.Attention) × (us' ≡ us ++ s ∷ []) × (ts' ≡ ts) × (ms' ≡ ms) × (texts ≡ []))
     ⊎ ((s : Said) × (t : List ℕ) × (filter (has_number (num s.text 0 4)) ts ≡ t ∷ []) × Fits s.text t
-    × (us' ≡ us ++ s ∷ []) × (ts' ≡ filter (λ x. not (has_number (num s.text 0 4) x)) ts) × (ms' ≡ ms))
-    ⊎ ((t : List ℕ) × (m : List ℕ) × IsCopyOf t m × (us' ≡ us) × (ts' ≡ ts ++ t ∷ []) × (ms ≡ m ∷ ms'))
+    × (us' ≡ us ++ s ∷ []) × (ts' ≡ filter (λ x. not (has_number (num s.text 0 4) x)) ts) × (ms' ≡ ms)
+    × (texts ≡ []) × (s.kind ≡ kinds.End))
+    ⊎ ((t : List ℕ) × (m : List ℕ) × IsCopyOf t m × (us' ≡ us) × (ts' ≡ ts ++ t ∷ []) × (ms ≡ m ∷ ms')
+    × (texts ≡ t ∷ []) × Took t)
     ⊎ ((s : Said) × (t : List ℕ) × (m : List ℕ) × IsCopyOf t m × (num s.text 0 4 ≡ num t 0 4)
     × (slice_index s.text 8 ≡ slice_index t 8 + 0x80) × (slice_index s.text 8 ≢ 0x82) × (us' ≡ us ++ s ∷ [])
-    × (ts' ≡ ts) × (ms ≡ m ∷ ms'))
+    × (ts' ≡ ts) × (ms ≡ m ∷ ms') × (texts ≡ t ∷ []) × (s.kind ≡ kinds.End))
+
+-- the text was read by the call, and the controller took it
+abbrev pub Taken : {K : Type 0} → Call → Port K → List ℕ → Type 0
+Taken call old t = ((done : Unit) × (call ≡ WasRead t (Ok done))) × (taken_by call old ≡ t ∷ [])
 
 noted_as : (host : PortAccount) (us us' : List Said) (ts ts' ms ms' : List (List ℕ)) → us' ≡ us → ts' ≡ ts → ms' ≡ ms
     → Noted host us ts ms → Noted host us' ts' ms'
 noted_as host us us' ts ts' ms ms' e f g n = subst (λ x. Noted host x ts' ms') (sym e)
     (subst (λ x. Noted host us x ms') (sym f) (subst (λ x. Noted host us ts x) (sym g) n))
 
-pub noted_dealt : (host : PortAccount) (us us' : List Said) (ts ts' ms ms' : List (List ℕ))
-    → Dealt us ts ms us' ts' ms' → Noted host us ts ms → Noted host us' ts' ms'
-noted_dealt host us us' ts ts' ms ms' (inl q) n = noted_as host us us' ts ts' ms ms' q.0 q.1 q.2 n
-noted_dealt host us us' ts ts' ms ms' (inr (inl q)) n =
+pub noted_dealt : (Took : List ℕ → Type 0) (texts : List (List ℕ)) (host : PortAccount) (us us' : List Said) (ts ts' ms ms' : List (List ℕ))
+    → Dealt Took texts us ts ms us' ts' ms' → Noted host us ts ms → Noted host us' ts' ms'
+noted_dealt Took texts host us us' ts ts' ms ms' (inl q) n = noted_as host us us' ts ts' ms ms' q.0 q.1 q.2 n
+noted_dealt Took texts host us us' ts ts' ms ms' (inr (inl q)) n =
     noted_as host (us ++ q.0 ∷ []) us' ts ts' ms ms' q.2 q.3 q.4 (noted_news host us ts q.0 ms q.1 n)
-noted_dealt host us us' ts ts' ms ms' (inr (inr (inl q))) n =
+noted_dealt Took texts host us us' ts ts' ms ms' (inr (inr (inl q))) n =
     noted_as host (us ++ q.0 ∷ []) us' (filter (λ x. not (has_number (num q.0.text 0 4) x)) ts) ts' ms ms' q.4 q.5 q.6
     (noted_end host us ts q.0 q.1 ms q.2 q.3 n)
-noted_dealt host us us' ts ts' ms ms' (inr (inr (inr (inl q)))) n =
+noted_dealt Took texts host us us' ts ts' ms ms' (inr (inr (inr (inl q)))) n =
     noted_as host us us' (ts ++ q.0 ∷ []) ts' ms' ms' q.3 q.4 refl
     (copy_taken host us ts q.0 q.1 ms' q.2 (subst (λ x. Noted host us ts x) q.5 n))
-noted_dealt host us us' ts ts' ms ms' (inr (inr (inr (inr q)))) n =
+noted_dealt Took texts host us us' ts ts' ms ms' (inr (inr (inr (inr q)))) n =
     noted_as host (us ++ q.0 ∷ []) us' ts ts' ms' ms' q.7 q.8 refl
     (copy_answered host us ts q.0 q.1 q.2 ms' q.3 q.4 (inr q.5) q.6 (subst (λ x. Noted host us ts x) q.9 n))
 
@@ -167,7 +174,7 @@ module _ {K : Type 0} (picks : Picking K) (c : Settings) (picker : K) (ends : Po
       was quiet made IsCopyOf p calls bytes done sent_so slot header asks a opened reads
 
   abbrev Behind : (call : Call) → Answered picks start (call ∷ calls) p → Type 0
-  Behind call a = Dealt (drop k (said picks start a.0 calls a.1)) (awaited picks start a.0 calls a.1)
+  Behind call a = Dealt (Taken call a.0) (accepted_by call a.0) (drop k (said picks start a.0 calls a.1)) (awaited picks start a.0 calls a.1)
       (drop (length (accepted picks start a.0 calls a.1)) sent_so)
       (drop k (said picks start a.0 calls a.1 ++ map said_in (begins a.0.outgoing p.outgoing)))
       (without_ends (ends_said_by call a.0 p) (awaited picks start a.0 calls a.1) ++ taken_by call a.0)
@@ -230,6 +237,8 @@ module _ {K : Type 0} (picks : Picking K) (c : Settings) (picker : K) (ends : Po
         ap (λ xs. awaited picks start a.0 calls a.1 ++ xs)
             (d.taken ∙ ap (λ y. y ∷ []) (sym (ap bytes_read d.read.1))),
         unread_less (WasRead bytes (Ok done)) a heard d.message x.message d.accepted x.at,
+        d.accepted ∙ ap (λ y. y ∷ []) (sym (ap bytes_read d.read.1)),
+        ((done, refl), d.taken ∙ ap (λ y. y ∷ []) (sym (ap bytes_read d.read.1))),
       ))))
     where
       bytes_read : Call → List ℕ
@@ -259,7 +268,13 @@ module _ {K : Type 0} (picks : Picking K) (c : Settings) (picker : K) (ends : Po
         said_more (WasRead bytes (Ok done)) a heard d.out d.nothing d.begun,
         awaited_same (WasRead bytes (Ok done)) a heard d.ended d.taken,
         unread_less (WasRead bytes (Ok done)) a heard d.message x.message d.accepted x.at,
+        d.accepted ∙ ap (λ y. y ∷ []) (sym (ap bytes_read d.read.1)),
+        r.3.kind ∙ ap kind_answered x.disks,
       ))))
+    where
+      bytes_read : Call → List ℕ
+      bytes_read (WasRead b u) = b
+      bytes_read call = bytes
   answers_it call a heard asks small reads d = absurd (search (arith, d.read.1))
 
   pub deals_so : (call : Call) (a : Answered picks start (call ∷ calls) p)
@@ -267,13 +282,15 @@ module _ {K : Type 0} (picks : Picking K) (c : Settings) (picker : K) (ends : Po
       → ReadsBytes (call ∷ calls) → ReadsInOrder IsCopyOf call (talk_of picks start a.0 calls a.1) sent_so
       → Deals (awaited picks start a.0 calls a.1) call a.0 p → Behind call a
   deals_so call a heard asks small reads (inl q) =
-      inl (said_same call a heard q.begun, awaited_same call a heard q.ended q.taken, unread_same call a heard q.accepted)
+      inl (said_same call a heard q.begun, awaited_same call a heard q.ended q.taken,
+      unread_same call a heard q.accepted, q.accepted)
   deals_so call a heard asks small reads (inr (inl q)) = inr (inl (
     said_in q.out,
     q.kind,
     said_more call a heard q.out q.nothing q.begun,
     awaited_same call a heard q.ended q.taken,
     unread_same call a heard q.accepted,
+    q.accepted,
   ))
   deals_so call a heard asks small reads (inr (inr (inl q))) = inr (inr (inl (
     said_in q.out,
@@ -288,6 +305,8 @@ module _ {K : Type 0} (picks : Picking K) (c : Settings) (picker : K) (ends : Po
         ∙ append-nil (filter (λ x. not (has_number (num q.out.bytes.items 0 4) x))
         (awaited picks start a.0 calls a.1)),
     unread_same call a heard q.accepted,
+    q.accepted,
+    q.kind,
   )))
   deals_so call a heard asks small reads (inr (inr (inr (inl q)))) = takes_it call a heard asks reads q
   deals_so call a heard asks small reads (inr (inr (inr (inr q)))) = answers_it call a heard asks small reads q

@@ -12,3 +12,4 @@ pub mod Notes
 pub mod Noting
 pub mod Dealt
 pub mod Refusing
+pub mod Tracking

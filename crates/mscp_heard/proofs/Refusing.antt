@@ -15,7 +15,7 @@ use Rattle.mscp_controller.specs.Holdings.{Holdings, fresh, outstanding_of}
 use Rattle.mscp_drive.specs.Settings.{IsValid, Settings}
 use Rattle.mscp_drive.specs.declared.connection.Connection.TheVariants.{First}
 use Rattle.mscp_heard.proofs.Claims.{Claim, Owes, claim_of, claim_said, claims, claims_said, moved_in, rest_apart}
-use Rattle.mscp_heard.proofs.Dealt.{Dealt, copied, deals_so, noted_dealt}
+use Rattle.mscp_heard.proofs.Dealt.{Dealt, Taken, copied, deals_so, noted_dealt}
 use Rattle.mscp_heard.proofs.Hosts.{SameNumbers}
 use Rattle.mscp_heard.proofs.Joined.{hears_said, none_told, numbered, owed}
 use Rattle.mscp_heard.proofs.Moments.{answered_last, asked_before, heard_last, reads_before, sent_last}
@@ -82,11 +82,11 @@ module _ {K : Type 0} (picks : Picking K) (c : Settings) (picker : K) (ends : Po
   NotedAt p calls a host h = Noted host (drop (hearings h) (all_said picks start p calls a)) (awaited picks start p calls a)
       (drop (length (accepted picks start p calls a)) (sent h))
 
-  abbrev Owed : (p : Port K) (calls : List Call) → Answered picks start calls p → List Asked → PortHistory → Type 0
+  abbrev pub Owed : (p : Port K) (calls : List Call) → Answered picks start calls p → List Asked → PortHistory → Type 0
   Owed p calls a asked h = Inv asked (all_said picks start p calls a) (hearings h) (awaited picks start p calls a)
       (sent h) (length (accepted picks start p calls a))
 
-  owed_so : (p : Port K) (deeds : List Deed) → AsksAlways (calls_in deeds) → ReadsBytes (calls_in deeds)
+  pub owed_so : (p : Port K) (deeds : List Deed) → AsksAlways (calls_in deeds) → ReadsBytes (calls_in deeds)
       → HaveNumbers deeds → (a : Answered picks start (calls_in deeds) p) → AreJoined IsCopyOf picks start p deeds a
       → is_dead p.stage ≡ false → (host : PortAccount) → PortAnswered fresh_of_port (did deeds) host
       → Owed p (calls_in deeds) a host.asked (did deeds)
@@ -205,35 +205,35 @@ module _ {K : Type 0} (picks : Picking K) (c : Settings) (picker : K) (ends : Po
 
   -- ---- all deeds
 
-  new_ready : (host : PortAccount) → host ≡ fresh_of_port → IsReady host
+  pub new_ready : (host : PortAccount) → host ≡ fresh_of_port → IsReady host
   new_ready host is = subst IsReady (sym is) (record {
     watched = λ w e. absurd (none-some w e);
     small = tt;
   })
 
   -- by a call of the port
-  by_call : (p : Port K) (calls : List Call) (call : Call) (a : Answered picks start (call ∷ calls) p)
+  pub by_call : (p : Port K) (calls : List Call) (call : Call) (a : Answered picks start (call ∷ calls) p)
       → (h : PortHistory) → AsksAlways (call ∷ calls) → ReadsBytes (call ∷ calls)
       → ReadsInOrder IsCopyOf call (talk_of picks start a.0 calls a.1) (sent h) → call ≢ WriteIp
       → is_dead p.stage ≡ false → Deals (awaited picks start a.0 calls a.1) call a.0 p
       → hearings h ≤ length (all_said picks start a.0 calls a.1)
-      → Dealt (drop (hearings h) (all_said picks start a.0 calls a.1)) (awaited picks start a.0 calls a.1)
+      → Dealt (Taken call a.0) (accepted_by call a.0) (drop (hearings h) (all_said picks start a.0 calls a.1)) (awaited picks start a.0 calls a.1)
       (drop (length (accepted picks start a.0 calls a.1)) (sent h))
       (drop (hearings h) (all_said picks start p (call ∷ calls) a)) (awaited picks start p (call ∷ calls) a)
       (drop (length (accepted picks start p (call ∷ calls) a)) (sent h))
   by_call p calls call a h asks small reads never lives d heard =
-      subst (λ us. Dealt (drop (hearings h) (all_said picks start a.0 calls a.1)) (awaited picks start a.0 calls a.1)
+      subst (λ us. Dealt (Taken call a.0) (accepted_by call a.0) (drop (hearings h) (all_said picks start a.0 calls a.1)) (awaited picks start a.0 calls a.1)
       (drop (length (accepted picks start a.0 calls a.1)) (sent h)) (drop (hearings h) us)
       (awaited picks start p (call ∷ calls) a) (drop (length (accepted picks start p (call ∷ calls) a)) (sent h)))
       (sym (since_alive p.stage call (all_said picks start a.0 calls a.1)
       (map said_in (begins a.0.outgoing p.outgoing)) never lives))
-      (subst (λ ts. Dealt (drop (hearings h) (all_said picks start a.0 calls a.1)) (awaited picks start a.0 calls a.1)
+      (subst (λ ts. Dealt (Taken call a.0) (accepted_by call a.0) (drop (hearings h) (all_said picks start a.0 calls a.1)) (awaited picks start a.0 calls a.1)
       (drop (length (accepted picks start a.0 calls a.1)) (sent h))
       (drop (hearings h) (all_said picks start a.0 calls a.1 ++ map said_in (begins a.0.outgoing p.outgoing))) ts
       (drop (length (accepted picks start p (call ∷ calls) a)) (sent h)))
       (sym (since_alive p.stage call (without_ends (ends_said_by call a.0 p) (awaited picks start a.0 calls a.1))
       (taken_by call a.0) never lives))
-      (subst (λ xs. Dealt (drop (hearings h) (all_said picks start a.0 calls a.1)) (awaited picks start a.0 calls a.1)
+      (subst (λ xs. Dealt (Taken call a.0) (accepted_by call a.0) (drop (hearings h) (all_said picks start a.0 calls a.1)) (awaited picks start a.0 calls a.1)
       (drop (length (accepted picks start a.0 calls a.1)) (sent h))
       (drop (hearings h) (all_said picks start a.0 calls a.1 ++ map said_in (begins a.0.outgoing p.outgoing)))
       (without_ends (ends_said_by call a.0 p) (awaited picks start a.0 calls a.1) ++ taken_by call a.0)
@@ -256,7 +256,7 @@ module _ {K : Type 0} (picks : Picking K) (c : Settings) (picker : K) (ends : Po
       let before_reads = reads_before call (calls_in deeds) small in
       let i = owed_so a.0 deeds before_asks before_reads numbers a.1 joined.1 d.0 host r in
       let x = noted a.0 deeds before_asks before_reads numbers a.1 joined.1 d.0 host r in (
-        noted_dealt host (drop (hearings (did deeds)) (all_said picks start a.0 (calls_in deeds) a.1)) _
+        noted_dealt (Taken call a.0) (accepted_by call a.0) host (drop (hearings (did deeds)) (all_said picks start a.0 (calls_in deeds) a.1)) _
             (awaited picks start a.0 (calls_in deeds) a.1) _
             (drop (length (accepted picks start a.0 (calls_in deeds) a.1)) (sent (did deeds))) _
             (by_call p (calls_in deeds) call a (did deeds) asks small joined.0 never lives d.1 i.heard) x.0,
