@@ -13,3 +13,5 @@ pub mod Noting
 pub mod Dealt
 pub mod Refusing
 pub mod Tracking
+pub mod Keeping
+pub mod Answered

@@ -163,7 +163,7 @@ all_in P n [] all is = absurd is
 all_in P n (e ∷ es) all (inl is) = subst P (eqb-true e.number n is) all.0
 all_in P n (e ∷ es) all (inr is) = all_in P n es all.1 is
 
-tally_texts : (n : ℕ) (ts : List (List ℕ)) → tally n (map claim_of ts) ≡ length (filter (has_number n) ts)
+pub tally_texts : (n : ℕ) (ts : List (List ℕ)) → tally n (map claim_of ts) ≡ length (filter (has_number n) ts)
 tally_texts n [] = refl
 tally_texts n (t ∷ ts) = by (nat_eq (num t 0 4) n) (tally_texts n ts)
   where

@@ -1,5 +1,6 @@
 -- What each moment of a host makes of the poll in flight, and which ends a host takes.
-use Rattle.std.proofs.Common.{◌≡◌, ◌⊎◌, ◌∙◌, ◌^◌, ◌<◌, ◌≤◌, ◌&&◌, ◌++◌, ◌∷◌, [], ℕ, Bool, true, false, cond, length, map, nat_eq, List, Option, None, Some, inl, inr, refl, ap, sym, subst, arith}
+use Rattle.mscp_port.proofs.Common.{eq-eqb}
+use Rattle.std.proofs.Common.{◌≡◌, ◌≢◌, ◌⊎◌, ◌∙◌, ◌^◌, ◌<◌, ◌≤◌, ◌&&◌, ◌++◌, ◌∷◌, [], ℕ, Bool, true, false, cond, length, map, nat_eq, List, Option, None, Some, inl, inr, refl, ap, sym, subst, arith}
 use Rattle.std.specs.Prelude.{Result, Ok, Err, find, is_some, slice_index}
 use Rattle.std.specs.List.{AllByRecursion}
 use Rattle.std.proofs.lemmas.Option.{none-some, same_Some}
@@ -14,6 +15,7 @@ use Rattle.mscp_packet.specs.declared.end.EndBody.TheVariants as bodies
 use Rattle.mscp_host.specs.declared.asked.Asked.{Asked}
 use Rattle.mscp_host.specs.declared.envelope.Envelope.{Envelope}
 use Rattle.mscp_host.specs.declared.heard.Heard.{Heard}
+use Rattle.mscp_host.specs.declared.heard.Heard.TheVariants as heards
 use Rattle.mscp_host.specs.declared.message.HearFault.{HearFault}
 use Rattle.mscp_host.specs.declared.message.HearFault.TheVariants as faults
 use Rattle.mscp_host.specs.declared.message.Message.{Message}
@@ -23,7 +25,7 @@ use Rattle.mscp_host.specs.declared.news.Poll.{Poll}
 use Rattle.mscp_host.specs.declared.news.Poll.TheVariants as polls
 use Rattle.mscp_host.specs.declared.submission.Submission.{Submission}
 use Rattle.mscp_host.specs.declared.watch.Watch.{Watch}
-use Rattle.mscp_host.specs.Accounts.{Account, answered, asks, asks_unless, has_reference, is_about, is_about_polled, is_code_of, is_immediate, oldest, poll_of, polls_oldest, refusal, submits_unless, told_in, watch_after}
+use Rattle.mscp_host.specs.Accounts.{Account, answered, submission_of, asks, asks_unless, has_reference, is_about, is_about_polled, is_code_of, is_immediate, oldest, poll_of, outstanding_with, polls_oldest, refusal, submits_unless, told_in, watch_after, without}
 use Rattle.mscp_host.specs.Messages.{message_in}
 use Rattle.mscp_host.specs.PortAccounts.{PortAccount, as_read, asked_of, credit_fault, end_says, ended, ends_of, granted, heard_of, hears, is_of, is_poll_of, is_success, is_to_poll, may_be_of, noted_poll, polled_with, port_polls, port_submits, submits_unless_faulty, submitted_with, without_by}
 use Rattle.mscp_heard.proofs.Hosts.{SameNumbers, is_ask, not_doubled, unused}
@@ -38,16 +40,22 @@ pub record Notes (old new : PortAccount) (message : List ℕ) : Type 0 where
   pub number : more.reference ≡ num message 0 4
   pub small : more.reference < 2 ^ 32
   pub opcode : more.opcode ≡ slice_index message 8
+  pub submission : Submission
+  pub outstanding : new.account.outstanding ≡ old.account.outstanding ++ submission ∷ []
+  pub untold : submission.told ≡ None
   pub watch : (new.account.watch ≡ old.account.watch) ⊎ ((w : Watch) × (new.account.watch ≡ Some w)
-      × (w.reference ≡ more.reference) × (w.polled ≡ num message 12 4) × (16 ≤ length message))
+      × (w.reference ≡ more.reference) × (w.polled ≡ num message 12 4) × (16 ≤ length message)
+      × (slice_index message 8 ≡ 2) × ((y : Asked) × (find (is_of w.polled) old.asked ≡ Some y)))
 
 notes : (old new : PortAccount) (message : ArrayVec ℕ) (c : Command) → c.reference < 2 ^ 32 → SameNumbers old
     → Rattle.std.specs.List.list_any (has_reference c.reference) old.account.outstanding ≡ false
     → message.items ≡ command_bytes c → new.asked ≡ old.asked ++ asked_of c ∷ []
+    → new.account.outstanding ≡ old.account.outstanding ++ submission_of c ∷ []
     → (new.account.watch ≡ old.account.watch) ⊎ ((w : Watch) × (new.account.watch ≡ Some w)
-    × (w.reference ≡ c.reference) × (w.polled ≡ num (command_bytes c) 12 4) × (16 ≤ length (command_bytes c)))
+    × (w.reference ≡ c.reference) × (w.polled ≡ num (command_bytes c) 12 4) × (16 ≤ length (command_bytes c))
+    × (slice_index (command_bytes c) 8 ≡ 2) × ((y : Asked) × (find (is_of w.polled) old.asked ≡ Some y)))
     → Notes old new message.items
-notes old new message c small same free is asked watch =
+notes old new message c small same free is asked outstanding watch =
     let number : num message.items 0 4 ≡ c.reference = ap (λ b. num b 0 4) is ∙ four c.reference small in
     record {
       more = asked_of c;
@@ -56,6 +64,9 @@ notes old new message c small same free is asked watch =
       number = sym number;
       small = small;
       opcode = sym (ap (λ b. slice_index b 8) is);
+      submission = submission_of c;
+      outstanding = outstanding;
+      untold = refl;
       watch = elim watch [
         | inl e ↦ inl e
         | inr w ↦ inr (
@@ -64,6 +75,8 @@ notes old new message c small same free is asked watch =
           w.2,
           w.3 ∙ ap (λ b. num b 12 4) (sym is),
           subst (λ b. 16 ≤ length b) (sym is) w.4,
+          ap (λ b. slice_index b 8) is ∙ w.5,
+          w.6,
         )
       ];
     }
@@ -81,7 +94,8 @@ submit_notes old new c message small same e = by (credit_fault old.credits (opco
     judged (Some fault) r h = absurd (search (arith, h))
     judged None r h = notes old new message c small same
         (not_doubled old.account (opcode_byte c.order) c.reference r) (sym (ap items h))
-        (sym (ap (λ x. x.1.asked) h)) (inl (sym (ap (λ x. x.1.account.watch) h)))
+        (sym (ap (λ x. x.1.asked) h)) (sym (ap (λ x. x.1.account.outstanding) h))
+        (inl (sym (ap (λ x. x.1.account.watch) h)))
 
     by : (o : Option HostFault) → submits_unless_faulty old c o ≡ (Ok message, new) → Notes old new message.items
     by (Some fault) h = absurd (search (arith, h))
@@ -104,6 +118,37 @@ mapped : (xs : List Submission) → AllByRecursion (λ (n : ℕ). n < 2 ^ 32) (m
     → AllByRecursion (λ (s : Submission). s.reference < 2 ^ 32) xs
 mapped [] all = tt
 mapped (x ∷ xs) all = (all.0, mapped xs all.1)
+
+-- each number of a command is found
+abbrev pub Found : List Asked → ℕ → Type 0
+Found asked n = (y : Asked) × (find (is_of n) asked ≡ Some y)
+
+found_each : (asked : List Asked) → AllByRecursion (Found asked) (map (λ (x : Asked). x.reference) asked)
+found_each [] = tt
+found_each (a ∷ asked) = (
+  (a, ap (λ b. cond b (Some a) (find (is_of a.reference) asked)) (eq-eqb a.reference a.reference refl)),
+  more (map (λ (x : Asked). x.reference) asked) (found_each asked),
+)
+  where
+    more : (ns : List ℕ) → AllByRecursion (Found asked) ns → AllByRecursion (Found (a ∷ asked)) ns
+    more [] all = tt
+    more (n ∷ ns) all = (by (nat_eq a.reference n) all.0, more ns all.1)
+      where
+        by : (b : Bool) → Found asked n → (y : Asked) × (cond b (Some a) (find (is_of n) asked) ≡ Some y)
+        by true y = (a, refl)
+        by false y = y
+
+found_mapped : (asked : List Asked) (xs : List Submission)
+    → AllByRecursion (Found asked) (map (λ (s : Submission). s.reference) xs)
+    → AllByRecursion (λ (s : Submission). Found asked s.reference) xs
+found_mapped asked [] all = tt
+found_mapped asked (x ∷ xs) all = (all.0, found_mapped asked xs all.1)
+
+-- so is that of each submission
+pub found_submissions : (old : PortAccount) → SameNumbers old
+    → AllByRecursion (λ (s : Submission). Found old.asked s.reference) old.account.outstanding
+found_submissions old same = found_mapped old.asked old.account.outstanding
+    (subst (λ ns. AllByRecursion (Found old.asked) ns) same (found_each old.asked))
 
 module _ (old new : PortAccount) (n : ℕ) (small : n < 2 ^ 32) (same : SameNumbers old) (smalls : AreSmall old.asked)
   where
@@ -137,12 +182,17 @@ module _ (old new : PortAccount) (n : ℕ) (small : n < 2 ^ 32) (same : SameNumb
             notes old new message (poll_of n s) small same
             (not_doubled old.account (opcode_byte (poll_of n s).order) n r) (sym (ap items h))
             (sym (ap (λ x. x.1.asked) h) ∙ ap (λ o. (noted_poll old a n o).asked) at)
+            (sym (ap (λ x. x.1.account.outstanding) h) ∙ ap (λ o. (noted_poll old a n o).account.outstanding) at)
             (inr (
               w,
               sym (ap (λ x. x.1.account.watch) h) ∙ ap (λ o. (noted_poll old a n o).account.watch) at,
               refl,
               p.0,
               p.1,
+              refl,
+              all_found (λ (x : Submission). Found old.asked x.reference)
+                  (λ x. Rattle.std.specs.Prelude.not (is_immediate x.opcode)) old.account.outstanding s
+                  (found_submissions old same) at,
             ))
 
         about : (o : Option Submission) → oldest old.account ≡ o
@@ -308,3 +358,114 @@ poll_same old new n answer none e = by (nat_eq old.credits 0 && is_to_poll old.a
         (polled_with old n (polls_oldest old.account n))) (answer, new) → new ≡ old
     by true h = sym (ap (λ y. y.1) h)
     by false h = with_so (polls_oldest old.account n) h
+
+-- ---- what is said of an end that is heard
+
+-- it is of a command that is outstanding no more; and what the host keeps of it is its end
+pub record IsDone (old new : PortAccount) (e : End) (heard : Heard) : Type 0 where
+  pub own : (x : Asked) × (heard ≡ end_says old e x)
+  pub asked : new.asked ≡ without_by (is_of e.reference) old.asked
+  pub outstanding : new.account.outstanding
+      ≡ without e.reference (outstanding_with old.account (answered old.account.watch (as_read e)))
+  pub watch : new.account.watch ≡ watch_after old.account.watch e.reference
+  pub about : is_about_polled old.account.watch (answered old.account.watch (as_read e)) ≡ true
+
+abbrev pub IsHeardSo : PortAccount → PortAccount → Result Message HearFault → Heard → Type 0
+IsHeardSo old new r heard =
+    ((new.asked ≡ old.asked) × (new.account ≡ old.account)
+    × ((heard ≢ heards.Reset) × (heard ≢ heards.Lost)) × ((e : End) → r ≢ Ok (messages.End e)))
+    ⊎ ((e : End) × (r ≡ Ok (messages.End e)) × IsDone old new e heard)
+
+pub hear_done : (old new : PortAccount) (v : Envelope) (b : List ℕ) (heard : Heard)
+    → hears old v b ≡ (Ok heard, new) → IsHeardSo old new (message_in v b) heard
+hear_done old new v b heard e = by (message_in v b) e
+  where
+    said : Result Heard HearFault × PortAccount → Heard
+    said (Ok x, p) = x
+    said (Err fault, p) = heard
+
+    judged : (end : End) (x : Asked) (c d : Bool) → (c && d) ≡ may_be_of old end x
+        → d ≡ is_about_polled old.account.watch (answered old.account.watch (as_read end))
+        → ◌≡◌ {A = Result Heard HearFault × PortAccount} (cond (c && d) (
+          Ok (end_says old end x),
+          granted v.credits (ended old end),
+        )
+        (Err faults.Unknown, old)) (Ok heard, new)
+        → IsHeardSo old new (Ok (messages.End end)) heard
+    judged end x true true is about h = inr (
+      end,
+      refl,
+      record {
+        own = (x, sym (ap said h));
+        asked = sym (ap (λ y. y.1.asked) h);
+        outstanding = sym (ap (λ y. y.1.account.outstanding) h)
+            ∙ ap (λ n. without n (outstanding_with old.account (answered old.account.watch (as_read end))))
+            (read_number end);
+        watch = sym (ap (λ y. y.1.account.watch) h) ∙ ap (watch_after old.account.watch) (read_number end);
+        about = sym about;
+      },
+    )
+    judged end x true false is about h = absurd (search (arith, h))
+    judged end x false d is about h = absurd (search (arith, h))
+
+    found : (end : End) (o : Option Asked) → ends_of old v.credits end o ≡ (Ok heard, new)
+        → IsHeardSo old new (Ok (messages.End end)) heard
+    found end None h = absurd (search (arith, h))
+    found end (Some x) h = judged end x (is_code_of end.code x.opcode)
+        (is_about_polled old.account.watch (answered old.account.watch (as_read end))) refl refl h
+
+    plain : (x : Heard) → x ≡ heard → (x ≢ heards.Reset) × (x ≢ heards.Lost)
+        → (heard ≢ heards.Reset) × (heard ≢ heards.Lost)
+    plain x same n = ((λ e. n.0 (same ∙ e)), (λ e. n.1 (same ∙ e)))
+
+    news : (c : Bool) (unit code : ℕ) → (cond c (heards.Available unit) (heards.Attention code unit) ≢ heards.Reset)
+        × (cond c (heards.Available unit) (heards.Attention code unit) ≢ heards.Lost)
+    news true unit code = ((λ e. search (arith, e)), (λ e. search (arith, e)))
+    news false unit code = ((λ e. search (arith, e)), (λ e. search (arith, e)))
+
+    by : (r : Result Message HearFault) → heard_of old v.credits r ≡ (Ok heard, new) → IsHeardSo old new r heard
+    by (Err fault) h = absurd (search (arith, h))
+    by (Ok (messages.End end)) h = found end (find (is_of end.reference) old.asked) h
+    by (Ok (messages.Attention code unit)) h = inl (sym (ap (λ y. y.1.asked) h), sym (ap (λ y. y.1.account) h),
+        plain _ (ap said h) (news (nat_eq code 0x40) unit code), λ e x. search (arith, x))
+    by (Ok messages.Datagram) h = inl (sym (ap (λ y. y.1.asked) h), sym (ap (λ y. y.1.account) h),
+        plain heards.Logged (ap said h) ((λ e. search (arith, e)), (λ e. search (arith, e))), λ e x. search (arith, x))
+    by (Ok messages.Credits) h = inl (sym (ap (λ y. y.1.asked) h), sym (ap (λ y. y.1.account) h),
+        plain (heards.Credits v.credits) (ap said h) ((λ e. search (arith, e)), (λ e. search (arith, e))),
+        λ e x. search (arith, x))
+
+-- what answers a poll
+pub answer_is : (o : Option Watch) (e : End) (told : ℕ × ℕ) → answered o (as_read e) ≡ Some told
+    → (w : Watch) × (o ≡ Some w) × (w.reference ≡ e.reference) × (e.code ≡ 0x82)
+    × (e.body ≡ bodies.Status told.0 told.1)
+answer_is None e told h = absurd (none-some told h)
+answer_is (Some w) e told h = by (is_success e.status) h
+  where
+    tells : (body : EndBody) → e.body ≡ body → told_in body ≡ Some told → e.body ≡ bodies.Status told.0 told.1
+    tells (bodies.Status other figure) is h =
+        is ∙ ap (λ (x : ℕ × ℕ). bodies.Status x.0 x.1) (same_Some (other, figure) told h)
+    tells body is h = absurd (none-some told h)
+
+    cases : (c : Bool) → nat_eq w.reference e.reference ≡ c → (d : Bool) → nat_eq e.code 0x82 ≡ d
+        → cond (c && d) (told_in e.body) None ≡ Some told
+        → (v : Watch) × (Some w ≡ Some v) × (v.reference ≡ e.reference) × (e.code ≡ 0x82)
+        × (e.body ≡ bodies.Status told.0 told.1)
+    cases true p true q h = (
+      w,
+      refl,
+      Rattle.mscp_port.proofs.Common.eqb-true w.reference e.reference p,
+      Rattle.mscp_port.proofs.Common.eqb-true e.code 0x82 q,
+      tells e.body refl h,
+    )
+    cases true p false q h = absurd (none-some told h)
+    cases false p d q h = absurd (none-some told h)
+
+    by : (c : Bool) → answered (Some w) (cond c e (record e { code = 0x80; body = bodies.Bare })) ≡ Some told
+        → (v : Watch) × (Some w ≡ Some v) × (v.reference ≡ e.reference) × (e.code ≡ 0x82)
+        × (e.body ≡ bodies.Status told.0 told.1)
+    by true h = cases (nat_eq w.reference e.reference) refl (nat_eq e.code 0x82) refl h
+    by false h = absurd (none (nat_eq w.reference e.reference) h)
+      where
+        none : (c : Bool) → cond (c && false) (told_in bodies.Bare) None ≡ Some told → ⊥
+        none true h = none-some told h
+        none false h = none-some told h
