@@ -357,7 +357,8 @@ module _ {K : Type 0} (picks : Picking K) (c : Settings) (picker : K) (ends : Po
       let d = drop_at (hearings (did deeds)) (all_said picks start p (calls_in deeds) a) x.said
       x.at in
       let read : IsRead x.said.kind x.said.text = (subst (λ us. AllByRecursion IsCoded us) d.0 i.news).0 in
-      let message : IsMessage (message_in v b) = subst (λ t. IsMessage (message_in v t)) (sym x.text)
+      let message : IsMessage x.said.kind (message_in v b) = subst (λ t. IsMessage x.said.kind (message_in v t))
+      (sym x.text)
       (message_read x.said.kind x.said.text v read
       (x.size ∙ small_size (length x.said.text) (read_short x.said.kind x.said.text read))
       (x.connection ∙ read_disk x.said.kind x.said.text read) x.kind) in

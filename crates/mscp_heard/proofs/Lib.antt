@@ -15,3 +15,4 @@ pub mod Refusing
 pub mod Tracking
 pub mod Keeping
 pub mod Answered
+pub mod Polling

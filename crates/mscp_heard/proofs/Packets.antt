@@ -233,57 +233,72 @@ IsRead kinds.Attention text = (slice_index text 8 ≡ 0x40) × (12 ≤ length te
 IsRead kinds.End text = IsWhole text
 IsRead kinds.UtilitiesEnd text = ⊥
 
-abbrev pub IsMessage : Result Message HearFault → Type 0
-IsMessage r = (m : Message) × (r ≡ Ok m)
+-- what is told as an end is read as one
+abbrev IsSo : OutgoingKind → Message → Type 0
+IsSo kinds.End (messages.End e) = Unit {0}
+IsSo kinds.End m = ⊥
+IsSo kind m = Unit {0}
+
+abbrev pub IsMessage : OutgoingKind → Result Message HearFault → Type 0
+IsMessage kind r = (m : Message) × (r ≡ Ok m) × IsSo kind m
 
 at_least : (n m : ℕ) → n ≤ m → nat_le n m ≡ true
 at_least n m h = search (arith, h)
 
-whole_so : (t : List ℕ) → IsWhole t → IsMessage (sequential_in t)
+whole_so : (t : List ℕ) → IsWhole t → IsMessage kinds.End (sequential_in t)
 whole_so t w =
-    subst (λ b. IsMessage (cond b (Err faults.Unreadable) (cond (nat_le 0x80 (slice_index t 8)) (any_end t (end_in t))
+    subst (λ b. IsMessage kinds.End (cond b (Err faults.Unreadable) (cond (nat_le 0x80 (slice_index t 8)) (any_end t (end_in t))
     (cond (nat_le 0x40 (slice_index t 8)) (Ok (messages.Attention (slice_index t 8) (num t 4 2)))
     (Err faults.Unreadable))))) (sym (not_more (length t) 12 w.long))
-    (subst (λ b. IsMessage (cond b (any_end t (end_in t))
+    (subst (λ b. IsMessage kinds.End (cond b (any_end t (end_in t))
     (cond (nat_le 0x40 (slice_index t 8)) (Ok (messages.Attention (slice_index t 8) (num t 4 2)))
     (Err faults.Unreadable)))) (sym (at_least 0x80 (slice_index t 8) w.top))
-    (subst (λ b. IsMessage (any_end t (cond (b && nat_le (length t) 64) (reading_with (kind_of_code
+    (subst (λ b. IsMessage kinds.End (any_end t (cond (b && nat_le (length t) 64) (reading_with (kind_of_code
     (slice_index t 8)) t)
     (Err endfaults.Length)))) (sym (at_least 12 (length t) w.long))
-    (subst (λ b. IsMessage (any_end t (cond b (reading_with (kind_of_code (slice_index t 8)) t)
+    (subst (λ b. IsMessage kinds.End (any_end t (cond b (reading_with (kind_of_code (slice_index t 8)) t)
     (Err endfaults.Length)))) (sym (at_least (length t) 64 w.short))
     (by (kind_of_code (slice_index t 8)) refl))))
   where
-    by : (k : Option BodyKind) → kind_of_code (slice_index t 8) ≡ k → IsMessage (any_end t (reading_with k t))
-    by None is = (messages.End (bare_end t), refl)
-    by (Some k) is = subst (λ b. IsMessage (any_end t (cond b (Err endfaults.Length) (Ok (end_at k t)))))
-        (sym (not_more (length t) (end_length k) (w.body k is))) (messages.End (end_at k t), refl)
+    by : (k : Option BodyKind) → kind_of_code (slice_index t 8) ≡ k → IsMessage kinds.End (any_end t (reading_with k t))
+    by None is = (messages.End (bare_end t), refl, tt)
+    by (Some k) is = subst (λ b. IsMessage kinds.End (any_end t (cond b (Err endfaults.Length) (Ok (end_at k t)))))
+        (sym (not_more (length t) (end_length k) (w.body k is))) (messages.End (end_at k t), refl, tt)
 
-news_so : (t : List ℕ) → slice_index t 8 ≡ 0x40 → 12 ≤ length t → IsMessage (sequential_in t)
+news_so : (t : List ℕ) → slice_index t 8 ≡ 0x40 → 12 ≤ length t → IsMessage kinds.Attention (sequential_in t)
 news_so t code long =
-    subst (λ b. IsMessage (cond b (Err faults.Unreadable) (cond (nat_le 0x80 (slice_index t 8)) (any_end t (end_in t))
+    subst (λ b. IsMessage kinds.Attention (cond b (Err faults.Unreadable) (cond (nat_le 0x80 (slice_index t 8)) (any_end t (end_in t))
     (cond (nat_le 0x40 (slice_index t 8)) (Ok (messages.Attention (slice_index t 8) (num t 4 2)))
     (Err faults.Unreadable))))) (sym (not_more (length t) 12 long))
-    (subst (λ c. IsMessage (cond (nat_le 0x80 c) (any_end t (end_in t))
+    (subst (λ c. IsMessage kinds.Attention (cond (nat_le 0x80 c) (any_end t (end_in t))
     (cond (nat_le 0x40 c) (Ok (messages.Attention (slice_index t 8) (num t 4 2)))
-    (Err faults.Unreadable)))) (sym code) (messages.Attention (slice_index t 8) (num t 4 2), refl))
+    (Err faults.Unreadable)))) (sym code) (messages.Attention (slice_index t 8) (num t 4 2), refl, tt))
 
-sequential_read : (kind : OutgoingKind) (t : List ℕ) → IsRead kind t → IsMessage (sequential_in t)
+sequential_read : (kind : OutgoingKind) (t : List ℕ) → IsRead kind t → IsMessage kind (sequential_in t)
 sequential_read kinds.Attention t r = news_so t r.0 r.1
 sequential_read kinds.End t r = whole_so t r
 sequential_read kinds.UtilitiesEnd t r = absurd r
 
 -- behind its envelope
 pub message_read : (kind : OutgoingKind) (t : List ℕ) (v : Envelope) → IsRead kind t → v.length ≡ length t
-    → v.connection ≡ 0 → v.kind ≡ 0 → IsMessage (message_in v t)
+    → v.connection ≡ 0 → v.kind ≡ 0 → IsMessage kind (message_in v t)
 message_read kind t v r size disk sequential =
-    subst (λ n. IsMessage (cond (nat_lt (length t) n) (Err faults.Cut)
+    subst (λ n. IsMessage kind (cond (nat_lt (length t) n) (Err faults.Cut)
     (cond (not (nat_eq v.connection 0)) (Err faults.Connection) (typed_in v.kind (take n t))))) (sym size)
-    (subst (λ b. IsMessage (cond b (Err faults.Cut)
+    (subst (λ b. IsMessage kind (cond b (Err faults.Cut)
     (cond (not (nat_eq v.connection 0)) (Err faults.Connection) (typed_in v.kind (take (length t) t)))))
     (sym (not_more (length t) (length t) (search arith)))
-    (subst (λ n. IsMessage (cond (not (nat_eq n 0)) (Err faults.Connection) (typed_in v.kind (take (length t) t))))
+    (subst (λ n. IsMessage kind (cond (not (nat_eq n 0)) (Err faults.Connection) (typed_in v.kind (take (length t) t))))
     (sym disk)
-    (subst (λ n. IsMessage (typed_in n (take (length t) t))) (sym sequential)
-    (subst (λ xs. IsMessage (sequential_in xs)) (sym (take_all (length t) t (search arith)))
+    (subst (λ n. IsMessage kind (typed_in n (take (length t) t))) (sym sequential)
+    (subst (λ xs. IsMessage kind (sequential_in xs)) (sym (take_all (length t) t (search arith)))
     (sequential_read kind t r)))))
+
+-- and an end as one
+pub is_end : (kind : OutgoingKind) (r : Result Message HearFault) → kind ≡ kinds.End → IsMessage kind r
+    → (e : End) × (r ≡ Ok (messages.End e))
+is_end kind r is x = by x.0 x.1 (subst (λ k. IsSo k x.0) is x.2)
+  where
+    by : (m : Message) → r ≡ Ok m → IsSo kinds.End m → (e : End) × (r ≡ Ok (messages.End e))
+    by (messages.End e) h so = (e, h)
+    by m h so = absurd so

@@ -54,7 +54,7 @@ use Rattle.std.specs.List.{AllByRecursion}
 use Rattle.std.specs.Prelude.{Err, Ok, slice_get, slice_index}
 
 -- where an end is heard, what was said is one
-end_kind : (s : Said) (v : Envelope) (b : List ℕ) (e : End) → IsCoded s → b ≡ s.text
+pub end_kind : (s : Said) (v : Envelope) (b : List ℕ) (e : End) → IsCoded s → b ≡ s.text
     → v.connection ≡ connection_told s.kind → message_in v b ≡ Ok (messages.End e) → s.kind ≡ kinds.End
 end_kind s v b e code text connection r = by s.kind refl
   where
@@ -69,6 +69,19 @@ end_kind s v b e code text connection r = by s.kind refl
       arith,
       sym (end_heard v b e r).0 ∙ (connection ∙ ap connection_told is),
     ))
+
+pub read_short : (kind : OutgoingKind) (t : List ℕ) → IsRead kind t → length t ≤ 64
+read_short kinds.Attention t r = r.2
+read_short kinds.End t r = r.short
+read_short kinds.UtilitiesEnd t r = absurd r
+
+pub read_disk : (kind : OutgoingKind) (t : List ℕ) → IsRead kind t → connection_told kind ≡ 0
+read_disk kinds.Attention t r = refl
+read_disk kinds.End t r = refl
+read_disk kinds.UtilitiesEnd t r = absurd r
+
+pub small_size : (n : ℕ) → n ≤ 64 → n % 0x1_0000 ≡ n
+small_size n h = omega (arith, h)
 
 module _ {K : Type 0} (picks : Picking K) (c : Settings) (picker : K) (ends : PortsEndWhatTheyTook picks picker)
     (fit : PortsEndByOpcode picks picker) (sizes : All (λ unit. 0 < unit.size) c.units)
@@ -272,19 +285,6 @@ module _ {K : Type 0} (picks : Picking K) (c : Settings) (picker : K) (ends : Po
 
   -- ---- the law
 
-  read_short : (kind : OutgoingKind) (t : List ℕ) → IsRead kind t → length t ≤ 64
-  read_short kinds.Attention t r = r.2
-  read_short kinds.End t r = r.short
-  read_short kinds.UtilitiesEnd t r = absurd r
-
-  read_disk : (kind : OutgoingKind) (t : List ℕ) → IsRead kind t → connection_told kind ≡ 0
-  read_disk kinds.Attention t r = refl
-  read_disk kinds.End t r = refl
-  read_disk kinds.UtilitiesEnd t r = absurd r
-
-  small_size : (n : ℕ) → n ≤ 64 → n % 0x1_0000 ≡ n
-  small_size n h = omega (arith, h)
-
   pub refuses_nothing : (p : Port K) (deeds : List Deed) (old new : PortAccount) (v : Envelope) (b : List ℕ)
       (answer : Result Heard HearFault) (fault : HearFault) → AsksAlways (calls_in deeds)
       → ReadsBytes (calls_in deeds) → HaveNumbers deeds → (a : Answered picks start (calls_in deeds) p)
@@ -302,7 +302,8 @@ module _ {K : Type 0} (picks : Picking K) (c : Settings) (picker : K) (ends : Po
       start valid was quiet made p calls a k v b joined.0.0 asks joined.0.1 joined.0.2 in
       let d = drop_at k us x.said x.at in
       let read : IsRead x.said.kind x.said.text = (subst (λ us. AllByRecursion IsCoded us) d.0 i.news).0 in
-      let message : IsMessage (message_in v b) = subst (λ t. IsMessage (message_in v t)) (sym x.text)
+      let message : IsMessage x.said.kind (message_in v b) = subst (λ t. IsMessage x.said.kind (message_in v t))
+      (sym x.text)
       (message_read x.said.kind x.said.text v read
       (x.size ∙ small_size (length x.said.text) (read_short x.said.kind x.said.text read))
       (x.connection ∙ read_disk x.said.kind x.said.text read) x.kind) in

@@ -144,7 +144,7 @@ cancel : {X : Type 0} (xs ys zs : List X) → xs ++ ys ≡ xs ++ zs → ys ≡ z
 cancel [] ys zs e = e
 cancel (x ∷ xs) ys zs e = cancel xs ys zs (search (arith, e))
 
-in_either : (n : ℕ) (es fs : List Pending) → IsIn n (es ++ fs) → IsIn n es ⊎ IsIn n fs
+pub in_either : (n : ℕ) (es fs : List Pending) → IsIn n (es ++ fs) → IsIn n es ⊎ IsIn n fs
 in_either n [] fs is = inr is
 in_either n (e ∷ es) fs (inl is) = inl (inl is)
 in_either n (e ∷ es) fs (inr is) = elim (in_either n es fs is) [ inl x ↦ inl (inr x) | inr x ↦ inr x ]
@@ -197,7 +197,7 @@ tally_in n (s ∷ us) h = by s.kind (subst (λ k. 1 ≤ k)
 has_some : (n : ℕ) (xs : List (List ℕ)) → 1 ≤ length (filter (has_number n) xs) → filter (has_number n) xs ≢ []
 has_some n xs h e = search (arith, h, ap length e)
 
-some_has : (n : ℕ) (xs : List (List ℕ)) → filter (has_number n) xs ≢ [] → 1 ≤ length (filter (has_number n) xs)
+pub some_has : (n : ℕ) (xs : List (List ℕ)) → filter (has_number n) xs ≢ [] → 1 ≤ length (filter (has_number n) xs)
 some_has n xs h = by (filter (has_number n) xs) refl
   where
     by : (ys : List (List ℕ)) → filter (has_number n) xs ≡ ys → 1 ≤ length ys

@@ -30,12 +30,13 @@ use Rattle.mscp_ported.specs.Told.{Said, accepted_by, said_in}
 abbrev pub HoldsEnd : {K : Type 0} → Port K → ℕ → Type 0
 HoldsEnd p number = filter (λ (e : End). e.reference == number) (of First p.controller.untaken) ≢ []
 
--- of this number: the command of an awaited message waits, with a figure of 1 or more, or the controller holds its end;
--- and nothing is there without such a message
+-- of this number: the command of an awaited message waits, with a figure of 1 or more, or the controller holds its end,
+-- and not both; and nothing is there without such a message
 pub record HoldsAwaited {K : Type 0} (p : Port K) (texts : List (List ℕ)) (number : ℕ) : Type 0 where
   pub there : filter (has_number number) texts ≢ [] → (1 ≤ figure_on p number) ⊎ HoldsEnd p number
   pub waits : 1 ≤ figure_on p number → filter (has_number number) texts ≢ []
   pub ended : HoldsEnd p number → filter (has_number number) texts ≢ []
+  pub one : 1 ≤ figure_on p number → HoldsEnd p number → ⊥
 
 -- ---- what passes on
 
