@@ -20,6 +20,7 @@ use Rattle.mscp_port.specs.declared.port.Port.{Port}
 use Rattle.mscp_port.specs.Calls.{IsMadeOf}
 use Rattle.mscp_port.specs.Histories.{Answered, Picking}
 use Rattle.mscp_ported.specs.Awaited.{ReadsBytes}
+use Rattle.mscp_ported.specs.Passing.{ServesBetweenPolls}
 use Rattle.mscp_ported.specs.Talk.{AsksAlways}
 use Rattle.mscp_heard.specs.Deeds.{AreJoined, Deed, Did, HaveNumbers, IsCopyOf, IsTextOf, calls_in, did}
 
@@ -64,3 +65,20 @@ HostsRefuseNothing {K} picks picker =
     → HaveNumbers deeds → (a : Answered picks start (calls_in deeds) p)
     → AreJoined IsCopyOf picks start p (Did (Hear v b answer) ∷ deeds) a → PortAnswered fresh_of_port (did deeds) old
     → PortAnswers old (Hear v b answer) new → answer ≢ Err fault
+
+-- ---- no command is lost, and none begins anew
+
+-- the law of progress: of such a port and host: if between any two polls about one command, as the port's controller took
+-- them, a step of a command was told, its host hears neither that a command lost its figure nor that a figure didn't fall:
+-- neither Reset nor Lost
+abbrev pub HostsHearNoReset : {K : Type 0} → Picking K → K → Type 0
+HostsHearNoReset {K} picks picker =
+    (c : Settings) (before : List Made) (controller : Holdings K) (hardware : Hardware) (credits : ℕ)
+    (start p : Port K) (deeds : List Deed) (old new : PortAccount) (v : Envelope) (b : List ℕ)
+    (answer : Result Heard HearFault) → IsValid c → All (λ unit. 0 < unit.size) c.units
+    → AnsweredCalls (picks picker) (fresh c picker) before controller → outstanding_of First controller ≡ []
+    → IsMadeOf hardware credits controller start → AsksAlways (calls_in deeds) → ReadsBytes (calls_in deeds)
+    → HaveNumbers deeds → (a : Answered picks start (calls_in deeds) p)
+    → AreJoined IsCopyOf picks start p (Did (Hear v b answer) ∷ deeds) a
+    → ServesBetweenPolls picks start p (calls_in deeds) a → PortAnswered fresh_of_port (did deeds) old
+    → PortAnswers old (Hear v b answer) new → (answer ≢ Ok heards.Reset) × (answer ≢ Ok heards.Lost)
