@@ -154,7 +154,8 @@ module _ {K : Type 0} (picks : Picking K) (c : Settings) (picker : K) (ends : Po
       → ReadsInOrder IsCopyOf call (talk_of picks start a.0 calls a.1) (sent h) → call ≢ WriteIp
       → is_dead p.stage ≡ false → Deals (awaited picks start a.0 calls a.1) call a.0 p
       → Owed a.0 calls a.1 host.asked h
-      → ((number : ℕ) → TakesPoll number call a.0 → IsServedSince picks start a.0 calls a.1 number)
+      → ((number : ℕ) → TakesPoll number call a.0 → 1 ≤ figure_on a.0 number
+      → IsServedSince picks start a.0 calls a.1 number)
       → Told a.0 calls a.1 host (hearings h) (sent h) → Told p (call ∷ calls) a host (hearings h) (sent h)
   call_told p calls call a h host asks small reads never lives d i serves k =
       let old_small = reads_before call calls small in

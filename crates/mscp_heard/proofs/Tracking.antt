@@ -223,7 +223,7 @@ module _ (host : PortAccount) (F F' : ℕ → ℕ) (Served Served' : ℕ → Typ
     (of_these : AllByRecursion (λ (e : Pending). ((text : List ℕ) × (texts ≡ text ∷ []) × (num text 0 4 ≡ e.number))
     ⊎ (1 ≤ F e.number)) more)
     (polls_now : (t : List ℕ) → Took t → slice_index t 8 ≡ 2 → 16 ≤ length t
-    → (more ≡ record { number = num t 0 4; figure = F (num t 12 4) } ∷ []) × Served (num t 12 4)
+    → (more ≡ record { number = num t 0 4; figure = F (num t 12 4) } ∷ []) × (1 ≤ F (num t 12 4) → Served (num t 12 4))
     × (Served' (num t 12 4) → ⊥))
     (lowers : (n : ℕ) → 1 ≤ F n → F' n ≤ F n)
     (served : (n : ℕ) → Served' n → (1 ≤ F n → F' n < F n) ⊎ Served n)
@@ -485,7 +485,7 @@ module _ (host : PortAccount) (F F' : ℕ → ℕ) (Served Served' : ℕ → Typ
             (λ l last le.
             let s = last_of (KnowsTold F Served ms) x l host.account.outstanding told last in
             let b = (s.1 l s.3).1 (subst (λ y. 1 ≤ F y) (sym s.2) low) in
-            over l (F x) g (subst (λ y. F y < l) s.2 (b.1 (subst Served (t.4 ∙ sym s.2) n.1))) is le),
+            over l (F x) g (subst (λ y. F y < l) s.2 (b.1 (subst Served (t.4 ∙ sym s.2) (n.1 (subst (λ y. 1 ≤ F y) (sym t.4) low))))) is le),
             (λ low'. (
               subst (λ y. F' x ≤ y) (sym is) (lowers x low),
               λ s. absurd (n.2 (subst Served' (sym t.4) s)),

@@ -95,12 +95,13 @@ IsServedSince picks start p (call ∷ earlier) a number =
     TellsStep call a.0
     ⊎ ((TakesPoll number call a.0 → ⊥) × IsServedSince picks start a.0 earlier a.1 number)
 
--- between any two polls about one command, as they were taken, a step of a command was told
+-- between any two polls about one command, as they were taken, a step of a command was told, if the command waits still
 abbrev pub ServesBetweenPolls : {K : Type 0} (picks : Picking K) (start p : Port K) (calls : List Call)
     → Answered picks start calls p → Type 0
 ServesBetweenPolls picks start p [] a = Unit {0}
 ServesBetweenPolls picks start p (call ∷ earlier) a =
-    ((number : ℕ) → TakesPoll number call a.0 → IsServedSince picks start a.0 earlier a.1 number)
+    ((number : ℕ) → TakesPoll number call a.0 → 1 ≤ figure_on a.0 number
+    → IsServedSince picks start a.0 earlier a.1 number)
     × ServesBetweenPolls picks start a.0 earlier a.1
 
 -- ---- the laws
