@@ -1,12 +1,13 @@
 -- What is known of the figures that a host was told, after it heard what was said next; and no end says Reset or Lost.
+use Rattle.mscp_heard.proofs.Upcoming.{first_of}
+use Rattle.mscp_heard.proofs.Known.{AreApart, IsBelow, KnowsTold, KnowsPoll, Knows}
 use Rattle.mscp_port.specs.declared.port.OutgoingKind.TheVariants as kinds
 use Rattle.mscp_host.specs.declared.heard.Heard.TheVariants as heards
 use Rattle.mscp_host.specs.declared.news.News.TheVariants as news
 use Rattle.mscp_packet.specs.declared.end.EndBody.TheVariants as bodies
 use Rattle.mscp_heard.proofs.Claims.{claim_of, claim_said, claims, claims_said, find_left, tally}
 use Rattle.mscp_heard.proofs.Keeping.{apart_left, every_told, every_without, gone, last_left}
-use Rattle.mscp_heard.proofs.Tracking.{AreApart, IsBelow, Knows, KnowsPoll, KnowsTold, first_of}
-use Rattle.mscp_heard.proofs.Watching.{IsDone, answer_is}
+use Rattle.mscp_heard.proofs.Saying.{IsDone, answer_is}
 use Rattle.mscp_host.specs.Accounts.{Account, answered, is_about, is_about_polled, last_told, news_of_figure, news_with, outstanding_with, polled_is_outstanding, watch_after, with_told, without}
 use Rattle.mscp_host.specs.PortAccounts.{PortAccount, as_read, is_of, is_poll_of, is_too_much, news_said, without_by}
 use Rattle.mscp_host.specs.declared.asked.Asked.{Asked}

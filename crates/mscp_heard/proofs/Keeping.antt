@@ -1,8 +1,9 @@
 -- What is known of the figures that a host was told, after what the host does.
+use Rattle.mscp_heard.proofs.Upcoming.{first_of, tally_texts}
+use Rattle.mscp_heard.proofs.Known.{IsPollText, PollsLast, AreApart, KnowsTold, KnowsPoll, Knows}
 use Rattle.mscp_heard.proofs.Claims.{Owes, claim_of, claims, claims_said, find_more, none_owed, tally, tally_append}
 use Rattle.mscp_heard.proofs.Hosts.{SameNumbers}
 use Rattle.mscp_heard.proofs.Noting.{IsReady}
-use Rattle.mscp_heard.proofs.Tracking.{AreApart, IsPollText, Knows, KnowsPoll, KnowsTold, PollsLast, first_of, tally_texts}
 use Rattle.mscp_heard.proofs.Watching.{Found, Notes, found_submissions}
 use Rattle.mscp_host.specs.Accounts.{has_reference, last_told, told_of, with_told, without}
 use Rattle.mscp_host.specs.PortAccounts.{PortAccount, is_of, without_by}

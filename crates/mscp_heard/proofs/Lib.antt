@@ -8,10 +8,14 @@ pub mod Telling
 pub mod Moments
 pub mod Joined
 pub mod Watching
+pub mod Saying
 pub mod Notes
 pub mod Noting
 pub mod Dealt
 pub mod Refusing
+pub mod Upcoming
+pub mod Known
+pub mod Claiming
 pub mod Tracking
 pub mod Keeping
 pub mod Answered

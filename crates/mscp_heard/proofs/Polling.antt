@@ -1,17 +1,18 @@
 -- A host of a port hears neither Reset nor Lost, if a step is told between any two polls of one command.
-use Rattle.mscp_port.specs.declared.port.OutgoingKind.TheVariants as kinds
+use Rattle.mscp_heard.proofs.Upcoming.{first_of, first_in, in_either, tally_texts, some_has, in_of_holds, holds_of_in, in_said}
+use Rattle.mscp_heard.proofs.Known.{Knows}
+use Rattle.mscp_heard.proofs.Tracking.{knows_still}
 use Rattle.mscp_host.specs.declared.heard.Heard.TheVariants as heards
-use Rattle.mscp_host.specs.declared.message.Message.TheVariants as messages
 use Rattle.mscp_host.specs.declared.news.Poll.TheVariants as polls
 use Rattle.mscp_packet.specs.declared.end.EndBody.TheVariants as bodies
 use Rattle.std.proofs.lemmas.List.{append-nil, drop-append-le}
 use Rattle.mscp_heard.proofs.Refusing.{owed_so, noted, by_call, end_kind, read_short, read_disk, small_size, refuses_nothing}
 use Rattle.mscp_heard.proofs.Keeping.{knows_sent}
 use Rattle.mscp_heard.proofs.Answered.{knows_news, knows_end, says_neither}
-use Rattle.mscp_heard.proofs.Tracking.{Knows, IsIn, first_of, first_in, in_either, some_has, tally_texts, knows_still}
 use Rattle.mscp_heard.proofs.Packets.{is_end, IsMessage, message_read, end_read, end_heard, IsRead}
-use Rattle.mscp_heard.proofs.Watching.{IsHeardSo, hear_done, Notes, submit_notes, poll_notes, submit_same, poll_same}
-use Rattle.mscp_ported.specs.Passing.{PortsHoldWhatIsAwaited, PortsPassEndsOn, HoldsAwaited, IsServedSince, ServesBetweenPolls, TakesPoll, Pending, pending_end, pending_held, pending_in, pending_said}
+use Rattle.mscp_heard.proofs.Watching.{Notes, submit_notes, poll_notes, submit_same, poll_same}
+use Rattle.mscp_heard.proofs.Saying.{IsHeardSo, hear_done}
+use Rattle.mscp_ported.specs.Passing.{PortsHoldWhatIsAwaited, PortsPassEndsOn, HoldsAwaited, IsServedSince, ServesBetweenPolls, TakesPoll, Pending, pending_held, pending_in}
 use Rattle.mscp_ported.specs.Figures.{PortsLowerFigures, figure_on}
 use Rattle.mscp_port.specs.Fair.{TellsStep}
 use Rattle.mscp_drive.specs.Both.{of}
@@ -23,7 +24,7 @@ use Rattle.mscp_controller.specs.Calls.{AnsweredCalls, Call as Made}
 use Rattle.mscp_controller.specs.Holdings.{Holdings, fresh, outstanding_of}
 use Rattle.mscp_drive.specs.Settings.{IsValid, Settings}
 use Rattle.mscp_drive.specs.declared.connection.Connection.TheVariants.{First}
-use Rattle.mscp_heard.proofs.Claims.{claim_of, claim_said, claims, claims_said, tally, tally_append}
+use Rattle.mscp_heard.proofs.Claims.{claim_of, claims, claims_said, tally, tally_append}
 use Rattle.mscp_heard.proofs.Hosts.{SameNumbers}
 use Rattle.mscp_heard.proofs.Joined.{hears_said, none_told, numbered}
 use Rattle.mscp_heard.proofs.Moments.{answered_last, asked_before, heard_last, reads_before, sent_last}
@@ -38,67 +39,20 @@ use Rattle.mscp_host.specs.PortLaw.{PortHostsKeepTheirHistory}
 use Rattle.mscp_host.specs.declared.asked.Asked.{Asked}
 use Rattle.mscp_host.specs.declared.envelope.Envelope.{Envelope}
 use Rattle.mscp_packet.specs.Number.{num}
-use Rattle.mscp_packet.specs.declared.end.End.{End}
 use Rattle.mscp_port.specs.Calls.{IsMadeOf}
 use Rattle.mscp_port.specs.Departures.{begins}
 use Rattle.mscp_port.specs.Histories.{Answered, Call, Picking, WriteIp, WasRead}
 use Rattle.mscp_port.specs.declared.hardware.Hardware.{Hardware}
-use Rattle.mscp_port.specs.declared.port.OutgoingKind.{OutgoingKind}
 use Rattle.mscp_port.specs.declared.port.Port.{Port}
 use Rattle.mscp_ported.specs.Answers.{PortsAnswerAsTheyMay}
 use Rattle.mscp_ported.specs.Awaited.{Deals, PortsEndWhatTheyTook, ReadsBytes, awaited, taken_by}
 use Rattle.mscp_ported.specs.Fitting.{PortsEndByOpcode}
 use Rattle.mscp_ported.specs.Talk.{AsksAlways, is_dead, talk_of}
 use Rattle.mscp_ported.specs.Told.{PortsHearInOrder, PortsOpenWhatTheyAccept, PortsTellInOrder, Said, accepted, accepted_by, connection_told, said as all_said, said_in}
-use Rattle.std.proofs.Common.{ℕ, All, List, Some, [], ap, append_assoc, arith, cond, drop, false, inl, inr, length, map, nat_eq, refl, subst, suc, sym, ◌++◌, ◌<◌, ◌∙◌, ◌∷◌, ◌≡◌, ◌≢◌, ◌≤◌, Bool, filter, true, ◌+◌, ◌⊎◌}
+use Rattle.std.proofs.Common.{ℕ, All, List, Some, [], ap, append_assoc, arith, cond, drop, false, inl, inr, length, map, refl, subst, suc, sym, ◌++◌, ◌<◌, ◌∙◌, ◌∷◌, ◌≡◌, ◌≢◌, ◌≤◌, ◌+◌, ◌⊎◌}
 use Rattle.std.proofs.lemmas.Option.{none-some}
 use Rattle.std.specs.List.{AllByRecursion}
 use Rattle.mscp_port.proofs.Common.{eq-eqb}
-
--- ---- ends that are held
-
-in_of_holds : (n : ℕ) (es : List End) → filter (λ (e : End). nat_eq e.reference n) es ≢ [] → IsIn n (map pending_end es)
-in_of_holds n [] h = absurd (h refl)
-in_of_holds n (e ∷ es) h = by (nat_eq e.reference n) refl h (λ k. in_of_holds n es k)
-  where
-    by : (b : Bool) → nat_eq e.reference n ≡ b
-        → cond b (e ∷ filter (λ (e : End). nat_eq e.reference n) es) (filter (λ (e : End). nat_eq e.reference n) es) ≢ []
-        → (filter (λ (e : End). nat_eq e.reference n) es ≢ [] → IsIn n (map pending_end es))
-        → (nat_eq e.reference n ≡ true) ⊎ IsIn n (map pending_end es)
-    by true is h rest = inl is
-    by false is h rest = inr (rest h)
-
-holds_of_in : (n : ℕ) (es : List End) → IsIn n (map pending_end es) → filter (λ (e : End). nat_eq e.reference n) es ≢ []
-holds_of_in n [] is h = is
-holds_of_in n (e ∷ es) is h = by (nat_eq e.reference n) refl h is (λ k. holds_of_in n es k)
-  where
-    by : (b : Bool) → nat_eq e.reference n ≡ b
-        → cond b (e ∷ filter (λ (e : End). nat_eq e.reference n) es) (filter (λ (e : End). nat_eq e.reference n) es) ≡ []
-        → (nat_eq e.reference n ≡ true) ⊎ IsIn n (map pending_end es)
-        → (IsIn n (map pending_end es) → filter (λ (e : End). nat_eq e.reference n) es ≢ []) → ⊥
-    by true so h is rest = search (arith, h)
-    by false so h (inl is) rest = search (arith, so, is)
-    by false so h (inr is) rest = rest is h
-
-in_said : (n : ℕ) (us : List Said) → IsIn n (flat_map pending_in us) → 1 ≤ tally n (claims_said us)
-in_said n [] is = absurd is
-in_said n (s ∷ us) is = subst (λ k. 1 ≤ k) (sym (tally_append n (claim_said s.kind s.text) (claims_said us)))
-    (by s.kind is (λ g. in_said n us g))
-  where
-    more : (a b : ℕ) → 1 ≤ b → 1 ≤ a + b
-    more a b h = omega (arith, h)
-
-    by : (kind : OutgoingKind) → IsIn n (pending_said kind s.text ++ flat_map pending_in us)
-        → (IsIn n (flat_map pending_in us) → 1 ≤ tally n (claims_said us))
-        → 1 ≤ tally n (claim_said kind s.text) + tally n (claims_said us)
-    by kinds.Attention is rest = more 0 (tally n (claims_said us)) (rest is)
-    by kinds.UtilitiesEnd is rest = more 0 (tally n (claims_said us)) (rest is)
-    by kinds.End (inl is) rest = subst (λ b. 1 ≤ cond b (1 + 0) 0 + tally n (claims_said us)) (sym is)
-        (one (tally n (claims_said us)))
-      where
-        one : (b : ℕ) → 1 ≤ (1 + 0) + b
-        one b = omega arith
-    by kinds.End (inr is) rest = more (tally n (claim_said kinds.End s.text)) (tally n (claims_said us)) (rest is)
 
 -- ---- since a poll
 

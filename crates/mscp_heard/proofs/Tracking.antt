@@ -1,208 +1,31 @@
--- What is known of the figures that a host was told, and of the poll in flight, and how calls of the port leave it.
+-- How calls of a port leave what is known of the figures that its host was told, and of the poll in flight.
+use Rattle.mscp_heard.proofs.Upcoming.{first_of, Before, IsIn, before_more, first_more, first_behind, in_front, first_in, in_either, in_left, in_right, all_in, tally_texts, tally_in, has_some, some_has}
+use Rattle.mscp_heard.proofs.Known.{IsPollText, PollsLast, IsBelow, KnowsTold, KnowsPoll, Knows}
+use Rattle.mscp_heard.proofs.Claiming.{as_many}
 use Rattle.mscp_port.specs.declared.port.OutgoingKind.TheVariants as kinds
-use Rattle.mscp_heard.proofs.Claims.{claim_of, claim_said, claims, claims_said, tally, tally_append}
+use Rattle.mscp_heard.proofs.Claims.{claim_of, claims, claims_said, tally, tally_append}
 use Rattle.mscp_heard.proofs.Dealt.{Dealt}
 use Rattle.mscp_heard.specs.Deeds.{IsCopyOf}
 use Rattle.mscp_host.specs.Accounts.{has_reference, last_told, told_of}
 use Rattle.mscp_host.specs.PortAccounts.{PortAccount, is_of}
 use Rattle.mscp_host.specs.declared.asked.Asked.{Asked}
 use Rattle.mscp_host.specs.declared.submission.Submission.{Submission}
-use Rattle.mscp_host.specs.declared.watch.Watch.{Watch}
 use Rattle.mscp_packet.specs.Number.{num}
 use Rattle.mscp_port.proofs.Common.{eq-eqb, eqb-true}
-use Rattle.mscp_port.specs.declared.port.OutgoingKind.{OutgoingKind}
-use Rattle.mscp_port.specs.declared.port.Port.{Port}
 use Rattle.mscp_ported.proofs.Numbered.{first_of_one, none_beside, none_of_it, none_stays}
 use Rattle.mscp_ported.specs.Awaited.{has_number}
-use Rattle.mscp_ported.specs.Passing.{Pending, pending_held, pending_in, pending_said}
+use Rattle.mscp_ported.specs.Passing.{Pending, pending_in, pending_said}
 use Rattle.mscp_ported.specs.Told.{Said}
 use Rattle.std.proofs.Common.{ℕ, Bool, List, None, Option, Some, [], ap, append_assoc, arith, cond, false, filter, inl, inr, length, map, nat_eq, not, refl, subst, sym, true, ◌++◌, ◌+◌, ◌<◌, ◌∙◌, ◌∷◌, ◌≡◌, ◌≢◌, ◌≤◌, ◌⊎◌}
 use Rattle.std.proofs.lemmas.Grind.{flat_map-append}
-use Rattle.std.proofs.lemmas.List.{append-nil, map-append}
-use Rattle.mscp_heard.proofs.Moving.{said_append, tally_one}
-use Rattle.mscp_ported.proofs.Dealing.{one_of}
+use Rattle.std.proofs.lemmas.List.{append-nil}
 use Rattle.std.proofs.lemmas.Option.{none-some, same_Some}
 use Rattle.std.specs.List.{AllByRecursion}
 use Rattle.std.specs.Prelude.{find, flat_map, slice_index}
 
--- ---- ends that are to be heard
-
-abbrev pub pending : {K : Type 0} → List Said → Port K → List Pending
-pending us p = flat_map pending_in us ++ pending_held p
-
-abbrev pub first_of : ℕ → List Pending → Option ℕ
-first_of n [] = None
-first_of n (e ∷ es) = cond (nat_eq e.number n) (Some e.figure) (first_of n es)
-
--- an end of number x stands in front of each of number w
-abbrev pub Before : ℕ → ℕ → List Pending → Type 0
-Before x w [] = ⊥
-Before x w (e ∷ es) = (nat_eq e.number x ≡ true) ⊎ ((nat_eq e.number w ≡ false) × Before x w es)
-
-abbrev pub IsIn : ℕ → List Pending → Type 0
-IsIn x [] = ⊥
-IsIn x (e ∷ es) = (nat_eq e.number x ≡ true) ⊎ IsIn x es
-
-before_more : (x w : ℕ) (es more : List Pending) → Before x w es → Before x w (es ++ more)
-before_more x w [] more b = absurd b
-before_more x w (e ∷ es) more (inl is) = inl is
-before_more x w (e ∷ es) more (inr b) = inr (b.0, before_more x w es more b.1)
-
-first_more : (n : ℕ) (es more : List Pending) (g : ℕ) → first_of n es ≡ Some g → first_of n (es ++ more) ≡ Some g
-first_more n [] more g e = absurd (none-some g e)
-first_more n (x ∷ es) more g e = by (nat_eq x.number n) e (λ h. first_more n es more g h)
-  where
-    by : (b : Bool) → cond b (Some x.figure) (first_of n es) ≡ Some g
-        → (first_of n es ≡ Some g → first_of n (es ++ more) ≡ Some g)
-        → cond b (Some x.figure) (first_of n (es ++ more)) ≡ Some g
-    by true h rest = h
-    by false h rest = rest h
-
-first_behind : (n : ℕ) (es more : List Pending) → first_of n es ≡ None → first_of n (es ++ more) ≡ first_of n more
-first_behind n [] more e = refl
-first_behind n (x ∷ es) more e = by (nat_eq x.number n) e (λ h. first_behind n es more h)
-  where
-    by : (b : Bool) → cond b (Some x.figure) (first_of n es) ≡ None
-        → (first_of n es ≡ None → first_of n (es ++ more) ≡ first_of n more)
-        → cond b (Some x.figure) (first_of n (es ++ more)) ≡ first_of n more
-    by true h rest = absurd (none-some x.figure (sym h))
-    by false h rest = rest h
-
--- where w isn't there yet, all stand in front of it
-in_front : (x w : ℕ) (es more : List Pending) → first_of w es ≡ None → IsIn x es → Before x w (es ++ more)
-in_front x w [] more none is = absurd is
-in_front x w (e ∷ es) more none (inl is) = inl is
-in_front x w (e ∷ es) more none (inr is) = inr (apart (nat_eq e.number w) none,
-    in_front x w es more (rest (nat_eq e.number w) none) is)
-  where
-    apart : (b : Bool) → cond b (Some e.figure) (first_of w es) ≡ None → b ≡ false
-    apart true h = absurd (none-some e.figure (sym h))
-    apart false h = refl
-
-    rest : (b : Bool) → cond b (Some e.figure) (first_of w es) ≡ None → first_of w es ≡ None
-    rest true h = absurd (none-some e.figure (sym h))
-    rest false h = h
-
-pub first_in : (n : ℕ) (es : List Pending) (g : ℕ) → first_of n es ≡ Some g → IsIn n es
-first_in n [] g e = absurd (none-some g e)
-first_in n (x ∷ es) g e = by (nat_eq x.number n) refl e (λ h. first_in n es g h)
-  where
-    by : (b : Bool) → nat_eq x.number n ≡ b → cond b (Some x.figure) (first_of n es) ≡ Some g
-        → (first_of n es ≡ Some g → IsIn n es) → (nat_eq x.number n ≡ true) ⊎ IsIn n es
-    by true is h rest = inl is
-    by false is h rest = inr (rest h)
-
--- ---- messages
-
--- the poll is the last that names its command, among those that weren't read, and is one
-abbrev pub IsPollText : ℕ → List ℕ → Type 0
-IsPollText x m = (slice_index m 8 ≡ 2) × (16 ≤ length m) × (num m 12 4 ≡ x)
-
-abbrev pub PollsLast : ℕ → ℕ → List (List ℕ) → Type 0
-PollsLast x w [] = Unit {0}
-PollsLast x w (m ∷ ms) =
-    (nat_eq (num m 0 4) w ≡ true → IsPollText x m × (filter (has_number x) ms ≡ [])) × PollsLast x w ms
-
--- ---- what is known
-
--- no two commands of a host have one number
-abbrev pub AreApart : List Asked → Type 0
-AreApart [] = Unit {0}
-AreApart (x ∷ xs) = (find (is_of x.reference) xs ≡ None) × AreApart xs
-
--- of a figure of 1 or more, that is told of a command in the port
-abbrev pub IsBelow : (F : ℕ → ℕ) (Served : ℕ → Type 0) → ℕ → ℕ → Type 0
-IsBelow F Served x g = 1 ≤ F x → (F x ≤ g) × (Served x → F x < g)
-
-abbrev pub KnowsTold : (F : ℕ → ℕ) (Served : ℕ → Type 0) → List (List ℕ) → Submission → Type 0
-KnowsTold F Served ms s = (l : ℕ) → s.told ≡ Some l
-    → (filter (has_number s.reference) ms ≡ []) × IsBelow F Served s.reference l
-
--- the poll in flight
-pub record KnowsPoll (F : ℕ → ℕ) (Served : ℕ → Type 0) (host : PortAccount) (P : List Pending)
-    (ms : List (List ℕ)) (x w : ℕ) : Type 0 where
-  pub apart : nat_eq w x ≡ false
-  pub known : (y : Asked) × (find (is_of x) host.asked ≡ Some y)
-  pub last : PollsLast x w ms
-  pub place : (filter (has_number w) ms ≢ []) ⊎ ((g : ℕ) × (first_of w P ≡ Some g))
-  pub coming : (g : ℕ) → first_of w P ≡ Some g → (filter (has_number x) ms ≡ [])
-      × (Before x w P ⊎ ((1 ≤ g) × ((l : ℕ) → last_told host.account.outstanding x ≡ Some l → l ≤ g → ⊥)
-      × IsBelow F Served x g))
-
-pub record Knows (F : ℕ → ℕ) (Served : ℕ → Type 0) (host : PortAccount) (us : List Said) (P : List Pending)
-    (ts ms : List (List ℕ)) : Type 0 where
-  -- each command is in the host's or the port's hands
-  pub placed : (n : ℕ) (y : Asked) → find (is_of n) host.asked ≡ Some y → 1 ≤ tally n (claims us ts ms)
-  pub told : AllByRecursion (KnowsTold F Served ms) host.account.outstanding
-  pub poll : (w : Watch) → host.account.watch ≡ Some w → w.is_outstanding ≡ true
-      → KnowsPoll F Served host P ms w.polled w.reference
-  pub unique : AreApart host.asked
-
--- ---- by a call of the port
-
 cancel : {X : Type 0} (xs ys zs : List X) → xs ++ ys ≡ xs ++ zs → ys ≡ zs
 cancel [] ys zs e = e
 cancel (x ∷ xs) ys zs e = cancel xs ys zs (search (arith, e))
-
-pub in_either : (n : ℕ) (es fs : List Pending) → IsIn n (es ++ fs) → IsIn n es ⊎ IsIn n fs
-in_either n [] fs is = inr is
-in_either n (e ∷ es) fs (inl is) = inl (inl is)
-in_either n (e ∷ es) fs (inr is) = elim (in_either n es fs is) [ inl x ↦ inl (inr x) | inr x ↦ inr x ]
-
-in_left : (n : ℕ) (es fs : List Pending) → IsIn n es → IsIn n (es ++ fs)
-in_left n [] fs is = absurd is
-in_left n (e ∷ es) fs (inl is) = inl is
-in_left n (e ∷ es) fs (inr is) = inr (in_left n es fs is)
-
-in_right : (n : ℕ) (es fs : List Pending) → IsIn n fs → IsIn n (es ++ fs)
-in_right n [] fs is = is
-in_right n (e ∷ es) fs is = inr (in_right n es fs is)
-
-all_in : (P : ℕ → Type 0) (n : ℕ) (es : List Pending) → AllByRecursion (λ (e : Pending). P e.number) es → IsIn n es → P n
-all_in P n [] all is = absurd is
-all_in P n (e ∷ es) all (inl is) = subst P (eqb-true e.number n is) all.0
-all_in P n (e ∷ es) all (inr is) = all_in P n es all.1 is
-
-pub tally_texts : (n : ℕ) (ts : List (List ℕ)) → tally n (map claim_of ts) ≡ length (filter (has_number n) ts)
-tally_texts n [] = refl
-tally_texts n (t ∷ ts) = by (nat_eq (num t 0 4) n) (tally_texts n ts)
-  where
-    by : (b : Bool) → tally n (map claim_of ts) ≡ length (filter (has_number n) ts)
-        → cond b (1 + tally n (map claim_of ts)) (tally n (map claim_of ts))
-        ≡ length (cond b (t ∷ filter (has_number n) ts) (filter (has_number n) ts))
-    by true e = search (arith, e)
-    by false e = e
-
-tally_in : (n : ℕ) (us : List Said) → 1 ≤ tally n (claims_said us) → IsIn n (flat_map pending_in us)
-tally_in n [] h = absurd (search (arith, h))
-tally_in n (s ∷ us) h = by s.kind (subst (λ k. 1 ≤ k)
-    (tally_append n (claim_said s.kind s.text) (claims_said us)) h) (λ g. tally_in n us g)
-  where
-    plain : (x : ℕ) → 1 ≤ 0 + x → 1 ≤ x
-    plain x h = omega (arith, h)
-
-    by : (kind : OutgoingKind) → 1 ≤ tally n (claim_said kind s.text) + tally n (claims_said us)
-        → (1 ≤ tally n (claims_said us) → IsIn n (flat_map pending_in us))
-        → IsIn n (pending_said kind s.text ++ flat_map pending_in us)
-    by kinds.Attention h rest = rest (plain (tally n (claims_said us)) h)
-    by kinds.UtilitiesEnd h rest = rest (plain (tally n (claims_said us)) h)
-    by kinds.End h rest = cases (nat_eq (num s.text 0 4) n) refl h
-      where
-        cases : (b : Bool) → nat_eq (num s.text 0 4) n ≡ b
-            → 1 ≤ cond b (1 + 0) 0 + tally n (claims_said us)
-            → (nat_eq (num s.text 0 4) n ≡ true) ⊎ IsIn n (flat_map pending_in us)
-        cases true is h = inl is
-        cases false is h = inr (rest (plain (tally n (claims_said us)) h))
-
-has_some : (n : ℕ) (xs : List (List ℕ)) → 1 ≤ length (filter (has_number n) xs) → filter (has_number n) xs ≢ []
-has_some n xs h e = search (arith, h, ap length e)
-
-pub some_has : (n : ℕ) (xs : List (List ℕ)) → filter (has_number n) xs ≢ [] → 1 ≤ length (filter (has_number n) xs)
-some_has n xs h = by (filter (has_number n) xs) refl
-  where
-    by : (ys : List (List ℕ)) → filter (has_number n) xs ≡ ys → 1 ≤ length ys
-    by [] e = absurd (h e)
-    by (y ∷ ys) e = search arith
 
 last_of : (P : Submission → Type 0) (x l : ℕ) (xs : List Submission) → AllByRecursion P xs → last_told xs x ≡ Some l
     → (s : Submission) × P s × (s.reference ≡ x) × (s.told ≡ Some l)
@@ -564,73 +387,9 @@ module _ (host : PortAccount) (F F' : ℕ → ℕ) (Served Served' : ℕ → Typ
               )
             ])
 
-  -- ---- how many are claimed
-
-  parts_of : (n : ℕ) (xs : List Said) (ys zs : List (List ℕ)) → tally n (claims xs ys zs)
-      ≡ tally n (claims_said xs) + (tally n (map claim_of ys) + tally n (map claim_of zs))
-  parts_of n xs ys zs = tally_append n (claims_said xs) (map claim_of ys ++ map claim_of zs)
-      ∙ ap (λ k. tally n (claims_said xs) + k) (tally_append n (map claim_of ys) (map claim_of zs))
-
-  said_one : (n : ℕ) (s : Said) (kind : OutgoingKind) → s.kind ≡ kind
-      → tally n (claims_said (us ++ s ∷ [])) ≡ tally n (claims_said us) + tally n (claim_said kind s.text ++ [])
-  said_one n s kind is = ap (tally n) (said_append us (s ∷ []))
-      ∙ tally_append n (claims_said us) (claim_said s.kind s.text ++ [])
-      ∙ ap (λ k. tally n (claims_said us) + tally n (claim_said k s.text ++ [])) is
-
-  same_claim : (n x y : ℕ) → x ≡ y → cond (nat_eq x n) (1 + 0) 0 ≡ cond (nat_eq y n) (1 + 0) 0
-  same_claim n x y e = ap (λ k. cond (nat_eq k n) (1 + 0) 0) e
-
-  as_many : (n : ℕ) → tally n (claims us ts ms) ≡ tally n (claims us' ts' ms')
-  as_many n = by d
-    where
-      by : Dealt Took texts us ts ms us' ts' ms' → tally n (claims us ts ms) ≡ tally n (claims us' ts' ms')
-      by (inl q) = sym (ap (λ xs. tally n (claims xs ts' ms')) q.0 ∙ ap (λ xs. tally n (claims us xs ms')) q.1
-          ∙ ap (λ xs. tally n (claims us ts xs)) q.2)
-      by (inr (inl q)) =
-          let a = parts_of n us ts ms in
-          let b = parts_of n (us ++ q.0 ∷ []) ts ms in
-          let c = said_one n q.0 kinds.Attention q.1 in
-          omega (arith, a, b, c)
-          ∙ sym (ap (λ xs. tally n (claims xs ts' ms')) q.2 ∙ ap (λ xs. tally n (claims (us ++ q.0 ∷ []) xs ms')) q.3
-          ∙ ap (λ xs. tally n (claims (us ++ q.0 ∷ []) ts xs)) q.4)
-      by (inr (inr (inl q))) =
-          let left = filter (λ x. not (has_number (num q.0.text 0 4) x)) ts in
-          let a = parts_of n us ts ms in
-          let b = parts_of n (us ++ q.0 ∷ []) left ms in
-          let c = said_one n q.0 kinds.End q.8 in
-          let one = tally_one (num q.0.text 0 4) n ts q.1 q.2 in
-          let named : num q.1 0 4 ≡ num q.0.text 0 4 = eqb-true (num q.1 0 4) (num q.0.text 0 4)
-          (one_of (λ y. Unit {0}) (has_number (num q.0.text 0 4)) ts q.1 (every_text ts) q.2).1 in
-          let same = same_claim n (num q.1 0 4) (num q.0.text 0 4) named in
-          omega (arith, a, b, c, one, same)
-          ∙ sym (ap (λ xs. tally n (claims xs ts' ms')) q.4
-          ∙ ap (λ xs. tally n (claims (us ++ q.0 ∷ []) xs ms')) q.5
-          ∙ ap (λ xs. tally n (claims (us ++ q.0 ∷ []) left xs)) q.6)
-        where
-          every_text : (xs : List (List ℕ)) → AllByRecursion (λ y. Unit {0}) xs
-          every_text [] = tt
-          every_text (x ∷ xs) = (tt, every_text xs)
-      by (inr (inr (inr (inl q)))) =
-          let a = parts_of n us ts (q.1 ∷ ms') in
-          let b = parts_of n us (ts ++ q.0 ∷ []) ms' in
-          let x = ap (tally n) (map-append claim_of ts (q.0 ∷ []))
-          ∙ tally_append n (map claim_of ts) (claim_of q.0 ∷ []) in
-          let y = tally_append n (claim_of q.1 ∷ []) (map claim_of ms') in
-          let same = same_claim n (num q.0 0 4) (num q.1 0 4) q.2.number in
-          ap (λ xs. tally n (claims us ts xs)) q.5 ∙ omega (arith, a, b, x, y, same)
-          ∙ sym (ap (λ xs. tally n (claims xs ts' ms')) q.3 ∙ ap (λ xs. tally n (claims us xs ms')) q.4)
-      by (inr (inr (inr (inr q)))) =
-          let a = parts_of n us ts (q.2 ∷ ms') in
-          let b = parts_of n (us ++ q.0 ∷ []) ts ms' in
-          let c = said_one n q.0 kinds.End q.11 in
-          let y = tally_append n (claim_of q.2 ∷ []) (map claim_of ms') in
-          let same = same_claim n (num q.0.text 0 4) (num q.2 0 4) (q.4 ∙ q.3.number) in
-          ap (λ xs. tally n (claims us ts xs)) q.9 ∙ omega (arith, a, b, c, y, same)
-          ∙ sym (ap (λ xs. tally n (claims xs ts' ms')) q.7 ∙ ap (λ xs. tally n (claims (us ++ q.0 ∷ []) xs ms')) q.8)
-
   pub knows_still : Knows F Served host us P ts ms → Knows F' Served' host us' P' ts' ms'
   knows_still k = record {
-    placed = λ n y e. subst (λ x. 1 ≤ x) (as_many n) (k.placed n y e);
+    placed = λ n y e. subst (λ x. 1 ≤ x) (as_many Took texts us ts ms us' ts' ms' d n) (k.placed n y e);
     told = told_still host.account.outstanding k.told;
     poll = λ w e out. poll_still k.told k.placed w.polled w.reference (k.poll w e out);
     unique = k.unique;
