@@ -1,5 +1,4 @@
 -- What each call of a port deals with.
-use Rattle.mscp_port.specs.Leaving.{attention}
 use Rattle.mscp_port.specs.Volumes.{volume_at}
 use Rattle.std.proofs.Common.{◌≡◌, ◌≢◌, ◌⊎◌, ◌∙◌, ◌^◌, ◌<◌, ◌≤◌, ◌&&◌, ◌++◌, ◌∷◌, [], ℕ, Bool, true, false, cond, drop, filter, not, List, Option, None, Some, inl, inr, refl, ap, sym, subst, arith}
 use Rattle.std.specs.Prelude.{Result, Ok, Err, find, is_none, is_ok, option_map, slice_get, slice_index}
@@ -27,7 +26,7 @@ use Rattle.mscp_port.specs.declared.volumes.Volume.{Volume}
 use Rattle.mscp_port.specs.Calls.{Hears, Wants}
 use Rattle.mscp_port.specs.Departures.{begins}
 use Rattle.mscp_port.specs.Histories.{Becomes, Call, Picking, WriteIp, ReadIp, WriteSa, Next, PutAside, WasRead, Went, LookAgain, Tick, VolumeCame, VolumeWent, Protect}
-use Rattle.mscp_port.specs.Leaving.{told_end}
+use Rattle.mscp_port.specs.Leaving.{attention, told_end}
 use Rattle.mscp_port.specs.Messages.{own_end_of}
 use Rattle.mscp_port.specs.Outgoings.{IsNews as TellsOf, MayBegin, TakesEnd, news_place}
 use Rattle.mscp_port.specs.Seen.{SeesText, answered_to}

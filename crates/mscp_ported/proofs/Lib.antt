@@ -58,8 +58,10 @@ pub mod Fitted
 pub mod Untouched
 pub mod Formal
 pub mod Opcodes
+pub mod Refusals
 pub mod Heeding
 pub mod ByOpcode
 pub mod Holding
+pub mod Growing
 pub mod Passing
 pub mod Passed

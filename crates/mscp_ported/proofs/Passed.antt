@@ -20,7 +20,8 @@ use Rattle.mscp_ported.proofs.ByOpcode.{fitting}
 use Rattle.mscp_ported.proofs.Coming.{ends_of}
 use Rattle.mscp_ported.proofs.Ended.{bytes_small, deals, kept, shaped}
 use Rattle.mscp_ported.proofs.Holding.{promised, some_figure}
-use Rattle.mscp_ported.proofs.Passing.{Comes, Grown, begun_one, grown_none, grown_passes, next_passes, pending_these, read_comes, silent, went_grown}
+use Rattle.mscp_ported.proofs.Growing.{Grown, begun_one, grown_none, grown_passes, pending_these, silent}
+use Rattle.mscp_ported.proofs.Passing.{Comes, next_passes, read_comes, went_grown}
 use Rattle.mscp_ported.proofs.Staying.{IsPassive, passive_stays}
 use Rattle.mscp_ported.specs.Answers.{Own, own_text}
 use Rattle.mscp_ported.specs.Awaited.{Deals, ReadsBytes, awaited, taken_by}
