@@ -53,15 +53,17 @@ module _ (F : ℕ → ℕ) (Served : ℕ → Type 0) (old new : PortAccount) (s 
           last = x.last;
           place = x.place;
           coming = λ g first.
-              let c = x.coming g first in
-              (c.0, elim c.1 [
-                | inl front ↦ inl front
-                | inr r ↦ inr (
-                  r.0,
-                  (λ l e. r.1 l (ap (λ (a : Account). last_told a.outstanding w.polled) (sym account) ∙ e)),
-                  r.2,
-                )
-              ]);
+              let c = x.coming g first in (
+                c.0,
+                elim c.1 [
+                  | inl front ↦ inl front
+                  | inr r ↦ inr (
+                    r.0,
+                    (λ l e. r.1 l (ap (λ (a : Account). last_told a.outstanding w.polled) (sym account) ∙ e)),
+                    r.2,
+                  )
+                ],
+              );
         };
     unique = subst (λ xs. AreApart xs) (sym asked) k.unique;
   }
@@ -107,8 +109,12 @@ module _ (F : ℕ → ℕ) (Served : ℕ → Type 0) (old new : PortAccount) (s 
       where
         swapped : (b : Bool) → nat_eq (num s.text 0 4) m ≡ b → nat_eq m e.reference ≡ false → b ≡ false
         swapped false is apart = refl
-        swapped true is apart = search (arith, apart, eq-eqb m e.reference
-            (sym (eqb-true (num s.text 0 4) m is) ∙ sym named))
+        swapped true is apart = search (
+          arith,
+          apart,
+          eq-eqb m e.reference
+              (sym (eqb-true (num s.text 0 4) m is) ∙ sym named),
+        )
 
         less : (x : ℕ) → 1 ≤ cond (nat_eq (num s.text 0 4) m) (1 + x) x → nat_eq (num s.text 0 4) m ≡ false → 1 ≤ x
         less x h is = subst (λ b. 1 ≤ cond b (1 + x) x) is h
@@ -153,10 +159,11 @@ module _ (F : ℕ → ℕ) (Served : ℕ → Type 0) (old new : PortAccount) (s 
             let figure : told.1 ≡ head.figure = figured told.0 told.1 a.3 a.4 in
             every_told (KnowsTold F Served ms) told.0 told.1 old.account.outstanding
             (λ x same l f.
-            let is_l : told.1 ≡ l = same_Some told.1 l f in
-            (ap (λ j. filter (has_number j) ms) (same ∙ about) ∙ h.0,
-            subst (λ y. IsBelow F Served x.reference y) (sym figure ∙ is_l)
-            (subst (λ y. IsBelow F Served y head.figure) (sym (same ∙ about)) h.3))) k.told
+            let is_l : told.1 ≡ l = same_Some told.1 l f in (
+              ap (λ j. filter (has_number j) ms) (same ∙ about) ∙ h.0,
+              subst (λ y. IsBelow F Served x.reference y) (sym figure ∙ is_l)
+                  (subst (λ y. IsBelow F Served y head.figure) (sym (same ∙ about)) h.3),
+            )) k.told
 
     told_now : AllByRecursion (KnowsTold F Served ms) new.account.outstanding
     told_now = subst (λ xs. AllByRecursion (KnowsTold F Served ms) xs) (sym d.outstanding)
@@ -178,8 +185,12 @@ module _ (F : ℕ → ℕ) (Served : ℕ → Type 0) (old new : PortAccount) (s 
             none None h = refl
             none (Some told) h =
                 let a = answer_is old.account.watch e told h in
-                absurd (search (arith, apart, eq-eqb w.reference e.reference
-                (ap (λ (z : Watch). z.reference) (same_Some w a.0 (sym is ∙ a.1)) ∙ a.2)))
+                absurd (search (
+                  arith,
+                  apart,
+                  eq-eqb w.reference e.reference
+                      (ap (λ (z : Watch). z.reference) (same_Some w a.0 (sym is ∙ a.1)) ∙ a.2),
+                ))
 
         kept : (w : Watch) → old.account.watch ≡ Some w → nat_eq w.reference e.reference ≡ false
             → nat_eq w.polled e.reference ≡ false → w.is_outstanding ≡ true
@@ -197,25 +208,30 @@ module _ (F : ℕ → ℕ) (Served : ℕ → Type 0) (old new : PortAccount) (s 
               last = x.last;
               place = elim x.place [
                 | inl unread ↦ inl unread
-                | inr there ↦ inr (there.0, sym (ap (λ b. cond b (Some head.figure) (first_of w.reference P)) skip)
-                    ∙ there.1)
+                | inr there ↦ inr (
+                  there.0,
+                  sym (ap (λ b. cond b (Some head.figure) (first_of w.reference P)) skip)
+                      ∙ there.1,
+                )
               ];
               coming = λ g first.
-                  let c = x.coming g (ap (λ b. cond b (Some head.figure) (first_of w.reference P)) skip ∙ first) in
-                  (c.0, elim c.1 [
-                    | inl front ↦ inl (elim front [
-                      | inl same ↦ absurd (search (arith, swapped head.number w.polled (sym named) other, same))
-                      | inr b ↦ b.1
-                    ])
-                    | inr r ↦ inr (
-                      r.0,
-                      (λ l f. r.1 l (sym (ap (λ xs. last_told xs w.polled) (d.outstanding
-                      ∙ ap (without e.reference) (same_told w is apart))
-                      ∙ last_left old.account.outstanding e.reference w.polled
-                      (swapped e.reference w.polled refl other)) ∙ f)),
-                      r.2,
-                    )
-                  ]);
+                  let c = x.coming g (ap (λ b. cond b (Some head.figure) (first_of w.reference P)) skip ∙ first) in (
+                    c.0,
+                    elim c.1 [
+                      | inl front ↦ inl (elim front [
+                        | inl same ↦ absurd (search (arith, swapped head.number w.polled (sym named) other, same))
+                        | inr b ↦ b.1
+                      ])
+                      | inr r ↦ inr (
+                        r.0,
+                        (λ l f. r.1 l (sym (ap (λ xs. last_told xs w.polled) (d.outstanding
+                            ∙ ap (without e.reference) (same_told w is apart))
+                            ∙ last_left old.account.outstanding e.reference w.polled
+                            (swapped e.reference w.polled refl other)) ∙ f)),
+                        r.2,
+                      )
+                    ],
+                  );
             }
           where
             swapped : (a b : ℕ) → a ≡ e.reference → nat_eq b e.reference ≡ false → nat_eq a b ≡ false
@@ -234,8 +250,12 @@ module _ (F : ℕ → ℕ) (Served : ℕ → Type 0) (old new : PortAccount) (s 
                 → cond a None (cond b (Some (record w { is_outstanding = false })) (Some w)) ≡ Some v
                 → KnowsPoll F Served new P ms v.polled v.reference
             cases true p b q h = absurd (none-some v h)
-            cases false p true q h = absurd (search (arith, sym (ap (λ (z : Watch). z.is_outstanding)
-                (same_Some (record w { is_outstanding = false }) v h)) ∙ refl, out))
+            cases false p true q h = absurd (search (
+              arith,
+              sym (ap (λ (z : Watch). z.is_outstanding)
+                  (same_Some (record w { is_outstanding = false }) v h)) ∙ refl,
+              out,
+            ))
             cases false p false q h =
                 let same = same_Some w v h in
                 subst (λ (z : Watch). KnowsPoll F Served new P ms z.polled z.reference) same

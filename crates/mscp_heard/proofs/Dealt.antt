@@ -282,8 +282,12 @@ module _ {K : Type 0} (picks : Picking K) (c : Settings) (picker : K) (ends : Po
       → ReadsBytes (call ∷ calls) → ReadsInOrder IsCopyOf call (talk_of picks start a.0 calls a.1) sent_so
       → Deals (awaited picks start a.0 calls a.1) call a.0 p → Behind call a
   deals_so call a heard asks small reads (inl q) =
-      inl (said_same call a heard q.begun, awaited_same call a heard q.ended q.taken,
-      unread_same call a heard q.accepted, q.accepted)
+      inl (
+        said_same call a heard q.begun,
+        awaited_same call a heard q.ended q.taken,
+        unread_same call a heard q.accepted,
+        q.accepted,
+      )
   deals_so call a heard asks small reads (inr (inl q)) = inr (inl (
     said_in q.out,
     q.kind,

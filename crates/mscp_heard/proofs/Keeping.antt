@@ -42,8 +42,12 @@ apart_more (y ∷ xs) x new all = by (nat_eq y.reference x.reference) refl new (
           where
             swapped : (c : Bool) → nat_eq x.reference y.reference ≡ c → c ≡ false
             swapped false e = refl
-            swapped true e = search (arith, is, eq-eqb y.reference x.reference
-                (sym (eqb-true x.reference y.reference e)))
+            swapped true e = search (
+              arith,
+              is,
+              eq-eqb y.reference x.reference
+                  (sym (eqb-true x.reference y.reference e)),
+            )
         none_more (z ∷ zs) e = cases (nat_eq z.reference y.reference) e (λ h. none_more zs h)
           where
             cases : (c : Bool) → cond c (Some z) (find (is_of y.reference) zs) ≡ None
@@ -264,16 +268,18 @@ module _ (F : ℕ → ℕ) (Served : ℕ → Type 0) (old new : PortAccount) (us
           | inr there ↦ inr there
         ];
         coming = λ g first.
-            let c = x.coming g first in
-            (beside_none w.polled ms m other c.0, elim c.1 [
-              | inl front ↦ inl front
-              | inr r ↦ inr (
-                r.0,
-                (λ l e. r.1 l (sym (ap (λ xs. last_told xs w.polled) s.outstanding
-                ∙ last_more old.account.outstanding s.submission w.polled s.untold) ∙ e)),
-                r.2,
-              )
-            ]);
+            let c = x.coming g first in (
+              beside_none w.polled ms m other c.0,
+              elim c.1 [
+                | inl front ↦ inl front
+                | inr r ↦ inr (
+                  r.0,
+                  (λ l e. r.1 l (sym (ap (λ xs. last_told xs w.polled) s.outstanding
+                      ∙ last_more old.account.outstanding s.submission w.polled s.untold) ∙ e)),
+                  r.2,
+                )
+              ],
+            );
       }
 
   -- or the message is that of a poll
@@ -290,8 +296,11 @@ module _ (F : ℕ → ℕ) (Served : ℕ → Type 0) (old new : PortAccount) (us
         );
         last = last_new w.polled w.reference ms m (ap (λ j. filter (has_number j) ms) named ∙ unread_none)
             (poll, long, sym about);
-        place = inl (λ e. absurd (search (arith, sym (sole_comes (has_number w.reference) ms m
-            (ap (λ j. filter (has_number j) ms) named ∙ unread_none) (eq-eqb (num m 0 4) w.reference (sym named))) ∙ e)));
+        place = inl (λ e. absurd (search (
+          arith,
+          sym (sole_comes (has_number w.reference) ms m
+              (ap (λ j. filter (has_number j) ms) named ∙ unread_none) (eq-eqb (num m 0 4) w.reference (sym named))) ∙ e,
+        )));
         coming = λ g first. absurd (none (tally (num m 0 4) (claims us ts ms)) none_claimed
             (held (num m 0 4) g (ap (λ j. first_of j P) (sym named) ∙ first)));
       }

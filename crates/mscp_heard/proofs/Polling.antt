@@ -133,12 +133,15 @@ module _ {K : Type 0} (picks : Picking K) (c : Settings) (picker : K) (ends : Po
       (map said_in (begins a.0.outgoing p.outgoing)) i.heard)
       passing.behind passing.of_these
       (λ t took poll long.
-      let takes = takes_poll a.0 call t took.0.0 took.0.1 took.1 poll long in
-      (passing.poll t took.0.0 took.0.1 takes, serves (num t 12 4) takes, λ s.
-      elim (served_or picks start p calls call a (num t 12 4) never s) [
-        | inl step ↦ no_step a.0 call t took.0.0 took.0.1 step
-        | inr x ↦ x.0 takes
-      ]))
+      let takes = takes_poll a.0 call t took.0.0 took.0.1 took.1 poll long in (
+        passing.poll t took.0.0 took.0.1 takes,
+        serves (num t 12 4) takes,
+        λ s.
+            elim (served_or picks start p calls call a (num t 12 4) never s) [
+              | inl step ↦ no_step a.0 call t took.0.0 took.0.1 step
+              | inr x ↦ x.0 takes
+            ],
+      ))
       (λ n. (lower n).never_rises)
       (λ n s. elim (served_or picks start p calls call a n never s) [
         | inl step ↦ inl (λ low. (lower n).falls low step)

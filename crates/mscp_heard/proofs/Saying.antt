@@ -84,13 +84,24 @@ hear_done old new v b heard e = by (message_in v b) e
     by : (r : Result Message HearFault) → heard_of old v.credits r ≡ (Ok heard, new) → IsHeardSo old new r heard
     by (Err fault) h = absurd (search (arith, h))
     by (Ok (messages.End end)) h = found end (find (is_of end.reference) old.asked) h
-    by (Ok (messages.Attention code unit)) h = inl (sym (ap (λ y. y.1.asked) h), sym (ap (λ y. y.1.account) h),
-        plain _ (ap said h) (news (nat_eq code 0x40) unit code), λ e x. search (arith, x))
-    by (Ok messages.Datagram) h = inl (sym (ap (λ y. y.1.asked) h), sym (ap (λ y. y.1.account) h),
-        plain heards.Logged (ap said h) ((λ e. search (arith, e)), (λ e. search (arith, e))), λ e x. search (arith, x))
-    by (Ok messages.Credits) h = inl (sym (ap (λ y. y.1.asked) h), sym (ap (λ y. y.1.account) h),
-        plain (heards.Credits v.credits) (ap said h) ((λ e. search (arith, e)), (λ e. search (arith, e))),
-        λ e x. search (arith, x))
+    by (Ok (messages.Attention code unit)) h = inl (
+      sym (ap (λ y. y.1.asked) h),
+      sym (ap (λ y. y.1.account) h),
+      plain _ (ap said h) (news (nat_eq code 0x40) unit code),
+      λ e x. search (arith, x),
+    )
+    by (Ok messages.Datagram) h = inl (
+      sym (ap (λ y. y.1.asked) h),
+      sym (ap (λ y. y.1.account) h),
+      plain heards.Logged (ap said h) ((λ e. search (arith, e)), (λ e. search (arith, e))),
+      λ e x. search (arith, x),
+    )
+    by (Ok messages.Credits) h = inl (
+      sym (ap (λ y. y.1.asked) h),
+      sym (ap (λ y. y.1.account) h),
+      plain (heards.Credits v.credits) (ap said h) ((λ e. search (arith, e)), (λ e. search (arith, e))),
+      λ e x. search (arith, x),
+    )
 
 -- what answers a poll
 pub answer_is : (o : Option Watch) (e : End) (told : ℕ × ℕ) → answered o (as_read e) ≡ Some told

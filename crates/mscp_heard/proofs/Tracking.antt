@@ -96,7 +96,6 @@ module _ (host : PortAccount) (F F' : ℕ → ℕ) (Served Served' : ℕ → Typ
     | inr x ↦ (tail_none n x.0 ms' (ap (filter (has_number n)) (sym x.1) ∙ e)).1
   ]
 
-
   -- what waits behind the call, and was no unread message, waited before it
   before_low : (n : ℕ) → filter (has_number n) ms ≡ [] → 1 ≤ F' n → 1 ≤ F n
   before_low n unread low = by d
@@ -145,17 +144,23 @@ module _ (host : PortAccount) (F F' : ℕ → ℕ) (Served Served' : ℕ → Typ
       by (inr (inr (inr (inr q)))) =
           let apart = (tail_none n q.2 ms' (ap (filter (has_number n)) (sym q.9) ∙ unread)).0 in
           from (λ e. there (ap (filter (has_number n)) q.8 ∙ e))
-          (λ is. search (arith, apart, ap (λ k. nat_eq k n) (sym q.3.number) ∙ ap (λ k. nat_eq k n) (sym q.4)
-          ∙ one q.0 q.11 (subst (λ xs. IsIn n (flat_map pending_in xs)) (said_is q.0 q.7) is)))
+          (λ is. search (
+            arith,
+            apart,
+            ap (λ k. nat_eq k n) (sym q.3.number) ∙ ap (λ k. nat_eq k n) (sym q.4)
+                ∙ one q.0 q.11 (subst (λ xs. IsIn n (flat_map pending_in xs)) (said_is q.0 q.7) is),
+          ))
 
   below_still : (n g : ℕ) → filter (has_number n) ms ≡ [] → IsBelow F Served n g → IsBelow F' Served' n g
   below_still n g unread below low =
       let before = before_low n unread low in
-      let b = below before in
-      (le (F' n) (F n) g (lowers n before) b.0, λ s. elim (served n s) [
-        | inl falls ↦ lt_le (F' n) (F n) g (falls before) b.0
-        | inr was ↦ le_lt (F' n) (F n) g (lowers n before) (b.1 was)
-      ])
+      let b = below before in (
+        le (F' n) (F n) g (lowers n before) b.0,
+        λ s. elim (served n s) [
+          | inl falls ↦ lt_le (F' n) (F n) g (falls before) b.0
+          | inr was ↦ le_lt (F' n) (F n) g (lowers n before) (b.1 was)
+        ],
+      )
     where
       le : (x y z : ℕ) → x ≤ y → y ≤ z → x ≤ z
       le x y z h k = omega (arith, h, k)
@@ -257,12 +262,12 @@ module _ (host : PortAccount) (F F' : ℕ → ℕ) (Served Served' : ℕ → Typ
   located x placed unread = elim (among (tally x (claims_said us)) (tally x (map claim_of ts))
       (tally x (map claim_of ms)) (subst (λ k. 1 ≤ k) whole placed)
       (tally_texts x ms ∙ ap length unread)) [
-    | inl said ↦ inr (in_left x (flat_map pending_in us) held (tally_in x us said))
-    | inr waits ↦ elim (awaits x (has_some x ts (subst (λ k. 1 ≤ k) (tally_texts x ts) waits))) [
-      | inl low ↦ inl low
-      | inr there ↦ inr (in_right x (flat_map pending_in us) held there)
-    ]
-  ]
+        | inl said ↦ inr (in_left x (flat_map pending_in us) held (tally_in x us said))
+        | inr waits ↦ elim (awaits x (has_some x ts (subst (λ k. 1 ≤ k) (tally_texts x ts) waits))) [
+          | inl low ↦ inl low
+          | inr there ↦ inr (in_right x (flat_map pending_in us) held there)
+        ]
+      ]
     where
       whole : tally x (claims us ts ms)
           ≡ tally x (claims_said us) + (tally x (map claim_of ts) + tally x (map claim_of ms))
@@ -300,21 +305,23 @@ module _ (host : PortAccount) (F F' : ℕ → ℕ) (Served Served' : ℕ → Typ
         ∙ ap (λ y. Some (F y)) t.4) in
         let unread : filter (has_number x) ms ≡ [] = ap (filter (has_number x)) p.1.1
         ∙ ap (λ b. cond b (p.1.0 ∷ filter (has_number x) ms') (filter (has_number x) ms'))
-        (ap (λ y. nat_eq y x) p.1.2 ∙ k.apart) ∙ p.0 in
-        (p.0, elim (located x (placed x k.known.0 k.known.1) unread) [
-          | inr there ↦ inl (subst (λ es. Before x w es) (sym grows) (in_front x w P more none there))
-          | inl low ↦ inr (
-            subst (λ y. 1 ≤ y) (sym is) low,
-            (λ l last le.
-            let s = last_of (KnowsTold F Served ms) x l host.account.outstanding told last in
-            let b = (s.1 l s.3).1 (subst (λ y. 1 ≤ F y) (sym s.2) low) in
-            over l (F x) g (subst (λ y. F y < l) s.2 (b.1 (subst Served (t.4 ∙ sym s.2) (n.1 (subst (λ y. 1 ≤ F y) (sym t.4) low))))) is le),
-            (λ low'. (
-              subst (λ y. F' x ≤ y) (sym is) (lowers x low),
-              λ s. absurd (n.2 (subst Served' (sym t.4) s)),
-            )),
-          )
-        ])
+        (ap (λ y. nat_eq y x) p.1.2 ∙ k.apart) ∙ p.0 in (
+          p.0,
+          elim (located x (placed x k.known.0 k.known.1) unread) [
+            | inr there ↦ inl (subst (λ es. Before x w es) (sym grows) (in_front x w P more none there))
+            | inl low ↦ inr (
+              subst (λ y. 1 ≤ y) (sym is) low,
+              (λ l last le.
+                  let s = last_of (KnowsTold F Served ms) x l host.account.outstanding told last in
+                  let b = (s.1 l s.3).1 (subst (λ y. 1 ≤ F y) (sym s.2) low) in
+                  over l (F x) g (subst (λ y. F y < l) s.2 (b.1 (subst Served (t.4 ∙ sym s.2) (n.1 (subst (λ y. 1 ≤ F y) (sym t.4) low))))) is le),
+              (λ low'. (
+                subst (λ y. F' x ≤ y) (sym is) (lowers x low),
+                λ s. absurd (n.2 (subst Served' (sym t.4) s)),
+              )),
+            )
+          ],
+        )
       where
         over : (l f g : ℕ) → f < l → g ≡ f → l ≤ g → ⊥
         over l f g a b c = omega (arith, a, b, c)
@@ -324,12 +331,12 @@ module _ (host : PortAccount) (F F' : ℕ → ℕ) (Served Served' : ℕ → Typ
         → (text : List ℕ) × (texts ≡ text ∷ []) × (num text 0 4 ≡ w)
     new_entry none g first = elim (all_in (λ n. ((text : List ℕ) × (texts ≡ text ∷ []) × (num text 0 4 ≡ n))
         ⊎ (1 ≤ F n)) w more of_these (first_in w more g first)) [
-      | inl t ↦ t
-      | inr low ↦ absurd (elim k.place [
-        | inl unread ↦ not_both w unread (low_awaits w low)
-        | inr there ↦ none-some there.0 (sym none ∙ there.1)
-      ])
-    ]
+          | inl t ↦ t
+          | inr low ↦ absurd (elim k.place [
+            | inl unread ↦ not_both w unread (low_awaits w low)
+            | inr there ↦ none-some there.0 (sym none ∙ there.1)
+          ])
+        ]
 
     poll_still : KnowsPoll F' Served' host P' ms' x w
     poll_still = record {
@@ -377,15 +384,17 @@ module _ (host : PortAccount) (F F' : ℕ → ℕ) (Served Served' : ℕ → Typ
             now t.0 t.1 t.2 is g more_first
         by (Some f) is g first =
             let same : f ≡ g = same_Some f g (sym (first_more w P more f is) ∙ first) in
-            let c = k.coming f is in
-            (fewer x c.0, elim c.1 [
-              | inl front ↦ inl (subst (λ es. Before x w es) (sym grows) (before_more x w P more front))
-              | inr r ↦ inr (
-                subst (λ y. 1 ≤ y) same r.0,
-                subst (λ y. (l : ℕ) → last_told host.account.outstanding x ≡ Some l → l ≤ y → ⊥) same r.1,
-                subst (λ y. IsBelow F' Served' x y) same (below_still x f c.0 r.2),
-              )
-            ])
+            let c = k.coming f is in (
+              fewer x c.0,
+              elim c.1 [
+                | inl front ↦ inl (subst (λ es. Before x w es) (sym grows) (before_more x w P more front))
+                | inr r ↦ inr (
+                  subst (λ y. 1 ≤ y) same r.0,
+                  subst (λ y. (l : ℕ) → last_told host.account.outstanding x ≡ Some l → l ≤ y → ⊥) same r.1,
+                  subst (λ y. IsBelow F' Served' x y) same (below_still x f c.0 r.2),
+                )
+              ],
+            )
 
   pub knows_still : Knows F Served host us P ts ms → Knows F' Served' host us' P' ts' ms'
   knows_still k = record {

@@ -4,16 +4,14 @@ use Rattle.mscp_heard.proofs.Claims.{claim_of, claim_said, claims_said, tally, t
 use Rattle.mscp_packet.specs.Number.{num}
 use Rattle.mscp_port.proofs.Common.{eqb-true}
 use Rattle.mscp_port.specs.declared.port.OutgoingKind.{OutgoingKind}
-use Rattle.mscp_port.specs.declared.port.Port.{Port}
 use Rattle.mscp_ported.specs.Awaited.{has_number}
-use Rattle.mscp_ported.specs.Passing.{Pending, pending_held, pending_in, pending_said}
+use Rattle.mscp_ported.specs.Passing.{Pending, pending_in, pending_said}
 use Rattle.mscp_ported.specs.Told.{Said}
 use Rattle.std.proofs.Common.{ℕ, Bool, List, None, Option, Some, [], ap, arith, cond, false, filter, inl, inr, length, map, nat_eq, refl, subst, sym, true, ◌++◌, ◌+◌, ◌∷◌, ◌≡◌, ◌≢◌, ◌≤◌, ◌⊎◌}
 use Rattle.std.proofs.lemmas.Option.{none-some}
 use Rattle.std.specs.List.{AllByRecursion}
 use Rattle.std.specs.Prelude.{flat_map}
-use Rattle.mscp_ported.specs.Passing.{Pending, pending_end, pending_held, pending_in, pending_said}
-use Rattle.mscp_drive.specs.Both.{of}
+use Rattle.mscp_ported.specs.Passing.{Pending, pending_end, pending_in, pending_said}
 use Rattle.std.specs.Prelude.{flat_map}
 use Rattle.mscp_packet.specs.declared.end.End.{End}
 use Rattle.mscp_ported.specs.Told.{Said}
@@ -21,9 +19,6 @@ use Rattle.std.proofs.Common.{ℕ, List, Some, [], ap, arith, cond, false, inl, 
 use Rattle.std.proofs.lemmas.Option.{none-some}
 
 -- ---- ends that are to be heard
-
-abbrev pub pending : {K : Type 0} → List Said → Port K → List Pending
-pending us p = flat_map pending_in us ++ pending_held p
 
 abbrev pub first_of : ℕ → List Pending → Option ℕ
 first_of n [] = None
@@ -67,8 +62,10 @@ first_behind n (x ∷ es) more e = by (nat_eq x.number n) e (λ h. first_behind 
 pub in_front : (x w : ℕ) (es more : List Pending) → first_of w es ≡ None → IsIn x es → Before x w (es ++ more)
 in_front x w [] more none is = absurd is
 in_front x w (e ∷ es) more none (inl is) = inl is
-in_front x w (e ∷ es) more none (inr is) = inr (apart (nat_eq e.number w) none,
-    in_front x w es more (rest (nat_eq e.number w) none) is)
+in_front x w (e ∷ es) more none (inr is) = inr (
+  apart (nat_eq e.number w) none,
+  in_front x w es more (rest (nat_eq e.number w) none) is,
+)
   where
     apart : (b : Bool) → cond b (Some e.figure) (first_of w es) ≡ None → b ≡ false
     apart true h = absurd (none-some e.figure (sym h))

@@ -4,8 +4,9 @@ ghost use Rattle.mscp_heard.specs.Hearing.{HostsHearNoReset, HostsHearTheirOwnEn
 
 use mscp_host::port_hosts_keep_their_history;
 use mscp_ported::{
-    ports_answer_as_they_may, ports_end_by_opcode, ports_end_what_they_took, ports_hear_in_order, ports_hold_what_is_awaited,
-    ports_lower_figures, ports_open_what_they_accept, ports_pass_ends_on, ports_tell_in_order,
+    ports_answer_as_they_may, ports_end_by_opcode, ports_end_what_they_took, ports_hear_in_order,
+    ports_hold_what_is_awaited, ports_lower_figures, ports_open_what_they_accept,
+    ports_pass_ends_on, ports_tell_in_order,
 };
 use mscp_queue::Picker;
 

@@ -311,8 +311,12 @@ module _ {K : Type 0} (bytes : List ℕ) (done : Unit) (old new : Port K) (aw : 
 
       own_mine : Mine (answered_end First h command)
       unfolding command_of
-      own_mine = inl (bytes, accepted, sym (own_number h.settings _ _ command (fault_of h.settings command)
-          ∙ (handed_like old.controller.settings.units bytes sees.long).number))
+      own_mine = inl (
+        bytes,
+        accepted,
+        sym (own_number h.settings _ _ command (fault_of h.settings command)
+            ∙ (handed_like old.controller.settings.units bytes sees.long).number),
+      )
 
       -- a poll is answered at once, with its figure
       polled_now : slice_index bytes 8 ≡ 2 → 16 ≤ length bytes → (q : Bool) → is_queued h.settings command ≡ q
@@ -322,8 +326,7 @@ module _ {K : Type 0} (bytes : List ℕ) (done : Unit) (old new : Port K) (aw : 
       polled_now poll long q e =
           let same : command ≡ polled bytes =
           ap command_of (handed_so old.controller.settings.units bytes
-          ∙ poll_handed old.controller.settings.units bytes poll) ∙ poll_command bytes poll long in
-          (
+          ∙ poll_handed old.controller.settings.units bytes poll) ∙ poll_command bytes poll long in (
             sym e ∙ ap (is_queued h.settings) same,
             ap (λ c. map pending_end (option_to_list (option_map aborted_record
                 (record_aborted First h.waiting c.order)) ++ answered_end First h c ∷ [])) same,

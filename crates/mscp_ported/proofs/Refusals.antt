@@ -15,9 +15,9 @@ use Rattle.mscp_packet.specs.Number.{num}
 use Rattle.mscp_packet.specs.declared.command.Command.{Command}
 use Rattle.mscp_packet.specs.declared.command.Order.{Order}
 use Rattle.mscp_queue.specs.Orders.{endcode}
-use Rattle.std.proofs.Common.{ℕ, Bool, List, None, Option, Some, arith, cond, false, length, nat_eq, nat_lt, refl, true, ◌*◌, ◌+◌, ◌-◌, ◌<◌, ◌^◌, ◌≡◌, ◌≤◌}
+use Rattle.std.proofs.Common.{ℕ, Bool, List, None, Option, Some, arith, cond, false, length, nat_eq, nat_lt, refl, true, ◌*◌, ◌+◌, ◌<◌, ◌^◌, ◌≡◌, ◌≤◌}
 use Rattle.std.proofs.lemmas.Option.{none-some}
-use Rattle.std.specs.Prelude.{find, slice_index}
+use Rattle.std.specs.Prelude.{slice_index}
 
 pub num_small : (b : List ℕ) → ((i : ℕ) → slice_index b i < 2 ^ 8) → num b 12 4 < 2 ^ 32
 num_small b h = few (slice_index b 12) (slice_index b 13) (slice_index b 14) (slice_index b 15) (h 12) (h 13) (h 14)
