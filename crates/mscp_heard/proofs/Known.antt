@@ -1,18 +1,20 @@
 -- What is known of the figures that a host was told, and of the poll in flight.
 use Rattle.mscp_heard.proofs.Upcoming.{first_of, Before}
 use Rattle.mscp_heard.proofs.Claims.{claims, tally}
-use Rattle.mscp_host.specs.Accounts.{last_told}
+use Rattle.mscp_host.specs.Accounts.{has_reference, last_told, told_of}
 use Rattle.mscp_host.specs.PortAccounts.{PortAccount, is_of}
 use Rattle.mscp_host.specs.declared.asked.Asked.{Asked}
 use Rattle.mscp_host.specs.declared.submission.Submission.{Submission}
-use Rattle.mscp_host.specs.declared.watch.Watch.{Watch}
 use Rattle.mscp_packet.specs.Number.{num}
+use Rattle.mscp_port.proofs.Common.{eqb-true}
 use Rattle.mscp_ported.specs.Awaited.{has_number}
 use Rattle.mscp_ported.specs.Passing.{Pending}
 use Rattle.mscp_ported.specs.Told.{Said}
-use Rattle.std.proofs.Common.{ℕ, List, None, Some, [], false, filter, length, nat_eq, true, ◌<◌, ◌∷◌, ◌≡◌, ◌≢◌, ◌≤◌, ◌⊎◌}
+use Rattle.std.proofs.Common.{ℕ, Bool, List, None, Some, [], cond, false, filter, length, nat_eq, refl, true, ◌<◌, ◌∷◌, ◌≡◌, ◌≢◌, ◌≤◌, ◌⊎◌}
+use Rattle.std.proofs.lemmas.Option.{none-some}
 use Rattle.std.specs.List.{AllByRecursion}
 use Rattle.std.specs.Prelude.{find, slice_index}
+use Rattle.mscp_host.specs.declared.watch.Watch.{Watch}
 
 -- ---- messages
 
@@ -59,3 +61,16 @@ pub record Knows (F : ℕ → ℕ) (Served : ℕ → Type 0) (host : PortAccount
   pub poll : (w : Watch) → host.account.watch ≡ Some w → w.is_outstanding ≡ true
       → KnowsPoll F Served host P ms w.polled w.reference
   pub unique : AreApart host.asked
+
+-- what is known of each, where one was told a figure
+pub last_of : (P : Submission → Type 0) (x l : ℕ) (xs : List Submission) → AllByRecursion P xs → last_told xs x ≡ Some l
+    → (s : Submission) × P s × (s.reference ≡ x) × (s.told ≡ Some l)
+last_of P x l [] all e = absurd (none-some l e)
+last_of P x l (s ∷ xs) all e = by (nat_eq s.reference x) refl e (λ h. last_of P x l xs all.1 h)
+  where
+    by : (b : Bool) → nat_eq s.reference x ≡ b → told_of (cond b (Some s) (find (has_reference x) xs)) ≡ Some l
+        → (told_of (find (has_reference x) xs) ≡ Some l
+        → (s : Submission) × P s × (s.reference ≡ x) × (s.told ≡ Some l))
+        → (s : Submission) × P s × (s.reference ≡ x) × (s.told ≡ Some l)
+    by true is h rest = (s, all.0, eqb-true s.reference x is, h)
+    by false is h rest = rest h

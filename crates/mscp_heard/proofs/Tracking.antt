@@ -1,12 +1,12 @@
 -- How calls of a port leave what is known of the figures that its host was told, and of the poll in flight.
 use Rattle.mscp_heard.proofs.Upcoming.{first_of, Before, IsIn, before_more, first_more, first_behind, in_front, first_in, in_either, in_left, in_right, all_in, tally_texts, tally_in, has_some, some_has}
-use Rattle.mscp_heard.proofs.Known.{IsPollText, PollsLast, IsBelow, KnowsTold, KnowsPoll, Knows}
+use Rattle.mscp_heard.proofs.Known.{last_of, IsPollText, PollsLast, IsBelow, KnowsTold, KnowsPoll, Knows}
 use Rattle.mscp_heard.proofs.Claiming.{as_many}
 use Rattle.mscp_port.specs.declared.port.OutgoingKind.TheVariants as kinds
 use Rattle.mscp_heard.proofs.Claims.{claim_of, claims, claims_said, tally, tally_append}
 use Rattle.mscp_heard.proofs.Dealt.{Dealt}
 use Rattle.mscp_heard.specs.Deeds.{IsCopyOf}
-use Rattle.mscp_host.specs.Accounts.{has_reference, last_told, told_of}
+use Rattle.mscp_host.specs.Accounts.{last_told}
 use Rattle.mscp_host.specs.PortAccounts.{PortAccount, is_of}
 use Rattle.mscp_host.specs.declared.asked.Asked.{Asked}
 use Rattle.mscp_host.specs.declared.submission.Submission.{Submission}
@@ -26,18 +26,6 @@ use Rattle.std.specs.Prelude.{find, flat_map, slice_index}
 cancel : {X : Type 0} (xs ys zs : List X) → xs ++ ys ≡ xs ++ zs → ys ≡ zs
 cancel [] ys zs e = e
 cancel (x ∷ xs) ys zs e = cancel xs ys zs (search (arith, e))
-
-last_of : (P : Submission → Type 0) (x l : ℕ) (xs : List Submission) → AllByRecursion P xs → last_told xs x ≡ Some l
-    → (s : Submission) × P s × (s.reference ≡ x) × (s.told ≡ Some l)
-last_of P x l [] all e = absurd (none-some l e)
-last_of P x l (s ∷ xs) all e = by (nat_eq s.reference x) refl e (λ h. last_of P x l xs all.1 h)
-  where
-    by : (b : Bool) → nat_eq s.reference x ≡ b → told_of (cond b (Some s) (find (has_reference x) xs)) ≡ Some l
-        → (told_of (find (has_reference x) xs) ≡ Some l
-        → (s : Submission) × P s × (s.reference ≡ x) × (s.told ≡ Some l))
-        → (s : Submission) × P s × (s.reference ≡ x) × (s.told ≡ Some l)
-    by true is h rest = (s, all.0, eqb-true s.reference x is, h)
-    by false is h rest = rest h
 
 module _ (host : PortAccount) (F F' : ℕ → ℕ) (Served Served' : ℕ → Type 0) (Took : List ℕ → Type 0)
     (texts : List (List ℕ)) (us new us' : List Said) (ts ms ts' ms' : List (List ℕ)) (held held' more : List Pending)
