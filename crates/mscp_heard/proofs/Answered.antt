@@ -281,8 +281,10 @@ module _ (F : ℕ → ℕ) (Served : ℕ → Type 0) (old new : PortAccount) (s 
         plain h same n = ((λ f. n.0 (same ∙ f)), (λ f. n.1 (same ∙ f)))
 
         ended_so : (a : Bool) (c : Bool)
-            → (cond a (heards.Refused e) (cond c (heards.MovedTooMuch e d.own.0) (heards.Ended e d.own.0)) ≢ heards.Reset)
-            × (cond a (heards.Refused e) (cond c (heards.MovedTooMuch e d.own.0) (heards.Ended e d.own.0)) ≢ heards.Lost)
+            → (cond a (heards.Refused e) (cond c (heards.MovedTooMuch e d.own.0)
+                (heards.Ended e d.own.0)) ≢ heards.Reset)
+            × (cond a (heards.Refused e) (cond c (heards.MovedTooMuch e d.own.0)
+                (heards.Ended e d.own.0)) ≢ heards.Lost)
         ended_so true c = ((λ f. search (arith, f)), (λ f. search (arith, f)))
         ended_so false true = ((λ f. search (arith, f)), (λ f. search (arith, f)))
         ended_so false false = ((λ f. search (arith, f)), (λ f. search (arith, f)))

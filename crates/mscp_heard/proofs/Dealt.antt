@@ -114,7 +114,8 @@ noted_as : (host : PortAccount) (us us' : List Said) (ts ts' ms ms' : List (List
 noted_as host us us' ts ts' ms ms' e f g n = subst (λ x. Noted host x ts' ms') (sym e)
     (subst (λ x. Noted host us x ms') (sym f) (subst (λ x. Noted host us ts x) (sym g) n))
 
-pub noted_dealt : (Took : List ℕ → Type 0) (texts : List (List ℕ)) (host : PortAccount) (us us' : List Said) (ts ts' ms ms' : List (List ℕ))
+pub noted_dealt : (Took : List ℕ → Type 0) (texts : List (List ℕ)) (host : PortAccount) (us us' : List Said)
+    (ts ts' ms ms' : List (List ℕ))
     → Dealt Took texts us ts ms us' ts' ms' → Noted host us ts ms → Noted host us' ts' ms'
 noted_dealt Took texts host us us' ts ts' ms ms' (inl q) n = noted_as host us us' ts ts' ms ms' q.0 q.1 q.2 n
 noted_dealt Took texts host us us' ts ts' ms ms' (inr (inl q)) n =
@@ -174,7 +175,8 @@ module _ {K : Type 0} (picks : Picking K) (c : Settings) (picker : K) (ends : Po
       was quiet made IsCopyOf p calls bytes done sent_so slot header asks a opened reads
 
   abbrev Behind : (call : Call) → Answered picks start (call ∷ calls) p → Type 0
-  Behind call a = Dealt (Taken call a.0) (accepted_by call a.0) (drop k (said picks start a.0 calls a.1)) (awaited picks start a.0 calls a.1)
+  Behind call a = Dealt (Taken call a.0) (accepted_by call a.0) (drop k (said picks start a.0 calls a.1))
+      (awaited picks start a.0 calls a.1)
       (drop (length (accepted picks start a.0 calls a.1)) sent_so)
       (drop k (said picks start a.0 calls a.1 ++ map said_in (begins a.0.outgoing p.outgoing)))
       (without_ends (ends_said_by call a.0 p) (awaited picks start a.0 calls a.1) ++ taken_by call a.0)

@@ -63,7 +63,8 @@ module _ {K : Type 0} (picks : Picking K) (c : Settings) (picker : K) (ends : Po
     pub at : slice_get ms n ≡ Some message
     pub is : Like text message
 
-  pub next_of : (Like : Likeness) (p : Port K) (calls : List Call) (bytes : List ℕ) (done : Unit) (ms : List (List ℕ)) (slot : Slot)
+  pub next_of : (Like : Likeness) (p : Port K) (calls : List Call) (bytes : List ℕ) (done : Unit) (ms : List
+      (List ℕ)) (slot : Slot)
       (header : ℕ) → AsksAlways (WasRead bytes (Ok done) ∷ calls)
       → (a : Answered picks start (WasRead bytes (Ok done) ∷ calls) p)
       → (talk_of picks start a.0 calls a.1).turn ≡ Opened slot header
@@ -201,7 +202,8 @@ module _ {K : Type 0} (picks : Picking K) (c : Settings) (picker : K) (ends : Po
 
     -- behind a call that is no write of IP
     pub called : (call : Call) (a : Answered picks start (call ∷ calls) p) → AsksAlways (call ∷ calls)
-        → ReadsBytes (call ∷ calls) → ReadsInOrder IsTextOf call (talk_of picks start a.0 calls a.1) (sent h) → call ≢ WriteIp
+        → ReadsBytes (call ∷ calls) → ReadsInOrder IsTextOf call (talk_of picks start a.0 calls a.1) (sent h)
+            → call ≢ WriteIp
         → is_dead p.stage ≡ false → (is_dead a.0.stage ≡ false → State a.0 calls a.1 asked h)
         → State p (call ∷ calls) a asked h
     called call a asks small reads never lives get =
@@ -216,7 +218,8 @@ module _ {K : Type 0} (picks : Picking K) (c : Settings) (picker : K) (ends : Po
 
   -- ---- what was told
 
-  pub hears_said : (p : Port K) (calls : List Call) (a : Answered picks start calls p) (k : ℕ) (v : Envelope) (b : List ℕ)
+  pub hears_said : (p : Port K) (calls : List Call) (a : Answered picks start calls p) (k : ℕ) (v : Envelope)
+      (b : List ℕ)
       (packet : Packet) → AsksAlways calls → slice_get (talk_of picks start p calls a).told k ≡ Some packet
       → IsPacket packet v b → IsHeard (all_said picks start p calls a) k v b
   hears_said p calls a k v b packet asks at is =

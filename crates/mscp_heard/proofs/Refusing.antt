@@ -92,7 +92,8 @@ module _ {K : Type 0} (picks : Picking K) (c : Settings) (picker : K) (ends : Po
     (quiet : outstanding_of First controller ≡ []) (made : IsMadeOf hardware credits controller start) where
   abbrev pub NotedAt : (p : Port K) (calls : List Call) → Answered picks start calls p → PortAccount → PortHistory
       → Type 0
-  NotedAt p calls a host h = Noted host (drop (hearings h) (all_said picks start p calls a)) (awaited picks start p calls a)
+  NotedAt p calls a host h = Noted host (drop (hearings h) (all_said picks start p calls a))
+      (awaited picks start p calls a)
       (drop (length (accepted picks start p calls a)) (sent h))
 
   abbrev pub Owed : (p : Port K) (calls : List Call) → Answered picks start calls p → List Asked → PortHistory → Type 0
@@ -230,23 +231,27 @@ module _ {K : Type 0} (picks : Picking K) (c : Settings) (picker : K) (ends : Po
       → ReadsInOrder IsCopyOf call (talk_of picks start a.0 calls a.1) (sent h) → call ≢ WriteIp
       → is_dead p.stage ≡ false → Deals (awaited picks start a.0 calls a.1) call a.0 p
       → hearings h ≤ length (all_said picks start a.0 calls a.1)
-      → Dealt (Taken call a.0) (accepted_by call a.0) (drop (hearings h) (all_said picks start a.0 calls a.1)) (awaited picks start a.0 calls a.1)
+      → Dealt (Taken call a.0) (accepted_by call a.0) (drop (hearings h) (all_said picks start a.0 calls a.1))
+          (awaited picks start a.0 calls a.1)
       (drop (length (accepted picks start a.0 calls a.1)) (sent h))
       (drop (hearings h) (all_said picks start p (call ∷ calls) a)) (awaited picks start p (call ∷ calls) a)
       (drop (length (accepted picks start p (call ∷ calls) a)) (sent h))
   by_call p calls call a h asks small reads never lives d heard =
-      subst (λ us. Dealt (Taken call a.0) (accepted_by call a.0) (drop (hearings h) (all_said picks start a.0 calls a.1)) (awaited picks start a.0 calls a.1)
+      subst (λ us. Dealt (Taken call a.0) (accepted_by call a.0) (drop (hearings h)
+          (all_said picks start a.0 calls a.1)) (awaited picks start a.0 calls a.1)
       (drop (length (accepted picks start a.0 calls a.1)) (sent h)) (drop (hearings h) us)
       (awaited picks start p (call ∷ calls) a) (drop (length (accepted picks start p (call ∷ calls) a)) (sent h)))
       (sym (since_alive p.stage call (all_said picks start a.0 calls a.1)
       (map said_in (begins a.0.outgoing p.outgoing)) never lives))
-      (subst (λ ts. Dealt (Taken call a.0) (accepted_by call a.0) (drop (hearings h) (all_said picks start a.0 calls a.1)) (awaited picks start a.0 calls a.1)
+      (subst (λ ts. Dealt (Taken call a.0) (accepted_by call a.0) (drop (hearings h)
+          (all_said picks start a.0 calls a.1)) (awaited picks start a.0 calls a.1)
       (drop (length (accepted picks start a.0 calls a.1)) (sent h))
       (drop (hearings h) (all_said picks start a.0 calls a.1 ++ map said_in (begins a.0.outgoing p.outgoing))) ts
       (drop (length (accepted picks start p (call ∷ calls) a)) (sent h)))
       (sym (since_alive p.stage call (without_ends (ends_said_by call a.0 p) (awaited picks start a.0 calls a.1))
       (taken_by call a.0) never lives))
-      (subst (λ xs. Dealt (Taken call a.0) (accepted_by call a.0) (drop (hearings h) (all_said picks start a.0 calls a.1)) (awaited picks start a.0 calls a.1)
+      (subst (λ xs. Dealt (Taken call a.0) (accepted_by call a.0) (drop (hearings h)
+          (all_said picks start a.0 calls a.1)) (awaited picks start a.0 calls a.1)
       (drop (length (accepted picks start a.0 calls a.1)) (sent h))
       (drop (hearings h) (all_said picks start a.0 calls a.1 ++ map said_in (begins a.0.outgoing p.outgoing)))
       (without_ends (ends_said_by call a.0 p) (awaited picks start a.0 calls a.1) ++ taken_by call a.0)
@@ -269,7 +274,8 @@ module _ {K : Type 0} (picks : Picking K) (c : Settings) (picker : K) (ends : Po
       let before_reads = reads_before call (calls_in deeds) small in
       let i = owed_so a.0 deeds before_asks before_reads numbers a.1 joined.1 d.0 host r in
       let x = noted a.0 deeds before_asks before_reads numbers a.1 joined.1 d.0 host r in (
-        noted_dealt (Taken call a.0) (accepted_by call a.0) host (drop (hearings (did deeds)) (all_said picks start a.0 (calls_in deeds) a.1)) _
+        noted_dealt (Taken call a.0) (accepted_by call a.0) host (drop (hearings (did deeds))
+            (all_said picks start a.0 (calls_in deeds) a.1)) _
             (awaited picks start a.0 (calls_in deeds) a.1) _
             (drop (length (accepted picks start a.0 (calls_in deeds) a.1)) (sent (did deeds))) _
             (by_call p (calls_in deeds) call a (did deeds) asks small joined.0 never lives d.1 i.heard) x.0,

@@ -103,7 +103,8 @@ module _ (host : PortAccount) (F F' : ℕ → ℕ) (Served Served' : ℕ → Typ
       quiet : (s : Said) → s.kind ≡ kinds.Attention → IsIn n (pending_said s.kind s.text ++ []) → ⊥
       quiet s kind is = subst (λ k. IsIn n (pending_said k s.text ++ [])) kind is
 
-      one : (s : Said) → s.kind ≡ kinds.End → IsIn n (pending_said s.kind s.text ++ []) → nat_eq (num s.text 0 4) n ≡ true
+      one : (s : Said) → s.kind ≡ kinds.End → IsIn n (pending_said s.kind s.text ++ [])
+          → nat_eq (num s.text 0 4) n ≡ true
       one s kind is = elim (subst (λ k. IsIn n (pending_said k s.text ++ [])) kind is)
           [ inl x ↦ x | inr x ↦ absurd x ]
 
@@ -302,7 +303,8 @@ module _ (host : PortAccount) (F F' : ℕ → ℕ) (Served Served' : ℕ → Typ
               (λ l last le.
                   let s = last_of (KnowsTold F Served ms) x l host.account.outstanding told last in
                   let b = (s.1 l s.3).1 (subst (λ y. 1 ≤ F y) (sym s.2) low) in
-                  over l (F x) g (subst (λ y. F y < l) s.2 (b.1 (subst Served (t.4 ∙ sym s.2) (n.1 (subst (λ y. 1 ≤ F y) (sym t.4) low))))) is le),
+                  over l (F x) g (subst (λ y. F y < l) s.2 (b.1 (subst Served (t.4
+                      ∙ sym s.2) (n.1 (subst (λ y. 1 ≤ F y) (sym t.4) low))))) is le),
               (λ low'. (
                 subst (λ y. F' x ≤ y) (sym is) (lowers x low),
                 λ s. absurd (n.2 (subst Served' (sym t.4) s)),

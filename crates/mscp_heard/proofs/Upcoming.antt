@@ -98,7 +98,8 @@ pub in_right : (n : ℕ) (es fs : List Pending) → IsIn n fs → IsIn n (es ++ 
 in_right n [] fs is = is
 in_right n (e ∷ es) fs is = inr (in_right n es fs is)
 
-pub all_in : (P : ℕ → Type 0) (n : ℕ) (es : List Pending) → AllByRecursion (λ (e : Pending). P e.number) es → IsIn n es → P n
+pub all_in : (P : ℕ → Type 0) (n : ℕ) (es : List Pending) → AllByRecursion (λ (e : Pending). P e.number) es
+    → IsIn n es → P n
 all_in P n [] all is = absurd is
 all_in P n (e ∷ es) all (inl is) = subst P (eqb-true e.number n is) all.0
 all_in P n (e ∷ es) all (inr is) = all_in P n es all.1 is
@@ -148,23 +149,27 @@ some_has n xs h = by (filter (has_number n) xs) refl
 
 -- ---- ends that are held
 
-pub in_of_holds : (n : ℕ) (es : List End) → filter (λ (e : End). nat_eq e.reference n) es ≢ [] → IsIn n (map pending_end es)
+pub in_of_holds : (n : ℕ) (es : List End) → filter (λ (e : End). nat_eq e.reference n) es ≢ []
+    → IsIn n (map pending_end es)
 in_of_holds n [] h = absurd (h refl)
 in_of_holds n (e ∷ es) h = by (nat_eq e.reference n) refl h (λ k. in_of_holds n es k)
   where
     by : (b : Bool) → nat_eq e.reference n ≡ b
-        → cond b (e ∷ filter (λ (e : End). nat_eq e.reference n) es) (filter (λ (e : End). nat_eq e.reference n) es) ≢ []
+        → cond b (e ∷ filter (λ (e : End). nat_eq e.reference n) es) (filter (λ
+            (e : End). nat_eq e.reference n) es) ≢ []
         → (filter (λ (e : End). nat_eq e.reference n) es ≢ [] → IsIn n (map pending_end es))
         → (nat_eq e.reference n ≡ true) ⊎ IsIn n (map pending_end es)
     by true is h rest = inl is
     by false is h rest = inr (rest h)
 
-pub holds_of_in : (n : ℕ) (es : List End) → IsIn n (map pending_end es) → filter (λ (e : End). nat_eq e.reference n) es ≢ []
+pub holds_of_in : (n : ℕ) (es : List End) → IsIn n (map pending_end es)
+    → filter (λ (e : End). nat_eq e.reference n) es ≢ []
 holds_of_in n [] is h = is
 holds_of_in n (e ∷ es) is h = by (nat_eq e.reference n) refl h is (λ k. holds_of_in n es k)
   where
     by : (b : Bool) → nat_eq e.reference n ≡ b
-        → cond b (e ∷ filter (λ (e : End). nat_eq e.reference n) es) (filter (λ (e : End). nat_eq e.reference n) es) ≡ []
+        → cond b (e ∷ filter (λ (e : End). nat_eq e.reference n) es) (filter (λ
+            (e : End). nat_eq e.reference n) es) ≡ []
         → (nat_eq e.reference n ≡ true) ⊎ IsIn n (map pending_end es)
         → (IsIn n (map pending_end es) → filter (λ (e : End). nat_eq e.reference n) es ≢ []) → ⊥
     by true so h is rest = search (arith, h)

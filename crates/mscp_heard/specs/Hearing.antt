@@ -68,9 +68,9 @@ HostsRefuseNothing {K} picks picker =
 
 -- ---- no command is lost, and none begins anew
 
--- the law of progress: of such a port and host: if between any two polls about one command, as the port's controller took
--- them, a step of a command was told, its host hears neither that a command lost its figure nor that a figure didn't fall:
--- neither Reset nor Lost
+-- the law of progress: of such a port and host: if between any two polls about one command, as the port's controller
+-- took them, a step of a command was told, or the command waits no more, its host hears neither that a command lost its
+-- figure nor that a figure didn't fall: neither Lost nor Reset
 abbrev pub HostsHearNoReset : {K : Type 0} → Picking K → K → Type 0
 HostsHearNoReset {K} picks picker =
     (c : Settings) (before : List Made) (controller : Holdings K) (hardware : Hardware) (credits : ℕ)

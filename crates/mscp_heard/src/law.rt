@@ -42,9 +42,10 @@ pub fn hosts_refuse_nothing<K: Picker>(picker: &K)
     port_hosts_keep_their_history();
 }
 
-/// Such a host and port. If between any two polls about one command, as the port's controller took them, a block was told, the
-/// host hears neither `Reset` nor `Lost`: each figure that it is told of a command is less than the one before, and none is 0.
-/// For a controller that serves nothing between two polls has no lower figure to tell: that a host takes for a reset.
+/// Such a host and port. If between any two polls about one command, as the port's controller took them, a block was told, or the
+/// command waits no more, the host hears neither `Reset` nor `Lost`: each figure that it is told of a command is less than the one
+/// before, and none is 0. A controller that serves nothing between two polls has no lower figure to tell, and a host takes that
+/// for a reset.
 pub fn hosts_hear_no_reset<K: Picker>(picker: &K)
     ensures { HostsHearNoReset K.picks picker.now }
 {

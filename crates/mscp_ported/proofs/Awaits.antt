@@ -86,7 +86,8 @@ module _ {K : Type 0} (bytes : List ℕ) (done : Unit) (old new : Port K) (aw : 
         && is_ok (answer_to_message First old.controller b)) (bytes ∷ []) [])
         (sym (handed_so old.controller.settings.units bytes))
 
-    pub none_taken : (is_none (own_answer foreign (volume_named old bytes) bytes) && is_ok (answered_to old bytes)) ≡ false
+    pub none_taken : (is_none (own_answer foreign (volume_named old bytes) bytes) && is_ok
+        (answered_to old bytes)) ≡ false
         → taken_by (WasRead bytes (Ok done)) old ≡ []
     none_taken e = taken_is ∙ ap (λ b. cond b (bytes ∷ []) []) e
 

@@ -176,7 +176,8 @@ parameters_about : (c : Settings) (online : Bool) (figure unit : ℕ) (reference
 parameters_about c online figure unit reference b codes.Status other told is =
     search (arith, is)
 parameters_about c online figure unit reference b codes.Abort other told is = absurd (search (arith, is))
-parameters_about c online figure unit reference b codes.UnitStatus other told is = absurd (by (unit_found c.units unit) is)
+parameters_about c online figure unit reference b codes.UnitStatus other told is = absurd (by
+    (unit_found c.units unit) is)
   where
     by : (o : Option Shape) → (own_end_with c online figure (record {
       reference = reference;
@@ -195,7 +196,8 @@ parameters_about c online figure unit reference b (codes.SetController) other to
     }) o).body ≡ bodies.Status other told → ⊥
     by None h = search (arith, h)
     by (Some u) h = search (arith, h)
-parameters_about c online figure unit reference b codes.Available other told is = absurd (by (unit_fault (unit_found c.units unit)) is)
+parameters_about c online figure unit reference b codes.Available other told is = absurd (by (unit_fault
+    (unit_found c.units unit)) is)
   where
     by : (o : Option ℕ) → (own_end_with c online figure (record {
       reference = reference;
@@ -204,7 +206,8 @@ parameters_about c online figure unit reference b codes.Available other told is 
     }) o).body ≡ bodies.Status other told → ⊥
     by None h = search (arith, h)
     by (Some u) h = search (arith, h)
-parameters_about c online figure unit reference b codes.Online other told is = absurd (by (unit_fault (unit_found c.units unit)) is)
+parameters_about c online figure unit reference b codes.Online other told is = absurd (by (unit_fault
+    (unit_found c.units unit)) is)
   where
     by : (o : Option ℕ) → (own_end_with c online figure (record {
       reference = reference;
@@ -213,7 +216,8 @@ parameters_about c online figure unit reference b codes.Online other told is = a
     }) o).body ≡ bodies.Status other told → ⊥
     by None h = search (arith, h)
     by (Some u) h = search (arith, h)
-parameters_about c online figure unit reference b codes.SetUnit other told is = absurd (by (unit_fault (unit_found c.units unit)) is)
+parameters_about c online figure unit reference b codes.SetUnit other told is = absurd (by (unit_fault
+    (unit_found c.units unit)) is)
   where
     by : (o : Option ℕ) → (own_end_with c online figure (record {
       reference = reference;
@@ -328,7 +332,8 @@ queued_no_figure c command q other figure is = by command.order refl
     by orders.SetUnit e = search (arith, sym (ap (λ o. refused_body (endcode o)) e) ∙ is)
     by (orders.Move kind count block) e = moved kind (sym (ap (λ o. refused_body (endcode o)) e) ∙ is)
       where
-        moved : (kind : MoveKind) → refused_body (endcode (orders.Move kind count block)) ≡ bodies.Status other figure → ⊥
+        moved : (kind : MoveKind) → refused_body (endcode
+            (orders.Move kind count block)) ≡ bodies.Status other figure → ⊥
         moved kinds.Access h = search (arith, h)
         moved kinds.Erase h = search (arith, h)
         moved kinds.Compare h = search (arith, h)

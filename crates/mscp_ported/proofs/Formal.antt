@@ -29,7 +29,8 @@ placed : {X : Type 0} (f : ℕ → X) (o : Option ℕ) (x : X) → option_map f 
 placed f None x e = absurd (none-some x e)
 placed f (Some place) x e = (place, refl)
 
-found_unit : (units : List Shape) (n place : ℕ) → place_in units n ≡ Some place → (u : Shape) × (unit_found units n ≡ Some u)
+found_unit : (units : List Shape) (n place : ℕ) → place_in units n ≡ Some place
+    → (u : Shape) × (unit_found units n ≡ Some u)
 found_unit units n place e = elim (find_cases (λ u. Rattle.std.specs.Prelude.nat_eq u.number n) units) [
   | inl none ↦ absurd (none-some place
       (sym (position_none (λ u. Rattle.std.specs.Prelude.nat_eq u.number n) units none) ∙ e))

@@ -319,7 +319,8 @@ module _ {K : Type 0} (bytes : List ℕ) (done : Unit) (old new : Port K) (aw : 
                 apart true d z sole = absurd (some_none z [] (sym sole
                     ∙ ap (λ j. filter (is_numbered j) h.waiting) (sym (eqb-true n x.command.reference d)) ∙ nothing.1))
 
-        aborted_fits : (order : Order) → AllByRecursion (λ e. FitsIn (aw ++ bytes ∷ []) (left_with e (answer_by old new e)))
+        aborted_fits : (order : Order) → AllByRecursion (λ e. FitsIn (aw ++ bytes ∷ []) (left_with e
+            (answer_by old new e)))
             (option_to_list (option_map aborted_record (record_aborted First h.waiting order)))
         aborted_fits (orders.Abort m) = by (find (is_numbered m) h.waiting) refl
           where

@@ -95,7 +95,8 @@ module _ {K : Type 0} (picks : List Choice → ℕ → Type 0) (c : Settings) (c
       subst (λ x. 1 ≤ x) (sym (shown ∙ ap (figure_found c t) o.1)) (positive o.0 (waits_in t o.0 w.0))
     where
       positive : (x : ℕ) → Contains (waiting t) x → 1 ≤ figure c t x
-      positive x there = (subst (λ z. (x : ℕ) → Contains (waiting z) x ↔ (1 ≤ figure c z x)) (take_all (length t) t (search arith))
+      positive x there = (subst (λ z. (x : ℕ) → Contains (waiting z) x ↔ (1 ≤ figure c z x)) (take_all (length t) t
+          (search arith))
           (q.promise.positive (length t) (search arith)) x).0 there
 
   -- and it is small

@@ -94,7 +94,8 @@ module _ (n : ℕ) (k : Block) (d : Drive) (rs : List Record) (place : ℕ) (ins
           (filter (is_numbered n) (drop (place + 1) rs))) is) ∙ h.1)
 
   -- the one that waited ended
-  pub ended_none : (r : Record) (e : End) → filter (is_numbered n) rs ≡ r ∷ [] → is_numbered n (record_at rs place) ≡ true
+  pub ended_none : (r : Record) (e : End) → filter (is_numbered n) rs ≡ r ∷ []
+      → is_numbered n (record_at rs place) ≡ true
       → end_given k d (record_at rs place) ≡ Some e → filter (is_numbered n) (waiting_after k d rs place) ≡ []
   ended_none r e sole is given = after_none (Some e) given h.0 refl h.2
     where

@@ -128,7 +128,8 @@ module _ {K : Type 0} (picks : Picking K) (c : Settings) (picker : K)
                 × (accepted_by (WasRead bytes (Ok done)) a.0 ≡ text ∷ []) × (num text 0 4 ≡ e.number))
                 ⊎ (1 ≤ figure_on a.0 e.number)) (pending_said q.out.kind q.out.bytes.items)
                 (map pending_end x.0.brought)
-                (own_these q.out.kind q.out.bytes.items (q.accepted ∙ ap (λ b. b ∷ []) (sym (same_bytes q.message q.read.0 q.read.1)))
+                (own_these q.out.kind q.out.bytes.items (q.accepted
+                    ∙ ap (λ b. b ∷ []) (sym (same_bytes q.message q.read.0 q.read.1)))
                 (ap (λ b. num b 0 4) r.3.own.2 ∙ own_number bytes r.3.own.0 (bytes_small bytes reads.0)))
                 (pending_these (WasRead bytes (Ok done)) a.0 x.0.brought x.0.these);
             poll = λ b u e t. absurd (search (arith, sym none ∙ t.0));
@@ -155,7 +156,8 @@ module _ {K : Type 0} (picks : Picking K) (c : Settings) (picker : K)
       (fitting picks c picker keeps valid sizes before hardware credits controller start was made quiet a.0 calls reads
       a.1) (picks a.0.controller.picker) a.2.0
       (shaped picks c picker keeps valid before hardware credits controller start was made quiet a.0 calls a.1)
-  passes_on p (WasRead bytes (Ok done)) calls a asks reads never lives = read_passes p calls bytes done a asks reads lives
+  passes_on p (WasRead bytes (Ok done)) calls a asks reads never lives = read_passes p calls bytes done a asks reads
+      lives
   passes_on p (WasRead bytes (Err unasked)) calls a asks reads never lives =
       quiet_passes p (WasRead bytes (Err unasked)) calls a reads never lives refl (λ b u e. search (arith, e))
       (passive_grown p (WasRead bytes (Err unasked)) calls a tt lives)

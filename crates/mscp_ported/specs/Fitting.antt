@@ -23,8 +23,8 @@ pub record Fits (text message : List ℕ) : Type 0 where
   pub about : slice_index text 8 ≡ 0x82 → 16 ≤ length message → num text 12 4 ≡ num message 12 4
 
 -- the law of endcodes: a port was made over a controller, which had answered some calls before, has nothing of its
--- host's, and no unit without a block. Whoever calls the port, what it reads being bytes: an end of the controller's that
--- begins to go out fits the awaited message of its number
+-- host's, and no unit without a block. Whoever calls the port, what it reads being bytes: an end of the controller's
+-- that begins to go out fits the awaited message of its number
 abbrev pub PortsEndByOpcode : {K : Type 0} → Picking K → K → Type 0
 PortsEndByOpcode {K} picks picker =
     (c : Settings) (before : List Made) (controller : Holdings K) (hardware : Hardware) (credits : ℕ)
