@@ -151,21 +151,24 @@ owes_more asked cs x c new own few o = record {
 
 -- ---- the first claim is met
 
--- by an end that was heard, or not
-pub owes_less : (asked : List Asked) (c : Claim) (cs : List Claim) → Owes asked (c ∷ cs)
-    → Owes (without_by (is_of c.number) asked) cs
-owes_less asked c cs o =
-    let none : tally c.number cs ≡ 0 = few (tally c.number cs)
+-- no other has its number
+pub rest_apart : (asked : List Asked) (c : Claim) (cs : List Claim) → Owes asked (c ∷ cs)
+    → AllByRecursion (λ d. nat_eq d.number c.number ≡ false) cs
+rest_apart asked c cs o = others_apart c.number cs (few (tally c.number cs)
     (subst (λ b. cond b (1 + tally c.number cs) (tally c.number cs) ≤ 1) (eq-eqb c.number c.number refl)
-    (o.once c.number)) in
-    record {
-      known = left cs o.known.1 (others_apart c.number cs none);
-      once = λ n. less (nat_eq c.number n) (tally n cs) (o.once n);
-    }
+    (o.once c.number)))
   where
     few : (k : ℕ) → 1 + k ≤ 1 → k ≡ 0
     few k h = omega (arith, h)
 
+-- by an end that was heard, or not
+pub owes_less : (asked : List Asked) (c : Claim) (cs : List Claim) → Owes asked (c ∷ cs)
+    → Owes (without_by (is_of c.number) asked) cs
+owes_less asked c cs o = record {
+  known = left cs o.known.1 (rest_apart asked c cs o);
+  once = λ n. less (nat_eq c.number n) (tally n cs) (o.once n);
+}
+  where
     less : (b : Bool) (k : ℕ) → cond b (1 + k) k ≤ 1 → k ≤ 1
     less true k h = omega (arith, h)
     less false k h = h

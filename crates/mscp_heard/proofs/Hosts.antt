@@ -77,12 +77,12 @@ any_same n (x ∷ xs) = ap (λ b. nat_eq x.reference n || b) (any_same n xs)
 abbrev pub SameNumbers : PortAccount → Type 0
 SameNumbers p = map (λ a. a.reference) p.asked ≡ map (λ s. s.reference) p.account.outstanding
 
-unused : (p : PortAccount) (n : ℕ) → SameNumbers p → list_any (has_reference n) p.account.outstanding ≡ false
+pub unused : (p : PortAccount) (n : ℕ) → SameNumbers p → list_any (has_reference n) p.account.outstanding ≡ false
     → find (is_of n) p.asked ≡ None
 unused p n same e = none_any n p.asked (ap (list_any (λ r. nat_eq r n)) same
     ∙ sym (any_same n p.account.outstanding) ∙ e)
 
-not_doubled : (a : Account) (opcode n : ℕ) → refusal a opcode n ≡ None
+pub not_doubled : (a : Account) (opcode n : ℕ) → refusal a opcode n ≡ None
     → list_any (has_reference n) a.outstanding ≡ false
 not_doubled a opcode n e = grind (arith, none-some)
 

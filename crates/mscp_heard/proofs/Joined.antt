@@ -1,11 +1,9 @@
 -- What a host is owed after each deed at its port.
 use Rattle.mscp_ported.specs.Told.{said as all_said}
-use Rattle.std.proofs.Common.{◌≡◌, ◌≢◌, ◌∙◌, ◌+◌, ◌-◌, ◌*◌, ◌≤◌, ◌++◌, ◌∷◌, [], ℕ, zero, suc, Bool, true, false, cond, drop, filter, length, map, not, List, Some, inl, inr, refl, ap, sym, subst, arith, append_assoc}
-use Rattle.std.specs.Prelude.{◌%◌, ◌/◌, Result, Ok, Err, find, slice_get, slice_index}
+use Rattle.std.proofs.Common.{◌≡◌, ◌≢◌, ◌∙◌, ◌-◌, ◌≤◌, ◌++◌, ◌∷◌, [], ℕ, suc, Bool, true, false, cond, drop, filter, length, map, not, List, Some, inl, inr, refl, ap, sym, subst, arith}
+use Rattle.std.specs.Prelude.{◌%◌, Result, Ok, Err, find, slice_get, slice_index}
 use Rattle.std.specs.List.{AllByRecursion}
-use Rattle.std.proofs.lemmas.Grind.{flat_map-append}
-use Rattle.std.proofs.lemmas.List.Elements.{filter-append}
-use Rattle.std.proofs.lemmas.List.{append-nil, length-append, length-map}
+use Rattle.std.proofs.lemmas.List.{append-nil, length-map}
 use Rattle.std.proofs.lemmas.Option.{none-some, same_Some}
 use Rattle.mscp_packet.specs.Number.{num}
 use Rattle.mscp_packet.specs.Ends.{kind_of_code}
@@ -20,10 +18,10 @@ use Rattle.mscp_host.specs.declared.heard.Heard.{Heard}
 use Rattle.mscp_host.specs.declared.message.HearFault.{HearFault}
 use Rattle.mscp_host.specs.declared.message.Message.TheVariants as messages
 use Rattle.mscp_host.specs.declared.news.Poll.TheVariants as polls
-use Rattle.mscp_host.specs.Histories.{History, outstanding, submission_at}
+use Rattle.mscp_host.specs.Histories.{outstanding, submission_at}
 use Rattle.mscp_host.specs.Messages.{envelope_in, message_in}
 use Rattle.mscp_host.specs.PortAccounts.{PortAccount, fresh_of_port, is_of, is_too_much}
-use Rattle.mscp_host.specs.PortHistories.{Ask, Hear, Other, PortAnswered, PortAnswers, PortHistory, PortMoment, Resume, Submit, asked_at, seen}
+use Rattle.mscp_host.specs.PortHistories.{Ask, Hear, Other, PortAnswered, PortAnswers, PortHistory, PortMoment, Resume, Submit, seen}
 use Rattle.mscp_host.specs.PortLaw.{PortHostsKeepTheirHistory}
 use Rattle.mscp_port.specs.declared.hardware.Hardware.{Hardware}
 use Rattle.mscp_port.specs.declared.port.OutgoingKind.{OutgoingKind}
@@ -31,18 +29,20 @@ use Rattle.mscp_port.specs.declared.port.OutgoingKind.TheVariants as kinds
 use Rattle.mscp_port.specs.declared.port.Port.{Port}
 use Rattle.mscp_port.specs.Calls.{IsMadeOf}
 use Rattle.mscp_port.specs.Departures.{begins}
-use Rattle.mscp_port.specs.Histories.{Answered, Call, Picking, WasRead, Went, WriteIp}
+use Rattle.mscp_port.specs.Histories.{Answered, Call, Picking, WasRead, WriteIp}
 use Rattle.mscp_ported.specs.Answers.{own_answer, volume_named, PortsAnswerAsTheyMay, is_for_utilities, kind_answered}
 use Rattle.mscp_ported.specs.Awaited.{IsWhole, Deals, IsAnswering, IsTaking, PortsEndWhatTheyTook, ReadsBytes, awaited, bytes_in, has_number, taken_by, without_ends}
 use Rattle.mscp_ported.specs.Ends.{ends_said_by}
-use Rattle.mscp_ported.specs.Talk.{AsksAlways, Message as Read_one, Opened, Packet, Read, Slot, Talk, Turn, is_dead, since, talk_of}
-use Rattle.mscp_ported.specs.Told.{AreAccepted, PortsHearInOrder, PortsOpenWhatTheyAccept, PortsTellInOrder, Said, TellAll, Tells, accepted, accepted_by, connection_told, credits_in, held, left_after, message_text, said, said_in}
-use Rattle.mscp_heard.specs.Deeds.{AreJoined, Called, Deed, Did, HasNumber, HaveNumbers, HearsInOrder, IsNextText, IsPacket, IsTextOf, ReadsInOrder, calls_in, did, hearings, is_hearing, sent, sent_by}
+use Rattle.mscp_ported.specs.Talk.{AsksAlways, Opened, Packet, Slot, Talk, is_dead, talk_of}
+use Rattle.mscp_ported.specs.Told.{PortsHearInOrder, PortsOpenWhatTheyAccept, PortsTellInOrder, accepted, accepted_by, connection_told, held, said, said_in}
+use Rattle.mscp_heard.specs.Deeds.{AreJoined, Called, Deed, Did, HasNumber, HaveNumbers, HearsInOrder, IsNextText, Likeness, IsPacket, IsTextOf, ReadsInOrder, calls_in, did, hearings, is_hearing, sent, sent_by}
 use Rattle.mscp_heard.specs.Hearing.{HearsItsOwn}
-use Rattle.mscp_heard.proofs.Claims.{Claim, IsOwed, Owes, claim_of, claim_said, claims, claims_said, moved_in, owes_less, owes_more, owes_rest}
-use Rattle.mscp_heard.proofs.Hosts.{hears_refused, SameNumbers, Sends, Settles, hear_settles, hears_too_much, poll_sends, poll_still, submit_refused, submit_sends}
-use Rattle.mscp_heard.proofs.Moving.{drop_at, drop_beside}
-use Rattle.mscp_heard.proofs.Packets.{IsMessage, IsRead, end_heard, message_read}
+use Rattle.mscp_heard.proofs.Moments.{answered_last, asked_before, heard_last, reads_before, same_numbers, sent_last}
+use Rattle.mscp_heard.proofs.Sending.{by_hearing, by_message, heard_own}
+use Rattle.mscp_heard.proofs.Telling.{IsHeard, counted, few_credits, first_part, size_of, tell_at}
+use Rattle.mscp_heard.proofs.Hosts.{hears_refused, SameNumbers, hear_settles, hears_too_much, poll_sends, poll_still, submit_refused, submit_sends}
+use Rattle.mscp_heard.proofs.Moving.{drop_at}
+use Rattle.mscp_heard.proofs.Packets.{IsMessage, IsRead, message_read}
 use Rattle.mscp_heard.proofs.Owing.{Inv, IsCoded, same_ok, inv_as, since_alive, moved_few, own_number, own_bytes, own_whole, small_number, by_news, by_end, by_text, by_answer, one_more, begun_one}
 
 module _ {K : Type 0} (picks : Picking K) (c : Settings) (picker : K) (ends : PortsEndWhatTheyTook picks picker)
@@ -51,42 +51,29 @@ module _ {K : Type 0} (picks : Picking K) (c : Settings) (picker : K) (ends : Po
     (before : List Made) (controller : Holdings K) (hardware : Hardware) (credits : ℕ) (start : Port K)
     (valid : IsValid c) (was : AnsweredCalls (picks picker) (fresh c picker) before controller)
     (quiet : outstanding_of First controller ≡ []) (made : IsMadeOf hardware credits controller start) where
-  asked_before : (call : Call) (calls : List Call) → AsksAlways (call ∷ calls) → AsksAlways calls
-  asked_before (WasRead bytes (Ok done)) calls asks = asks.1
-  asked_before (Went outcome (Ok done)) calls asks = asks.1
-  asked_before call calls asks = asks
-
-  reads_before : (call : Call) (calls : List Call) → ReadsBytes (call ∷ calls) → ReadsBytes calls
-  reads_before (WasRead bytes result) calls reads = reads.1
-  reads_before call calls reads = reads
-
-  abbrev State : (p : Port K) (calls : List Call) → Answered picks start calls p → List Asked → PortHistory → Type 0
+  abbrev pub State : (p : Port K) (calls : List Call) → Answered picks start calls p → List Asked → PortHistory → Type 0
   State p calls a asked h = Inv asked (said picks start p calls a) (hearings h) (awaited picks start p calls a)
       (sent h)
       (length (accepted picks start p calls a))
 
   -- a message that is accepted is the next one that was sent
-  record IsNext (text : List ℕ) (header : ℕ) (ms : List (List ℕ)) (n : ℕ) : Type 0 where
-    disks : is_for_utilities header ≡ false
-    message : List ℕ
-    at : slice_get ms n ≡ Some message
-    is : IsTextOf text message
+  pub record IsNext (Like : Likeness) (text : List ℕ) (header : ℕ) (ms : List (List ℕ)) (n : ℕ) : Type 0 where
+    pub disks : is_for_utilities header ≡ false
+    pub message : List ℕ
+    pub at : slice_get ms n ≡ Some message
+    pub is : Like text message
 
-  counted : (t : Talk) (texts : List (List ℕ)) (slot : Slot) (header : ℕ) → t.turn ≡ Opened slot header
-      → AreAccepted t.heard t.turn texts → length t.heard ≡ length texts
-  counted t texts slot header opened (inl e) = sym (ap length e ∙ length-map t.heard message_text)
-  counted t texts slot header opened (inr r) = absurd (search (arith, sym opened ∙ r.3))
-
-  next_of : (p : Port K) (calls : List Call) (bytes : List ℕ) (done : Unit) (ms : List (List ℕ)) (slot : Slot)
+  pub next_of : (Like : Likeness) (p : Port K) (calls : List Call) (bytes : List ℕ) (done : Unit) (ms : List
+      (List ℕ)) (slot : Slot)
       (header : ℕ) → AsksAlways (WasRead bytes (Ok done) ∷ calls)
       → (a : Answered picks start (WasRead bytes (Ok done) ∷ calls) p)
       → (talk_of picks start a.0 calls a.1).turn ≡ Opened slot header
-      → ReadsInOrder (WasRead bytes (Ok done)) (talk_of picks start a.0 calls a.1) ms
-      → IsNext bytes header ms (length (accepted picks start a.0 calls a.1))
-  next_of p calls bytes done ms slot header asks a opened reads =
+      → ReadsInOrder Like (WasRead bytes (Ok done)) (talk_of picks start a.0 calls a.1) ms
+      → IsNext Like bytes header ms (length (accepted picks start a.0 calls a.1))
+  next_of Like p calls bytes done ms slot header asks a opened reads =
       let t = talk_of picks start a.0 calls a.1 in
-      let r : IsNextText (Opened slot header) (length t.heard) ms bytes =
-      subst (λ x. IsNextText x (length t.heard) ms bytes) opened reads in
+      let r : IsNextText Like (Opened slot header) (length t.heard) ms bytes =
+      subst (λ x. IsNextText Like x (length t.heard) ms bytes) opened reads in
       let same = counted t (accepted picks start a.0 calls a.1) slot header opened
       (hear hardware credits controller start a.0 calls made asks.1 a.1).0 in
       record {
@@ -98,14 +85,14 @@ module _ {K : Type 0} (picks : Picking K) (c : Settings) (picker : K) (ends : Po
 
   module _ (p : Port K) (calls : List Call) (asked : List Asked) (h : PortHistory) where
     takes_it : (call : Call) (a : Answered picks start (call ∷ calls) p) → AsksAlways (call ∷ calls)
-        → ReadsInOrder call (talk_of picks start a.0 calls a.1) (sent h) → IsTaking call a.0 p
+        → ReadsInOrder IsTextOf call (talk_of picks start a.0 calls a.1) (sent h) → IsTaking call a.0 p
         → State a.0 calls a.1 asked h
         → Inv asked (said picks start a.0 calls a.1) (hearings h)
         (awaited picks start a.0 calls a.1 ++ taken_by call a.0) (sent h)
         (length (accepted picks start a.0 calls a.1 ++ accepted_by call a.0))
     takes_it (WasRead bytes (Ok done)) a asks reads d i =
         let o = open_so hardware credits controller start p calls bytes done d.message [] made asks a d.accepted in
-        let x = next_of p calls bytes done (sent h) o.0 o.1 asks a o.2 reads in
+        let x = next_of IsTextOf p calls bytes done (sent h) o.0 o.1 asks a o.2 reads in
         let same : bytes ≡ d.message = ap bytes_read d.read.1 in
         inv_as asked (said picks start a.0 calls a.1) (said picks start a.0 calls a.1) (hearings h)
         (awaited picks start a.0 calls a.1 ++ taken_by (WasRead bytes (Ok done)) a.0)
@@ -124,14 +111,14 @@ module _ {K : Type 0} (picks : Picking K) (c : Settings) (picker : K) (ends : Po
     takes_it call a asks reads d i = absurd (search (arith, d.read.1))
 
     answers_it : (call : Call) (a : Answered picks start (call ∷ calls) p) → AsksAlways (call ∷ calls)
-        → ReadsBytes (call ∷ calls) → ReadsInOrder call (talk_of picks start a.0 calls a.1) (sent h)
+        → ReadsBytes (call ∷ calls) → ReadsInOrder IsTextOf call (talk_of picks start a.0 calls a.1) (sent h)
         → (d : IsAnswering call a.0 p) → State a.0 calls a.1 asked h
         → Inv asked (said picks start a.0 calls a.1 ++ said_in d.out ∷ []) (hearings h)
         (awaited picks start a.0 calls a.1) (sent h)
         (length (accepted picks start a.0 calls a.1 ++ accepted_by call a.0))
     answers_it (WasRead bytes (Ok done)) a asks small reads d i =
         let r = answer_so hardware credits controller start p calls bytes done d.out made asks a d.nothing d.begun in
-        let x = next_of p calls bytes done (sent h) r.0 r.1 asks a r.2 reads in
+        let x = next_of IsTextOf p calls bytes done (sent h) r.0 r.1 asks a r.2 reads in
         let own = r.3.own in
         let kind : d.out.kind ≡ kinds.End = r.3.kind ∙ ap kind_answered x.disks in
         inv_as asked (said picks start a.0 calls a.1 ++ said_in d.out ∷ [])
@@ -151,7 +138,7 @@ module _ {K : Type 0} (picks : Picking K) (c : Settings) (picker : K) (ends : Po
     answers_it call a asks small reads d i = absurd (search (arith, d.read.1))
 
     deals_so : (call : Call) (a : Answered picks start (call ∷ calls) p) → AsksAlways (call ∷ calls)
-        → ReadsBytes (call ∷ calls) → ReadsInOrder call (talk_of picks start a.0 calls a.1) (sent h)
+        → ReadsBytes (call ∷ calls) → ReadsInOrder IsTextOf call (talk_of picks start a.0 calls a.1) (sent h)
         → Deals (awaited picks start a.0 calls a.1) call a.0 p → State a.0 calls a.1 asked h
         → Inv asked (said picks start a.0 calls a.1 ++ map said_in (begins a.0.outgoing p.outgoing)) (hearings h)
         (without_ends (ends_said_by call a.0 p) (awaited picks start a.0 calls a.1) ++ taken_by call a.0) (sent h)
@@ -215,7 +202,8 @@ module _ {K : Type 0} (picks : Picking K) (c : Settings) (picker : K) (ends : Po
 
     -- behind a call that is no write of IP
     pub called : (call : Call) (a : Answered picks start (call ∷ calls) p) → AsksAlways (call ∷ calls)
-        → ReadsBytes (call ∷ calls) → ReadsInOrder call (talk_of picks start a.0 calls a.1) (sent h) → call ≢ WriteIp
+        → ReadsBytes (call ∷ calls) → ReadsInOrder IsTextOf call (talk_of picks start a.0 calls a.1) (sent h)
+            → call ≢ WriteIp
         → is_dead p.stage ≡ false → (is_dead a.0.stage ≡ false → State a.0 calls a.1 asked h)
         → State p (call ∷ calls) a asked h
     called call a asks small reads never lives get =
@@ -228,154 +216,10 @@ module _ {K : Type 0} (picks : Picking K) (c : Settings) (picker : K) (ends : Po
         (ap length (since_alive p.stage call _ _ never lives))
         (deals_so call a asks small reads d.1 (get d.0))
 
-  -- ---- what the host does
-
-  module _ (asked : List Asked) (ss : List Said) (k : ℕ) (aw ms : List (List ℕ)) (n : ℕ) (i : Inv asked ss k aw ms n)
-    where
-      -- it sends a message
-      by_message : (old new : PortAccount) (m : List ℕ) → old.asked ≡ asked → Sends old new m
-          → Inv new.asked ss k aw (ms ++ m ∷ []) n
-      by_message old new m same s =
-          let longer : claims (drop k ss) aw (drop n (ms ++ m ∷ []))
-          ≡ claims (drop k ss) aw (drop n ms) ++ claim_of m ∷ [] =
-          ap (λ xs. claims (drop k ss) aw xs) (drop_beside n ms m i.read)
-          ∙ ap (λ xs. claims_said (drop k ss) ++ (map claim_of aw ++ xs))
-          (Rattle.std.proofs.lemmas.List.map-append claim_of (drop n ms) (m ∷ []))
-          ∙ ap (λ xs. claims_said (drop k ss) ++ xs)
-          (sym (append_assoc (map claim_of aw) (map claim_of (drop n ms)) (claim_of m ∷ [])))
-          ∙ sym (append_assoc (claims_said (drop k ss)) (map claim_of aw
-          ++ map claim_of (drop n ms)) (claim_of m ∷ [])) in
-          record {
-            owes = subst (λ xs. Owes xs (claims (drop k ss) aw (drop n (ms ++ m ∷ []))))
-                (sym (s.asked ∙ ap (λ xs. xs ++ s.more ∷ []) same))
-                (subst (λ cs. Owes (asked ++ s.more ∷ []) cs) (sym longer)
-                (owes_more asked (claims (drop k ss) aw (drop n ms)) s.more (claim_of m)
-                (ap (find (is_of (num m 0 4))) (sym same) ∙ s.new_number) s.number s.bytes i.owes));
-            heard = i.heard;
-            read = search (arith, i.read, length-append ms (m ∷ []));
-            news = i.news;
-          }
-
-      -- it hears what was said next
-      by_hearing : (s : Said) (v : Envelope) (b : List ℕ) (new : List Asked) → slice_get ss k ≡ Some s
-          → b ≡ s.text → v.connection ≡ connection_told s.kind → Settles asked new (message_in v b)
-          → Inv new ss (suc k) aw ms n
-      by_hearing s v b new at text connection settles =
-          let d = drop_at k ss s at in
-          let whole : claims (drop k ss) aw (drop n ms)
-          ≡ claim_said s.kind s.text ++ claims (drop (suc k) ss) aw (drop n ms) =
-          ap (λ us. claims us aw (drop n ms)) d.0
-          ∙ append_assoc (claim_said s.kind s.text) (claims_said (drop (suc k) ss)) (map claim_of aw
-          ++ map claim_of (drop n ms)) in
-          let news = subst (λ us. AllByRecursion IsCoded us) d.0 i.news in
-          record {
-            owes = by s.kind refl (subst (λ cs. Owes asked cs) whole i.owes) news.0 settles;
-            heard = d.1;
-            read = i.read;
-            news = news.1;
-          }
-        where
-          rest : List Claim
-          rest = claims (drop (suc k) ss) aw (drop n ms)
-
-          not_heard : (e : End) → s.kind ≡ kinds.Attention → slice_index s.text 8 ≡ 0x40
-              → message_in v b ≡ Ok (messages.End e) → ⊥
-          not_heard e kind code r =
-              let h = end_heard v b e r in search (arith, h.1, ap (λ x. slice_index x 8) text ∙ code)
-
-          not_disk : (e : End) → s.kind ≡ kinds.UtilitiesEnd → message_in v b ≡ Ok (messages.End e) → ⊥
-          not_disk e kind r =
-              let h = end_heard v b e r in search (arith, sym h.0 ∙ (connection ∙ ap connection_told kind))
-
-          by : (kind : OutgoingKind) → s.kind ≡ kind
-              → Owes asked (claim_said s.kind s.text ++ claims (drop (suc k) ss) aw (drop n ms)) → IsCoded s
-              → Settles asked new (message_in v b) → Owes new (claims (drop (suc k) ss) aw (drop n ms))
-          by kinds.Attention kind o code (inl same) = subst (λ xs. Owes xs (claims (drop (suc k) ss) aw (drop n ms)))
-              (sym same) (subst (λ x. Owes asked (claim_said x s.text
-              ++ claims (drop (suc k) ss) aw (drop n ms))) kind o)
-          by kinds.Attention kind o code (inr r) = absurd (not_heard r.0 kind (subst
-              (λ x. IsRead x s.text) kind code).0 r.1)
-          by kinds.UtilitiesEnd kind o code (inl same) = subst (λ xs. Owes xs (claims (drop (suc k) ss) aw
-              (drop n ms)))
-              (sym same) (subst (λ x. Owes asked (claim_said x s.text
-              ++ claims (drop (suc k) ss) aw (drop n ms))) kind o)
-          by kinds.UtilitiesEnd kind o code (inr r) = absurd (not_disk r.0 kind r.1)
-          by kinds.End kind o code (inl same) = subst (λ xs. Owes xs (claims (drop (suc k) ss) aw (drop n ms)))
-              (sym same) (owes_rest asked _ (claims (drop (suc k) ss) aw (drop n ms))
-              (subst (λ x. Owes asked (claim_said x s.text ++ claims (drop (suc k) ss) aw (drop n ms))) kind o))
-          by kinds.End kind o code (inr r) =
-              let h = end_heard v b r.0 r.1 in
-              let named : r.0.reference ≡ num s.text 0 4 = h.2 ∙ ap (λ x. num x 0 4) text in
-              subst (λ xs. Owes xs (claims (drop (suc k) ss) aw (drop n ms))) (sym r.2)
-              (subst (λ m. Owes (Rattle.mscp_host.specs.PortAccounts.without_by (is_of m) asked)
-              (claims (drop (suc k) ss) aw (drop n ms))) (sym named)
-              (owes_less asked _ (claims (drop (suc k) ss) aw (drop n ms))
-              (subst (λ x. Owes asked (claim_said x s.text ++ claims (drop (suc k) ss) aw (drop n ms))) kind o)))
-
-      -- and each end in it is that of a command
-      heard_own : (s : Said) (v : Envelope) (b : List ℕ) (e : End) → slice_get ss k ≡ Some s → b ≡ s.text
-          → v.connection ≡ connection_told s.kind → message_in v b ≡ Ok (messages.End e)
-          → (x : Asked) × (find (is_of e.reference) asked ≡ Some x) × (is_too_much e.body x.bytes ≡ false)
-      heard_own s v b e at text connection r =
-          let d = drop_at k ss s at in
-          let h = end_heard v b e r in
-          let news = subst (λ us. AllByRecursion IsCoded us) d.0 i.news in
-          by s.kind refl news.0 h
-          (subst (λ cs. AllByRecursion (IsOwed asked) cs) (ap (λ us. claims us aw (drop n ms)) d.0
-          ∙ append_assoc (claim_said s.kind s.text) (claims_said (drop (suc k) ss)) (map claim_of aw
-          ++ map claim_of (drop n ms)))
-          i.owes.known)
-        where
-          by : (kind : OutgoingKind) → s.kind ≡ kind → IsCoded s
-              → ((v.connection ≡ 0) × (0x80 ≤ slice_index b 8) × (e.reference ≡ num b 0 4)
-              × ((m : ℕ) → moved_in (kind_of_code (slice_index b 8)) (num b 12 4) ≤ m → is_too_much e.body m ≡ false))
-              → AllByRecursion (IsOwed asked) (claim_said s.kind s.text ++ claims (drop (suc k) ss) aw (drop n ms))
-              → (x : Asked) × (find (is_of e.reference) asked ≡ Some x) × (is_too_much e.body x.bytes ≡ false)
-          by kinds.Attention kind code h all =
-              absurd (search (arith, h.1, ap (λ x. slice_index x 8) text ∙ (subst (λ x. IsRead x s.text) kind code).0))
-          by kinds.UtilitiesEnd kind code h all =
-              absurd (search (arith, sym h.0 ∙ (connection ∙ ap connection_told kind)))
-          by kinds.End kind code h all =
-              let mine = (subst (λ x. AllByRecursion (IsOwed asked)
-              (claim_said x s.text ++ claims (drop (suc k) ss) aw (drop n ms))) kind all).0 in (
-                mine.0,
-                ap (λ m. find (is_of m) asked) (h.2 ∙ ap (λ x. num x 0 4) text) ∙ mine.1,
-                h.3 mine.0.bytes (subst (λ x. moved_in (kind_of_code (slice_index x 8)) (num x 12 4) ≤ mine.0.bytes)
-                    (sym text) mine.2),
-              )
-
   -- ---- what was told
 
-  tell_at : (left : ℕ) (told : List Packet) (gone : List Said) (k : ℕ) (packet : Packet) → TellAll left told gone
-      → slice_get told k ≡ Some packet → (s : Said) × (rest : ℕ) × (slice_get gone k ≡ Some s) × Tells rest packet s
-  tell_at left [] gone k packet t e = absurd (none-some packet e)
-  tell_at left (x ∷ told) [] k packet t e = absurd t
-  tell_at left (x ∷ told) (s ∷ gone) zero packet t e =
-      (s, left, refl, subst (λ y. Tells left y s) (same_Some x packet e) t.0)
-  tell_at left (x ∷ told) (s ∷ gone) (suc k) packet t e = tell_at (left_after left s.kind) told gone k packet t.1 e
-
-  first_part : (xs ys : List Said) (k : ℕ) (s : Said) → slice_get xs k ≡ Some s → slice_get (xs ++ ys) k ≡ Some s
-  first_part [] ys k s e = absurd (none-some s e)
-  first_part (x ∷ xs) ys zero s e = e
-  first_part (x ∷ xs) ys (suc k) s e = first_part xs ys k s e
-
-  size_of : (n : ℕ) → 0 + n % 256 * 1 + n / 256 % 256 * 256 ≡ n % 0x1_0000
-  size_of n = omega arith
-
-  few_credits : (left : ℕ) (kind : OutgoingKind) → credits_in left kind / 16 ≡ 0
-  few_credits left kinds.Attention = refl
-  few_credits left kinds.End = omega arith
-  few_credits left kinds.UtilitiesEnd = refl
-
-  record IsHeard (ss : List Said) (k : ℕ) (v : Envelope) (b : List ℕ) : Type 0 where
-    said : Said
-    at : slice_get ss k ≡ Some said
-    text : b ≡ said.text
-    connection : v.connection ≡ connection_told said.kind
-    size : v.length ≡ length said.text % 0x1_0000
-    kind : v.kind ≡ 0
-
-  hears_said : (p : Port K) (calls : List Call) (a : Answered picks start calls p) (k : ℕ) (v : Envelope) (b : List ℕ)
+  pub hears_said : (p : Port K) (calls : List Call) (a : Answered picks start calls p) (k : ℕ) (v : Envelope)
+      (b : List ℕ)
       (packet : Packet) → AsksAlways calls → slice_get (talk_of picks start p calls a).told k ≡ Some packet
       → IsPacket packet v b → IsHeard (all_said picks start p calls a) k v b
   hears_said p calls a k v b packet asks at is =
@@ -393,37 +237,7 @@ module _ {K : Type 0} (picks : Picking K) (c : Settings) (picker : K) (ends : Po
             ∙ few_credits x.1 x.0.kind;
       }
 
-  -- ---- lists of moments
-
-  answered_last : (old new : PortAccount) (h : PortHistory) (m : PortMoment) → PortAnswered old (h ++ m ∷ []) new
-      → (mid : PortAccount) × PortAnswered old h mid × PortAnswers mid m new
-  answered_last old new [] m r =
-      (old, refl, subst (λ x. PortAnswers old m x) (sym r.2) r.1)
-  answered_last old new (x ∷ h) m r =
-      let rest = answered_last r.0 new h m r.2 in (rest.0, (r.0, r.1, rest.1), rest.2)
-
-  heard_last : (h : PortHistory) (m : PortMoment)
-      → hearings (h ++ m ∷ []) ≡ cond (is_hearing m) (suc (hearings h)) (hearings h)
-  heard_last h m = ap length (filter-append is_hearing h (m ∷ []))
-      ∙ length-append (filter is_hearing h) (filter is_hearing (m ∷ []))
-      ∙ by (is_hearing m) (length (filter is_hearing h))
-    where
-      by : (b : Bool) (n : ℕ) → n + length (cond b (m ∷ []) []) ≡ cond b (suc n) n
-      by true n = omega arith
-      by false n = omega arith
-
-  sent_last : (h : PortHistory) (m : PortMoment) → sent (h ++ m ∷ []) ≡ sent h ++ sent_by m
-  sent_last h m = flat_map-append sent_by h (m ∷ []) ∙ ap (λ xs. sent h ++ xs) (append-nil (sent_by m))
-
-  same_numbers : (hist : History) (j : ℕ) (xs : List ℕ)
-      → map (λ (x : Asked). x.reference) (map (asked_at hist) xs)
-      ≡ map (λ (x : Rattle.mscp_host.specs.declared.submission.Submission.Submission). x.reference) (map
-      (submission_at hist j) xs)
-  same_numbers hist j [] = refl
-  same_numbers hist j (x ∷ xs) = ap (λ ys. Rattle.mscp_host.specs.Histories.reference hist x ∷ ys)
-      (same_numbers hist j xs)
-
-  numbered : (h : PortHistory) (host : PortAccount) → PortAnswered fresh_of_port h host → SameNumbers host
+  pub numbered : (h : PortHistory) (host : PortAccount) → PortAnswered fresh_of_port h host → SameNumbers host
   numbered h host r =
       let k = history h host r in
       let hist = map seen h in
@@ -490,7 +304,7 @@ module _ {K : Type 0} (picks : Picking K) (c : Settings) (picker : K) (ends : Po
 
   -- and so it is after all deeds
   pub owed : (p : Port K) (deeds : List Deed) → AsksAlways (calls_in deeds) → ReadsBytes (calls_in deeds)
-      → HaveNumbers deeds → (a : Answered picks start (calls_in deeds) p) → AreJoined picks start p deeds a
+      → HaveNumbers deeds → (a : Answered picks start (calls_in deeds) p) → AreJoined IsTextOf picks start p deeds a
       → is_dead p.stage ≡ false → (host : PortAccount) → PortAnswered fresh_of_port (did deeds) host
       → State p (calls_in deeds) a host.asked (did deeds)
   owed p [] asks small numbers a joined lives host r = record {
@@ -517,7 +331,7 @@ module _ {K : Type 0} (picks : Picking K) (c : Settings) (picker : K) (ends : Po
   -- ---- the law
 
   -- a dead port has told nothing
-  none_told : (p : Port K) (calls : List Call) (a : Answered picks start calls p) (k : ℕ) (packet : Packet)
+  pub none_told : (p : Port K) (calls : List Call) (a : Answered picks start calls p) (k : ℕ) (packet : Packet)
       → slice_get (talk_of picks start p calls a).told k ≡ Some packet → is_dead p.stage ≡ false
   none_told p [] a k packet e = absurd (none-some packet e)
   none_told p (call ∷ calls) a k packet e = by (is_dead p.stage) refl e
@@ -532,7 +346,7 @@ module _ {K : Type 0} (picks : Picking K) (c : Settings) (picker : K) (ends : Po
   pub hears_own : (p : Port K) (deeds : List Deed) (old new : PortAccount) (v : Envelope) (b : List ℕ)
       (answer : Result Heard HearFault) → AsksAlways (calls_in deeds) → ReadsBytes (calls_in deeds)
       → HaveNumbers deeds → (a : Answered picks start (calls_in deeds) p)
-      → AreJoined picks start p (Did (Hear v b answer) ∷ deeds) a → PortAnswered fresh_of_port (did deeds) old
+      → AreJoined IsTextOf picks start p (Did (Hear v b answer) ∷ deeds) a → PortAnswered fresh_of_port (did deeds) old
       → PortAnswers old (Hear v b answer) new → HearsItsOwn old v b answer
   hears_own p deeds old new v b answer asks small numbers a joined answered r =
       let lives = none_told p (calls_in deeds) a (hearings (did deeds)) joined.0.0 joined.0.1 in
@@ -546,7 +360,8 @@ module _ {K : Type 0} (picks : Picking K) (c : Settings) (picker : K) (ends : Po
       let d = drop_at (hearings (did deeds)) (all_said picks start p (calls_in deeds) a) x.said
       x.at in
       let read : IsRead x.said.kind x.said.text = (subst (λ us. AllByRecursion IsCoded us) d.0 i.news).0 in
-      let message : IsMessage (message_in v b) = subst (λ t. IsMessage (message_in v t)) (sym x.text)
+      let message : IsMessage x.said.kind (message_in v b) = subst (λ t. IsMessage x.said.kind (message_in v t))
+      (sym x.text)
       (message_read x.said.kind x.said.text v read
       (x.size ∙ small_size (length x.said.text) (read_short x.said.kind x.said.text read))
       (x.connection ∙ read_disk x.said.kind x.said.text read) x.kind) in

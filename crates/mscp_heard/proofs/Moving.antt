@@ -52,7 +52,7 @@ same_head : (x y : List ℕ) (xs : List (List ℕ)) → x ∷ xs ≡ y ∷ [] �
 same_head x y xs e = search (arith, e)
 
 -- taken out, what is claimed for it is claimed once more
-tally_one : (n m : ℕ) (ts : List (List ℕ)) (t : List ℕ) → filter (has_number n) ts ≡ t ∷ []
+pub tally_one : (n m : ℕ) (ts : List (List ℕ)) (t : List ℕ) → filter (has_number n) ts ≡ t ∷ []
     → tally m (map claim_of ts)
     ≡ tally m (claim_of t ∷ []) + tally m (map claim_of (filter (λ x. not (has_number n x)) ts))
 tally_one n m [] t e = absurd (search (arith, e))

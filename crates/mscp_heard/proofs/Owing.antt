@@ -75,7 +75,7 @@ own_bytes b own = by own.tells_bytes
     by false = refl
 
 -- what the port answers is whole
-abbrev moves_opcode : ℕ → Bool
+abbrev pub moves_opcode : ℕ → Bool
 moves_opcode n = n == 16 || n == 18 || n == 32 || n == 33 || n == 34
 
 formal_none : (opcode : ℕ) (k : BodyKind) → asks_nothing opcode ≡ true → kind_of_code (opcode + 0x80) ≡ Some k → ⊥

@@ -8,6 +8,7 @@ use Rattle.mscp_packet.specs.Ends.{body_at, end_at, end_length, kind_of_code, re
 use Rattle.mscp_packet.specs.declared.end.BodyKind.{BodyKind}
 use Rattle.mscp_packet.specs.declared.end.BodyKind.TheVariants as bodykinds
 use Rattle.mscp_packet.specs.declared.end.End.{End}
+use Rattle.mscp_packet.specs.declared.end.EndBody.TheVariants as bodies
 use Rattle.mscp_packet.specs.declared.reading.EndFault.TheVariants as endfaults
 use Rattle.mscp_host.specs.declared.envelope.Envelope.{Envelope}
 use Rattle.mscp_host.specs.declared.message.HearFault.{HearFault}
@@ -29,6 +30,9 @@ pub record IsEndIn (e : End) (t : List ℕ) : Type 0 where
   pub reference : e.reference ≡ num t 0 4
   pub moved : (n : ℕ) → moved_in (kind_of_code (slice_index t 8)) (num t 12 4) ≤ n → is_too_much e.body n ≡ false
   pub whole : kind_of_code (slice_index t 8) ≡ Some bodykinds.Moved → 32 ≤ length t
+  pub code : e.code ≡ slice_index t 8
+  pub told : (other figure : ℕ) → e.body ≡ bodies.Status other figure
+      → (other ≡ num t 12 4) × (figure ≡ num t 16 4) × (20 ≤ length t)
 
 abbrev message_or : Result Message HearFault → End → End
 message_or (Ok (messages.End e)) other = e
@@ -53,6 +57,16 @@ module _ (t : List ℕ) (e : End) (long : 12 ≤ length t) (top : 0x80 ≤ slice
   body_few bodykinds.Controller n h = refl
   body_few bodykinds.Online n h = refl
 
+  tells : (k : BodyKind) (other figure : ℕ) → body_at k t ≡ bodies.Status other figure → end_length k ≤ length t
+      → (other ≡ num t 12 4) × (figure ≡ num t 16 4) × (20 ≤ length t)
+  tells bodykinds.Status other figure e long = search (arith, e, long)
+  tells bodykinds.Moved other figure e long = absurd (search (arith, e))
+  tells bodykinds.Bare other figure e long = absurd (search (arith, e))
+  tells bodykinds.Abort other figure e long = absurd (search (arith, e))
+  tells bodykinds.UnitStatus other figure e long = absurd (search (arith, e))
+  tells bodykinds.Controller other figure e long = absurd (search (arith, e))
+  tells bodykinds.Online other figure e long = absurd (search (arith, e))
+
   read_with : (k : Option BodyKind) → kind_of_code (slice_index t 8) ≡ k
       → any_end t (reading_with k t) ≡ Ok (messages.End e) → IsEndIn e t
   read_with None is h =
@@ -63,6 +77,8 @@ module _ (t : List ℕ) (e : End) (long : 12 ≤ length t) (top : 0x80 ≤ slice
         reference = ap (λ (x : End). x.reference) (sym same);
         moved = λ n few. subst (λ (x : End). is_too_much x.body n ≡ false) same refl;
         whole = λ m. search (arith, sym is ∙ m);
+        code = ap (λ (x : End). x.code) (sym same);
+        told = λ other figure body. absurd (search (arith, ap (λ (x : End). x.body) same ∙ body));
       }
   read_with (Some k) is h = by (nat_lt (length t) (end_length k)) refl h
     where
@@ -79,6 +95,9 @@ module _ (t : List ℕ) (e : End) (long : 12 ≤ length t) (top : 0x80 ≤ slice
                 (body_few k n (subst (λ o. moved_in o (num t 12 4) ≤ n) is few));
             whole = λ m. subst (λ (x : BodyKind). end_length x ≤ length t)
                 (Rattle.std.proofs.lemmas.Option.same_Some k bodykinds.Moved (sym is ∙ m))
+                (not_less (length t) (end_length k) is_long);
+            code = ap (λ (x : End). x.code) (sym same);
+            told = λ other figure body. tells k other figure (ap (λ (x : End). x.body) same ∙ body)
                 (not_less (length t) (end_length k) is_long);
           }
 
@@ -144,14 +163,8 @@ end_heard v b e h = by (nat_lt (length b) v.length) (nat_eq v.connection 0) refl
         λ i low. taken_byte v.length b i (search (arith, low, x.long)) in
         let code = at 8 (search arith) in
         let number : num (take v.length b) 0 4 ≡ num b 0 4 =
-        ap (λ y. 0 + y * 1 + slice_index (take v.length b) 1 * 256 + slice_index (take v.length b) 2 * 65536
-        + slice_index (take v.length b) 3 * 16777216) (at 0 (search arith))
-        ∙ ap (λ y. 0 + slice_index b 0 * 1 + y * 256 + slice_index (take v.length b) 2 * 65536
-        + slice_index (take v.length b) 3 * 16777216) (at 1 (search arith))
-        ∙ ap (λ y. 0 + slice_index b 0 * 1 + slice_index b 1 * 256 + y * 65536
-        + slice_index (take v.length b) 3 * 16777216) (at 2 (search arith))
-        ∙ ap (λ y. 0 + slice_index b 0 * 1 + slice_index b 1 * 256 + slice_index b 2 * 65536 + y * 16777216)
-        (at 3 (search arith)) in (
+        (λ j. 0 + at 0 (search arith) j * 1 + at 1 (search arith) j * 256 + at 2 (search arith) j * 65536
+        + at 3 (search arith) j * 16777216) in (
           disk,
           subst (λ y. 0x80 ≤ y) code x.top,
           x.reference ∙ number,
@@ -167,14 +180,8 @@ end_heard v b e h = by (nat_lt (length b) v.length) (nat_eq v.connection 0) refl
             let at : (i : ℕ) → i < 32 → slice_index (take v.length b) i ≡ slice_index b i =
             λ i low. taken_byte v.length b i (search (arith, low, long)) in
             let same : num (take v.length b) 12 4 ≡ num b 12 4 =
-            ap (λ y. 0 + y * 1 + slice_index (take v.length b) 13 * 256 + slice_index (take v.length b) 14 * 65536
-            + slice_index (take v.length b) 15 * 16777216) (at 12 (search arith))
-            ∙ ap (λ y. 0 + slice_index b 12 * 1 + y * 256 + slice_index (take v.length b) 14 * 65536
-            + slice_index (take v.length b) 15 * 16777216) (at 13 (search arith))
-            ∙ ap (λ y. 0 + slice_index b 12 * 1 + slice_index b 13 * 256 + y * 65536
-            + slice_index (take v.length b) 15 * 16777216) (at 14 (search arith))
-            ∙ ap (λ y. 0 + slice_index b 12 * 1 + slice_index b 13 * 256 + slice_index b 14 * 65536 + y * 16777216)
-            (at 15 (search arith)) in
+            (λ j. 0 + at 12 (search arith) j * 1 + at 13 (search arith) j * 256 + at 14 (search arith) j * 65536
+            + at 15 (search arith) j * 16777216) in
             subst (λ y. moved_in (kind_of_code (slice_index (take v.length b) 8)) y ≤ n) (sym same) few
         counts k is n few = subst (λ o. moved_in o (num (take v.length b) 12 4) ≤ n) (sym is) (search arith)
 
@@ -189,6 +196,35 @@ end_heard v b e h = by (nat_lt (length b) v.length) (nat_eq v.connection 0) refl
     by false true is h = so (typed_so v.kind (take v.length b) e h)
         (Rattle.mscp_port.proofs.Common.eqb-true v.connection 0 is)
 
+-- its code, and if it is that of a poll, the command that it is about and the figure that it tells
+pub end_read : (v : Envelope) (b : List ℕ) (e : End) → message_in v b ≡ Ok (messages.End e)
+    → (e.code ≡ slice_index b 8) × ((other figure : ℕ) → e.body ≡ bodies.Status other figure
+    → (other ≡ num b 12 4) × (figure ≡ num b 16 4))
+end_read v b e h = by (nat_lt (length b) v.length) (nat_eq v.connection 0) h
+  where
+    so : IsEndIn e (take v.length b) → (e.code ≡ slice_index b 8) × ((other figure : ℕ)
+        → e.body ≡ bodies.Status other figure → (other ≡ num b 12 4) × (figure ≡ num b 16 4))
+    so x = (
+      x.code ∙ taken_byte v.length b 8 (search (arith, x.long)),
+      λ other figure body.
+          let y = x.told other figure body in
+          let at : (i : ℕ) → i < 20 → slice_index (take v.length b) i ≡ slice_index b i =
+          λ i low. taken_byte v.length b i (search (arith, low, y.2)) in (
+            y.0 ∙ (λ j. 0 + at 12 (search arith) j * 1 + at 13 (search arith) j * 256
+                + at 14 (search arith) j * 65536 + at 15 (search arith) j * 16777216),
+            y.1 ∙ (λ j. 0 + at 16 (search arith) j * 1 + at 17 (search arith) j * 256
+                + at 18 (search arith) j * 65536 + at 19 (search arith) j * 16777216),
+          ),
+    )
+
+    by : (a c : Bool) → cond a (Err faults.Cut) (cond (not c) (Err faults.Connection)
+        (typed_in v.kind (take v.length b))) ≡ Ok (messages.End e)
+        → (e.code ≡ slice_index b 8) × ((other figure : ℕ) → e.body ≡ bodies.Status other figure
+        → (other ≡ num b 12 4) × (figure ≡ num b 16 4))
+    by true c h = absurd (search (arith, h))
+    by false false h = absurd (search (arith, h))
+    by false true h = so (typed_so v.kind (take v.length b) e h)
+
 -- ---- what is read
 
 -- what a port tells of this kind is read as a message
@@ -197,57 +233,74 @@ IsRead kinds.Attention text = (slice_index text 8 ≡ 0x40) × (12 ≤ length te
 IsRead kinds.End text = IsWhole text
 IsRead kinds.UtilitiesEnd text = ⊥
 
-abbrev pub IsMessage : Result Message HearFault → Type 0
-IsMessage r = (m : Message) × (r ≡ Ok m)
+-- what is told as an end is read as one
+abbrev IsSo : OutgoingKind → Message → Type 0
+IsSo kinds.End (messages.End e) = Unit {0}
+IsSo kinds.End m = ⊥
+IsSo kind m = Unit {0}
+
+abbrev pub IsMessage : OutgoingKind → Result Message HearFault → Type 0
+IsMessage kind r = (m : Message) × (r ≡ Ok m) × IsSo kind m
 
 at_least : (n m : ℕ) → n ≤ m → nat_le n m ≡ true
 at_least n m h = search (arith, h)
 
-whole_so : (t : List ℕ) → IsWhole t → IsMessage (sequential_in t)
+whole_so : (t : List ℕ) → IsWhole t → IsMessage kinds.End (sequential_in t)
 whole_so t w =
-    subst (λ b. IsMessage (cond b (Err faults.Unreadable) (cond (nat_le 0x80 (slice_index t 8)) (any_end t (end_in t))
+    subst (λ b. IsMessage kinds.End (cond b (Err faults.Unreadable) (cond (nat_le 0x80 (slice_index t 8)) (any_end t
+        (end_in t))
     (cond (nat_le 0x40 (slice_index t 8)) (Ok (messages.Attention (slice_index t 8) (num t 4 2)))
     (Err faults.Unreadable))))) (sym (not_more (length t) 12 w.long))
-    (subst (λ b. IsMessage (cond b (any_end t (end_in t))
+    (subst (λ b. IsMessage kinds.End (cond b (any_end t (end_in t))
     (cond (nat_le 0x40 (slice_index t 8)) (Ok (messages.Attention (slice_index t 8) (num t 4 2)))
     (Err faults.Unreadable)))) (sym (at_least 0x80 (slice_index t 8) w.top))
-    (subst (λ b. IsMessage (any_end t (cond (b && nat_le (length t) 64) (reading_with (kind_of_code
+    (subst (λ b. IsMessage kinds.End (any_end t (cond (b && nat_le (length t) 64) (reading_with (kind_of_code
     (slice_index t 8)) t)
     (Err endfaults.Length)))) (sym (at_least 12 (length t) w.long))
-    (subst (λ b. IsMessage (any_end t (cond b (reading_with (kind_of_code (slice_index t 8)) t)
+    (subst (λ b. IsMessage kinds.End (any_end t (cond b (reading_with (kind_of_code (slice_index t 8)) t)
     (Err endfaults.Length)))) (sym (at_least (length t) 64 w.short))
     (by (kind_of_code (slice_index t 8)) refl))))
   where
-    by : (k : Option BodyKind) → kind_of_code (slice_index t 8) ≡ k → IsMessage (any_end t (reading_with k t))
-    by None is = (messages.End (bare_end t), refl)
-    by (Some k) is = subst (λ b. IsMessage (any_end t (cond b (Err endfaults.Length) (Ok (end_at k t)))))
-        (sym (not_more (length t) (end_length k) (w.body k is))) (messages.End (end_at k t), refl)
+    by : (k : Option BodyKind) → kind_of_code (slice_index t 8) ≡ k → IsMessage kinds.End (any_end t (reading_with k t))
+    by None is = (messages.End (bare_end t), refl, tt)
+    by (Some k) is = subst (λ b. IsMessage kinds.End (any_end t (cond b (Err endfaults.Length) (Ok (end_at k t)))))
+        (sym (not_more (length t) (end_length k) (w.body k is))) (messages.End (end_at k t), refl, tt)
 
-news_so : (t : List ℕ) → slice_index t 8 ≡ 0x40 → 12 ≤ length t → IsMessage (sequential_in t)
+news_so : (t : List ℕ) → slice_index t 8 ≡ 0x40 → 12 ≤ length t → IsMessage kinds.Attention (sequential_in t)
 news_so t code long =
-    subst (λ b. IsMessage (cond b (Err faults.Unreadable) (cond (nat_le 0x80 (slice_index t 8)) (any_end t (end_in t))
+    subst (λ b. IsMessage kinds.Attention (cond b (Err faults.Unreadable) (cond (nat_le 0x80 (slice_index t 8))
+        (any_end t (end_in t))
     (cond (nat_le 0x40 (slice_index t 8)) (Ok (messages.Attention (slice_index t 8) (num t 4 2)))
     (Err faults.Unreadable))))) (sym (not_more (length t) 12 long))
-    (subst (λ c. IsMessage (cond (nat_le 0x80 c) (any_end t (end_in t))
+    (subst (λ c. IsMessage kinds.Attention (cond (nat_le 0x80 c) (any_end t (end_in t))
     (cond (nat_le 0x40 c) (Ok (messages.Attention (slice_index t 8) (num t 4 2)))
-    (Err faults.Unreadable)))) (sym code) (messages.Attention (slice_index t 8) (num t 4 2), refl))
+    (Err faults.Unreadable)))) (sym code) (messages.Attention (slice_index t 8) (num t 4 2), refl, tt))
 
-sequential_read : (kind : OutgoingKind) (t : List ℕ) → IsRead kind t → IsMessage (sequential_in t)
+sequential_read : (kind : OutgoingKind) (t : List ℕ) → IsRead kind t → IsMessage kind (sequential_in t)
 sequential_read kinds.Attention t r = news_so t r.0 r.1
 sequential_read kinds.End t r = whole_so t r
 sequential_read kinds.UtilitiesEnd t r = absurd r
 
 -- behind its envelope
 pub message_read : (kind : OutgoingKind) (t : List ℕ) (v : Envelope) → IsRead kind t → v.length ≡ length t
-    → v.connection ≡ 0 → v.kind ≡ 0 → IsMessage (message_in v t)
+    → v.connection ≡ 0 → v.kind ≡ 0 → IsMessage kind (message_in v t)
 message_read kind t v r size disk sequential =
-    subst (λ n. IsMessage (cond (nat_lt (length t) n) (Err faults.Cut)
+    subst (λ n. IsMessage kind (cond (nat_lt (length t) n) (Err faults.Cut)
     (cond (not (nat_eq v.connection 0)) (Err faults.Connection) (typed_in v.kind (take n t))))) (sym size)
-    (subst (λ b. IsMessage (cond b (Err faults.Cut)
+    (subst (λ b. IsMessage kind (cond b (Err faults.Cut)
     (cond (not (nat_eq v.connection 0)) (Err faults.Connection) (typed_in v.kind (take (length t) t)))))
     (sym (not_more (length t) (length t) (search arith)))
-    (subst (λ n. IsMessage (cond (not (nat_eq n 0)) (Err faults.Connection) (typed_in v.kind (take (length t) t))))
+    (subst (λ n. IsMessage kind (cond (not (nat_eq n 0)) (Err faults.Connection) (typed_in v.kind (take (length t) t))))
     (sym disk)
-    (subst (λ n. IsMessage (typed_in n (take (length t) t))) (sym sequential)
-    (subst (λ xs. IsMessage (sequential_in xs)) (sym (take_all (length t) t (search arith)))
+    (subst (λ n. IsMessage kind (typed_in n (take (length t) t))) (sym sequential)
+    (subst (λ xs. IsMessage kind (sequential_in xs)) (sym (take_all (length t) t (search arith)))
     (sequential_read kind t r)))))
+
+-- and an end as one
+pub is_end : (kind : OutgoingKind) (r : Result Message HearFault) → kind ≡ kinds.End → IsMessage kind r
+    → (e : End) × (r ≡ Ok (messages.End e))
+is_end kind r is x = by x.0 x.1 (subst (λ k. IsSo k x.0) is x.2)
+  where
+    by : (m : Message) → r ≡ Ok m → IsSo kinds.End m → (e : End) × (r ≡ Ok (messages.End e))
+    by (messages.End e) h so = (e, h)
+    by m h so = absurd so

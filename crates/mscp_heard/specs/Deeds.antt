@@ -1,7 +1,7 @@
 -- What is done at a port and by its host, and how one gets what the other has said: the port reads the host's messages
 -- in the order in which it sent them, and the host hears the port's packets in the order in which they were told (port:
 -- UQSSP, "Ring Entries", "Envelope Header").
-use Rattle.std.specs.Prelude.{◌≡◌, ◌<◌, ◌^◌, ◌++◌, ◌∷◌, [], ℕ, Bool, true, false, drop, filter, flat_map, length, slice_get, List, Some, Ok}
+use Rattle.std.specs.Prelude.{◌≡◌, ◌<◌, ◌≤◌, ◌^◌, ◌++◌, ◌∷◌, [], ℕ, Bool, true, false, drop, filter, flat_map, length, slice_get, slice_index, List, Some, Ok}
 use Rattle.mscp_packet.specs.Number.{num}
 use Rattle.mscp_host.specs.declared.envelope.Envelope.{Envelope}
 use Rattle.mscp_host.specs.declared.news.Poll.TheVariants as polls
@@ -42,22 +42,34 @@ sent_by m = []
 abbrev pub sent : PortHistory → List (List ℕ)
 sent h = flat_map sent_by h
 
--- a text in a host's memory is that of a message, as far as this goes: its reference number, whether it is a transfer,
--- and how many bytes that asks for. The driver writes the rest, as where its data are
+-- how a text in a host's memory has to be like the message whose text it is
+abbrev pub Likeness : Type 1
+Likeness = List ℕ → List ℕ → Type 0
+
+-- as far as this goes: its reference number, whether it is a transfer, and how many bytes that asks for. The driver
+-- writes the rest, as where its data are
 pub record IsTextOf (text message : List ℕ) : Type 0 where
   pub number : num text 0 4 ≡ num message 0 4
   pub bytes : bytes_in text ≡ bytes_in message
 
+-- or as far as this: its reference number, its opcode, and its first parameter: how many bytes a transfer asks for, or
+-- the number of the command that a poll is about. And it has all bytes of the message
+pub record IsCopyOf (text message : List ℕ) : Type 0 where
+  pub number : num text 0 4 ≡ num message 0 4
+  pub opcode : slice_index text 8 ≡ slice_index message 8
+  pub parameter : num text 12 4 ≡ num message 12 4
+  pub long : length message ≤ length text
+
 -- where a text is read, it is that of the message behind so many others, for the disks
-abbrev pub IsNextText : Turn → ℕ → List (List ℕ) → List ℕ → Type 0
-IsNextText (Opened slot header) n messages text = (is_for_utilities header ≡ false)
-    × ((message : List ℕ) × (slice_get messages n ≡ Some message) × IsTextOf text message)
-IsNextText turn n messages text = Unit {0}
+abbrev pub IsNextText : Likeness → Turn → ℕ → List (List ℕ) → List ℕ → Type 0
+IsNextText Like (Opened slot header) n messages text = (is_for_utilities header ≡ false)
+    × ((message : List ℕ) × (slice_get messages n ≡ Some message) × Like text message)
+IsNextText Like turn n messages text = Unit {0}
 
 -- behind those whose slots were given back
-abbrev pub ReadsInOrder : Call → Talk → List (List ℕ) → Type 0
-ReadsInOrder (WasRead bytes (Ok done)) t messages = IsNextText t.turn (length t.heard) messages bytes
-ReadsInOrder call t messages = Unit {0}
+abbrev pub ReadsInOrder : Likeness → Call → Talk → List (List ℕ) → Type 0
+ReadsInOrder Like (WasRead bytes (Ok done)) t messages = IsNextText Like t.turn (length t.heard) messages bytes
+ReadsInOrder Like call t messages = Unit {0}
 
 -- ---- packets
 
@@ -81,15 +93,15 @@ HearsInOrder m t n = Unit {0}
 
 -- ---- both
 
-abbrev pub AreJoined : {K : Type 0} (picks : Picking K) (start p : Port K) (deeds : List Deed)
+abbrev pub AreJoined : {K : Type 0} (Like : Likeness) (picks : Picking K) (start p : Port K) (deeds : List Deed)
     → Answered picks start (calls_in deeds) p → Type 0
-AreJoined picks start p [] a = Unit {0}
-AreJoined picks start p (Called call ∷ earlier) a =
-    ReadsInOrder call (talk_of picks start a.0 (calls_in earlier) a.1) (sent (did earlier))
-    × AreJoined picks start a.0 earlier a.1
-AreJoined picks start p (Did m ∷ earlier) a =
+AreJoined Like picks start p [] a = Unit {0}
+AreJoined Like picks start p (Called call ∷ earlier) a =
+    ReadsInOrder Like call (talk_of picks start a.0 (calls_in earlier) a.1) (sent (did earlier))
+    × AreJoined Like picks start a.0 earlier a.1
+AreJoined Like picks start p (Did m ∷ earlier) a =
     HearsInOrder m (talk_of picks start p (calls_in earlier) a) (hearings (did earlier))
-    × AreJoined picks start p earlier a
+    × AreJoined Like picks start p earlier a
 
 -- the numbers of what the host sends fit their type
 abbrev pub HasNumber : PortMoment → Type 0

@@ -1,5 +1,5 @@
 -- What a host hears through a port: the ends of its own commands.
-use Rattle.std.specs.Prelude.{◌≡◌, ◌≢◌, ◌∷◌, [], ℕ, false, find, List, Some, Result, Ok, Err}
+use Rattle.std.specs.Prelude.{◌≡◌, ◌≢◌, ◌<◌, ◌∷◌, [], ℕ, All, false, find, List, Some, Result, Ok, Err}
 use Rattle.mscp_packet.specs.declared.end.End.{End}
 use Rattle.mscp_drive.specs.Settings.{IsValid, Settings}
 use Rattle.mscp_drive.specs.declared.connection.Connection.TheVariants.{First}
@@ -20,8 +20,9 @@ use Rattle.mscp_port.specs.declared.port.Port.{Port}
 use Rattle.mscp_port.specs.Calls.{IsMadeOf}
 use Rattle.mscp_port.specs.Histories.{Answered, Picking}
 use Rattle.mscp_ported.specs.Awaited.{ReadsBytes}
+use Rattle.mscp_ported.specs.Passing.{ServesBetweenPolls}
 use Rattle.mscp_ported.specs.Talk.{AsksAlways}
-use Rattle.mscp_heard.specs.Deeds.{AreJoined, Deed, Did, HaveNumbers, calls_in, did}
+use Rattle.mscp_heard.specs.Deeds.{AreJoined, Deed, Did, HaveNumbers, IsCopyOf, IsTextOf, calls_in, did}
 
 -- what a host that kept this hears in an envelope and a text, and says of it
 pub record HearsItsOwn (old : PortAccount) (v : Envelope) (b : List ℕ) (answer : Result Heard HearFault) : Type 0 where
@@ -47,5 +48,37 @@ HostsHearTheirOwnEnds {K} picks picker =
     → AnsweredCalls (picks picker) (fresh c picker) before controller → outstanding_of First controller ≡ []
     → IsMadeOf hardware credits controller start → AsksAlways (calls_in deeds) → ReadsBytes (calls_in deeds)
     → HaveNumbers deeds → (a : Answered picks start (calls_in deeds) p)
-    → AreJoined picks start p (Did (Hear v b answer) ∷ deeds) a → PortAnswered fresh_of_port (did deeds) old
+    → AreJoined IsTextOf picks start p (Did (Hear v b answer) ∷ deeds) a → PortAnswered fresh_of_port (did deeds) old
     → PortAnswers old (Hear v b answer) new → HearsItsOwn old v b answer
+
+-- ---- nothing is refused
+
+-- the law of copies: of such a port, whose units have blocks: if each text that it reads has the opcode and the first
+-- parameter of its message, its host refuses nothing that it hears
+abbrev pub HostsRefuseNothing : {K : Type 0} → Picking K → K → Type 0
+HostsRefuseNothing {K} picks picker =
+    (c : Settings) (before : List Made) (controller : Holdings K) (hardware : Hardware) (credits : ℕ)
+    (start p : Port K) (deeds : List Deed) (old new : PortAccount) (v : Envelope) (b : List ℕ)
+    (answer : Result Heard HearFault) (fault : HearFault) → IsValid c → All (λ unit. 0 < unit.size) c.units
+    → AnsweredCalls (picks picker) (fresh c picker) before controller → outstanding_of First controller ≡ []
+    → IsMadeOf hardware credits controller start → AsksAlways (calls_in deeds) → ReadsBytes (calls_in deeds)
+    → HaveNumbers deeds → (a : Answered picks start (calls_in deeds) p)
+    → AreJoined IsCopyOf picks start p (Did (Hear v b answer) ∷ deeds) a → PortAnswered fresh_of_port (did deeds) old
+    → PortAnswers old (Hear v b answer) new → answer ≢ Err fault
+
+-- ---- no command is lost, and none begins anew
+
+-- the law of progress: of such a port and host: if between any two polls about one command, as the port's controller
+-- took them, a step of a command was told, or the command waits no more, its host hears neither that a command lost its
+-- figure nor that a figure didn't fall: neither Lost nor Reset
+abbrev pub HostsHearNoReset : {K : Type 0} → Picking K → K → Type 0
+HostsHearNoReset {K} picks picker =
+    (c : Settings) (before : List Made) (controller : Holdings K) (hardware : Hardware) (credits : ℕ)
+    (start p : Port K) (deeds : List Deed) (old new : PortAccount) (v : Envelope) (b : List ℕ)
+    (answer : Result Heard HearFault) → IsValid c → All (λ unit. 0 < unit.size) c.units
+    → AnsweredCalls (picks picker) (fresh c picker) before controller → outstanding_of First controller ≡ []
+    → IsMadeOf hardware credits controller start → AsksAlways (calls_in deeds) → ReadsBytes (calls_in deeds)
+    → HaveNumbers deeds → (a : Answered picks start (calls_in deeds) p)
+    → AreJoined IsCopyOf picks start p (Did (Hear v b answer) ∷ deeds) a
+    → ServesBetweenPolls picks start p (calls_in deeds) a → PortAnswered fresh_of_port (did deeds) old
+    → PortAnswers old (Hear v b answer) new → (answer ≢ Ok heards.Reset) × (answer ≢ Ok heards.Lost)

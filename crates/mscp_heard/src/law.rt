@@ -1,11 +1,12 @@
 // What is true of each host of a port.
 
-ghost use Rattle.mscp_heard.specs.Hearing.{HostsHearTheirOwnEnds};
+ghost use Rattle.mscp_heard.specs.Hearing.{HostsHearNoReset, HostsHearTheirOwnEnds, HostsRefuseNothing};
 
 use mscp_host::port_hosts_keep_their_history;
 use mscp_ported::{
-    ports_answer_as_they_may, ports_end_what_they_took, ports_hear_in_order,
-    ports_open_what_they_accept, ports_tell_in_order,
+    ports_answer_as_they_may, ports_end_by_opcode, ports_end_what_they_took, ports_hear_in_order,
+    ports_hold_what_is_awaited, ports_lower_figures, ports_open_what_they_accept,
+    ports_pass_ends_on, ports_tell_in_order,
 };
 use mscp_queue::Picker;
 
@@ -22,6 +23,40 @@ pub fn hosts_hear_their_own_ends<K: Picker>(picker: &K)
     ports_end_what_they_took(picker);
     ports_hear_in_order(picker);
     ports_open_what_they_accept(picker);
+    ports_tell_in_order(picker);
+    port_hosts_keep_their_history();
+}
+
+/// Such a host and port, whose units have blocks. If each text that the port reads is of its message by number, opcode and first
+/// parameter, and has all its bytes, the host refuses nothing: each end has the code of its command, or that of an unknown opcode,
+/// and the end of a poll is about the command that was polled.
+pub fn hosts_refuse_nothing<K: Picker>(picker: &K)
+    ensures { HostsRefuseNothing K.picks picker.now }
+{
+    ports_answer_as_they_may(picker);
+    ports_end_by_opcode(picker);
+    ports_end_what_they_took(picker);
+    ports_hear_in_order(picker);
+    ports_open_what_they_accept(picker);
+    ports_tell_in_order(picker);
+    port_hosts_keep_their_history();
+}
+
+/// Such a host and port. If between any two polls about one command, as the port's controller took them, a block was told, or the
+/// command waits no more, the host hears neither `Reset` nor `Lost`: each figure that it is told of a command is less than the one
+/// before, and none is 0. A controller that serves nothing between two polls has no lower figure to tell, and a host takes that
+/// for a reset.
+pub fn hosts_hear_no_reset<K: Picker>(picker: &K)
+    ensures { HostsHearNoReset K.picks picker.now }
+{
+    ports_answer_as_they_may(picker);
+    ports_end_by_opcode(picker);
+    ports_end_what_they_took(picker);
+    ports_hear_in_order(picker);
+    ports_hold_what_is_awaited(picker);
+    ports_lower_figures(picker);
+    ports_open_what_they_accept(picker);
+    ports_pass_ends_on(picker);
     ports_tell_in_order(picker);
     port_hosts_keep_their_history();
 }

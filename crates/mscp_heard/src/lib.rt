@@ -3,4 +3,4 @@
 
 mod law;
 
-pub use crate::law::hosts_hear_their_own_ends;
+pub use crate::law::{hosts_hear_no_reset, hosts_hear_their_own_ends, hosts_refuse_nothing};

@@ -213,14 +213,14 @@ poll_own v b e = by v
     by None = grind (arith, e)
     by (Some x) = grind (arith, e)
 
-poll_handed : (units : List Shape) (b : List ℕ) → slice_index b 8 ≡ 2 → text_handed units b ≡ b
+pub poll_handed : (units : List Shape) (b : List ℕ) → slice_index b 8 ≡ 2 → text_handed units b ≡ b
 poll_handed units b e = grind (arith, e)
 
 -- the command that a poll is
-abbrev polled : List ℕ → Command
+abbrev pub polled : List ℕ → Command
 polled b = record { reference = num b 0 4; unit = num b 4 2; order = orders.Status (num b 12 4) }
 
-poll_command : (b : List ℕ) → slice_index b 8 ≡ 2 → 16 ≤ length b → command_of b ≡ polled b
+pub poll_command : (b : List ℕ) → slice_index b 8 ≡ 2 → 16 ≤ length b → command_of b ≡ polled b
 unfolding command_of
 poll_command b e long = ap (λ o. record { reference = num b 0 4; unit = num b 4 2; order = o })
     (ap (λ n. order_with (opcode_of n) b) e ∙ by (nat_lt (length b) 16) (search (arith, long)))

@@ -167,19 +167,19 @@ module _ {K : Type 0} (h : Holdings K) (aw : List (List ℕ)) (bytes sent : List
   holds_not = ap (holds (outstanding_of First h)) (sym like.number)
       ∙ (taken_number (balance_of First h) (outstanding_of First h) sent new).1
 
-  nothing_there : IsNothing aw h.waiting (ends_of h) number
+  pub nothing_there : IsNothing aw h.waiting (ends_of h) number
   nothing_there = nothing_of aw h.waiting (ends_of h) number
       (none_passes (is_numbered number) h.waiting (none_waits h number holds_not))
       (none_ended number (ends_of h) (search (arith, list_any-append, or_parts, holds_not))) (at number)
 
-  is_it : (r : Record) → r.connection ≡ First → r.command.reference ≡ number → is_numbered number r ≡ true
+  pub is_it : (r : Record) → r.connection ≡ First → r.command.reference ≡ number → is_numbered number r ≡ true
   is_it r first named = search (
     arith,
     is_same (name_of r) (name_on First number)
         (search (arith, first, named)),
   )
 
-  others : (r : Record) → r.command.reference ≡ number → (n : ℕ) → nat_eq number n ≡ false → is_numbered n r ≡ false
+  pub others : (r : Record) → r.command.reference ≡ number → (n : ℕ) → nat_eq number n ≡ false → is_numbered n r ≡ false
   others r named n d = by (is_numbered n r) refl
     where
       by : (c : Bool) → is_numbered n r ≡ c → c ≡ false

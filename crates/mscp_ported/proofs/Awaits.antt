@@ -78,7 +78,7 @@ module _ {K : Type 0} (bytes : List ℕ) (done : Unit) (old new : Port K) (aw : 
     sees : SeesText slot foreign bytes old new
     sees = (r.sees refl).text slot size foreign at
 
-    taken_is : taken_by (WasRead bytes (Ok done)) old
+    pub taken_is : taken_by (WasRead bytes (Ok done)) old
         ≡ cond (is_none (own_answer foreign (volume_named old bytes) bytes) && is_ok (answered_to old bytes))
         (bytes ∷ []) []
     taken_is = ap (λ t. cond (is_taken_text old bytes t) (bytes ∷ []) []) at
@@ -86,7 +86,8 @@ module _ {K : Type 0} (bytes : List ℕ) (done : Unit) (old new : Port K) (aw : 
         && is_ok (answer_to_message First old.controller b)) (bytes ∷ []) [])
         (sym (handed_so old.controller.settings.units bytes))
 
-    none_taken : (is_none (own_answer foreign (volume_named old bytes) bytes) && is_ok (answered_to old bytes)) ≡ false
+    pub none_taken : (is_none (own_answer foreign (volume_named old bytes) bytes) && is_ok
+        (answered_to old bytes)) ≡ false
         → taken_by (WasRead bytes (Ok done)) old ≡ []
     none_taken e = taken_is ∙ ap (λ b. cond b (bytes ∷ []) []) e
 
@@ -235,7 +236,7 @@ module _ {K : Type 0} (picks : List _ → ℕ → Type 0) (outcome : Outcome) (d
           (ap (λ (q : Port K). q.controller.waiting) h) (ap (λ (q : Port K). ends_of q.controller) h) dead_on
       by (Some name) e h = took name e h.finished.0 h.finished.1
 
-  begun_stage : (verdict : Verdict) → TakesBegun picks verdict old new → new.stage ≡ old.stage
+  pub begun_stage : (verdict : Verdict) → TakesBegun picks verdict old new → new.stage ≡ old.stage
   begun_stage verdict takes = by old.controller.begun takes
     where
       by : (o : Option Name) → MatchOption o (new ≡ record old { task = tasks.Free })

@@ -1,5 +1,4 @@
 -- What each call of a port deals with.
-use Rattle.mscp_port.specs.Leaving.{attention}
 use Rattle.mscp_port.specs.Volumes.{volume_at}
 use Rattle.std.proofs.Common.{◌≡◌, ◌≢◌, ◌⊎◌, ◌∙◌, ◌^◌, ◌<◌, ◌≤◌, ◌&&◌, ◌++◌, ◌∷◌, [], ℕ, Bool, true, false, cond, drop, filter, not, List, Option, None, Some, inl, inr, refl, ap, sym, subst, arith}
 use Rattle.std.specs.Prelude.{Result, Ok, Err, find, is_none, is_ok, option_map, slice_get, slice_index}
@@ -27,7 +26,7 @@ use Rattle.mscp_port.specs.declared.volumes.Volume.{Volume}
 use Rattle.mscp_port.specs.Calls.{Hears, Wants}
 use Rattle.mscp_port.specs.Departures.{begins}
 use Rattle.mscp_port.specs.Histories.{Becomes, Call, Picking, WriteIp, ReadIp, WriteSa, Next, PutAside, WasRead, Went, LookAgain, Tick, VolumeCame, VolumeWent, Protect}
-use Rattle.mscp_port.specs.Leaving.{told_end}
+use Rattle.mscp_port.specs.Leaving.{attention, told_end}
 use Rattle.mscp_port.specs.Messages.{own_end_of}
 use Rattle.mscp_port.specs.Outgoings.{IsNews as TellsOf, MayBegin, TakesEnd, news_place}
 use Rattle.mscp_port.specs.Seen.{SeesText, answered_to}
@@ -231,7 +230,7 @@ module _ {K : Type 0} (bytes : List ℕ) (done : Unit) (old new : Port K) (aw : 
 
 -- ---- something is wanted
 
-one_of : {X : Type 0} (P : X → Type 0) (f : X → Bool) (xs : List X) (x : X) → AllByRecursion P xs
+pub one_of : {X : Type 0} (P : X → Type 0) (f : X → Bool) (xs : List X) (x : X) → AllByRecursion P xs
     → filter f xs ≡ x ∷ [] → P x × (f x ≡ true)
 one_of P f [] x all e = search (arith, e)
 one_of {X} P f (y ∷ ys) x all e = by (f y) refl e (λ h. one_of P f ys x all.1 h)
@@ -260,11 +259,11 @@ module _ {K : Type 0} (blocks : Bool) (action : Action) (bytes : List ℕ) (old 
   stage : new.stage ≡ old.stage
   stage = ap (λ (q : Port K). q.stage) r.frame
 
-  begun_same : (o : Option Outgoing) → ends_begun o o ≡ []
+  pub begun_same : (o : Option Outgoing) → ends_begun o o ≡ []
   begun_same None = refl
   begun_same (Some o) = refl
 
-  news_none : (volumes before : List Volume) (units : List Shape) (place : Option ℕ) (o : Option Outgoing)
+  pub news_none : (volumes before : List Volume) (units : List Shape) (place : Option ℕ) (o : Option Outgoing)
       → TellsOf units before place o volumes → ends_begun None o ≡ []
   news_none volumes before units place o n = grind (arith, none-some)
 
@@ -280,13 +279,13 @@ module _ {K : Type 0} (blocks : Bool) (action : Action) (bytes : List ℕ) (old 
     abbrev es : List End
     es = drop 1 (ends_of old.controller)
 
-    whole : ends_of old.controller ≡ e ∷ es
+    pub whole : ends_of old.controller ≡ e ∷ es
     whole = head_so (ends_of old.controller) e t.out.1
 
     at : AtEach aw old.controller.waiting (e ∷ es)
     at = subst (λ xs. AtEach aw old.controller.waiting xs) whole k.each
 
-    own : (text : List ℕ) × (filter (has_number e.reference) aw ≡ text ∷ []) × (counted_in e.body ≤ bytes_in text)
+    pub own : (text : List ℕ) × (filter (has_number e.reference) aw ≡ text ∷ []) × (counted_in e.body ≤ bytes_in text)
     own = end_awaited aw old.controller.waiting e es at
 
     small : e.reference < 2 ^ 32
@@ -294,10 +293,10 @@ module _ {K : Type 0} (blocks : Bool) (action : Action) (bytes : List ℕ) (old 
         let x = one_of IsSmall (has_number e.reference) aw own.0 k.small own.1 in
         subst (λ n. n < 2 ^ 32) (Rattle.mscp_port.proofs.Common.eqb-true (num own.0 0 4) e.reference x.1) x.0
 
-    named : num (told_end old e) 0 4 ≡ e.reference
+    pub named : num (told_end old e) 0 4 ≡ e.reference
     named = told_number old e small
 
-    begun : ends_begun old.outgoing new.outgoing ≡ told_end old e ∷ []
+    pub begun : ends_begun old.outgoing new.outgoing ≡ told_end old e ∷ []
     begun = ap (λ o. ends_begun o new.outgoing) t.nothing ∙ ap (ends_begun None) t.out.2
 
     taken_end : is_dead old.stage ≡ false → After_it

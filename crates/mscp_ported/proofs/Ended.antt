@@ -82,11 +82,11 @@ module _ {K : Type 0} (picks : Picking K) (old new : Port K) where
 
 -- ---- at the start
 
-nothing_two : {X : Type 0} (xs ys : List X) → xs ++ ys ≡ [] → (xs ≡ []) × (ys ≡ [])
+pub nothing_two : {X : Type 0} (xs ys : List X) → xs ++ ys ≡ [] → (xs ≡ []) × (ys ≡ [])
 nothing_two [] ys e = (refl, e)
 nothing_two (x ∷ xs) ys e = absurd (search (arith, e))
 
-no_ends : (es : List End) → numbers_ended es ≡ [] → es ≡ []
+pub no_ends : (es : List End) → numbers_ended es ≡ [] → es ≡ []
 no_ends [] e = refl
 no_ends (x ∷ es) e = absurd (search (arith, e))
 
@@ -94,7 +94,7 @@ none_waits : (rs : List Record) (n : ℕ) → waiting_on First rs ≡ [] → fil
 none_waits [] n e = refl
 none_waits (r ∷ rs) n e = search (arith, none_waits rs n)
 
-bytes_small : (b : List ℕ) → ((i : ℕ) → slice_index b i < 2 ^ 8) → IsSmall b
+pub bytes_small : (b : List ℕ) → ((i : ℕ) → slice_index b i < 2 ^ 8) → IsSmall b
 bytes_small b h = few (slice_index b 0) (slice_index b 1) (slice_index b 2) (slice_index b 3) (h 0) (h 1) (h 2) (h 3)
   where
     few : (x y z w : ℕ) → x < 2 ^ 8 → y < 2 ^ 8 → z < 2 ^ 8 → w < 2 ^ 8
@@ -111,7 +111,7 @@ module _ {K : Type 0} (picks : Picking K) (c : Settings) (picker : K)
     (was : AnsweredCalls (picks picker) (fresh c picker) before controller)
     (made : IsMadeOf hardware credits controller start) (quiet : outstanding_of First controller ≡ []) where
   -- each end that waits has the body of its endcode
-  shaped : (p : Port K) (calls : List Call) (a : Answered picks start calls p) (e : End)
+  pub shaped : (p : Port K) (calls : List Call) (a : Answered picks start calls p) (e : End)
       → slice_get (ends_of p.controller) 0 ≡ Some e → IsOfKind e
   unfolding untaken
   shaped p calls a e h =

@@ -23,14 +23,14 @@ zipped [] ds = []
 zipped (e ∷ es) [] = []
 zipped (e ∷ es) (d ∷ ds) = left_with e d ∷ zipped es ds
 
-zip_more : (es fs : List End) (ds gs : List Decided) → length es ≡ length ds
+pub zip_more : (es fs : List End) (ds gs : List Decided) → length es ≡ length ds
     → zipped (es ++ fs) (ds ++ gs) ≡ zipped es ds ++ zipped fs gs
 zip_more [] fs [] gs e = refl
 zip_more [] fs (d ∷ ds) gs e = search (arith, e)
 zip_more (x ∷ es) fs [] gs e = search (arith, e)
 zip_more (x ∷ es) fs (d ∷ ds) gs e = ap (λ xs. left_with x d ∷ xs) (zip_more es fs ds gs (search (arith, e)))
 
-zip_map : (f : End → Decided) (g : End → Leaving) (es : List End) → ((e : End) → left_with e (f e) ≡ g e)
+pub zip_map : (f : End → Decided) (g : End → Leaving) (es : List End) → ((e : End) → left_with e (f e) ≡ g e)
     → zipped es (map f es) ≡ map g es
 zip_map f g [] same = refl
 zip_map f g (e ∷ es) same = ap (λ l. l ∷ zipped es (map f es)) (same e) ∙ ap (λ xs. g e ∷ xs) (zip_map f g es same)

@@ -1,6 +1,7 @@
 -- What there is of each reference number: nothing; a message whose command waits; or one whose end waits.
 use Rattle.std.proofs.Common.{◌≡◌, ◌⊎◌, ◌∙◌, ◌≤◌, ◌++◌, ◌∷◌, [], ℕ, Bool, true, false, cond, filter, nat_eq, not, List, None, Some, inl, inr, refl, ap, sym, subst, arith}
 use Rattle.std.specs.Prelude.{find}
+use Rattle.std.proofs.lemmas.List.Elements.{filter-append}
 use Rattle.std.proofs.lemmas.List.{append-nil}
 use Rattle.mscp_packet.specs.Number.{num}
 use Rattle.mscp_packet.specs.declared.command.Order.{Order}
@@ -55,18 +56,8 @@ AtEach aw rs es = (n : ℕ) → At aw rs es n
 -- ---- filters
 
 module _ {X : Type 0} where
-  pub filter_beside : (f : X → Bool) (xs ys : List X) → filter f (xs ++ ys) ≡ filter f xs ++ filter f ys
-  filter_beside f [] ys = refl
-  filter_beside f (x ∷ xs) ys = by (f x) (filter_beside f xs ys)
-    where
-      by : (c : Bool) → filter f (xs ++ ys) ≡ filter f xs ++ filter f ys
-          → cond c (x ∷ filter f (xs ++ ys)) (filter f (xs ++ ys))
-          ≡ cond c (x ∷ filter f xs) (filter f xs) ++ filter f ys
-      by true rest = ap (λ zs. x ∷ zs) rest
-      by false rest = rest
-
   pub none_beside : (f : X → Bool) (xs : List X) (y : X) → f y ≡ false → filter f (xs ++ y ∷ []) ≡ filter f xs
-  none_beside f xs y e = filter_beside f xs (y ∷ [])
+  none_beside f xs y e = filter-append f xs (y ∷ [])
       ∙ ap (λ c. filter f xs ++ cond c (y ∷ []) []) e ∙ append-nil (filter f xs)
 
   pub none_stays : (f g : X → Bool) (xs : List X) → filter f xs ≡ [] → filter f (filter g xs) ≡ []
@@ -105,7 +96,7 @@ module _ {X : Type 0} where
   pub some_none : (x : X) (xs : List X) → x ∷ xs ≡ [] → ⊥
   some_none x xs e = search (arith, e)
 
-other_number : (n m : ℕ) → nat_eq m n ≡ false → (k : ℕ) → nat_eq k n ≡ true → not (nat_eq k m) ≡ true
+pub other_number : (n m : ℕ) → nat_eq m n ≡ false → (k : ℕ) → nat_eq k n ≡ true → not (nat_eq k m) ≡ true
 other_number n m d k e = by (nat_eq k m) refl
   where
     by : (c : Bool) → nat_eq k m ≡ c → not c ≡ true

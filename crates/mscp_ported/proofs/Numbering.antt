@@ -1,59 +1,28 @@
 -- What there is of each reference number after a step of a command, and after a message.
 use Rattle.std.proofs.Common.{◌≡◌, ◌∙◌, ◌+◌, ◌<◌, ◌≤◌, ◌++◌, ◌∷◌, [], ℕ, Bool, true, false, cond, drop, filter, length, map, nat_eq, not, take, List, Option, None, Some, inl, inr, refl, ap, sym, subst, arith}
 use Rattle.std.specs.Prelude.{find, option_map, option_to_list}
+use Rattle.std.proofs.lemmas.List.Elements.{filter-append}
 use Rattle.std.proofs.lemmas.List.{append-nil}
 use Rattle.std.proofs.lemmas.Option.{none-some, same_Some}
 use Rattle.mscp_packet.specs.Number.{num}
 use Rattle.mscp_packet.specs.declared.command.Command.{Command}
-use Rattle.mscp_packet.specs.declared.command.Order.{Order}
-use Rattle.mscp_packet.specs.declared.command.Order.TheVariants as orders
 use Rattle.mscp_packet.specs.declared.end.End.{End}
-use Rattle.mscp_packet.specs.Ends.{refused_body}
-use Rattle.mscp_drive.specs.Shape.{Shape}
 use Rattle.mscp_drive.specs.declared.block.Block.{Block}
 use Rattle.mscp_drive.specs.declared.connection.Connection.{Connection}
 use Rattle.mscp_drive.specs.declared.connection.Connection.TheVariants.{First, Second}
 use Rattle.mscp_queue.specs.declared.drive.Drive.{Drive}
 use Rattle.mscp_queue.specs.Names.{name_on}
-use Rattle.mscp_queue.specs.Orders.{endcode}
-use Rattle.mscp_queue.specs.Outcomes.{goes_on, moved_body, outcome_at, outcome_body}
-use Rattle.mscp_queue.specs.Records.{Record, aborted_record, advanced, left_of, no_record, passed_by, record_at, remains, step_charge, without}
+use Rattle.mscp_queue.specs.Records.{Record, aborted_record, advanced, no_record, passed_by, record_at, remains, step_charge, without}
 use Rattle.mscp_queue.specs.Serving.{end_given, waiting_after}
 use Rattle.mscp_port.proofs.Common.{drop_more, eq-eqb, eqb-true, false≢true, take-append-drop}
 use Rattle.mscp_port.proofs.Kept.{is_numbered}
 use Rattle.mscp_ported.specs.Awaited.{bytes_in, has_number}
 use Rattle.mscp_ported.proofs.Coming.{brought_for}
+use Rattle.mscp_ported.proofs.Counted.{given_few, moved_few}
 use Rattle.mscp_ported.proofs.Keeping.{end_number}
-use Rattle.mscp_ported.proofs.Numbered.{At, AtEach, IsNothing, Waits, asked_by, counted_in, ends_numbered, filter_beside, none_beside, none_found, none_of_it, none_stays, some_none}
+use Rattle.mscp_ported.proofs.Numbered.{At, AtEach, IsNothing, Waits, asked_by, counted_in, ends_numbered, none_beside, none_found, none_of_it, none_stays, some_none}
 use Rattle.mscp_ported.proofs.Owning.{apart_numbers, number_of}
 use Rattle.mscp_ported.proofs.Sole.{found_sole, served_goes_on, served_itself, served_other, sole_beside, sole_comes, sole_left, this_one}
-
--- ---- what an end counts
-
-no_bytes : (code : ℕ) → counted_in (refused_body code) ≡ 0
-no_bytes code = grind arith
-
-moved_few : (order : Order) (good n : ℕ) → asked_by order ≤ n → counted_in (moved_body order good) ≤ n
-moved_few (orders.Move kind count block) good n h = search (arith, h)
-moved_few order good n h = search (arith, no_bytes (endcode order))
-
-outcome_few : (shape : Shape) (status : ℕ) (order : Order) (good n : ℕ) → asked_by order ≤ n
-    → counted_in (outcome_body shape status order good) ≤ n
-outcome_few shape status orders.Online good n h = grind arith
-outcome_few shape status orders.SetUnit good n h = grind arith
-outcome_few shape status order good n h = moved_few order good n h
-
-given_few : (k : Block) (d : Drive) (r : Record) (e : End) (n : ℕ) → end_given k d r ≡ Some e
-    → asked_by r.command.order ≤ n → counted_in e.body ≤ n
-given_few k d r e n h few = by (goes_on d.online r.command.order k (left_of r)) h
-  where
-    own : End
-    own = outcome_at d.unit d.online r.command r.good k
-
-    by : (b : Bool) → cond b None (Some own) ≡ Some e → counted_in e.body ≤ n
-    by true h = absurd (none-some e h)
-    by false h = subst (λ (x : End). counted_in x.body ≤ n) (same_Some own e h)
-        (outcome_few d.unit _ r.command.order _ n few)
 
 -- ---- a step
 
@@ -80,7 +49,7 @@ module _ (n : ℕ) (k : Block) (d : Drive) (rs : List Record) (place : ℕ) (ins
       ++ filter (is_numbered n) (record_at rs place ∷ drop (place + 1) rs)
   split = ap (filter (is_numbered n)) (sym (take-append-drop place rs)
       ∙ ap (λ zs. take place rs ++ zs) (drop_more rs place no_record inside))
-      ∙ filter_beside (is_numbered n) (take place rs) (record_at rs place ∷ drop (place + 1) rs)
+      ∙ filter-append (is_numbered n) (take place rs) (record_at rs place ∷ drop (place + 1) rs)
 
   nothing_two : {X : Type 0} (xs ys : List X) → xs ++ ys ≡ [] → (xs ≡ []) × (ys ≡ [])
   nothing_two [] ys e = (refl, e)
@@ -93,11 +62,11 @@ module _ (n : ℕ) (k : Block) (d : Drive) (rs : List Record) (place : ℕ) (ins
   after_none o given a b c =
       ap (λ x. filter (is_numbered n) (map (passed_by (step_charge (record_at rs place))) (take place rs)
       ++ (remains (record_at rs place) x ++ drop (place + 1) rs))) given
-      ∙ filter_beside (is_numbered n) (map (passed_by (step_charge (record_at rs place))) (take place rs))
+      ∙ filter-append (is_numbered n) (map (passed_by (step_charge (record_at rs place))) (take place rs))
       (remains (record_at rs place) o ++ drop (place + 1) rs)
       ∙ ap (λ xs. xs ++ filter (is_numbered n) (remains (record_at rs place) o ++ drop (place + 1) rs))
       (passed_none (step_charge (record_at rs place)) (take place rs) a)
-      ∙ filter_beside (is_numbered n) (remains (record_at rs place) o) (drop (place + 1) rs)
+      ∙ filter-append (is_numbered n) (remains (record_at rs place) o) (drop (place + 1) rs)
       ∙ ap (λ xs. xs ++ filter (is_numbered n) (drop (place + 1) rs)) b ∙ c
 
   remains_none : (o : Option End) → is_numbered n (record_at rs place) ≡ false
@@ -106,7 +75,7 @@ module _ (n : ℕ) (k : Block) (d : Drive) (rs : List Record) (place : ℕ) (ins
   remains_none (Some x) e = refl
 
   -- none waited
-  still_none : filter (is_numbered n) rs ≡ [] → filter (is_numbered n) (waiting_after k d rs place) ≡ []
+  pub still_none : filter (is_numbered n) rs ≡ [] → filter (is_numbered n) (waiting_after k d rs place) ≡ []
   still_none e = by (is_numbered n (record_at rs place)) refl
     where
       h : (filter (is_numbered n) (take place rs) ≡ [])
@@ -125,7 +94,8 @@ module _ (n : ℕ) (k : Block) (d : Drive) (rs : List Record) (place : ℕ) (ins
           (filter (is_numbered n) (drop (place + 1) rs))) is) ∙ h.1)
 
   -- the one that waited ended
-  ended_none : (r : Record) (e : End) → filter (is_numbered n) rs ≡ r ∷ [] → is_numbered n (record_at rs place) ≡ true
+  pub ended_none : (r : Record) (e : End) → filter (is_numbered n) rs ≡ r ∷ []
+      → is_numbered n (record_at rs place) ≡ true
       → end_given k d (record_at rs place) ≡ Some e → filter (is_numbered n) (waiting_after k d rs place) ≡ []
   ended_none r e sole is given = after_none (Some e) given h.0 refl h.2
     where
@@ -135,6 +105,14 @@ module _ (n : ℕ) (k : Block) (d : Drive) (rs : List Record) (place : ℕ) (ins
           (ap (filter (is_numbered n)) (ap (λ zs. take place rs ++ zs) (sym (drop_more rs place no_record inside))
           ∙ take-append-drop place rs) ∙ sole) is
 
+  -- what is served waited
+  pub served_waits : is_numbered n (record_at rs place) ≡ true → filter (is_numbered n) rs ≡ [] → ⊥
+  served_waits is none = some_none (record_at rs place) (filter (is_numbered n) (drop (place + 1) rs))
+      (sym (ap (λ c. cond c (record_at rs place ∷ filter (is_numbered n) (drop (place + 1) rs))
+      (filter (is_numbered n) (drop (place + 1) rs))) is)
+      ∙ (nothing_two (filter (is_numbered n) (take place rs))
+      (filter (is_numbered n) (record_at rs place ∷ drop (place + 1) rs)) (sym split ∙ none)).1)
+
 -- an end of another number changes nothing
 other_end : (n : ℕ) (via : Connection) (o : Option End) (es : List End)
     → ((e : End) → o ≡ Some e → via ≡ First → nat_eq e.reference n ≡ false)
@@ -143,7 +121,7 @@ other_end n First (Some e) es other = none_beside (ends_numbered n) es e (other 
 other_end n First None es other = ap (filter (ends_numbered n)) (append-nil es)
 other_end n Second o es other = ap (filter (ends_numbered n)) (append-nil es)
 
-not_numbered : (n : ℕ) (r : Record) → is_numbered n r ≡ false → r.connection ≡ First
+pub not_numbered : (n : ℕ) (r : Record) → is_numbered n r ≡ false → r.connection ≡ First
     → nat_eq r.command.reference n ≡ false
 not_numbered n r e first = by (nat_eq r.command.reference n) refl
   where
@@ -220,27 +198,9 @@ step_serves k d aw rs es place inside at n = by (is_numbered n (record_at rs pla
       sole = apart is ∙ x.sole;
       fits = x.fits;
     }))
-    by true is (inl none) = absurd (it_is rs place inside is none.1)
-      where
-        it_is : (rs : List Record) (place : ℕ) → place < length rs → is_numbered n (record_at rs place) ≡ true
-            → filter (is_numbered n) rs ≡ [] → ⊥
-        it_is rs place inside is none = some_none (record_at rs place) (filter (is_numbered n) (drop (place + 1) rs))
-            (sym (ap (λ c. cond c (record_at rs place ∷ filter (is_numbered n) (drop (place + 1) rs))
-            (filter (is_numbered n) (drop (place + 1) rs))) is)
-            ∙ (nothing_two n k d rs place inside (filter (is_numbered n) (take place rs))
-            (filter (is_numbered n) (record_at rs place ∷ drop (place + 1) rs))
-            (sym (split n k d rs place inside) ∙ none)).1)
+    by true is (inl none) = absurd (served_waits n k d rs place inside is none.1)
     by true is (inr (inl w)) = served w is o refl
-    by true is (inr (inr x)) = absurd (it_is rs place inside is x.none)
-      where
-        it_is : (rs : List Record) (place : ℕ) → place < length rs → is_numbered n (record_at rs place) ≡ true
-            → filter (is_numbered n) rs ≡ [] → ⊥
-        it_is rs place inside is none = some_none (record_at rs place) (filter (is_numbered n) (drop (place + 1) rs))
-            (sym (ap (λ c. cond c (record_at rs place ∷ filter (is_numbered n) (drop (place + 1) rs))
-            (filter (is_numbered n) (drop (place + 1) rs))) is)
-            ∙ (nothing_two n k d rs place inside (filter (is_numbered n) (take place rs))
-            (filter (is_numbered n) (record_at rs place ∷ drop (place + 1) rs))
-            (sym (split n k d rs place inside) ∙ none)).1)
+    by true is (inr (inr x)) = absurd (served_waits n k d rs place inside is x.none)
 
 -- ---- an abort
 

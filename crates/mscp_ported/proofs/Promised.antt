@@ -28,7 +28,7 @@ picker_kept picks old (Finish via reference k (Ok report)) new r =
     (owner_kept picks old new (events.Step k) (entries.Stepped report) r.1).1
 picker_kept {K} picks old (Finish via reference k (Err not_begun)) new r = ap (λ (h : Holdings K). h.picker) r.1
 
-pickers_kept : {K : Type 0} (picks : List Choice → ℕ → Type 0) (old : Holdings K) (calls : List Made)
+pub pickers_kept : {K : Type 0} (picks : List Choice → ℕ → Type 0) (old : Holdings K) (calls : List Made)
     (new : Holdings K) → AnsweredCalls picks old calls new → new.picker ≡ old.picker
 pickers_kept {K} picks old [] new a = ap (λ (h : Holdings K). h.picker) a
 pickers_kept picks old (call ∷ calls) new a =

@@ -1,5 +1,5 @@
 -- The one command of a number that waits, by each step.
-use Rattle.std.proofs.lemmas.List.Elements.{All-head, All-tail}
+use Rattle.std.proofs.lemmas.List.Elements.{All-head, All-tail, filter-append}
 use Rattle.std.proofs.Common.{All, ◌≡◌, ◌⊎◌, ◌∙◌, ◌+◌, ◌<◌, ◌||◌, ◌++◌, ◌∷◌, [], ℕ, Bool, true, false, cond, drop, filter, length, map, take, List, Option, None, Some, inl, inr, refl, ap, sym, subst, arith}
 use Rattle.std.specs.Prelude.{find}
 use Rattle.std.specs.List.{list_any}
@@ -20,16 +20,6 @@ module _ {X : Type 0} where
   others_in [] = []
   others_in (x ∷ xs) = xs
 
-  filter_append : (f : X → Bool) (xs ys : List X) → filter f (xs ++ ys) ≡ filter f xs ++ filter f ys
-  filter_append f [] ys = refl
-  filter_append f (x ∷ xs) ys = by (f x) (filter_append f xs ys)
-    where
-      by : (c : Bool) → filter f (xs ++ ys) ≡ filter f xs ++ filter f ys
-          → cond c (x ∷ filter f (xs ++ ys)) (filter f (xs ++ ys))
-          ≡ cond c (x ∷ filter f xs) (filter f xs) ++ filter f ys
-      by true rest = ap (λ zs. x ∷ zs) rest
-      by false rest = rest
-
   nothing : (xs ys : List X) → xs ++ ys ≡ [] → (xs ≡ []) × (ys ≡ [])
   nothing [] ys e = (refl, e)
   nothing (x ∷ xs) ys e = search (arith, e)
@@ -44,7 +34,7 @@ module _ {X : Type 0} where
   -- the one that passes is this, or another
   pub this_one : (f : X → Bool) (xs ys : List X) (y r : X) → filter f (xs ++ y ∷ ys) ≡ r ∷ [] → f y ≡ true
       → (filter f xs ≡ []) × (y ≡ r) × (filter f ys ≡ [])
-  this_one f xs ys y r e is = by (split (filter f xs) (filter f (y ∷ ys)) r (sym (filter_append f xs (y ∷ ys)) ∙ e))
+  this_one f xs ys y r e is = by (split (filter f xs) (filter f (y ∷ ys)) r (sym (filter-append f xs (y ∷ ys)) ∙ e))
     where
       here : filter f (y ∷ ys) ≡ y ∷ filter f ys
       here = ap (λ c. cond c (y ∷ filter f ys) (filter f ys)) is
@@ -59,7 +49,7 @@ module _ {X : Type 0} where
       → ((filter f xs ≡ r ∷ []) × (filter f ys ≡ [])) ⊎ ((filter f xs ≡ []) × (filter f ys ≡ r ∷ []))
   other_one f xs ys y r e not_it = split (filter f xs) (filter f ys) r
       (ap (λ zs. filter f xs ++ zs) (sym (ap (λ c. cond c (y ∷ filter f ys) (filter f ys)) not_it))
-      ∙ sym (filter_append f xs (y ∷ ys)) ∙ e)
+      ∙ sym (filter-append f xs (y ∷ ys)) ∙ e)
 
   -- it is found
   pub found_sole : (f : X → Bool) (xs : List X) (r : X) → filter f xs ≡ r ∷ [] → find f xs ≡ Some r
@@ -93,12 +83,12 @@ module _ {X : Type 0} where
   -- one more that doesn't pass, or does
   pub sole_beside : (f : X → Bool) (xs : List X) (y r : X) → filter f xs ≡ r ∷ [] → f y ≡ false
       → filter f (xs ++ y ∷ []) ≡ r ∷ []
-  sole_beside f xs y r e is = filter_append f xs (y ∷ []) ∙ ap (λ zs. zs ++ filter f (y ∷ [])) e
+  sole_beside f xs y r e is = filter-append f xs (y ∷ []) ∙ ap (λ zs. zs ++ filter f (y ∷ [])) e
       ∙ ap (λ c. r ∷ cond c (y ∷ []) []) is
 
   pub sole_comes : (f : X → Bool) (xs : List X) (y : X) → filter f xs ≡ [] → f y ≡ true
       → filter f (xs ++ y ∷ []) ≡ y ∷ []
-  sole_comes f xs y e is = filter_append f xs (y ∷ []) ∙ ap (λ zs. zs ++ filter f (y ∷ [])) e
+  sole_comes f xs y e is = filter-append f xs (y ∷ []) ∙ ap (λ zs. zs ++ filter f (y ∷ [])) e
       ∙ ap (λ c. cond c (y ∷ []) []) is
 
   -- what else is left out doesn't matter
@@ -169,12 +159,12 @@ module _ (n : ℕ) (k : Block) (d : Drive) (rs : List Record) (place : ℕ) (ins
       ++ (remains (record_at rs place) o ++ drop (place + 1) rs))
       ≡ map (passed_by (step_charge (record_at rs place))) (filter (is_numbered n) (take place rs))
       ++ (filter (is_numbered n) (remains (record_at rs place) o) ++ filter (is_numbered n) (drop (place + 1) rs))
-  after o = filter_append (is_numbered n) (map (passed_by (step_charge (record_at rs place))) (take place rs))
+  after o = filter-append (is_numbered n) (map (passed_by (step_charge (record_at rs place))) (take place rs))
       (remains (record_at rs place) o ++ drop (place + 1) rs)
       ∙ ap (λ zs. zs ++ filter (is_numbered n) (remains (record_at rs place) o ++ drop (place + 1) rs))
       (passed_filter n (step_charge (record_at rs place)) (take place rs))
       ∙ ap (λ zs. map (passed_by (step_charge (record_at rs place))) (filter (is_numbered n) (take place rs)) ++ zs)
-      (filter_append (is_numbered n) (remains (record_at rs place) o) (drop (place + 1) rs))
+      (filter-append (is_numbered n) (remains (record_at rs place) o) (drop (place + 1) rs))
 
   -- another one was served
   pub served_other : is_numbered n (record_at rs place) ≡ false

@@ -59,7 +59,7 @@ body_counts (bodies.Moved count) e d o h n shaped same few is =
     subst (λ b. num (end_bytes (record e { status = d.status; body = b })) 12 4 ≤ n) (sym same) (few_bytes count n few)
 body_counts body e d o h n shaped same few is = absurd (search (arith, sym shaped ∙ is))
 
-code_of : (body : EndBody) (e : End) (d : Decided) (o : Option Shape) (h : Hardware)
+pub code_of : (body : EndBody) (e : End) (d : Decided) (o : Option Shape) (h : Hardware)
     → slice_index (end_with_body body e d o h) 8 ≡ e.code
 code_of body e d o h = grind arith
 

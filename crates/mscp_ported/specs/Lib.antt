@@ -13,3 +13,6 @@ pub mod News
 pub mod Soon
 pub mod Transfers
 pub mod Awaited
+pub mod Figures
+pub mod Fitting
+pub mod Passing

@@ -3,11 +3,14 @@
 ghost use Rattle.mscp_ported.specs.Answers.{PortsAnswerAsTheyMay, PortsHandOverTheRest};
 ghost use Rattle.mscp_ported.specs.Awaited.{PortsEndWhatTheyTook};
 ghost use Rattle.mscp_ported.specs.Ends.{PortsSayWhatWasDecided};
+ghost use Rattle.mscp_ported.specs.Figures.{PortsLowerFigures};
+ghost use Rattle.mscp_ported.specs.Fitting.{PortsEndByOpcode};
 ghost use Rattle.mscp_ported.specs.Making.{PortsKeepThePromise};
 ghost use Rattle.mscp_ported.specs.Mounts.{PortsCountOnTheirVolumes, PortsMoveOnTheirVolumes};
 ghost use Rattle.mscp_ported.specs.Moved.{PortsMoveWhatTheySay};
 ghost use Rattle.mscp_ported.specs.News.{PortsAnnounceAvailableUnits};
 ghost use Rattle.mscp_ported.specs.Owed.{PortsDoWhatIsDue};
+ghost use Rattle.mscp_ported.specs.Passing.{PortsHoldWhatIsAwaited, PortsPassEndsOn};
 ghost use Rattle.mscp_ported.specs.Polls.{PortsAnswerPolls};
 ghost use Rattle.mscp_ported.specs.Soon.{PortsKeepTelling, PortsTellSoon};
 ghost use Rattle.mscp_ported.specs.Transfers.{PortsCountWhatTheyMoved, PortsCountWhatWasAborted, PortsMoveEachBlock};
@@ -200,4 +203,40 @@ pub fn ports_open_what_they_accept<K: Picker>(picker: &K)
     ensures { PortsOpenWhatTheyAccept K.picks }
 {
     let _ = picker;
+}
+
+/// Of such a port, whose holder tells of actions only after they were wanted: by no call the figure rises that a poll would be
+/// told of a command of the host's that waits; and by each step that is told it falls, whichever command the step is of: to 0
+/// where the command ends.
+pub fn ports_lower_figures<K: Picker>(picker: &K)
+    ensures { PortsLowerFigures K.picks picker.now }
+{
+    controllers_keep_the_promise(picker);
+}
+
+/// Whoever calls a port, whose controller had nothing of its host's as the port was made, and whose units have blocks, what it reads
+/// being bytes: an end of the controller's that begins to go out has the code of the message whose end it is, that of its opcode, or
+/// the one of an unknown opcode. The end of a poll is about the command that the poll names.
+pub fn ports_end_by_opcode<K: Picker>(picker: &K)
+    ensures { PortsEndByOpcode K.picks picker.now }
+{
+    controllers_keep_the_promise(picker);
+}
+
+/// Whoever calls a port, whose controller had nothing of its host's as the port was made, and what it reads being bytes: of each
+/// message that its controller took since all was forgotten last, and whose end hasn't gone out, the command waits, and has a figure
+/// of 1 or more, or the controller holds its end; and there is no other command and no other end of the host's.
+pub fn ports_hold_what_is_awaited<K: Picker>(picker: &K)
+    ensures { PortsHoldWhatIsAwaited K.picks picker.now }
+{
+    controllers_keep_the_promise(picker);
+}
+
+/// Of such a port, whose units have blocks, and whose holder tells of actions only after they were wanted: while no fatal error comes
+/// and the host writes no IP, ends pass on to the host in the order in which they came. A poll that the controller takes brings one
+/// end, with the figure that its command has then.
+pub fn ports_pass_ends_on<K: Picker>(picker: &K)
+    ensures { PortsPassEndsOn K.picks picker.now }
+{
+    controllers_keep_the_promise(picker);
 }

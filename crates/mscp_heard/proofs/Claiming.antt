@@ -1,0 +1,78 @@
+-- A call of a port leaves how often a number is claimed.
+use Rattle.mscp_port.specs.declared.port.OutgoingKind.TheVariants as kinds
+use Rattle.mscp_heard.proofs.Claims.{claim_of, claim_said, claims, claims_said, tally, tally_append}
+use Rattle.mscp_heard.proofs.Dealt.{Dealt}
+use Rattle.mscp_packet.specs.Number.{num}
+use Rattle.mscp_port.proofs.Common.{eqb-true}
+use Rattle.mscp_port.specs.declared.port.OutgoingKind.{OutgoingKind}
+use Rattle.mscp_ported.specs.Awaited.{has_number}
+use Rattle.mscp_ported.specs.Told.{Said}
+use Rattle.std.proofs.Common.{ℕ, List, [], ap, arith, cond, filter, inl, inr, map, nat_eq, not, sym, ◌++◌, ◌+◌, ◌∙◌, ◌∷◌, ◌≡◌}
+use Rattle.std.proofs.lemmas.List.{map-append}
+use Rattle.mscp_heard.proofs.Moving.{said_append, tally_one}
+use Rattle.mscp_ported.proofs.Dealing.{one_of}
+use Rattle.std.specs.List.{AllByRecursion}
+
+module _ (Took : List ℕ → Type 0) (texts : List (List ℕ)) (us : List Said) (ts ms : List (List ℕ)) (us' : List Said)
+    (ts' ms' : List (List ℕ)) (d : Dealt Took texts us ts ms us' ts' ms') where
+  parts_of : (n : ℕ) (xs : List Said) (ys zs : List (List ℕ)) → tally n (claims xs ys zs)
+      ≡ tally n (claims_said xs) + (tally n (map claim_of ys) + tally n (map claim_of zs))
+  parts_of n xs ys zs = tally_append n (claims_said xs) (map claim_of ys ++ map claim_of zs)
+      ∙ ap (λ k. tally n (claims_said xs) + k) (tally_append n (map claim_of ys) (map claim_of zs))
+
+  said_one : (n : ℕ) (s : Said) (kind : OutgoingKind) → s.kind ≡ kind
+      → tally n (claims_said (us ++ s ∷ [])) ≡ tally n (claims_said us) + tally n (claim_said kind s.text ++ [])
+  said_one n s kind is = ap (tally n) (said_append us (s ∷ []))
+      ∙ tally_append n (claims_said us) (claim_said s.kind s.text ++ [])
+      ∙ ap (λ k. tally n (claims_said us) + tally n (claim_said k s.text ++ [])) is
+
+  same_claim : (n x y : ℕ) → x ≡ y → cond (nat_eq x n) (1 + 0) 0 ≡ cond (nat_eq y n) (1 + 0) 0
+  same_claim n x y e = ap (λ k. cond (nat_eq k n) (1 + 0) 0) e
+
+  pub as_many : (n : ℕ) → tally n (claims us ts ms) ≡ tally n (claims us' ts' ms')
+  as_many n = by d
+    where
+      by : Dealt Took texts us ts ms us' ts' ms' → tally n (claims us ts ms) ≡ tally n (claims us' ts' ms')
+      by (inl q) = sym (ap (λ xs. tally n (claims xs ts' ms')) q.0 ∙ ap (λ xs. tally n (claims us xs ms')) q.1
+          ∙ ap (λ xs. tally n (claims us ts xs)) q.2)
+      by (inr (inl q)) =
+          let a = parts_of n us ts ms in
+          let b = parts_of n (us ++ q.0 ∷ []) ts ms in
+          let c = said_one n q.0 kinds.Attention q.1 in
+          omega (arith, a, b, c)
+          ∙ sym (ap (λ xs. tally n (claims xs ts' ms')) q.2 ∙ ap (λ xs. tally n (claims (us ++ q.0 ∷ []) xs ms')) q.3
+          ∙ ap (λ xs. tally n (claims (us ++ q.0 ∷ []) ts xs)) q.4)
+      by (inr (inr (inl q))) =
+          let left = filter (λ x. not (has_number (num q.0.text 0 4) x)) ts in
+          let a = parts_of n us ts ms in
+          let b = parts_of n (us ++ q.0 ∷ []) left ms in
+          let c = said_one n q.0 kinds.End q.8 in
+          let one = tally_one (num q.0.text 0 4) n ts q.1 q.2 in
+          let named : num q.1 0 4 ≡ num q.0.text 0 4 = eqb-true (num q.1 0 4) (num q.0.text 0 4)
+          (one_of (λ y. Unit {0}) (has_number (num q.0.text 0 4)) ts q.1 (every_text ts) q.2).1 in
+          let same = same_claim n (num q.1 0 4) (num q.0.text 0 4) named in
+          omega (arith, a, b, c, one, same)
+          ∙ sym (ap (λ xs. tally n (claims xs ts' ms')) q.4
+          ∙ ap (λ xs. tally n (claims (us ++ q.0 ∷ []) xs ms')) q.5
+          ∙ ap (λ xs. tally n (claims (us ++ q.0 ∷ []) left xs)) q.6)
+        where
+          every_text : (xs : List (List ℕ)) → AllByRecursion (λ y. Unit {0}) xs
+          every_text [] = tt
+          every_text (x ∷ xs) = (tt, every_text xs)
+      by (inr (inr (inr (inl q)))) =
+          let a = parts_of n us ts (q.1 ∷ ms') in
+          let b = parts_of n us (ts ++ q.0 ∷ []) ms' in
+          let x = ap (tally n) (map-append claim_of ts (q.0 ∷ []))
+          ∙ tally_append n (map claim_of ts) (claim_of q.0 ∷ []) in
+          let y = tally_append n (claim_of q.1 ∷ []) (map claim_of ms') in
+          let same = same_claim n (num q.0 0 4) (num q.1 0 4) q.2.number in
+          ap (λ xs. tally n (claims us ts xs)) q.5 ∙ omega (arith, a, b, x, y, same)
+          ∙ sym (ap (λ xs. tally n (claims xs ts' ms')) q.3 ∙ ap (λ xs. tally n (claims us xs ms')) q.4)
+      by (inr (inr (inr (inr q)))) =
+          let a = parts_of n us ts (q.2 ∷ ms') in
+          let b = parts_of n (us ++ q.0 ∷ []) ts ms' in
+          let c = said_one n q.0 kinds.End q.11 in
+          let y = tally_append n (claim_of q.2 ∷ []) (map claim_of ms') in
+          let same = same_claim n (num q.0.text 0 4) (num q.2 0 4) (q.4 ∙ q.3.number) in
+          ap (λ xs. tally n (claims us ts xs)) q.9 ∙ omega (arith, a, b, c, y, same)
+          ∙ sym (ap (λ xs. tally n (claims xs ts' ms')) q.7 ∙ ap (λ xs. tally n (claims (us ++ q.0 ∷ []) xs ms')) q.8)

@@ -1,0 +1,318 @@
+-- What a call of a port makes of what its host may be told.
+use Rattle.mscp_port.specs.declared.port.OutgoingKind.TheVariants as kinds
+use Rattle.mscp_controller.specs.Calls.{AnsweredCalls, Call as Made}
+use Rattle.mscp_controller.specs.Holdings.{Holdings, fresh, outstanding_of}
+use Rattle.mscp_drive.specs.Settings.{IsValid, Settings}
+use Rattle.mscp_drive.specs.declared.connection.Connection.TheVariants.{First}
+use Rattle.mscp_heard.proofs.Joined.{IsNext, next_of}
+use Rattle.mscp_heard.proofs.Moving.{drop_at, drop_beside}
+use Rattle.mscp_heard.proofs.Notes.{Noted, copy_answered, copy_taken, noted_end, noted_news}
+use Rattle.mscp_heard.proofs.Owing.{begun_one, moves_opcode, one_more, own_number, small_number}
+use Rattle.mscp_heard.specs.Deeds.{AreJoined, Called, Deed, Did, IsCopyOf, IsNextText, IsTextOf, ReadsInOrder, calls_in, did, sent}
+use Rattle.mscp_host.specs.PortAccounts.{PortAccount}
+use Rattle.mscp_host.specs.PortLaw.{PortHostsKeepTheirHistory}
+use Rattle.mscp_packet.specs.Number.{num}
+use Rattle.mscp_port.proofs.Common.{and_parts}
+use Rattle.mscp_port.specs.Calls.{IsMadeOf}
+use Rattle.mscp_port.specs.Departures.{begins}
+use Rattle.mscp_port.specs.Histories.{Answered, Call, Picking, WasRead}
+use Rattle.mscp_port.specs.declared.hardware.Hardware.{Hardware}
+use Rattle.mscp_port.specs.declared.port.Outgoing.{Outgoing}
+use Rattle.mscp_port.specs.declared.port.Port.{Port}
+use Rattle.mscp_port.specs.declared.volumes.Volume.{Volume}
+use Rattle.mscp_ported.specs.Answers.{kind_answered, Own, PortsAnswerAsTheyMay, asks_nothing, moves_data, own_answer, own_refusal, past_end, volume_named}
+use Rattle.mscp_ported.specs.Awaited.{Deals, IsAnswering, IsTaking, PortsEndWhatTheyTook, ReadsBytes, awaited, has_number, is_transfer, taken_by, without_ends}
+use Rattle.mscp_ported.specs.Ends.{ends_said_by}
+use Rattle.mscp_ported.specs.Fitting.{Fits, PortsEndByOpcode}
+use Rattle.mscp_ported.specs.Talk.{AsksAlways, Opened, Slot, Talk, Turn, talk_of}
+use Rattle.mscp_ported.specs.Told.{PortsHearInOrder, PortsOpenWhatTheyAccept, PortsTellInOrder, Said, accepted, accepted_by, said, said_in}
+use Rattle.std.proofs.Common.{ℕ, All, Bool, List, None, Option, Some, [], ap, arith, cond, drop, false, filter, inl, inr, length, map, not, refl, subst, sym, true, ◌&&◌, ◌++◌, ◌+◌, ◌<◌, ◌∙◌, ◌∷◌, ◌≡◌, ◌≢◌, ◌≤◌, ◌⊎◌}
+use Rattle.std.proofs.lemmas.List.{append-nil}
+use Rattle.std.proofs.lemmas.Option.{none-some, same_Some}
+use Rattle.std.specs.Prelude.{Ok, is_none, nat_le, option_map, slice_get, slice_index}
+
+-- what a port answers itself has the code of the message's opcode, or of an unknown one, and is no answer to a poll
+own_coded : (v : Option Volume) (b : List ℕ) (own : Own) → own_answer false v b ≡ Some own
+    → (own.code ≡ slice_index b 8 + 0x80) × (own.code ≢ 0x82)
+own_coded v b own h = by (is_none v && asks_nothing (slice_index b 8)) refl h
+  where
+    not_formal : (opcode : ℕ) → asks_nothing opcode ≡ true → opcode + 0x80 ≢ 0x82
+    not_formal opcode is e = grind (arith, is, e)
+
+    not_moved : (opcode : ℕ) (c : Bool) → (moves_opcode opcode && c) ≡ true → opcode + 0x80 ≢ 0x82
+    not_moved opcode c is e = grind (arith, is, e)
+
+    got : (o : Option ℕ) → moves_data b ≡ true → option_map (λ status. record {
+      code = slice_index b 8 + 0x80;
+      status = status;
+      tells_bytes = true;
+    }) o ≡ Some own → (own.code ≡ slice_index b 8 + 0x80) × (own.code ≢ 0x82)
+    got None moves h = absurd (none-some own h)
+    got (Some status) moves h =
+        let same = same_Some (record { code = slice_index b 8 + 0x80; status = status; tells_bytes = true }) own h in
+        let code : own.code ≡ slice_index b 8 + 0x80 = ap (λ (x : Own). x.code) (sym same) in
+        (code, λ e. not_moved (slice_index b 8) (nat_le 32 (length b)) moves (sym code ∙ e))
+
+    refused : (o : Option Volume) → option_map (λ status. record {
+      code = slice_index b 8 + 0x80;
+      status = status;
+      tells_bytes = true;
+    }) (own_refusal b o) ≡ Some own → (own.code ≡ slice_index b 8 + 0x80) × (own.code ≢ 0x82)
+    refused None h = absurd (none-some own h)
+    refused (Some x) h = cases x.is_there (moves_data b) refl h
+      where
+        cases : (there moves : Bool) → moves_data b ≡ moves → option_map (λ status. record {
+          code = slice_index b 8 + 0x80;
+          status = status;
+          tells_bytes = true;
+        }) (cond (there && moves) (past_end x.size (num b 28 4) (num b 12 4)) None) ≡ Some own
+            → (own.code ≡ slice_index b 8 + 0x80) × (own.code ≢ 0x82)
+        cases true true is h = got (past_end x.size (num b 28 4) (num b 12 4)) is h
+        cases true false is h = absurd (none-some own h)
+        cases false m is h = absurd (none-some own h)
+
+    by : (c : Bool) → (is_none v && asks_nothing (slice_index b 8)) ≡ c → cond c (Some (record {
+      code = slice_index b 8 + 0x80;
+      status = 0;
+      tells_bytes = false;
+    })) (option_map (λ status. record {
+      code = slice_index b 8 + 0x80;
+      status = status;
+      tells_bytes = true;
+    }) (own_refusal b v)) ≡ Some own → (own.code ≡ slice_index b 8 + 0x80) × (own.code ≢ 0x82)
+    by true is h =
+        let same = same_Some (record { code = slice_index b 8 + 0x80; status = 0; tells_bytes = false }) own h in
+        let code : own.code ≡ slice_index b 8 + 0x80 = ap (λ (x : Own). x.code) (sym same) in (
+          code,
+          λ e. not_formal (slice_index b 8) (and_parts (is_none v) (asks_nothing (slice_index b 8)) is).1
+              (sym code ∙ e),
+        )
+    by false is h = refused v h
+
+-- what was said and not heard, what is awaited, and what was sent and not read, before a call and behind it: nothing
+-- changes, or news are said, or a message's end, or the next message is taken, or answered
+abbrev pub Dealt : (Took : List ℕ → Type 0) (texts : List (List ℕ)) (us : List Said) (ts ms : List (List ℕ))
+    (us' : List Said) (ts' ms' : List (List ℕ)) → Type 0
+Dealt Took texts us ts ms us' ts' ms' =
+    ((us' ≡ us) × (ts' ≡ ts) × (ms' ≡ ms) × (texts ≡ []))
+    ⊎ ((s : Said) × (s.kind ≡ kinds.Attention) × (us' ≡ us ++ s ∷ []) × (ts' ≡ ts) × (ms' ≡ ms) × (texts ≡ []))
+    ⊎ ((s : Said) × (t : List ℕ) × (filter (has_number (num s.text 0 4)) ts ≡ t ∷ []) × Fits s.text t
+    × (us' ≡ us ++ s ∷ []) × (ts' ≡ filter (λ x. not (has_number (num s.text 0 4) x)) ts) × (ms' ≡ ms)
+    × (texts ≡ []) × (s.kind ≡ kinds.End))
+    ⊎ ((t : List ℕ) × (m : List ℕ) × IsCopyOf t m × (us' ≡ us) × (ts' ≡ ts ++ t ∷ []) × (ms ≡ m ∷ ms')
+    × (texts ≡ t ∷ []) × Took t)
+    ⊎ ((s : Said) × (t : List ℕ) × (m : List ℕ) × IsCopyOf t m × (num s.text 0 4 ≡ num t 0 4)
+    × (slice_index s.text 8 ≡ slice_index t 8 + 0x80) × (slice_index s.text 8 ≢ 0x82) × (us' ≡ us ++ s ∷ [])
+    × (ts' ≡ ts) × (ms ≡ m ∷ ms') × (texts ≡ t ∷ []) × (s.kind ≡ kinds.End))
+
+-- the text was read by the call, and the controller took it
+abbrev pub Taken : {K : Type 0} → Call → Port K → List ℕ → Type 0
+Taken call old t = ((done : Unit) × (call ≡ WasRead t (Ok done))) × (taken_by call old ≡ t ∷ [])
+
+noted_as : (host : PortAccount) (us us' : List Said) (ts ts' ms ms' : List (List ℕ)) → us' ≡ us → ts' ≡ ts → ms' ≡ ms
+    → Noted host us ts ms → Noted host us' ts' ms'
+noted_as host us us' ts ts' ms ms' e f g n = subst (λ x. Noted host x ts' ms') (sym e)
+    (subst (λ x. Noted host us x ms') (sym f) (subst (λ x. Noted host us ts x) (sym g) n))
+
+pub noted_dealt : (Took : List ℕ → Type 0) (texts : List (List ℕ)) (host : PortAccount) (us us' : List Said)
+    (ts ts' ms ms' : List (List ℕ))
+    → Dealt Took texts us ts ms us' ts' ms' → Noted host us ts ms → Noted host us' ts' ms'
+noted_dealt Took texts host us us' ts ts' ms ms' (inl q) n = noted_as host us us' ts ts' ms ms' q.0 q.1 q.2 n
+noted_dealt Took texts host us us' ts ts' ms ms' (inr (inl q)) n =
+    noted_as host (us ++ q.0 ∷ []) us' ts ts' ms ms' q.2 q.3 q.4 (noted_news host us ts q.0 ms q.1 n)
+noted_dealt Took texts host us us' ts ts' ms ms' (inr (inr (inl q))) n =
+    noted_as host (us ++ q.0 ∷ []) us' (filter (λ x. not (has_number (num q.0.text 0 4) x)) ts) ts' ms ms' q.4 q.5 q.6
+    (noted_end host us ts q.0 q.1 ms q.2 q.3 n)
+noted_dealt Took texts host us us' ts ts' ms ms' (inr (inr (inr (inl q)))) n =
+    noted_as host us us' (ts ++ q.0 ∷ []) ts' ms' ms' q.3 q.4 refl
+    (copy_taken host us ts q.0 q.1 ms' q.2 (subst (λ x. Noted host us ts x) q.5 n))
+noted_dealt Took texts host us us' ts ts' ms ms' (inr (inr (inr (inr q)))) n =
+    noted_as host (us ++ q.0 ∷ []) us' ts ts' ms' ms' q.7 q.8 refl
+    (copy_answered host us ts q.0 q.1 q.2 ms' q.3 q.4 (inr q.5) q.6 (subst (λ x. Noted host us ts x) q.9 n))
+
+copy_text : (text message : List ℕ) → IsCopyOf text message → IsTextOf text message
+copy_text text message is = record {
+  number = is.number;
+  bytes = λ j. cond (is_transfer (is.opcode j)) (is.parameter j) 0;
+}
+
+copied_read : (call : Call) (t : Talk) (ms : List (List ℕ)) → ReadsInOrder IsCopyOf call t ms
+    → ReadsInOrder IsTextOf call t ms
+copied_read (WasRead bytes (Ok done)) t ms h = by t.turn h
+  where
+    by : (turn : Turn) → IsNextText IsCopyOf turn (length t.heard) ms bytes
+        → IsNextText IsTextOf turn (length t.heard) ms bytes
+    by (Opened slot header) h = (h.0, (h.1.0, h.1.1, copy_text bytes h.1.0 h.1.2))
+    by turn h = tt
+copied_read call t ms h = tt
+
+pub copied : {K : Type 0} (picks : Picking K) (start p : Port K) (deeds : List Deed)
+    (a : Answered picks start (calls_in deeds) p) → AreJoined IsCopyOf picks start p deeds a
+    → AreJoined IsTextOf picks start p deeds a
+copied picks start p [] a j = tt
+copied picks start p (Called call ∷ deeds) a j = (
+  copied_read call (talk_of picks start a.0 (calls_in deeds) a.1) (sent (did deeds)) j.0,
+  copied picks start a.0 deeds a.1 j.1,
+)
+copied picks start p (Did m ∷ deeds) a j = (j.0, copied picks start p deeds a j.1)
+
+module _ {K : Type 0} (picks : Picking K) (c : Settings) (picker : K) (ends : PortsEndWhatTheyTook picks picker)
+    (fit : PortsEndByOpcode picks picker) (sizes : All (λ unit. 0 < unit.size) c.units)
+    (hear : PortsHearInOrder picks) (tell : PortsTellInOrder picks) (open_so : PortsOpenWhatTheyAccept picks)
+    (answer_so : PortsAnswerAsTheyMay picks) (history : PortHostsKeepTheirHistory)
+    (before : List Made) (controller : Holdings K) (hardware : Hardware) (credits : ℕ) (start : Port K)
+    (valid : IsValid c) (was : AnsweredCalls (picks picker) (fresh c picker) before controller)
+    (quiet : outstanding_of First controller ≡ []) (made : IsMadeOf hardware credits controller start)
+    (p : Port K) (calls : List Call) (sent_so : List (List ℕ)) (k : ℕ) where
+  next : (bytes : List ℕ) (done : Unit) (slot : Slot) (header : ℕ)
+      → AsksAlways (WasRead bytes (Ok done) ∷ calls) → (a : Answered picks start (WasRead bytes (Ok done) ∷ calls) p)
+      → (talk_of picks start a.0 calls a.1).turn ≡ Opened slot header
+      → ReadsInOrder IsCopyOf (WasRead bytes (Ok done)) (talk_of picks start a.0 calls a.1) sent_so
+      → IsNext picks c picker ends hear tell open_so answer_so history before controller hardware credits start valid
+      was quiet made IsCopyOf bytes header sent_so (length (accepted picks start a.0 calls a.1))
+  next bytes done slot header asks a opened reads =
+      next_of picks c picker ends hear tell open_so answer_so history before controller hardware credits start valid
+      was quiet made IsCopyOf p calls bytes done sent_so slot header asks a opened reads
+
+  abbrev Behind : (call : Call) → Answered picks start (call ∷ calls) p → Type 0
+  Behind call a = Dealt (Taken call a.0) (accepted_by call a.0) (drop k (said picks start a.0 calls a.1))
+      (awaited picks start a.0 calls a.1)
+      (drop (length (accepted picks start a.0 calls a.1)) sent_so)
+      (drop k (said picks start a.0 calls a.1 ++ map said_in (begins a.0.outgoing p.outgoing)))
+      (without_ends (ends_said_by call a.0 p) (awaited picks start a.0 calls a.1) ++ taken_by call a.0)
+      (drop (length (accepted picks start a.0 calls a.1 ++ accepted_by call a.0)) sent_so)
+
+  module _ (call : Call) (a : Answered picks start (call ∷ calls) p)
+      (heard : k ≤ length (said picks start a.0 calls a.1)) where
+    said_more : (out : Outgoing) → a.0.outgoing ≡ None
+        → p.outgoing ≡ Some out
+        → drop k (said picks start a.0 calls a.1 ++ map said_in (begins a.0.outgoing p.outgoing))
+        ≡ drop k (said picks start a.0 calls a.1) ++ said_in out ∷ []
+    said_more out nothing some = ap (λ xs. drop k (said picks start a.0 calls a.1 ++ map said_in xs))
+        (begun_one a.0.outgoing p.outgoing out nothing some)
+        ∙ drop_beside k (said picks start a.0 calls a.1) (said_in out) heard
+
+    said_same : begins a.0.outgoing p.outgoing ≡ []
+        → drop k (said picks start a.0 calls a.1 ++ map said_in (begins a.0.outgoing p.outgoing))
+        ≡ drop k (said picks start a.0 calls a.1)
+    said_same none = ap (λ xs. drop k (said picks start a.0 calls a.1 ++ map said_in xs)) none
+        ∙ ap (drop k) (append-nil (said picks start a.0 calls a.1))
+
+    awaited_same : ends_said_by call a.0 p ≡ []
+        → taken_by call a.0 ≡ []
+        → without_ends (ends_said_by call a.0 p) (awaited picks start a.0 calls a.1) ++ taken_by call a.0
+        ≡ awaited picks start a.0 calls a.1
+    awaited_same ended taken =
+        ap (λ xs. without_ends xs (awaited picks start a.0 calls a.1) ++ taken_by call a.0) ended
+        ∙ ap (λ xs. awaited picks start a.0 calls a.1 ++ xs) taken
+        ∙ append-nil (awaited picks start a.0 calls a.1)
+
+    unread_same : accepted_by call a.0 ≡ []
+        → drop (length (accepted picks start a.0 calls a.1 ++ accepted_by call a.0)) sent_so
+        ≡ drop (length (accepted picks start a.0 calls a.1)) sent_so
+    unread_same none = ap (λ xs. drop (length xs) sent_so)
+        (ap (λ xs. accepted picks start a.0 calls a.1 ++ xs) none ∙ append-nil (accepted picks start a.0 calls a.1))
+
+    unread_less : (text message : List ℕ)
+        → accepted_by call a.0 ≡ text ∷ []
+        → slice_get sent_so (length (accepted picks start a.0 calls a.1)) ≡ Some message
+        → drop (length (accepted picks start a.0 calls a.1)) sent_so
+        ≡ message ∷ drop (length (accepted picks start a.0 calls a.1 ++ accepted_by call a.0)) sent_so
+    unread_less text message one at =
+        (drop_at (length (accepted picks start a.0 calls a.1)) sent_so message at).0
+        ∙ ap (λ n. message ∷ drop n sent_so) (sym (one_more (accepted picks start a.0 calls a.1)
+        (accepted picks start a.0 calls a.1 ++ accepted_by call a.0) text
+        (ap (λ xs. accepted picks start a.0 calls a.1 ++ xs) one)))
+
+  takes_it : (call : Call) (a : Answered picks start (call ∷ calls) p)
+      → k ≤ length (said picks start a.0 calls a.1) → AsksAlways (call ∷ calls)
+      → ReadsInOrder IsCopyOf call (talk_of picks start a.0 calls a.1) sent_so → IsTaking call a.0 p
+      → Behind call a
+  takes_it (WasRead bytes (Ok done)) a heard asks reads d =
+      let o = open_so hardware credits controller start p calls bytes done d.message [] made asks a d.accepted in
+      let x = next bytes done o.0 o.1 asks a o.2 reads in
+      inr (inr (inr (inl (
+        bytes,
+        x.message,
+        x.is,
+        said_same (WasRead bytes (Ok done)) a heard d.begun,
+        ap (λ xs. awaited picks start a.0 calls a.1 ++ xs)
+            (d.taken ∙ ap (λ y. y ∷ []) (sym (ap bytes_read d.read.1))),
+        unread_less (WasRead bytes (Ok done)) a heard d.message x.message d.accepted x.at,
+        d.accepted ∙ ap (λ y. y ∷ []) (sym (ap bytes_read d.read.1)),
+        ((done, refl), d.taken ∙ ap (λ y. y ∷ []) (sym (ap bytes_read d.read.1))),
+      ))))
+    where
+      bytes_read : Call → List ℕ
+      bytes_read (WasRead b r) = b
+      bytes_read call = bytes
+  takes_it call a heard asks reads d = absurd (search (arith, d.read.1))
+
+  answers_it : (call : Call) (a : Answered picks start (call ∷ calls) p)
+      → k ≤ length (said picks start a.0 calls a.1) → AsksAlways (call ∷ calls)
+      → ReadsBytes (call ∷ calls) → ReadsInOrder IsCopyOf call (talk_of picks start a.0 calls a.1) sent_so
+      → IsAnswering call a.0 p → Behind call a
+  answers_it (WasRead bytes (Ok done)) a heard asks small reads d =
+      let r = answer_so hardware credits controller start p calls bytes done d.out made asks a d.nothing d.begun in
+      let x = next bytes done r.0 r.1 asks a r.2 reads in
+      let own = r.3.own in
+      let coded = own_coded (volume_named a.0 bytes) bytes own.0
+      (ap (λ f. own_answer f (volume_named a.0 bytes) bytes) (sym x.disks) ∙ own.1) in
+      let code : slice_index d.out.bytes.items 8 ≡ own.0.code = ap (λ b. slice_index b 8) own.2 in
+      inr (inr (inr (inr (
+        said_in d.out,
+        bytes,
+        x.message,
+        x.is,
+        ap (λ b. num b 0 4) own.2 ∙ own_number bytes own.0 (small_number bytes small.0),
+        code ∙ coded.0,
+        (λ e. coded.1 (sym code ∙ e)),
+        said_more (WasRead bytes (Ok done)) a heard d.out d.nothing d.begun,
+        awaited_same (WasRead bytes (Ok done)) a heard d.ended d.taken,
+        unread_less (WasRead bytes (Ok done)) a heard d.message x.message d.accepted x.at,
+        d.accepted ∙ ap (λ y. y ∷ []) (sym (ap bytes_read d.read.1)),
+        r.3.kind ∙ ap kind_answered x.disks,
+      ))))
+    where
+      bytes_read : Call → List ℕ
+      bytes_read (WasRead b u) = b
+      bytes_read call = bytes
+  answers_it call a heard asks small reads d = absurd (search (arith, d.read.1))
+
+  pub deals_so : (call : Call) (a : Answered picks start (call ∷ calls) p)
+      → k ≤ length (said picks start a.0 calls a.1) → AsksAlways (call ∷ calls)
+      → ReadsBytes (call ∷ calls) → ReadsInOrder IsCopyOf call (talk_of picks start a.0 calls a.1) sent_so
+      → Deals (awaited picks start a.0 calls a.1) call a.0 p → Behind call a
+  deals_so call a heard asks small reads (inl q) =
+      inl (
+        said_same call a heard q.begun,
+        awaited_same call a heard q.ended q.taken,
+        unread_same call a heard q.accepted,
+        q.accepted,
+      )
+  deals_so call a heard asks small reads (inr (inl q)) = inr (inl (
+    said_in q.out,
+    q.kind,
+    said_more call a heard q.out q.nothing q.begun,
+    awaited_same call a heard q.ended q.taken,
+    unread_same call a heard q.accepted,
+    q.accepted,
+  ))
+  deals_so call a heard asks small reads (inr (inr (inl q))) = inr (inr (inl (
+    said_in q.out,
+    q.message,
+    q.only,
+    fit c before controller hardware credits start p call calls q.out.bytes.items q.message valid sizes was quiet
+        made small a q.ended q.only,
+    said_more call a heard q.out q.nothing q.begun,
+    ap (λ xs. without_ends xs (awaited picks start a.0 calls a.1) ++ taken_by call a.0) q.ended
+        ∙ ap (λ xs. filter (λ x. not (has_number (num q.out.bytes.items 0 4) x)) (awaited picks start a.0 calls a.1)
+        ++ xs) q.taken
+        ∙ append-nil (filter (λ x. not (has_number (num q.out.bytes.items 0 4) x))
+        (awaited picks start a.0 calls a.1)),
+    unread_same call a heard q.accepted,
+    q.accepted,
+    q.kind,
+  )))
+  deals_so call a heard asks small reads (inr (inr (inr (inl q)))) = takes_it call a heard asks reads q
+  deals_so call a heard asks small reads (inr (inr (inr (inr q)))) = answers_it call a heard asks small reads q

@@ -1,0 +1,51 @@
+-- Lists of calls and of moments: what holds before the last one, and what the last one adds.
+use Rattle.std.proofs.Common.{◌≡◌, ◌∙◌, ◌+◌, ◌++◌, ◌∷◌, [], ℕ, suc, Bool, true, false, cond, filter, length, map, List, refl, ap, sym, subst, arith}
+use Rattle.std.specs.Prelude.{Ok}
+use Rattle.std.proofs.lemmas.Grind.{flat_map-append}
+use Rattle.std.proofs.lemmas.List.Elements.{filter-append}
+use Rattle.std.proofs.lemmas.List.{append-nil, length-append}
+use Rattle.mscp_host.specs.declared.asked.Asked.{Asked}
+use Rattle.mscp_host.specs.Histories.{History, submission_at}
+use Rattle.mscp_host.specs.PortAccounts.{PortAccount}
+use Rattle.mscp_host.specs.PortHistories.{PortAnswered, PortAnswers, PortHistory, PortMoment, asked_at}
+use Rattle.mscp_port.specs.Histories.{Call, WasRead, Went}
+use Rattle.mscp_ported.specs.Awaited.{ReadsBytes}
+use Rattle.mscp_ported.specs.Talk.{AsksAlways}
+use Rattle.mscp_heard.specs.Deeds.{hearings, is_hearing, sent, sent_by}
+
+pub asked_before : (call : Call) (calls : List Call) → AsksAlways (call ∷ calls) → AsksAlways calls
+asked_before (WasRead bytes (Ok done)) calls asks = asks.1
+asked_before (Went outcome (Ok done)) calls asks = asks.1
+asked_before call calls asks = asks
+
+pub reads_before : (call : Call) (calls : List Call) → ReadsBytes (call ∷ calls) → ReadsBytes calls
+reads_before (WasRead bytes result) calls reads = reads.1
+reads_before call calls reads = reads
+
+pub answered_last : (old new : PortAccount) (h : PortHistory) (m : PortMoment) → PortAnswered old (h ++ m ∷ []) new
+    → (mid : PortAccount) × PortAnswered old h mid × PortAnswers mid m new
+answered_last old new [] m r =
+    (old, refl, subst (λ x. PortAnswers old m x) (sym r.2) r.1)
+answered_last old new (x ∷ h) m r =
+    let rest = answered_last r.0 new h m r.2 in (rest.0, (r.0, r.1, rest.1), rest.2)
+
+pub heard_last : (h : PortHistory) (m : PortMoment)
+    → hearings (h ++ m ∷ []) ≡ cond (is_hearing m) (suc (hearings h)) (hearings h)
+heard_last h m = ap length (filter-append is_hearing h (m ∷ []))
+    ∙ length-append (filter is_hearing h) (filter is_hearing (m ∷ []))
+    ∙ by (is_hearing m) (length (filter is_hearing h))
+  where
+    by : (b : Bool) (n : ℕ) → n + length (cond b (m ∷ []) []) ≡ cond b (suc n) n
+    by true n = omega arith
+    by false n = omega arith
+
+pub sent_last : (h : PortHistory) (m : PortMoment) → sent (h ++ m ∷ []) ≡ sent h ++ sent_by m
+sent_last h m = flat_map-append sent_by h (m ∷ []) ∙ ap (λ xs. sent h ++ xs) (append-nil (sent_by m))
+
+pub same_numbers : (hist : History) (j : ℕ) (xs : List ℕ)
+    → map (λ (x : Asked). x.reference) (map (asked_at hist) xs)
+    ≡ map (λ (x : Rattle.mscp_host.specs.declared.submission.Submission.Submission). x.reference) (map
+    (submission_at hist j) xs)
+same_numbers hist j [] = refl
+same_numbers hist j (x ∷ xs) = ap (λ ys. Rattle.mscp_host.specs.Histories.reference hist x ∷ ys)
+    (same_numbers hist j xs)

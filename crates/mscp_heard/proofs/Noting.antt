@@ -1,0 +1,220 @@
+-- After each deed at a port what its host may be told fits what the host keeps.
+use Rattle.mscp_heard.proofs.Claims.{Claim, IsOwed, Owes, claims, find_left, find_more, find_new}
+use Rattle.mscp_heard.proofs.Notes.{FitsAsked, FitsNote, FitsText, Noted, noted_kept}
+use Rattle.mscp_heard.proofs.Watching.{AreSmall, Notes}
+use Rattle.mscp_host.specs.Accounts.{Account, is_about, is_code_of, watch_after}
+use Rattle.mscp_host.specs.PortAccounts.{PortAccount, is_of, is_poll_of, without_by}
+use Rattle.mscp_host.specs.declared.asked.Asked.{Asked}
+use Rattle.mscp_host.specs.declared.watch.Watch.{Watch}
+use Rattle.mscp_packet.specs.Number.{num}
+use Rattle.mscp_port.proofs.Common.{eq-eqb, eqb-true}
+use Rattle.mscp_ported.specs.Told.{Said}
+use Rattle.mscp_queue.proofs.Lists.{every_append, every_weaker}
+use Rattle.std.proofs.Common.{ℕ, Bool, List, None, Option, Some, [], ap, arith, cond, false, inl, inr, nat_eq, refl, subst, sym, true, ◌++◌, ◌+◌, ◌<◌, ◌^◌, ◌||◌, ◌∙◌, ◌∷◌, ◌≡◌, ◌≤◌}
+use Rattle.std.proofs.lemmas.Option.{none-some, same_Some}
+use Rattle.std.specs.List.{AllByRecursion}
+use Rattle.std.specs.Prelude.{find, slice_index}
+
+-- what a host keeps of its commands: the poll in flight is one of them, and their numbers fit their type
+pub record IsReady (host : PortAccount) : Type 0 where
+  pub watched : (w : Watch) → host.account.watch ≡ Some w
+      → (x : Asked) × (find (is_of w.reference) host.asked ≡ Some x)
+  pub small : AreSmall host.asked
+
+-- ---- what the host does
+
+small_more : (xs : List Asked) (x : Asked) → x.reference < 2 ^ 32 → AreSmall xs → AreSmall (xs ++ x ∷ [])
+small_more [] x small all = (small, tt)
+small_more (y ∷ xs) x small all = (all.0, small_more xs x small all.1)
+
+small_left : (n : ℕ) (xs : List Asked) → AreSmall xs → AreSmall (without_by (is_of n) xs)
+small_left n [] all = tt
+small_left n (x ∷ xs) all = by (is_of n x) (small_left n xs all.1)
+  where
+    by : (b : Bool) → AreSmall (without_by (is_of n) xs) → AreSmall (cond b xs (x ∷ without_by (is_of n) xs))
+    by true rest = all.1
+    by false rest = (all.0, rest)
+
+-- it sends a message
+module _ (old new : PortAccount) (m : List ℕ) (s : Notes old new m) (ready : IsReady old) where
+  here : find (is_of (num m 0 4)) new.asked ≡ Some s.more
+  here = ap (find (is_of (num m 0 4))) s.asked ∙ find_new (num m 0 4) old.asked s.more s.new_number
+      (eq-eqb s.more.reference (num m 0 4) s.number)
+
+  pub sent_ready : IsReady new
+  sent_ready = record {
+    watched = λ w is. elim s.watch [
+      | inl same ↦
+          let x = ready.watched w (sym same ∙ is) in
+          (x.0, ap (find (is_of w.reference)) s.asked ∙ find_more w.reference old.asked x.0 s.more x.1)
+      | inr poll ↦
+          let own : w.reference ≡ num m 0 4 =
+          ap (λ (y : Watch). y.reference) (same_Some w poll.0 (sym is ∙ poll.1)) ∙ poll.2 ∙ s.number in
+          (s.more, ap (λ n. find (is_of n) new.asked) own ∙ here)
+    ];
+    small = subst AreSmall (sym s.asked) (small_more old.asked s.more s.small ready.small);
+  }
+
+  -- what was noted stays so
+  sent_keeps : (n endcode other size : ℕ) → (x : Asked) × (find (is_of n) old.asked ≡ Some x)
+      → FitsNote old n endcode other size → FitsNote new n endcode other size
+  sent_keeps n endcode other size known fits x found =
+      let same : known.0 ≡ x = same_Some known.0 x (sym (find_more n old.asked known.0 s.more known.1)
+      ∙ ap (find (is_of n)) (sym s.asked) ∙ found) in
+      let f = fits known.0 known.1 in
+      record {
+        code = subst (λ (y : Asked). is_code_of endcode y.opcode ≡ true) same f.code;
+        about = λ poll own. elim s.watch [
+          | inl still ↦
+              let a = f.about poll (subst (λ o. is_poll_of o n ≡ true) still own) in
+              (a.0, subst (λ o. is_about o other ≡ true) (sym still) a.1)
+          | inr w ↦ absurd (none-some known.0 (sym s.new_number ∙ ap (λ k. find (is_of k) old.asked)
+              (sym (sym (eqb-true w.0.reference n (subst (λ o. is_poll_of o n ≡ true) w.1 own)) ∙ w.2 ∙ s.number))
+              ∙ known.1))
+        ];
+      }
+
+  -- and the message fits
+  sent_fits : FitsText new m
+  sent_fits x found =
+      let same : s.more ≡ x = same_Some s.more x (sym here ∙ found) in
+      record {
+        code = subst (λ (y : Asked). is_code_of (slice_index m 8 + 0x80) y.opcode ≡ true) same
+            (own_code s.more.opcode (slice_index m 8) s.opcode);
+        about = λ poll own. elim s.watch [
+          | inl still ↦ absurd (not_watched (subst (λ o. is_poll_of o (num m 0 4) ≡ true) still own))
+          | inr w ↦ (
+            w.4,
+            subst (λ o. is_about o (num m 12 4) ≡ true) (sym w.1)
+                (eq-eqb w.0.polled (num m 12 4) w.3),
+          )
+        ];
+      }
+    where
+      own_code : (opcode byte : ℕ) → opcode ≡ byte → is_code_of (byte + 0x80) opcode ≡ true
+      own_code opcode byte is = by (nat_eq (byte + 0x80) 0x80) (nat_eq (byte + 0x80) (opcode + 0x80))
+          (eq-eqb (byte + 0x80) (opcode + 0x80) (ap (λ n. n + 0x80) (sym is)))
+        where
+          by : (a b : Bool) → b ≡ true → (a || b) ≡ true
+          by true b h = refl
+          by false b h = h
+
+      not_watched : is_poll_of old.account.watch (num m 0 4) ≡ true → ⊥
+      not_watched own = by old.account.watch refl own
+        where
+          by : (o : Option Watch) → old.account.watch ≡ o → is_poll_of o (num m 0 4) ≡ true → ⊥
+          by None is h = search (arith, h)
+          by (Some w) is h =
+              let x = ready.watched w is in
+              none-some x.0 (sym s.new_number ∙ ap (λ k. find (is_of k) old.asked)
+              (sym (eqb-true w.reference (num m 0 4) h)) ∙ x.1)
+
+  pub sent_noted : (us : List Said) (ts ms : List (List ℕ)) → Owes old.asked (claims us ts ms) → Noted old us ts ms
+      → Noted new us ts (ms ++ m ∷ [])
+  sent_noted us ts ms owes noted =
+      let k = noted_kept old new (λ n. (x : Asked) × (find (is_of n) old.asked ≡ Some x)) sent_keeps us ts ms
+      (every_weaker (IsOwed old.asked) (λ (c : Claim). (x : Asked) × (find (is_of c.number) old.asked ≡ Some x))
+      (λ c o. (o.0, o.1)) (claims us ts ms) owes.known) noted in
+      record {
+        said = k.said;
+        texts = k.texts;
+        messages = every_append (FitsText new) ms (m ∷ []) k.messages (sent_fits, tt);
+      }
+
+-- what it keeps doesn't change
+pub same_ready : (old new : PortAccount) → new.asked ≡ old.asked → new.account ≡ old.account → IsReady old
+    → IsReady new
+same_ready old new asked account ready = record {
+  watched = λ w is.
+      let x = ready.watched w (ap (λ (a : Account). a.watch) (sym account) ∙ is) in
+      (x.0, ap (find (is_of w.reference)) asked ∙ x.1);
+  small = subst AreSmall (sym asked) ready.small;
+}
+
+same_keeps : (old new : PortAccount) → new.asked ≡ old.asked → new.account ≡ old.account
+    → (n endcode other size : ℕ) → Unit {0} → FitsNote old n endcode other size → FitsNote new n endcode other size
+same_keeps old new asked account n endcode other size u fits x found =
+    let f = fits x (ap (find (is_of n)) (sym asked) ∙ found) in
+    let watch : new.account.watch ≡ old.account.watch = ap (λ (a : Account). a.watch) account in
+    record {
+      code = f.code;
+      about = λ poll own.
+          let a = f.about poll (subst (λ o. is_poll_of o n ≡ true) watch own) in
+          (a.0, subst (λ o. is_about o other ≡ true) (sym watch) a.1);
+    }
+
+every_unit : (cs : List Claim) → AllByRecursion (λ (c : Claim). Unit {0}) cs
+every_unit [] = tt
+every_unit (c ∷ cs) = (tt, every_unit cs)
+
+pub same_noted : (old new : PortAccount) (us : List Said) (ts ms : List (List ℕ)) → new.asked ≡ old.asked
+    → new.account ≡ old.account → Noted old us ts ms → Noted new us ts ms
+same_noted old new us ts ms asked account noted = noted_kept old new (λ n. Unit {0})
+    (same_keeps old new asked account) us ts ms (every_unit (claims us ts ms)) noted
+
+-- it hears an end
+module _ (old new : PortAccount) (m : ℕ) (asked : new.asked ≡ without_by (is_of m) old.asked)
+    (watch : new.account.watch ≡ watch_after old.account.watch m) where
+  -- the poll in flight was so before, and was not ended
+  watched_before : (w : Watch) → new.account.watch ≡ Some w
+      → (v : Watch) × (old.account.watch ≡ Some v) × (w.reference ≡ v.reference) × (w.polled ≡ v.polled)
+      × (nat_eq v.reference m ≡ false)
+  watched_before w is = by old.account.watch refl (sym watch ∙ is)
+    where
+      by : (o : Option Watch) → old.account.watch ≡ o → watch_after o m ≡ Some w
+          → (v : Watch) × (old.account.watch ≡ Some v) × (w.reference ≡ v.reference) × (w.polled ≡ v.polled)
+          × (nat_eq v.reference m ≡ false)
+      by None at h = absurd (none-some w h)
+      by (Some v) at h = cases (nat_eq v.reference m) refl (nat_eq v.polled m) h
+        where
+          cases : (c : Bool) → nat_eq v.reference m ≡ c → (d : Bool)
+              → cond c None (cond d (Some (record v { is_outstanding = false })) (Some v)) ≡ Some w
+              → (v : Watch) × (old.account.watch ≡ Some v) × (w.reference ≡ v.reference) × (w.polled ≡ v.polled)
+              × (nat_eq v.reference m ≡ false)
+          cases true e d h = absurd (none-some w h)
+          cases false e true h =
+              let s = same_Some (record v { is_outstanding = false }) w h in
+              (v, at, ap (λ (y : Watch). y.reference) (sym s), ap (λ (y : Watch). y.polled) (sym s), e)
+          cases false e false h =
+              let s = same_Some v w h in
+              (v, at, ap (λ (y : Watch). y.reference) (sym s), ap (λ (y : Watch). y.polled) (sym s), e)
+
+  pub heard_ready : IsReady old → IsReady new
+  heard_ready ready = record {
+    watched = λ w is.
+        let b = watched_before w is in
+        let x = ready.watched b.0 b.1 in (
+          x.0,
+          ap (λ n. find (is_of n) new.asked) b.2 ∙ ap (find (is_of b.0.reference)) asked
+              ∙ find_left b.0.reference m old.asked b.4 ∙ x.1,
+        );
+    small = subst AreSmall (sym asked) (small_left m old.asked ready.small);
+  }
+
+  heard_keeps : (n endcode other size : ℕ) → nat_eq n m ≡ false → FitsNote old n endcode other size
+      → FitsNote new n endcode other size
+  heard_keeps n endcode other size apart fits x found =
+      let f = fits x (sym (find_left n m old.asked apart) ∙ ap (find (is_of n)) (sym asked) ∙ found) in
+      record {
+        code = f.code;
+        about = λ poll own. by new.account.watch refl poll f own;
+      }
+    where
+      by : (o : Option Watch) → new.account.watch ≡ o → endcode ≡ 0x82 → FitsAsked old n endcode other size x
+          → is_poll_of new.account.watch n ≡ true
+          → (16 ≤ size) × (is_about new.account.watch other ≡ true)
+      by None is poll f own = absurd (search (arith, sym (ap (λ o. is_poll_of o n) is) ∙ own))
+      by (Some w) is poll f own =
+          let b = watched_before w is in
+          let mine : nat_eq w.reference n ≡ true = sym (ap (λ o. is_poll_of o n) is) ∙ own in
+          let a = f.about poll (ap (λ o. is_poll_of o n) b.1 ∙ ap (λ k. nat_eq k n) (sym b.2) ∙ mine) in (
+            a.0,
+            ap (λ o. is_about o other) is ∙ ap (λ k. nat_eq k other) b.3
+                ∙ sym (ap (λ o. is_about o other) b.1) ∙ a.1,
+          )
+
+  pub heard_noted : (us : List Said) (ts ms : List (List ℕ))
+      → AllByRecursion (λ (c : Claim). nat_eq c.number m ≡ false) (claims us ts ms) → Noted old us ts ms
+      → Noted new us ts ms
+  heard_noted us ts ms apart noted =
+      noted_kept old new (λ n. nat_eq n m ≡ false) heard_keeps us ts ms apart noted

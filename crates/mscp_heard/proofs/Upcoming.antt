@@ -1,0 +1,197 @@
+-- Ends that are to be heard: which comes first, and how often a number is claimed.
+use Rattle.mscp_port.specs.declared.port.OutgoingKind.TheVariants as kinds
+use Rattle.mscp_heard.proofs.Claims.{claim_of, claim_said, claims_said, tally, tally_append}
+use Rattle.mscp_packet.specs.Number.{num}
+use Rattle.mscp_port.proofs.Common.{eqb-true}
+use Rattle.mscp_port.specs.declared.port.OutgoingKind.{OutgoingKind}
+use Rattle.mscp_ported.specs.Awaited.{has_number}
+use Rattle.mscp_ported.specs.Passing.{Pending, pending_in, pending_said}
+use Rattle.mscp_ported.specs.Told.{Said}
+use Rattle.std.proofs.Common.{ℕ, Bool, List, None, Option, Some, [], ap, arith, cond, false, filter, inl, inr, length, map, nat_eq, refl, subst, sym, true, ◌++◌, ◌+◌, ◌∷◌, ◌≡◌, ◌≢◌, ◌≤◌, ◌⊎◌}
+use Rattle.std.proofs.lemmas.Option.{none-some}
+use Rattle.std.specs.List.{AllByRecursion}
+use Rattle.std.specs.Prelude.{flat_map}
+use Rattle.mscp_ported.specs.Passing.{Pending, pending_end, pending_in, pending_said}
+use Rattle.std.specs.Prelude.{flat_map}
+use Rattle.mscp_packet.specs.declared.end.End.{End}
+use Rattle.mscp_ported.specs.Told.{Said}
+use Rattle.std.proofs.Common.{ℕ, List, Some, [], ap, arith, cond, false, inl, inr, length, map, nat_eq, refl, subst, sym, ◌++◌, ◌∷◌, ◌≡◌, ◌≢◌, ◌≤◌, Bool, filter, true, ◌+◌, ◌⊎◌}
+use Rattle.std.proofs.lemmas.Option.{none-some}
+
+-- ---- ends that are to be heard
+
+abbrev pub first_of : ℕ → List Pending → Option ℕ
+first_of n [] = None
+first_of n (e ∷ es) = cond (nat_eq e.number n) (Some e.figure) (first_of n es)
+
+-- an end of number x stands in front of each of number w
+abbrev pub Before : ℕ → ℕ → List Pending → Type 0
+Before x w [] = ⊥
+Before x w (e ∷ es) = (nat_eq e.number x ≡ true) ⊎ ((nat_eq e.number w ≡ false) × Before x w es)
+
+abbrev pub IsIn : ℕ → List Pending → Type 0
+IsIn x [] = ⊥
+IsIn x (e ∷ es) = (nat_eq e.number x ≡ true) ⊎ IsIn x es
+
+pub before_more : (x w : ℕ) (es more : List Pending) → Before x w es → Before x w (es ++ more)
+before_more x w [] more b = absurd b
+before_more x w (e ∷ es) more (inl is) = inl is
+before_more x w (e ∷ es) more (inr b) = inr (b.0, before_more x w es more b.1)
+
+pub first_more : (n : ℕ) (es more : List Pending) (g : ℕ) → first_of n es ≡ Some g → first_of n (es ++ more) ≡ Some g
+first_more n [] more g e = absurd (none-some g e)
+first_more n (x ∷ es) more g e = by (nat_eq x.number n) e (λ h. first_more n es more g h)
+  where
+    by : (b : Bool) → cond b (Some x.figure) (first_of n es) ≡ Some g
+        → (first_of n es ≡ Some g → first_of n (es ++ more) ≡ Some g)
+        → cond b (Some x.figure) (first_of n (es ++ more)) ≡ Some g
+    by true h rest = h
+    by false h rest = rest h
+
+pub first_behind : (n : ℕ) (es more : List Pending) → first_of n es ≡ None → first_of n (es ++ more) ≡ first_of n more
+first_behind n [] more e = refl
+first_behind n (x ∷ es) more e = by (nat_eq x.number n) e (λ h. first_behind n es more h)
+  where
+    by : (b : Bool) → cond b (Some x.figure) (first_of n es) ≡ None
+        → (first_of n es ≡ None → first_of n (es ++ more) ≡ first_of n more)
+        → cond b (Some x.figure) (first_of n (es ++ more)) ≡ first_of n more
+    by true h rest = absurd (none-some x.figure (sym h))
+    by false h rest = rest h
+
+-- where w isn't there yet, all stand in front of it
+pub in_front : (x w : ℕ) (es more : List Pending) → first_of w es ≡ None → IsIn x es → Before x w (es ++ more)
+in_front x w [] more none is = absurd is
+in_front x w (e ∷ es) more none (inl is) = inl is
+in_front x w (e ∷ es) more none (inr is) = inr (
+  apart (nat_eq e.number w) none,
+  in_front x w es more (rest (nat_eq e.number w) none) is,
+)
+  where
+    apart : (b : Bool) → cond b (Some e.figure) (first_of w es) ≡ None → b ≡ false
+    apart true h = absurd (none-some e.figure (sym h))
+    apart false h = refl
+
+    rest : (b : Bool) → cond b (Some e.figure) (first_of w es) ≡ None → first_of w es ≡ None
+    rest true h = absurd (none-some e.figure (sym h))
+    rest false h = h
+
+pub first_in : (n : ℕ) (es : List Pending) (g : ℕ) → first_of n es ≡ Some g → IsIn n es
+first_in n [] g e = absurd (none-some g e)
+first_in n (x ∷ es) g e = by (nat_eq x.number n) refl e (λ h. first_in n es g h)
+  where
+    by : (b : Bool) → nat_eq x.number n ≡ b → cond b (Some x.figure) (first_of n es) ≡ Some g
+        → (first_of n es ≡ Some g → IsIn n es) → (nat_eq x.number n ≡ true) ⊎ IsIn n es
+    by true is h rest = inl is
+    by false is h rest = inr (rest h)
+
+pub in_either : (n : ℕ) (es fs : List Pending) → IsIn n (es ++ fs) → IsIn n es ⊎ IsIn n fs
+in_either n [] fs is = inr is
+in_either n (e ∷ es) fs (inl is) = inl (inl is)
+in_either n (e ∷ es) fs (inr is) = elim (in_either n es fs is) [ inl x ↦ inl (inr x) | inr x ↦ inr x ]
+
+pub in_left : (n : ℕ) (es fs : List Pending) → IsIn n es → IsIn n (es ++ fs)
+in_left n [] fs is = absurd is
+in_left n (e ∷ es) fs (inl is) = inl is
+in_left n (e ∷ es) fs (inr is) = inr (in_left n es fs is)
+
+pub in_right : (n : ℕ) (es fs : List Pending) → IsIn n fs → IsIn n (es ++ fs)
+in_right n [] fs is = is
+in_right n (e ∷ es) fs is = inr (in_right n es fs is)
+
+pub all_in : (P : ℕ → Type 0) (n : ℕ) (es : List Pending) → AllByRecursion (λ (e : Pending). P e.number) es
+    → IsIn n es → P n
+all_in P n [] all is = absurd is
+all_in P n (e ∷ es) all (inl is) = subst P (eqb-true e.number n is) all.0
+all_in P n (e ∷ es) all (inr is) = all_in P n es all.1 is
+
+-- ---- how often a number is claimed
+
+pub tally_texts : (n : ℕ) (ts : List (List ℕ)) → tally n (map claim_of ts) ≡ length (filter (has_number n) ts)
+tally_texts n [] = refl
+tally_texts n (t ∷ ts) = by (nat_eq (num t 0 4) n) (tally_texts n ts)
+  where
+    by : (b : Bool) → tally n (map claim_of ts) ≡ length (filter (has_number n) ts)
+        → cond b (1 + tally n (map claim_of ts)) (tally n (map claim_of ts))
+        ≡ length (cond b (t ∷ filter (has_number n) ts) (filter (has_number n) ts))
+    by true e = search (arith, e)
+    by false e = e
+
+pub tally_in : (n : ℕ) (us : List Said) → 1 ≤ tally n (claims_said us) → IsIn n (flat_map pending_in us)
+tally_in n [] h = absurd (search (arith, h))
+tally_in n (s ∷ us) h = by s.kind (subst (λ k. 1 ≤ k)
+    (tally_append n (claim_said s.kind s.text) (claims_said us)) h) (λ g. tally_in n us g)
+  where
+    plain : (x : ℕ) → 1 ≤ 0 + x → 1 ≤ x
+    plain x h = omega (arith, h)
+
+    by : (kind : OutgoingKind) → 1 ≤ tally n (claim_said kind s.text) + tally n (claims_said us)
+        → (1 ≤ tally n (claims_said us) → IsIn n (flat_map pending_in us))
+        → IsIn n (pending_said kind s.text ++ flat_map pending_in us)
+    by kinds.Attention h rest = rest (plain (tally n (claims_said us)) h)
+    by kinds.UtilitiesEnd h rest = rest (plain (tally n (claims_said us)) h)
+    by kinds.End h rest = cases (nat_eq (num s.text 0 4) n) refl h
+      where
+        cases : (b : Bool) → nat_eq (num s.text 0 4) n ≡ b
+            → 1 ≤ cond b (1 + 0) 0 + tally n (claims_said us)
+            → (nat_eq (num s.text 0 4) n ≡ true) ⊎ IsIn n (flat_map pending_in us)
+        cases true is h = inl is
+        cases false is h = inr (rest (plain (tally n (claims_said us)) h))
+
+pub has_some : (n : ℕ) (xs : List (List ℕ)) → 1 ≤ length (filter (has_number n) xs) → filter (has_number n) xs ≢ []
+has_some n xs h e = search (arith, h, ap length e)
+
+pub some_has : (n : ℕ) (xs : List (List ℕ)) → filter (has_number n) xs ≢ [] → 1 ≤ length (filter (has_number n) xs)
+some_has n xs h = by (filter (has_number n) xs) refl
+  where
+    by : (ys : List (List ℕ)) → filter (has_number n) xs ≡ ys → 1 ≤ length ys
+    by [] e = absurd (h e)
+    by (y ∷ ys) e = search arith
+
+-- ---- ends that are held
+
+pub in_of_holds : (n : ℕ) (es : List End) → filter (λ (e : End). nat_eq e.reference n) es ≢ []
+    → IsIn n (map pending_end es)
+in_of_holds n [] h = absurd (h refl)
+in_of_holds n (e ∷ es) h = by (nat_eq e.reference n) refl h (λ k. in_of_holds n es k)
+  where
+    by : (b : Bool) → nat_eq e.reference n ≡ b
+        → cond b (e ∷ filter (λ (e : End). nat_eq e.reference n) es) (filter (λ
+            (e : End). nat_eq e.reference n) es) ≢ []
+        → (filter (λ (e : End). nat_eq e.reference n) es ≢ [] → IsIn n (map pending_end es))
+        → (nat_eq e.reference n ≡ true) ⊎ IsIn n (map pending_end es)
+    by true is h rest = inl is
+    by false is h rest = inr (rest h)
+
+pub holds_of_in : (n : ℕ) (es : List End) → IsIn n (map pending_end es)
+    → filter (λ (e : End). nat_eq e.reference n) es ≢ []
+holds_of_in n [] is h = is
+holds_of_in n (e ∷ es) is h = by (nat_eq e.reference n) refl h is (λ k. holds_of_in n es k)
+  where
+    by : (b : Bool) → nat_eq e.reference n ≡ b
+        → cond b (e ∷ filter (λ (e : End). nat_eq e.reference n) es) (filter (λ
+            (e : End). nat_eq e.reference n) es) ≡ []
+        → (nat_eq e.reference n ≡ true) ⊎ IsIn n (map pending_end es)
+        → (IsIn n (map pending_end es) → filter (λ (e : End). nat_eq e.reference n) es ≢ []) → ⊥
+    by true so h is rest = search (arith, h)
+    by false so h (inl is) rest = search (arith, so, is)
+    by false so h (inr is) rest = rest is h
+
+pub in_said : (n : ℕ) (us : List Said) → IsIn n (flat_map pending_in us) → 1 ≤ tally n (claims_said us)
+in_said n [] is = absurd is
+in_said n (s ∷ us) is = subst (λ k. 1 ≤ k) (sym (tally_append n (claim_said s.kind s.text) (claims_said us)))
+    (by s.kind is (λ g. in_said n us g))
+  where
+    more : (a b : ℕ) → 1 ≤ b → 1 ≤ a + b
+    more a b h = omega (arith, h)
+
+    by : (kind : OutgoingKind) → IsIn n (pending_said kind s.text ++ flat_map pending_in us)
+        → (IsIn n (flat_map pending_in us) → 1 ≤ tally n (claims_said us))
+        → 1 ≤ tally n (claim_said kind s.text) + tally n (claims_said us)
+    by kinds.Attention is rest = more 0 (tally n (claims_said us)) (rest is)
+    by kinds.UtilitiesEnd is rest = more 0 (tally n (claims_said us)) (rest is)
+    by kinds.End (inl is) rest = subst (λ b. 1 ≤ cond b (1 + 0) 0 + tally n (claims_said us)) (sym is)
+        (one (tally n (claims_said us)))
+      where
+        one : (b : ℕ) → 1 ≤ (1 + 0) + b
+        one b = omega arith
+    by kinds.End (inr is) rest = more (tally n (claim_said kinds.End s.text)) (tally n (claims_said us)) (rest is)

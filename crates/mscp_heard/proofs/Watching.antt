@@ -1,0 +1,360 @@
+-- What each moment of a host makes of the poll in flight, and which ends a host takes.
+use Rattle.mscp_port.proofs.Common.{eq-eqb}
+use Rattle.std.proofs.Common.{◌≡◌, ◌⊎◌, ◌∙◌, ◌^◌, ◌<◌, ◌≤◌, ◌&&◌, ◌++◌, ◌∷◌, [], ℕ, Bool, true, false, cond, length, map, nat_eq, List, Option, None, Some, inl, inr, refl, ap, sym, subst, arith}
+use Rattle.std.specs.Prelude.{Result, Ok, Err, find, is_some, slice_index}
+use Rattle.std.specs.List.{AllByRecursion}
+use Rattle.std.proofs.lemmas.Option.{none-some, same_Some}
+use Rattle.arrayvec.specs.ArrayVec.{ArrayVec}
+use Rattle.mscp_packet.proofs.Numbers.{four}
+use Rattle.mscp_packet.specs.Number.{num}
+use Rattle.mscp_packet.specs.Commands.{command_bytes, opcode_byte}
+use Rattle.mscp_packet.specs.declared.command.Command.{Command}
+use Rattle.mscp_packet.specs.declared.end.End.{End}
+use Rattle.mscp_packet.specs.declared.end.EndBody.{EndBody}
+use Rattle.mscp_packet.specs.declared.end.EndBody.TheVariants as bodies
+use Rattle.mscp_host.specs.declared.asked.Asked.{Asked}
+use Rattle.mscp_host.specs.declared.envelope.Envelope.{Envelope}
+use Rattle.mscp_host.specs.declared.heard.Heard.{Heard}
+use Rattle.mscp_host.specs.declared.message.HearFault.{HearFault}
+use Rattle.mscp_host.specs.declared.message.HearFault.TheVariants as faults
+use Rattle.mscp_host.specs.declared.message.Message.{Message}
+use Rattle.mscp_host.specs.declared.message.Message.TheVariants as messages
+use Rattle.mscp_host.specs.declared.news.HostFault.{HostFault}
+use Rattle.mscp_host.specs.declared.news.Poll.{Poll}
+use Rattle.mscp_host.specs.declared.news.Poll.TheVariants as polls
+use Rattle.mscp_host.specs.declared.submission.Submission.{Submission}
+use Rattle.mscp_host.specs.declared.watch.Watch.{Watch}
+use Rattle.mscp_host.specs.Accounts.{Account, answered, submission_of, asks, asks_unless, has_reference, is_about, is_about_polled, is_code_of, is_immediate, oldest, poll_of, polls_oldest, refusal, submits_unless, told_in, watch_after}
+use Rattle.mscp_host.specs.Messages.{message_in}
+use Rattle.mscp_host.specs.PortAccounts.{PortAccount, as_read, asked_of, credit_fault, end_says, ended, ends_of, granted, heard_of, hears, is_of, is_poll_of, is_success, is_to_poll, may_be_of, noted_poll, polled_with, port_polls, port_submits, submits_unless_faulty, submitted_with, without_by}
+use Rattle.mscp_heard.proofs.Hosts.{SameNumbers, is_ask, not_doubled, unused}
+
+-- ---- a message is sent
+
+-- a command of this number and opcode is outstanding then, and a poll is in flight, or the poll that was is still
+pub record Notes (old new : PortAccount) (message : List ℕ) : Type 0 where
+  pub more : Asked
+  pub asked : new.asked ≡ old.asked ++ more ∷ []
+  pub new_number : find (is_of (num message 0 4)) old.asked ≡ None
+  pub number : more.reference ≡ num message 0 4
+  pub small : more.reference < 2 ^ 32
+  pub opcode : more.opcode ≡ slice_index message 8
+  pub submission : Submission
+  pub outstanding : new.account.outstanding ≡ old.account.outstanding ++ submission ∷ []
+  pub untold : submission.told ≡ None
+  pub watch : (new.account.watch ≡ old.account.watch) ⊎ ((w : Watch) × (new.account.watch ≡ Some w)
+      × (w.reference ≡ more.reference) × (w.polled ≡ num message 12 4) × (16 ≤ length message)
+      × (slice_index message 8 ≡ 2) × ((y : Asked) × (find (is_of w.polled) old.asked ≡ Some y)))
+
+notes : (old new : PortAccount) (message : ArrayVec ℕ) (c : Command) → c.reference < 2 ^ 32 → SameNumbers old
+    → Rattle.std.specs.List.list_any (has_reference c.reference) old.account.outstanding ≡ false
+    → message.items ≡ command_bytes c → new.asked ≡ old.asked ++ asked_of c ∷ []
+    → new.account.outstanding ≡ old.account.outstanding ++ submission_of c ∷ []
+    → (new.account.watch ≡ old.account.watch) ⊎ ((w : Watch) × (new.account.watch ≡ Some w)
+    × (w.reference ≡ c.reference) × (w.polled ≡ num (command_bytes c) 12 4) × (16 ≤ length (command_bytes c))
+    × (slice_index (command_bytes c) 8 ≡ 2) × ((y : Asked) × (find (is_of w.polled) old.asked ≡ Some y)))
+    → Notes old new message.items
+notes old new message c small same free is asked outstanding watch =
+    let number : num message.items 0 4 ≡ c.reference = ap (λ b. num b 0 4) is ∙ four c.reference small in
+    record {
+      more = asked_of c;
+      asked = asked;
+      new_number = subst (λ n. find (is_of n) old.asked ≡ None) (sym number) (unused old c.reference same free);
+      number = sym number;
+      small = small;
+      opcode = sym (ap (λ b. slice_index b 8) is);
+      submission = submission_of c;
+      outstanding = outstanding;
+      untold = refl;
+      watch = elim watch [
+        | inl e ↦ inl e
+        | inr w ↦ inr (
+          w.0,
+          w.1,
+          w.2,
+          w.3 ∙ ap (λ b. num b 12 4) (sym is),
+          subst (λ b. 16 ≤ length b) (sym is) w.4,
+          ap (λ b. slice_index b 8) is ∙ w.5,
+          w.6,
+        )
+      ];
+    }
+
+pub submit_notes : (old new : PortAccount) (c : Command) (message : ArrayVec ℕ) → c.reference < 2 ^ 32
+    → SameNumbers old → port_submits old c ≡ (Ok message, new) → Notes old new message.items
+submit_notes old new c message small same e = by (credit_fault old.credits (opcode_byte c.order)) e
+  where
+    items : Result (ArrayVec ℕ) HostFault × PortAccount → List ℕ
+    items (Ok b, x) = b.items
+    items (Err f, x) = []
+
+    judged : (o : Option HostFault) → refusal old.account (opcode_byte c.order) c.reference ≡ o
+        → submitted_with old c (submits_unless old.account c o) ≡ (Ok message, new) → Notes old new message.items
+    judged (Some fault) r h = absurd (search (arith, h))
+    judged None r h = notes old new message c small same
+        (not_doubled old.account (opcode_byte c.order) c.reference r) (sym (ap items h))
+        (sym (ap (λ x. x.1.asked) h)) (sym (ap (λ x. x.1.account.outstanding) h))
+        (inl (sym (ap (λ x. x.1.account.watch) h)))
+
+    by : (o : Option HostFault) → submits_unless_faulty old c o ≡ (Ok message, new) → Notes old new message.items
+    by (Some fault) h = absurd (search (arith, h))
+    by None h = judged (refusal old.account (opcode_byte c.order) c.reference) refl h
+
+-- what is found is as all are
+all_found : (P : Submission → Type 0) (f : Submission → Bool) (xs : List Submission) (x : Submission)
+    → AllByRecursion P xs → find f xs ≡ Some x → P x
+all_found P f [] x all e = absurd (none-some x e)
+all_found P f (y ∷ ys) x all e = by (f y) e (λ h. all_found P f ys x all.1 h)
+  where
+    by : (b : Bool) → cond b (Some y) (find f ys) ≡ Some x → (find f ys ≡ Some x → P x) → P x
+    by true h rest = subst P (same_Some y x h) all.0
+    by false h rest = rest h
+
+abbrev pub AreSmall : List Asked → Type 0
+AreSmall asked = AllByRecursion (λ (n : ℕ). n < 2 ^ 32) (map (λ (x : Asked). x.reference) asked)
+
+mapped : (xs : List Submission) → AllByRecursion (λ (n : ℕ). n < 2 ^ 32) (map (λ (s : Submission). s.reference) xs)
+    → AllByRecursion (λ (s : Submission). s.reference < 2 ^ 32) xs
+mapped [] all = tt
+mapped (x ∷ xs) all = (all.0, mapped xs all.1)
+
+-- each number of a command is found
+abbrev pub Found : List Asked → ℕ → Type 0
+Found asked n = (y : Asked) × (find (is_of n) asked ≡ Some y)
+
+found_each : (asked : List Asked) → AllByRecursion (Found asked) (map (λ (x : Asked). x.reference) asked)
+found_each [] = tt
+found_each (a ∷ asked) = (
+  (a, ap (λ b. cond b (Some a) (find (is_of a.reference) asked)) (eq-eqb a.reference a.reference refl)),
+  more (map (λ (x : Asked). x.reference) asked) (found_each asked),
+)
+  where
+    more : (ns : List ℕ) → AllByRecursion (Found asked) ns → AllByRecursion (Found (a ∷ asked)) ns
+    more [] all = tt
+    more (n ∷ ns) all = (by (nat_eq a.reference n) all.0, more ns all.1)
+      where
+        by : (b : Bool) → Found asked n → (y : Asked) × (cond b (Some a) (find (is_of n) asked) ≡ Some y)
+        by true y = (a, refl)
+        by false y = y
+
+found_mapped : (asked : List Asked) (xs : List Submission)
+    → AllByRecursion (Found asked) (map (λ (s : Submission). s.reference) xs)
+    → AllByRecursion (λ (s : Submission). Found asked s.reference) xs
+found_mapped asked [] all = tt
+found_mapped asked (x ∷ xs) all = (all.0, found_mapped asked xs all.1)
+
+-- so is that of each submission
+pub found_submissions : (old : PortAccount) → SameNumbers old
+    → AllByRecursion (λ (s : Submission). Found old.asked s.reference) old.account.outstanding
+found_submissions old same = found_mapped old.asked old.account.outstanding
+    (subst (λ ns. AllByRecursion (Found old.asked) ns) same (found_each old.asked))
+
+module _ (old new : PortAccount) (n : ℕ) (small : n < 2 ^ 32) (same : SameNumbers old) (smalls : AreSmall old.asked)
+  where
+    poll_watch : (s : Submission) → s.reference < 2 ^ 32 → (w : Watch)
+        → w ≡ record { reference = n; polled = s.reference; is_outstanding = true }
+        → (w.polled ≡ num (command_bytes (poll_of n s)) 12 4) × (16 ≤ length (command_bytes (poll_of n s)))
+    poll_watch s few w is = (ap (λ (x : Watch). x.polled) is ∙ sym (four s.reference few), search arith)
+
+    about_small : (s : Submission) → oldest old.account ≡ Some s → s.reference < 2 ^ 32
+    about_small s at = all_found (λ (x : Submission). x.reference < 2 ^ 32)
+        (λ x. Rattle.std.specs.Prelude.not (is_immediate x.opcode)) old.account.outstanding s
+        (mapped old.account.outstanding (subst (λ ns. AllByRecursion (λ (k : ℕ). k < 2 ^ 32) ns) same smalls)) at
+
+    pub poll_notes : (message : ArrayVec ℕ) → port_polls old n ≡ (Ok (polls.Ask message), new)
+        → Notes old new message.items
+    poll_notes message e = by (nat_eq old.credits 0 && is_to_poll old.account) e
+      where
+        items : Result Poll HostFault × PortAccount → List ℕ
+        items (Ok (polls.Ask b), x) = b.items
+        items (other, x) = []
+
+        asked_so : (s : Submission) (o : Option HostFault)
+            → refusal old.account (opcode_byte (poll_of n s).order) n ≡ o → oldest old.account ≡ Some s
+            → polled_with old n (asks_unless old.account n s o) ≡ (Ok (polls.Ask message), new)
+            → Notes old new message.items
+        asked_so s (Some fault) r at h = absurd (search (arith, h))
+        asked_so s None r at h =
+            let w : Watch = record { reference = n; polled = s.reference; is_outstanding = true } in
+            let a = Rattle.mscp_host.specs.Accounts.watching old.account n s in
+            let p = poll_watch s (about_small s at) w refl in
+            notes old new message (poll_of n s) small same
+            (not_doubled old.account (opcode_byte (poll_of n s).order) n r) (sym (ap items h))
+            (sym (ap (λ x. x.1.asked) h) ∙ ap (λ o. (noted_poll old a n o).asked) at)
+            (sym (ap (λ x. x.1.account.outstanding) h) ∙ ap (λ o. (noted_poll old a n o).account.outstanding) at)
+            (inr (
+              w,
+              sym (ap (λ x. x.1.account.watch) h) ∙ ap (λ o. (noted_poll old a n o).account.watch) at,
+              refl,
+              p.0,
+              p.1,
+              refl,
+              all_found (λ (x : Submission). Found old.asked x.reference)
+                  (λ x. Rattle.std.specs.Prelude.not (is_immediate x.opcode)) old.account.outstanding s
+                  (found_submissions old same) at,
+            ))
+
+        about : (o : Option Submission) → oldest old.account ≡ o
+            → polled_with old n (asks old.account n o) ≡ (Ok (polls.Ask message), new) → Notes old new message.items
+        about None at h = absurd (search (arith, h))
+        about (Some s) at h = asked_so s (refusal old.account (opcode_byte (poll_of n s).order) n) refl at h
+
+        busy : (b : Bool) → polled_with old n (cond b (Ok polls.Busy, old.account) (asks old.account n
+            (oldest old.account))) ≡ (Ok (polls.Ask message), new) → Notes old new message.items
+        busy true h = absurd (search (arith, h))
+        busy false h = about (oldest old.account) refl h
+
+        by : (b : Bool) → ◌≡◌ {A = Result Poll HostFault × PortAccount}
+            (cond b (Err Rattle.mscp_host.specs.declared.news.HostFault.TheVariants.NoCredit, old)
+            (polled_with old n (polls_oldest old.account n))) (Ok (polls.Ask message), new)
+                → Notes old new message.items
+        by true h = absurd (search (arith, h))
+        by false h = busy (is_some old.account.watch) h
+
+-- ---- something is heard
+
+pub read_number : (e : End) → (as_read e).reference ≡ e.reference
+read_number e = by (is_success e.status)
+  where
+    by : (c : Bool) → (cond c e (record e { code = 0x80; body = bodies.Bare })).reference ≡ e.reference
+    by true = refl
+    by false = refl
+
+-- what is outstanding and in flight stays so, or the command of an end is outstanding no more
+abbrev pub SettlesWatch : PortAccount → PortAccount → Result Message HearFault → Type 0
+SettlesWatch old new r =
+    ((new.asked ≡ old.asked) × (new.account ≡ old.account))
+    ⊎ ((e : End) × (r ≡ Ok (messages.End e)) × (new.asked ≡ without_by (is_of e.reference) old.asked)
+    × (new.account.watch ≡ watch_after old.account.watch e.reference))
+
+pub hear_watch : (old new : PortAccount) (v : Envelope) (b : List ℕ) (answer : Result Heard HearFault)
+    → hears old v b ≡ (answer, new) → SettlesWatch old new (message_in v b)
+hear_watch old new v b answer e = by (message_in v b) e
+  where
+    judged : (end : End) (x : Asked) (c : Bool)
+        → ◌≡◌ {A = Result Heard HearFault × PortAccount} (cond c (
+          Ok (end_says old end x),
+          granted v.credits (ended old end),
+        )
+        (Err faults.Unknown, old)) (answer, new)
+        → SettlesWatch old new (Ok (messages.End end))
+    judged end x true h = inr (
+      end,
+      refl,
+      sym (ap (λ y. y.1.asked) h),
+      sym (ap (λ y. y.1.account.watch) h) ∙ ap (watch_after old.account.watch) (read_number end),
+    )
+    judged end x false h = inl (sym (ap (λ y. y.1.asked) h), sym (ap (λ y. y.1.account) h))
+
+    found : (end : End) (o : Option Asked) → ends_of old v.credits end o ≡ (answer, new)
+        → SettlesWatch old new (Ok (messages.End end))
+    found end None h = inl (sym (ap (λ y. y.1.asked) h), sym (ap (λ y. y.1.account) h))
+    found end (Some x) h = judged end x (may_be_of old end x) h
+
+    by : (r : Result Message HearFault) → heard_of old v.credits r ≡ (answer, new) → SettlesWatch old new r
+    by (Err fault) h = inl (sym (ap (λ y. y.1.asked) h), sym (ap (λ y. y.1.account) h))
+    by (Ok (messages.End end)) h = found end (find (is_of end.reference) old.asked) h
+    by (Ok (messages.Attention code unit)) h = inl (sym (ap (λ y. y.1.asked) h), sym (ap (λ y. y.1.account) h))
+    by (Ok messages.Datagram) h = inl (sym (ap (λ y. y.1.asked) h), sym (ap (λ y. y.1.account) h))
+    by (Ok messages.Credits) h = inl (sym (ap (λ y. y.1.asked) h), sym (ap (λ y. y.1.account) h))
+
+-- an end of the code of its command, and a poll's about the polled one, is that of the command
+pub may_be : (old : PortAccount) (e : End) (x : Asked) → is_code_of e.code x.opcode ≡ true
+    → ((other figure : ℕ) → e.code ≡ 0x82 → e.body ≡ bodies.Status other figure
+    → is_poll_of old.account.watch e.reference ≡ true → is_about old.account.watch other ≡ true)
+    → may_be_of old e x ≡ true
+may_be old e x code about = both (is_code_of e.code x.opcode)
+    (is_about_polled old.account.watch (answered old.account.watch (as_read e))) code (by (is_success e.status))
+  where
+    both : (a b : Bool) → a ≡ true → b ≡ true → (a && b) ≡ true
+    both true true p q = refl
+    both true false p q = absurd (search (arith, q))
+    both false b p q = absurd (search (arith, p))
+
+    refused : (o : Option Watch)
+        → is_about_polled o (answered o (record e { code = 0x80; body = bodies.Bare })) ≡ true
+    refused None = refl
+    refused (Some w) = cases (nat_eq w.reference e.reference)
+      where
+        cases : (c : Bool) → is_about_polled (Some w)
+            (cond (c && false) (told_in bodies.Bare) None) ≡ true
+        cases true = refl
+        cases false = refl
+
+    told : (o : Option Watch) → ((other figure : ℕ) → e.code ≡ 0x82 → e.body ≡ bodies.Status other figure
+        → is_poll_of o e.reference ≡ true → is_about o other ≡ true) → is_about_polled o (answered o e) ≡ true
+    told None about = refl
+    told (Some w) about = cases (nat_eq w.reference e.reference) refl (nat_eq e.code 0x82) refl
+      where
+        tells : (body : EndBody) → e.body ≡ body → nat_eq w.reference e.reference ≡ true → nat_eq e.code 0x82 ≡ true
+            → is_about_polled (Some w) (told_in body) ≡ true
+        tells (bodies.Status other figure) is own poll =
+            about other figure (Rattle.mscp_port.proofs.Common.eqb-true e.code 0x82 poll) is own
+        tells body is own poll = refl
+
+        cases : (c : Bool) → nat_eq w.reference e.reference ≡ c → (d : Bool) → nat_eq e.code 0x82 ≡ d
+            → is_about_polled (Some w) (cond (c && d) (told_in e.body) None) ≡ true
+        cases true p true q = tells e.body refl p q
+        cases true p false q = refl
+        cases false p d q = refl
+
+    by : (c : Bool) → is_about_polled old.account.watch (answered old.account.watch
+        (cond c e (record e { code = 0x80; body = bodies.Bare }))) ≡ true
+    by true = told old.account.watch about
+    by false = refused old.account.watch
+
+-- and so it isn't refused
+pub hears_ok : (old new : PortAccount) (v : Envelope) (b : List ℕ) (m : Message) (fault : HearFault)
+    → message_in v b ≡ Ok m
+    → ((e : End) → message_in v b ≡ Ok (messages.End e) → (x : Asked) × (find (is_of e.reference) old.asked ≡ Some x)
+    × (may_be_of old e x ≡ true))
+    → hears old v b ≡ (Err fault, new) → ⊥
+hears_ok old new v b m fault is own h = by m is (subst (λ r. heard_of old v.credits r ≡ (Err fault, new)) is h)
+  where
+    judged : (end : End) (x : Asked) (c : Bool) → c ≡ true
+        → ◌≡◌ {A = Result Heard HearFault × PortAccount} (cond c (
+          Ok (end_says old end x),
+          granted v.credits (ended old end),
+        )
+        (Err faults.Unknown, old)) (Err fault, new) → ⊥
+    judged end x true p h = search (arith, h)
+    judged end x false p h = search (arith, p)
+
+    by : (m : Message) → message_in v b ≡ Ok m → heard_of old v.credits (Ok m) ≡ (Err fault, new) → ⊥
+    by (messages.End end) is h =
+        let x = own end is in
+        judged end x.0 (may_be_of old end x.0) x.2 (subst (λ o. ends_of old v.credits end o ≡ (Err fault, new)) x.1 h)
+    by (messages.Attention code unit) is h = search (arith, h)
+    by messages.Datagram is h = search (arith, h)
+    by messages.Credits is h = search (arith, h)
+
+-- ---- nothing is sent
+
+pub submit_same : (old new : PortAccount) (c : Command) (fault : HostFault)
+    → port_submits old c ≡ (Err fault, new) → new ≡ old
+submit_same old new c fault e = by (credit_fault old.credits (opcode_byte c.order)) e
+  where
+    judged : (o : Option HostFault) → submitted_with old c (submits_unless old.account c o) ≡ (Err fault, new)
+        → new ≡ old
+    judged (Some other) h = sym (ap (λ x. x.1) h)
+    judged None h = absurd (search (arith, h))
+
+    by : (o : Option HostFault) → submits_unless_faulty old c o ≡ (Err fault, new) → new ≡ old
+    by (Some other) h = sym (ap (λ x. x.1) h)
+    by None h = judged (refusal old.account (opcode_byte c.order) c.reference) h
+
+pub poll_same : (old new : PortAccount) (n : ℕ) (answer : Result Poll HostFault) → is_ask answer ≡ false
+    → port_polls old n ≡ (answer, new) → new ≡ old
+poll_same old new n answer none e = by (nat_eq old.credits 0 && is_to_poll old.account) e
+  where
+    with_so : (x : Result Poll HostFault × Account) → polled_with old n x ≡ (answer, new) → new ≡ old
+    with_so (Ok (polls.Ask message), a) h = absurd (search (arith, none, ap (λ y. is_ask y.0) h))
+    with_so (Ok polls.Nothing, a) h = sym (ap (λ y. y.1) h)
+    with_so (Ok polls.Busy, a) h = sym (ap (λ y. y.1) h)
+    with_so (Err fault, a) h = sym (ap (λ y. y.1) h)
+
+    by : (b : Bool) → ◌≡◌ {A = Result Poll HostFault × PortAccount}
+        (cond b (Err Rattle.mscp_host.specs.declared.news.HostFault.TheVariants.NoCredit, old)
+        (polled_with old n (polls_oldest old.account n))) (answer, new) → new ≡ old
+    by true h = sym (ap (λ y. y.1) h)
+    by false h = with_so (polls_oldest old.account n) h

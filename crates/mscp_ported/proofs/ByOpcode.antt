@@ -1,0 +1,120 @@
+-- Each end that goes out fits its message, over a whole list of calls.
+use Rattle.mscp_ported.proofs.Holding.{small_figure}
+use Rattle.mscp_ported.proofs.Untouched.{passive_buffers}
+use Rattle.mscp_controller.specs.Calls.{AnsweredCalls, Call as Made}
+use Rattle.mscp_controller.specs.Controllers.{ControllersKeepThePromise, KeepsPromise}
+use Rattle.mscp_controller.specs.Holdings.{Holdings, fresh, numbers, numbers_ended, outstanding_of, waiting_on}
+use Rattle.mscp_drive.specs.Both.{of}
+use Rattle.mscp_drive.specs.Settings.{IsValid, Settings}
+use Rattle.mscp_drive.specs.declared.connection.Connection.TheVariants.{First}
+use Rattle.mscp_packet.specs.Number.{num}
+use Rattle.mscp_port.specs.Buffers.{is_of}
+use Rattle.mscp_port.specs.Calls.{IsMadeOf}
+use Rattle.mscp_port.specs.Histories.{Answered, Call, LookAgain, Next, Picking, Protect, PutAside, ReadIp, Tick, VolumeCame, VolumeWent, WasRead, Went, WriteIp, WriteSa}
+use Rattle.mscp_port.specs.declared.hardware.Hardware.{Hardware}
+use Rattle.mscp_port.specs.declared.port.Port.{Port}
+use Rattle.mscp_ported.proofs.Awaiting.{IsNoReset, Kept}
+use Rattle.mscp_ported.proofs.Coming.{ends_of, few_ends}
+use Rattle.mscp_ported.proofs.Dealing.{passive_taken}
+use Rattle.mscp_ported.proofs.Decided.{passive_said}
+use Rattle.mscp_ported.proofs.Ended.{kept, no_ends, nothing_two, shaped}
+use Rattle.mscp_ported.proofs.Ending.{zipped}
+use Rattle.mscp_ported.proofs.Fitted.{Fitting, nothing_fits, stays}
+use Rattle.mscp_ported.proofs.Fitting.{FitsIn}
+use Rattle.mscp_ported.proofs.Heeding.{read_fits}
+use Rattle.mscp_ported.specs.Fitting.{Fits}
+use Rattle.mscp_ported.proofs.Numbered.{some_none}
+use Rattle.mscp_ported.proofs.Opcodes.{next_fits, said_fits, went_fits}
+use Rattle.mscp_ported.proofs.Promised.{knows}
+use Rattle.mscp_ported.proofs.Staying.{IsPassive, passive_stays}
+use Rattle.mscp_ported.specs.Awaited.{ReadsBytes, awaited, has_number}
+use Rattle.mscp_ported.specs.Ends.{ends_said_by}
+use Rattle.std.proofs.Common.{ℕ, All, List, [], ap, arith, filter, length, refl, subst, sym, ◌<◌, ◌∙◌, ◌∷◌, ◌≡◌}
+use Rattle.std.specs.List.{AllByRecursion}
+use Rattle.std.specs.Prelude.{Err, Ok}
+
+module _ {K : Type 0} (picks : Picking K) (c : Settings) (picker : K)
+    (keeps : ControllersKeepThePromise (picks picker) picker) (valid : IsValid c)
+    (sizes : All (λ unit. 0 < unit.size) c.units) (before : List Made)
+    (hardware : Hardware) (credits : ℕ) (controller : Holdings K) (start : Port K)
+    (was : AnsweredCalls (picks picker) (fresh c picker) before controller)
+    (made : IsMadeOf hardware credits controller start) (quiet : outstanding_of First controller ≡ []) where
+  promised : (p : Port K) (calls : List Call) (a : Answered picks start calls p)
+      → (ms : List Made) × KeepsPromise (picks picker) c ms p.controller
+  promised p calls a =
+      let k = knows picks c picker keeps valid before hardware credits controller start was made p calls a in
+      (k.made, keeps c k.made p.controller valid k.answered)
+
+  numbers_kept : (p : Port K) (calls : List Call) → ReadsBytes calls → (a : Answered picks start calls p)
+      → Kept p (awaited picks start p calls a)
+  numbers_kept = kept picks c picker keeps valid before hardware credits controller start was made quiet
+
+  passive_fits : (p : Port K) (call : Call) (calls : List Call) (a : Answered picks start (call ∷ calls) p)
+      → IsPassive call → Fitting a.0 (awaited picks start a.0 calls a.1)
+      → Fitting p (awaited picks start p (call ∷ calls) a)
+  passive_fits p call calls a is f = stays call a.0 p (awaited picks start a.0 calls a.1) f (calm call is)
+      (passive_said call a.0 p is) (passive_taken call a.0 is) (passive_stays picks call a.0 p a.2 is)
+      (passive_buffers picks call a.0 p a.2 is)
+    where
+      calm : (call : Call) → IsPassive call → IsNoReset call
+      calm WriteIp is = absurd is
+      calm call is = record { texts = λ s xs ys. refl }
+
+  pub fitting : (p : Port K) (calls : List Call) → ReadsBytes calls → (a : Answered picks start calls p)
+      → Fitting p (awaited picks start p calls a)
+  fitting p [] reads a =
+      let same : p.controller ≡ controller = ap (λ (q : Port K). q.controller) a ∙ made.over in
+      let k = numbers_kept p [] reads a in
+      let no_end : ends_of p.controller ≡ [] = ap (λ h. ends_of h) same ∙ no_ends (of First controller.untaken)
+      (nothing_two (numbers (waiting_on First controller.waiting)) (numbers_ended (of First controller.untaken))
+      quiet).1 in
+      let nothing : p.decided.items ≡ [] = ap (λ (q : Port K). q.decided.items) a ∙ made.decided in
+      let no_buffer : p.buffers.items ≡ [] = ap (λ (q : Port K). q.buffers.items) a ∙ made.buffers in
+      record {
+        long = ap length no_end ∙ sym (ap length nothing);
+        kept = λ n. record {
+          none = λ e. ap (filter (is_of First n)) no_buffer;
+          own = λ r t e f. absurd (some_none t [] (sym f));
+        };
+        fits = subst (λ es. AllByRecursion (FitsIn []) (zipped es p.decided.items)) (sym no_end) tt;
+      }
+  fitting p (WriteIp ∷ calls) reads a =
+      nothing_fits p [] (ap (λ (h : Holdings K). h.waiting) a.2.controller) (ap (λ h. ends_of h) a.2.controller)
+      a.2.decided a.2.buffers
+  fitting p (Next blocks action bytes ∷ calls) reads a =
+      next_fits blocks action bytes a.0 p (awaited picks start a.0 calls a.1) (numbers_kept a.0 calls reads a.1)
+      (fitting a.0 calls reads a.1) (picks a.0.controller.picker) a.2.0
+  fitting p (WasRead bytes (Ok done) ∷ calls) reads a =
+      read_fits bytes done a.0 p (awaited picks start a.0 calls a.1) (numbers_kept a.0 calls reads.1 a.1)
+      (fitting a.0 calls reads.1 a.1) a.2 reads.0 c valid sizes (promised a.0 calls a.1).1.settings
+      (λ n. small_figure (picks picker) c (promised a.0 calls a.1).0 a.0.controller (promised a.0 calls a.1).1 n valid)
+  fitting p (WasRead bytes (Err unasked) ∷ calls) reads a =
+      passive_fits p (WasRead bytes (Err unasked)) calls a tt (fitting a.0 calls reads.1 a.1)
+  fitting p (Went outcome (Ok done) ∷ calls) reads a =
+      let m = promised p (Went outcome (Ok done) ∷ calls) a in
+      went_fits (picks a.0.controller.picker) outcome done a.0 p (awaited picks start a.0 calls a.1)
+      (numbers_kept a.0 calls reads a.1) (fitting a.0 calls reads a.1) a.2
+      (few_ends (picks picker) c m.0 p.controller valid m.1)
+  fitting p (Went outcome (Err unasked) ∷ calls) reads a =
+      passive_fits p (Went outcome (Err unasked)) calls a tt (fitting a.0 calls reads a.1)
+  fitting p (ReadIp ∷ calls) reads a = passive_fits p ReadIp calls a tt (fitting a.0 calls reads a.1)
+  fitting p (WriteSa word ∷ calls) reads a = passive_fits p (WriteSa word) calls a tt (fitting a.0 calls reads a.1)
+  fitting p (PutAside ∷ calls) reads a = passive_fits p PutAside calls a tt (fitting a.0 calls reads a.1)
+  fitting p (LookAgain ∷ calls) reads a = passive_fits p LookAgain calls a tt (fitting a.0 calls reads a.1)
+  fitting p (Tick ∷ calls) reads a = passive_fits p Tick calls a tt (fitting a.0 calls reads a.1)
+  fitting p (VolumeCame m unit result ∷ calls) reads a =
+      passive_fits p (VolumeCame m unit result) calls a tt (fitting a.0 calls reads a.1)
+  fitting p (VolumeWent unit result ∷ calls) reads a =
+      passive_fits p (VolumeWent unit result) calls a tt (fitting a.0 calls reads a.1)
+  fitting p (Protect protected unit result ∷ calls) reads a =
+      passive_fits p (Protect protected unit result) calls a tt (fitting a.0 calls reads a.1)
+
+  pub ends_fit : (p : Port K) (call : Call) (calls : List Call) (text message : List ℕ) → ReadsBytes (call ∷ calls)
+      → (a : Answered picks start (call ∷ calls) p) → ends_said_by call a.0 p ≡ text ∷ []
+      → filter (has_number (num text 0 4)) (awaited picks start a.0 calls a.1) ≡ message ∷ [] → Fits text message
+  ends_fit p (Next blocks action bytes) calls text message reads a said only =
+      said_fits blocks action bytes a.0 p (awaited picks start a.0 calls a.1) (numbers_kept a.0 calls reads a.1)
+      (fitting a.0 calls reads a.1) (picks a.0.controller.picker) a.2.0
+      (shaped picks c picker keeps valid before hardware credits controller start was made quiet a.0 calls a.1)
+      text message said only
+  ends_fit p call calls text message reads a said only = absurd (search (arith, said))

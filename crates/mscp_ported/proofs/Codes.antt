@@ -1,0 +1,341 @@
+-- The endcode of a command is that of its message's opcode, and a poll is about the command that its message names.
+use Rattle.std.proofs.Common.{◌≡◌, ◌⊎◌, ◌∙◌, ◌+◌, ◌<◌, ◌≤◌, ◌++◌, ◌∷◌, [], ℕ, Bool, true, false, cond, drop, length, nat_eq, nat_lt, take, List, Option, None, Some, inl, inr, refl, ap, sym, subst, arith}
+use Rattle.std.specs.Prelude.{bit_or, slice_index}
+use Rattle.byteorder.specs.Endian.{little_bytes}
+use Rattle.mscp_packet.specs.Number.{num}
+use Rattle.mscp_packet.specs.Opcodes.{least, opcode_of, opcodes, row_of}
+use Rattle.mscp_packet.specs.declared.class.Opcode.{Opcode}
+use Rattle.mscp_packet.specs.declared.class.Opcode.TheVariants as codes
+use Rattle.mscp_packet.specs.declared.command.Command.{Command}
+use Rattle.mscp_packet.specs.declared.command.MoveKind.{MoveKind}
+use Rattle.mscp_packet.specs.declared.command.MoveKind.TheVariants as kinds
+use Rattle.mscp_packet.specs.declared.command.Order.{Order}
+use Rattle.mscp_packet.specs.declared.command.Order.TheVariants as orders
+use Rattle.mscp_packet.specs.declared.end.EndBody.{EndBody}
+use Rattle.mscp_packet.specs.declared.end.EndBody.TheVariants as bodies
+use Rattle.mscp_packet.specs.Commands.{order_with, parameters}
+use Rattle.mscp_packet.specs.Ends.{refused_body}
+unfoldable use Rattle.mscp_packet.specs.Commands.{command_of}
+use Rattle.mscp_drive.specs.Settings.{Settings}
+use Rattle.mscp_drive.specs.Shape.{Shape}
+use Rattle.mscp_drive.specs.UnitList.{unit_found}
+use Rattle.mscp_queue.specs.Orders.{endcode}
+use Rattle.mscp_queue.proofs.Placed.{found_is}
+use Rattle.mscp_controller.specs.Arrival.{fault_of, is_queued, move_fault, unit_fault, version_fault}
+use Rattle.mscp_controller.specs.Outcomes.{own_end_with}
+use Rattle.mscp_port.specs.Formalities.{is_formality, stand_in}
+use Rattle.mscp_port.specs.Messages.{asks_for_next, handed, next_unit}
+use Rattle.mscp_port.proofs.Common.{eqb-true}
+use Rattle.mscp_ported.specs.Fitting.{IsCodeFor}
+
+-- ---- codes
+
+row_coded : (o : Opcode) → bit_or (row_of o).byte 0x80 ≡ (row_of o).byte + 0x80
+row_coded codes.Abort = refl
+row_coded codes.Status = refl
+row_coded codes.UnitStatus = refl
+row_coded codes.SetController = refl
+row_coded codes.Available = refl
+row_coded codes.Online = refl
+row_coded codes.SetUnit = refl
+row_coded (codes.Move kinds.Access) = refl
+row_coded (codes.Move kinds.Erase) = refl
+row_coded (codes.Move kinds.Compare) = refl
+row_coded (codes.Move kinds.Read) = refl
+row_coded (codes.Move kinds.Write) = refl
+
+parameters_coded : (o : Opcode) (b : List ℕ) → endcode (parameters o b) ≡ bit_or (row_of o).byte 0x80
+parameters_coded codes.Abort b = refl
+parameters_coded codes.Status b = refl
+parameters_coded codes.UnitStatus b = refl
+parameters_coded codes.SetController b = refl
+parameters_coded codes.Available b = refl
+parameters_coded codes.Online b = refl
+parameters_coded codes.SetUnit b = refl
+parameters_coded (codes.Move kind) b = refl
+
+order_coded : (o : Option Opcode) (b : List ℕ) → opcode_of (slice_index b 8) ≡ o
+    → IsCodeFor (endcode (order_with o b)) b
+order_coded None b e = inl refl
+order_coded (Some o) b e = by (nat_lt (length b) (least o))
+  where
+    at : (row_of o).byte ≡ slice_index b 8
+    at = eqb-true (row_of o).byte (slice_index b 8)
+        (found_is (λ x. nat_eq (row_of x).byte (slice_index b 8)) opcodes o e)
+
+    by : (c : Bool) → IsCodeFor (endcode (cond c (orders.Invalid (slice_index b 8)
+        Rattle.mscp_packet.specs.Statuses.invalid_length) (parameters o b))) b
+    by true = inr (subst (λ x. bit_or x 0x80 ≡ x + 0x80) at (row_coded o))
+    by false = inr (parameters_coded o b ∙ row_coded o ∙ ap (λ x. x + 0x80) at)
+
+command_coded : (b : List ℕ) → IsCodeFor (endcode (command_of b).order) b
+unfolding command_of
+command_coded b = order_coded (opcode_of (slice_index b 8)) b refl
+
+-- where another unit is named
+named_byte : (b : List ℕ) (n : ℕ) → 12 ≤ length b
+    → slice_index (take 4 b ++ little_bytes 2 n ++ drop 6 b) 8 ≡ slice_index b 8
+named_byte (a ∷ b ∷ c ∷ d ∷ e ∷ f ∷ g ∷ h ∷ i ∷ j ∷ k ∷ l ∷ rest) n long = refl
+named_byte b n long = absurd (search (arith, long))
+
+named_about : (b : List ℕ) (n : ℕ) → 12 ≤ length b
+    → num (take 4 b ++ little_bytes 2 n ++ drop 6 b) 12 4 ≡ num b 12 4
+named_about (a ∷ b ∷ c ∷ d ∷ e ∷ f ∷ g ∷ h ∷ i ∷ j ∷ k ∷ l ∷ rest) n long = refl
+named_about b n long = absurd (search (arith, long))
+
+pub handed_coded : (units : List Shape) (b : List ℕ) → 12 ≤ length b → is_formality (slice_index b 8) ≡ false
+    → IsCodeFor (endcode (command_of (handed units b)).order) b
+handed_coded units b long plain =
+    subst (λ c. IsCodeFor (endcode (command_of (cond c (stand_in b) (cond (asks_for_next b)
+    (take 4 b ++ little_bytes 2 (next_unit units (num b 4 2)) ++ drop 6 b) b))).order) b) (sym plain)
+    (by (asks_for_next b))
+  where
+    by : (c : Bool) → IsCodeFor (endcode (command_of (cond c
+        (take 4 b ++ little_bytes 2 (next_unit units (num b 4 2)) ++ drop 6 b) b)).order) b
+    by true = subst (λ x. (endcode (command_of (take 4 b ++ little_bytes 2 (next_unit units (num b 4 2))
+        ++ drop 6 b)).order ≡ 0x80) ⊎ (endcode (command_of (take 4 b ++ little_bytes 2 (next_unit units (num b 4 2))
+        ++ drop 6 b)).order ≡ x + 0x80)) (named_byte b (next_unit units (num b 4 2)) long)
+        (command_coded (take 4 b ++ little_bytes 2 (next_unit units (num b 4 2)) ++ drop 6 b))
+    by false = command_coded b
+
+-- ---- polls
+
+about_with : (o : Option Opcode) (b : List ℕ) (other : ℕ) → order_with o b ≡ orders.Status other → other ≡ num b 12 4
+about_with None b other e = search (arith, e)
+about_with (Some o) b other e = by (nat_lt (length b) (least o)) o e
+  where
+    by : (c : Bool) (o : Opcode) → cond c (orders.Invalid (slice_index b 8)
+        Rattle.mscp_packet.specs.Statuses.invalid_length) (parameters o b) ≡ orders.Status other → other ≡ num b 12 4
+    by true o h = search (arith, h)
+    by false codes.Abort h = search (arith, h)
+    by false codes.Status h = search (arith, h)
+    by false codes.UnitStatus h = search (arith, h)
+    by false codes.SetController h = search (arith, h)
+    by false codes.Available h = search (arith, h)
+    by false codes.Online h = search (arith, h)
+    by false codes.SetUnit h = search (arith, h)
+    by false (codes.Move kind) h = search (arith, h)
+
+about_command : (b : List ℕ) (other : ℕ) → (command_of b).order ≡ orders.Status other → other ≡ num b 12 4
+unfolding command_of
+about_command b other e = about_with (opcode_of (slice_index b 8)) b other e
+
+-- what stands in for a formality is no poll
+not_stood_in : (b : List ℕ) (other : ℕ) → 12 ≤ length b → (command_of (stand_in b)).order ≡ orders.Status other → ⊥
+unfolding command_of
+not_stood_in (a ∷ b ∷ c ∷ d ∷ e ∷ f ∷ g ∷ h ∷ rest) other long is = search (arith, is)
+not_stood_in b other long is = search (arith, long)
+
+pub handed_about : (units : List Shape) (b : List ℕ) (other : ℕ) → 12 ≤ length b
+    → (command_of (handed units b)).order ≡ orders.Status other → other ≡ num b 12 4
+handed_about units b other long e = by (is_formality (slice_index b 8)) (asks_for_next b) e
+  where
+    by : (x y : Bool) → (command_of (cond x (stand_in b)
+        (cond y (take 4 b ++ little_bytes 2 (next_unit units (num b 4 2)) ++ drop 6 b) b))).order ≡ orders.Status other
+        → other ≡ num b 12 4
+    by true y h = absurd (not_stood_in b other long h)
+    by false true h = about_command (take 4 b ++ little_bytes 2 (next_unit units (num b 4 2)) ++ drop 6 b) other h
+        ∙ named_about b (next_unit units (num b 4 2)) long
+    by false false h = about_command b other h
+
+-- ---- an end that is answered at once
+
+-- no body but that of a poll tells a figure
+abbrev IsAbout : List ℕ → EndBody → Type 0
+IsAbout b body = (other figure : ℕ) → body ≡ bodies.Status other figure → other ≡ num b 12 4
+
+short_about : (o : Opcode) (b : List ℕ) (byte : ℕ) → (row_of o).byte ≡ byte → least o ≤ 16 → 16 ≤ length b
+    → nat_lt (length b) (least o) ≡ true → IsAbout b (refused_body (bit_or byte 0x80))
+short_about o b byte at small long short = absurd (search (arith, small, long, short))
+
+other_about : (o : Opcode) (b : List ℕ) (byte : ℕ) → (row_of o).byte ≡ byte → 16 < least o
+    → IsAbout b (refused_body (bit_or byte 0x80))
+other_about codes.Abort b byte at more other figure is = absurd (search (arith, more))
+other_about codes.Status b byte at more other figure is = absurd (search (arith, more))
+other_about codes.UnitStatus b byte at more other figure is = absurd (search (arith, more))
+other_about codes.SetController b byte at more other figure is = absurd (search (arith, more))
+other_about codes.Available b byte at more other figure is = absurd (search (arith, more))
+other_about codes.Online b byte at more other figure is = absurd (search (arith, more))
+other_about codes.SetUnit b byte at more other figure is = absurd (search (arith, more))
+other_about (codes.Move kind) b byte at more other figure is = absurd (moved kind other figure
+    (ap (λ x. refused_body (bit_or x 0x80)) at ∙ is))
+  where
+    moved : (kind : MoveKind) (other figure : ℕ)
+        → refused_body (bit_or (row_of (codes.Move kind)).byte 0x80) ≡ bodies.Status other figure → ⊥
+    moved kinds.Access other figure is = search (arith, is)
+    moved kinds.Erase other figure is = search (arith, is)
+    moved kinds.Compare other figure is = search (arith, is)
+    moved kinds.Read other figure is = search (arith, is)
+    moved kinds.Write other figure is = search (arith, is)
+
+abbrev body_of : Settings → Bool → ℕ → Command → EndBody
+body_of c online figure command = (own_end_with c online figure command (fault_of c command)).body
+
+parameters_about : (c : Settings) (online : Bool) (figure unit : ℕ) (reference : ℕ) (b : List ℕ) (o : Opcode)
+    → IsAbout b (body_of c online figure (record { reference = reference; unit = unit; order = parameters o b }))
+parameters_about c online figure unit reference b codes.Status other told is =
+    search (arith, is)
+parameters_about c online figure unit reference b codes.Abort other told is = absurd (search (arith, is))
+parameters_about c online figure unit reference b codes.UnitStatus other told is = absurd (by
+    (unit_found c.units unit) is)
+  where
+    by : (o : Option Shape) → (own_end_with c online figure (record {
+      reference = reference;
+      unit = unit;
+      order = orders.UnitStatus;
+    }) (unit_fault o)).body ≡ bodies.Status other told → ⊥
+    by None h = search (arith, h)
+    by (Some u) h = search (arith, h)
+parameters_about c online figure unit reference b (codes.SetController) other told is =
+    absurd (by (version_fault (num b 12 2)) is)
+  where
+    by : (o : Option ℕ) → (own_end_with c online figure (record {
+      reference = reference;
+      unit = unit;
+      order = orders.SetController (num b 12 2);
+    }) o).body ≡ bodies.Status other told → ⊥
+    by None h = search (arith, h)
+    by (Some u) h = search (arith, h)
+parameters_about c online figure unit reference b codes.Available other told is = absurd (by (unit_fault
+    (unit_found c.units unit)) is)
+  where
+    by : (o : Option ℕ) → (own_end_with c online figure (record {
+      reference = reference;
+      unit = unit;
+      order = orders.Available;
+    }) o).body ≡ bodies.Status other told → ⊥
+    by None h = search (arith, h)
+    by (Some u) h = search (arith, h)
+parameters_about c online figure unit reference b codes.Online other told is = absurd (by (unit_fault
+    (unit_found c.units unit)) is)
+  where
+    by : (o : Option ℕ) → (own_end_with c online figure (record {
+      reference = reference;
+      unit = unit;
+      order = orders.Online;
+    }) o).body ≡ bodies.Status other told → ⊥
+    by None h = search (arith, h)
+    by (Some u) h = search (arith, h)
+parameters_about c online figure unit reference b codes.SetUnit other told is = absurd (by (unit_fault
+    (unit_found c.units unit)) is)
+  where
+    by : (o : Option ℕ) → (own_end_with c online figure (record {
+      reference = reference;
+      unit = unit;
+      order = orders.SetUnit;
+    }) o).body ≡ bodies.Status other told → ⊥
+    by None h = search (arith, h)
+    by (Some u) h = search (arith, h)
+parameters_about c online figure unit reference b (codes.Move kind) other told is =
+    absurd (by kind (move_fault c (num b 12 4) (num b 28 4) (unit_found c.units unit)) is)
+  where
+    by : (kind : MoveKind) (o : Option ℕ) → (own_end_with c online figure (record {
+      reference = reference;
+      unit = unit;
+      order = orders.Move kind (num b 12 4) (num b 28 4);
+    }) o).body ≡ bodies.Status other told → ⊥
+    by kinds.Access None h = search (arith, h)
+    by kinds.Erase None h = search (arith, h)
+    by kinds.Compare None h = search (arith, h)
+    by kinds.Read None h = search (arith, h)
+    by kinds.Write None h = search (arith, h)
+    by kinds.Access (Some u) h = search (arith, h)
+    by kinds.Erase (Some u) h = search (arith, h)
+    by kinds.Compare (Some u) h = search (arith, h)
+    by kinds.Read (Some u) h = search (arith, h)
+    by kinds.Write (Some u) h = search (arith, h)
+
+answered_with : (c : Settings) (online : Bool) (figure unit reference : ℕ) (b : List ℕ) (o : Option Opcode)
+    → opcode_of (slice_index b 8) ≡ o → 16 ≤ length b
+    → IsAbout b (body_of c online figure (record { reference = reference; unit = unit; order = order_with o b }))
+answered_with c online figure unit reference b None e long other told is = absurd (search (arith, is))
+answered_with c online figure unit reference b (Some o) e long other told is = by (nat_lt (length b) (least o)) refl is
+  where
+    at : (row_of o).byte ≡ slice_index b 8
+    at = eqb-true (row_of o).byte (slice_index b 8)
+        (found_is (λ x. nat_eq (row_of x).byte (slice_index b 8)) opcodes o e)
+
+    refused : nat_lt (length b) (least o) ≡ true → (n : ℕ) → least o ≡ n
+        → refused_body (bit_or (slice_index b 8) 0x80) ≡ bodies.Status other told → other ≡ num b 12 4
+    refused short n same h = elim (low n) [
+      | inl few ↦ short_about o b (slice_index b 8) at (subst (λ m. m ≤ 16) (sym same) few) long short other told h
+      | inr more ↦ other_about o b (slice_index b 8) at (subst (λ m. 16 < m) (sym same) more) other told h
+    ]
+      where
+        low : (n : ℕ) → (n ≤ 16) ⊎ (16 < n)
+        low n = search arith
+
+    by : (x : Bool) → nat_lt (length b) (least o) ≡ x
+        → body_of c online figure (record {
+          reference = reference;
+          unit = unit;
+          order = cond x
+              (orders.Invalid (slice_index b 8) Rattle.mscp_packet.specs.Statuses.invalid_length) (parameters o b);
+        })
+        ≡ bodies.Status other told → other ≡ num b 12 4
+    by true short h = refused short (least o) refl h
+    by false enough h = parameters_about c online figure unit reference b o other told h
+
+answered_command : (c : Settings) (online : Bool) (figure : ℕ) (b : List ℕ) → 16 ≤ length b
+    → IsAbout b (body_of c online figure (command_of b))
+unfolding command_of
+answered_command c online figure b long =
+    answered_with c online figure (num b 4 2) (num b 0 4) b (opcode_of (slice_index b 8)) refl long
+
+-- where another unit is named
+named_long : (b : List ℕ) (n : ℕ) → 16 ≤ length b → 16 ≤ length (take 4 b ++ little_bytes 2 n ++ drop 6 b)
+named_long (a ∷ b ∷ c ∷ d ∷ e ∷ f ∷ g ∷ h ∷ i ∷ j ∷ k ∷ l ∷ rest) n long = long
+named_long b n long = search (arith, long)
+
+stood_about : (c : Settings) (online : Bool) (figure : ℕ) (b : List ℕ) → 16 ≤ length b
+    → (other told : ℕ) → body_of c online figure (command_of (stand_in b)) ≡ bodies.Status other told → ⊥
+unfolding command_of
+stood_about c online figure (x ∷ b ∷ d ∷ e ∷ f ∷ g ∷ h ∷ i ∷ rest) long other told is =
+    by (move_fault c 0 0 (unit_found c.units (num (f ∷ g ∷ []) 0 2))) is
+  where
+    by : (o : Option ℕ) → (own_end_with c online figure (command_of (stand_in (x ∷ b ∷ d ∷ e ∷ f ∷ g ∷ h ∷ i ∷ rest)))
+        o).body ≡ bodies.Status other told → ⊥
+    by None h = search (arith, h)
+    by (Some u) h = search (arith, h)
+stood_about c online figure b long other told is = search (arith, long)
+
+pub answered_about : (c : Settings) (online : Bool) (figure : ℕ) (units : List Shape) (b : List ℕ) → 16 ≤ length b
+    → (other told : ℕ) → body_of c online figure (command_of (handed units b)) ≡ bodies.Status other told
+    → other ≡ num b 12 4
+answered_about c online figure units b long other told is = by (is_formality (slice_index b 8)) (asks_for_next b) is
+  where
+    by : (x y : Bool) → body_of c online figure (command_of (cond x (stand_in b)
+        (cond y (take 4 b ++ little_bytes 2 (next_unit units (num b 4 2)) ++ drop 6 b) b))) ≡ bodies.Status other told
+        → other ≡ num b 12 4
+    by true y h = absurd (stood_about c online figure b long other told h)
+    by false true h = answered_command c online figure
+        (take 4 b ++ little_bytes 2 (next_unit units (num b 4 2)) ++ drop 6 b)
+        (named_long b (next_unit units (num b 4 2)) long) other told h
+        ∙ named_about b (next_unit units (num b 4 2)) (search (arith, long))
+    by false false h = answered_command c online figure b long other told h
+
+-- ---- a command that is queued
+
+-- it tells no figure
+pub queued_no_figure : (c : Settings) (command : Command) → is_queued c command ≡ true → (other figure : ℕ)
+    → refused_body (endcode command.order) ≡ bodies.Status other figure → ⊥
+queued_no_figure c command q other figure is = by command.order refl
+  where
+    by : (order : Order) → command.order ≡ order → ⊥
+    by (orders.Abort n) e = search (arith, q, e)
+    by (orders.Status n) e = search (arith, q, e)
+    by orders.UnitStatus e = search (arith, q, e)
+    by (orders.SetController v) e = search (arith, q, e)
+    by (orders.Invalid byte status) e = search (arith, q, e)
+    by orders.Available e = search (arith, sym (ap (λ o. refused_body (endcode o)) e) ∙ is)
+    by orders.Online e = search (arith, sym (ap (λ o. refused_body (endcode o)) e) ∙ is)
+    by orders.SetUnit e = search (arith, sym (ap (λ o. refused_body (endcode o)) e) ∙ is)
+    by (orders.Move kind count block) e = moved kind (sym (ap (λ o. refused_body (endcode o)) e) ∙ is)
+      where
+        moved : (kind : MoveKind) → refused_body (endcode
+            (orders.Move kind count block)) ≡ bodies.Status other figure → ⊥
+        moved kinds.Access h = search (arith, h)
+        moved kinds.Erase h = search (arith, h)
+        moved kinds.Compare h = search (arith, h)
+        moved kinds.Read h = search (arith, h)
+        moved kinds.Write h = search (arith, h)

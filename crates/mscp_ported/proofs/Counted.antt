@@ -1,0 +1,35 @@
+-- An end counts no more bytes than its command asks for.
+use Rattle.std.proofs.Common.{◌≡◌, ◌≤◌, ℕ, Bool, true, false, cond, None, Some, subst, arith}
+use Rattle.std.proofs.lemmas.Option.{none-some, same_Some}
+use Rattle.mscp_packet.specs.declared.command.Order.{Order}
+use Rattle.mscp_packet.specs.declared.command.Order.TheVariants as orders
+use Rattle.mscp_packet.specs.declared.end.End.{End}
+use Rattle.mscp_drive.specs.Shape.{Shape}
+use Rattle.mscp_drive.specs.declared.block.Block.{Block}
+use Rattle.mscp_queue.specs.declared.drive.Drive.{Drive}
+use Rattle.mscp_queue.specs.Outcomes.{goes_on, moved_body, outcome_at, outcome_body}
+use Rattle.mscp_queue.specs.Records.{Record, left_of}
+use Rattle.mscp_queue.specs.Serving.{end_given}
+use Rattle.mscp_ported.proofs.Numbered.{asked_by, counted_in}
+
+pub moved_few : (order : Order) (good n : ℕ) → asked_by order ≤ n → counted_in (moved_body order good) ≤ n
+moved_few (orders.Move kind count block) good n h = search (arith, h)
+moved_few order good n h = grind arith
+
+outcome_few : (shape : Shape) (status : ℕ) (order : Order) (good n : ℕ) → asked_by order ≤ n
+    → counted_in (outcome_body shape status order good) ≤ n
+outcome_few shape status orders.Online good n h = grind arith
+outcome_few shape status orders.SetUnit good n h = grind arith
+outcome_few shape status order good n h = moved_few order good n h
+
+pub given_few : (k : Block) (d : Drive) (r : Record) (e : End) (n : ℕ) → end_given k d r ≡ Some e
+    → asked_by r.command.order ≤ n → counted_in e.body ≤ n
+given_few k d r e n h few = by (goes_on d.online r.command.order k (left_of r)) h
+  where
+    own : End
+    own = outcome_at d.unit d.online r.command r.good k
+
+    by : (b : Bool) → cond b None (Some own) ≡ Some e → counted_in e.body ≤ n
+    by true h = absurd (none-some e h)
+    by false h = subst (λ (x : End). counted_in x.body ≤ n) (same_Some own e h)
+        (outcome_few d.unit _ r.command.order _ n few)

@@ -1,0 +1,343 @@
+-- By each call of a port the figure of a command that waits falls or stays.
+use Rattle.std.proofs.Common.{◌≡◌, ◌⊎◌, ◌∙◌, ◌+◌, ◌<◌, ◌≤◌, ◌++◌, ◌∷◌, [], ℕ, Bool, true, false, cond, filter, length, not, take, List, Option, None, Some, inl, inr, refl, ap, sym, subst, arith}
+use Rattle.std.specs.Prelude.{Contains, Ok, Err, find}
+use Rattle.std.specs.List.{AllByRecursion}
+use Rattle.std.proofs.lemmas.List.{append-nil}
+use Rattle.std.proofs.lemmas.Option.{none-some, same_Some}
+use Rattle.mscp_drive.specs.Settings.{IsValid, Settings}
+use Rattle.mscp_queue.specs.declared.name.Name.{Name}
+use Rattle.mscp_queue.specs.Names.{same_name}
+use Rattle.mscp_queue.proofs.Lists.{every_append, every_kept, every_weaker}
+use Rattle.mscp_queue.proofs.Named.{is_same, same_is}
+use Rattle.mscp_controller.specs.Commands.{ends_in, is_waiting, name}
+unfoldable use Rattle.mscp_controller.specs.Commands.{waiting}
+use Rattle.mscp_controller.specs.Figures.{figure}
+unfoldable use Rattle.mscp_controller.specs.Figures.{figure_of}
+use Rattle.mscp_controller.specs.Headline.{Promise}
+use Rattle.mscp_controller.specs.History.{Moment, Trace, is_step, queues}
+use Rattle.mscp_controller.specs.Legal.{IsLegal, IsRight}
+use Rattle.mscp_controller.proofs.Promise.Apart.{name_last, new_name, queued_name}
+use Rattle.mscp_controller.proofs.Promise.Falling.{Falling}
+use Rattle.mscp_controller.proofs.Promise.Grows.{name_before, waiting_more}
+use Rattle.mscp_controller.proofs.Promise.Progress.{waits_in}
+use Rattle.mscp_controller.proofs.Promise.Waits.{waiting_waits, waits_below}
+use Rattle.std.specs.Prelude.{Result}
+use Rattle.std.proofs.lemmas.List.{length-append, take_all, take_at}
+use Rattle.std.proofs.lemmas.Grind.{flat_map-append}
+use Rattle.mscp_packet.specs.declared.end.End.{End}
+use Rattle.mscp_drive.specs.Shape.{Shape}
+use Rattle.mscp_drive.specs.declared.block.Block.{Block}
+use Rattle.mscp_drive.specs.declared.connection.Connection.TheVariants.{First}
+use Rattle.mscp_drive.specs.declared.event.Event.TheVariants as events
+use Rattle.mscp_queue.specs.Figures.{figure_of_name}
+use Rattle.mscp_queue.specs.Names.{name_on}
+use Rattle.mscp_queue.specs.Records.{Record}
+use Rattle.mscp_queue.specs.Serving.{is_begun, upcoming_begun}
+use Rattle.mscp_queue.specs.declared.drive.Drive.{Drive}
+use Rattle.mscp_queue.specs.declared.report.Report.{Report}
+use Rattle.mscp_queue.specs.declared.view.Choice.{Choice}
+use Rattle.mscp_controller.specs.Calls.{AnsweredCalls, Call as Made, Finish, Plain, history, moments_of}
+use Rattle.mscp_controller.specs.Controllers.{ControllersKeepThePromise, KeepsPromise}
+use Rattle.mscp_controller.specs.Headline.{AtEach, EachWaiting}
+use Rattle.mscp_controller.specs.History.{moment}
+use Rattle.mscp_controller.specs.Holdings.{Holdings, fresh}
+use Rattle.mscp_controller.specs.declared.entry.Entry.TheVariants as entries
+use Rattle.mscp_controller.specs.declared.entry.NotBegun.{NotBegun}
+use Rattle.mscp_controller.proofs.Promise.Grows.{moment_last}
+use Rattle.mscp_port.specs.declared.action.Outcome.{Outcome}
+use Rattle.mscp_port.specs.declared.buffers.Buffer.{Buffer}
+use Rattle.mscp_port.specs.declared.hardware.Hardware.{Hardware}
+use Rattle.mscp_port.specs.declared.port.Outgoing.{Outgoing}
+use Rattle.mscp_port.specs.declared.port.OutgoingKind.{OutgoingKind}
+use Rattle.mscp_port.specs.declared.port.OutgoingKind.TheVariants as kinds
+use Rattle.mscp_port.specs.declared.port.Port.{Port}
+use Rattle.mscp_port.specs.declared.task.Task.{Task}
+use Rattle.mscp_port.specs.declared.task.Task.TheVariants as tasks
+use Rattle.mscp_port.specs.declared.volumes.Volume.{Volume}
+use Rattle.mscp_port.specs.Calls.{IsMadeOf}
+use Rattle.mscp_port.specs.Departures.{IsForgotten}
+use Rattle.mscp_port.specs.Fair.{TellsStep}
+use Rattle.mscp_port.specs.Histories.{Answered, Becomes, Call, Next, Picking, WasRead, Went}
+use Rattle.mscp_port.specs.Messages.{handed, own_end_of}
+use Rattle.mscp_port.specs.Moved.{IsStepping, begun_task, block_begun}
+use Rattle.mscp_port.specs.Ports.{IsOfBlock}
+use Rattle.mscp_port.specs.Seen.{answered_to}
+use Rattle.mscp_port.proofs.Common.{false≢true}
+use Rattle.mscp_ported.specs.Figures.{Lowers, figure_on}
+use Rattle.mscp_ported.specs.Making.{IsFinish, Makes, begin_made, send_made, step_told, take_made, taken_as, told_of, transfer_told, unless_own}
+use Rattle.mscp_ported.specs.Talk.{AsksAlways}
+use Rattle.mscp_ported.proofs.Made.{follows}
+use Rattle.mscp_ported.proofs.Making.{made_more}
+use Rattle.mscp_ported.proofs.Moving.{steps}
+use Rattle.mscp_ported.proofs.Promised.{Knows, knows, pickers_kept}
+
+-- ---- one moment more
+
+-- what is found is as all are, and passes
+pub found_of : (P : ℕ → Type 0) (f : ℕ → Bool) (xs : List ℕ) (x : ℕ) → AllByRecursion P xs → find f xs ≡ Some x
+    → P x × (f x ≡ true)
+found_of P f [] x all e = absurd (none-some x e)
+found_of P f (y ∷ ys) x all e = by (f y) refl e (λ h. found_of P f ys x all.1 h)
+  where
+    by : (b : Bool) → f y ≡ b → cond b (Some y) (find f ys) ≡ Some x
+        → (find f ys ≡ Some x → P x × (f x ≡ true)) → P x × (f x ≡ true)
+    by true is h rest = let same = same_Some y x h in (subst P same all.0, subst (λ z. f z ≡ true) same is)
+    by false is h rest = rest h
+
+module _ (c : Settings) (t : Trace) (m : Moment) (right : IsRight c t m.0 m.1) (f : Falling c t m)
+    (own : (x : ℕ) → Contains (waiting t) x → figure_of c t (name t x) ≡ figure c t x) (n : Name)
+    (waits : 1 ≤ figure_of c t n) where
+  abbrev after : Trace
+  after = t ++ m ∷ []
+
+  -- what waits under the name then has no greater figure
+  abbrev IsLower : ℕ → Type 0
+  IsLower y = name after y ≡ n
+      → (figure c after y ≤ figure_of c t n) × (is_step m.0 ≡ true → figure c after y < figure_of c t n)
+
+  stays_lower : (y : ℕ) → is_waiting t y ≡ true → IsLower y
+  stays_lower y w named =
+      let there = waits_in t y w in
+      let same : figure_of c t n ≡ figure c t y =
+      ap (figure_of c t) (sym named ∙ name_before t m y (waits_below t y w)) ∙ own y there in (
+        subst (λ k. figure c after y ≤ k) (sym same) (f.other y there),
+        λ step. subst (λ k. figure c after y < k) (sym same) (f.step step y there),
+      )
+
+  -- none that waits has the name of one that comes
+  not_new : queues m.1 ≡ true → n ≡ queued_name m → ⊥
+  unfolding figure_of
+  not_new q e = by (find (λ x. same_name (name t x) n) (waiting t)) refl waits
+    where
+      by : (o : Option ℕ) → find (λ x. same_name (name t x) n) (waiting t) ≡ o
+          → 1 ≤ Rattle.mscp_controller.specs.Figures.figure_found c t o → ⊥
+      by None is low = search (arith, low)
+      by (Some x) is low =
+          let h = found_of (λ x. Rattle.std.specs.Prelude.◌≢◌ (name t x) (queued_name m))
+          (λ x. same_name (name t x) n) (waiting t) x (new_name c t m right q) is in
+          h.0 (same_is (name t x) n h.1 ∙ e)
+
+  each_lower : AllByRecursion IsLower (waiting after)
+  each_lower = subst (λ xs. AllByRecursion IsLower xs) (sym (waiting_more t m))
+      (every_append IsLower (filter (λ x. not (ends_in (name t x) m.1)) (waiting t)) (cond (queues m.1)
+          (length t ∷ []) [])
+      (every_kept IsLower (λ x. not (ends_in (name t x) m.1)) (waiting t)
+      (every_weaker (λ x. is_waiting t x ≡ true) IsLower stays_lower (waiting t) (waiting_waits t)))
+      (new_lower (queues m.1) refl))
+    where
+      new_lower : (b : Bool) → queues m.1 ≡ b → AllByRecursion IsLower (cond b (length t ∷ []) [])
+      new_lower true q = ((λ named. absurd (not_new q (sym named ∙ name_last t m))), tt)
+      new_lower false q = tt
+
+  pub lower_then : (figure_of c after n ≤ figure_of c t n)
+      × (is_step m.0 ≡ true → figure_of c after n < figure_of c t n)
+  unfolding figure_of
+  lower_then = by (find (λ x. same_name (name after x) n) (waiting after)) refl
+    where
+      by : (o : Option ℕ) → find (λ x. same_name (name after x) n) (waiting after) ≡ o
+          → (Rattle.mscp_controller.specs.Figures.figure_found c after o ≤ figure_of c t n)
+          × (is_step m.0 ≡ true → Rattle.mscp_controller.specs.Figures.figure_found c after o < figure_of c t n)
+      by None is = (search arith, λ step. waits)
+      by (Some y) is =
+          let h = found_of IsLower (λ x. same_name (name after x) n) (waiting after) y each_lower is in
+          h.0 (same_is (name after y) n h.1)
+
+-- ---- what one call of a port makes is one moment at most
+
+abbrev IsOne : List Made → Type 0
+IsOne more = (history more ≡ []) ⊎ ((m : Moment) × (history more ≡ m ∷ []))
+
+begins_none : {K : Type 0} (p : Port K) (before after : Task) → history (begin_made p before after) ≡ []
+begins_none p tasks.Free (tasks.Step verdict) = refl
+begins_none p tasks.Free tasks.Transfer = refl
+begins_none p old new = refl
+
+takes_one : {K : Type 0} (p : Port K) (before after : Option Outgoing) → IsOne (take_made p before after)
+takes_one p None (Some o) = by o.kind
+  where
+    by : (kind : OutgoingKind) → IsOne (taken_as p kind)
+    by kinds.Attention = inl refl
+    by kinds.End = inr (_, refl)
+    by kinds.UtilitiesEnd = inl refl
+takes_one p old new = inl refl
+
+sends_one : {K : Type 0} (p : Port K) (bytes : List ℕ) (t : Task) → IsOne (send_made p bytes t)
+sends_one p bytes (tasks.Text slot size foreign) = by (own_end_of p foreign bytes)
+  where
+    by : (o : Option End) → IsOne (unless_own o (Plain
+        (events.Send First (record { items = handed p.controller.settings.units bytes }))
+        (entries.Sent First (answered_to p bytes))))
+    by None = inr (_, refl)
+    by (Some e) = inl refl
+sends_one p bytes t = inl refl
+
+finishes_one : (o : Option Block) (b : Option Name) (more : List Made) → IsFinish o b more → IsOne more
+finishes_one (Some block) (Some name) more h = by h.0 h.1
+  where
+    by : (result : Result Report NotBegun) → more ≡ Finish name.connection name.reference block result ∷ [] → IsOne more
+    by (Ok report) e = inr ((events.Step block, entries.Stepped report), ap history e)
+    by (Err not_begun) e = inl (ap history e)
+finishes_one (Some block) None more h = inl (ap history h)
+finishes_one None b more h = inl (ap history h)
+
+one_beside : (xs ys : List Made) → history ys ≡ [] → IsOne xs → IsOne (xs ++ ys)
+one_beside xs ys none one =
+    let whole : history (xs ++ ys) ≡ history xs =
+    flat_map-append moments_of xs ys ∙ ap (λ ms. history xs ++ ms) none ∙ append-nil (history xs) in
+    elim one [
+      | inl e ↦ inl (whole ∙ e)
+      | inr m ↦ inr (m.0, whole ∙ m.1)
+    ]
+
+makes_one : {K : Type 0} (call : Call) (old new : Port K) (more : List Made) → Makes call old new more → IsOne more
+makes_one (Next blocks action bytes) old new more h =
+    subst (λ ms. IsOne ms) (sym h) (one_beside (take_made old old.outgoing new.outgoing)
+    (begin_made new old.task new.task) (begins_none new old.task new.task) (takes_one old old.outgoing new.outgoing))
+makes_one (WasRead bytes (Ok done)) old new more h = subst (λ ms. IsOne ms) (sym h) (sends_one old bytes old.task)
+makes_one (Went outcome (Ok done)) old new more h =
+    finishes_one (step_told old outcome old.task) old.controller.begun more h
+makes_one call old new more h = inl (ap history h)
+
+-- a step that is told is a moment that is one
+tells_step : {K : Type 0} (picks : List Choice → ℕ → Type 0) (old new : Holdings K) (o : Option Block)
+    (b : Option Name) (block : Block) (name : Name) (more : List Made) → o ≡ Some block → b ≡ Some name
+    → old.begun ≡ Some name → IsFinish o b more → AnsweredCalls picks old more new
+    → (m : Moment) × (history more ≡ m ∷ []) × (is_step m.0 ≡ true)
+tells_step picks old new None b block name more told begun is h answered = absurd (none-some block told)
+tells_step picks old new (Some other) None block name more told begun is h answered = absurd (none-some name begun)
+tells_step picks old new (Some other) (Some found) block name more told begun is h answered = by h.0 h.1
+  where
+    by : (result : Result Report NotBegun)
+        → more ≡ Finish found.connection found.reference other result ∷ []
+        → (m : Moment) × (history more ≡ m ∷ []) × (is_step m.0 ≡ true)
+    by (Ok report) e = ((events.Step other, entries.Stepped report), ap history e, refl)
+    by (Err not_begun) e =
+        let a = subst (λ ms. AnsweredCalls picks old ms new) e answered in
+        absurd (false≢true (sym a.1.0 ∙ ap (is_begun (name_on found.connection found.reference))
+        (is ∙ ap Some (same_Some name found (sym begun))) ∙ is_same found found refl))
+
+-- ---- the law
+
+at_last : (t : Trace) (m : Moment) (R : Trace → Moment → Trace → Type 0) → AtEach (t ++ m ∷ []) R
+    → R t m (t ++ m ∷ [])
+at_last t m R each =
+    let h = each (length t) (omega (arith, length-append t (m ∷ []))) in
+    subst (λ x. R x m (t ++ m ∷ [])) (take_at t (m ∷ []) (length t) refl)
+    (subst (λ x. R (take (length t) (t ++ m ∷ [])) x (t ++ m ∷ [])) (moment_last t m)
+    (subst (λ x. R (take (length t) (t ++ m ∷ [])) (moment (t ++ m ∷ []) (length t)) x)
+    (take_all (length t + 1) (t ++ m ∷ []) (omega (arith, length-append t (m ∷ [])))) h))
+
+-- where a step is in hand the controller has begun it
+begun_some : (units : List Shape) (buffers : List Buffer) (volumes : List Volume) (ds : List Drive) (rs : List Record)
+    (t : Task) (b : Option Name) → IsStepping t → t ≡ begun_task units buffers volumes (upcoming_begun ds rs b)
+    → (name : Name) × (b ≡ Some name)
+begun_some units buffers volumes ds rs t (Some name) is at = (name, refl)
+begun_some units buffers volumes ds rs t None is at = absurd (subst (λ x. IsStepping x) at is)
+
+stepping_told : {K : Type 0} (old : Port K) (outcome : Outcome) (t : Task) → IsStepping t
+    → (block : Block) × (step_told old outcome t ≡ Some block)
+stepping_told old outcome (tasks.Step verdict) is = (told_of verdict, refl)
+stepping_told old outcome tasks.Transfer is = (transfer_told old outcome (block_begun old), refl)
+stepping_told old outcome t is = absurd is
+
+stepping_block : (t : Task) → IsStepping t → IsOfBlock t
+stepping_block (tasks.Step verdict) is = tt
+stepping_block tasks.Transfer is = tt
+stepping_block t is = absurd is
+
+module _ {K : Type 0} (picks : Picking K) (c : Settings) (picker : K)
+    (keeps : ControllersKeepThePromise (picks picker) picker) (valid : IsValid c) (before : List Made)
+    (hardware : Hardware) (credits : ℕ) (controller : Holdings K) (start : Port K)
+    (was : AnsweredCalls (picks picker) (fresh c picker) before controller)
+    (made : IsMadeOf hardware credits controller start) (p : Port K) (call : Call) (calls : List Call)
+    (asks : AsksAlways (call ∷ calls)) (a : Answered picks start (call ∷ calls) p) (number : ℕ) where
+  abbrev n : Name
+  n = name_on First number
+
+  k : Knows picks c picker before start a.0 calls a.1
+  k = knows picks c picker keeps valid before hardware credits controller start was made a.0 calls a.1
+
+  abbrev t : Trace
+  t = history k.made
+
+  kept : KeepsPromise (picks picker) c k.made a.0.controller
+  kept = keeps c k.made a.0.controller valid k.answered
+
+  shown : {h : Holdings K} → (ms : List Made) → KeepsPromise (picks picker) c ms h
+      → figure_of_name h.settings.budget h.waiting n ≡ figure_of c (history ms) n
+  shown {h} ms q = ap (λ (s : Settings). figure_of_name s.budget h.waiting n) q.settings ∙ q.figure n
+
+  own : (x : ℕ) → Contains (waiting t) x → figure_of c t (name t x) ≡ figure c t x
+  own = subst (λ z. (x : ℕ) → Contains (waiting z) x → figure_of c z (name z x) ≡ figure c z x)
+      (take_all (length t) t (search arith)) (kept.promise.own (length t) (search arith))
+
+  -- all was forgotten
+  forgotten : IsForgotten a.0 p → figure_on p number ≡ 0
+  forgotten f = ap (λ (h : Holdings K). figure_of_name h.settings.budget h.waiting n) f.1.controller
+
+  module _ (more : List Made) (makes : Makes call a.0 p more)
+      (answered : AnsweredCalls (picks a.0.controller.picker) a.0.controller more p.controller) where
+    same_picker : a.0.controller.picker ≡ picker
+    same_picker = pickers_kept (picks picker) (fresh c picker) k.made a.0.controller k.answered
+
+    now : KeepsPromise (picks picker) c (k.made ++ more) p.controller
+    now = keeps c (k.made ++ more) p.controller valid
+        (made_more (picks picker) (fresh c picker) k.made more a.0.controller p.controller k.answered
+        (subst (λ x. AnsweredCalls (picks x) a.0.controller more p.controller) same_picker answered))
+
+    whole : history (k.made ++ more) ≡ t ++ history more
+    whole = flat_map-append moments_of k.made more
+
+    moves : (m : Moment) → history more ≡ m ∷ [] → 1 ≤ figure_on a.0 number
+        → (figure_on p number ≤ figure_on a.0 number) × (is_step m.0 ≡ true → figure_on p number < figure_on a.0 number)
+    moves m e low =
+        let all : history (k.made ++ more) ≡ t ++ m ∷ [] = whole ∙ ap (λ ms. t ++ ms) e in
+        let promise = subst (λ x. Promise c x) all now.promise in
+        let right = at_last t m (λ b x after. IsRight c b x.0 x.1) (subst (λ x. IsLegal c x) all now.legal) in
+        let f : Falling c t m = record {
+          step = λ is x there. at_last t m (λ b x after. is_step x.0 ≡ true → EachWaiting b
+              (λ y. figure c after y < figure c b y)) promise.falls is x there;
+          other = at_last t m (λ b x after. EachWaiting b (λ y. figure c after y ≤ figure c b y)) promise.never_rises;
+        } in
+        let old = shown k.made kept in
+        let new = shown (k.made ++ more) now ∙ ap (λ x. figure_of c x n) all in
+        let r = lower_then c t m right f own n (subst (λ y. 1 ≤ y) old low) in (
+          subst (λ x. x ≤ figure_on a.0 number) (sym new) (subst (λ y. figure_of c (t ++ m ∷ []) n ≤ y) (sym old) r.0),
+          λ is. subst (λ x. x < figure_on a.0 number) (sym new)
+              (subst (λ y. figure_of c (t ++ m ∷ []) n < y) (sym old) (r.1 is)),
+        )
+
+    rises_not : 1 ≤ figure_on a.0 number → figure_on p number ≤ figure_on a.0 number
+    rises_not low = elim (makes_one call a.0 p more makes) [
+      | inl e ↦ subst (λ x. x ≤ figure_on a.0 number) (shown k.made kept
+          ∙ ap (λ x. figure_of c x n) (sym (whole ∙ ap (λ ms. t ++ ms) e ∙ append-nil t))
+          ∙ sym (shown (k.made ++ more) now)) (search arith)
+      | inr m ↦ (moves m.0 m.1 low).0
+    ]
+
+    falls_so : 1 ≤ figure_on a.0 number → TellsStep call a.0 → figure_on p number < figure_on a.0 number
+    falls_so low told = by call asks makes a.2 told
+      where
+        by : (x : Call) → AsksAlways (x ∷ calls) → Makes x a.0 p more → Becomes picks x a.0 p → TellsStep x a.0
+            → figure_on p number < figure_on a.0 number
+        by (Went outcome (Ok done)) asks makes b is =
+            let s = steps picks hardware credits controller start made a.0 calls asks.1 a.1 in
+            let g = begun_some a.0.controller.settings.units a.0.buffers.items a.0.volumes a.0.controller.drives
+            a.0.controller.waiting a.0.task a.0.controller.begun is (s.begun (stepping_block a.0.task is)) in
+            let o = stepping_told a.0 outcome a.0.task is in
+            let m = tells_step (picks a.0.controller.picker) a.0.controller p.controller
+            (step_told a.0 outcome a.0.task) a.0.controller.begun o.0 g.0 more o.1 g.1 g.1 makes answered in
+            (moves m.0 m.1 low).1 m.2
+        by x asks makes b is = absurd is
+
+  pub lowers : Lowers call a.0 p number
+  lowers = elim (follows picks call a.0 p a.2) [
+    | inl f ↦ record {
+      never_rises = λ low. subst (λ x. x ≤ figure_on a.0 number) (sym (forgotten f)) (search arith);
+      falls = λ low told. subst (λ x. x < figure_on a.0 number) (sym (forgotten f)) low;
+    }
+    | inr m ↦ record {
+      never_rises = rises_not m.0 m.1 m.2;
+      falls = falls_so m.0 m.1 m.2;
+    }
+  ]

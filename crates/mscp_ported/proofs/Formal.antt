@@ -1,0 +1,84 @@
+-- A command that asks nothing of a disk waits in the controller, if the port doesn't answer it itself.
+use Rattle.std.proofs.Common.{◌≡◌, ◌∙◌, ◌+◌, ◌<◌, ◌≤◌, ◌∷◌, ℕ, Bool, true, false, cond, length, nat_le, nat_lt, List, Option, None, Some, inl, inr, refl, ap, sym, subst, arith}
+use Rattle.std.specs.Prelude.{All, is_none, option_map, slice_index}
+use Rattle.std.proofs.lemmas.Option.{none-some}
+use Rattle.mscp_packet.specs.Number.{num}
+unfoldable use Rattle.mscp_packet.specs.Commands.{command_of}
+use Rattle.mscp_drive.specs.Extent.{range_fault}
+use Rattle.mscp_drive.specs.Settings.{IsValid, Settings}
+use Rattle.mscp_drive.specs.Shape.{Shape}
+use Rattle.mscp_drive.specs.UnitList.{unit_found}
+use Rattle.mscp_queue.proofs.Placed.{find_cases, find_first, position_none}
+use Rattle.mscp_controller.specs.Arrival.{is_queued, move_fault}
+use Rattle.mscp_port.specs.declared.volumes.Volume.{Volume}
+use Rattle.mscp_port.specs.Formalities.{is_formality, stand_in}
+use Rattle.mscp_port.specs.Messages.{bare_end, handed, next_named, own_end, refused_end, volume_refusal}
+use Rattle.mscp_port.specs.Volumes.{place_in}
+use Rattle.mscp_ported.proofs.Sole.{found_all}
+
+-- its unit is there
+unit_there : (foreign : Bool) (v : Option Volume) (b : List ℕ) → own_end foreign v b ≡ None
+    → is_formality (slice_index b 8) ≡ true → (x : Volume) × (v ≡ Some x)
+unit_there true v b none formal = absurd (none-some (bare_end b 0x80 0x0801) (sym none))
+unit_there false (Some x) b none formal = (x, refl)
+unit_there false None b none formal = absurd (none-some (bare_end b (slice_index b 8 + 0x80) 0) (sym
+    (ap (λ c. cond c (Some (bare_end b (slice_index b 8 + 0x80) 0))
+    (option_map (refused_end b) (volume_refusal None b))) (sym formal) ∙ none)))
+
+placed : {X : Type 0} (f : ℕ → X) (o : Option ℕ) (x : X) → option_map f o ≡ Some x → (place : ℕ) × (o ≡ Some place)
+placed f None x e = absurd (none-some x e)
+placed f (Some place) x e = (place, refl)
+
+found_unit : (units : List Shape) (n place : ℕ) → place_in units n ≡ Some place
+    → (u : Shape) × (unit_found units n ≡ Some u)
+found_unit units n place e = elim (find_cases (λ u. Rattle.std.specs.Prelude.nat_eq u.number n) units) [
+  | inl none ↦ absurd (none-some place
+      (sym (position_none (λ u. Rattle.std.specs.Prelude.nat_eq u.number n) units none) ∙ e))
+  | inr some ↦ (
+    some.1,
+    ap (λ us. unit_found us n) some.3.is
+        ∙ find_first (λ u. Rattle.std.specs.Prelude.nat_eq u.number n) some.0 some.1 some.2 some.3.before some.3.passed,
+  )
+]
+
+-- an access of no bytes isn't refused there
+no_fault : (longest : ℕ) (u : Shape) → 1 ≤ longest → 0 < u.size → range_fault longest 0 0 u ≡ None
+no_fault longest u some size = by (nat_le u.size 0) (nat_lt u.size 0) (nat_lt longest 1) (high u.size size) (low u.size)
+    (enough longest some)
+  where
+    high : (n : ℕ) → 0 < n → nat_le n 0 ≡ false
+    high n h = search (arith, h)
+
+    low : (n : ℕ) → nat_lt n 0 ≡ false
+    low n = search arith
+
+    enough : (n : ℕ) → 1 ≤ n → nat_lt n 1 ≡ false
+    enough n h = search (arith, h)
+
+    by : (a b c : Bool) → a ≡ false → b ≡ false → c ≡ false
+        → cond a (Some Rattle.mscp_drive.specs.Extent.invalid_block)
+        (cond b (Some Rattle.mscp_drive.specs.Extent.invalid_byte_count)
+        (cond c (Some Rattle.mscp_drive.specs.Extent.invalid_byte_count) None)) ≡ None
+    by false false false a b c = refl
+    by true b c a e f = search (arith, a)
+    by false true c a e f = search (arith, e)
+    by false false true a e f = search (arith, f)
+
+stands_in : (c : Settings) (b : List ℕ) → 12 ≤ length b → move_fault c 0 0 (unit_found c.units (num b 4 2)) ≡ None
+    → is_queued c (command_of (stand_in b)) ≡ true
+unfolding command_of
+stands_in c (x ∷ b ∷ d ∷ e ∷ f ∷ g ∷ h ∷ i ∷ rest) long none = ap is_none none
+stands_in c b long none = search (arith, long)
+
+pub formal_queued : (c : Settings) (foreign : Bool) (f : ℕ → Volume) (b : List ℕ) → IsValid c
+    → All (λ unit. 0 < unit.size) c.units → 12 ≤ length b
+    → own_end foreign (option_map f (place_in c.units (num b 4 2))) b ≡ None → is_formality (slice_index b 8) ≡ true
+    → is_queued c (command_of (handed c.units b)) ≡ true
+formal_queued c foreign f b valid sizes long none formal =
+    let there = unit_there foreign (option_map f (place_in c.units (num b 4 2))) b none formal in
+    let place = placed f (place_in c.units (num b 4 2)) there.0 there.1 in
+    let u = found_unit c.units (num b 4 2) place.0 place.1 in
+    subst (λ x. is_queued c (command_of (cond x (stand_in b) (next_named c.units b))) ≡ true) (sym formal)
+    (stands_in c b long (ap (move_fault c 0 0) u.1 ∙ no_fault c.longest u.0 valid.some_blocks
+    (found_all (λ unit. 0 < unit.size) (λ x. Rattle.std.specs.Prelude.nat_eq x.number (num b 4 2)) c.units u.0 sizes
+    u.1).0))

@@ -1,0 +1,75 @@
+-- What begins to go out by a call of a port, and which ends its controller has more then.
+unfoldable use Rattle.mscp_packet.specs.Commands.{command_of}
+use Rattle.mscp_packet.specs.Number.{num}
+use Rattle.mscp_packet.specs.declared.end.End.{End}
+use Rattle.mscp_port.specs.Departures.{begins}
+use Rattle.mscp_port.specs.Histories.{Call, WasRead}
+use Rattle.mscp_port.specs.declared.port.Port.{Port}
+use Rattle.mscp_ported.proofs.Coming.{ends_of}
+use Rattle.mscp_ported.specs.Awaited.{Deals}
+use Rattle.mscp_ported.specs.Ends.{ends_said_by}
+use Rattle.mscp_ported.specs.Figures.{figure_on}
+use Rattle.mscp_ported.specs.Passing.{PassesOn, Pending, TakesPoll, pending_end, pending_held, pending_in, pending_said}
+use Rattle.mscp_port.specs.declared.port.Outgoing.{Outgoing}
+use Rattle.mscp_ported.specs.Told.{accepted_by, said_in}
+use Rattle.std.proofs.Common.{ℕ, List, None, Option, Some, [], ap, arith, inl, inr, map, sym, ◌++◌, ◌∙◌, ◌∷◌, ◌≡◌, ◌≤◌, ◌⊎◌}
+use Rattle.std.proofs.lemmas.List.{append-nil, map-append}
+use Rattle.std.specs.List.{AllByRecursion}
+use Rattle.std.specs.Prelude.{Ok, flat_map}
+
+-- ---- what begins to go out
+
+pub begun_one : (old new : Option Outgoing) (o : Outgoing) → old ≡ None → new ≡ Some o → begins old new ≡ o ∷ []
+begun_one old new o none some = ap (λ x. begins x new) none ∙ ap (begins None) some
+
+-- nothing but news begins to go out
+pub silent : {K : Type 0} (call : Call) (old new : Port K) (aw : List (List ℕ)) → Deals aw call old new
+    → ends_said_by call old new ≡ [] → ((bytes : List ℕ) (done : Unit) → call ≡ WasRead bytes (Ok done) → ⊥)
+    → flat_map pending_in (map said_in (begins old.outgoing new.outgoing)) ≡ []
+silent call old new aw (inl q) said never = ap (λ os. flat_map pending_in (map said_in os)) q.begun
+silent call old new aw (inr (inl q)) said never =
+    ap (λ os. flat_map pending_in (map said_in os)) (begun_one old.outgoing new.outgoing q.out q.nothing q.begun)
+    ∙ ap (λ kind. pending_said kind q.out.bytes.items ++ []) q.kind
+silent call old new aw (inr (inr (inl q))) said never = absurd (search (arith, sym said ∙ q.ended))
+silent call old new aw (inr (inr (inr (inl q)))) said never = absurd (never q.message q.read.0 q.read.1)
+silent call old new aw (inr (inr (inr (inr q)))) said never = absurd (never q.message q.read.0 q.read.1)
+
+-- ---- what comes of the controller
+
+-- these ends came behind those that were there: of a message that was accepted, or of commands that waited
+pub record Grown {K : Type 0} (call : Call) (old new : Port K) : Type 0 where
+  pub brought : List End
+  pub ends : ends_of new.controller ≡ ends_of old.controller ++ brought
+  pub these : AllByRecursion (λ (e : End). ((text : List ℕ) × (accepted_by call old ≡ text ∷ [])
+      × (num text 0 4 ≡ e.reference)) ⊎ (1 ≤ figure_on old e.reference)) brought
+
+pub grown_none : {K : Type 0} (call : Call) (old new : Port K) → ends_of new.controller ≡ ends_of old.controller
+    → Grown call old new
+grown_none call old new same = record {
+  brought = [];
+  ends = same ∙ sym (append-nil (ends_of old.controller));
+  these = tt;
+}
+
+pub pending_these : {K : Type 0} (call : Call) (old : Port K) (es : List End)
+    → AllByRecursion (λ (e : End). ((text : List ℕ) × (accepted_by call old ≡ text ∷ [])
+    × (num text 0 4 ≡ e.reference)) ⊎ (1 ≤ figure_on old e.reference)) es
+    → AllByRecursion (λ (e : Pending). ((text : List ℕ) × (accepted_by call old ≡ text ∷ [])
+    × (num text 0 4 ≡ e.number)) ⊎ (1 ≤ figure_on old e.number)) (map pending_end es)
+pending_these call old [] all = tt
+pending_these call old (e ∷ es) all = (all.0, pending_these call old es all.1)
+
+-- where nothing begins to go out but news
+pub grown_passes : {K : Type 0} (call : Call) (old new : Port K) (g : Grown call old new)
+    → flat_map pending_in (map said_in (begins old.outgoing new.outgoing)) ≡ []
+    → ((bytes : List ℕ) (done : Unit) → call ≡ WasRead bytes (Ok done) → TakesPoll (num bytes 12 4) call old
+    → map pending_end g.brought
+    ≡ record { number = num bytes 0 4; figure = figure_on old (num bytes 12 4) } ∷ [])
+    → PassesOn call old new
+grown_passes call old new g none poll = record {
+  more = map pending_end g.brought;
+  behind = ap (λ xs. xs ++ pending_held new) none ∙ ap (map pending_end) g.ends
+      ∙ map-append pending_end (ends_of old.controller) g.brought;
+  of_these = pending_these call old g.brought g.these;
+  poll = poll;
+}

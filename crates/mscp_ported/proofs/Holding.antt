@@ -1,0 +1,162 @@
+-- A port holds the command or the end of each message that is awaited.
+use Rattle.std.proofs.Common.{◌≡◌, ◌∙◌, ◌<◌, ◌≤◌, ◌∷◌, [], ℕ, Bool, true, false, cond, filter, length, map, List, Option, None, Some, inl, inr, refl, ap, sym, subst, arith}
+use Rattle.std.specs.Prelude.{◌↔◌, ◌^◌, Contains, find, option_map}
+use Rattle.std.specs.List.{AllByRecursion}
+use Rattle.std.proofs.lemmas.List.{take_all}
+use Rattle.std.proofs.lemmas.Option.{none-some}
+use Rattle.mscp_drive.specs.Settings.{IsValid, Settings, bound}
+use Rattle.mscp_drive.specs.declared.connection.Connection.TheVariants.{First}
+use Rattle.mscp_queue.specs.declared.name.Name.{Name}
+use Rattle.mscp_queue.specs.declared.view.Choice.{Choice}
+use Rattle.mscp_queue.specs.Figures.{figure_at_place, figure_of_name}
+use Rattle.mscp_queue.specs.Names.{name_on, same_name}
+use Rattle.mscp_queue.specs.Records.{Record, has_name, name_of}
+use Rattle.mscp_queue.proofs.Placed.{position_none}
+use Rattle.mscp_controller.specs.Calls.{AnsweredCalls, Call as Made, history}
+use Rattle.mscp_controller.specs.Commands.{name}
+unfoldable use Rattle.mscp_controller.specs.Commands.{waiting}
+use Rattle.mscp_controller.specs.Controllers.{ControllersKeepThePromise, KeepsPromise}
+use Rattle.mscp_controller.specs.Figures.{figure, figure_found}
+unfoldable use Rattle.mscp_controller.specs.Figures.{figure_of}
+use Rattle.mscp_controller.specs.History.{Trace}
+use Rattle.mscp_controller.specs.Holdings.{Holdings, fresh, outstanding_of}
+use Rattle.mscp_controller.proofs.Promise.Progress.{waits_in}
+use Rattle.mscp_controller.proofs.Promise.Waits.{waiting_waits}
+use Rattle.mscp_port.specs.declared.hardware.Hardware.{Hardware}
+use Rattle.mscp_port.specs.declared.port.Port.{Port}
+use Rattle.mscp_port.specs.Calls.{IsMadeOf}
+use Rattle.mscp_port.specs.Histories.{Answered, Call, Picking}
+use Rattle.mscp_port.proofs.Kept.{is_numbered}
+use Rattle.mscp_ported.specs.Awaited.{ReadsBytes, awaited}
+use Rattle.mscp_ported.specs.Figures.{figure_on}
+use Rattle.mscp_ported.specs.Passing.{HoldsAwaited}
+use Rattle.mscp_ported.proofs.Coming.{ends_of}
+use Rattle.mscp_ported.proofs.Ended.{kept}
+use Rattle.mscp_ported.proofs.Falling.{found_of}
+use Rattle.mscp_ported.proofs.Numbered.{At, some_none}
+use Rattle.mscp_ported.proofs.Promised.{knows}
+use Rattle.mscp_ported.proofs.Sole.{found_sole}
+
+-- ---- figures
+
+found_mapped : {X Y : Type 0} (f : Y → Bool) (g : X → Y) (xs : List X)
+    → find f (map g xs) ≡ option_map g (find (λ x. f (g x)) xs)
+found_mapped f g [] = refl
+found_mapped f g (x ∷ xs) = by (f (g x)) (found_mapped f g xs)
+  where
+    by : (b : Bool) → find f (map g xs) ≡ option_map g (find (λ x. f (g x)) xs)
+        → cond b (Some (g x)) (find f (map g xs)) ≡ option_map g (cond b (Some x) (find (λ x. f (g x)) xs))
+    by true rest = refl
+    by false rest = rest
+
+mapped_some : {X Y : Type 0} (g : X → Y) (o : Option X) (y : Y) → option_map g o ≡ Some y → (x : X) × (o ≡ Some x)
+mapped_some g None y e = absurd (none-some y e)
+mapped_some g (Some x) y e = (x, refl)
+
+each_fails : {X : Type 0} (f : X → Bool) (xs : List X) → filter f xs ≡ [] → AllByRecursion (λ x. f x ≡ false) xs
+each_fails f [] e = tt
+each_fails f (x ∷ xs) e = by (f x) refl e (λ h. each_fails f xs h)
+  where
+    by : (b : Bool) → f x ≡ b → cond b (x ∷ filter f xs) (filter f xs) ≡ []
+        → (filter f xs ≡ [] → AllByRecursion (λ x. f x ≡ false) xs)
+        → (f x ≡ false) × AllByRecursion (λ x. f x ≡ false) xs
+    by true is h rest = absurd (some_none x (filter f xs) h)
+    by false is h rest = (is, rest h)
+
+-- none waits, and so the figure is 0
+pub no_figure : (budget n : ℕ) (rs : List Record) → filter (is_numbered n) rs ≡ []
+    → figure_of_name budget rs (name_on First n) ≡ 0
+no_figure budget n rs none = ap (figure_at_place budget rs)
+    (position_none (has_name (name_on First n)) rs (each_fails (is_numbered n) rs none))
+
+module _ {K : Type 0} (picks : List Choice → ℕ → Type 0) (c : Settings) (calls : List Made) (held : Holdings K)
+    (q : KeepsPromise picks c calls held) (n : ℕ) where
+  abbrev t : Trace
+  t = history calls
+
+  abbrev m : Name
+  m = name_on First n
+
+  shown : figure_of_name held.settings.budget held.waiting m ≡ figure_of c t m
+  shown = ap (λ (s : Settings). figure_of_name s.budget held.waiting m) q.settings ∙ q.figure m
+
+  -- one waits, and so it is 1 or more
+  pub some_figure : (r : Record) → filter (is_numbered n) held.waiting ≡ r ∷ []
+      → 1 ≤ figure_of_name held.settings.budget held.waiting m
+  unfolding figure_of
+  some_figure r sole =
+      let o = mapped_some (name t) (find (λ x. same_name (name t x) m) (waiting t)) (name_of r)
+      (sym (found_mapped (λ x. same_name x m) (name t) (waiting t))
+      ∙ ap (find (λ x. same_name x m)) (sym q.waiting)
+      ∙ found_mapped (λ x. same_name x m) name_of held.waiting
+      ∙ ap (option_map name_of) (found_sole (is_numbered n) held.waiting r sole)) in
+      let w = found_of (λ x. Rattle.mscp_controller.specs.Commands.is_waiting t x ≡ true)
+      (λ x. same_name (name t x) m) (waiting t) o.0 (waiting_waits t) o.1 in
+      subst (λ x. 1 ≤ x) (sym (shown ∙ ap (figure_found c t) o.1)) (positive o.0 (waits_in t o.0 w.0))
+    where
+      positive : (x : ℕ) → Contains (waiting t) x → 1 ≤ figure c t x
+      positive x there = (subst (λ z. (x : ℕ) → Contains (waiting z) x ↔ (1 ≤ figure c z x)) (take_all (length t) t
+          (search arith))
+          (q.promise.positive (length t) (search arith)) x).0 there
+
+  -- and it is small
+  pub small_figure : IsValid c → figure_of_name held.settings.budget held.waiting m < 2 ^ 32
+  unfolding figure_of
+  small_figure valid = subst (λ x. x < 2 ^ 32) (sym shown)
+      (by (find (λ x. same_name (name t x) m) (waiting t)))
+    where
+      small : (x : ℕ) → figure c t x ≤ bound c
+      small = subst (λ z. (x : ℕ) → figure c z x ≤ bound c) (take_all (length t) t (search arith))
+          (q.promise.small (length t) (search arith))
+
+      less : (a b : ℕ) → a ≤ b → b < 2 ^ 32 → a < 2 ^ 32
+      less a b h k = omega (arith, h, k)
+
+      by : (o : Option ℕ) → figure_found c t o < 2 ^ 32
+      by None = omega arith
+      by (Some x) = less (figure c t x) (bound c) (small x) valid.small_bound
+
+-- ---- the law
+
+module _ {K : Type 0} (picks : Picking K) (c : Settings) (picker : K)
+    (keeps : ControllersKeepThePromise (picks picker) picker) (valid : IsValid c) (before : List Made)
+    (hardware : Hardware) (credits : ℕ) (controller : Holdings K) (start : Port K)
+    (was : AnsweredCalls (picks picker) (fresh c picker) before controller)
+    (made : IsMadeOf hardware credits controller start) (quiet : outstanding_of First controller ≡ [])
+    (p : Port K) (calls : List Call) (reads : ReadsBytes calls) (a : Answered picks start calls p) where
+  abbrev aw : List (List ℕ)
+  aw = awaited picks start p calls a
+
+  pub promised : (ms : List Made) × KeepsPromise (picks picker) c ms p.controller
+  promised =
+      let k = knows picks c picker keeps valid before hardware credits controller start was made p calls a in
+      (k.made, keeps c k.made p.controller valid k.answered)
+
+  pub holds_awaited : (n : ℕ) → HoldsAwaited p aw n
+  holds_awaited n = by ((kept picks c picker keeps valid before hardware credits controller start was made quiet p
+      calls reads a).each n)
+    where
+      none_low : (x : ℕ) → x ≡ 0 → 1 ≤ x → ⊥
+      none_low x e h = search (arith, e, h)
+
+      by : At aw p.controller.waiting (ends_of p.controller) n → HoldsAwaited p aw n
+      by (inl x) = record {
+        there = λ some. absurd (some x.0);
+        waits = λ low. absurd (none_low (figure_on p n)
+            (no_figure p.controller.settings.budget n p.controller.waiting x.1) low);
+        ended = λ holds. absurd (holds x.2);
+        one = λ low holds. holds x.2;
+      }
+      by (inr (inl w)) = record {
+        there = λ some. inl (some_figure (picks picker) c promised.0 p.controller promised.1 n w.own w.sole);
+        waits = λ low e. some_none w.text [] (sym w.message ∙ e);
+        ended = λ holds. absurd (holds w.no_end);
+        one = λ low holds. holds w.no_end;
+      }
+      by (inr (inr x)) = record {
+        there = λ some. inr (λ e. some_none x.end [] (sym x.sole ∙ e));
+        waits = λ low e. some_none x.text [] (sym x.message ∙ e);
+        ended = λ holds e. some_none x.text [] (sym x.message ∙ e);
+        one = λ low holds. none_low (figure_on p n)
+            (no_figure p.controller.settings.budget n p.controller.waiting x.none) low;
+      }

@@ -1,0 +1,296 @@
+-- By each call of a port each end that waits fits its message still.
+use Rattle.mscp_queue.specs.declared.report.Report.TheVariants as reports
+use Rattle.mscp_port.specs.declared.task.Task.TheVariants as tasks
+use Rattle.mscp_controller.specs.Holdings.{Finishes, Holdings}
+use Rattle.mscp_controller.specs.declared.entry.NotBegun.{NotBegun}
+use Rattle.mscp_drive.specs.declared.block.Block.{Block}
+use Rattle.mscp_drive.specs.declared.connection.Connection.{Connection}
+use Rattle.mscp_drive.specs.declared.connection.Connection.TheVariants.{First, Second}
+use Rattle.mscp_packet.specs.Ends.{IsOfKind}
+use Rattle.mscp_packet.specs.Number.{num}
+use Rattle.mscp_packet.specs.declared.end.End.{End}
+use Rattle.mscp_port.proofs.Kept.{is_numbered}
+use Rattle.mscp_port.proofs.Loads.{looks_or_not}
+use Rattle.mscp_port.proofs.Said.{served_name}
+use Rattle.mscp_port.specs.Blocks.{block_told}
+use Rattle.mscp_port.specs.Buffers.{is_of}
+use Rattle.mscp_port.specs.Calls.{Goes, Wants}
+use Rattle.mscp_port.specs.Histories.{Next, Went}
+use Rattle.mscp_port.specs.Leaving.{told_end}
+use Rattle.mscp_port.specs.Moved.{HeedsStep, IsStepping, TakesBegun, TakesBlock, block_begun, block_served, end_brought, kept_after}
+use Rattle.mscp_port.specs.Outgoings.{MayBegin, TakesEnd, news_place}
+use Rattle.mscp_port.specs.declared.action.Action.{Action}
+use Rattle.mscp_port.specs.declared.action.Outcome.{Outcome}
+use Rattle.mscp_port.specs.declared.decided.Decided.{Decided}
+use Rattle.mscp_port.specs.declared.port.Port.{Port}
+use Rattle.mscp_port.specs.declared.task.Task.{Task}
+use Rattle.mscp_port.specs.declared.verdict.Verdict.{Verdict}
+use Rattle.mscp_ported.proofs.Awaiting.{IsNoReset, Kept}
+use Rattle.mscp_ported.proofs.Buffered.{FitsBuffer, IsKeptEach, step_kept, taken_kept}
+use Rattle.mscp_ported.proofs.Coming.{brought_for, come_so, ends_of, steps_bring}
+use Rattle.mscp_ported.proofs.Dealing.{begun, begun_same, named, news_none, whole}
+use Rattle.mscp_ported.proofs.Ending.{Grows, left_with, zipped}
+use Rattle.mscp_ported.proofs.Fitted.{Fitting, became, grown_fits, grown_long, stays, unchanged}
+use Rattle.mscp_ported.proofs.Fitting.{FitsEnd, FitsIn, IsPlainEnd, decided_code, every_left, given_plain, plain_fits, told_about, told_code}
+use Rattle.mscp_ported.proofs.Leaving.{step_grows}
+use Rattle.mscp_ported.proofs.Numbered.{At, first_of_one}
+use Rattle.mscp_ported.proofs.Numbering.{served_waits}
+use Rattle.mscp_ported.proofs.Sole.{served_itself}
+use Rattle.mscp_ported.proofs.Staying.{went_stays}
+use Rattle.mscp_ported.proofs.Tables.{decided_by}
+use Rattle.mscp_ported.proofs.Wanting.{alive_or_dead}
+use Rattle.mscp_ported.specs.Awaited.{has_number, without_ends}
+use Rattle.mscp_ported.specs.Ends.{ends_begun}
+use Rattle.mscp_ported.specs.Fitting.{Fits, IsCodeFor}
+use Rattle.mscp_ported.specs.Talk.{since}
+use Rattle.mscp_queue.proofs.Named.{is_same}
+use Rattle.mscp_queue.specs.Names.{name_on}
+use Rattle.mscp_queue.specs.Records.{Record, drive_at, name_of, record_at}
+use Rattle.mscp_queue.specs.Serving.{end_given, waiting_after}
+use Rattle.mscp_queue.specs.declared.drive.Drive.{Drive}
+use Rattle.mscp_queue.specs.declared.name.Name.{Name}
+use Rattle.mscp_queue.specs.declared.report.Report.{Report}
+use Rattle.std.proofs.Common.{ℕ, Bool, List, MatchOption, None, Option, Some, [], ap, arith, drop, filter, inl, inr, length, not, refl, subst, sym, true, ◌++◌, ◌<◌, ◌∙◌, ◌∷◌, ◌≡◌, ◌≤◌}
+use Rattle.std.proofs.lemmas.List.{append-nil}
+use Rattle.std.proofs.lemmas.Option.{none-some}
+use Rattle.std.specs.List.{AllByRecursion}
+use Rattle.std.specs.Prelude.{Err, Ok, Result, slice_get}
+
+-- ---- an end is taken
+
+-- the oldest end, with what was decided of it
+first_fits : (aw : List (List ℕ)) (e : End) (es : List End) (ds : List Decided) → length (e ∷ es) ≡ length ds
+    → AllByRecursion (FitsIn aw) (zipped (e ∷ es) ds)
+    → (d : Decided) × (slice_get ds 0 ≡ Some d) × FitsIn aw (left_with e d)
+    × (length es ≡ length (drop 1 ds)) × AllByRecursion (FitsIn aw) (zipped es (drop 1 ds))
+first_fits aw e es [] long all = search (arith, long)
+first_fits aw e es (d ∷ ds) long all = (d, refl, all.0, search (arith, long), all.1)
+
+module _ {K : Type 0} (blocks : Bool) (action : Action) (bytes : List ℕ) (old new : Port K) (aw : List (List ℕ))
+    (k : Kept old aw) (f : Fitting old aw) (picks : List _ → ℕ → Type 0) (r : Wants picks blocks old action new) where
+  abbrev Then : Type 0
+  Then = Fitting new (since new.stage (Next blocks action bytes)
+      (without_ends (ends_begun old.outgoing new.outgoing) aw) [])
+
+  calm : IsNoReset (Next blocks action bytes)
+  calm = record { texts = λ s xs ys. refl }
+
+  buffers : new.buffers.items ≡ old.buffers.items
+  buffers = ap (λ (q : Port K). q.buffers.items) r.frame
+
+  still : ends_begun old.outgoing new.outgoing ≡ [] → MayBegin old.controller new.controller
+      → new.decided ≡ old.decided → Then
+  still none may decided = unchanged (Next blocks action bytes) old new aw f calm none refl
+      (ap (λ (h : Holdings K). h.waiting) may) (ap (λ (h : Holdings K). ends_of h) may)
+      (ap (λ d. d.items) decided) buffers
+
+  module _ (t : TakesEnd old new) where
+    abbrev e : End
+    e = t.out.0
+
+    abbrev es : List End
+    es = drop 1 (ends_of old.controller)
+
+    is : ends_of old.controller ≡ e ∷ es
+    is = whole blocks action bytes old new aw k picks r t
+
+    pub first : (d : Decided) × (slice_get old.decided.items 0 ≡ Some d) × FitsIn aw (left_with e d)
+        × (length es ≡ length (drop 1 old.decided.items))
+        × AllByRecursion (FitsIn aw) (zipped es (drop 1 old.decided.items))
+    first = first_fits aw e es old.decided.items (sym (ap length is) ∙ f.long)
+        (subst (λ xs. AllByRecursion (FitsIn aw) (zipped xs old.decided.items)) is f.fits)
+
+    taken : Then
+    taken = became (Next blocks action bytes) old new aw f calm (filter (λ x. not (has_number e.reference x)) aw)
+        (ap (λ xs. without_ends xs aw ++ []) (begun blocks action bytes old new aw k picks r t)
+        ∙ append-nil (filter (λ x. not (has_number (num (told_end old e) 0 4) x)) aw)
+        ∙ ap (λ n. filter (λ x. not (has_number n x)) aw) (named blocks action bytes old new aw k picks r t)) (record {
+          long = ap (λ (h : Holdings K). length (ends_of h)) t.controller ∙ first.3 ∙ sym (ap length t.decided);
+          kept = subst (λ rs. IsKeptEach (filter (λ x. not (has_number e.reference x)) aw) rs new.buffers.items)
+              (sym (ap (λ (h : Holdings K). h.waiting) t.controller))
+              (subst (λ bs. IsKeptEach (filter (λ x. not (has_number e.reference x)) aw) old.controller.waiting bs)
+              (sym buffers) (taken_kept aw old.controller.waiting old.buffers.items e.reference f.kept));
+          fits = subst (λ xs. AllByRecursion (FitsIn (filter (λ x. not (has_number e.reference x)) aw))
+              (zipped xs new.decided.items)) (sym (ap (λ (h : Holdings K). ends_of h) t.controller))
+              (subst (λ ds. AllByRecursion (FitsIn (filter (λ x. not (has_number e.reference x)) aw)) (zipped es ds))
+              (sym t.decided) (every_left aw e.reference (zipped es (drop 1 old.decided.items)) first.4));
+        })
+
+  pub next_fits : Then
+  next_fits = elim (alive_or_dead old old.stage refl) [
+    | inr d ↦
+        let e = (r.dead d.0 d.1).1 in
+        still (ap (ends_begun old.outgoing) (ap (λ (q : Port K). q.outgoing) e)
+        ∙ begun_same blocks action bytes old new aw k picks r old.outgoing)
+        (ap (λ (q : Port K). q.controller) e
+        ∙ ap (λ b. record old.controller { begun = b }) (sym (ap (λ (q : Port K). q.controller.begun) e)))
+        (ap (λ (q : Port K). q.decided) e)
+    | inl alive ↦ elim (looks_or_not old) [
+      | inl looks ↦ elim (r.says.looks looks) [
+        | inl t ↦ taken t
+        | inr n ↦ still (ap (λ o. ends_begun o new.outgoing) n.nothing
+            ∙ news_none blocks action bytes old new aw k picks r new.volumes old.volumes old.controller.settings.units
+            (news_place old) new.outgoing n.out) n.controller n.decided
+      ]
+      | inr never ↦
+          let q = r.says.keeps never in
+          still (ap (ends_begun old.outgoing) q.outgoing
+          ∙ begun_same blocks action bytes old new aw k picks r old.outgoing) q.controller q.decided
+    ]
+  ]
+
+  -- and what begins to go out fits
+  end_fits : (t : TakesEnd old new) → IsOfKind t.out.0 → (message : List ℕ)
+      → filter (has_number t.out.0.reference) aw ≡ message ∷ [] → Fits (told_end old t.out.0) message
+  end_fits t shaped message only =
+      let x = first t in
+      let y = x.2 message only in
+      record {
+        code = subst (λ n. IsCodeFor n message) (sym (told_code old t.out.0 x.0 x.1)) y.code;
+        about = told_about old t.out.0 x.0 x.1 message shaped y;
+      }
+
+  pub said_fits : ((e : End) → slice_get (ends_of old.controller) 0 ≡ Some e → IsOfKind e) → (text message : List ℕ)
+      → ends_begun old.outgoing new.outgoing ≡ text ∷ [] → filter (has_number (num text 0 4)) aw ≡ message ∷ []
+      → Fits text message
+  said_fits shaped text message said only = elim (looks_or_not old) [
+    | inl looks ↦ elim (r.says.looks looks) [
+      | inl t ↦
+          let same : told_end old t.out.0 ≡ text =
+          one_text (told_end old t.out.0) text (sym (begun blocks action bytes old new aw k picks r t) ∙ said) in
+          subst (λ x. Fits x message) same (end_fits t (shaped t.out.0 t.out.1) message
+          (ap (λ n. filter (has_number n) aw) (sym (named blocks action bytes old new aw k picks r t)
+          ∙ ap (λ x. num x 0 4) same) ∙ only))
+      | inr n ↦ absurd (none_said text (sym (ap (λ o. ends_begun o new.outgoing) n.nothing
+          ∙ news_none blocks action bytes old new aw k picks r new.volumes old.volumes old.controller.settings.units
+          (news_place old) new.outgoing n.out) ∙ said))
+    ]
+    | inr never ↦ absurd (none_said text (sym (ap (ends_begun old.outgoing) (r.says.keeps never).outgoing
+        ∙ begun_same blocks action bytes old new aw k picks r old.outgoing) ∙ said))
+  ]
+    where
+      one_text : (x y : List ℕ) → x ∷ [] ≡ y ∷ [] → x ≡ y
+      one_text x y e = (first_of_one x y [] e).0
+
+      none_said : (x : List ℕ) → [] ≡ x ∷ [] → ⊥
+      none_said x e = search (arith, e)
+
+-- ---- a step
+
+module _ {K : Type 0} (picks : List _ → ℕ → Type 0) (outcome : Outcome) (done : Unit) (old new : Port K)
+    (aw : List (List ℕ)) (k : Kept old aw) (f : Fitting old aw) (r : Goes picks outcome old (Ok done) new)
+    (few : length (ends_of new.controller) ≤ 64) where
+  abbrev Behind : Type 0
+  Behind = Fitting new (since new.stage (Went outcome (Ok done)) aw [])
+
+  calm_went : IsNoReset (Went outcome (Ok done))
+  calm_went = record { texts = λ s xs ys. refl }
+
+  step_fits : (verdict : Verdict) → TakesBegun picks verdict old new → Behind
+  step_fits verdict takes = by old.controller.begun refl takes
+    where
+      g : Grows old new (decided_by verdict old new)
+      g = step_grows picks verdict old new takes f.long few
+
+      served : (name : Name) → (place : ℕ) → (inside : place < length old.controller.waiting)
+          → name_of (record_at old.controller.waiting place) ≡ name → (ended : Option End)
+          → ended ≡ end_given (block_told verdict) (drive_at old.controller.drives old.controller.waiting place)
+          (record_at old.controller.waiting place)
+          → new.controller.waiting ≡ waiting_after (block_told verdict)
+          (drive_at old.controller.drives old.controller.waiting place) old.controller.waiting place
+          → new.buffers.items ≡ kept_after name.connection ended old.buffers.items
+          → ends_of new.controller ≡ ends_of old.controller ++ brought_for name.connection ended → Behind
+      served name place inside is ended told waiting buffers ends =
+          became (Went outcome (Ok done)) old new aw f calm_went aw (append-nil aw) (record {
+            long = grown_long old new (decided_by verdict old new) g f.long;
+            kept = subst (λ rs. IsKeptEach aw rs new.buffers.items) (sym waiting)
+                (subst (λ bs. IsKeptEach aw (waiting_after b d rs0 place) bs)
+                (sym (buffers ∙ ap (λ o. kept_after name.connection o old.buffers.items) told
+                ∙ ap (λ (n : Name). kept_after n.connection (end_given b d r0) old.buffers.items) (sym is)))
+                (step_kept b d aw rs0 (ends_of old.controller) old.buffers.items place inside k.each f.kept));
+            fits = grown_fits old new (decided_by verdict old new) g f.long aw f.fits
+                (subst (λ es. AllByRecursion (λ e. FitsIn aw (left_with e (decided_by verdict old new e))) es)
+                (sym (come_so old new (brought_for name.connection ended) ends) ∙ come_so old new g.brought g.ends)
+                (brought name.connection ended (ap (λ (n : Name). n.connection) is) told));
+          })
+        where
+          rs0 : List Record
+          rs0 = old.controller.waiting
+
+          r0 : Record
+          r0 = record_at rs0 place
+
+          b : Block
+          b = block_told verdict
+
+          d : Drive
+          d = drive_at old.controller.drives rs0 place
+
+          fits_so : (e : End) → r0.connection ≡ First → end_given b d r0 ≡ Some e
+              → FitsIn aw (left_with e (decided_by verdict old new e))
+          fits_so e via given t only = by (k.each n)
+            where
+              plain : IsPlainEnd r0 e
+              plain = given_plain b d r0 e given
+
+              n : ℕ
+              n = r0.command.reference
+
+              mine : is_numbered n r0 ≡ true
+              mine = is_same (name_of r0) (name_on First n) (ap (λ y. name_on y n) via)
+
+              by : At aw rs0 (ends_of old.controller) n → FitsEnd (left_with e (decided_by verdict old new e)) t
+              by (inl none) = absurd (served_waits n b d rs0 place inside mine none.1)
+              by (inr (inr x)) = absurd (served_waits n b d rs0 place inside mine x.none)
+              by (inr (inl w)) =
+                  let x = (f.kept n).own w.own t w.sole
+                  (ap (λ m. filter (has_number m) aw) (sym plain.number) ∙ only) in
+                  let same : r0 ≡ w.own = served_itself n b d rs0 place inside w.own w.sole mine in
+                  plain_fits old.buffers.items r0 x.0 e (decided_by verdict old new e) t plain
+                  (ap (λ m. filter (is_of First m) old.buffers.items) plain.number ∙ x.1)
+                  (subst (λ z. FitsBuffer z x.0 t) (sym same) x.2)
+                  (decided_code _ _ e new.controller.settings.units new.flags _)
+
+          brought : (via : Connection) (o : Option End) → r0.connection ≡ via → o ≡ end_given b d r0
+              → AllByRecursion (λ e. FitsIn aw (left_with e (decided_by verdict old new e))) (brought_for via o)
+          brought First None via same = tt
+          brought First (Some e) via same = (fits_so e via (sym same), tt)
+          brought Second o via same = tt
+
+      took : (name : Name) → old.controller.begun ≡ Some name → (result : Result Report NotBegun)
+          → Finishes picks (name_on name.connection name.reference) (block_told verdict) old.controller result
+          new.controller → HeedsStep name.connection verdict (end_brought result) old new → Behind
+      took name was (Err not_begun) x h = unchanged (Went outcome (Ok done)) old new aw f calm_went refl refl
+          (ap (λ (h : Holdings K). h.waiting) x.1) (ap (λ (h : Holdings K). ends_of h) x.1) h.decided h.buffers
+      took name was (Ok reports.Idle) x h = absurd (none-some name (sym x.1.serves.1 ∙ was))
+      took name was (Ok (reports.Served other number unit lbn started seek ended)) x h =
+          let place = x.1.serves.0 in
+          let s = x.1.serves.1 in
+          served name place s.next.servable.inside
+          (served_name old.controller.begun (name_on name.connection name.reference)
+          (record_at old.controller.waiting place) x.0 s.next.same) ended (ap (λ y. end_brought (Ok y)) s.told)
+          (ap (λ l. l.waiting) s.left) h.buffers
+          (steps_bring picks name.connection name.reference (block_told verdict) old.controller new.controller
+          (Ok (reports.Served other number unit lbn started seek ended)) x)
+
+      by : (o : Option Name) → old.controller.begun ≡ o → MatchOption o (new ≡ record old { task = tasks.Free })
+          (λ name. TakesBlock picks name.connection name.reference verdict old new) → Behind
+      by None e h = unchanged (Went outcome (Ok done)) old new aw f calm_went refl refl
+          (ap (λ (q : Port K). q.controller.waiting) h) (ap (λ (q : Port K). ends_of q.controller) h)
+          (ap (λ (q : Port K). q.decided.items) h) (ap (λ (q : Port K). q.buffers.items) h)
+      by (Some name) e h = took name e h.finished.0 h.finished.1 h.finished.2
+
+  pub went_fits : Behind
+  went_fits = by old.task refl
+    where
+      by : (t : Task) → old.task ≡ t → Behind
+      by (tasks.Step verdict) at = step_fits verdict ((r.moves refl).step verdict at)
+      by tasks.Transfer at = step_fits (block_served old outcome (block_begun old)) ((r.moves refl).transfer at)
+      by t at = stays (Went outcome (Ok done)) old new aw f calm_went refl refl
+          (went_stays picks outcome old new t done at r refl) (elim r.commands [
+            | inl x ↦ inl x.buffers
+            | inr more ↦ elim more [
+              | inl block ↦ absurd (subst (λ x. IsStepping x) at block.0)
+              | inr d ↦ inr d
+            ]
+          ])
