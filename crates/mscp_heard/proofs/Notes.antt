@@ -19,8 +19,8 @@ use Rattle.std.specs.Prelude.{find, slice_index}
 
 -- ---- notes
 
--- an end of this number and code, about that command, fits what the host keeps; and so does that of a message, which has
--- so many bytes
+-- an end of this number and code, about that command, fits what the host keeps; and so does that of a message, which
+-- has so many bytes
 pub record FitsAsked (host : PortAccount) (number endcode other size : ℕ) (x : Asked) : Type 0 where
   pub code : is_code_of endcode x.opcode ≡ true
   pub about : endcode ≡ 0x82 → is_poll_of host.account.watch number ≡ true

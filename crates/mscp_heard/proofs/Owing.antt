@@ -2,7 +2,7 @@
 use Rattle.byteorder.specs.Endian.{little_bytes}
 use Rattle.std.specs.Prelude.{replicate}
 use Rattle.std.proofs.Common.{◌≡◌, ◌≢◌, ◌∙◌, ◌+◌, ◌*◌, ◌^◌, ◌<◌, ◌≤◌, ◌++◌, ◌∷◌, [], ℕ, suc, Bool, true, false, cond, drop, filter, length, not, List, Option, None, Some, refl, ap, sym, subst, arith}
-use Rattle.std.specs.Prelude.{◌%◌, ◌/◌, ◌==◌, ◌&&◌, ◌||◌, is_none, option_map, Result, Ok, Err, count_by, find, flat_map, option_to_list, slice_get, slice_index}
+use Rattle.std.specs.Prelude.{◌==◌, ◌&&◌, ◌||◌, is_none, option_map, Result, Ok, slice_get, slice_index}
 use Rattle.std.specs.List.{AllByRecursion}
 use Rattle.std.proofs.lemmas.List.{length-append}
 use Rattle.std.proofs.lemmas.Option.{none-some, same_Some}
@@ -19,7 +19,7 @@ use Rattle.mscp_port.specs.Departures.{begins}
 use Rattle.mscp_port.specs.Histories.{Call, WriteIp}
 use Rattle.mscp_queue.proofs.Lists.{every_append}
 use Rattle.mscp_port.specs.declared.volumes.Volume.{Volume}
-use Rattle.mscp_ported.specs.Answers.{asks_nothing, moves_data, own_answer, own_refusal, volume_named, Own, PortsAnswerAsTheyMay, is_for_utilities, kind_answered, own_text}
+use Rattle.mscp_ported.specs.Answers.{asks_nothing, moves_data, own_answer, own_refusal, Own, own_text}
 use Rattle.mscp_ported.specs.Awaited.{IsWhole, bytes_in, has_number}
 use Rattle.mscp_ported.specs.Talk.{is_dead, since}
 use Rattle.mscp_ported.specs.Told.{Said}

@@ -1,7 +1,7 @@
 -- What each call of a port deals with.
 use Rattle.mscp_port.specs.Volumes.{volume_at}
 use Rattle.std.proofs.Common.{◌≡◌, ◌≢◌, ◌⊎◌, ◌∙◌, ◌^◌, ◌<◌, ◌≤◌, ◌&&◌, ◌++◌, ◌∷◌, [], ℕ, Bool, true, false, cond, drop, filter, not, List, Option, None, Some, inl, inr, refl, ap, sym, subst, arith}
-use Rattle.std.specs.Prelude.{Result, Ok, Err, find, is_none, is_ok, option_map, slice_get, slice_index}
+use Rattle.std.specs.Prelude.{Result, Ok, Err, is_none, is_ok, option_map, slice_get}
 use Rattle.std.specs.List.{AllByRecursion}
 use Rattle.std.proofs.lemmas.List.{append-nil}
 use Rattle.std.proofs.lemmas.Option.{none-some, same_Some}
@@ -30,7 +30,6 @@ use Rattle.mscp_port.specs.Leaving.{attention, told_end}
 use Rattle.mscp_port.specs.Messages.{own_end_of}
 use Rattle.mscp_port.specs.Outgoings.{IsNews as TellsOf, MayBegin, TakesEnd, news_place}
 use Rattle.mscp_port.specs.Seen.{SeesText, answered_to}
-use Rattle.mscp_port.proofs.Common.{false≢true}
 use Rattle.mscp_port.proofs.Loads.{looks_or_not}
 use Rattle.mscp_port.proofs.Said.{none_or_some}
 use Rattle.mscp_ported.specs.Answers.{own_answer, volume_named}

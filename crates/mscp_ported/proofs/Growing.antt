@@ -1,5 +1,4 @@
 -- What begins to go out by a call of a port, and which ends its controller has more then.
-unfoldable use Rattle.mscp_packet.specs.Commands.{command_of}
 use Rattle.mscp_packet.specs.Number.{num}
 use Rattle.mscp_packet.specs.declared.end.End.{End}
 use Rattle.mscp_port.specs.Departures.{begins}

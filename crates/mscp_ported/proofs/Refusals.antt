@@ -10,7 +10,6 @@ use Rattle.mscp_controller.specs.Arrival.{refusal}
 use Rattle.mscp_controller.specs.Outcomes.{own_end_with}
 use Rattle.mscp_controller.specs.declared.entry.SendFault.{SendFault}
 use Rattle.mscp_drive.specs.Settings.{Settings}
-unfoldable use Rattle.mscp_packet.specs.Commands.{command_of}
 use Rattle.mscp_packet.specs.Number.{num}
 use Rattle.mscp_packet.specs.declared.command.Command.{Command}
 use Rattle.mscp_packet.specs.declared.command.Order.{Order}
