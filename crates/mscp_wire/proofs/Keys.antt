@@ -25,16 +25,15 @@ at_key m n = grind (arith, nat_tests)
 
 -- what is kept where a map was updated at one key
 pub put_told : (others : Told) (old new : ℕ → Option Told) (via : Connection) (unit : ℕ) (told : Told)
-    → ((q : ℕ) → new q ≡ cond (is_eq (nat_cmp (key via unit) q)) (Some told) (old q)) → (own : Connection) (number : ℕ)
+    → ((q : ℕ) → new q ≡ (if nat_eq (key via unit) q then Some told else old q)) → (own : Connection) (number : ℕ)
     → told_or others (new (key own number))
     ≡ (if same_connection via own && nat_eq unit number then told else told_or others (old (key own number)))
 put_told others old new via unit told h own number =
     ap (told_or others) (h (key own number)
-    ∙ ap (λ b. cond b (Some told) (old (key own number)))
-    (at_key (key via unit) (key own number) ∙ same_key via own unit number))
+    ∙ ap (λ b. if b then Some told else old (key own number)) (same_key via own unit number))
     ∙ by_test (same_connection via own && nat_eq unit number)
   where
-    by_test : (b : Bool) → told_or others (cond b (Some told) (old (key own number)))
+    by_test : (b : Bool) → told_or others (if b then Some told else old (key own number))
         ≡ (if b then told else told_or others (old (key own number)))
     by_test true = refl
     by_test false = refl

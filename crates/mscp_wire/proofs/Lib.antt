@@ -8,3 +8,4 @@ pub mod Meaning
 pub mod Once
 mod Names
 mod Alone
+mod Tables

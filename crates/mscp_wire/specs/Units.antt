@@ -1,5 +1,6 @@
 -- What a host was told of units: by its own ends, and of whether they are online by the other host's, too.
-use Rattle.std.specs.Prelude.{◌≡◌, ℕ, ◌+◌, ◌*◌, ◌/◌, ◌%◌, Bool, true, false, not, ◌&&◌, ◌||◌, nat_eq, if◌then◌else◌, fold, Option, Some, None}
+use Rattle.std.specs.Prelude.{◌≡◌, ℕ, ◌+◌, ◌*◌, ◌/◌, ◌%◌, Bool, true, false, not, ◌&&◌, ◌||◌, nat_eq, if◌then◌else◌, fold, get_or, Option, Some, None}
+use Rattle.std.specs.List.{slice_get}
 use Rattle.std.specs.Ordering.{nat_cmp}
 use Rattle.std.specs.BTreeMap as tree
 use Rattle.mscp_packet.specs.Number.{num}
@@ -16,6 +17,8 @@ use Rattle.mscp_wire.specs.declared.noted.Noted.{Noted}
 use Rattle.mscp_wire.specs.declared.told.Seen.{Seen}
 use Rattle.mscp_wire.specs.declared.told.State.{State}
 use Rattle.mscp_wire.specs.declared.told.State.TheVariants.{Away, Open, Shared}
+use Rattle.mscp_wire.specs.declared.table.Entry.{Entry}
+use Rattle.mscp_wire.specs.declared.table.Table.{Table}
 use Rattle.mscp_wire.specs.declared.told.Told.{Told}
 use Rattle.mscp_wire.specs.declared.units.Units.{Units}
 
@@ -264,9 +267,18 @@ abbrev pub told_or : Told → Option Told → Told
 told_or others None = others
 told_or others (Some told) = told
 
+-- what an entry keeps of a number, if there is one and it is that number's
+abbrev pub kept_in : ℕ → Option Entry → Option Told
+kept_in number None = None
+kept_in number (Some entry) = if nat_eq entry.number number then Some entry.told else None
+
+-- what is kept of a number: in the entry at the place of that number
+abbrev pub found : {A : Type 0} → Table A → ℕ → Option Told
+found table number = kept_in number (slice_get table.entries.items (get_or table.places.items number 0))
+
 -- what is kept of a unit of a connection
 abbrev pub kept : {A : Type 0} → Units A → Connection → ℕ → Told
-kept units via unit = told_or units.others (tree.get nat_cmp units.kept (key via unit))
+kept units via unit = told_or units.others (found units.kept (key via unit))
 
 -- which unit is kept of an identifier
 abbrev pub kept_called : {A : Type 0} → Units A → ℕ → Option ℕ

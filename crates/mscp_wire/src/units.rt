@@ -1,12 +1,13 @@
 // What hosts were told of units, by their numbers.
 
-ghost use Rattle.std.specs.Prelude.{◌≡◌, ℕ, OnOk, None};
+ghost use Rattle.std.specs.Prelude.{◌≡◌, ℕ, ◌<◌, OnOk, None};
 ghost use Rattle.mscp_wire.specs.Doubts as doubt;
 ghost use Rattle.mscp_wire.specs.Wire as wire;
 ghost use Rattle.mscp_drive.specs.declared.connection.Connection as connections;
 
 use crate::answer::Answer;
 use crate::sent::Sent;
+use crate::table::Table;
 use crate::told::{State, Told};
 use mscp_drive::{Connection, OutOfMemory};
 use std::alloc::{AllocError, Allocator};
@@ -17,14 +18,15 @@ use std::collections::BTreeMap;
 pub struct Units<A: Allocator> {
     /// What each was told of all that aren't kept.
     pub others: Told,
-    pub kept: BTreeMap<u32, Told, A>,
+    pub kept: Table<A>,
     /// Which unit was last said to be online and to have an identifier.
     pub called: BTreeMap<u64, u16, A>,
 }
 
 /// The number of a unit of a connection.
 fn key(connection: Connection, unit: u16) -> u32
-    ensures { result ≡ wire.key connection unit }
+    ensures number { result ≡ wire.key connection unit }
+    ensures bound { result < 131072 }
 {
     match connection {
         Connection::First => 2 * u32::from(unit),
@@ -60,7 +62,7 @@ impl<A: Allocator + Copy> Units<A> {
     {
         Units {
             others: Told::nothing(),
-            kept: BTreeMap::new(alloc),
+            kept: Table::new(alloc),
             called: BTreeMap::new(alloc),
         }
     }
@@ -79,7 +81,7 @@ impl<A: Allocator + Copy> Units<A> {
     pub fn told(&self, connection: Connection, unit: u16) -> Told
         ensures { result ≡ wire.kept self.now connection unit }
     {
-        match self.kept.get(&key(connection, unit)).copied() {
+        match self.kept.get(key(connection, unit)) {
             Some(told) => told,
             None => self.others,
         }
@@ -112,7 +114,7 @@ impl<A: Allocator + Copy> Units<A> {
         ensures told { OnOk result (wire.Puts self.old self.new connection unit told) }
         ensures called { self.new.called ≡ self.old.called }
     {
-        self.kept.insert(key(connection, unit), told)?;
+        self.kept.put(key(connection, unit), told)?;
         Ok(())
     }
 
