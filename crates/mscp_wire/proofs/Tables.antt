@@ -9,7 +9,6 @@ use Rattle.std.specs.Prelude.{nat_eq, nat_lt, replicate}
 use Rattle.std.specs.List.{slice_get}
 use Rattle.mscp_wire.specs.Units.{kept_in}
 use Rattle.mscp_wire.specs.declared.table.Entry.{Entry}
-use Rattle.mscp_wire.specs.declared.told.Told.{Told}
 
 -- more places, which lead to the first entry, are what is read behind the last one
 pub padded : (xs : List ℕ) (n more q : ℕ) → length xs < n
@@ -48,24 +47,21 @@ at_set (x ∷ xs) e (suc i) zero few = sym (ap (λ b. if b then Some e else Some
 at_set (x ∷ xs) e (suc i) (suc p) few =
     at_set xs e i p (omega (arith, few)) ∙ sym (ap (λ b. if b then Some e else slice_get xs p) (next p i))
 
--- an entry keeps nothing of another number
+-- an entry is kept of its own number alone
 of_another : (e : Entry) (q : ℕ) → nat_eq e.number q ≡ false → kept_in q (Some e) ≡ None
-of_another e q h = ap (λ b. if b then Some e.told else None) h
+of_another e q h = ap (λ b. if b then Some e else None) h
 
-of_its_own : (e : Entry) (q : ℕ) → nat_eq e.number q ≡ true → kept_in q (Some e) ≡ Some e.told
-of_its_own e q h = ap (λ b. if b then Some e.told else None) h
+of_its_own : (e : Entry) (q : ℕ) → nat_eq e.number q ≡ true → kept_in q (Some e) ≡ Some e
+of_its_own e q h = ap (λ b. if b then Some e else None) h
 
 -- one more entry, to which its number leads
-pub found_pushed : (xs : List Entry) (ps : List ℕ) (number last : ℕ) (told : Told) → number < length ps
+pub found_pushed : (xs : List Entry) (ps : List ℕ) (e : Entry) (last : ℕ) → e.number < length ps
     → last ≡ length xs → (q : ℕ)
-    → kept_in q (slice_get (xs ++ (record { number = number; told = told }) ∷ []) (get_or (set ps number last) q 0))
-    ≡ (if nat_eq number q then Some told else kept_in q (slice_get xs (get_or ps q 0)))
-found_pushed xs ps number last told few many q = by_number (nat_eq number q) refl
+    → kept_in q (slice_get (xs ++ e ∷ []) (get_or (set ps e.number last) q 0))
+    ≡ (if nat_eq e.number q then Some e else kept_in q (slice_get xs (get_or ps q 0)))
+found_pushed xs ps e last few many q = by_number (nat_eq e.number q) refl
   where
-    e : Entry
-    e = record { number = number; told = told }
-
-    at_place : (p : ℕ) → (b : Bool) → nat_eq p (length xs) ≡ b → nat_eq number q ≡ false
+    at_place : (p : ℕ) → (b : Bool) → nat_eq p (length xs) ≡ b → nat_eq e.number q ≡ false
         → kept_in q (if b then Some e else slice_get xs p) ≡ kept_in q (slice_get xs p)
     at_place p true h f =
         of_another e q f
@@ -73,53 +69,47 @@ found_pushed xs ps number last told few many q = by_number (nat_eq number q) ref
         ∙ slice_get_past xs (length xs) (omega arith)))
     at_place p false h f = refl
 
-    by_number : (b : Bool) → nat_eq number q ≡ b
-        → kept_in q (slice_get (xs ++ e ∷ []) (get_or (set ps number last) q 0))
-        ≡ (if b then Some told else kept_in q (slice_get xs (get_or ps q 0)))
+    by_number : (b : Bool) → nat_eq e.number q ≡ b
+        → kept_in q (slice_get (xs ++ e ∷ []) (get_or (set ps e.number last) q 0))
+        ≡ (if b then Some e else kept_in q (slice_get xs (get_or ps q 0)))
     by_number true h =
-        ap (λ n. kept_in q (slice_get (xs ++ e ∷ []) (get_or (set ps number last) n 0))) (sym (eqb-true number q h))
-        ∙ ap (λ p. kept_in q (slice_get (xs ++ e ∷ []) p)) (get_or-set_same ps number last 0 few ∙ many)
+        ap (λ n. kept_in q (slice_get (xs ++ e ∷ []) (get_or (set ps e.number last) n 0)))
+        (sym (eqb-true e.number q h))
+        ∙ ap (λ p. kept_in q (slice_get (xs ++ e ∷ []) p)) (get_or-set_same ps e.number last 0 few ∙ many)
         ∙ ap (kept_in q) (at_pushed xs e (length xs)
         ∙ ap (λ b. if b then Some e else slice_get xs (length xs)) (same (length xs)))
         ∙ of_its_own e q h
     by_number false h =
         ap (λ p. kept_in q (slice_get (xs ++ e ∷ []) p))
-        (get_or-set_other ps number q last 0 (λ same. eqb-false number q h (sym same)))
+        (get_or-set_other ps e.number q last 0 (λ like. eqb-false e.number q h (sym like)))
         ∙ ap (kept_in q) (at_pushed xs e (get_or ps q 0))
         ∙ at_place (get_or ps q 0) (nat_eq (get_or ps q 0) (length xs)) refl h
 
 -- another entry of a number, in the place of that which it leads to
-pub found_set : (xs : List Entry) (ps : List ℕ) (number place : ℕ) (old new : Entry) (told : Told)
-    → place < length xs → place ≡ get_or ps number 0 → old ≡ get_or xs place old → old.number ≡ number
-    → new ≡ get_or xs place new → (q : ℕ)
-    → kept_in q (slice_get (set xs place (record { number = new.number; told = told })) (get_or ps q 0))
-    ≡ (if nat_eq number q then Some told else kept_in q (slice_get xs (get_or ps q 0)))
-found_set xs ps number place old new told few leads there own here q =
-    ap (kept_in q) (at_set xs e place (get_or ps q 0) few) ∙ by_number (nat_eq number q) refl
+pub found_set : (xs : List Entry) (ps : List ℕ) (e old : Entry) (place : ℕ) → place < length xs
+    → place ≡ get_or ps e.number 0 → old ≡ get_or xs place old → old.number ≡ e.number → (q : ℕ)
+    → kept_in q (slice_get (set xs place e) (get_or ps q 0))
+    ≡ (if nat_eq e.number q then Some e else kept_in q (slice_get xs (get_or ps q 0)))
+found_set xs ps e old place few leads there own q =
+    ap (kept_in q) (at_set xs e place (get_or ps q 0) few) ∙ by_number (nat_eq e.number q) refl
   where
-    e : Entry
-    e = record { number = new.number; told = told }
-
     stands : slice_get xs place ≡ Some old
     stands = slice_get_read xs (length xs) place old refl few there
 
-    numbered : new.number ≡ number
-    numbered = ap (λ (x : Entry). x.number) (here ∙ get_or_from_slice_get xs place old new stands) ∙ own
-
-    at_place : (b : Bool) → nat_eq (get_or ps q 0) place ≡ b → nat_eq number q ≡ false
+    at_place : (b : Bool) → nat_eq (get_or ps q 0) place ≡ b → nat_eq e.number q ≡ false
         → kept_in q (if b then Some e else slice_get xs (get_or ps q 0)) ≡ kept_in q (slice_get xs (get_or ps q 0))
     at_place true h f =
-        of_another e q (ap (λ n. nat_eq n q) numbered ∙ f)
+        of_another e q f
         ∙ sym (ap (kept_in q) (ap (slice_get xs) (eqb-true (get_or ps q 0) place h) ∙ stands)
         ∙ of_another old q (ap (λ n. nat_eq n q) own ∙ f))
     at_place false h f = refl
 
-    by_number : (b : Bool) → nat_eq number q ≡ b
+    by_number : (b : Bool) → nat_eq e.number q ≡ b
         → kept_in q (if nat_eq (get_or ps q 0) place then Some e else slice_get xs (get_or ps q 0))
-        ≡ (if b then Some told else kept_in q (slice_get xs (get_or ps q 0)))
+        ≡ (if b then Some e else kept_in q (slice_get xs (get_or ps q 0)))
     by_number true h =
         ap (λ b. kept_in q (if b then Some e else slice_get xs (get_or ps q 0)))
-        (subst (λ n. nat_eq (get_or ps n 0) place ≡ true) (eqb-true number q h)
+        (subst (λ n. nat_eq (get_or ps n 0) place ≡ true) (eqb-true e.number q h)
         (subst (λ p. nat_eq p place ≡ true) leads (same place)))
-        ∙ of_its_own e q (ap (λ n. nat_eq n q) numbered ∙ h)
+        ∙ of_its_own e q h
     by_number false h = at_place (nat_eq (get_or ps q 0) place) refl h

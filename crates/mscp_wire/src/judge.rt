@@ -205,7 +205,9 @@ impl<A: Allocator + Copy> Judge<A> {
         }
     }
 
-    /// What comes of a host's message. If it breaks no rule its command is outstanding.
+    /// What comes of a host's message. If it breaks no rule its command is outstanding. It isn't made part of the loop
+    /// over all lines, nor is what is called for an end: of one large body each line would move all that any line makes.
+    #[inline(never)]
     fn message(
         &mut self,
         connection: Connection,
@@ -274,6 +276,7 @@ impl<A: Allocator + Copy> Judge<A> {
     }
 
     /// What comes of an end. If it breaks no rule its command isn't outstanding any more.
+    #[inline(never)]
     fn end(&mut self, connection: Connection, bytes: &[u8]) -> Result<Stepped, OutOfMemory>
         ensures rule { IfOk result (λ o. o.rule ≡ wire.unless (wire.is_long bytes.now) Rule.Length
             (wire.broken_at self.old.commands (record {

@@ -213,6 +213,7 @@ fn said_in(mut words: Words<'_>) -> Result<Said, Cause>
 }
 
 /// What the line of this number says.
+#[inline(never)]
 #[tactic(auto, unfolding(crate::specs::Log::line_says))]
 pub fn line_says(number: u32, line: &[u8]) -> Result<Said, ScriptFault>
     requires { 1 ≤ number }

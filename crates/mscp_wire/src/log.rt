@@ -63,6 +63,7 @@ impl<A: Allocator + Copy> Reading<A> {
     }
 
     /// What comes of a moment.
+    #[inline(never)]
     fn moment(&mut self, number: u32, moment: Moment) -> Result<Option<Wrong>, ReadFault>
         requires { HasFew self.old number }
         ensures after { (log : Log) → IsAfter log self.old

@@ -2,22 +2,24 @@
 //
 // Of each number it is kept where in a list its entry may stand. That counts only if the entry there has the number. So
 // a list that is cleared is all that a reset writes: a place that was kept before leads to no entry then, or to that of
-// another number. A map of all units would be searched five times for each end.
+// another number. What both hosts were told of a unit stands together, since an end asks for both. A map of all units
+// would be searched five times for each end.
 
-ghost use Rattle.std.specs.Prelude.{◌≡◌, ℕ, ◌<◌, ◌≤◌, length, if◌then◌else◌, nat_eq, OnOk, Some, None};
+ghost use Rattle.std.specs.Prelude.{◌≡◌, ℕ, ◌≤◌, length, if◌then◌else◌, nat_eq, OnOk, Some, None};
 ghost use Rattle.mscp_wire.specs.Wire.{found};
 
 use crate::told::Told;
 use std::alloc::{AllocError, Allocator};
 
-/// How many numbers there are: one for each unit of each connection.
-const NUMBERS: usize = 131_072;
+/// How many numbers there are.
+const NUMBERS: usize = 65_536;
 
-/// What is kept of a number.
+/// What is kept of a unit: what each host was told of it.
 #[derive(Clone, Copy)]
 pub struct Entry {
-    pub number: u32,
-    pub told: Told,
+    pub number: u16,
+    pub first: Told,
+    pub second: Told,
 }
 
 /// What is kept of units, by their numbers.
@@ -46,13 +48,13 @@ impl<A: Allocator + Copy> Table<A> {
         self.entries.clear();
     }
 
-    /// What is kept of a number, if anything is.
-    pub fn get(&self, number: u32) -> Option<Told>
+    /// What is kept of a unit, if anything is.
+    pub fn get(&self, number: u16) -> Option<Entry>
         ensures { result ≡ found self.now number }
     {
         let place = self.places.get(number as usize).copied().unwrap_or(0);
         match self.entries.get(place) {
-            Some(entry) if entry.number == number => Some(entry.told),
+            Some(entry) if entry.number == number => Some(*entry),
             _ => None,
         }
     }
@@ -60,7 +62,7 @@ impl<A: Allocator + Copy> Table<A> {
     /// Each number has a place, unless memory is refused.
     fn begin(&mut self) -> Result<(), AllocError>
         ensures same { (number : ℕ) → found self.new number ≡ found self.old number }
-        ensures places { OnOk result (131072 ≤ length self.new.places.items) }
+        ensures places { OnOk result (65536 ≤ length self.new.places.items) }
     {
         if self.places.len() < NUMBERS {
             self.places.resize(NUMBERS, 0)?;
@@ -68,20 +70,25 @@ impl<A: Allocator + Copy> Table<A> {
         Ok(())
     }
 
-    /// This is kept of a number.
-    pub fn put(&mut self, number: u32, told: Told) -> Result<(), AllocError>
-        requires { number < 131072 }
+    /// This is kept of a unit.
+    pub fn put(&mut self, number: u16, first: Told, second: Told) -> Result<(), AllocError>
         ensures { OnOk result ((other : ℕ) → found self.new other
-            ≡ (if nat_eq number other then Some told else found self.old other)) }
+            ≡ (if nat_eq number other then Some (record { number = number; first = first; second = second })
+            else found self.old other)) }
     {
         self.begin()?;
+        let entry = Entry {
+            number,
+            first,
+            second,
+        };
         let place = self.places[number as usize];
         if place < self.entries.len() && self.entries[place].number == number {
-            self.entries[place].told = told;
+            self.entries[place] = entry;
             return Ok(());
         }
         let last = self.entries.len();
-        self.entries.push(Entry { number, told })?;
+        self.entries.push(entry)?;
         self.places[number as usize] = last;
         Ok(())
     }

@@ -9,4 +9,4 @@ returns-in_ok-resize-clause-same g c = λ number.
     ap (λ ps. kept_in number (slice_get c.args.self.now.entries.items (get_or ps number 0)))
     c.in_ok-resize.ensures.items
     ∙ ap (λ p. kept_in number (slice_get c.args.self.now.entries.items p))
-    (padded c.args.self.now.places.items 131072 _ number (omega (arith, c.if-len-lt-NUMBERS.true, c.len.ensures)))
+    (padded c.args.self.now.places.items 65536 _ number (omega (arith, c.if-len-lt-NUMBERS.true, c.len.ensures)))
