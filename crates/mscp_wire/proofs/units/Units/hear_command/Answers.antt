@@ -1,4 +1,4 @@
-use Rattle.std.proofs.Common.{ap, arith, ◌∙◌}
+use Rattle.std.proofs.Common.{ap, arith}
 use Rattle.std.proofs.lemmas.Bool.Decides.{nat_tests}
 use Rattle.mscp_wire.specs.Wire.{kept}
 use Rattle.mscp_wire.specs.declared.told.State.TheVariants.{Shared}
