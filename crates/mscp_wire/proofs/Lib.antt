@@ -9,3 +9,4 @@ pub mod Once
 mod Names
 mod Alone
 mod Tables
+mod Contradicted

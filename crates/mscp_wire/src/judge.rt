@@ -231,6 +231,7 @@ impl<A: Allocator + Copy> Judge<A> {
             → wire.kept_called self.new.units identifier ≡ wire.kept_called self.old.units identifier }
         ensures controller { self.new.controller ≡ self.old.controller }
         ensures timeout { self.new.timeout ≡ self.old.timeout }
+        ensures unchanged { IfOk result (λ o. IfSome o.rule (λ _. self.new ≡ self.old)) }
         ensures credits { self.new.credits ≡ self.old.credits }
     {
         if bytes.len() < 12 {
@@ -308,6 +309,7 @@ impl<A: Allocator + Copy> Judge<A> {
             ≡ wire.later_of (wire.controller_in bytes.now) self.old.controller) }
         ensures timeout { IfOk result (λ o. o.rule ≡ None → self.new.timeout
             ≡ wire.later_of (wire.timeout_in bytes.now) self.old.timeout) }
+        ensures unchanged { IfOk result (λ o. IfSome o.rule (λ _. self.new ≡ self.old)) }
         ensures credits { self.new.credits ≡ self.old.credits }
     {
         if !is_long(bytes) {
@@ -354,6 +356,7 @@ impl<A: Allocator + Copy> Judge<A> {
             ≡ wire.controller_after self.old.controller moment.now) }
         ensures timeout { IfOk result (λ o. o.rule ≡ None → self.new.timeout
             ≡ wire.timeout_after self.old.timeout moment.now) }
+        ensures unchanged { IfOk result (λ o. IfSome o.rule (λ _. self.new ≡ self.old)) }
         ensures credits { self.new.credits ≡ self.old.credits }
     {
         match moment {

@@ -1,6 +1,7 @@
 //! The judge of the wire: whether what went over the wire between hosts and any controller keeps the manual's rules.
 #![tactic(auto)]
 
+mod against;
 mod answer;
 mod commands;
 mod doubtful;

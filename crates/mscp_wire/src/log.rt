@@ -80,6 +80,8 @@ impl<A: Allocator + Copy> Reading<A> {
             Some(rule) => Ok(Some(Wrong {
                 line: number,
                 rule,
+                passed: self.judge.passed(&moment),
+                seen: self.judge.seen(&moment),
                 moment,
                 command,
             })),
