@@ -6,11 +6,19 @@ use Rattle.std.proofs.lemmas.Bool.{eqb-true}
 use Rattle.std.proofs.lemmas.Bool.Decides.{nat_tests}
 use Rattle.mscp_drive.specs.declared.connection.Connection.{Connection}
 use Rattle.mscp_drive.specs.declared.connection.Connection.TheVariants.{First, Second}
-use Rattle.mscp_wire.specs.Units.{after_other, after_own, key, other_side, told_after_end, told_or}
+use Rattle.mscp_wire.specs.Units.{after_other, after_own, key, other_side, told_after_end, told_after_message, told_to}
 use Rattle.mscp_wire.specs.Messages.{same_connection}
 use Rattle.mscp_wire.specs.Polls.{is_it}
 use Rattle.mscp_wire.specs.declared.answer.Answer.{Answer}
+use Rattle.mscp_wire.specs.declared.sent.Sent.{Sent}
+use Rattle.mscp_wire.specs.declared.table.Entry.{Entry}
+use Rattle.mscp_wire.specs.declared.told.State.{State}
+use Rattle.mscp_wire.specs.declared.told.State.TheVariants.{Shared}
 use Rattle.mscp_wire.specs.declared.told.Told.{Told}
+
+-- a host was told the same of a unit, but of its state
+abbrev pub with_state : State → Told → Told
+with_state state told = record told { state = state }
 
 -- ---- numbers of units of connections
 pub same_key : (a b : Connection) (m n : ℕ) → nat_eq (key a m) (key b n) ≡ (same_connection a b && nat_eq m n)
@@ -23,21 +31,33 @@ same_key Second Second m n = grind (arith, nat_tests)
 at_key : (m n : ℕ) → is_eq (nat_cmp m n) ≡ nat_eq m n
 at_key m n = grind (arith, nat_tests)
 
--- what is kept where a map was updated at one key
-pub put_told : (others : Told) (old new : ℕ → Option Told) (via : Connection) (unit : ℕ) (told : Told)
-    → ((q : ℕ) → new q ≡ cond (is_eq (nat_cmp (key via unit) q)) (Some told) (old q)) → (own : Connection) (number : ℕ)
-    → told_or others (new (key own number))
-    ≡ (if same_connection via own && nat_eq unit number then told else told_or others (old (key own number)))
-put_told others old new via unit told h own number =
-    ap (told_or others) (h (key own number)
-    ∙ ap (λ b. cond b (Some told) (old (key own number)))
-    (at_key (key via unit) (key own number) ∙ same_key via own unit number))
-    ∙ by_test (same_connection via own && nat_eq unit number)
+-- the entry of a unit, of which a connection was told this, and the other one that
+abbrev pub entry_of : Connection → ℕ → Told → Told → Entry
+entry_of First unit own others = record { number = unit; first = own; second = others }
+entry_of Second unit own others = record { number = unit; first = others; second = own }
+
+-- what is kept of units once an entry was put in place
+pub put_told : (others : Told) (old new : ℕ → Option Entry) (via : Connection) (unit : ℕ) (own other : Told)
+    → ((q : ℕ) → new q ≡ (if nat_eq unit q then Some (entry_of via unit own other) else old q))
+    → (side : Connection) (number : ℕ)
+    → told_to others side (new number)
+    ≡ (if nat_eq unit number then (if same_connection via side then own else other)
+    else told_to others side (old number))
+put_told others old new via unit own other h side number = ap (told_to others side) (h number) ∙ by_side via side
   where
-    by_test : (b : Bool) → told_or others (cond b (Some told) (old (key own number)))
-        ≡ (if b then told else told_or others (old (key own number)))
-    by_test true = refl
-    by_test false = refl
+    by_unit : (s : Connection) (b : Bool) (x : Entry) → told_to others s (if b then Some x else old number)
+        ≡ (if b then told_to others s (Some x) else told_to others s (old number))
+    by_unit s true x = refl
+    by_unit s false x = refl
+
+    by_side : (v s : Connection) → told_to others s
+        (if nat_eq unit number then Some (entry_of v unit own other) else old number)
+        ≡ (if nat_eq unit number then (if same_connection v s then own else other)
+        else told_to others s (old number))
+    by_side First First = by_unit First (nat_eq unit number) (entry_of First unit own other)
+    by_side First Second = by_unit Second (nat_eq unit number) (entry_of First unit own other)
+    by_side Second First = by_unit First (nat_eq unit number) (entry_of Second unit own other)
+    by_side Second Second = by_unit Second (nat_eq unit number) (entry_of Second unit own other)
 
 -- which unit is kept of each identifier where a map was updated at one
 pub put_called : (old new : ℕ → Option ℕ) (identifier : ℕ) (unit : ℕ)
@@ -51,36 +71,56 @@ put_called old new identifier unit h called e q =
     by_test true = refl
     by_test false = refl
 
--- ---- an end
--- both of its unit were put in place
-pub heard_end : (old middle new : Connection → ℕ → Told) (e : Answer) (own others : Told) (side : Connection)
+-- ---- an end and a command
+-- what both hosts were told of the unit of an end was put in place
+pub heard_end : (old new : Connection → ℕ → Told) (e : Answer) (own others : Told) (side : Connection)
     → own ≡ after_own (old e.connection e.unit) e → side ≡ other_side e.connection
     → others ≡ after_other (old side e.unit) e
-    → ((via : Connection) (unit : ℕ) → middle via unit
-    ≡ (if same_connection e.connection via && nat_eq e.unit unit then own else old via unit))
     → ((via : Connection) (unit : ℕ) → new via unit
-    ≡ (if same_connection side via && nat_eq e.unit unit then others else middle via unit))
+    ≡ (if nat_eq e.unit unit then (if same_connection e.connection via then own else others) else old via unit))
     → (via : Connection) (unit : ℕ) → new via unit ≡ told_after_end via unit (old via unit) e
-heard_end old middle new e own others side o s t p q via unit =
-    q via unit
-    ∙ (ap (λ z. if same_connection z via && nat_eq e.unit unit then others else middle via unit) s
-    ∙ (ap (λ z. if same_connection (other_side e.connection) via && nat_eq e.unit unit then z else middle via unit)
+heard_end old new e own others side o s t p via unit =
+    p via unit
+    ∙ (ap (λ z. if nat_eq e.unit unit then (if same_connection e.connection via then z else others) else old via unit) o
+    ∙ (ap (λ z. if nat_eq e.unit unit then (if same_connection e.connection via
+    then after_own (old e.connection e.unit) e else z) else old via unit)
     (t ∙ ap (λ z. after_other (old z e.unit) e) s)
-    ∙ (ap (λ z. if same_connection (other_side e.connection) via && nat_eq e.unit unit
-    then after_other (old (other_side e.connection) e.unit) e else z)
-    (p via unit ∙ ap (λ z. if same_connection e.connection via && nat_eq e.unit unit then z else old via unit) o)
-    ∙ by_unit (nat_eq e.unit unit) refl e.connection via refl)))
+    ∙ by_unit (nat_eq e.unit unit) refl e.connection via))
   where
-    by_unit : (b : Bool) → nat_eq e.unit unit ≡ b → (c v : Connection) → v ≡ v
-        → (if same_connection (other_side c) v && b then after_other (old (other_side c) e.unit) e
-        else (if same_connection c v && b then after_own (old c e.unit) e else old v unit))
+    by_unit : (b : Bool) → nat_eq e.unit unit ≡ b → (c v : Connection)
+        → (if b then (if same_connection c v then after_own (old c e.unit) e
+        else after_other (old (other_side c) e.unit) e) else old v unit)
         ≡ (if not b then old v unit else (if same_connection c v then after_own (old v unit) e
         else after_other (old v unit) e))
-    by_unit true h First First k = ap (λ n. after_own (old First n) e) (eqb-true e.unit unit h)
-    by_unit true h Second Second k = ap (λ n. after_own (old Second n) e) (eqb-true e.unit unit h)
-    by_unit true h First Second k = ap (λ n. after_other (old Second n) e) (eqb-true e.unit unit h)
-    by_unit true h Second First k = ap (λ n. after_other (old First n) e) (eqb-true e.unit unit h)
-    by_unit false h First First k = refl
-    by_unit false h Second Second k = refl
-    by_unit false h First Second k = refl
-    by_unit false h Second First k = refl
+    by_unit true h First First = ap (λ n. after_own (old First n) e) (eqb-true e.unit unit h)
+    by_unit true h Second Second = ap (λ n. after_own (old Second n) e) (eqb-true e.unit unit h)
+    by_unit true h First Second = ap (λ n. after_other (old Second n) e) (eqb-true e.unit unit h)
+    by_unit true h Second First = ap (λ n. after_other (old First n) e) (eqb-true e.unit unit h)
+    by_unit false h c v = refl
+
+-- and of the unit of an ONLINE
+pub heard_online : (old new : Connection → ℕ → Told) (s : Sent) (own others : Told) (side : Connection)
+    → nat_eq s.opcode 9 ≡ true → own ≡ old s.connection s.unit → side ≡ other_side s.connection
+    → others ≡ with_state Shared (old side s.unit)
+    → ((via : Connection) (unit : ℕ) → new via unit
+    ≡ (if nat_eq s.unit unit then (if same_connection s.connection via then own else others) else old via unit))
+    → (via : Connection) (unit : ℕ) → new via unit ≡ told_after_message via unit (old via unit) s
+heard_online old new s own others side online o d t p via unit =
+    p via unit
+    ∙ (ap (λ z. if nat_eq s.unit unit then (if same_connection s.connection via then z else others) else old via unit) o
+    ∙ (ap (λ z. if nat_eq s.unit unit then (if same_connection s.connection via
+    then old s.connection s.unit else z) else old via unit)
+    (t ∙ ap (λ z. with_state Shared (old z s.unit)) d)
+    ∙ (by_unit (nat_eq s.unit unit) refl s.connection via
+    ∙ sym (ap (λ b. if b && nat_eq s.unit unit && not (same_connection s.connection via)
+    then with_state Shared (old via unit) else old via unit) online))))
+  where
+    by_unit : (b : Bool) → nat_eq s.unit unit ≡ b → (c v : Connection)
+        → (if b then (if same_connection c v then old c s.unit
+        else with_state Shared (old (other_side c) s.unit)) else old v unit)
+        ≡ (if b && not (same_connection c v) then with_state Shared (old v unit) else old v unit)
+    by_unit true h First First = ap (old First) (eqb-true s.unit unit h)
+    by_unit true h Second Second = ap (old Second) (eqb-true s.unit unit h)
+    by_unit true h First Second = ap (λ n. with_state Shared (old Second n)) (eqb-true s.unit unit h)
+    by_unit true h Second First = ap (λ n. with_state Shared (old First n)) (eqb-true s.unit unit h)
+    by_unit false h c v = refl

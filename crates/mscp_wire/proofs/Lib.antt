@@ -8,3 +8,5 @@ pub mod Meaning
 pub mod Once
 mod Names
 mod Alone
+mod Tables
+mod Contradicted

@@ -5,7 +5,7 @@ use Rattle.mscp_reader.specs.declared.fault.Cause.{Cause}
 use Rattle.mscp_reader.specs.declared.fault.ReadFault.{ReadFault}
 use Rattle.mscp_reader.specs.declared.fault.ReadFault.TheVariants as reads
 use Rattle.mscp_reader.specs.declared.fault.ScriptFault.{ScriptFault}
-use Rattle.mscp_wire.specs.Wire.{AreRight, broken_by, command_of, outstanding}
+use Rattle.mscp_wire.specs.Wire.{AreRight, broken_by, command_of, controller, outstanding, passed_of, seen_before, told}
 use Rattle.mscp_wire.specs.Log.{Log, line_says, nothing, with_line, with_lines, with_moment, with_said}
 use Rattle.mscp_wire.specs.Right.{Comes, IsFirstFault, IsFirstWrong, IsRightLog, IsTooLarge, Judges, Reaches, Says, Tell}
 use Rattle.mscp_wire.specs.declared.line.Said.TheVariants as says
@@ -135,14 +135,19 @@ module _ (bytes : List ℕ) where
       sym (rw (s.number, s.words) at w.is_wrong.says) ∙ v.is_wrong.says in
       let moment : wrong.moment ≡ other.moment = cc in
       one v.log s.number moment (rw s.before at w.is_wrong.rule) v.is_wrong.rule (rw s.before at w.is_wrong.command)
-      v.is_wrong.command
+      v.is_wrong.command (rw s.before at w.is_wrong.passed) v.is_wrong.passed (rw s.before at w.is_wrong.seen)
+      v.is_wrong.seen
     where
       one : (log : Log) → wrong.line ≡ other.line → wrong.moment ≡ other.moment
           → broken_by log.credits log.moments wrong.moment ≡ Some wrong.rule
           → broken_by log.credits log.moments other.moment ≡ Some other.rule
           → wrong.command ≡ command_of (outstanding log.moments) wrong.moment
-          → other.command ≡ command_of (outstanding log.moments) other.moment → wrong ≡ other
-      one log l m r s c d = grind arith
+          → other.command ≡ command_of (outstanding log.moments) other.moment
+          → wrong.passed ≡ passed_of (outstanding log.moments) wrong.moment
+          → other.passed ≡ passed_of (outstanding log.moments) other.moment
+          → wrong.seen ≡ seen_before (told log.moments) (controller log.moments) wrong.moment
+          → other.seen ≡ seen_before (told log.moments) (controller log.moments) other.moment → wrong ≡ other
+      one log l m r s c d p q u v = grind arith
 
   fault_once : (fault other : ScriptFault) → IsTooLarge bytes fault ⊎ IsFirstFault bytes fault
       → IsTooLarge bytes other ⊎ IsFirstFault bytes other → fault ≡ other

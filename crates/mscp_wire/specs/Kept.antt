@@ -19,7 +19,7 @@ sents xs = map (λ b. b.value.sent) xs
 
 -- the small number for a number of a connection
 abbrev pub slot_of : Connection → ℕ → ℕ
-slot_of via number = key via number % 65536
+slot_of via number = key via number % 131072
 
 -- commands are counted by their names,
 abbrev pub by_name : Sent → Option ℕ

@@ -9,7 +9,7 @@ use Rattle.mscp_reader.specs.declared.fault.Cause.TheVariants as causes
 use Rattle.mscp_reader.specs.declared.fault.ReadFault.{ReadFault}
 use Rattle.mscp_reader.specs.declared.fault.ReadFault.TheVariants as reads
 use Rattle.mscp_reader.specs.declared.fault.ScriptFault.{ScriptFault}
-use Rattle.mscp_wire.specs.Wire.{AreRight, broken_by, called, command_of, controller, kept, kept_called, outstanding, timeout, told}
+use Rattle.mscp_wire.specs.Wire.{AreRight, broken_by, called, command_of, controller, kept, kept_called, outstanding, passed_of, seen_before, timeout, told}
 use Rattle.mscp_wire.specs.Doubts.{AreFewDoubts, doubts_of}
 use Rattle.mscp_wire.specs.Log.{Log, line_says, nothing, with_line, with_lines, with_said}
 use Rattle.mscp_wire.specs.Totals.{IsFew, totals_of}
@@ -47,6 +47,8 @@ pub record IsWrong (number : ℕ) (log : Log) (said : Result Said Cause) (wrong 
   pub says : said ≡ Ok (says.Happens wrong.moment)
   pub rule : broken_by log.credits log.moments wrong.moment ≡ Some wrong.rule
   pub command : wrong.command ≡ command_of (outstanding log.moments) wrong.moment
+  pub passed : wrong.passed ≡ passed_of (outstanding log.moments) wrong.moment
+  pub seen : wrong.seen ≡ seen_before (told log.moments) (controller log.moments) wrong.moment
 
 -- the first moment that isn't right
 pub record IsFirstWrong (bytes : List ℕ) (wrong : Wrong) : Type 0 where

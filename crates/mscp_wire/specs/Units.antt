@@ -1,5 +1,6 @@
 -- What a host was told of units: by its own ends, and of whether they are online by the other host's, too.
-use Rattle.std.specs.Prelude.{◌≡◌, ℕ, ◌+◌, ◌*◌, ◌/◌, ◌%◌, Bool, true, false, not, ◌&&◌, ◌||◌, nat_eq, if◌then◌else◌, fold, Option, Some, None}
+use Rattle.std.specs.Prelude.{◌≡◌, ℕ, ◌+◌, ◌*◌, ◌/◌, ◌%◌, Bool, true, false, not, ◌&&◌, ◌||◌, nat_eq, if◌then◌else◌, fold, get_or, Option, Some, None}
+use Rattle.std.specs.List.{slice_get}
 use Rattle.std.specs.Ordering.{nat_cmp}
 use Rattle.std.specs.BTreeMap as tree
 use Rattle.mscp_packet.specs.Number.{num}
@@ -16,6 +17,8 @@ use Rattle.mscp_wire.specs.declared.noted.Noted.{Noted}
 use Rattle.mscp_wire.specs.declared.told.Seen.{Seen}
 use Rattle.mscp_wire.specs.declared.told.State.{State}
 use Rattle.mscp_wire.specs.declared.told.State.TheVariants.{Away, Open, Shared}
+use Rattle.mscp_wire.specs.declared.table.Entry.{Entry}
+use Rattle.mscp_wire.specs.declared.table.Table.{Table}
 use Rattle.mscp_wire.specs.declared.told.Told.{Told}
 use Rattle.mscp_wire.specs.declared.units.Units.{Units}
 
@@ -260,20 +263,31 @@ abbrev pub key : Connection → ℕ → ℕ
 key First unit = 2 * unit
 key Second unit = 2 * unit + 1
 
-abbrev pub told_or : Told → Option Told → Told
-told_or others None = others
-told_or others (Some told) = told
+-- an entry, if there is one and it has this number
+abbrev pub kept_in : ℕ → Option Entry → Option Entry
+kept_in number None = None
+kept_in number (Some entry) = if nat_eq entry.number number then Some entry else None
+
+-- what is kept of a number: the entry at the place of that number
+abbrev pub found : {A : Type 0} → Table A → ℕ → Option Entry
+found table number = kept_in number (slice_get table.entries.items (get_or table.places.items number 0))
+
+-- what an entry tells a connection, if there is one
+abbrev pub told_to : Told → Connection → Option Entry → Told
+told_to others via None = others
+told_to others First (Some entry) = entry.first
+told_to others Second (Some entry) = entry.second
 
 -- what is kept of a unit of a connection
 abbrev pub kept : {A : Type 0} → Units A → Connection → ℕ → Told
-kept units via unit = told_or units.others (tree.get nat_cmp units.kept (key via unit))
+kept units via unit = told_to units.others via (found units.kept unit)
 
 -- which unit is kept of an identifier
 abbrev pub kept_called : {A : Type 0} → Units A → ℕ → Option ℕ
 kept_called units identifier = tree.get nat_cmp units.called identifier
 
--- this is kept of a unit of a connection, and of each other as before
-abbrev pub Puts : {A : Type 0} → Units A → Units A → Connection → ℕ → Told → Type 0
-Puts old new via unit told =
-    (own : Connection) (number : ℕ) → kept new own number
-    ≡ (if same_connection via own && nat_eq unit number then told else kept old own number)
+-- this is kept of a unit: of it on a connection, and on the other one. Of each other unit the same as before is
+abbrev pub Puts : {A : Type 0} → Units A → Units A → Connection → ℕ → Told → Told → Type 0
+Puts old new via unit own others =
+    (side : Connection) (number : ℕ) → kept new side number
+    ≡ (if nat_eq unit number then (if same_connection via side then own else others) else kept old side number)

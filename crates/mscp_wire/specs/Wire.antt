@@ -31,13 +31,13 @@
 --                    State        a transfer and a GET UNIT STATUS succeed, and an ONLINE
 --                                 says that its unit was online, only if the unit is online   suits_state
 --                    Controller   the identifier of the controller stays as it is             fits
-use Rattle.std.specs.Prelude.{◌≡◌, ℕ, ◌+◌, ◌/◌, ◌<◌, Bool, true, false, not, ◌&&◌, ◌||◌, nat_eq, nat_le, nat_lt, if◌then◌else◌, List, [], ◌∷◌, ◌++◌, length, map, take, drop, position, count_by, fold, min, slice_index, slice_index_or, Option, Some, None, is_some}
+use Rattle.std.specs.Prelude.{◌≡◌, ℕ, ◌+◌, ◌/◌, ◌<◌, Bool, true, false, not, ◌&&◌, ◌||◌, nat_eq, nat_le, nat_lt, if◌then◌else◌, List, [], ◌∷◌, ◌++◌, length, map, take, drop, find, position, count_by, fold, min, slice_index, slice_index_or, Option, Some, None, is_some}
 use Rattle.std.specs.List.{list_any}
 use Rattle.mscp_drive.specs.declared.connection.Connection.{Connection}
 use Rattle.mscp_drive.specs.declared.connection.Connection.TheVariants.{First}
 pub use Rattle.mscp_wire.specs.Messages.{History, answer_by, asks_for_next, controller_in, is_compared, protected_in, table_in, four_in, identity_in, is_about_another, is_immediate, is_known, is_named, is_ordered, is_required, is_sequential, is_short, is_modified, is_sequential_class, is_transfer, is_transfer_class, is_unknown, is_unknown_class, least_length, least_message, same_connection, sent_by, status_code, timeout_in}
 pub use Rattle.mscp_wire.specs.Polls.{asked_about, asked_by, asking, asks_oldest, has_figure, has_number, hears, is_below, is_hasty, is_it, is_oldest, is_polled, is_refused, left, may_ask, may_be, may_tell, polled_by, polls, tells, waits_on}
-pub use Rattle.mscp_wire.specs.Units.{Puts, after_other, after_own, agrees, brings, called, called_after, called_after_end, called_in, controller, controller_after, describes, fits, identifier_of, kept_called, noted_nothing, noted_other, noted_own, size_of, is_known_unit, is_moved, is_of_unit, is_same_unit, is_single, is_unsure, learns, kept, key, later_of, leaves, other_side, says_away, says_online, seen_of, shares, suits_state, tells_unit, timeout_after, told, told_after, told_after_end, told_after_message, told_nothing, told_or, told_reset, turned, was_online}
+pub use Rattle.mscp_wire.specs.Units.{Puts, after_other, after_own, agrees, brings, called, called_after, called_after_end, called_in, controller, controller_after, describes, fits, found, identifier_of, kept_called, noted_nothing, noted_other, noted_own, size_of, is_known_unit, is_moved, is_of_unit, is_same_unit, is_single, is_unsure, learns, kept, key, later_of, leaves, other_side, says_away, says_online, seen_of, shares, suits_state, tells_unit, timeout_after, told, told_after, told_after_end, told_after_message, told_nothing, told_reset, told_to, turned, was_online}
 use Rattle.mscp_wire.specs.declared.answer.Answer.{Answer}
 use Rattle.mscp_wire.specs.declared.moment.Moment.{Moment}
 use Rattle.mscp_wire.specs.declared.moment.Moment.TheVariants as moments
@@ -45,6 +45,7 @@ use Rattle.mscp_wire.specs.declared.rule.Rule.{Rule}
 use Rattle.mscp_wire.specs.declared.rule.Rule.TheVariants as rules
 use Rattle.mscp_wire.specs.declared.sent.Sent.{Sent}
 use Rattle.mscp_wire.specs.declared.told.Seen.{Seen}
+use Rattle.mscp_wire.specs.declared.told.Told.{Told}
 
 -- ---- the rules of a host
 
@@ -217,6 +218,29 @@ command_of xs (moments.Message via b time) = if is_message b.items then Some (se
 command_of xs (moments.End via b) =
     if is_long b.items then answered_by xs (answer_by via b.items) else None
 command_of xs moments.Reset = None
+
+-- the first command that keeps back the one at a place, if there is one: of those that its end passes the oldest
+abbrev pub passed_at : List Sent → Option ℕ → Option Sent
+passed_at xs None = None
+passed_at xs (Some i) = find (keeps_back (command_at xs i)) (take i xs)
+
+-- the same of the command that a moment's end answers
+abbrev pub passed_of : List Sent → Moment → Option Sent
+passed_of xs (moments.Message via b time) = None
+passed_of xs (moments.End via b) =
+    if is_long b.items then passed_at xs (place_of xs (answer_by via b.items)) else None
+passed_of xs moments.Reset = None
+
+-- what was told of the unit that a moment's end names, and of the controller, if it is as long as its endcode asks
+abbrev pub seen_nothing : Seen
+seen_nothing = record { unit = told_nothing; controller = None }
+
+abbrev pub seen_before : (Connection → ℕ → Told) → Option ℕ → Moment → Seen
+seen_before units known (moments.Message via b time) = seen_nothing
+seen_before units known (moments.End via b) =
+    if is_long b.items then record { unit = units via (answer_by via b.items).unit; controller = known }
+    else seen_nothing
+seen_before units known moments.Reset = seen_nothing
 
 -- what is outstanding once the end of the command at a place came: the others hear it
 abbrev pub after_end : List Sent → Answer → Option ℕ → List Sent

@@ -215,6 +215,28 @@ impl<A: Allocator + Copy> Commands<A> {
             || !has(self.before(place), &Sought::Keeping(*command))
     }
 
+    /// The first that keeps the one at a place back, if one does.
+    #[tactic(auto, using(crate::proofs::Names::found_at))]
+    fn keeper_of(&self, place: usize) -> Option<Sent>
+        requires { place < length self.now }
+        ensures { result ≡ find (wire.keeps_back (wire.command_at self.now place)) (take place self.now) }
+    {
+        let command = self.at(place);
+        let earlier = self.before(place);
+        command_at_place(earlier, place_in(earlier, &Sought::Keeping(command)))
+    }
+
+    /// The same, if there is a place.
+    pub fn passed_at(&self, place: Option<usize>) -> Option<Sent>
+        requires { IfSome place (λ i. i < length self.now) }
+        ensures { result ≡ wire.passed_at self.now place }
+    {
+        match place {
+            Some(place) => self.keeper_of(place),
+            None => None,
+        }
+    }
+
     /// Begins to count, if no command is outstanding and nothing was counted so far.
     fn begin(&mut self) -> Result<(), AllocError>
         ensures { self.new ≡ self.old }

@@ -205,7 +205,9 @@ impl<A: Allocator + Copy> Judge<A> {
         }
     }
 
-    /// What comes of a host's message. If it breaks no rule its command is outstanding.
+    /// What comes of a host's message. If it breaks no rule its command is outstanding. It isn't made part of the loop
+    /// over all lines, nor is what is called for an end: of one large body each line would move all that any line makes.
+    #[inline(never)]
     fn message(
         &mut self,
         connection: Connection,
@@ -229,6 +231,7 @@ impl<A: Allocator + Copy> Judge<A> {
             → wire.kept_called self.new.units identifier ≡ wire.kept_called self.old.units identifier }
         ensures controller { self.new.controller ≡ self.old.controller }
         ensures timeout { self.new.timeout ≡ self.old.timeout }
+        ensures unchanged { IfOk result (λ o. IfSome o.rule (λ _. self.new ≡ self.old)) }
         ensures credits { self.new.credits ≡ self.old.credits }
     {
         if bytes.len() < 12 {
@@ -274,6 +277,7 @@ impl<A: Allocator + Copy> Judge<A> {
     }
 
     /// What comes of an end. If it breaks no rule its command isn't outstanding any more.
+    #[inline(never)]
     fn end(&mut self, connection: Connection, bytes: &[u8]) -> Result<Stepped, OutOfMemory>
         ensures rule { IfOk result (λ o. o.rule ≡ wire.unless (wire.is_long bytes.now) Rule.Length
             (wire.broken_at self.old.commands (record {
@@ -305,6 +309,7 @@ impl<A: Allocator + Copy> Judge<A> {
             ≡ wire.later_of (wire.controller_in bytes.now) self.old.controller) }
         ensures timeout { IfOk result (λ o. o.rule ≡ None → self.new.timeout
             ≡ wire.later_of (wire.timeout_in bytes.now) self.old.timeout) }
+        ensures unchanged { IfOk result (λ o. IfSome o.rule (λ _. self.new ≡ self.old)) }
         ensures credits { self.new.credits ≡ self.old.credits }
     {
         if !is_long(bytes) {
@@ -351,6 +356,7 @@ impl<A: Allocator + Copy> Judge<A> {
             ≡ wire.controller_after self.old.controller moment.now) }
         ensures timeout { IfOk result (λ o. o.rule ≡ None → self.new.timeout
             ≡ wire.timeout_after self.old.timeout moment.now) }
+        ensures unchanged { IfOk result (λ o. IfSome o.rule (λ _. self.new ≡ self.old)) }
         ensures credits { self.new.credits ≡ self.old.credits }
     {
         match moment {

@@ -1,6 +1,7 @@
 //! The judge of the wire: whether what went over the wire between hosts and any controller keeps the manual's rules.
 #![tactic(auto)]
 
+mod against;
 mod answer;
 mod commands;
 mod doubtful;
@@ -17,6 +18,7 @@ mod outstanding;
 mod polls;
 mod rule;
 mod sent;
+mod table;
 mod tallies;
 mod tally;
 mod told;
@@ -36,6 +38,7 @@ pub use crate::moment::Moment;
 pub use crate::noted::Noted;
 pub use crate::rule::Rule;
 pub use crate::sent::{Asked, Sent};
+pub use crate::table::{Entry, Table};
 pub use crate::told::{Seen, State, Told};
 pub use crate::totals::{Counts, Totals};
 pub use crate::units::Units;

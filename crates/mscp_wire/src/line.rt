@@ -1,6 +1,6 @@
 // What a line of a log says.
 
-ghost use Rattle.std.specs.Prelude.{◌≡◌, ◌≤◌, ◌<◌, ◌^◌, IfSome, length, position};
+ghost use Rattle.std.specs.Prelude.{◌≡◌, ◌≤◌, ◌<◌, ◌^◌, ◌∷◌, IfSome, length, position};
 ghost use Rattle.mscp_reader.specs.Common.{Gives, in_line};
 ghost use Rattle.mscp_reader.specs.Lexical as lexical;
 ghost use Rattle.mscp_reader.specs.Grammar.{only_number};
@@ -101,30 +101,6 @@ fn time_of(digits: &[u8]) -> Option<u64>
     }
 }
 
-/// The time that a line tells, if its first word is one.
-#[tactic(auto, unfolding(crate::specs::Log::time_in))]
-fn time_in(words: Words<'_>) -> Option<u64>
-    ensures { result ≡ log.time_in (lexical.words words.entry.rest.now) }
-{
-    let mut rest = words;
-    match rest.next_word() {
-        Some(word) if is_time(word) => time_of(&word[1..]),
-        _ => None,
-    }
-}
-
-/// The words of a line without its time, which may stand first.
-#[tactic(auto, unfolding(crate::specs::Log::without_time))]
-fn without_time(words: Words<'_>) -> Words<'_>
-    ensures { lexical.words result.rest.now ≡ log.without_time (lexical.words words.entry.rest.now) }
-{
-    let mut rest = words;
-    match rest.next_word() {
-        Some(word) if is_time(word) => rest,
-        _ => words,
-    }
-}
-
 /// The packet whose digits are the one word that is left.
 #[tactic(auto, unfolding(crate::specs::Log::packet))]
 fn packet(words: Words<'_>) -> Result<ArrayVec<u8, 64>, Cause>
@@ -155,7 +131,27 @@ fn sends(connection: Connection, message: ArrayVec<u8, 64>) -> Said
     }
 }
 
-/// A message or an end of a connection at this time.
+/// A message or an end of a connection at this time, by the first word and those behind it.
+#[tactic(auto, unfolding(crate::specs::Log::happens_on))]
+fn happens(
+    time: Option<u64>,
+    connection: Connection,
+    word: &[u8],
+    fields: Words<'_>,
+) -> Result<Said, Cause>
+    ensures { result ≡ log.happens_on time connection (word.now ∷ lexical.words fields.entry.rest.now) }
+{
+    if word == b"send".as_slice() {
+        let message = packet(fields)?;
+        Ok(Said::Happens(Moment::Message(connection, message, time)))
+    } else if word == b"end".as_slice() {
+        Ok(sends(connection, packet(fields)?))
+    } else {
+        Err(Cause::Word)
+    }
+}
+
+/// The same by the words that are left.
 #[tactic(auto, unfolding(crate::specs::Log::happens_on))]
 fn happens_on(
     time: Option<u64>,
@@ -165,14 +161,7 @@ fn happens_on(
     ensures { result ≡ log.happens_on time connection (lexical.words words.entry.rest.now) }
 {
     let word = words.next_field()?;
-    if word == b"send".as_slice() {
-        let message = packet(words)?;
-        Ok(Said::Happens(Moment::Message(connection, message, time)))
-    } else if word == b"end".as_slice() {
-        Ok(sends(connection, packet(words)?))
-    } else {
-        Err(Cause::Word)
-    }
+    happens(time, connection, word, words)
 }
 
 /// The one number that is left.
@@ -182,35 +171,56 @@ fn only_number(words: Words<'_>) -> Result<u32, Cause>
     wide(words.one()?)
 }
 
-/// What the words of a line say, behind its time.
+/// What the words of a line say, behind its time: the first one, and those behind it.
 #[tactic(auto, unfolding(crate::specs::Log::said_by))]
-fn said_by(time: Option<u64>, words: Words<'_>) -> Result<Said, Cause>
-    ensures { result ≡ log.said_by time (lexical.words words.entry.rest.now) }
+fn said_by(time: Option<u64>, word: &[u8], fields: Words<'_>) -> Result<Said, Cause>
+    ensures { result ≡ log.said_by time (word.now ∷ lexical.words fields.entry.rest.now) }
 {
-    let mut rest = words;
-    let Some(word) = rest.next_word() else {
-        return Ok(Said::Nothing);
-    };
     if word == b"second".as_slice() {
-        happens_on(time, Connection::Second, rest)
+        happens_on(time, Connection::Second, fields)
     } else if word == b"reset".as_slice() {
-        rest.none()?;
+        fields.none()?;
         Ok(Said::Happens(Moment::Reset))
     } else if word == b"credits".as_slice() {
-        Ok(Said::Credits(only_number(rest)?))
+        Ok(Said::Credits(only_number(fields)?))
     } else {
-        happens_on(time, Connection::First, words)
+        happens(time, Connection::First, word, fields)
+    }
+}
+
+/// What the words behind a time say.
+#[tactic(auto, unfolding(crate::specs::Log::said_by))]
+fn said_at(time: Option<u64>, mut words: Words<'_>) -> Result<Said, Cause>
+    ensures { result ≡ log.said_by time (lexical.words words.entry.rest.now) }
+{
+    match words.next_word() {
+        Some(word) => said_by(time, word, words),
+        None => Ok(Said::Nothing),
+    }
+}
+
+/// What the words of a line say: its time may stand first. Each word is cut off once.
+#[tactic(auto, unfolding(crate::specs::Log::said_by, crate::specs::Log::time_in, crate::specs::Log::without_time))]
+fn said_in(mut words: Words<'_>) -> Result<Said, Cause>
+    ensures { result ≡ log.said_by (log.time_in (lexical.words words.entry.rest.now))
+        (log.without_time (lexical.words words.entry.rest.now)) }
+{
+    match words.next_word() {
+        Some(word) if is_time(word) => said_at(time_of(&word[1..]), words),
+        Some(word) => said_by(None, word, words),
+        None => Ok(Said::Nothing),
     }
 }
 
 /// What the line of this number says.
+#[inline(never)]
 #[tactic(auto, unfolding(crate::specs::Log::line_says))]
 pub fn line_says(number: u32, line: &[u8]) -> Result<Said, ScriptFault>
     requires { 1 ≤ number }
     ensures { result ≡ in_line number (log.line_says number line.now) }
 {
     let words = words_of(number, line)?;
-    match said_by(time_in(words), without_time(words)) {
+    match said_in(words) {
         Ok(said) => Ok(said),
         Err(cause) => Err(ScriptFault {
             line: number,

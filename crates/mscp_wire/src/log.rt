@@ -63,6 +63,7 @@ impl<A: Allocator + Copy> Reading<A> {
     }
 
     /// What comes of a moment.
+    #[inline(never)]
     fn moment(&mut self, number: u32, moment: Moment) -> Result<Option<Wrong>, ReadFault>
         requires { HasFew self.old number }
         ensures after { (log : Log) → IsAfter log self.old
@@ -79,6 +80,8 @@ impl<A: Allocator + Copy> Reading<A> {
             Some(rule) => Ok(Some(Wrong {
                 line: number,
                 rule,
+                passed: self.judge.passed(&moment),
+                seen: self.judge.seen(&moment),
                 moment,
                 command,
             })),

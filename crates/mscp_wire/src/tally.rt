@@ -9,7 +9,7 @@ use mscp_drive::Connection;
 use std::alloc::{AllocError, Allocator};
 
 /// How many numbers there are.
-pub const SLOTS: usize = 65536;
+pub const SLOTS: usize = 131_072;
 
 /// A count that stays: so many or more, or nobody knows how many.
 const MANY: u8 = 255;

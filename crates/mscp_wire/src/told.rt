@@ -59,6 +59,16 @@ pub fn later_time(new: Option<u16>, known: Option<u16>) -> Option<u16>
 }
 
 impl Seen {
+    /// Nothing.
+    pub fn nothing() -> Seen
+        ensures { result ≡ wire.seen_nothing }
+    {
+        Seen {
+            unit: Told::nothing(),
+            controller: None,
+        }
+    }
+
     /// Whether an end tells the identifier of the controller that was told.
     pub fn is_same_controller(&self, answer: &Answer) -> bool
         ensures { result ≡ wire.fits self.now.controller answer.now.controller }

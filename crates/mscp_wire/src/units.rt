@@ -7,6 +7,7 @@ ghost use Rattle.mscp_drive.specs.declared.connection.Connection as connections;
 
 use crate::answer::Answer;
 use crate::sent::Sent;
+use crate::table::Table;
 use crate::told::{State, Told};
 use mscp_drive::{Connection, OutOfMemory};
 use std::alloc::{AllocError, Allocator};
@@ -17,19 +18,9 @@ use std::collections::BTreeMap;
 pub struct Units<A: Allocator> {
     /// What each was told of all that aren't kept.
     pub others: Told,
-    pub kept: BTreeMap<u32, Told, A>,
+    pub kept: Table<A>,
     /// Which unit was last said to be online and to have an identifier.
     pub called: BTreeMap<u64, u16, A>,
-}
-
-/// The number of a unit of a connection.
-fn key(connection: Connection, unit: u16) -> u32
-    ensures { result ≡ wire.key connection unit }
-{
-    match connection {
-        Connection::First => 2 * u32::from(unit),
-        Connection::Second => 2 * u32::from(unit) + 1,
-    }
 }
 
 /// The other connection.
@@ -60,7 +51,7 @@ impl<A: Allocator + Copy> Units<A> {
     {
         Units {
             others: Told::nothing(),
-            kept: BTreeMap::new(alloc),
+            kept: Table::new(alloc),
             called: BTreeMap::new(alloc),
         }
     }
@@ -79,9 +70,10 @@ impl<A: Allocator + Copy> Units<A> {
     pub fn told(&self, connection: Connection, unit: u16) -> Told
         ensures { result ≡ wire.kept self.now connection unit }
     {
-        match self.kept.get(&key(connection, unit)).copied() {
-            Some(told) => told,
-            None => self.others,
+        match (self.kept.get(unit), connection) {
+            (Some(entry), Connection::First) => entry.first,
+            (Some(entry), Connection::Second) => entry.second,
+            (None, _) => self.others,
         }
     }
 
@@ -107,12 +99,21 @@ impl<A: Allocator + Copy> Units<A> {
         }
     }
 
-    /// Keeps this of a unit of a connection.
-    fn put(&mut self, connection: Connection, unit: u16, told: Told) -> Result<(), AllocError>
-        ensures told { OnOk result (wire.Puts self.old self.new connection unit told) }
+    /// Keeps this of a unit: what its host was told on a connection, and the other one.
+    fn put(
+        &mut self,
+        connection: Connection,
+        unit: u16,
+        own: Told,
+        others: Told,
+    ) -> Result<(), AllocError>
+        ensures told { OnOk result (wire.Puts self.old self.new connection unit own others) }
         ensures called { self.new.called ≡ self.old.called }
     {
-        self.kept.insert(key(connection, unit), told)?;
+        match connection {
+            Connection::First => self.kept.put(unit, own, others)?,
+            Connection::Second => self.kept.put(unit, others, own)?,
+        }
         Ok(())
     }
 
@@ -142,8 +143,7 @@ impl<A: Allocator + Copy> Units<A> {
         let other = other_side(answer.connection);
         let own = self.told(answer.connection, answer.unit).after_own(answer);
         let others = self.told(other, answer.unit).after_other(answer);
-        self.put(answer.connection, answer.unit, own)?;
-        self.put(other, answer.unit, others)?;
+        self.put(answer.connection, answer.unit, own, others)?;
         self.hear_call(answer)?;
         Ok(())
     }
@@ -162,7 +162,8 @@ impl<A: Allocator + Copy> Units<A> {
             state: State::Shared,
             ..self.told(other, sent.unit)
         };
-        self.put(other, sent.unit, told)?;
+        let own = self.told(sent.connection, sent.unit);
+        self.put(sent.connection, sent.unit, own, told)?;
         Ok(())
     }
 }

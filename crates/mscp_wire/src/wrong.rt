@@ -3,6 +3,7 @@
 use crate::moment::Moment;
 use crate::rule::Rule;
 use crate::sent::Sent;
+use crate::told::Seen;
 
 /// The first moment of a log that isn't right.
 #[derive(Drop)]
@@ -15,4 +16,8 @@ pub struct Wrong {
     pub moment: Moment,
     /// The command that it sends, or the outstanding one that it answers, if there is one.
     pub command: Option<Sent>,
+    /// The first earlier command that keeps that one back, if there is one.
+    pub passed: Option<Sent>,
+    /// What was told before of the unit that its end names, and of the controller.
+    pub seen: Seen,
 }

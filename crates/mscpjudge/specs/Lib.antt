@@ -3,6 +3,8 @@ pub mod Chosen
 pub mod Endings
 pub mod Heard
 pub mod Counted
+pub mod Commands
+pub mod Values
 pub mod Wired
 pub mod Showing
 pub mod Common

@@ -3,8 +3,6 @@ use Rattle.std.specs.Prelude.{◌≡◌, ℕ, List, [], ◌++◌, codes, Option,
 use Rattle.std.specs.List.{flat_map}
 use Rattle.std.specs.Fmt.{decimal}
 use Rattle.std.specs.Io.KnownBytes.{Appends}
-use Rattle.mscp_drive.specs.declared.connection.Connection.{Connection}
-use Rattle.mscp_drive.specs.declared.connection.Connection.TheVariants.{First, Second}
 use Rattle.mscp_script.specs.Simulated.{IsGiven}
 use Rattle.mscp_wire.specs.Wire.{outstanding}
 use Rattle.mscp_wire.specs.Log.{Log}
@@ -20,24 +18,15 @@ use Rattle.mscp_wire.specs.declared.rule.Rule.{Rule}
 use Rattle.mscp_wire.specs.declared.rule.Rule.TheVariants as rules
 use Rattle.mscp_wire.specs.declared.sent.Sent.{Sent}
 use Rattle.mscp_wire.specs.declared.wrong.Wrong.{Wrong}
-use Rattle.mscpjudge.specs.Counted.{opcode_name, totals_text}
+pub use Rattle.mscpjudge.specs.Commands.{command_text, connection_name}
+use Rattle.mscpjudge.specs.Counted.{totals_text}
+use Rattle.mscpjudge.specs.Values.{against_text, told_text}
 use Rattle.mscpjudge.specs.declared.fault.Fault.{Fault}
 use Rattle.mscpjudge.specs.declared.fault.Fault.TheVariants as faults
 use Rattle.mscpjudge.specs.declared.judging.Outcome.{Outcome}
 use Rattle.mscpjudge.specs.declared.judging.Outcome.TheVariants as outcomes
 
--- whose it is, if that isn't the first connection's host
-abbrev pub connection_name : Connection → List ℕ
-connection_name First = []
-connection_name Second = codes "second "
-
--- what a command is
-abbrev pub command_text : Sent → List ℕ
-command_text s =
-    connection_name s.connection ++ opcode_name s.opcode ++ (codes " " ++ decimal s.reference)
-    ++ (codes " of unit " ++ decimal s.unit) ++ codes "\n"
-
--- the same behind a word, on a line of its own
+-- a command behind a word, on a line of its own
 unfoldable pub outstanding_text : Sent → List ℕ
 outstanding_text s = codes "outstanding: " ++ command_text s
 
@@ -126,6 +115,7 @@ manual_line rule = codes "manual: " ++ rule_text rule ++ codes "\n"
 abbrev pub broken_text : Wrong → List ℕ
 broken_text wrong =
     codes "line " ++ decimal wrong.line ++ codes ": not right\n" ++ rule_line wrong.rule ++ meant_text wrong.command
+    ++ told_text wrong.moment ++ against_text wrong.rule wrong.moment wrong.command wrong.passed wrong.seen
     ++ manual_line wrong.rule
 
 -- the end of a line about the command of a moment, if it has one

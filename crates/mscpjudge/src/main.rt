@@ -11,6 +11,7 @@ mod hearing;
 mod judging;
 mod showing;
 mod totals;
+mod values;
 mod wire;
 
 use crate::choosing::{Call, asking_of};

@@ -8,6 +8,7 @@ use crate::doubts::put_doubts;
 use crate::fault::Fault;
 use crate::judging::Outcome;
 use crate::totals::put_totals;
+use crate::values::{put_against, put_told};
 use mscp_controller::Connection;
 use mscp_script::{Sink, Source, read_all};
 use mscp_text::{put, put_field};
@@ -190,6 +191,8 @@ fn put_wrong<A: Allocator>(text: &mut Vec<u8, A>, wrong: &Wrong) -> Result<(), A
     put(text, ": not right\n")?;
     put_rule(text, wrong.rule)?;
     put_meant(text, &wrong.command)?;
+    put_told(text, &wrong.moment)?;
+    put_against(text, wrong)?;
     put_manual(text, wrong.rule)
 }
 

@@ -2,6 +2,7 @@ use Rattle.std.proofs.Common.{length, ap, refl, sym, ◌∙◌}
 use Rattle.mscp_wire.specs.Totals.{fall_after}
 use Rattle.mscp_wire.specs.Log.{with_moment}
 use Rattle.mscp_wire.specs.Wire.{command_of}
+use Rattle.mscp_wire.proofs.Contradicted.{kept_then, passed_then, seen_then}
 use Rattle.mscp_wire.proofs.Doubting.{called_more, doubts_kept, lines_kept}
 use Rattle.mscp_wire.proofs.Meaning.{right_more}
 use Rattle.mscp_wire.proofs.Passing.{broken_after, controller_more, pushed, timeout_more, told_more}
@@ -15,6 +16,14 @@ returns-in-Some-clause-after g c = λ log s. record {
       broken_after log c.args.moment _ _ _ _ _ s.credits s.commands s.units s.controller
       (sym c.in-Some.is ∙ c.in_ok-rule.ensures.rule);
   command = c.in_ok-rule.ensures.command ∙ ap (λ xs. command_of xs c.args.moment) s.commands;
+  passed =
+      c.passed.ensures
+      ∙ passed_then c.args.self.now.judge c.step.new.self c.args.moment _
+      (kept_then _ _ _ _ c.in-Some.is c.in_ok-rule.ensures.unchanged) s.commands;
+  seen =
+      c.seen.ensures
+      ∙ seen_then c.args.self.now.judge c.step.new.self c.args.moment _ _
+      (kept_then _ _ _ _ c.in-Some.is c.in_ok-rule.ensures.unchanged) s.units s.controller;
 }
 
 pub returns-in-None-clause-after : goal.returns-in-None-clause-after

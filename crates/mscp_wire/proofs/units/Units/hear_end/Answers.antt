@@ -7,8 +7,7 @@ pub returns-clause-told : goal.returns-clause-told
 returns-clause-told g c = λ via unit.
     let e = c.args.answer.now in
     c.hear_call.ensures.told via unit
-    ∙ heard_end (kept c.args.self.now) (kept c.put.new.self) (kept c.put-2.new.self) e c.after_own-own.result
-    c.after_other-others.result c.other_side-other.result
-    (c.after_own-own.ensures ∙ ap (λ t. after_own t e) c.told.ensures) c.other_side-other.ensures
-    (c.after_other-others.ensures ∙ ap (λ t. after_other t e) c.told-2.ensures) c.in_ok-put.ensures.told
-    c.in_ok-put-2.ensures.told via unit
+    ∙ heard_end (kept c.args.self.now) (kept c.put.new.self) e c.after_own-own.result c.after_other-others.result
+    c.other_side-other.result (c.after_own-own.ensures ∙ ap (λ t. after_own t e) c.told.ensures)
+    c.other_side-other.ensures
+    (c.after_other-others.ensures ∙ ap (λ t. after_other t e) c.told-2.ensures) c.in_ok-put.ensures.told via unit

@@ -1,13 +1,21 @@
-use Rattle.std.specs.Ordering.{is_eq, nat_cmp}
-use Rattle.std.specs.BTreeMap as tree
-use Rattle.std.proofs.Common.{ap, cond, ◌∙◌, Some}
+use Rattle.std.proofs.Common.{ap, if◌then◌else◌, sym, ◌∙◌}
+use Rattle.std.specs.Prelude.{nat_eq}
+use Rattle.mscp_drive.specs.declared.connection.Connection.TheVariants.{First, Second}
+use Rattle.mscp_wire.specs.Messages.{same_connection}
+use Rattle.mscp_wire.specs.Wire.{found, kept}
 use Rattle.mscp_wire.proofs.Keys.{put_told}
 use Rattle.mscp_wire.proofs.units.Units.put.Goals as goal
 
-pub returns-clause-told : goal.returns-clause-told
-returns-clause-told g c = λ own number.
-    put_told c.args.self.now.others (tree.get nat_cmp c.args.self.now.kept) (tree.get nat_cmp c.insert.new.self)
-    c.args.connection c.args.unit c.args.told
-    (λ q. c.in_ok-insert.ensures.updates.0 q
-    ∙ ap (λ k. cond (is_eq (nat_cmp k q)) (Some c.args.told) (tree.get nat_cmp c.args.self.now.kept q)) c.key.ensures)
-    own number
+pub returns-in_ok-put-in-First-clause-told : goal.returns-in_ok-put-in-First-clause-told
+returns-in_ok-put-in-First-clause-told g c = λ side number.
+    put_told c.args.self.now.others (found c.args.self.now.kept) (found c.put.new.self) First c.args.unit
+    c.args.own c.args.others c.in_ok-put-in-First.ensures side number
+    ∙ ap (λ v. if nat_eq c.args.unit number then (if same_connection v side then c.args.own else c.args.others)
+    else kept c.args.self.now side number) (sym c.in-First.is)
+
+pub returns-in_ok-put-in-Second-clause-told : goal.returns-in_ok-put-in-Second-clause-told
+returns-in_ok-put-in-Second-clause-told g c = λ side number.
+    put_told c.args.self.now.others (found c.args.self.now.kept) (found c.put-in-Second.new.self) Second c.args.unit
+    c.args.own c.args.others c.in_ok-put-in-Second.ensures side number
+    ∙ ap (λ v. if nat_eq c.args.unit number then (if same_connection v side then c.args.own else c.args.others)
+    else kept c.args.self.now side number) (sym c.in-Second.is)

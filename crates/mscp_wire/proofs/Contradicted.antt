@@ -1,0 +1,38 @@
+-- What a moment that breaks a rule is compared with: the judge is the same then as before it.
+use Rattle.std.proofs.Common.{◌≡◌, ℕ, refl, ap, ◌∙◌, subst, if◌then◌else◌, List, Option, Some}
+use Rattle.std.specs.Prelude.{IfSome}
+use Rattle.mscp_drive.specs.declared.connection.Connection.{Connection}
+use Rattle.mscp_wire.specs.Wire.{answer_by, is_long, kept, passed_of, seen_before, seen_nothing}
+use Rattle.mscp_wire.specs.declared.judge.Judge.{Judge}
+use Rattle.mscp_wire.specs.declared.moment.Moment.{Moment}
+use Rattle.mscp_wire.specs.declared.moment.Moment.TheVariants as moments
+use Rattle.mscp_wire.specs.declared.rule.Rule.{Rule}
+use Rattle.mscp_wire.specs.declared.sent.Sent.{Sent}
+use Rattle.mscp_wire.specs.declared.told.Seen.{Seen}
+use Rattle.mscp_wire.specs.declared.told.Told.{Told}
+
+pub kept_then : {X : Type 0} (old new : X) (broken : Option Rule) (rule : Rule) → broken ≡ Some rule
+    → IfSome broken (λ r. new ≡ old) → new ≡ old
+kept_then old new broken rule is h = subst (λ b. IfSome b (λ r. new ≡ old)) is h
+
+pub passed_then : {A : Type 0} (old new : Judge A) (m : Moment) (xs : List Sent) → new ≡ old → old.commands ≡ xs
+    → passed_of new.commands m ≡ passed_of xs m
+passed_then {A = A} old new m xs same is =
+    ap (λ (j : Judge A). passed_of j.commands m) same ∙ ap (λ ys. passed_of ys m) is
+
+pub seen_then : {A : Type 0} (old new : Judge A) (m : Moment) (units : Connection → ℕ → Told) (known : Option ℕ)
+    → new ≡ old → ((via : Connection) (unit : ℕ) → kept old.units via unit ≡ units via unit) → old.controller ≡ known
+    → seen_before (kept new.units) new.controller m ≡ seen_before units known m
+seen_then {A = A} old new m units known same told is =
+    ap (λ (j : Judge A). seen_before (kept j.units) j.controller m) same ∙ by_moment m
+  where
+    seen : Told → Option ℕ → Seen
+    seen unit controller = record { unit = unit; controller = controller }
+
+    by_moment : (m : Moment) → seen_before (kept old.units) old.controller m ≡ seen_before units known m
+    by_moment (moments.Message via b time) = refl
+    by_moment (moments.End via b) =
+        ap (λ t. if is_long b.items then seen t old.controller else seen_nothing)
+        (told via (answer_by via b.items).unit)
+        ∙ ap (λ k. if is_long b.items then seen (units via (answer_by via b.items).unit) k else seen_nothing) is
+    by_moment moments.Reset = refl

@@ -1,0 +1,12 @@
+use Rattle.std.proofs.Common.{ap, arith}
+use Rattle.std.proofs.lemmas.Bool.Decides.{nat_tests}
+use Rattle.mscp_wire.specs.Wire.{kept}
+use Rattle.mscp_wire.specs.declared.told.State.TheVariants.{Shared}
+use Rattle.mscp_wire.proofs.Keys.{heard_online, with_state}
+use Rattle.mscp_wire.proofs.units.Units.hear_command.Goals as goal
+
+pub returns-clause-told : goal.returns-clause-told
+returns-clause-told g c = λ via unit.
+    heard_online (kept c.args.self.now) (kept c.put.new.self) c.args.sent.now c.told-own.result _
+    c.other_side-other.result (grind (arith, nat_tests, c.if-sent-ne9.false)) c.told-own.ensures
+    c.other_side-other.ensures (ap (with_state Shared) c.told.ensures) c.in_ok-put.ensures.told via unit

@@ -1,0 +1,64 @@
+// What a moment that breaks a rule contradicts, beside its command. It is asked once a log, of a judge that is as it was
+// before that moment: so no line that is right pays for it.
+
+ghost use Rattle.std.specs.Prelude.{◌≡◌, if◌then◌else◌, None};
+ghost use Rattle.mscp_wire.specs.Wire as wire;
+
+use crate::answer::{Answer, is_long};
+use crate::judge::Judge;
+use crate::moment::Moment;
+use crate::sent::Sent;
+use crate::told::Seen;
+use mscp_drive::Connection;
+use std::alloc::Allocator;
+
+impl<A: Allocator + Copy> Judge<A> {
+    /// The command that the end in these bytes passes, if it passes one.
+    fn passed_by(&self, connection: Connection, bytes: &[u8]) -> Option<Sent>
+        ensures { result ≡ (if wire.is_long bytes.now then wire.passed_at self.now.commands
+            (wire.place_of self.now.commands (wire.answer_by connection bytes.now)) else None) }
+    {
+        if !is_long(bytes) {
+            return None;
+        }
+        let place = self.commands.place_of(&Answer::of(connection, bytes));
+        self.commands.passed_at(place)
+    }
+
+    /// The command that a moment's end passes, if it passes one.
+    pub fn passed(&self, moment: &Moment) -> Option<Sent>
+        ensures { result ≡ wire.passed_of self.now.commands moment.now }
+    {
+        match moment {
+            Moment::End(connection, message) => self.passed_by(*connection, message.as_slice()),
+            _ => None,
+        }
+    }
+
+    /// What was told of the unit that the end in these bytes names, and of the controller.
+    fn seen_by(&self, connection: Connection, bytes: &[u8]) -> Seen
+        ensures { result ≡ (if wire.is_long bytes.now then record {
+          unit = wire.kept self.now.units connection (wire.answer_by connection bytes.now).unit;
+          controller = self.now.controller;
+        } else wire.seen_nothing) }
+    {
+        if !is_long(bytes) {
+            return Seen::nothing();
+        }
+        let answer = Answer::of(connection, bytes);
+        Seen {
+            unit: self.units.told(connection, answer.unit),
+            controller: self.controller,
+        }
+    }
+
+    /// The same of a moment's end.
+    pub fn seen(&self, moment: &Moment) -> Seen
+        ensures { result ≡ wire.seen_before (wire.kept self.now.units) self.now.controller moment.now }
+    {
+        match moment {
+            Moment::End(connection, message) => self.seen_by(*connection, message.as_slice()),
+            _ => Seen::nothing(),
+        }
+    }
+}
