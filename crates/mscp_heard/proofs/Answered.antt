@@ -282,9 +282,9 @@ module _ (F : ℕ → ℕ) (Served : ℕ → Type 0) (old new : PortAccount) (s 
 
         ended_so : (a : Bool) (c : Bool)
             → (cond a (heards.Refused e) (cond c (heards.MovedTooMuch e d.own.0)
-                (heards.Ended e d.own.0)) ≢ heards.Reset)
+            (heards.Ended e d.own.0)) ≢ heards.Reset)
             × (cond a (heards.Refused e) (cond c (heards.MovedTooMuch e d.own.0)
-                (heards.Ended e d.own.0)) ≢ heards.Lost)
+            (heards.Ended e d.own.0)) ≢ heards.Lost)
         ended_so true c = ((λ f. search (arith, f)), (λ f. search (arith, f)))
         ended_so false true = ((λ f. search (arith, f)), (λ f. search (arith, f)))
         ended_so false false = ((λ f. search (arith, f)), (λ f. search (arith, f)))

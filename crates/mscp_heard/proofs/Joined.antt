@@ -203,7 +203,7 @@ module _ {K : Type 0} (picks : Picking K) (c : Settings) (picker : K) (ends : Po
     -- behind a call that is no write of IP
     pub called : (call : Call) (a : Answered picks start (call ∷ calls) p) → AsksAlways (call ∷ calls)
         → ReadsBytes (call ∷ calls) → ReadsInOrder IsTextOf call (talk_of picks start a.0 calls a.1) (sent h)
-            → call ≢ WriteIp
+        → call ≢ WriteIp
         → is_dead p.stage ≡ false → (is_dead a.0.stage ≡ false → State a.0 calls a.1 asked h)
         → State p (call ∷ calls) a asked h
     called call a asks small reads never lives get =

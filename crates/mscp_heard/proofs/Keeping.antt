@@ -300,7 +300,7 @@ module _ (F : ℕ → ℕ) (Served : ℕ → Type 0) (old new : PortAccount) (us
           arith,
           sym (sole_comes (has_number w.reference) ms m
               (ap (λ j. filter (has_number j) ms) named ∙ unread_none) (eq-eqb (num m 0 4) w.reference (sym named)))
-                  ∙ e,
+              ∙ e,
         )));
         coming = λ g first. absurd (none (tally (num m 0 4) (claims us ts ms)) none_claimed
             (held (num m 0 4) g (ap (λ j. first_of j P) (sym named) ∙ first)));

@@ -248,7 +248,7 @@ at_least n m h = search (arith, h)
 whole_so : (t : List ℕ) → IsWhole t → IsMessage kinds.End (sequential_in t)
 whole_so t w =
     subst (λ b. IsMessage kinds.End (cond b (Err faults.Unreadable) (cond (nat_le 0x80 (slice_index t 8)) (any_end t
-        (end_in t))
+    (end_in t))
     (cond (nat_le 0x40 (slice_index t 8)) (Ok (messages.Attention (slice_index t 8) (num t 4 2)))
     (Err faults.Unreadable))))) (sym (not_more (length t) 12 w.long))
     (subst (λ b. IsMessage kinds.End (cond b (any_end t (end_in t))
@@ -269,7 +269,7 @@ whole_so t w =
 news_so : (t : List ℕ) → slice_index t 8 ≡ 0x40 → 12 ≤ length t → IsMessage kinds.Attention (sequential_in t)
 news_so t code long =
     subst (λ b. IsMessage kinds.Attention (cond b (Err faults.Unreadable) (cond (nat_le 0x80 (slice_index t 8))
-        (any_end t (end_in t))
+    (any_end t (end_in t))
     (cond (nat_le 0x40 (slice_index t 8)) (Ok (messages.Attention (slice_index t 8) (num t 4 2)))
     (Err faults.Unreadable))))) (sym (not_more (length t) 12 long))
     (subst (λ c. IsMessage kinds.Attention (cond (nat_le 0x80 c) (any_end t (end_in t))

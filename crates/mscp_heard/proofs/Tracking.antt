@@ -304,7 +304,7 @@ module _ (host : PortAccount) (F F' : ℕ → ℕ) (Served Served' : ℕ → Typ
                   let s = last_of (KnowsTold F Served ms) x l host.account.outstanding told last in
                   let b = (s.1 l s.3).1 (subst (λ y. 1 ≤ F y) (sym s.2) low) in
                   over l (F x) g (subst (λ y. F y < l) s.2 (b.1 (subst Served (t.4
-                      ∙ sym s.2) (n.1 (subst (λ y. 1 ≤ F y) (sym t.4) low))))) is le),
+                  ∙ sym s.2) (n.1 (subst (λ y. 1 ≤ F y) (sym t.4) low))))) is le),
               (λ low'. (
                 subst (λ y. F' x ≤ y) (sym is) (lowers x low),
                 λ s. absurd (n.2 (subst Served' (sym t.4) s)),

@@ -156,7 +156,7 @@ in_of_holds n (e ∷ es) h = by (nat_eq e.reference n) refl h (λ k. in_of_holds
   where
     by : (b : Bool) → nat_eq e.reference n ≡ b
         → cond b (e ∷ filter (λ (e : End). nat_eq e.reference n) es) (filter (λ
-            (e : End). nat_eq e.reference n) es) ≢ []
+        (e : End). nat_eq e.reference n) es) ≢ []
         → (filter (λ (e : End). nat_eq e.reference n) es ≢ [] → IsIn n (map pending_end es))
         → (nat_eq e.reference n ≡ true) ⊎ IsIn n (map pending_end es)
     by true is h rest = inl is
@@ -169,7 +169,7 @@ holds_of_in n (e ∷ es) is h = by (nat_eq e.reference n) refl h is (λ k. holds
   where
     by : (b : Bool) → nat_eq e.reference n ≡ b
         → cond b (e ∷ filter (λ (e : End). nat_eq e.reference n) es) (filter (λ
-            (e : End). nat_eq e.reference n) es) ≡ []
+        (e : End). nat_eq e.reference n) es) ≡ []
         → (nat_eq e.reference n ≡ true) ⊎ IsIn n (map pending_end es)
         → (IsIn n (map pending_end es) → filter (λ (e : End). nat_eq e.reference n) es ≢ []) → ⊥
     by true so h is rest = search (arith, h)

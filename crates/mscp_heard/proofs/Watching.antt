@@ -207,7 +207,7 @@ module _ (old new : PortAccount) (n : ℕ) (small : n < 2 ^ 32) (same : SameNumb
         by : (b : Bool) → ◌≡◌ {A = Result Poll HostFault × PortAccount}
             (cond b (Err Rattle.mscp_host.specs.declared.news.HostFault.TheVariants.NoCredit, old)
             (polled_with old n (polls_oldest old.account n))) (Ok (polls.Ask message), new)
-                → Notes old new message.items
+            → Notes old new message.items
         by true h = absurd (search (arith, h))
         by false h = busy (is_some old.account.watch) h
 

@@ -117,7 +117,7 @@ module _ (k : Block) (d : Drive) (aw : List (List ℕ)) (rs : List Record) (es :
                   left ∙ x.1,
                   fits_alike w.own r x.0 t
                       (ap (λ (y : Record). y.command) (one_of n (waiting_after k d rs place) r s.0 e s.1)
-                          ∙ s.2.command) x.2,
+                      ∙ s.2.command) x.2,
                 );
           }
 
@@ -216,7 +216,7 @@ queued_kept aw rs bs t r b new none is others named fits kept n = by (nat_eq (nu
         let records = sole_comes (is_numbered number) rs r none is in
         let texts = sole_comes (has_number number) aw t new (eq-eqb number number refl) in
         let buffers = sole_comes (is_of First number) bs b ((kept number).none none)
-            (eq-eqb b.reference number named) in
+        (eq-eqb b.reference number named) in
         record {
           none = λ e. absurd (some_none r [] (sym records ∙ e));
           own = λ x y e f. (
@@ -291,7 +291,7 @@ few_each (suc k) (b ∷ bs) rs small each =
     let left = filter (λ x. not (is_of First n x)) (b ∷ bs) in
     let rest = filter (λ r. not (is_numbered n r)) rs in
     let mine : 1 ≤ length (filter (is_of First n) (b ∷ bs)) = subst (λ c. 1 ≤ length (cond c (b ∷ filter
-        (is_of First n) bs)
+    (is_of First n) bs)
     (filter (is_of First n) bs))) (sym (eq-eqb n n refl)) (search arith) in
     let whole = split_length (is_of First n) (b ∷ bs) in
     let among = split_length (is_numbered n) rs in

@@ -120,7 +120,7 @@ module _ (c : Settings) (t : Trace) (m : Moment) (right : IsRight c t m.0 m.1) (
   each_lower : AllByRecursion IsLower (waiting after)
   each_lower = subst (λ xs. AllByRecursion IsLower xs) (sym (waiting_more t m))
       (every_append IsLower (filter (λ x. not (ends_in (name t x) m.1)) (waiting t)) (cond (queues m.1)
-          (length t ∷ []) [])
+      (length t ∷ []) [])
       (every_kept IsLower (λ x. not (ends_in (name t x) m.1)) (waiting t)
       (every_weaker (λ x. is_waiting t x ≡ true) IsLower stays_lower (waiting t) (waiting_waits t)))
       (new_lower (queues m.1) refl))

@@ -129,7 +129,7 @@ module _ {K : Type 0} (picks : Picking K) (c : Settings) (picker : K)
                 ⊎ (1 ≤ figure_on a.0 e.number)) (pending_said q.out.kind q.out.bytes.items)
                 (map pending_end x.0.brought)
                 (own_these q.out.kind q.out.bytes.items (q.accepted
-                    ∙ ap (λ b. b ∷ []) (sym (same_bytes q.message q.read.0 q.read.1)))
+                ∙ ap (λ b. b ∷ []) (sym (same_bytes q.message q.read.0 q.read.1)))
                 (ap (λ b. num b 0 4) r.3.own.2 ∙ own_number bytes r.3.own.0 (bytes_small bytes reads.0)))
                 (pending_these (WasRead bytes (Ok done)) a.0 x.0.brought x.0.these);
             poll = λ b u e t. absurd (search (arith, sym none ∙ t.0));
