@@ -28,8 +28,7 @@ pub fn hosts_hear_their_own_ends<K: Picker>(picker: &K)
 }
 
 /// Such a host and port, whose units have blocks. If each text that the port reads is of its message by number, opcode and first
-/// parameter, and has all its bytes, the host refuses nothing: each end has the code of its command, or that of an unknown opcode,
-/// and the end of a poll is about the command that was polled.
+/// parameter, and has all its bytes, the host refuses nothing that it hears.
 pub fn hosts_refuse_nothing<K: Picker>(picker: &K)
     ensures { HostsRefuseNothing K.picks picker.now }
 {
@@ -42,10 +41,9 @@ pub fn hosts_refuse_nothing<K: Picker>(picker: &K)
     port_hosts_keep_their_history();
 }
 
-/// Such a host and port. If between any two polls about one command, as the port's controller took them, a block was told, or the
-/// command waits no more, the host hears neither `Reset` nor `Lost`: each figure that it is told of a command is less than the one
-/// before, and none is 0. A controller that serves nothing between two polls has no lower figure to tell, and a host takes that
-/// for a reset.
+/// Such a host and port. If between any two polls about one command, as the port's controller took them, a step was told, or the
+/// command waits no more, the host says neither `Reset`, of a figure that isn't less than the one before, nor `Lost`, of a figure
+/// of 0. A controller that serves nothing between two polls has no lower figure to tell: that a host takes for a reset.
 pub fn hosts_hear_no_reset<K: Picker>(picker: &K)
     ensures { HostsHearNoReset K.picks picker.now }
 {

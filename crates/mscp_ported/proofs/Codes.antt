@@ -171,79 +171,70 @@ other_about (codes.Move kind) b byte at more other figure is = absurd (moved kin
 abbrev body_of : Settings → Bool → ℕ → Command → EndBody
 body_of c online figure command = (own_end_with c online figure command (fault_of c command)).body
 
-parameters_about : (c : Settings) (online : Bool) (figure unit : ℕ) (reference : ℕ) (b : List ℕ) (o : Opcode)
-    → IsAbout b (body_of c online figure (record { reference = reference; unit = unit; order = parameters o b }))
+-- what the controller answers a command at once tells no figure, whatever the fault is
+abbrev Untold : Settings → Bool → ℕ → Command → Type 0
+Untold c online figure command = (o : Option ℕ) (other told : ℕ)
+    → (own_end_with c online figure command o).body ≡ bodies.Status other told → ⊥
+
+abbrev commanded : ℕ → ℕ → Order → Command
+commanded unit reference order = record { reference = reference; unit = unit; order = order }
+
+controller_untold : (c : Settings) (online : Bool) (figure unit reference version : ℕ)
+    → Untold c online figure (commanded unit reference (orders.SetController version))
+controller_untold c online figure unit reference version None other told h = search (arith, h)
+controller_untold c online figure unit reference version (Some u) other told h = search (arith, h)
+
+available_untold : (c : Settings) (online : Bool) (figure unit reference : ℕ)
+    → Untold c online figure (commanded unit reference orders.Available)
+available_untold c online figure unit reference None other told h = search (arith, h)
+available_untold c online figure unit reference (Some u) other told h = search (arith, h)
+
+online_untold : (c : Settings) (online : Bool) (figure unit reference : ℕ)
+    → Untold c online figure (commanded unit reference orders.Online)
+online_untold c online figure unit reference None other told h = search (arith, h)
+online_untold c online figure unit reference (Some u) other told h = search (arith, h)
+
+unit_untold : (c : Settings) (online : Bool) (figure unit reference : ℕ)
+    → Untold c online figure (commanded unit reference orders.SetUnit)
+unit_untold c online figure unit reference None other told h = search (arith, h)
+unit_untold c online figure unit reference (Some u) other told h = search (arith, h)
+
+move_untold : (c : Settings) (online : Bool) (figure unit reference count block : ℕ) (kind : MoveKind)
+    → Untold c online figure (commanded unit reference (orders.Move kind count block))
+move_untold c online figure unit reference count block kinds.Access None other told h = search (arith, h)
+move_untold c online figure unit reference count block kinds.Erase None other told h = search (arith, h)
+move_untold c online figure unit reference count block kinds.Compare None other told h = search (arith, h)
+move_untold c online figure unit reference count block kinds.Read None other told h = search (arith, h)
+move_untold c online figure unit reference count block kinds.Write None other told h = search (arith, h)
+move_untold c online figure unit reference count block kinds.Access (Some u) other told h = search (arith, h)
+move_untold c online figure unit reference count block kinds.Erase (Some u) other told h = search (arith, h)
+move_untold c online figure unit reference count block kinds.Compare (Some u) other told h = search (arith, h)
+move_untold c online figure unit reference count block kinds.Read (Some u) other told h = search (arith, h)
+move_untold c online figure unit reference count block kinds.Write (Some u) other told h = search (arith, h)
+
+parameters_about : (c : Settings) (online : Bool) (figure unit reference : ℕ) (b : List ℕ) (o : Opcode)
+    → IsAbout b (body_of c online figure (commanded unit reference (parameters o b)))
 parameters_about c online figure unit reference b codes.Status other told is =
     search (arith, is)
 parameters_about c online figure unit reference b codes.Abort other told is = absurd (search (arith, is))
 parameters_about c online figure unit reference b codes.UnitStatus other told is = absurd (by
     (unit_found c.units unit) is)
   where
-    by : (o : Option Shape) → (own_end_with c online figure (record {
-      reference = reference;
-      unit = unit;
-      order = orders.UnitStatus;
-    }) (unit_fault o)).body ≡ bodies.Status other told → ⊥
+    by : (o : Option Shape) → (own_end_with c online figure (commanded unit reference orders.UnitStatus)
+        (unit_fault o)).body ≡ bodies.Status other told → ⊥
     by None h = search (arith, h)
     by (Some u) h = search (arith, h)
-parameters_about c online figure unit reference b (codes.SetController) other told is =
-    absurd (by (version_fault (num b 12 2)) is)
-  where
-    by : (o : Option ℕ) → (own_end_with c online figure (record {
-      reference = reference;
-      unit = unit;
-      order = orders.SetController (num b 12 2);
-    }) o).body ≡ bodies.Status other told → ⊥
-    by None h = search (arith, h)
-    by (Some u) h = search (arith, h)
-parameters_about c online figure unit reference b codes.Available other told is = absurd (by (unit_fault
-    (unit_found c.units unit)) is)
-  where
-    by : (o : Option ℕ) → (own_end_with c online figure (record {
-      reference = reference;
-      unit = unit;
-      order = orders.Available;
-    }) o).body ≡ bodies.Status other told → ⊥
-    by None h = search (arith, h)
-    by (Some u) h = search (arith, h)
-parameters_about c online figure unit reference b codes.Online other told is = absurd (by (unit_fault
-    (unit_found c.units unit)) is)
-  where
-    by : (o : Option ℕ) → (own_end_with c online figure (record {
-      reference = reference;
-      unit = unit;
-      order = orders.Online;
-    }) o).body ≡ bodies.Status other told → ⊥
-    by None h = search (arith, h)
-    by (Some u) h = search (arith, h)
-parameters_about c online figure unit reference b codes.SetUnit other told is = absurd (by (unit_fault
-    (unit_found c.units unit)) is)
-  where
-    by : (o : Option ℕ) → (own_end_with c online figure (record {
-      reference = reference;
-      unit = unit;
-      order = orders.SetUnit;
-    }) o).body ≡ bodies.Status other told → ⊥
-    by None h = search (arith, h)
-    by (Some u) h = search (arith, h)
-parameters_about c online figure unit reference b (codes.Move kind) other told is =
-    absurd (by kind (move_fault c (num b 12 4) (num b 28 4) (unit_found c.units unit)) is)
-  where
-    by : (kind : MoveKind) (o : Option ℕ) → (own_end_with c online figure (record {
-      reference = reference;
-      unit = unit;
-      order = orders.Move kind (num b 12 4) (num b 28 4);
-    }) o).body ≡ bodies.Status other told → ⊥
-    by kinds.Access None h = search (arith, h)
-    by kinds.Erase None h = search (arith, h)
-    by kinds.Compare None h = search (arith, h)
-    by kinds.Read None h = search (arith, h)
-    by kinds.Write None h = search (arith, h)
-    by kinds.Access (Some u) h = search (arith, h)
-    by kinds.Erase (Some u) h = search (arith, h)
-    by kinds.Compare (Some u) h = search (arith, h)
-    by kinds.Read (Some u) h = search (arith, h)
-    by kinds.Write (Some u) h = search (arith, h)
+parameters_about c online figure unit reference b codes.SetController other told is = absurd
+    (controller_untold c online figure unit reference (num b 12 2) (version_fault (num b 12 2)) other told is)
+parameters_about c online figure unit reference b codes.Available other told is = absurd
+    (available_untold c online figure unit reference (unit_fault (unit_found c.units unit)) other told is)
+parameters_about c online figure unit reference b codes.Online other told is = absurd
+    (online_untold c online figure unit reference (unit_fault (unit_found c.units unit)) other told is)
+parameters_about c online figure unit reference b codes.SetUnit other told is = absurd
+    (unit_untold c online figure unit reference (unit_fault (unit_found c.units unit)) other told is)
+parameters_about c online figure unit reference b (codes.Move kind) other told is = absurd
+    (move_untold c online figure unit reference (num b 12 4) (num b 28 4) kind
+    (move_fault c (num b 12 4) (num b 28 4) (unit_found c.units unit)) other told is)
 
 answered_with : (c : Settings) (online : Bool) (figure unit reference : ℕ) (b : List ℕ) (o : Option Opcode)
     → opcode_of (slice_index b 8) ≡ o → 16 ≤ length b

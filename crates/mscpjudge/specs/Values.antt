@@ -28,18 +28,12 @@ number_text (Some n) = decimal n
 abbrev pub hex_text : List ℕ → List ℕ
 hex_text bytes = codes "0x" ++ encode_lower bytes
 
--- numbers of one, two, four and eight bytes, the highest first
+-- numbers of one and two bytes, the highest first
 unfoldable pub byte_text : ℕ → List ℕ
 byte_text n = hex_text (n ∷ [])
 
 unfoldable pub short_text : ℕ → List ℕ
 short_text n = hex_text (to_be_bytes w16 n)
-
-unfoldable pub long_text : ℕ → List ℕ
-long_text n = hex_text (to_be_bytes w32 n)
-
-unfoldable pub wide_text : ℕ → List ℕ
-wide_text n = hex_text (to_be_bytes w64 n)
 
 -- ---- what a moment tells
 
@@ -95,21 +89,21 @@ abbrev pub passed_text : Option Sent → List ℕ
 passed_text None = []
 passed_text (Some s) = codes "passes: " ++ command_text s
 
--- the line of two identifiers, in hexadecimal, unless they are one
-abbrev pub wides_text : List ℕ → ℕ → List ℕ → ℕ → List ℕ
-wides_text word told behind known = word ++ wide_text told ++ behind ++ wide_text known ++ codes "\n"
+-- a line of bytes that were told, and of those that were told before
+abbrev pub was_text : List ℕ → List ℕ → List ℕ → List ℕ
+was_text word told known = word ++ hex_text told ++ codes ", was " ++ hex_text known ++ codes "\n"
 
+-- of two identifiers, in hexadecimal, unless they are one
 abbrev pub identifier_text : ℕ → ℕ → List ℕ
 identifier_text told known =
-    if nat_eq told known then [] else wides_text (codes "identifier: ") told (codes ", was ") known
+    if nat_eq told known then []
+    else was_text (codes "identifier: ") (to_be_bytes w64 told) (to_be_bytes w64 known)
 
 -- of two media types
-abbrev pub longs_text : List ℕ → ℕ → List ℕ → ℕ → List ℕ
-longs_text word told behind known = word ++ long_text told ++ behind ++ long_text known ++ codes "\n"
-
 abbrev pub media_text : ℕ → ℕ → List ℕ
 media_text told known =
-    if nat_eq told known then [] else longs_text (codes "media type: ") told (codes ", was ") known
+    if nat_eq told known then []
+    else was_text (codes "media type: ") (to_be_bytes w32 told) (to_be_bytes w32 known)
 
 -- and of two sizes
 abbrev pub size_text : Option ℕ → Option ℕ → List ℕ

@@ -40,24 +40,6 @@ fn put_short<A: Allocator>(text: &mut Vec<u8, A>, number: u16) -> Result<(), All
     put_hex(text, bytes.as_slice())
 }
 
-/// Appends one of four.
-#[tactic(auto, unfolding(crate::specs::Values::long_text))]
-fn put_long<A: Allocator>(text: &mut Vec<u8, A>, number: u32) -> Result<(), AllocError>
-    ensures { OnOk result (text.new.items ≡ text.old.items ++ values.long_text number) }
-{
-    let bytes = number.to_be_bytes();
-    put_hex(text, bytes.as_slice())
-}
-
-/// Appends one of eight.
-#[tactic(auto, unfolding(crate::specs::Values::wide_text))]
-fn put_wide<A: Allocator>(text: &mut Vec<u8, A>, number: u64) -> Result<(), AllocError>
-    ensures { OnOk result (text.new.items ≡ text.old.items ++ values.wide_text number) }
-{
-    let bytes = number.to_be_bytes();
-    put_hex(text, bytes.as_slice())
-}
-
 /// Appends a number, if there is one.
 fn put_number<A: Allocator>(text: &mut Vec<u8, A>, number: Option<u32>) -> Result<(), AllocError>
     ensures { OnOk result (text.new.items ≡ text.old.items ++ values.number_text number) }
@@ -211,20 +193,21 @@ fn put_passed<A: Allocator>(text: &mut Vec<u8, A>, passed: &Option<Sent>) -> Res
     }
 }
 
-/// Appends a line of two numbers of eight bytes in hexadecimal.
-fn put_wides<A: Allocator>(
+/// Appends a line of bytes that were told, and of those that were told before, in hexadecimal.
+fn put_was<A: Allocator>(
     text: &mut Vec<u8, A>,
     word: &str,
-    told: u64,
-    behind: &str,
-    known: u64,
+    told: &[u8],
+    known: &[u8],
 ) -> Result<(), AllocError>
-    ensures { OnOk result (text.new.items ≡ text.old.items ++ values.wides_text word.now told behind.now known) }
+    requires { length told.now ≤ 8 }
+    requires { length known.now ≤ 8 }
+    ensures { OnOk result (text.new.items ≡ text.old.items ++ values.was_text word.now told.now known.now) }
 {
     put(text, word)?;
-    put_wide(text, told)?;
-    put(text, behind)?;
-    put_wide(text, known)?;
+    put_hex(text, told)?;
+    put(text, ", was ")?;
+    put_hex(text, known)?;
     put(text, "\n")
 }
 
@@ -237,27 +220,11 @@ fn put_identifier<A: Allocator>(
     ensures { OnOk result (text.new.items ≡ text.old.items ++ values.identifier_text told known) }
 {
     if told == known {
-        Ok(())
-    } else {
-        put_wides(text, "identifier: ", told, ", was ", known)
+        return Ok(());
     }
-}
-
-/// Appends a line of two numbers of four bytes in hexadecimal.
-fn put_longs<A: Allocator>(
-    text: &mut Vec<u8, A>,
-    word: &str,
-    told: u32,
-    behind: &str,
-    known: u32,
-) -> Result<(), AllocError>
-    ensures { OnOk result (text.new.items ≡ text.old.items ++ values.longs_text word.now told behind.now known) }
-{
-    put(text, word)?;
-    put_long(text, told)?;
-    put(text, behind)?;
-    put_long(text, known)?;
-    put(text, "\n")
+    let told = told.to_be_bytes();
+    let known = known.to_be_bytes();
+    put_was(text, "identifier: ", told.as_slice(), known.as_slice())
 }
 
 /// Appends the line of two media types, unless they are one.
@@ -265,10 +232,11 @@ fn put_media<A: Allocator>(text: &mut Vec<u8, A>, told: u32, known: u32) -> Resu
     ensures { OnOk result (text.new.items ≡ text.old.items ++ values.media_text told known) }
 {
     if told == known {
-        Ok(())
-    } else {
-        put_longs(text, "media type: ", told, ", was ", known)
+        return Ok(());
     }
+    let told = told.to_be_bytes();
+    let known = known.to_be_bytes();
+    put_was(text, "media type: ", told.as_slice(), known.as_slice())
 }
 
 /// Appends the line of two sizes, unless they are one.
