@@ -10,3 +10,4 @@ mod Names
 mod Alone
 mod Tables
 mod Contradicted
+pub mod Going

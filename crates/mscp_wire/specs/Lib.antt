@@ -8,3 +8,4 @@ pub mod Totals
 pub mod Log
 pub mod Doubts
 pub mod Right
+pub mod Course

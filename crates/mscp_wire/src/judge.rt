@@ -16,7 +16,7 @@ use crate::falls::fall_found;
 use crate::held::Held;
 use crate::moment::Moment;
 use crate::outstanding::has_abort;
-use crate::polls::{asking, has_figure};
+use crate::polls::has_figure;
 use crate::rule::Rule;
 use crate::sent::{Sent, is_immediate};
 use crate::told::{Seen, later_of, later_time};
@@ -25,7 +25,7 @@ use mscp_drive::{Connection, OutOfMemory};
 use std::alloc::Allocator;
 
 /// The most credits of a host: more than any controller gives, and few enough to be looked through.
-const MOST_CREDITS: u32 = 1024;
+pub const MOST_CREDITS: u32 = 1024;
 
 /// How many credits each host has at most.
 fn limit_of(credits: Option<u32>) -> u32
@@ -240,10 +240,7 @@ impl<A: Allocator + Copy> Judge<A> {
         let sent = Sent::of(connection, bytes);
         let rule = broken_message(self.credits, &self.commands, &sent);
         if rule.is_none() {
-            let timed = Sent { time, ..sent };
-            let command = asking(self.timeout, &self.commands, &timed);
-            self.commands.push(command)?;
-            self.units.hear_command(&sent)?;
+            self.hear(&sent, time)?;
         }
         Ok(Stepped {
             rule,
@@ -255,7 +252,7 @@ impl<A: Allocator + Copy> Judge<A> {
 
     /// An end came that breaks no rule: the command at its place isn't outstanding any more, and what it tells is
     /// known.
-    fn ended(&mut self, answer: &Answer, place: Option<usize>) -> Result<(), OutOfMemory>
+    pub fn ended(&mut self, answer: &Answer, place: Option<usize>) -> Result<(), OutOfMemory>
         requires { IfSome place (λ i. i < length self.old.commands) }
         ensures after { OnOk result (self.new.commands ≡ wire.after_end self.old.commands answer.now place) }
         ensures units { OnOk result ((via : connections.Connection) (unit : ℕ) → wire.kept self.new.units via unit
@@ -365,10 +362,7 @@ impl<A: Allocator + Copy> Judge<A> {
             }
             Moment::End(connection, message) => self.end(*connection, message.as_slice()),
             Moment::Reset => {
-                self.commands.clear();
-                self.units.clear();
-                self.controller = None;
-                self.timeout = None;
+                self.reset();
                 Ok(Stepped {
                     rule: None,
                     command: None,
