@@ -10,21 +10,20 @@ use Rattle.mscp_wire.specs.declared.log.Verdict.TheVariants as verdicts
 use Rattle.mscp_wire.specs.declared.wrong.Wrong.{Wrong}
 use Rattle.mscpjudge.specs.Wired.{came_outcome, came_text, doubts_text, outstanding_text, wire_outcome, wire_text}
 use Rattle.mscpjudge.specs.Counted.{totals_text}
+use Rattle.mscpjudge.specs.Found.{all_text, verdict_found}
 
 pub record Came {A : Type 0} (verdict : Verdict A) (log : List ℕ) : Type 0 where
   pub came : Result Log Wrong
   pub comes : Comes log (Ok came)
   pub outcome : wire_outcome verdict ≡ came_outcome came
-  pub text : wire_text verdict ≡ came_text came
+  pub text : wire_text log verdict ≡ came_text log came
+  pub all : verdict_found log verdict ≡ all_text log came
 
 pub came_of : {A : Type 0} (verdict : Verdict A) (log : List ℕ) → Judges (Ok verdict) log → Came verdict log
-came_of (verdicts.Right totals doubts commands) log j = record {
-  came = Ok j.0;
-  comes = j.1;
-  outcome = refl;
-  text = ap (λ t. totals_text t ++ doubts_text doubts ++ flat_map outstanding_text commands.items) j.2
-      ∙ ap (λ d. totals_text (totals_of j.0.moments) ++ doubts_text d ++ flat_map outstanding_text commands.items) j.3
-      ∙ ap (λ xs. totals_text (totals_of j.0.moments) ++ doubts_text (doubts_of j.0) ++ flat_map outstanding_text xs)
-      j.4;
-}
-came_of (verdicts.Wrong wrong) log j = record { came = Err wrong; comes = j; outcome = refl; text = refl }
+came_of (verdicts.Right totals doubts commands) log j =
+    let text = ap (λ t. totals_text t ++ doubts_text doubts ++ flat_map outstanding_text commands.items) j.2
+    ∙ ap (λ d. totals_text (totals_of j.0.moments) ++ doubts_text d ++ flat_map outstanding_text commands.items) j.3
+    ∙ ap (λ xs. totals_text (totals_of j.0.moments) ++ doubts_text (doubts_of j.0) ++ flat_map outstanding_text xs)
+    j.4 in
+    record { came = Ok j.0; comes = j.1; outcome = refl; text = text; all = ap Ok text }
+came_of (verdicts.Wrong wrong) log j = record { came = Err wrong; comes = j; outcome = refl; text = refl; all = refl }

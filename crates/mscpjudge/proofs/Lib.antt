@@ -1,3 +1,4 @@
 pub mod Coming
 pub mod Shown
 pub mod Counted
+pub mod Going

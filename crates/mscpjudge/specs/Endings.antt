@@ -17,7 +17,7 @@ fault_status OutOfMemory = 3
 
 -- what is said of a fault
 abbrev pub fault_text : Fault → List ℕ
-fault_text Usage = codes "usage: mscpjudge legal|host|wire|wire --show [FILE]"
+fault_text Usage = codes "usage: mscpjudge legal|host|wire [--all|--show] [FILE]"
 fault_text (Log fault) = codes "line " ++ decimal fault.line ++ codes ": " ++ cause_word fault.cause
 fault_text Read = codes "cannot read"
 fault_text Write = codes "cannot write"

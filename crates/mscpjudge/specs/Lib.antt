@@ -5,6 +5,8 @@ pub mod Heard
 pub mod Counted
 pub mod Commands
 pub mod Values
+pub mod Places
 pub mod Wired
+pub mod Found
 pub mod Showing
 pub mod Common

@@ -5,6 +5,7 @@ use Rattle.std.specs.Fmt.{decimal}
 use Rattle.std.specs.Io.KnownBytes.{Appends}
 use Rattle.mscp_script.specs.Simulated.{IsGiven}
 use Rattle.mscp_wire.specs.Wire.{outstanding}
+use Rattle.mscp_wire.specs.Course.{places_in}
 use Rattle.mscp_wire.specs.Log.{Log}
 use Rattle.mscp_wire.specs.Right.{Comes}
 use Rattle.mscp_wire.specs.Totals.{totals_of}
@@ -12,6 +13,7 @@ use Rattle.mscp_wire.specs.Doubts.{doubts_of}
 use Rattle.mscp_wire.specs.declared.doubts.Doubt.{Doubt}
 use Rattle.mscp_wire.specs.declared.doubts.Doubts.{Doubts}
 use Rattle.mscp_wire.specs.declared.doubts.Found.{Found}
+use Rattle.mscp_wire.specs.declared.course.Places.{Places}
 use Rattle.mscp_wire.specs.declared.log.Verdict.{Verdict}
 use Rattle.mscp_wire.specs.declared.log.Verdict.TheVariants as verdicts
 use Rattle.mscp_wire.specs.declared.rule.Rule.{Rule}
@@ -20,6 +22,7 @@ use Rattle.mscp_wire.specs.declared.sent.Sent.{Sent}
 use Rattle.mscp_wire.specs.declared.wrong.Wrong.{Wrong}
 pub use Rattle.mscpjudge.specs.Commands.{command_text, connection_name}
 use Rattle.mscpjudge.specs.Counted.{totals_text}
+use Rattle.mscpjudge.specs.Places.{places_text}
 use Rattle.mscpjudge.specs.Values.{against_text, told_text}
 use Rattle.mscpjudge.specs.declared.fault.Fault.{Fault}
 use Rattle.mscpjudge.specs.declared.fault.Fault.TheVariants as faults
@@ -111,12 +114,16 @@ rule_line rule = codes "rule of the " ++ breaker_name rule ++ codes ": " ++ rule
 abbrev pub manual_line : Rule → List ℕ
 manual_line rule = codes "manual: " ++ rule_text rule ++ codes "\n"
 
--- the lines of a log that isn't right
-abbrev pub broken_text : Wrong → List ℕ
-broken_text wrong =
+-- the lines of a moment that isn't right
+abbrev pub breach_text : Wrong → Places → List ℕ
+breach_text wrong places =
     codes "line " ++ decimal wrong.line ++ codes ": not right\n" ++ rule_line wrong.rule ++ meant_text wrong.command
     ++ told_text wrong.moment ++ against_text wrong.rule wrong.moment wrong.command wrong.passed wrong.seen
-    ++ manual_line wrong.rule
+    ++ places_text wrong.rule places
+
+-- and those of a log that isn't
+abbrev pub broken_text : Wrong → Places → List ℕ
+broken_text wrong places = breach_text wrong places ++ manual_line wrong.rule
 
 -- the end of a line about the command of a moment, if it has one
 abbrev pub answered_text : Option Sent → List ℕ
@@ -149,22 +156,22 @@ doubts_text doubts =
     -- a GET UNIT STATUS that asks for the next unit passes one that is there
     ++ doubt_text (codes "next unit") doubts.next
 
--- the lines of what came of a log
-abbrev pub came_text : Result Log Wrong → List ℕ
-came_text (Ok log) =
+-- the lines of what came of a log of these bytes
+abbrev pub came_text : List ℕ → Result Log Wrong → List ℕ
+came_text bytes (Ok log) =
     totals_text (totals_of log.moments) ++ doubts_text (doubts_of log)
     ++ flat_map outstanding_text (outstanding log.moments)
-came_text (Err wrong) = broken_text wrong
+came_text bytes (Err wrong) = broken_text wrong (places_in bytes)
 
 abbrev pub came_outcome : Result Log Wrong → Outcome
 came_outcome (Ok log) = outcomes.Legal
 came_outcome (Err wrong) = outcomes.Wrong
 
 -- the lines of a verdict, and how the log is judged by it
-abbrev pub wire_text : {A : Type 0} → Verdict A → List ℕ
-wire_text (verdicts.Right totals doubts commands) =
+abbrev pub wire_text : {A : Type 0} → List ℕ → Verdict A → List ℕ
+wire_text bytes (verdicts.Right totals doubts commands) =
     totals_text totals ++ doubts_text doubts ++ flat_map outstanding_text commands.items
-wire_text (verdicts.Wrong wrong) = broken_text wrong
+wire_text bytes (verdicts.Wrong wrong) = broken_text wrong (places_in bytes)
 
 abbrev pub wire_outcome : {A : Type 0} → Verdict A → Outcome
 wire_outcome (verdicts.Right totals doubts commands) = outcomes.Legal
@@ -175,7 +182,7 @@ wire_outcome (verdicts.Wrong wrong) = outcomes.Wrong
 abbrev pub TellsWire : Result Outcome Fault → Option (List ℕ) → Option (List ℕ) → Option (List ℕ) → Type 0
 TellsWire (Ok outcome) known old new =
     IsGiven known (λ log. (came : Result Log Wrong) × Comes log (Ok came) × (outcome ≡ came_outcome came)
-    × Appends old new (came_text came))
+    × Appends old new (came_text log came))
 TellsWire (Err faults.Write) known old new = Unit {0}
 TellsWire (Err (faults.Log fault)) known old new = (new ≡ old) × IsGiven known (λ log. Comes log (Err fault))
 TellsWire (Err fault) known old new = new ≡ old

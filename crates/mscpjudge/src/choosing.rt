@@ -1,6 +1,6 @@
 // What the words of a command line ask for: which log is read, and what is asked of it.
 
-ghost use Rattle.mscpjudge.specs.Common.{string_bytes, Gives, asked_of, call_named, chosen, is_show, seen};
+ghost use Rattle.mscpjudge.specs.Common.{string_bytes, Gives, asked_of, call_flagged, call_named, chosen, flagged, seen};
 ghost use Rattle.std.specs.Prelude.{◌≡◌, ◌∷◌, [], map};
 
 use crate::fault::Fault;
@@ -14,6 +14,8 @@ pub enum Call {
     Host,
     /// Whether what went over the wire keeps the manual's rules.
     Wire,
+    /// All that doesn't.
+    All,
     /// What went over the wire, in words.
     Show,
 }
@@ -37,11 +39,25 @@ fn call_named(word: &str) -> Result<Call, Fault>
     }
 }
 
-/// Whether two words ask for what went over the wire, in words.
-fn is_show(word: &str, flag: &str) -> bool
-    ensures { result ≡ is_show word.now flag.now }
+/// What a word behind `wire` asks for.
+fn call_flagged(flag: &str) -> Option<Call>
+    ensures { result ≡ call_flagged flag.now }
 {
-    word == "wire" && flag == "--show"
+    match flag {
+        "--all" => Some(Call::All),
+        "--show" => Some(Call::Show),
+        _ => None,
+    }
+}
+
+/// What two words ask for, if the second is a flag of the first.
+fn flagged(word: &str, flag: &str) -> Option<Call>
+    ensures { result ≡ flagged word.now flag.now }
+{
+    match word {
+        "wire" => call_flagged(flag),
+        _ => None,
+    }
 }
 
 /// What a word asks for of the log in this file.
@@ -54,21 +70,28 @@ fn about<'a>(word: &str, file: &'a str) -> Result<Asked<'a>, Fault>
     })
 }
 
-/// What two words ask for: `wire --show`, or another word and a file.
+/// What two words ask for: `wire` and a flag, or another word and a file.
 fn one_or_two<'a>(word: &str, second: &'a str) -> Result<Asked<'a>, Fault>
     ensures { Gives seen result (chosen (word.now ∷ second.now ∷ [])) }
 {
-    if is_show(word, second) {
-        return Ok(Asked {
-            call: Call::Show,
-            file: "-",
-        });
+    match flagged(word, second) {
+        Some(call) => Ok(Asked { call, file: "-" }),
+        None => about(word, second),
     }
-    about(word, second)
 }
 
-/// What the words of a command line ask for, without the program's name: `legal`, `host`, `wire` or `wire --show`, and a file or
-/// none. It is `legal` if there are none. It takes no memory.
+/// What three words ask for: `wire`, a flag and a file.
+fn with_flag<'a>(word: &str, flag: &str, file: &'a str) -> Result<Asked<'a>, Fault>
+    ensures { Gives seen result (chosen (word.now ∷ flag.now ∷ file.now ∷ [])) }
+{
+    match flagged(word, flag) {
+        Some(call) => Ok(Asked { call, file }),
+        None => Err(Fault::Usage),
+    }
+}
+
+/// What the words of a command line ask for, without the program's name: `legal`, `host`, or `wire` with or without `--all` or
+/// `--show`, and a file or none. It is `legal` if there are none. It takes no memory.
 pub fn asking_of(words: &[String]) -> Result<Asked<'_>, Fault>
     ensures { Gives seen result (chosen (map string_bytes words.now)) }
 {
@@ -79,10 +102,7 @@ pub fn asking_of(words: &[String]) -> Result<Asked<'_>, Fault>
         }),
         [word] => about(word.as_str(), "-"),
         [word, second] => one_or_two(word.as_str(), second.as_str()),
-        [word, flag, file] if is_show(word.as_str(), flag.as_str()) => Ok(Asked {
-            call: Call::Show,
-            file: file.as_str(),
-        }),
+        [word, flag, file] => with_flag(word.as_str(), flag.as_str(), file.as_str()),
         _ => Err(Fault::Usage),
     }
 }

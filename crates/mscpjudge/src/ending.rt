@@ -48,7 +48,7 @@ fn put_fault(line: &mut ArrayString<56>, fault: &Fault)
     ensures short { array_string_len line.new ≤ 55 }
 {
     match fault {
-        Fault::Usage => line.push_str("usage: mscpjudge legal|host|wire|wire --show [FILE]"),
+        Fault::Usage => line.push_str("usage: mscpjudge legal|host|wire [--all|--show] [FILE]"),
         Fault::Log(fault) => {
             line.push_str("line ");
             put_number(line, fault.line);

@@ -4,6 +4,7 @@ ghost use Rattle.std.specs.Prelude.{◌≡◌, ◌↔◌, ◌⊎◌};
 ghost use Rattle.mscpjudge.specs.Said.{fault_of_reading, fault_of_log};
 ghost use Rattle.mscpjudge.specs.declared.fault.Fault.TheVariants as faults;
 
+use mscp_controller::OutOfMemory;
 use mscp_reader::{ReadFault, ScriptFault};
 use mscp_script::{Failed, ReadAllFault};
 use std::alloc::AllocError;
@@ -51,6 +52,14 @@ impl From<Failed> for Fault {
 
     fn from(_failure: Failed) -> Fault {
         Fault::Write
+    }
+}
+
+impl From<OutOfMemory> for Fault {
+    ghost from_gives = { λ _ e. e ≡ faults.OutOfMemory };
+
+    fn from(_refusal: OutOfMemory) -> Fault {
+        Fault::OutOfMemory
     }
 }
 

@@ -7,8 +7,10 @@ mod doubts;
 mod ending;
 mod explaining;
 mod fault;
+mod finding;
 mod hearing;
 mod judging;
+mod places;
 mod showing;
 mod totals;
 mod values;
@@ -18,6 +20,7 @@ use crate::choosing::{Call, asking_of};
 use crate::ending::Ending;
 use crate::explaining::{limit_of, line_of};
 use crate::fault::{Fault, words_fault};
+use crate::finding::judge_all;
 use crate::hearing::hear;
 use crate::judging::{Outcome, judge};
 use crate::showing::show_captured;
@@ -43,6 +46,7 @@ fn answer<R: Read + Drop>(rt: &HostRuntime, call: Call, reader: R) -> Result<Out
         Call::Legal => judge(rt.alloc(), &mut reader, &mut writer),
         Call::Host => hear(rt.alloc(), &mut reader, &mut writer),
         Call::Wire => judge_captured(rt.alloc(), &mut reader, &mut writer),
+        Call::All => judge_all(rt.alloc(), &mut reader, &mut writer),
         Call::Show => show_captured(rt.alloc(), &mut reader, &mut writer),
     }
 }

@@ -1,18 +1,20 @@
 // What is said of a log of the wire.
 
 ghost use Rattle.std.specs.Prelude.{◌≡◌, ◌++◌, false, OnOk, IfOk};
-ghost use Rattle.mscpjudge.specs.Common.{flat_map, TellsWire, WritesOnce, breaker_name, broken_text, command_text, connection_name, meant_text, opcode_name, outstanding_text, wire_outcome, wire_text};
+ghost use Rattle.mscpjudge.specs.Common.{flat_map, TellsWire, WritesOnce, breach_text, breaker_name, broken_text, command_text, connection_name, meant_text, opcode_name, outstanding_text, wire_outcome, wire_text};
+ghost use Rattle.mscp_wire.specs.Course.{places_in};
 ghost use Rattle.mscpjudge.specs.Wired as wired;
 
 use crate::doubts::put_doubts;
 use crate::fault::Fault;
 use crate::judging::Outcome;
+use crate::places::put_places;
 use crate::totals::put_totals;
 use crate::values::{put_against, put_told};
-use mscp_controller::Connection;
+use mscp_controller::{Connection, OutOfMemory};
 use mscp_script::{Sink, Source, read_all};
 use mscp_text::{put, put_field};
-use mscp_wire::{Rule, Sent, Verdict, Wrong, judge_wire};
+use mscp_wire::{Places, Rule, Sent, Verdict, Wrong, judge_wire, places_in};
 use std::alloc::{AllocError, Allocator, Global};
 
 /// What a command of an opcode is called.
@@ -47,7 +49,7 @@ pub fn connection_name(connection: Connection) -> &'static str
 }
 
 /// What a rule is called.
-fn rule_name(rule: Rule) -> &'static str
+pub fn rule_name(rule: Rule) -> &'static str
     ensures { result.now ≡ wired.rule_name rule }
 {
     match rule {
@@ -183,9 +185,13 @@ fn put_manual<A: Allocator>(text: &mut Vec<u8, A>, rule: Rule) -> Result<(), All
     put(text, "\n")
 }
 
-/// Appends the lines of a log that isn't right.
-fn put_wrong<A: Allocator>(text: &mut Vec<u8, A>, wrong: &Wrong) -> Result<(), AllocError>
-    ensures { OnOk result (text.new.items ≡ text.old.items ++ broken_text wrong.now) }
+/// Appends the lines of a moment that isn't right.
+pub fn put_wrong<A: Allocator>(
+    text: &mut Vec<u8, A>,
+    wrong: &Wrong,
+    places: &Places,
+) -> Result<(), AllocError>
+    ensures { OnOk result (text.new.items ≡ text.old.items ++ breach_text wrong.now places.now) }
 {
     put_field(text, "line ", wrong.line)?;
     put(text, ": not right\n")?;
@@ -193,34 +199,55 @@ fn put_wrong<A: Allocator>(text: &mut Vec<u8, A>, wrong: &Wrong) -> Result<(), A
     put_meant(text, &wrong.command)?;
     put_told(text, &wrong.moment)?;
     put_against(text, wrong)?;
-    put_manual(text, wrong.rule)
+    put_places(text, wrong.rule, places)
 }
 
-/// Appends the lines of a verdict.
-fn put_verdict<A: Allocator>(text: &mut Vec<u8, A>, verdict: &Verdict<A>) -> Result<(), AllocError>
-    ensures { OnOk result (text.new.items ≡ text.old.items ++ wire_text verdict.now) }
+/// Appends the lines of a log of which this moment is the first that isn't right.
+fn put_broken(
+    alloc: Global,
+    text: &mut Vec<u8>,
+    log: &[u8],
+    wrong: &Wrong,
+) -> Result<(), OutOfMemory>
+    ensures { OnOk result (text.new.items ≡ text.old.items ++ broken_text wrong.now (places_in log.now)) }
+{
+    let places = places_in(alloc, log)?;
+    put_wrong(text, wrong, &places)?;
+    put_manual(text, wrong.rule)?;
+    Ok(())
+}
+
+/// Appends the lines of a verdict on a log.
+fn put_verdict(
+    alloc: Global,
+    text: &mut Vec<u8>,
+    log: &[u8],
+    verdict: &Verdict<Global>,
+) -> Result<(), OutOfMemory>
+    ensures { OnOk result (text.new.items ≡ text.old.items ++ wire_text log.now verdict.now) }
 {
     match verdict {
         Verdict::Right(totals, doubts, commands) => {
             put_totals(text, totals)?;
             put_doubts(text, doubts)?;
-            put_outstanding(text, commands.as_slice())
+            put_outstanding(text, commands.as_slice())?;
+            Ok(())
         }
-        Verdict::Wrong(wrong) => put_wrong(text, wrong),
+        Verdict::Wrong(wrong) => put_broken(alloc, text, log, wrong),
     }
 }
 
-/// The lines of a verdict.
-fn text_of<A: Allocator>(alloc: A, verdict: &Verdict<A>) -> Result<Vec<u8, A>, AllocError>
-    ensures { IfOk result (λ text. text.items ≡ wire_text verdict.now) }
+/// The lines of a verdict on a log.
+pub fn text_of(alloc: Global, log: &[u8], verdict: &Verdict<Global>) -> Result<Vec<u8>, OutOfMemory>
+    ensures { IfOk result (λ text. text.items ≡ wire_text log.now verdict.now) }
 {
     let mut text = Vec::new(alloc);
-    put_verdict(&mut text, verdict)?;
+    put_verdict(alloc, &mut text, log, verdict)?;
     Ok(text)
 }
 
 /// How a log is judged by a verdict.
-fn wire_outcome<A: Allocator>(verdict: &Verdict<A>) -> Outcome
+pub fn wire_outcome<A: Allocator>(verdict: &Verdict<A>) -> Outcome
     ensures { result ≡ wire_outcome verdict.now }
 {
     match verdict {
@@ -242,7 +269,7 @@ pub fn judge_captured<R: Source, W: Sink>(
 {
     let log = read_all(alloc, reader)?;
     let verdict = judge_wire(alloc, &log)?;
-    let text = text_of(alloc, &verdict)?;
+    let text = text_of(alloc, &log, &verdict)?;
     writer.write_all(&text)?;
     Ok(wire_outcome(&verdict))
 }

@@ -1,0 +1,61 @@
+-- What comes of the lines of a log of which all is found that is wrong.
+use Rattle.std.proofs.Common.{◌≡◌, ℕ, ◌+◌, List, [], ◌∷◌, refl, sym, ap, subst, ◌∙◌, inr, Option, Result, Ok, Err}
+use Rattle.mscp_packet.specs.Steps.{◌>>=◌}
+use Rattle.mscp_reader.specs.Outcome.{Fails, in_line}
+use Rattle.mscp_reader.specs.declared.fault.Cause.{Cause}
+use Rattle.mscp_reader.specs.declared.fault.ReadFault.{ReadFault}
+use Rattle.mscp_reader.specs.declared.fault.ReadFault.TheVariants as reads
+use Rattle.mscp_reader.specs.declared.fault.ScriptFault.{ScriptFault}
+use Rattle.mscp_wire.specs.Course.{Findings, GoesOn, findings_in, findings_with, no_findings}
+use Rattle.mscp_wire.specs.Log.{line_says}
+use Rattle.mscp_wire.specs.declared.course.Course.{Course}
+use Rattle.mscp_wire.specs.declared.log.Verdict.{Verdict}
+use Rattle.mscp_wire.specs.declared.log.Verdict.TheVariants as verdicts
+use Rattle.mscpjudge.specs.Found.{TellsAll, log_found, verdict_found}
+use Rattle.mscpjudge.specs.Said.{fault_of_log}
+use Rattle.mscp_script.specs.Whole.{IsFront, most_read}
+
+-- a line more
+pub found_more : (n number : ℕ) (f next : Findings) (line : List ℕ) (rest : List (List ℕ)) → number ≡ n + 1
+    → (line_says number line >>= findings_with number f) ≡ Ok next
+    → findings_in n f (line ∷ rest) ≡ findings_in number next rest
+unfolding findings_in
+found_more n number f next line rest e h =
+    subst (λ k. (in_line k (line_says k line >>= findings_with k f) >>= λ x. findings_in k x rest)
+    ≡ findings_in number next rest) e
+    (ap (λ r. in_line number r >>= λ x. findings_in number x rest) h)
+
+-- one that is at fault
+pub found_fails : {A : Type 0} (n number : ℕ) (f : Findings) (line : List ℕ) (rest : List (List ℕ))
+    (fault : ReadFault) (course : Course A) → number ≡ n + 1
+    → GoesOn number f (line_says number line) (Err fault) course → Fails fault (findings_in n f (line ∷ rest))
+unfolding findings_in
+found_fails n number f line rest (reads.Script fault) course e h =
+    subst (λ k. (in_line k (line_says k line >>= findings_with k f) >>= λ x. findings_in k x rest) ≡ Err fault) e
+    (ap (λ r. in_line number r >>= λ x. findings_in number x rest) h.1
+    ∙ ap (λ l. Err (record { line = l; cause = fault.cause })) (sym h.0))
+found_fails n number f line rest reads.OutOfMemory course e h = tt
+
+-- what fails fails behind it, too
+pub fails_on : {X Y : Type 0} (fault : ReadFault) (read : Result X ScriptFault) (on : X → Result Y ScriptFault)
+    → Fails fault read → Fails fault (read >>= on)
+fails_on (reads.Script fault) read on h = ap (λ r. r >>= on) h
+fails_on reads.OutOfMemory read on h = tt
+
+-- no line
+pub found_none : (n : ℕ) (f : Findings) → findings_in n f [] ≡ Ok f
+unfolding findings_in
+found_none n f = refl
+
+-- what is at fault behind a moment that isn't right
+pub verdict_fails : {A : Type 0} (verdict : Verdict A) (log : List ℕ) (fault : ScriptFault)
+    → verdict_found log verdict ≡ Err fault → log_found log ≡ Err fault
+verdict_fails (verdicts.Right totals doubts commands) log fault h = cc
+verdict_fails (verdicts.Wrong wrong) log fault h = h
+
+pub all_fails : {A : Type 0} (read : ReadFault) (verdict : Verdict A) (log : List ℕ) (known old new : Option (List ℕ))
+    → IsFront most_read known log → Fails read (verdict_found log verdict) → new ≡ old
+    → TellsAll (Err (fault_of_log read)) known old new
+all_fails (reads.Script fault) verdict log known old new front h same =
+    (same, (log, front, inr (verdict_fails verdict log fault h)))
+all_fails reads.OutOfMemory verdict log known old new front h same = same

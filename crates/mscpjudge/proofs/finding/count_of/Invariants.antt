@@ -1,0 +1,7 @@
+use Rattle.std.proofs.Common.{◌≡◌, take}
+use Rattle.std.specs.Prelude.{count_by}
+use Rattle.mscpjudge.specs.Found.{breaks}
+use Rattle.mscpjudge.proofs.finding.count_of.Given as goal
+
+abbrev pub invariant-loop-rule : goal.invariant-loop-rule
+invariant-loop-rule l = l.count ≡ count_by (breaks l.name) (take l.rule-index l.broken)

@@ -1,0 +1,91 @@
+-- What is written of all that is wrong in a log of the wire: each moment, and how many break each rule.
+use Rattle.std.specs.Prelude.{◌≡◌, ◌⊎◌, ℕ, zero, suc, Bool, nat_lt, if◌then◌else◌, List, [], ◌∷◌, ◌++◌, codes, length, map, count_by, Option, Result, Ok, Err}
+use Rattle.std.specs.List.{flat_map}
+use Rattle.std.specs.Fmt.{decimal}
+use Rattle.std.specs.Str.{bytes_eq}
+use Rattle.std.specs.Io.KnownBytes.{Appends}
+use Rattle.mscp_packet.specs.Steps.{◌>>=◌}
+use Rattle.mscp_reader.specs.Lexical.{lines}
+use Rattle.mscp_reader.specs.declared.fault.Cause.TheVariants as causes
+use Rattle.mscp_reader.specs.declared.fault.ScriptFault.{ScriptFault}
+use Rattle.mscp_script.specs.Simulated.{IsGiven}
+use Rattle.mscp_wire.specs.Course.{Findings, findings_in, no_findings}
+use Rattle.mscp_wire.specs.Log.{Log}
+use Rattle.mscp_wire.specs.Right.{Comes}
+use Rattle.mscp_wire.specs.declared.course.Finding.{Finding}
+use Rattle.mscp_wire.specs.declared.log.Verdict.{Verdict}
+use Rattle.mscp_wire.specs.declared.log.Verdict.TheVariants as verdicts
+use Rattle.mscp_wire.specs.declared.rule.Rule.{Rule}
+use Rattle.mscp_wire.specs.declared.rule.Rule.TheVariants as rules
+use Rattle.mscp_wire.specs.declared.wrong.Wrong.{Wrong}
+use Rattle.mscpjudge.specs.Wired.{breach_text, came_outcome, came_text, rule_name, wire_text}
+use Rattle.mscpjudge.specs.declared.fault.Fault.{Fault}
+use Rattle.mscpjudge.specs.declared.fault.Fault.TheVariants as faults
+use Rattle.mscpjudge.specs.declared.judging.Outcome.{Outcome}
+
+-- the lines of what is found
+unfoldable pub finding_text : Finding → List ℕ
+finding_text finding = breach_text finding.wrong finding.places
+
+-- the rule that it breaks
+abbrev pub broken_of : Finding → Rule
+broken_of finding = finding.wrong.rule
+
+-- all rules, in the order in which they are asked
+abbrev pub rules_in_order : List Rule
+rules_in_order =
+    rules.Message ∷ rules.Number ∷ rules.Credits ∷ rules.Length ∷ rules.Outstanding ∷ rules.Unit ∷ rules.Endcode
+    ∷ rules.Status ∷ rules.Aborted ∷ rules.Order ∷ rules.Success ∷ rules.About ∷ rules.Figure ∷ rules.Count
+    ∷ rules.Identity ∷ rules.State ∷ rules.Controller ∷ []
+
+-- a rule has this name
+abbrev pub breaks : List ℕ → Rule → Bool
+breaks name rule = bytes_eq (rule_name rule) name
+
+-- the line of a rule that so many moments break, if some do
+abbrev pub count_text : Rule → ℕ → List ℕ
+count_text rule zero = []
+count_text rule (suc n) = codes "wrong: " ++ decimal (suc n) ++ codes " " ++ rule_name rule ++ codes "\n"
+
+-- the lines of all rules, where these were broken
+unfoldable pub rule_text : List Rule → Rule → List ℕ
+rule_text broken rule = count_text rule (count_by (breaks (rule_name rule)) broken)
+
+abbrev pub broken_rules_text : List Rule → List ℕ
+broken_rules_text broken = flat_map (rule_text broken) rules_in_order
+
+-- all that is found
+abbrev pub found_text : List Finding → List ℕ
+found_text found = flat_map finding_text found ++ broken_rules_text (map broken_of found)
+
+-- what is found in lines, or their first fault
+abbrev pub lines_found : List (List ℕ) → Result (List ℕ) ScriptFault
+lines_found all = findings_in 0 no_findings all >>= λ f. Ok (found_text f.found)
+
+-- the same of a log
+abbrev pub log_found : List ℕ → Result (List ℕ) ScriptFault
+log_found bytes =
+    if nat_lt 16777216 (length bytes) then Err (record { line = 0; cause = causes.Size }) else lines_found (lines bytes)
+
+-- what is written of what came of a log: all that is wrong, if something is
+abbrev pub all_text : List ℕ → Result Log Wrong → Result (List ℕ) ScriptFault
+all_text bytes (Ok log) = Ok (came_text bytes (Ok log))
+all_text bytes (Err wrong) = log_found bytes
+
+-- and of a verdict on it
+abbrev pub verdict_found : {A : Type 0} → List ℕ → Verdict A → Result (List ℕ) ScriptFault
+verdict_found bytes (verdicts.Right totals doubts commands) =
+    Ok (wire_text bytes (verdicts.Right totals doubts commands))
+verdict_found bytes (verdicts.Wrong wrong) = log_found bytes
+
+-- what is written is that of the log that the reader gave. Nothing is written on a fault, and a fault of the log is that
+-- of what the reader gave, or of what comes behind the first moment that isn't right; nothing is said where the write
+-- failed
+abbrev pub TellsAll : Result Outcome Fault → Option (List ℕ) → Option (List ℕ) → Option (List ℕ) → Type 0
+TellsAll (Ok outcome) known old new =
+    IsGiven known (λ log. (came : Result Log Wrong) × Comes log (Ok came) × (outcome ≡ came_outcome came)
+    × (text : List ℕ) × (all_text log came ≡ Ok text) × Appends old new text)
+TellsAll (Err faults.Write) known old new = Unit {0}
+TellsAll (Err (faults.Log fault)) known old new =
+    (new ≡ old) × IsGiven known (λ log. Comes log (Err fault) ⊎ (log_found log ≡ Err fault))
+TellsAll (Err fault) known old new = new ≡ old
