@@ -67,14 +67,15 @@ moments ${totals[0]} messages ${totals[1]} polls ${totals[2]} ends ${totals[3]} 
 $2}")
 }
 
-# What is said of a moment that breaks a rule, without the lines of its values.
-without_values() { grep -vE '^(end|message|passes|names|figure|bytes|identifier|media type|size): '; }
+# What is said of a moment that breaks a rule, without the lines of its values, and of those where they were told.
+without_values() { grep -vE '^(end|message|passes|names|figure|bytes|identifier|media type|size): ' | without_places; }
+without_places() { grep -vE '^(the other was sent|sent|what it passes was sent|the last was told) in line [0-9]+$'; }
 
 # The last of the lines breaks a rule, and these are its values.
 wire_values() {
     printf '%s\n' "${@:2}" >"$room/log"
     "$program" wire "$room/log" </dev/null >"$room/out" 2>"$room/err"
-    [ $? = 1 ] && cmp -- <(sed '1,2d; /^command: /d; /^manual: /d' "$room/out") <(printf '%s\n' "$1")
+    [ $? = 1 ] && cmp -- <(sed '1,2d; /^command: /d; /^manual: /d' "$room/out" | without_places) <(printf '%s\n' "$1")
 }
 
 # Messages and ends of each kind, also such as are too short. A number that a poll was never told is none.
@@ -726,7 +727,7 @@ wire_refuses() {
     printf '%s\n' "${@:2}" >"$room/log"
     "$program" wire "$room/log" </dev/null >"$room/out" 2>"$room/err"
     status=$?
-    [ "$status" = 1 ] && cmp -- "$room/out" /dev/null && fault_is_explained "$1" "$room/log"
+    [ "$status" = 1 ] && cmp -- "$room/out" /dev/null && fault_is_explained "$1" "$room/log" limit_on_wire
 }
 
 no_log_of_the_wire() {
@@ -759,16 +760,16 @@ line 10: reset
 END
 }
 
-# What is no packet is told by the word of its fault.
+# What is no packet is told by the word of its fault and its digits.
 wire_in_words_of_any_bytes() {
     printf '%s\n' 'send 00' "end $(packet 12 1 0 161 0)" "end $(packet 12 1 0 255 0)" >"$room/log" && shows <<'END' || return
-line 1: host: short
-line 2: controller: length
-line 3: controller: code
+line 1: host: short: 00
+line 2: controller: length: 0100000000000000a1000000
+line 3: controller: code: 0100000000000000ff000000
 END
     printf '%s\n' reset 'send 0' >"$room/log"
     "$program" wire --show "$room/log" >"$room/out" 2>"$room/err"
-    [ $? = 1 ] && cmp -- "$room/out" /dev/null && fault_is_explained 'line 2: hex' "$room/log"
+    [ $? = 1 ] && cmp -- "$room/out" /dev/null && fault_is_explained 'line 2: hex' "$room/log" limit_on_wire
 }
 
 wire_without_lines() {

@@ -25,19 +25,23 @@ use Rattle.mscpjudge.specs.declared.fault.Fault.TheVariants as faults
 use Rattle.mscpjudge.specs.declared.judging.Outcome.{Outcome}
 use Rattle.mscpjudge.specs.declared.judging.Outcome.TheVariants as outcomes
 
--- the line of a packet, or why it isn't one
-abbrev pub packet_text : Result (List ℕ) ShowFault → List ℕ
-packet_text (Ok text) = text
-packet_text (Err faults_of_text.Short) = codes "short\n"
-packet_text (Err faults_of_text.Long) = codes "long\n"
-packet_text (Err faults_of_text.Code) = codes "code\n"
-packet_text (Err faults_of_text.Length) = codes "length\n"
-packet_text (Err faults_of_text.Hex) = codes "hex\n"
-packet_text (Err faults_of_text.OutOfMemory) = []
+-- why bytes are no packet, and their digits
+abbrev pub unread_text : List ℕ → List ℕ → List ℕ
+unread_text fault digits = fault ++ codes ": " ++ digits ++ codes "\n"
+
+-- the line of a packet of these digits, or why it isn't one
+abbrev pub packet_text : List ℕ → Result (List ℕ) ShowFault → List ℕ
+packet_text digits (Ok text) = text
+packet_text digits (Err faults_of_text.Short) = unread_text (codes "short") digits
+packet_text digits (Err faults_of_text.Long) = unread_text (codes "long") digits
+packet_text digits (Err faults_of_text.Code) = unread_text (codes "code") digits
+packet_text digits (Err faults_of_text.Length) = unread_text (codes "length") digits
+packet_text digits (Err faults_of_text.Hex) = unread_text (codes "hex") digits
+packet_text digits (Err faults_of_text.OutOfMemory) = []
 
 -- the same of these bytes
 unfoldable pub bytes_text : List ℕ → List ℕ
-bytes_text b = packet_text (shown (encode_lower b))
+bytes_text b = packet_text (encode_lower b) (shown (encode_lower b))
 
 -- what the controller sent a connection's host
 abbrev pub sent_text : Connection → List ℕ → List ℕ

@@ -26,6 +26,21 @@ pub fn limit_of(cause: Cause) -> &'static str {
     }
 }
 
+/// The same of a log of the wire, where another word is right.
+pub fn limit_on_wire(cause: Cause) -> &'static str {
+    match cause {
+        Cause::Word =>
+            "a line begins with send, end, second, reset or credits, or with a time and one of these; credits stands before all others",
+        Cause::Count =>
+            "behind send and end stands one word: all digits of a packet, without spaces between them",
+        Cause::Byte =>
+            "a line has spaces and printed ASCII characters alone: no tab, and no byte order mark",
+        Cause::Hex => "a packet has two hexadecimal digits for each of 1 to 64 bytes",
+        Cause::Number => "a number has 1 to 10 digits: 0 to 4294967295",
+        _ => limit_of(cause),
+    }
+}
+
 /// The line of a fault, if it has printed ASCII characters alone, as one has in which bytes were judged first.
 pub fn line_of(log: &[u8], fault: ScriptFault) -> Option<&[u8]> {
     if let Cause::Size | Cause::Lines | Cause::Long | Cause::Byte | Cause::Header = fault.cause {

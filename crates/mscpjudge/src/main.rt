@@ -18,7 +18,7 @@ mod wire;
 
 use crate::choosing::{Call, asking_of};
 use crate::ending::Ending;
-use crate::explaining::{limit_of, line_of};
+use crate::explaining::{limit_of, limit_on_wire, line_of};
 use crate::fault::{Fault, words_fault};
 use crate::finding::judge_all;
 use crate::hearing::hear;
@@ -53,10 +53,14 @@ fn answer<R: Read + Drop>(rt: &HostRuntime, call: Call, reader: R) -> Result<Out
 
 /// Says what would be right in place of a fault, and which line was read, if that is in a file and is plain text.
 fn explain(rt: &HostRuntime, words: &[String], fault: ScriptFault) {
-    let _ = eprint!(rt; "limit: {}\n", limit_of(fault.cause));
     let Ok(asked) = asking_of(words) else {
         return;
     };
+    let limit = match asked.call {
+        Call::Legal | Call::Host => limit_of(fault.cause),
+        Call::Wire | Call::All | Call::Show => limit_on_wire(fault.cause),
+    };
+    let _ = eprint!(rt; "limit: {}\n", limit);
     if asked.file == "-" {
         return;
     }

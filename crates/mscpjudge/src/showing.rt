@@ -4,7 +4,7 @@ ghost use Rattle.std.specs.Prelude.{◌≡◌, ◌≤◌, ◌++◌, [], false, O
 ghost use Rattle.mscp_reader.specs.Lexical as lexical;
 ghost use Rattle.mscp_reader.specs.Outcome.{Tells};
 ghost use Rattle.mscpjudge.specs.Common.{WritesOnce};
-ghost use Rattle.mscpjudge.specs.Showing.{ShowsLine, TellsShown, bytes_text, line_shown, lines_shown, log_shown, moment_text, said_text, sent_text};
+ghost use Rattle.mscpjudge.specs.Showing.{ShowsLine, TellsShown, bytes_text, line_shown, lines_shown, log_shown, moment_text, said_text, sent_text, unread_text};
 
 use crate::fault::Fault;
 use crate::judging::Outcome;
@@ -16,6 +16,16 @@ use mscp_text::{ShowFault, put, put_field, show_packet};
 use mscp_wire::{Moment, Said, line_says};
 use std::alloc::{AllocError, Global};
 
+/// Appends why bytes are no packet, and their digits.
+fn put_unread(text: &mut Vec<u8>, fault: &str, digits: &str) -> Result<(), AllocError>
+    ensures { OnOk result (text.new.items ≡ text.old.items ++ unread_text fault.now digits.now) }
+{
+    put(text, fault)?;
+    put(text, ": ")?;
+    put(text, digits)?;
+    put(text, "\n")
+}
+
 /// Appends the line of the packet in these bytes, or why it isn't one.
 #[tactic(auto, unfolding(crate::specs::Showing::bytes_text))]
 fn put_packet(alloc: Global, text: &mut Vec<u8>, bytes: &[u8]) -> Result<(), AllocError>
@@ -24,11 +34,11 @@ fn put_packet(alloc: Global, text: &mut Vec<u8>, bytes: &[u8]) -> Result<(), All
     let word = hex::encode(alloc, bytes)?;
     match show_packet(alloc, word.as_str()) {
         Ok(line) => text.extend_from_slice(&line),
-        Err(ShowFault::Hex) => put(text, "hex\n"),
-        Err(ShowFault::Short) => put(text, "short\n"),
-        Err(ShowFault::Long) => put(text, "long\n"),
-        Err(ShowFault::Code) => put(text, "code\n"),
-        Err(ShowFault::Length) => put(text, "length\n"),
+        Err(ShowFault::Hex) => put_unread(text, "hex", word.as_str()),
+        Err(ShowFault::Short) => put_unread(text, "short", word.as_str()),
+        Err(ShowFault::Long) => put_unread(text, "long", word.as_str()),
+        Err(ShowFault::Code) => put_unread(text, "code", word.as_str()),
+        Err(ShowFault::Length) => put_unread(text, "length", word.as_str()),
         Err(ShowFault::OutOfMemory) => Err(AllocError),
     }
 }
