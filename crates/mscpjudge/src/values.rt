@@ -200,8 +200,8 @@ fn put_was<A: Allocator>(
     told: &[u8],
     known: &[u8],
 ) -> Result<(), AllocError>
-    requires { length told.now ≤ 8 }
-    requires { length known.now ≤ 8 }
+    requires told { length told.now ≤ 8 }
+    requires known { length known.now ≤ 8 }
     ensures { OnOk result (text.new.items ≡ text.old.items ++ values.was_text word.now told.now known.now) }
 {
     put(text, word)?;
