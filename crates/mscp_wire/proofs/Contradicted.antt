@@ -2,6 +2,7 @@
 use Rattle.std.proofs.Common.{◌≡◌, ℕ, refl, ap, ◌∙◌, subst, if◌then◌else◌, List, Option, Some}
 use Rattle.std.specs.Prelude.{IfSome}
 use Rattle.mscp_drive.specs.declared.connection.Connection.{Connection}
+use Rattle.mscp_wire.specs.Kept.{sents}
 use Rattle.mscp_wire.specs.Wire.{answer_by, is_long, kept, passed_of, seen_before, seen_nothing}
 use Rattle.mscp_wire.specs.declared.judge.Judge.{Judge}
 use Rattle.mscp_wire.specs.declared.moment.Moment.{Moment}
@@ -15,10 +16,10 @@ pub kept_then : {X : Type 0} (old new : X) (broken : Option Rule) (rule : Rule) 
     → IfSome broken (λ r. new ≡ old) → new ≡ old
 kept_then old new broken rule is h = subst (λ b. IfSome b (λ r. new ≡ old)) is h
 
-pub passed_then : {A : Type 0} (old new : Judge A) (m : Moment) (xs : List Sent) → new ≡ old → old.commands ≡ xs
-    → passed_of new.commands m ≡ passed_of xs m
+pub passed_then : {A : Type 0} (old new : Judge A) (m : Moment) (xs : List Sent) → new ≡ old → sents old.commands ≡ xs
+    → passed_of (sents new.commands) m ≡ passed_of xs m
 passed_then {A = A} old new m xs same is =
-    ap (λ (j : Judge A). passed_of j.commands m) same ∙ ap (λ ys. passed_of ys m) is
+    ap (λ (j : Judge A). passed_of (sents j.commands) m) same ∙ ap (λ ys. passed_of ys m) is
 
 pub seen_then : {A : Type 0} (old new : Judge A) (m : Moment) (units : Connection → ℕ → Told) (known : Option ℕ)
     → new ≡ old → ((via : Connection) (unit : ℕ) → kept old.units via unit ≡ units via unit) → old.controller ≡ known

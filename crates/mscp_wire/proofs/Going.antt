@@ -10,6 +10,7 @@ use Rattle.mscp_packet.specs.Steps.{◌>>=◌}
 use Rattle.mscp_reader.specs.Outcome.{in_line}
 use Rattle.mscp_reader.specs.declared.fault.Cause.{Cause}
 use Rattle.mscp_wire.specs.Course.{Findings, IsOn, counts, findings_with, first_in, first_or, has_name, has_place, has_room, is_named_in, mention_after, mention_of, mentions_after, or_no_mention, tells_of, told_in, with_told}
+use Rattle.mscp_wire.specs.Kept.{sents}
 use Rattle.mscp_wire.specs.Log.{Log, is_fresh, line_says}
 use Rattle.mscp_wire.specs.declared.line.Said.TheVariants as says
 use Rattle.mscp_wire.specs.Wire.{History, after, answer_by, broken, broken_at, broken_by, called_after, controller, controller_after, count_on, four_in, has_credit, is_immediate, is_long, is_message, is_new, kept, kept_called, key, limit_of, outstanding, place_of, same_connection, seen_of, sent_by, timeout_after, told, told_after, unless}
@@ -177,7 +178,7 @@ stale n credits h m = grind (arith, nat_tests, length-append)
 -- what a course is once a moment more counts
 pub advanced : {A : Type 0} (number : ℕ) (log : Log) (mentions : Connection → ℕ → Mention) (m : Moment)
     (old new : Course A) → IsOn log mentions old → new.judge.credits ≡ old.judge.credits
-    → new.judge.commands ≡ after old.judge.timeout old.judge.commands m
+    → sents new.judge.commands ≡ after old.judge.timeout (sents old.judge.commands) m
     → ((via : Connection) (unit : ℕ) → kept new.judge.units via unit
     ≡ told_after via unit (kept old.judge.units via unit) m)
     → ((identifier : ℕ) → kept_called new.judge.units identifier

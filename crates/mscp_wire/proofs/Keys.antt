@@ -1,7 +1,6 @@
 -- What is kept of units is what was told of them once an end or a command came.
 use Rattle.std.proofs.Common.{◌≡◌, ℕ, Bool, true, false, cond, not, ◌&&◌, refl, sym, ap, ◌∙◌, arith, if◌then◌else◌, Option, Some}
 use Rattle.std.specs.Prelude.{nat_eq}
-use Rattle.std.specs.Ordering.{is_eq, nat_cmp}
 use Rattle.std.proofs.lemmas.Bool.{eqb-true}
 use Rattle.std.proofs.lemmas.Bool.Decides.{nat_tests}
 use Rattle.mscp_drive.specs.declared.connection.Connection.{Connection}
@@ -11,7 +10,7 @@ use Rattle.mscp_wire.specs.Messages.{same_connection}
 use Rattle.mscp_wire.specs.Polls.{is_it}
 use Rattle.mscp_wire.specs.declared.answer.Answer.{Answer}
 use Rattle.mscp_wire.specs.declared.sent.Sent.{Sent}
-use Rattle.mscp_wire.specs.declared.table.Entry.{Entry}
+use Rattle.mscp_wire.specs.declared.row.Entry.{Entry}
 use Rattle.mscp_wire.specs.declared.told.State.{State}
 use Rattle.mscp_wire.specs.declared.told.State.TheVariants.{Shared}
 use Rattle.mscp_wire.specs.declared.told.Told.{Told}
@@ -26,10 +25,6 @@ same_key First First m n = grind (arith, nat_tests)
 same_key First Second m n = grind (arith, nat_tests)
 same_key Second First m n = grind (arith, nat_tests)
 same_key Second Second m n = grind (arith, nat_tests)
-
--- the keys that a map compares equal
-at_key : (m n : ℕ) → is_eq (nat_cmp m n) ≡ nat_eq m n
-at_key m n = grind (arith, nat_tests)
 
 -- the entry of a unit, of which a connection was told this, and the other one that
 abbrev pub entry_of : Connection → ℕ → Told → Told → Entry
@@ -61,10 +56,10 @@ put_told others old new via unit own other h side number = ap (told_to others si
 
 -- which unit is kept of each identifier where a map was updated at one
 pub put_called : (old new : ℕ → Option ℕ) (identifier : ℕ) (unit : ℕ)
-    → ((q : ℕ) → new q ≡ cond (is_eq (nat_cmp identifier q)) (Some unit) (old q)) → (called : Option ℕ)
+    → ((q : ℕ) → new q ≡ cond (nat_eq identifier q) (Some unit) (old q)) → (called : Option ℕ)
     → called ≡ Some identifier → (q : ℕ) → new q ≡ (if is_it called q then Some unit else old q)
 put_called old new identifier unit h called e q =
-    h q ∙ ap (λ b. cond b (Some unit) (old q)) (at_key identifier q) ∙ by_test (nat_eq identifier q)
+    h q ∙ by_test (nat_eq identifier q)
     ∙ ap (λ o. if is_it o q then Some unit else old q) (sym e)
   where
     by_test : (b : Bool) → cond b (Some unit) (old q) ≡ (if b then Some unit else old q)

@@ -1,6 +1,6 @@
 pub mod Counting
 pub mod Keys
-mod Boxes
+mod Cells
 pub mod Hearing
 pub mod Passing
 pub mod Doubting

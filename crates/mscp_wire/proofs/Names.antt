@@ -1,14 +1,12 @@
 -- What is kept beside the commands that are outstanding: it stays so when one comes, ends, or hears a figure, and says
 -- which questions have their answer at once.
-use Rattle.std.proofs.Common.{◌≡◌, ℕ, zero, suc, ◌+◌, ◌-◌, ◌≤◌, ◌<◌, nat_eq, Bool, true, false, cond, not, ◌||◌, List, [], ◌∷◌, ◌++◌, length, get_or, set, take, drop, map, refl, ap, sym, ◌∙◌, arith, if◌then◌else◌, Option, Some, None}
+use Rattle.std.proofs.Common.{◌≡◌, ℕ, zero, suc, ◌+◌, ◌-◌, ◌≤◌, ◌<◌, nat_eq, Bool, true, false, cond, not, ◌||◌, List, [], ◌∷◌, ◌++◌, length, get_or, take, map, refl, ap, sym, ◌∙◌, arith, if◌then◌else◌, Option, Some, None}
 use Rattle.std.specs.Prelude.{count_by, find, is_some, nat_le, nat_lt}
 use Rattle.std.specs.List.{list_any, position, position_or_len, remove}
 use Rattle.std.proofs.lemmas.Bool.{lt-ltb, or_parts}
 use Rattle.std.proofs.lemmas.List.Folds.{list_any_more}
 use Rattle.mscp_drive.specs.declared.connection.Connection.{Connection}
 use Rattle.mscp_drive.specs.declared.connection.Connection.TheVariants.{First, Second}
-use Rattle.std.proofs.lemmas.List.{get_or_default, set-get_or}
-use Rattle.std.proofs.lemmas.List.Edits.{map_over_more}
 use Rattle.std.proofs.lemmas.Bool.Decides.{nat_tests}
 use Rattle.std.proofs.lemmas.List.Sums.{sum_by-cons, sum_by_push, sum_by-remove}
 use Rattle.mscp_wire.specs.Kept.{IsCounted, IsKept, IsTally, by_asked, by_fence, by_line, by_name, fewer, is_on, leaves, more, slot_if, slot_of, tells, with_figure}
@@ -195,15 +193,6 @@ found_at q (x ∷ xs) = by_bool (q x) (found_at q xs)
         ap (λ b. command_at_place (x ∷ xs) (cond b (Some 0) None)) (lt-ltb 0 (suc (length xs)) (omega arith))
     by_bool false h = further_at x xs (position_or_len q xs) (length xs) ∙ h
 
--- ---- what is heard
--- the command at a place changed, after those before it
-pub over_more : (f : Sent → Sent) (xs ys zs : List Sent) (i : ℕ) (x y : Sent) → i < length xs → length ys ≡ length xs
-    → ys ≡ map f (take i xs) ++ drop i xs → x ≡ command_at ys i → y ≡ f x → zs ≡ set ys i y
-    → zs ≡ map f (take (i + 1) xs) ++ drop (i + 1) xs
-over_more f xs ys zs i x y l same h is e put =
-    put ∙ ap (set ys i) e
-    ∙ map_over_more f xs ys i x l h (is ∙ get_or_default ys i (sent_by First []) x (omega (arith, l, same)))
-
 -- ---- what is kept
 -- a command that is outstanding is among those
 counted_one : (p : Sent → Bool) (xs : List Sent) (i n : ℕ) (s : Sent) → n ≡ count_by p xs → i < length xs
@@ -259,11 +248,3 @@ kept_tells via n figure time = kept_map (tells via n figure time) (λ s. by_bool
     by_bool : (b : Bool) (s : Sent) → frame (if b then with_figure figure time s else s) ≡ frame s
     by_bool true s = refl
     by_bool false s = refl
-
--- a command that isn't a poll of one that ended stays as it is
-pub unleft_put : (y : Sent) (xs : List Sent) (i : ℕ) → polls y (command_at xs i) ≡ false
-    → xs ≡ set xs i (leaves y (command_at xs i))
-unleft_put y xs i h =
-    sym (set-get_or xs i (sent_by First []))
-    ∙ ap (set xs i) (sym (ap (λ b. if b
-    then record (command_at xs i) { asked = left (command_at xs i).asked } else command_at xs i) h))

@@ -13,6 +13,7 @@ use Rattle.mscp_reader.specs.declared.fault.ReadFault.{ReadFault}
 use Rattle.mscp_reader.specs.declared.fault.ReadFault.TheVariants as reads
 use Rattle.mscp_reader.specs.declared.fault.ScriptFault.{ScriptFault}
 use Rattle.mscp_wire.specs.Wire.{broken_by, called, command_of, controller, count_on, four_in, is_it, is_message, is_new, kept, kept_called, key, outstanding, passed_of, same_connection, seen_before, sent_by, timeout, told}
+use Rattle.mscp_wire.specs.Kept.{sents}
 use Rattle.mscp_wire.specs.Log.{Log, is_fresh, line_says, nothing, with_moment, with_said}
 use Rattle.mscp_wire.specs.declared.course.Course.{Course}
 use Rattle.mscp_wire.specs.declared.course.Finding.{Finding}
@@ -201,7 +202,7 @@ mention_of map via reference = or_no_mention (tree.get nat_cmp map (key via refe
 -- so much counts as told so far, and commands are mentioned there
 pub record IsOn {A : Type 0} (log : Log) (places : Connection → ℕ → Mention) (course : Course A) : Type 0 where
   pub credits : course.judge.credits ≡ log.credits
-  pub commands : course.judge.commands ≡ outstanding log.moments
+  pub commands : sents course.judge.commands ≡ outstanding log.moments
   pub units : (via : Connection) (unit : ℕ) → kept course.judge.units via unit ≡ told log.moments via unit
   pub controller : course.judge.controller ≡ controller log.moments
   pub timeout : course.judge.timeout ≡ timeout log.moments

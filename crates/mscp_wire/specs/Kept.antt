@@ -1,19 +1,39 @@
 -- What is kept beside the commands that are outstanding, so that each is found soon.
-use Rattle.std.specs.Prelude.{◌≡◌, ℕ, ◌+◌, ◌-◌, ◌%◌, ◌<◌, ◌≤◌, ◌^◌, cond, nat_le, Bool, true, false, ◌||◌, nat_eq, if◌then◌else◌, Box, List, get_or, map, count_by, Option, Some, None}
+use Rattle.std.specs.Prelude.{◌≡◌, ℕ, ◌+◌, ◌-◌, ◌%◌, ◌<◌, ◌≤◌, ◌^◌, cond, nat_le, length, take, Bool, true, false, ◌||◌, nat_eq, if◌then◌else◌, List, get_or, count_by, Option, Some, None}
+use Rattle.std.specs.List.{filter_map}
 use Rattle.mscp_drive.specs.declared.connection.Connection.{Connection}
 use Rattle.mscp_drive.specs.declared.connection.Connection.TheVariants.{First, Second}
 use Rattle.mscp_wire.specs.Messages.{is_named, is_ordered, is_sequential, same_connection}
 use Rattle.mscp_wire.specs.Polls.{is_it, left, polls}
 use Rattle.mscp_wire.specs.Units.{key}
-use Rattle.mscp_wire.specs.declared.held.Held.{Held}
 use Rattle.mscp_wire.specs.declared.sent.Asked.{Asked}
 use Rattle.mscp_wire.specs.declared.sent.Asked.TheVariants.{Gone, Nothing, Oldest}
 use Rattle.mscp_wire.specs.declared.sent.Sent.{Sent}
 use Rattle.mscp_wire.specs.declared.tallies.Tallies.{Tallies}
 
--- the commands that are held
-abbrev pub sents : {A : Type 0} → List (Box Held A) → List Sent
-sents xs = map (λ b. b.value.sent) xs
+-- ---- where commands stand
+
+-- a command that is outstanding stands in a cell. Those whose command left are empty
+abbrev pub sents : List (Option Sent) → List Sent
+sents cells = filter_map (λ cell. cell) cells
+
+-- what stands in a cell
+abbrev pub cell : List (Option Sent) → ℕ → Option Sent
+cell cells at = get_or cells at None
+
+-- a command of which this is true stands in a cell
+abbrev pub stands : (Sent → Bool) → Option Sent → Bool
+stands p None = false
+stands p (Some s) = p s
+
+-- the place of a cell's command among those that are outstanding: so many stand before it
+abbrev pub place : List (Option Sent) → ℕ → ℕ
+place cells at = length (sents (take at cells))
+
+-- the same, if there is a cell
+abbrev pub place_if : List (Option Sent) → Option ℕ → Option ℕ
+place_if cells None = None
+place_if cells (Some at) = Some (place cells at)
 
 -- ---- what is counted
 

@@ -1,5 +1,6 @@
 pub mod Messages
 pub mod Polls
+pub mod Rows
 pub mod Units
 pub mod Kept
 pub mod Wire

@@ -9,6 +9,7 @@ use Rattle.mscp_reader.specs.declared.fault.Cause.TheVariants as causes
 use Rattle.mscp_reader.specs.declared.fault.ReadFault.{ReadFault}
 use Rattle.mscp_reader.specs.declared.fault.ReadFault.TheVariants as reads
 use Rattle.mscp_reader.specs.declared.fault.ScriptFault.{ScriptFault}
+use Rattle.mscp_wire.specs.Kept.{sents}
 use Rattle.mscp_wire.specs.Wire.{AreRight, broken_by, called, command_of, controller, kept, kept_called, outstanding, passed_of, seen_before, timeout, told}
 use Rattle.mscp_wire.specs.Doubts.{AreFewDoubts, doubts_of}
 use Rattle.mscp_wire.specs.Log.{Log, line_says, nothing, with_line, with_lines, with_said}
@@ -98,7 +99,7 @@ Says (Err reads.OutOfMemory) came = Unit {0}
 pub record IsAfter {A : Type 0} (log : Log) (reading : Reading A) : Type 0 where
   pub right : AreRight log.credits log.moments
   pub credits : reading.judge.credits ≡ log.credits
-  pub commands : reading.judge.commands ≡ outstanding log.moments
+  pub commands : sents reading.judge.commands ≡ outstanding log.moments
   pub units : (via : Connection) (unit : ℕ) → kept reading.judge.units via unit ≡ told log.moments via unit
   pub controller : reading.judge.controller ≡ controller log.moments
   pub timeout : reading.judge.timeout ≡ timeout log.moments

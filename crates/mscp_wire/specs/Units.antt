@@ -1,24 +1,22 @@
 -- What a host was told of units: by its own ends, and of whether they are online by the other host's, too.
-use Rattle.std.specs.Prelude.{◌≡◌, ℕ, ◌+◌, ◌*◌, ◌/◌, ◌%◌, Bool, true, false, not, ◌&&◌, ◌||◌, nat_eq, if◌then◌else◌, fold, get_or, Option, Some, None}
-use Rattle.std.specs.List.{slice_get}
-use Rattle.std.specs.Ordering.{nat_cmp}
-use Rattle.std.specs.BTreeMap as tree
+use Rattle.std.specs.Prelude.{◌≡◌, ℕ, ◌+◌, ◌*◌, ◌/◌, ◌%◌, Bool, true, false, not, ◌&&◌, ◌||◌, nat_eq, if◌then◌else◌, fold, Option, Some, None}
+use Rattle.std.specs.HashMap as hashed
 use Rattle.mscp_packet.specs.Number.{num}
 use Rattle.mscp_drive.specs.declared.connection.Connection.{Connection}
 use Rattle.mscp_drive.specs.declared.connection.Connection.TheVariants.{First, Second}
 use Rattle.mscp_wire.specs.Messages.{History, answer_by, controller_in, same_connection, timeout_in, sent_by, status_code}
 use Rattle.mscp_wire.specs.Polls.{is_it}
+use Rattle.mscp_wire.specs.Rows.{found}
 use Rattle.mscp_wire.specs.declared.answer.Answer.{Answer}
 use Rattle.mscp_wire.specs.declared.identity.Identity.{Identity}
 use Rattle.mscp_wire.specs.declared.moment.Moment.{Moment}
 use Rattle.mscp_wire.specs.declared.moment.Moment.TheVariants as moments
+use Rattle.mscp_wire.specs.declared.row.Entry.{Entry}
 use Rattle.mscp_wire.specs.declared.sent.Sent.{Sent}
 use Rattle.mscp_wire.specs.declared.noted.Noted.{Noted}
 use Rattle.mscp_wire.specs.declared.told.Seen.{Seen}
 use Rattle.mscp_wire.specs.declared.told.State.{State}
 use Rattle.mscp_wire.specs.declared.told.State.TheVariants.{Away, Open, Shared}
-use Rattle.mscp_wire.specs.declared.table.Entry.{Entry}
-use Rattle.mscp_wire.specs.declared.table.Table.{Table}
 use Rattle.mscp_wire.specs.declared.told.Told.{Told}
 use Rattle.mscp_wire.specs.declared.units.Units.{Units}
 
@@ -263,15 +261,6 @@ abbrev pub key : Connection → ℕ → ℕ
 key First unit = 2 * unit
 key Second unit = 2 * unit + 1
 
--- an entry, if there is one and it has this number
-abbrev pub kept_in : ℕ → Option Entry → Option Entry
-kept_in number None = None
-kept_in number (Some entry) = if nat_eq entry.number number then Some entry else None
-
--- what is kept of a number: the entry at the place of that number
-abbrev pub found : {A : Type 0} → Table A → ℕ → Option Entry
-found table number = kept_in number (slice_get table.entries.items (get_or table.places.items number 0))
-
 -- what an entry tells a connection, if there is one
 abbrev pub told_to : Told → Connection → Option Entry → Told
 told_to others via None = others
@@ -284,7 +273,7 @@ kept units via unit = told_to units.others via (found units.kept unit)
 
 -- which unit is kept of an identifier
 abbrev pub kept_called : {A : Type 0} → Units A → ℕ → Option ℕ
-kept_called units identifier = tree.get nat_cmp units.called identifier
+kept_called units identifier = hashed.get nat_eq units.called identifier
 
 -- this is kept of a unit: of it on a connection, and on the other one. Of each other unit the same as before is
 abbrev pub Puts : {A : Type 0} → Units A → Units A → Connection → ℕ → Told → Told → Type 0

@@ -37,7 +37,7 @@ use Rattle.mscp_drive.specs.declared.connection.Connection.{Connection}
 use Rattle.mscp_drive.specs.declared.connection.Connection.TheVariants.{First}
 pub use Rattle.mscp_wire.specs.Messages.{History, answer_by, asks_for_next, controller_in, is_compared, protected_in, table_in, four_in, identity_in, is_about_another, is_immediate, is_known, is_named, is_ordered, is_required, is_sequential, is_short, is_modified, is_sequential_class, is_transfer, is_transfer_class, is_unknown, is_unknown_class, least_length, least_message, same_connection, sent_by, status_code, timeout_in}
 pub use Rattle.mscp_wire.specs.Polls.{asked_about, asked_by, asking, asks_oldest, has_figure, has_number, hears, is_below, is_hasty, is_it, is_oldest, is_polled, is_refused, left, may_ask, may_be, may_tell, polled_by, polls, tells, waits_on}
-pub use Rattle.mscp_wire.specs.Units.{Puts, after_other, after_own, agrees, brings, called, called_after, called_after_end, called_in, controller, controller_after, describes, fits, found, identifier_of, kept_called, noted_nothing, noted_other, noted_own, size_of, is_known_unit, is_moved, is_of_unit, is_same_unit, is_single, is_unsure, learns, kept, key, later_of, leaves, other_side, says_away, says_online, seen_of, shares, suits_state, tells_unit, timeout_after, told, told_after, told_after_end, told_after_message, told_nothing, told_reset, told_to, turned, was_online}
+pub use Rattle.mscp_wire.specs.Units.{Puts, after_other, after_own, agrees, brings, called, called_after, called_after_end, called_in, controller, controller_after, describes, fits, identifier_of, kept_called, noted_nothing, noted_other, noted_own, size_of, is_known_unit, is_moved, is_of_unit, is_same_unit, is_single, is_unsure, learns, kept, key, later_of, leaves, other_side, says_away, says_online, seen_of, shares, suits_state, tells_unit, timeout_after, told, told_after, told_after_end, told_after_message, told_nothing, told_reset, told_to, turned, was_online}
 use Rattle.mscp_wire.specs.declared.answer.Answer.{Answer}
 use Rattle.mscp_wire.specs.declared.moment.Moment.{Moment}
 use Rattle.mscp_wire.specs.declared.moment.Moment.TheVariants as moments

@@ -3,6 +3,7 @@
 
 ghost use Rattle.std.specs.Prelude.{◌≡◌, if◌then◌else◌, None};
 ghost use Rattle.mscp_wire.specs.Wire as wire;
+ghost use Rattle.mscp_wire.specs.Kept.{sents};
 
 use crate::answer::{Answer, is_long};
 use crate::judge::Judge;
@@ -15,19 +16,19 @@ use std::alloc::Allocator;
 impl<A: Allocator + Copy> Judge<A> {
     /// The command that the end in these bytes passes, if it passes one.
     fn passed_by(&self, connection: Connection, bytes: &[u8]) -> Option<Sent>
-        ensures { result ≡ (if wire.is_long bytes.now then wire.passed_at self.now.commands
-            (wire.place_of self.now.commands (wire.answer_by connection bytes.now)) else None) }
+        ensures { result ≡ (if wire.is_long bytes.now then wire.passed_at (sents self.now.commands)
+            (wire.place_of (sents self.now.commands) (wire.answer_by connection bytes.now)) else None) }
     {
         if !is_long(bytes) {
             return None;
         }
-        let place = self.commands.place_of(&Answer::of(connection, bytes));
-        self.commands.passed_at(place)
+        let at = self.commands.cell_of(&Answer::of(connection, bytes));
+        self.commands.passed_at(at)
     }
 
     /// The command that a moment's end passes, if it passes one.
     pub fn passed(&self, moment: &Moment) -> Option<Sent>
-        ensures { result ≡ wire.passed_of self.now.commands moment.now }
+        ensures { result ≡ wire.passed_of (sents self.now.commands) moment.now }
     {
         match moment {
             Moment::End(connection, message) => self.passed_by(*connection, message.as_slice()),

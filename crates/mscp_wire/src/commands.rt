@@ -1,54 +1,52 @@
 // The commands that are outstanding, oldest first, and what is kept beside them so that each is found soon.
+//
+// Each stands in a cell. A command that leaves moves no other: its cell stays, empty, until most cells are. Then the others
+// move together. So each end moves a command or two, whichever it is of.
 
-ghost use Rattle.std.specs.Prelude.{◌≡◌, ◌+◌, ◌<◌, ◌^◌, ◌++◌, ◌∷◌, [], find, length, map, take, drop, position, false, true, Some, OnOk, IfOk, IfSome};
+ghost use Rattle.std.specs.Prelude.{◌≡◌, ◌+◌, ◌-◌, ◌<◌, ◌^◌, ◌++◌, ◌∷◌, [], find, length, map, take, drop, position, false, true, Some, None, OnOk, IfOk, IfSome, IsSome};
 ghost use Rattle.std.specs.List.{list_any, remove};
 ghost use Rattle.mscp_wire.specs.Wire as wire;
 ghost use Rattle.mscp_wire.specs.Kept as kept;
+ghost use Rattle.mscp_wire.specs.Kept.{cell, place, place_if, sents};
 ghost use Rattle.mscp_wire.specs.Sought.{is_sought};
 
 use crate::answer::Answer;
-use crate::held::{Held, Sought, command_at, command_at_place, has, is_sought, place_in, put_at};
+use crate::held::{
+    Sought, cell_of, command_if, command_in, has, list_of, note, note_all, put_in, stands,
+};
 use crate::outstanding::is_apart;
 use crate::polls::{asks_oldest, leave_all, leaves, tell_all, tells};
 use crate::sent::{Sent, is_ordered, is_sequential};
-use crate::tallies::{Tallies, by_asked};
+use crate::tallies::Tallies;
 use crate::tally::{SLOTS, slot_of};
 use mscp_drive::{Connection, OutOfMemory};
 use std::alloc::{AllocError, Allocator};
 use std::marker::Model;
 
+/// So many cells may be empty, beside as many as aren't.
+const EMPTY: usize = 64;
+
 /// The commands that are outstanding, oldest first.
 #[derive(Drop)]
 pub struct Commands<A: Allocator> {
-    list: Vec<Box<Held, A>, A>,
-    /// How many commands came so far. It may wrap: from it and the two below a place is only guessed.
-    came: u32,
-    /// Of each number of names how many commands came before the last one that has it, and before the last poll of it.
+    cells: Vec<Option<Sent>, A>,
+    /// Of each number of names the cell in which the last one may stand that has it, and the last poll of it.
     last: Vec<u32, A>,
     last_asked: Vec<u32, A>,
     tallies: Tallies<A>,
 }
 
-// A clause sees the list of the commands.
+// A clause sees the cells.
 impl<A: Allocator> Model for Commands<A> {
-    ghost use Rattle.std.specs.Prelude.{List};
+    ghost use Rattle.std.specs.Prelude.{List, Option};
     ghost use Rattle.mscp_wire.specs.declared.sent.Sent.{Sent};
     ghost use Rattle.mscp_wire.specs.Kept.{IsKept, sents};
 
-    ghost Value = { List Sent };
+    ghost Value = { List (Option Sent) };
 
-    ghost view = { λ c. sents c.list.items };
+    ghost view = { λ c. c.cells.items };
 
-    ghost invariant = { λ c. IsKept (sents c.list.items) c.tallies };
-}
-
-/// Keeps of a number, if there is one, how many commands came before.
-fn note<A: Allocator>(list: &mut Vec<u32, A>, slot: Option<usize>, came: u32) {
-    if let Some(slot) = slot {
-        if slot < list.len() {
-            list[slot] = came;
-        }
-    }
+    ghost invariant = { λ c. IsKept (sents c.cells.items) c.tallies };
 }
 
 impl<A: Allocator + Copy> Commands<A> {
@@ -57,8 +55,7 @@ impl<A: Allocator + Copy> Commands<A> {
         ensures { result ≡ [] }
     {
         Commands {
-            list: Vec::new(alloc),
-            came: 0,
+            cells: Vec::new(alloc),
             last: Vec::new(alloc),
             last_asked: Vec::new(alloc),
             tallies: Tallies::none(alloc),
@@ -67,53 +64,53 @@ impl<A: Allocator + Copy> Commands<A> {
 
     /// How many.
     pub fn len(&self) -> usize
-        ensures { result ≡ length self.now }
+        ensures { result ≡ length (sents self.now) }
     {
-        self.list.len()
+        self.tallies.first + self.tallies.second
     }
 
-    /// The one at a place.
-    pub fn at(&self, place: usize) -> Sent
-        requires { place < length self.now }
-        ensures { result ≡ wire.command_at self.now place }
+    /// The one in a cell.
+    pub fn at(&self, at: usize) -> Sent
+        requires { IsSome (cell self.now at) }
+        ensures { result ≡ wire.command_at (sents self.now) (place self.now at) }
     {
-        command_at(self.list.as_slice(), place)
+        command_in(self.cells.as_slice(), at).unwrap()
     }
 
     /// The same, if there is one.
-    pub fn at_place(&self, place: Option<usize>) -> Option<Sent>
-        requires { IfSome place (λ i. i < length self.now) }
-        ensures { result ≡ wire.command_at_place self.now place }
+    pub fn command_if(&self, at: Option<usize>) -> Option<Sent>
+        requires { IfSome at (λ i. IsSome (cell self.now i)) }
+        ensures { result ≡ wire.command_at_place (sents self.now) (place_if self.now at) }
     {
-        command_at_place(self.list.as_slice(), place)
+        command_if(self.cells.as_slice(), at)
     }
 
-    /// Those that came before the one at a place.
-    pub fn before(&self, place: usize) -> &[Box<Held, A>]
-        requires { place < length self.now }
-        ensures { kept.sents result.now ≡ take place self.now }
+    /// Those that came before the one in a cell.
+    pub fn before(&self, at: usize) -> &[Option<Sent>]
+        requires { IsSome (cell self.now at) }
+        ensures { sents result.now ≡ take (place self.now at) (sents self.now) }
     {
-        &self.list[..place]
+        &self.cells[..at]
     }
 
-    /// Those that came after the one at a place.
-    pub fn behind(&self, place: usize) -> &[Box<Held, A>]
-        requires { place < length self.now }
-        ensures { kept.sents result.now ≡ drop (place + 1) self.now }
+    /// Those that came after the one in a cell.
+    pub fn behind(&self, at: usize) -> &[Option<Sent>]
+        requires { IsSome (cell self.now at) }
+        ensures { sents result.now ≡ drop (place self.now at + 1) (sents self.now) }
     {
-        &self.list[place + 1..]
+        &self.cells[at + 1..]
     }
 
     /// All.
-    pub fn all(&self) -> &[Box<Held, A>]
-        ensures { kept.sents result.now ≡ self.now }
+    pub fn all(&self) -> &[Option<Sent>]
+        ensures { result.now ≡ self.now }
     {
-        self.list.as_slice()
+        self.cells.as_slice()
     }
 
     /// How many are of a connection.
     pub fn count_on(&self, connection: Connection) -> usize
-        ensures count { result ≡ wire.count_on connection self.now }
+        ensures count { result ≡ wire.count_on connection (sents self.now) }
         ensures bound { result < 2 ^ 63 }
     {
         match connection {
@@ -124,40 +121,32 @@ impl<A: Allocator + Copy> Commands<A> {
 
     /// Whether one of them has this reference number on this connection.
     pub fn has_named(&self, connection: Connection, reference: u32) -> bool
-        ensures { result ≡ list_any (wire.is_named connection reference) self.now }
+        ensures { result ≡ list_any (wire.is_named connection reference) (sents self.now) }
     {
         if self.tallies.names.at(slot_of(connection, reference)) == 0 {
             return false;
         }
-        has(self.list.as_slice(), &Sought::Named(connection, reference))
+        has(self.cells.as_slice(), &Sought::Named(connection, reference))
     }
 
-    /// Where the command stands before which so many came, if it is the one that is sought.
-    fn guessed(&self, arrival: Option<u32>, sought: &Sought) -> Option<usize>
-        ensures bound { IfSome result (λ i. i < length self.now) }
-        ensures sought { IfSome result (λ i. is_sought sought.now (wire.command_at self.now i) ≡ true) }
+    /// A cell, if the command that is sought stands there.
+    fn guessed(&self, at: Option<u32>, sought: &Sought) -> Option<usize>
+        ensures there { IfSome result (λ i. IsSome (cell self.now i)) }
+        ensures sought { IfSome result (λ i. is_sought sought.now
+            (wire.command_at (sents self.now) (place self.now i)) ≡ true) }
     {
-        match self
-            .list
-            .binary_search_by_key(&arrival?, |held| held.arrival)
-        {
-            Ok(place) if self.is_at(place, sought) => Some(place),
-            _ => None,
+        let at = at? as usize;
+        if at < self.cells.len() && stands(&self.cells[at], sought) {
+            Some(at)
+        } else {
+            None
         }
     }
 
-    /// Whether the one at a place is sought.
-    fn is_at(&self, place: usize, sought: &Sought) -> bool
-        requires { place < length self.now }
-        ensures { result ≡ is_sought sought.now (wire.command_at self.now place) }
-    {
-        is_sought(sought, &self.at(place))
-    }
-
-    /// Where the first stands that has this reference number on this connection, if one does.
-    fn place_named(&self, connection: Connection, reference: u32) -> Option<usize>
-        ensures place { result ≡ position (wire.is_named connection reference) self.now }
-        ensures bound { IfSome result (λ i. i < length self.now) }
+    /// The cell in which the first stands that has this reference number on this connection, if one does.
+    fn cell_named(&self, connection: Connection, reference: u32) -> Option<usize>
+        ensures place { place_if self.now result ≡ position (wire.is_named connection reference) (sents self.now) }
+        ensures there { IfSome result (λ i. IsSome (cell self.now i)) }
     {
         let slot = slot_of(connection, reference);
         let count = self.tallies.names.at(slot);
@@ -166,36 +155,37 @@ impl<A: Allocator + Copy> Commands<A> {
         }
         if count == 1 {
             let sought = Sought::Named(connection, reference);
-            if let Some(place) = self.guessed(self.last.get(slot).copied(), &sought) {
-                return Some(place);
+            if let Some(at) = self.guessed(self.last.get(slot).copied(), &sought) {
+                return Some(at);
             }
         }
-        place_in(self.list.as_slice(), &Sought::Named(connection, reference))
+        cell_of(self.cells.as_slice(), &Sought::Named(connection, reference))
     }
 
-    /// Where the command that an end answers stands, if it does.
-    pub fn place_of(&self, answer: &Answer) -> Option<usize>
-        ensures place { result ≡ wire.place_of self.now answer.now }
-        ensures bound { IfSome result (λ i. i < length self.now) }
+    /// The cell in which the command that an end answers stands, if it does.
+    pub fn cell_of(&self, answer: &Answer) -> Option<usize>
+        ensures place { place_if self.now result ≡ wire.place_of (sents self.now) answer.now }
+        ensures there { IfSome result (λ i. IsSome (cell self.now i)) }
     {
-        self.place_named(answer.connection, answer.reference)
+        self.cell_named(answer.connection, answer.reference)
     }
 
     /// The first that has this reference number on this connection, if one does.
     #[tactic(auto, using(crate::proofs::Names::found_at))]
     pub fn find_named(&self, connection: Connection, reference: u32) -> Option<Sent>
-        ensures { result ≡ find (wire.is_named connection reference) self.now }
+        ensures { result ≡ find (wire.is_named connection reference) (sents self.now) }
     {
-        let place = self.place_named(connection, reference);
-        self.at_place(place)
+        let at = self.cell_named(connection, reference);
+        self.command_if(at)
     }
 
-    /// Whether it is soon seen that none keeps the command at a place back: if that is alone in its unit's line, or if
+    /// Whether it is soon seen that none keeps the command in a cell back: if that is alone in its unit's line, or if
     /// none there is sequential.
-    fn stands_free(&self, place: usize, command: &Sent) -> bool
-        requires bound { place < length self.now }
-        requires there { command.now ≡ wire.command_at self.now place }
-        ensures { result ≡ true → list_any (wire.keeps_back command.now) (take place self.now) ≡ false }
+    fn stands_free(&self, at: usize, command: &Sent) -> bool
+        requires full { IsSome (cell self.now at) }
+        requires there { command.now ≡ wire.command_at (sents self.now) (place self.now at) }
+        ensures { result ≡ true → list_any (wire.keeps_back command.now)
+            (take (place self.now at) (sents self.now)) ≡ false }
     {
         let slot = slot_of(command.connection, u32::from(command.unit));
         if is_sequential(command.opcode) {
@@ -204,35 +194,36 @@ impl<A: Allocator + Copy> Commands<A> {
         !is_ordered(command.opcode) || self.tallies.fences.at(slot) == 0
     }
 
-    /// Whether the command at a place passes none of the earlier ones that it has to wait for.
-    pub fn passes_none(&self, place: usize, command: &Sent, answer: &Answer) -> bool
-        requires bound { place < length self.now }
-        requires there { command.now ≡ wire.command_at self.now place }
-        ensures { result ≡ wire.passes_none (take place self.now) command.now answer.now }
+    /// Whether the command in a cell passes none of the earlier ones that it has to wait for.
+    pub fn passes_none(&self, at: usize, command: &Sent, answer: &Answer) -> bool
+        requires full { IsSome (cell self.now at) }
+        requires there { command.now ≡ wire.command_at (sents self.now) (place self.now at) }
+        ensures { result ≡ wire.passes_none (take (place self.now at) (sents self.now)) command.now answer.now }
     {
         is_apart(answer.status_code())
-            || self.stands_free(place, command)
-            || !has(self.before(place), &Sought::Keeping(*command))
+            || self.stands_free(at, command)
+            || !has(self.before(at), &Sought::Keeping(*command))
     }
 
-    /// The first that keeps the one at a place back, if one does.
+    /// The first that keeps the one in a cell back, if one does.
     #[tactic(auto, using(crate::proofs::Names::found_at))]
-    fn keeper_of(&self, place: usize) -> Option<Sent>
-        requires { place < length self.now }
-        ensures { result ≡ find (wire.keeps_back (wire.command_at self.now place)) (take place self.now) }
+    fn keeper_of(&self, at: usize) -> Option<Sent>
+        requires { IsSome (cell self.now at) }
+        ensures { result ≡ find (wire.keeps_back (wire.command_at (sents self.now) (place self.now at)))
+            (take (place self.now at) (sents self.now)) }
     {
-        let command = self.at(place);
-        let earlier = self.before(place);
-        command_at_place(earlier, place_in(earlier, &Sought::Keeping(command)))
+        let command = self.at(at);
+        let earlier = self.before(at);
+        command_if(earlier, cell_of(earlier, &Sought::Keeping(command)))
     }
 
-    /// The same, if there is a place.
-    pub fn passed_at(&self, place: Option<usize>) -> Option<Sent>
-        requires { IfSome place (λ i. i < length self.now) }
-        ensures { result ≡ wire.passed_at self.now place }
+    /// The same, if there is a cell.
+    pub fn passed_at(&self, at: Option<usize>) -> Option<Sent>
+        requires { IfSome at (λ i. IsSome (cell self.now i)) }
+        ensures { result ≡ wire.passed_at (sents self.now) (place_if self.now at) }
     {
-        match place {
-            Some(place) => self.keeper_of(place),
+        match at {
+            Some(at) => self.keeper_of(at),
             None => None,
         }
     }
@@ -250,60 +241,90 @@ impl<A: Allocator + Copy> Commands<A> {
         Ok(())
     }
 
+    /// No cell is empty.
+    fn close_up(&mut self)
+        ensures { sents self.new ≡ sents self.old }
+    {
+        self.cells.retain(|cell| cell.is_some());
+        note_all(&self.cells, &mut self.last, &mut self.last_asked);
+    }
+
+    /// Few cells are empty.
+    fn make_room(&mut self)
+        ensures { sents self.new ≡ sents self.old }
+    {
+        if self.cells.len() / 2 > self.len().saturating_add(EMPTY) {
+            self.close_up();
+        }
+    }
+
     /// One more came.
     pub fn push(&mut self, command: Sent) -> Result<(), AllocError>
-        ensures { OnOk result (self.new ≡ self.old ++ command ∷ []) }
+        ensures { OnOk result (sents self.new ≡ sents self.old ++ command ∷ []) }
     {
         self.begin()?;
-        let held = Held {
-            sent: command,
-            arrival: self.came,
-        };
-        let held = Box::new(*self.list.allocator(), held)?;
-        self.list.push(held)?;
-        let slot = slot_of(command.connection, command.reference);
-        note(&mut self.last, Some(slot), self.came);
-        note(&mut self.last_asked, by_asked(&command), self.came);
-        self.came = self.came.wrapping_add(1);
+        self.make_room();
+        let at = self.cells.len();
+        self.cells.push(Some(command))?;
         self.tallies.add(&command);
+        note(&mut self.last, &mut self.last_asked, &command, at);
         Ok(())
     }
 
-    /// The one at a place isn't outstanding any more.
-    fn remove(&mut self, place: usize) -> Sent
-        requires { place < length self.old }
-        ensures gone { result ≡ wire.command_at self.old place }
-        ensures others { self.new ≡ remove self.old place }
+    /// The one in a cell isn't outstanding any more.
+    fn remove(&mut self, at: usize) -> Sent
+        requires { IsSome (cell self.old at) }
+        ensures gone { result ≡ wire.command_at (sents self.old) (place self.old at) }
+        ensures others { sents self.new ≡ remove (sents self.old) (place self.old at) }
+        ensures cells { length self.new ≡ length self.old }
+        ensures empty { cell self.new at ≡ None }
     {
-        let Held { sent, arrival: _ } = Box::into_inner(self.list.remove(place));
+        let sent = self.at(at);
+        self.cells[at] = None;
         self.tallies.subtract(&sent);
         sent
+    }
+
+    /// No command stands in a cell.
+    fn empty(&mut self, at: usize)
+        requires { at < length self.old }
+        ensures cells { length self.new ≡ length self.old }
+        ensures empty { cell self.new at ≡ None }
+    {
+        if self.cells[at].is_some() {
+            self.remove(at);
+        }
+    }
+
+    /// One cell less, the last.
+    fn pop(&mut self)
+        requires { 0 < length self.old }
+        ensures { length self.new + 1 ≡ length self.old }
+    {
+        let last = self.cells.len() - 1;
+        self.empty(last);
+        self.cells.truncate(last);
     }
 
     /// No more.
     pub fn clear(&mut self)
         ensures { self.new ≡ [] }
     {
-        for _ in 0..self.len() {
-            let last = self.len() - 1;
-            self.remove(last);
+        for _ in 0..self.cells.len() {
+            self.pop();
         }
     }
 
     /// The list of them.
     pub fn into_list(self, alloc: A) -> Result<Vec<Sent, A>, OutOfMemory>
-        ensures { IfOk result (λ list. list.items ≡ self) }
+        ensures { IfOk result (λ list. list.items ≡ sents self) }
     {
-        let mut list = Vec::new(alloc);
-        for place in 0..self.len() {
-            list.push(self.at(place))?;
-        }
-        Ok(list)
+        Ok(list_of(alloc, self.cells.as_slice())?)
     }
 
     /// Those of a name are told this figure by a poll of this time.
     fn tell(&mut self, name: (Connection, u32), figure: Option<u32>, time: Option<u64>)
-        ensures { self.new ≡ map (kept.tells name.0 name.1 figure time) self.old }
+        ensures { sents self.new ≡ map (kept.tells name.0 name.1 figure time) (sents self.old) }
     {
         let slot = slot_of(name.0, name.1);
         let count = self.tallies.names.at(slot);
@@ -312,18 +333,18 @@ impl<A: Allocator + Copy> Commands<A> {
         }
         if count == 1 {
             let sought = Sought::Named(name.0, name.1);
-            if let Some(place) = self.guessed(self.last.get(slot).copied(), &sought) {
-                let command = self.at(place);
-                put_at(&mut self.list, place, tells(name, figure, time, &command));
+            if let Some(at) = self.guessed(self.last.get(slot).copied(), &sought) {
+                let command = self.at(at);
+                put_in(&mut self.cells, at, tells(name, figure, time, &command));
                 return;
             }
         }
-        tell_all(&mut self.list, name, figure, time);
+        tell_all(&mut self.cells, name, figure, time);
     }
 
     /// Polls of a command that ended ask no more of it.
     fn leave(&mut self, ended: &Sent)
-        ensures { self.new ≡ map (kept.leaves ended.now) self.old }
+        ensures { sents self.new ≡ map (kept.leaves ended.now) (sents self.old) }
     {
         let slot = slot_of(ended.connection, ended.reference);
         let count = self.tallies.asked.at(slot);
@@ -331,21 +352,21 @@ impl<A: Allocator + Copy> Commands<A> {
             return;
         }
         if count == 1 {
-            if let Some(place) = self.guessed(
+            if let Some(at) = self.guessed(
                 self.last_asked.get(slot).copied(),
                 &Sought::PollOf(*ended),
             ) {
-                let other = self.at(place);
-                put_at(&mut self.list, place, leaves(ended, &other));
+                let other = self.at(at);
+                put_in(&mut self.cells, at, leaves(ended, &other));
                 return;
             }
         }
-        leave_all(&mut self.list, ended);
+        leave_all(&mut self.cells, ended);
     }
 
     /// They hear the end of a command.
     fn hear(&mut self, ended: &Sent, answer: &Answer)
-        ensures { self.new ≡ map (wire.hears ended.now answer.now) self.old }
+        ensures { sents self.new ≡ map (wire.hears ended.now answer.now) (sents self.old) }
     {
         self.leave(ended);
         if !asks_oldest(ended.asked) {
@@ -356,12 +377,12 @@ impl<A: Allocator + Copy> Commands<A> {
         }
     }
 
-    /// The end of the one at a place came: the others hear it.
-    pub fn take(&mut self, place: usize, answer: &Answer)
-        requires { place < length self.old }
-        ensures { self.new ≡ wire.after_end self.old answer.now (Some place) }
+    /// The end of the one in a cell came: the others hear it.
+    pub fn take(&mut self, at: usize, answer: &Answer)
+        requires { IsSome (cell self.old at) }
+        ensures { sents self.new ≡ wire.after_end (sents self.old) answer.now (Some (place self.old at)) }
     {
-        let ended = self.remove(place);
+        let ended = self.remove(at);
         self.hear(&ended, answer);
     }
 }

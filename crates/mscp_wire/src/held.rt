@@ -1,40 +1,34 @@
-// A command as it is held: in a box of its own, so that little moves if an early one leaves.
+// The cells in which commands that are outstanding stand, oldest first. A cell whose command left is empty, so that no
+// other moves.
 
-ghost use Rattle.std.specs.Prelude.{◌≡◌, ◌<◌, length, set, position, IfSome};
+ghost use Rattle.std.specs.Prelude.{◌≡◌, ◌++◌, ◌∷◌, [], set, position, IfOk, IfSome, IsSome, OnOk};
 ghost use Rattle.std.specs.List.{list_any};
 ghost use Rattle.mscp_wire.specs.Wire as wire;
 ghost use Rattle.mscp_wire.specs.Sought.{is_sought};
-ghost use Rattle.mscp_wire.specs.Kept.{sents};
+ghost use Rattle.mscp_wire.specs.Kept.{cell, place, place_if, sents, stands};
 
 use crate::outstanding::{aborts, keeps_back};
 use crate::polls::{polls, waits_on};
 use crate::sent::Sent;
+use crate::tallies::by_asked;
+use crate::tally::slot_of;
 use mscp_drive::Connection;
-use std::alloc::Allocator;
+use std::alloc::{AllocError, Allocator};
 
-/// A command that is outstanding, and how many came before it.
-#[derive(Clone, Copy)]
-pub struct Held {
-    pub sent: Sent,
-    pub arrival: u32,
+/// The command in a cell, if one is there.
+pub fn command_in(cells: &[Option<Sent>], at: usize) -> Option<Sent>
+    ensures { result ≡ cell cells.now at }
+{
+    cells.get(at).copied().unwrap_or(None)
 }
 
-/// The command at a place.
-#[tactic(auto, using(crate::proofs::Boxes::sent_at))]
-pub fn command_at<A: Allocator>(list: &[Box<Held, A>], place: usize) -> Sent
-    requires { place < length list.now }
-    ensures { result ≡ wire.command_at (sents list.now) place }
+/// The same, if there is such a cell.
+pub fn command_if(cells: &[Option<Sent>], at: Option<usize>) -> Option<Sent>
+    requires { IfSome at (λ i. IsSome (cell cells.now i)) }
+    ensures { result ≡ wire.command_at_place (sents cells.now) (place_if cells.now at) }
 {
-    list[place].sent
-}
-
-/// The same, if there is one.
-pub fn command_at_place<A: Allocator>(list: &[Box<Held, A>], place: Option<usize>) -> Option<Sent>
-    requires { IfSome place (λ i. i < length list.now) }
-    ensures { result ≡ wire.command_at_place (sents list.now) place }
-{
-    match place {
-        Some(place) => Some(command_at(list, place)),
+    match at {
+        Some(at) => command_in(cells, at),
         None => None,
     }
 }
@@ -68,14 +62,25 @@ pub fn is_sought(sought: &Sought, command: &Sent) -> bool
     }
 }
 
-/// Where the first stands that is sought, if one does.
+/// Whether one that is sought stands in a cell.
 #[inline(always)]
-pub fn place_in<A: Allocator>(list: &[Box<Held, A>], sought: &Sought) -> Option<usize>
-    ensures place { result ≡ position (is_sought sought.now) (sents list.now) }
-    ensures bound { IfSome result (λ i. i < length list.now) }
+pub fn stands(cell: &Option<Sent>, sought: &Sought) -> bool
+    ensures { result ≡ stands (is_sought sought.now) cell.now }
 {
-    for at in 0..list.len() {
-        if is_sought(sought, &list[at].sent) {
+    match cell {
+        Some(command) => is_sought(sought, command),
+        None => false,
+    }
+}
+
+/// The cell in which the first stands that is sought, if one does.
+#[inline(always)]
+pub fn cell_of(cells: &[Option<Sent>], sought: &Sought) -> Option<usize>
+    ensures place { place_if cells.now result ≡ position (is_sought sought.now) (sents cells.now) }
+    ensures there { IfSome result (λ i. IsSome (cell cells.now i)) }
+{
+    for at in 0..cells.len() {
+        if stands(&cells[at], sought) {
             return Some(at);
         }
     }
@@ -83,18 +88,74 @@ pub fn place_in<A: Allocator>(list: &[Box<Held, A>], sought: &Sought) -> Option<
 }
 
 /// Whether one is.
-pub fn has<A: Allocator>(list: &[Box<Held, A>], sought: &Sought) -> bool
-    ensures { result ≡ list_any (is_sought sought.now) (sents list.now) }
+pub fn has(cells: &[Option<Sent>], sought: &Sought) -> bool
+    ensures { result ≡ list_any (is_sought sought.now) (sents cells.now) }
 {
-    place_in(list, sought).is_some()
+    cell_of(cells, sought).is_some()
 }
 
-/// Another command stands at a place.
-#[tactic(auto, using(crate::proofs::Boxes::sent_put))]
-pub fn put_at<A: Allocator>(list: &mut Vec<Box<Held, A>, A>, place: usize, sent: Sent)
-    requires { place < length list.old.items }
-    ensures sents { sents list.new.items ≡ set (sents list.old.items) place sent }
-    ensures many { length list.new.items ≡ length list.old.items }
+/// Another command stands in a cell that isn't empty.
+pub fn put_in<A: Allocator>(cells: &mut Vec<Option<Sent>, A>, at: usize, sent: Sent)
+    requires { IsSome (cell cells.old.items at) }
+    ensures { sents cells.new.items ≡ set (sents cells.old.items) (place cells.old.items at) sent }
 {
-    list[place].sent = sent;
+    cells[at] = Some(sent);
+}
+
+/// The list of those in cells.
+pub fn list_of<A: Allocator>(alloc: A, cells: &[Option<Sent>]) -> Result<Vec<Sent, A>, AllocError>
+    ensures { IfOk result (λ list. list.items ≡ sents cells.now) }
+{
+    let mut list = Vec::new(alloc);
+    for at in 0..cells.len() {
+        push_if(&mut list, command_in(cells, at))?;
+    }
+    Ok(list)
+}
+
+/// Appends a command, if there is one.
+fn push_if<A: Allocator>(list: &mut Vec<Sent, A>, command: Option<Sent>) -> Result<(), AllocError>
+    ensures { OnOk result (list.new.items ≡ list.old.items ++ sents (command ∷ [])) }
+{
+    match command {
+        Some(command) => {
+            list.push(command)?;
+            Ok(())
+        }
+        None => Ok(()),
+    }
+}
+
+/// Keeps of a number, if there is one, in which cell a command stands.
+fn note_at<A: Allocator>(list: &mut Vec<u32, A>, slot: Option<usize>, at: usize) {
+    if let (Some(slot), Ok(at)) = (slot, u32::try_from(at)) {
+        if slot < list.len() {
+            list[slot] = at;
+        }
+    }
+}
+
+/// Keeps in which cell a command stands, by its name, and by the name that it asks for if it is a poll.
+pub fn note<A: Allocator>(
+    last: &mut Vec<u32, A>,
+    last_asked: &mut Vec<u32, A>,
+    command: &Sent,
+    at: usize,
+) {
+    let slot = slot_of(command.connection, command.reference);
+    note_at(last, Some(slot), at);
+    note_at(last_asked, by_asked(command), at);
+}
+
+/// The same of each.
+pub fn note_all<A: Allocator>(
+    cells: &[Option<Sent>],
+    last: &mut Vec<u32, A>,
+    last_asked: &mut Vec<u32, A>,
+) {
+    for at in 0..cells.len() {
+        if let Some(command) = command_in(cells, at) {
+            note(last, last_asked, &command, at);
+        }
+    }
 }

@@ -1,11 +1,11 @@
 // What is outstanding after the moments so far, and which rule the next one breaks.
 
-ghost use Rattle.std.specs.Prelude.{◌≡◌, ℕ, ◌<◌, ◌++◌, ◌∷◌, [], length, if◌then◌else◌, OnOk, IfOk, IfSome, Some, None};
+ghost use Rattle.std.specs.Prelude.{◌≡◌, ℕ, ◌++◌, ◌∷◌, [], if◌then◌else◌, OnOk, IfOk, IfSome, IsSome, Some, None};
 ghost use Rattle.mscp_packet.specs.Number.{num};
 ghost use Rattle.mscp_drive.specs.declared.connection.Connection as connections;
 ghost use Rattle.mscp_wire.specs.Doubts as doubt;
 ghost use Rattle.mscp_wire.specs.Wire as wire;
-ghost use Rattle.mscp_wire.specs.Kept.{sents};
+ghost use Rattle.mscp_wire.specs.Kept.{cell, place, place_if, sents};
 ghost use Rattle.mscp_wire.specs.Totals as total;
 
 use crate::answer::{Answer, is_long};
@@ -13,7 +13,6 @@ use crate::commands::Commands;
 use crate::doubtful::doubtful_found;
 use crate::doubts::Doubtful;
 use crate::falls::fall_found;
-use crate::held::Held;
 use crate::moment::Moment;
 use crate::outstanding::has_abort;
 use crate::polls::has_figure;
@@ -43,7 +42,7 @@ fn has_credit<A: Allocator + Copy>(
     commands: &Commands<A>,
     sent: &Sent,
 ) -> bool
-    ensures { result ≡ wire.has_credit credits commands.now sent.now }
+    ensures { result ≡ wire.has_credit credits (sents commands.now) sent.now }
 {
     let credits = u64::from(limit_of(credits));
     let needed = commands.count_on(sent.connection) as u64 + 1;
@@ -56,7 +55,7 @@ fn broken_message<A: Allocator + Copy>(
     commands: &Commands<A>,
     sent: &Sent,
 ) -> Option<Rule>
-    ensures { result ≡ wire.broken_message credits commands.now sent.now }
+    ensures { result ≡ wire.broken_message credits (sents commands.now) sent.now }
 {
     if commands.has_named(sent.connection, sent.reference) {
         return Some(Rule::Number);
@@ -68,12 +67,7 @@ fn broken_message<A: Allocator + Copy>(
 }
 
 /// The first rule that the body of an end of this command breaks, after which these came.
-fn broken_body<A: Allocator>(
-    later: &[Box<Held, A>],
-    command: &Sent,
-    seen: &Seen,
-    answer: &Answer,
-) -> Option<Rule>
+fn broken_body(later: &[Option<Sent>], command: &Sent, seen: &Seen, answer: &Answer) -> Option<Rule>
     ensures { result ≡ wire.broken_body (sents later.now) command.now seen.now answer.now }
 {
     if !answer.succeeds(answer.other_of(command)) {
@@ -100,18 +94,18 @@ fn broken_body<A: Allocator>(
     None
 }
 
-/// The first rule that an end of the command at a place breaks.
+/// The first rule that an end of the command in a cell breaks.
 fn broken_end<A: Allocator + Copy>(
     commands: &Commands<A>,
-    place: usize,
+    at: usize,
     seen: &Seen,
     answer: &Answer,
 ) -> Option<Rule>
-    requires { place < length commands.now }
-    ensures { result ≡ wire.broken_at commands.now seen.now answer.now (Some place) }
+    requires { IsSome (cell commands.now at) }
+    ensures { result ≡ wire.broken_at (sents commands.now) seen.now answer.now (Some (place commands.now at)) }
 {
-    let command = commands.at(place);
-    let later = commands.behind(place);
+    let command = commands.at(at);
+    let later = commands.behind(at);
     if !answer.names_unit(&command) {
         return Some(Rule::Unit);
     }
@@ -124,7 +118,7 @@ fn broken_end<A: Allocator + Copy>(
     if !has_abort(later, &command, answer) {
         return Some(Rule::Aborted);
     }
-    if !commands.passes_none(place, &command, answer) {
+    if !commands.passes_none(at, &command, answer) {
         return Some(Rule::Order);
     }
     broken_body(later, &command, seen, answer)
@@ -135,13 +129,13 @@ fn broken_answer<A: Allocator + Copy>(
     commands: &Commands<A>,
     seen: &Seen,
     answer: &Answer,
-    place: Option<usize>,
+    at: Option<usize>,
 ) -> Option<Rule>
-    requires { IfSome place (λ i. i < length commands.now) }
-    ensures { result ≡ wire.broken_at commands.now seen.now answer.now place }
+    requires { IfSome at (λ i. IsSome (cell commands.now i)) }
+    ensures { result ≡ wire.broken_at (sents commands.now) seen.now answer.now (place_if commands.now at) }
 {
-    match place {
-        Some(place) => broken_end(commands, place, seen, answer),
+    match at {
+        Some(at) => broken_end(commands, at, seen, answer),
         None => Some(Rule::Outstanding),
     }
 }
@@ -191,7 +185,7 @@ impl<A: Allocator + Copy> Judge<A> {
         ensures credits { result.credits ≡ credits }
         ensures controller { result.controller ≡ None }
         ensures timeout { result.timeout ≡ None }
-        ensures commands { result.commands ≡ [] }
+        ensures commands { sents result.commands ≡ [] }
         ensures units { (via : connections.Connection) (unit : ℕ)
             → wire.kept result.units via unit ≡ wire.told_nothing }
         ensures called { (identifier : ℕ) → wire.kept_called result.units identifier ≡ None }
@@ -215,14 +209,14 @@ impl<A: Allocator + Copy> Judge<A> {
         time: Option<u64>,
     ) -> Result<Stepped, OutOfMemory>
         ensures rule { IfOk result (λ o. o.rule ≡ wire.unless (wire.is_message bytes.now) Rule.Message
-            (wire.broken_message self.old.credits self.old.commands (wire.sent_by connection bytes.now))) }
+            (wire.broken_message self.old.credits (sents self.old.commands) (wire.sent_by connection bytes.now))) }
         ensures command { IfOk result (λ o. o.command
             ≡ (if wire.is_message bytes.now then Some (wire.sent_by connection bytes.now) else None)) }
         ensures fall { IfOk result (λ o. o.fall ≡ 0) }
         ensures doubtful { IfOk result (λ o. o.doubtful ≡ doubt.no_doubt) }
-        ensures after { IfOk result (λ o. o.rule ≡ None → self.new.commands
-            ≡ self.old.commands
-            ++ wire.asking self.old.timeout self.old.commands
+        ensures after { IfOk result (λ o. o.rule ≡ None → sents self.new.commands
+            ≡ sents self.old.commands
+            ++ wire.asking self.old.timeout (sents self.old.commands)
             (wire.timed time (wire.sent_by connection bytes.now)) ∷ []) }
         ensures units { IfOk result (λ o. o.rule ≡ None → (via : connections.Connection) (unit : ℕ)
             → wire.kept self.new.units via unit ≡ wire.told_after_message via unit
@@ -252,9 +246,10 @@ impl<A: Allocator + Copy> Judge<A> {
 
     /// An end came that breaks no rule: the command at its place isn't outstanding any more, and what it tells is
     /// known.
-    pub fn ended(&mut self, answer: &Answer, place: Option<usize>) -> Result<(), OutOfMemory>
-        requires { IfSome place (λ i. i < length self.old.commands) }
-        ensures after { OnOk result (self.new.commands ≡ wire.after_end self.old.commands answer.now place) }
+    pub fn ended(&mut self, answer: &Answer, at: Option<usize>) -> Result<(), OutOfMemory>
+        requires { IfSome at (λ i. IsSome (cell self.old.commands i)) }
+        ensures after { OnOk result (sents self.new.commands
+            ≡ wire.after_end (sents self.old.commands) answer.now (place_if self.old.commands at)) }
         ensures units { OnOk result ((via : connections.Connection) (unit : ℕ) → wire.kept self.new.units via unit
             ≡ wire.told_after_end via unit (wire.kept self.old.units via unit) answer.now) }
         ensures called { OnOk result ((identifier : ℕ) → wire.kept_called self.new.units identifier
@@ -267,8 +262,8 @@ impl<A: Allocator + Copy> Judge<A> {
         self.units.hear_end(answer)?;
         self.controller = later_of(answer.controller, self.controller);
         self.timeout = later_time(answer.timeout, self.timeout);
-        if let Some(place) = place {
-            self.commands.take(place, answer);
+        if let Some(at) = at {
+            self.commands.take(at, answer);
         }
         Ok(())
     }
@@ -277,24 +272,24 @@ impl<A: Allocator + Copy> Judge<A> {
     #[inline(never)]
     fn end(&mut self, connection: Connection, bytes: &[u8]) -> Result<Stepped, OutOfMemory>
         ensures rule { IfOk result (λ o. o.rule ≡ wire.unless (wire.is_long bytes.now) Rule.Length
-            (wire.broken_at self.old.commands (record {
+            (wire.broken_at (sents self.old.commands) (record {
               unit = wire.kept self.old.units connection (num bytes.now 4 2);
               controller = self.old.controller;
             })
             (wire.answer_by connection bytes.now)
-            (wire.place_of self.old.commands (wire.answer_by connection bytes.now)))) }
+            (wire.place_of (sents self.old.commands) (wire.answer_by connection bytes.now)))) }
         ensures command { IfOk result (λ o. o.command ≡ (if wire.is_long bytes.now
-            then wire.answered_by self.old.commands (wire.answer_by connection bytes.now) else None)) }
+            then wire.answered_by (sents self.old.commands) (wire.answer_by connection bytes.now) else None)) }
         ensures fall { IfOk result (λ o. o.fall ≡ (if wire.is_long bytes.now
             then total.fall_found (wire.answer_by connection bytes.now)
-            (wire.answered_by self.old.commands (wire.answer_by connection bytes.now)) else 0)) }
+            (wire.answered_by (sents self.old.commands) (wire.answer_by connection bytes.now)) else 0)) }
         ensures doubtful { IfOk result (λ o. o.doubtful ≡ (if wire.is_long bytes.now
             then doubt.doubtful_found (wire.kept self.old.units) (wire.kept_called self.old.units)
             (wire.answer_by connection bytes.now)
-            (wire.answered_by self.old.commands (wire.answer_by connection bytes.now)) else doubt.no_doubt)) }
-        ensures after { IfOk result (λ o. o.rule ≡ None → self.new.commands
-            ≡ wire.after_end self.old.commands (wire.answer_by connection bytes.now)
-            (wire.place_of self.old.commands (wire.answer_by connection bytes.now))) }
+            (wire.answered_by (sents self.old.commands) (wire.answer_by connection bytes.now)) else doubt.no_doubt)) }
+        ensures after { IfOk result (λ o. o.rule ≡ None → sents self.new.commands
+            ≡ wire.after_end (sents self.old.commands) (wire.answer_by connection bytes.now)
+            (wire.place_of (sents self.old.commands) (wire.answer_by connection bytes.now))) }
         ensures units { IfOk result (λ o. o.rule ≡ None → (via : connections.Connection) (unit : ℕ)
             → wire.kept self.new.units via unit ≡ wire.told_after_end via unit
             (wire.kept self.old.units via unit) (wire.answer_by connection bytes.now)) }
@@ -313,17 +308,17 @@ impl<A: Allocator + Copy> Judge<A> {
             return Ok(Stepped::broken(Rule::Length));
         }
         let answer = Answer::of(connection, bytes);
-        let place = self.commands.place_of(&answer);
-        let command = self.commands.at_place(place);
+        let at = self.commands.cell_of(&answer);
+        let command = self.commands.command_if(at);
         let seen = Seen {
             unit: self.units.told(connection, answer.unit),
             controller: self.controller,
         };
-        let rule = broken_answer(&self.commands, &seen, &answer, place);
+        let rule = broken_answer(&self.commands, &seen, &answer, at);
         let fall = fall_found(&answer, command);
         let doubtful = doubtful_found(&self.units, &seen.unit, &answer, command);
         if rule.is_none() {
-            self.ended(&answer, place)?;
+            self.ended(&answer, at)?;
         }
         Ok(Stepped {
             rule,
@@ -335,14 +330,14 @@ impl<A: Allocator + Copy> Judge<A> {
 
     /// What comes of a moment. If it breaks no rule it is added to those before it.
     pub fn step(&mut self, moment: &Moment) -> Result<Stepped, OutOfMemory>
-        ensures rule { IfOk result (λ o. o.rule ≡ wire.broken self.old.credits self.old.commands
+        ensures rule { IfOk result (λ o. o.rule ≡ wire.broken self.old.credits (sents self.old.commands)
             (wire.seen_of (wire.kept self.old.units) self.old.controller moment.now) moment.now) }
-        ensures command { IfOk result (λ o. o.command ≡ wire.command_of self.old.commands moment.now) }
-        ensures fall { IfOk result (λ o. o.fall ≡ total.fall_after self.old.commands moment.now) }
-        ensures doubtful { IfOk result (λ o. o.doubtful ≡ doubt.doubtful self.old.commands (wire.kept self.old.units)
+        ensures command { IfOk result (λ o. o.command ≡ wire.command_of (sents self.old.commands) moment.now) }
+        ensures fall { IfOk result (λ o. o.fall ≡ total.fall_after (sents self.old.commands) moment.now) }
+        ensures doubtful { IfOk result (λ o. o.doubtful ≡ doubt.doubtful (sents self.old.commands) (wire.kept self.old.units)
             (wire.kept_called self.old.units) moment.now) }
-        ensures after { IfOk result (λ o. o.rule ≡ None → self.new.commands
-            ≡ wire.after self.old.timeout self.old.commands moment.now) }
+        ensures after { IfOk result (λ o. o.rule ≡ None → sents self.new.commands
+            ≡ wire.after self.old.timeout (sents self.old.commands) moment.now) }
         ensures units { IfOk result (λ o. o.rule ≡ None → (via : connections.Connection) (unit : ℕ)
             → wire.kept self.new.units via unit
             ≡ wire.told_after via unit (wire.kept self.old.units via unit) moment.now) }

@@ -3,6 +3,7 @@
 ghost use Rattle.std.specs.Prelude.{◌≡◌, ℕ, ◌++◌, ◌∷◌, [], ◌&&◌, true, OnOk, None};
 ghost use Rattle.mscp_drive.specs.declared.connection.Connection as connections;
 ghost use Rattle.mscp_wire.specs.Course.{counts, has_room};
+ghost use Rattle.mscp_wire.specs.Kept.{sents};
 ghost use Rattle.mscp_wire.specs.Wire as wire;
 
 use crate::answer::Answer;
@@ -16,8 +17,8 @@ use std::alloc::Allocator;
 impl<A: Allocator + Copy> Judge<A> {
     /// A command came at this time: it is outstanding.
     pub fn hear(&mut self, sent: &Sent, time: Option<u64>) -> Result<(), OutOfMemory>
-        ensures after { OnOk result (self.new.commands ≡ self.old.commands
-            ++ wire.asking self.old.timeout self.old.commands (wire.timed time sent.now) ∷ []) }
+        ensures after { OnOk result (sents self.new.commands ≡ sents self.old.commands
+            ++ wire.asking self.old.timeout (sents self.old.commands) (wire.timed time sent.now) ∷ []) }
         ensures units { OnOk result ((via : connections.Connection) (unit : ℕ) → wire.kept self.new.units via unit
             ≡ wire.told_after_message via unit (wire.kept self.old.units via unit) sent.now) }
         ensures called { (identifier : ℕ)
@@ -35,7 +36,7 @@ impl<A: Allocator + Copy> Judge<A> {
     /// Whether a command may be outstanding, too: its number is new, and its host has fewer than any controller gives
     /// credits.
     fn has_place(&self, sent: &Sent) -> bool
-        ensures { result ≡ (wire.is_new self.now.commands sent.now && has_room self.now.commands sent.now) }
+        ensures { result ≡ (wire.is_new (sents self.now.commands) sent.now && has_room (sents self.now.commands) sent.now) }
     {
         !self.commands.has_named(sent.connection, sent.reference)
             && self.commands.count_on(sent.connection) < MOST_CREDITS as usize
@@ -43,7 +44,7 @@ impl<A: Allocator + Copy> Judge<A> {
 
     /// Whether a moment counts as told.
     pub fn counts(&self, moment: &Moment) -> bool
-        ensures { result ≡ counts self.now.commands moment.now }
+        ensures { result ≡ counts (sents self.now.commands) moment.now }
     {
         match moment {
             Moment::Message(connection, message, _) => {
@@ -56,7 +57,7 @@ impl<A: Allocator + Copy> Judge<A> {
 
     /// Nothing is outstanding or known, as the controller was initialised.
     pub fn reset(&mut self)
-        ensures commands { self.new.commands ≡ [] }
+        ensures commands { sents self.new.commands ≡ [] }
         ensures units { (via : connections.Connection) (unit : ℕ) → wire.kept self.new.units via unit ≡ wire.told_reset }
         ensures called { (identifier : ℕ) → wire.kept_called self.new.units identifier ≡ None }
         ensures controller { self.new.controller ≡ None }
@@ -71,8 +72,9 @@ impl<A: Allocator + Copy> Judge<A> {
 
     /// A moment is added to those before it, right or not.
     pub fn accept(&mut self, moment: &Moment) -> Result<(), OutOfMemory>
-        requires { counts self.old.commands moment.now ≡ true }
-        ensures after { OnOk result (self.new.commands ≡ wire.after self.old.timeout self.old.commands moment.now) }
+        requires { counts (sents self.old.commands) moment.now ≡ true }
+        ensures after { OnOk result (sents self.new.commands
+            ≡ wire.after self.old.timeout (sents self.old.commands) moment.now) }
         ensures units { OnOk result ((via : connections.Connection) (unit : ℕ) → wire.kept self.new.units via unit
             ≡ wire.told_after via unit (wire.kept self.old.units via unit) moment.now) }
         ensures called { OnOk result ((identifier : ℕ) → wire.kept_called self.new.units identifier
@@ -88,8 +90,8 @@ impl<A: Allocator + Copy> Judge<A> {
             }
             Moment::End(connection, message) => {
                 let answer = Answer::of(*connection, message.as_slice());
-                let place = self.commands.place_of(&answer);
-                self.ended(&answer, place)
+                let at = self.commands.cell_of(&answer);
+                self.ended(&answer, at)
             }
             Moment::Reset => {
                 self.reset();

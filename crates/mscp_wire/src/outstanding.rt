@@ -5,9 +5,8 @@ ghost use Rattle.mscp_wire.specs.Wire as wire;
 ghost use Rattle.mscp_wire.specs.Kept.{sents};
 
 use crate::answer::{ABORT, Answer, is_it};
-use crate::held::{Held, Sought, has};
+use crate::held::{Sought, has};
 use crate::sent::{Sent, is_ordered, is_sequential};
-use std::alloc::Allocator;
 
 /// Whether a command is an ABORT of another.
 pub fn aborts(command: &Sent, abort: &Sent) -> bool
@@ -19,7 +18,7 @@ pub fn aborts(command: &Sent, abort: &Sent) -> bool
 }
 
 /// Whether a command, after which these came, is aborted only while an ABORT of it is outstanding.
-pub fn has_abort<A: Allocator>(later: &[Box<Held, A>], command: &Sent, answer: &Answer) -> bool
+pub fn has_abort(later: &[Option<Sent>], command: &Sent, answer: &Answer) -> bool
     ensures { result ≡ wire.has_abort (sents later.now) command.now answer.now }
 {
     answer.status_code() != 2 || has(later, &Sought::AbortOf(*command))

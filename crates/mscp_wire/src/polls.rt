@@ -1,13 +1,13 @@
 // What polls ask of commands that are outstanding, and what those hear of them.
 
-ghost use Rattle.std.specs.Prelude.{◌≡◌, ◌+◌, ◌<◌, length, map, set, find};
+ghost use Rattle.std.specs.Prelude.{◌≡◌, ◌<◌, length, map, set, find, option_map};
 ghost use Rattle.std.specs.List.{list_any};
 ghost use Rattle.mscp_wire.specs.Wire as wire;
 ghost use Rattle.mscp_wire.specs.Kept as kept;
 
 use crate::answer::{Answer, STATUS, is_it};
 use crate::commands::Commands;
-use crate::held::{Held, Sought, command_at, command_at_place, has, place_in, put_at};
+use crate::held::{Sought, cell_of, command_if, has};
 use crate::sent::{Asked, Sent, is_immediate};
 use mscp_drive::Connection;
 use std::alloc::Allocator;
@@ -20,11 +20,11 @@ pub fn waits_on(connection: Connection, command: &Sent) -> bool
 }
 
 /// The oldest of those that the host of a connection waits for.
-fn oldest_on<A: Allocator>(commands: &[Box<Held, A>], connection: Connection) -> Option<Sent>
+fn oldest_on(commands: &[Option<Sent>], connection: Connection) -> Option<Sent>
     ensures { result ≡ find (wire.waits_on connection) (kept.sents commands.now) }
 {
-    let place = place_in(commands, &Sought::WaitedFor(connection));
-    command_at_place(commands, place)
+    let at = cell_of(commands, &Sought::WaitedFor(connection));
+    command_if(commands, at)
 }
 
 /// Whether it has this reference number, if it is there.
@@ -38,7 +38,7 @@ fn has_number(command: Option<Sent>, reference: u32) -> bool
 }
 
 /// Whether a command is the oldest that its host waits for.
-fn is_oldest<A: Allocator>(commands: &[Box<Held, A>], command: &Sent) -> bool
+fn is_oldest(commands: &[Option<Sent>], command: &Sent) -> bool
     ensures { result ≡ wire.is_oldest (kept.sents commands.now) command.now }
 {
     !is_immediate(command.opcode)
@@ -59,12 +59,7 @@ fn is_hasty(timeout: Option<u16>, last: Option<u64>, time: Option<u64>) -> bool
 }
 
 /// Whether a poll of a command may ask it for its figure.
-fn may_ask<A: Allocator>(
-    timeout: Option<u16>,
-    commands: &[Box<Held, A>],
-    poll: &Sent,
-    command: &Sent,
-) -> bool
+fn may_ask(timeout: Option<u16>, commands: &[Option<Sent>], poll: &Sent, command: &Sent) -> bool
     ensures { result ≡ wire.may_ask timeout (kept.sents commands.now) poll.now command.now }
 {
     command.unit == poll.unit
@@ -73,9 +68,9 @@ fn may_ask<A: Allocator>(
 }
 
 /// What a poll asks of the command that has the number which it names, if there is one.
-fn asked_about<A: Allocator>(
+fn asked_about(
     timeout: Option<u16>,
-    commands: &[Box<Held, A>],
+    commands: &[Option<Sent>],
     poll: &Sent,
     named: Option<Sent>,
 ) -> Asked
@@ -100,7 +95,7 @@ fn asked_by<A: Allocator + Copy>(
     poll: &Sent,
     named: Option<u32>,
 ) -> Asked
-    ensures { result ≡ wire.asked_by timeout commands.now poll.now named }
+    ensures { result ≡ wire.asked_by timeout (kept.sents commands.now) poll.now named }
 {
     match named {
         Some(other) if other != poll.reference => {
@@ -117,7 +112,7 @@ pub fn asking<A: Allocator + Copy>(
     commands: &Commands<A>,
     command: &Sent,
 ) -> Sent
-    ensures { result ≡ wire.asking timeout commands.now command.now }
+    ensures { result ≡ wire.asking timeout (kept.sents commands.now) command.now }
 {
     let asked = if command.opcode == STATUS {
         asked_by(timeout, commands, command, command.parameter)
@@ -166,12 +161,7 @@ fn asks_gone(asked: Asked) -> bool
 }
 
 /// Whether the figure that an end tells is right, if its command is a poll of this other one. These came after the poll.
-pub fn has_figure<A: Allocator>(
-    later: &[Box<Held, A>],
-    poll: &Sent,
-    answer: &Answer,
-    polled: Option<u32>,
-) -> bool
+pub fn has_figure(later: &[Option<Sent>], poll: &Sent, answer: &Answer, polled: Option<u32>) -> bool
     ensures { result ≡ wire.has_figure (kept.sents later.now) poll.now answer.now polled }
 {
     match polled {
@@ -225,26 +215,26 @@ pub fn leaves(ended: &Sent, other: &Sent) -> Sent
     }
 }
 
-/// The other command at a place, once one ended.
-fn leave_at<A: Allocator>(commands: &mut Vec<Box<Held, A>, A>, at: usize, ended: &Sent)
-    requires { at < length commands.old.items }
-    ensures sents { kept.sents commands.new.items ≡ set (kept.sents commands.old.items) at
-        (kept.leaves ended.now (wire.command_at (kept.sents commands.old.items) at)) }
-    ensures many { length commands.new.items ≡ length commands.old.items }
+/// What stands in a cell, once one ended.
+fn leave_in<A: Allocator>(cells: &mut Vec<Option<Sent>, A>, at: usize, ended: &Sent)
+    requires { at < length cells.old.items }
+    ensures cells { cells.new.items ≡ set cells.old.items at
+        (option_map (kept.leaves ended.now) (kept.cell cells.old.items at)) }
+    ensures many { length cells.new.items ≡ length cells.old.items }
 {
-    if !polls(ended, &commands[at].sent) {
-        return;
+    if let Some(other) = cells[at] {
+        if polls(ended, &other) {
+            cells[at] = Some(leaves(ended, &other));
+        }
     }
-    let other = command_at(commands.as_slice(), at);
-    put_at(commands, at, leaves(ended, &other));
 }
 
-/// All of them, once one ended.
-pub fn leave_all<A: Allocator>(commands: &mut Vec<Box<Held, A>, A>, ended: &Sent)
-    ensures { kept.sents commands.new.items ≡ map (kept.leaves ended.now) (kept.sents commands.old.items) }
+/// What stands in all of them, once one ended.
+pub fn leave_all<A: Allocator>(cells: &mut Vec<Option<Sent>, A>, ended: &Sent)
+    ensures { kept.sents cells.new.items ≡ map (kept.leaves ended.now) (kept.sents cells.old.items) }
 {
-    for at in 0..commands.len() {
-        leave_at(commands, at, ended);
+    for at in 0..cells.len() {
+        leave_in(cells, at, ended);
     }
 }
 
@@ -268,17 +258,34 @@ pub fn tells(
     }
 }
 
-/// The commands, once such a poll told it.
-pub fn tell_all<A: Allocator>(
-    commands: &mut Vec<Box<Held, A>, A>,
+/// What stands in a cell, once such a poll told it.
+fn tell_in<A: Allocator>(
+    cells: &mut Vec<Option<Sent>, A>,
+    at: usize,
     name: (Connection, u32),
     figure: Option<u32>,
     time: Option<u64>,
 )
-    ensures { kept.sents commands.new.items ≡ map (kept.tells name.0 name.1 figure time) (kept.sents commands.old.items) }
+    requires { at < length cells.old.items }
+    ensures cells { cells.new.items ≡ set cells.old.items at
+        (option_map (kept.tells name.0 name.1 figure time) (kept.cell cells.old.items at)) }
+    ensures many { length cells.new.items ≡ length cells.old.items }
 {
-    for at in 0..commands.len() {
-        let command = command_at(commands.as_slice(), at);
-        put_at(commands, at, tells(name, figure, time, &command));
+    if let Some(command) = cells[at] {
+        cells[at] = Some(tells(name, figure, time, &command));
+    }
+}
+
+/// What stands in all of them, once such a poll told it.
+pub fn tell_all<A: Allocator>(
+    cells: &mut Vec<Option<Sent>, A>,
+    name: (Connection, u32),
+    figure: Option<u32>,
+    time: Option<u64>,
+)
+    ensures { kept.sents cells.new.items ≡ map (kept.tells name.0 name.1 figure time) (kept.sents cells.old.items) }
+{
+    for at in 0..cells.len() {
+        tell_in(cells, at, name, figure, time);
     }
 }

@@ -11,7 +11,8 @@ use crate::table::Table;
 use crate::told::{State, Told};
 use mscp_drive::{Connection, OutOfMemory};
 use std::alloc::{AllocError, Allocator};
-use std::collections::BTreeMap;
+use std::collections::HashMap;
+use std::hash::{BuildHasherDefault, FoldHasher};
 
 /// What hosts were told of units.
 #[derive(Drop)]
@@ -20,7 +21,7 @@ pub struct Units<A: Allocator> {
     pub others: Told,
     pub kept: Table<A>,
     /// Which unit was last said to be online and to have an identifier.
-    pub called: BTreeMap<u64, u16, A>,
+    pub called: HashMap<u64, u16, BuildHasherDefault<FoldHasher>, A>,
 }
 
 /// The other connection.
@@ -52,7 +53,7 @@ impl<A: Allocator + Copy> Units<A> {
         Units {
             others: Told::nothing(),
             kept: Table::new(alloc),
-            called: BTreeMap::new(alloc),
+            called: HashMap::new(alloc),
         }
     }
 
@@ -63,7 +64,8 @@ impl<A: Allocator + Copy> Units<A> {
     {
         self.others = Told::reset();
         self.kept.clear();
-        self.called.clear();
+        // A map that is cleared keeps its room, and clears all of that each time.
+        self.called = HashMap::new(*self.kept.rows.allocator());
     }
 
     /// What the host of a connection was told of a unit.

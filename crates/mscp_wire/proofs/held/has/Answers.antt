@@ -2,10 +2,12 @@ use Rattle.std.proofs.Common.{ap, ◌∙◌}
 use Rattle.std.specs.Prelude.{is_some}
 use Rattle.mscp_wire.specs.Kept.{sents}
 use Rattle.mscp_wire.specs.Sought.{is_sought}
+use Rattle.mscp_wire.proofs.Cells.{some_place_if}
 use Rattle.mscp_wire.proofs.Names.{some_place}
 use Rattle.mscp_wire.proofs.held.has.Goals as goal
 
 pub returns : goal.returns
-returns g c =
+returns c =
     c.is_some.ensures
-    ∙ (ap is_some c.place_in.ensures.place ∙ some_place (is_sought c.args.sought.now) (sents c.args.list.now))
+    ∙ (some_place_if c.args.cells.now c.cell_of.result
+    ∙ (ap is_some c.cell_of.ensures.place ∙ some_place (is_sought c.args.sought.now) (sents c.args.cells.now)))

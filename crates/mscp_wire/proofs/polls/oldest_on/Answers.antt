@@ -5,7 +5,7 @@ use Rattle.mscp_wire.proofs.Names.{found_at}
 use Rattle.mscp_wire.proofs.polls.oldest_on.Goals as goal
 
 pub returns : goal.returns
-returns g c =
-    c.command_at_place.ensures
-    ∙ (ap (command_at_place (sents c.args.commands.now)) c.place_in-place.ensures.place
+returns c =
+    c.command_if.ensures
+    ∙ (ap (command_at_place (sents c.args.commands.now)) c.cell_of-at.ensures.place
     ∙ found_at (waits_on c.args.connection) (sents c.args.commands.now))

@@ -1,11 +1,11 @@
 use Rattle.std.proofs.Common.{◌≡◌, ◌++◌, drop, length, map, take}
-use Rattle.mscp_wire.specs.Kept.{sents, tells}
+use Rattle.std.specs.Prelude.{option_map}
+use Rattle.mscp_wire.specs.Kept.{tells}
 use Rattle.mscp_wire.proofs.polls.tell_all.Given as goal
 
 abbrev pub invariant-loop-at : goal.invariant-loop-at
 invariant-loop-at g l = record {
-  many : length l.commands.items ≡ length l.initial.commands.items;
-  sents : sents l.commands.items
-      ≡ map (tells l.name.0 l.name.1 l.figure l.time) (take l.at (sents l.initial.commands.items))
-      ++ drop l.at (sents l.initial.commands.items);
+  many : length l.cells.items ≡ length l.initial.cells.items;
+  cells : l.cells.items ≡ map (option_map (tells l.name.0 l.name.1 l.figure l.time)) (take l.at l.initial.cells.items)
+      ++ drop l.at l.initial.cells.items;
 }

@@ -1,33 +1,31 @@
-use Rattle.std.proofs.Common.{◌<◌, ap, arith, length, sym, ◌∙◌, subst}
+use Rattle.std.proofs.Common.{ap, sym, ◌∙◌, subst}
+use Rattle.std.specs.Prelude.{IsSome}
 use Rattle.std.specs.List.{remove}
-use Rattle.mscp_wire.specs.Kept.{IsKept, sents}
-use Rattle.mscp_wire.specs.declared.held.Held.{Held}
-use Rattle.mscp_wire.proofs.Boxes.{many_sents, sent_at, sents_remove}
+use Rattle.mscp_wire.specs.Kept.{IsKept, cell, place, sents}
+use Rattle.mscp_wire.specs.Wire.{command_at}
+use Rattle.mscp_wire.proofs.Cells.{place_less, sents_remove}
 use Rattle.mscp_wire.proofs.Names.{kept_counted}
 use Rattle.mscp_wire.proofs.commands.Commands.remove.Goals as goal
 
 pub subtract-requires : goal.subtract-requires
 subtract-requires g c =
-    let xs = c.self.inside.list.items in
-    let l : c.args.place < length (sents xs) = subst (λ ys. c.args.place < length ys) (sym c.self.view_is)
-    c.requires in
-    kept_counted (sents xs) c.self.inside.tallies c.args.place c.into_inner.result.sent c.self.invariant l
-    (ap (λ (h : Held). h.sent) c.into_inner.ensures
-    ∙ sent_at xs c.args.place c.remove.result (omega (arith, l, many_sents xs)) c.remove.ensures.value)
+    let xs = c.self.inside.cells.items in
+    let h : IsSome (cell xs c.args.at) = subst (λ ys. IsSome (cell ys c.args.at)) (sym c.self.view_is) c.requires in
+    kept_counted (sents xs) c.self.inside.tallies (place xs c.args.at) c.at-sent.result c.self.invariant
+    (place_less xs c.args.at h)
+    (c.at-sent.ensures ∙ ap (λ ys. command_at (sents ys) (place ys c.args.at)) (sym c.self.view_is))
 
 pub invariant_of-self : goal.invariant_of-self
 invariant_of-self g c =
-    let xs = c.self.inside.list.items in
-    let l : c.args.place < length (sents xs) = subst (λ ys. c.args.place < length ys) (sym c.self.view_is)
-    c.requires in
-    subst (λ ys. IsKept ys c.subtract.new.self)
-    (sym (ap sents c.remove.ensures.items ∙ sents_remove xs c.args.place))
-    (c.subtract.ensures (sents xs) c.args.place l
-    (ap (λ (h : Held). h.sent) c.into_inner.ensures
-    ∙ sent_at xs c.args.place c.remove.result (omega (arith, l, many_sents xs)) c.remove.ensures.value)
+    let xs = c.self.inside.cells.items in
+    let h : IsSome (cell xs c.args.at) = subst (λ ys. IsSome (cell ys c.args.at)) (sym c.self.view_is) c.requires in
+    subst (λ ys. IsKept ys c.subtract.new.self) (sym (sents_remove xs c.args.at h))
+    (c.subtract.ensures (sents xs) (place xs c.args.at) (place_less xs c.args.at h)
+    (c.at-sent.ensures ∙ ap (λ ys. command_at (sents ys) (place ys c.args.at)) (sym c.self.view_is))
     c.self.invariant)
 
 pub returns-clause-others : goal.returns-clause-others
 returns-clause-others g c =
-    ap sents c.remove.ensures.items
-    ∙ (sents_remove c.self.inside.list.items c.args.place ∙ ap (λ ys. remove ys c.args.place) c.self.view_is)
+    let xs = c.self.inside.cells.items in
+    let h : IsSome (cell xs c.args.at) = subst (λ ys. IsSome (cell ys c.args.at)) (sym c.self.view_is) c.requires in
+    sents_remove xs c.args.at h ∙ ap (λ ys. remove (sents ys) (place ys c.args.at)) c.self.view_is

@@ -1,14 +1,15 @@
 use Rattle.std.proofs.Common.{refl, sym, ap, ◌∙◌}
+use Rattle.mscp_wire.specs.Kept.{sents}
 use Rattle.mscp_wire.specs.Wire.{kept, told_after_end}
 use Rattle.mscp_wire.proofs.Hearing.{ended_rule}
 use Rattle.mscp_wire.proofs.judge.Judge.end.Goals as goal
 
 pub returns-in_ok-ended-clause-rule : goal.returns-in_ok-ended-clause-rule
 returns-in_ok-ended-clause-rule g c =
-    ended_rule c.args.bytes.now c.args.self.now.commands _ (kept c.args.self.now.units)
+    ended_rule c.args.bytes.now (sents c.args.self.now.commands) _ (kept c.args.self.now.units)
     c.args.self.now.controller c.args.connection _ _ _ _
     (sym c.is_long.ensures ∙ c.if-not-is_long.false) c.of-answer.ensures c.told.ensures refl
-    c.place_of-place.ensures.place c.broken_answer-rule.ensures
+    c.cell_of-at.ensures.place c.broken_answer-rule.ensures
 
 pub returns-in_ok-ended-clause-units : goal.returns-in_ok-ended-clause-units
 returns-in_ok-ended-clause-units g c = λ none via unit.
@@ -17,7 +18,7 @@ returns-in_ok-ended-clause-units g c = λ none via unit.
 
 pub returns-else-is_none-clause-rule : goal.returns-else-is_none-clause-rule
 returns-else-is_none-clause-rule g c =
-    ended_rule c.args.bytes.now c.args.self.now.commands _ (kept c.args.self.now.units)
+    ended_rule c.args.bytes.now (sents c.args.self.now.commands) _ (kept c.args.self.now.units)
     c.args.self.now.controller c.args.connection _ _ _ _
     (sym c.is_long.ensures ∙ c.if-not-is_long.false) c.of-answer.ensures c.told.ensures refl
-    c.place_of-place.ensures.place c.broken_answer-rule.ensures
+    c.cell_of-at.ensures.place c.broken_answer-rule.ensures

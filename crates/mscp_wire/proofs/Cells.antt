@@ -1,0 +1,209 @@
+-- Where commands stand: those in cells are a list, in which each has its place.
+use Rattle.std.proofs.Common.{◌≡◌, ℕ, zero, suc, ◌+◌, ◌<◌, ◌≤◌, Bool, true, false, cond, ◌||◌, List, [], ◌∷◌, ◌++◌, length, set, take, drop, map, take_all, refl, ap, sym, ◌∙◌, arith, Option, Some, None}
+use Rattle.std.specs.Prelude.{IsSome, count_by, is_some, option_map}
+use Rattle.std.proofs.lemmas.Bool.{or_parts}
+use Rattle.std.specs.List.{filter, list_any, position, remove}
+use Rattle.std.proofs.lemmas.List.{get_or_default, set-get_or}
+use Rattle.std.proofs.lemmas.List.Edits.{map_over_more}
+use Rattle.std.proofs.lemmas.List.Sums.{sum_by-cons}
+use Rattle.mscp_drive.specs.declared.connection.Connection.{Connection}
+use Rattle.mscp_drive.specs.declared.connection.Connection.TheVariants.{First, Second}
+use Rattle.mscp_wire.specs.Kept.{IsKept, cell, is_on, place, place_if, sents, stands}
+use Rattle.mscp_wire.specs.Messages.{same_connection}
+use Rattle.mscp_wire.specs.Wire.{command_at}
+use Rattle.mscp_wire.proofs.Names.{place_at}
+use Rattle.mscp_wire.specs.declared.sent.Sent.{Sent}
+use Rattle.mscp_wire.specs.declared.tallies.Tallies.{Tallies}
+
+-- nothing stands in an empty cell
+pub empty : (P : Type 0) → false ≡ true → P
+empty P h = absurd (omega (arith, ap {B = ℕ} (λ b. cond b 1 0) h))
+
+pub sents_take : (i : ℕ) (xs : List (Option Sent)) → sents (take i xs) ≡ take (place xs i) (sents xs)
+sents_take zero xs = refl
+sents_take (suc i) [] = refl
+sents_take (suc i) (None ∷ xs) = sents_take i xs
+sents_take (suc i) (Some x ∷ xs) = ap (λ l. x ∷ l) (sents_take i xs)
+
+pub sents_drop : (i : ℕ) (xs : List (Option Sent)) → sents (drop i xs) ≡ drop (place xs i) (sents xs)
+sents_drop zero xs = refl
+sents_drop (suc i) [] = refl
+sents_drop (suc i) (None ∷ xs) = sents_drop i xs
+sents_drop (suc i) (Some x ∷ xs) = sents_drop i xs
+
+one_more : (i : ℕ) → i + 1 ≡ suc i
+one_more i = omega arith
+
+-- the place behind that of a command
+next : (xs : List (Option Sent)) (i : ℕ) → IsSome (cell xs i) → place xs (suc i) ≡ suc (place xs i)
+next [] i h = empty _ h
+next (None ∷ xs) zero h = empty _ h
+next (Some x ∷ xs) zero h = refl
+next (None ∷ xs) (suc i) h = next xs i h
+next (Some x ∷ xs) (suc i) h = ap (λ n. suc n) (next xs i h)
+
+pub next_place : (xs : List (Option Sent)) (i : ℕ) → IsSome (cell xs i) → place xs (i + 1) ≡ place xs i + 1
+next_place xs i h = ap (place xs) (one_more i) ∙ (next xs i h ∙ sym (one_more (place xs i)))
+
+-- one cell more
+none_first : (xs : List Sent) → xs ≡ xs ++ []
+none_first [] = refl
+none_first (x ∷ xs) = ap (λ l. x ∷ l) (none_first xs)
+
+further : (xs : List (Option Sent)) (i : ℕ) → sents (take (suc i) xs) ≡ sents (take i xs) ++ sents (cell xs i ∷ [])
+further [] zero = refl
+further [] (suc i) = refl
+further (x ∷ xs) zero = refl
+further (None ∷ xs) (suc i) = further xs i
+further (Some x ∷ xs) (suc i) = ap (λ l. x ∷ l) (further xs i)
+
+pub one_taken : (xs : List (Option Sent)) (i : ℕ)
+    → sents (take (i + 1) xs) ≡ sents (take i xs) ++ sents (cell xs i ∷ [])
+one_taken xs i = ap (λ n. sents (take n xs)) (one_more i) ∙ further xs i
+
+-- an empty one at the end
+pub none_taken : (xs : List (Option Sent)) (i : ℕ) → i + 1 ≡ length xs → cell xs i ≡ None
+    → sents (take i xs) ≡ sents xs
+none_taken xs i l h =
+    none_first (sents (take i xs))
+    ∙ ap (λ c. sents (take i xs) ++ sents (c ∷ [])) (sym h)
+    ∙ sym (one_taken xs i)
+    ∙ ap sents (take_all (i + 1) xs (omega (arith, l)))
+
+pub place_less : (xs : List (Option Sent)) (i : ℕ) → IsSome (cell xs i) → place xs i < length (sents xs)
+place_less [] i h = empty _ h
+place_less (None ∷ xs) zero h = empty _ h
+place_less (Some x ∷ xs) zero h = omega arith
+place_less (None ∷ xs) (suc i) h = place_less xs i h
+place_less (Some x ∷ xs) (suc i) h = omega (arith, place_less xs i h)
+
+pub cell_less : (xs : List (Option Sent)) (i : ℕ) → IsSome (cell xs i) → i < length xs
+cell_less [] i h = empty _ h
+cell_less (x ∷ xs) zero h = omega arith
+cell_less (x ∷ xs) (suc i) h = omega (arith, cell_less xs i h)
+
+pub cell_is : (xs : List (Option Sent)) (i : ℕ) → IsSome (cell xs i)
+    → cell xs i ≡ Some (command_at (sents xs) (place xs i))
+cell_is [] i h = empty _ h
+cell_is (None ∷ xs) zero h = empty _ h
+cell_is (Some x ∷ xs) zero h = refl
+cell_is (None ∷ xs) (suc i) h = cell_is xs i h
+cell_is (Some x ∷ xs) (suc i) h = cell_is xs i h
+
+-- the command in a cell
+abbrev from : Sent → Option Sent → Sent
+from x None = x
+from x (Some s) = s
+
+pub command_of : (xs : List (Option Sent)) (i : ℕ) (s : Sent) → cell xs i ≡ Some s
+    → s ≡ command_at (sents xs) (place xs i)
+command_of xs i s h =
+    ap (from s) (sym h ∙ cell_is xs i (ap is_some h))
+
+pub sents_put : (xs : List (Option Sent)) (i : ℕ) (s : Sent) → IsSome (cell xs i)
+    → sents (set xs i (Some s)) ≡ set (sents xs) (place xs i) s
+sents_put [] i s h = empty _ h
+sents_put (None ∷ xs) zero s h = empty _ h
+sents_put (Some x ∷ xs) zero s h = refl
+sents_put (None ∷ xs) (suc i) s h = sents_put xs i s h
+sents_put (Some x ∷ xs) (suc i) s h = ap (λ l. x ∷ l) (sents_put xs i s h)
+
+pub sents_remove : (xs : List (Option Sent)) (i : ℕ) → IsSome (cell xs i)
+    → sents (set xs i None) ≡ remove (sents xs) (place xs i)
+sents_remove [] i h = empty _ h
+sents_remove (None ∷ xs) zero h = empty _ h
+sents_remove (Some x ∷ xs) zero h = refl
+sents_remove (None ∷ xs) (suc i) h = sents_remove xs i h
+sents_remove (Some x ∷ xs) (suc i) h = ap (λ l. x ∷ l) (sents_remove xs i h)
+
+pub sents_map : (f : Sent → Sent) (xs : List (Option Sent)) → sents (map (option_map f) xs) ≡ map f (sents xs)
+sents_map f [] = refl
+sents_map f (None ∷ xs) = sents_map f xs
+sents_map f (Some x ∷ xs) = ap (λ l. f x ∷ l) (sents_map f xs)
+
+pub sents_filter : (xs : List (Option Sent)) → sents (filter is_some xs) ≡ sents xs
+sents_filter [] = refl
+sents_filter (None ∷ xs) = sents_filter xs
+sents_filter (Some x ∷ xs) = ap (λ l. x ∷ l) (sents_filter xs)
+
+pub few_sents : (xs : List (Option Sent)) → length (sents xs) ≤ length xs
+few_sents [] = omega arith
+few_sents (None ∷ xs) = omega (arith, few_sents xs)
+few_sents (Some x ∷ xs) = omega (arith, few_sents xs)
+
+-- ---- which is sought
+-- none before a cell is, and none there
+none_further : (p : Sent → Bool) (xs : List (Option Sent)) (i : ℕ) → list_any p (sents (take i xs)) ≡ false
+    → stands p (cell xs i) ≡ false → list_any p (sents (take (suc i) xs)) ≡ false
+none_further p [] i h k = refl
+none_further p (None ∷ xs) zero h k = refl
+none_further p (Some x ∷ xs) zero h k = ap (λ b. b || false) k
+none_further p (None ∷ xs) (suc i) h k = none_further p xs i h k
+none_further p (Some x ∷ xs) (suc i) h k =
+    let parts = or_parts (p x) (list_any p (sents (take i xs))) h in
+    ap (λ b. b || list_any p (sents (take (suc i) xs))) parts.0 ∙ none_further p xs i parts.1 k
+
+pub none_more : (p : Sent → Bool) (xs : List (Option Sent)) (i : ℕ) → list_any p (sents (take i xs)) ≡ false
+    → stands p (cell xs i) ≡ false → list_any p (sents (take (i + 1) xs)) ≡ false
+none_more p xs i h k = ap (λ n. list_any p (sents (take n xs))) (one_more i) ∙ none_further p xs i h k
+
+-- the one in a cell is
+pub is_full : (p : Sent → Bool) (c : Option Sent) → stands p c ≡ true → IsSome c
+is_full p None h = h
+is_full p (Some s) h = refl
+
+pub stands_at : (p : Sent → Bool) (xs : List (Option Sent)) (i : ℕ) → stands p (cell xs i) ≡ true
+    → p (command_at (sents xs) (place xs i)) ≡ true
+stands_at p xs i h = sym (ap (stands p) (cell_is xs i (is_full p (cell xs i) h))) ∙ h
+
+-- and it is the first
+pub first_in : (p : Sent → Bool) (xs : List (Option Sent)) (i : ℕ) → list_any p (sents (take i xs)) ≡ false
+    → stands p (cell xs i) ≡ true → Some (place xs i) ≡ position p (sents xs)
+first_in p xs i h k =
+    sym (place_at p (sents xs) (place xs i) (place_less xs i (is_full p (cell xs i) k))
+    (ap (list_any p) (sym (sents_take i xs)) ∙ h) (stands_at p xs i k))
+
+-- a cell is there if its place is
+pub some_place_if : (xs : List (Option Sent)) (at : Option ℕ) → is_some at ≡ is_some (place_if xs at)
+some_place_if xs None = refl
+some_place_if xs (Some at) = refl
+
+-- what stands in a cell stays
+pub same_in : (f : Option Sent → Option Sent) (xs : List (Option Sent)) (i : ℕ) → f (cell xs i) ≡ cell xs i
+    → xs ≡ set xs i (f (cell xs i))
+same_in f xs i h = sym (ap (set xs i) h ∙ set-get_or xs i None)
+
+-- or changes, after what stands in those before it
+pub over_more : (f : Option Sent → Option Sent) (xs ys zs : List (Option Sent)) (i : ℕ) → i < length xs
+    → length ys ≡ length xs → ys ≡ map f (take i xs) ++ drop i xs → zs ≡ set ys i (f (cell ys i))
+    → zs ≡ map f (take (i + 1) xs) ++ drop (i + 1) xs
+over_more f xs ys zs i l same h put =
+    put ∙ map_over_more f xs ys i (cell ys i) l h (get_or_default ys i None (cell ys i) (omega (arith, l, same)))
+
+pub over_all : (f : Option Sent → Option Sent) (xs : List (Option Sent)) (n : ℕ) → length xs ≤ n
+    → map f (take n xs) ++ drop n xs ≡ map f xs
+over_all f [] zero l = refl
+over_all f [] (suc n) l = refl
+over_all f (x ∷ xs) zero l = absurd (omega (arith, l))
+over_all f (x ∷ xs) (suc n) l = ap (λ ys. f x ∷ ys) (over_all f xs n (omega (arith, l)))
+
+-- each command is of one connection
+pub both_counted : (xs : List Sent) → count_by (is_on First) xs + count_by (is_on Second) xs ≡ length xs
+both_counted [] = refl
+both_counted (x ∷ xs) =
+    omega (
+      arith,
+      sum_by-cons (λ s. cond (is_on First s) 1 0) x xs,
+      sum_by-cons (λ s. cond (is_on Second s) 1 0) x xs,
+      both_counted xs,
+      one x.connection,
+    )
+  where
+    one : (via : Connection) → cond (same_connection via First) 1 0 + cond (same_connection via Second) 1 0 ≡ 1
+    one First = refl
+    one Second = refl
+
+-- so the numbers of both are small
+pub both_few : {A : Type 0} (xs : List (Option Sent)) (kinds : Tallies A) → IsKept (sents xs) kinds
+    → (kinds.first + kinds.second ≡ length (sents xs)) × (length (sents xs) ≤ length xs)
+both_few xs kinds k = (omega (arith, k.first, k.second, both_counted (sents xs)), few_sents xs)

@@ -1,0 +1,26 @@
+use Rattle.std.proofs.Common.{◌≡◌, ap, arith, sym, true, ◌∙◌}
+use Rattle.std.specs.Prelude.{None}
+use Rattle.std.proofs.lemmas.List.{get_or_default}
+use Rattle.mscp_wire.specs.Kept.{cell, stands}
+use Rattle.mscp_wire.specs.Sought.{is_sought}
+use Rattle.mscp_wire.proofs.Cells.{is_full, stands_at}
+use Rattle.mscp_wire.proofs.commands.Commands.guessed.Goals as goal
+
+abbrev stands_there : (g : _) (c : goal.Then-stands g)
+    → stands (is_sought c.args.sought.now) (cell c.args.self.now c.in_ok-at.field-0) ≡ true
+stands_there g c =
+    let at = c.in_ok-at.field-0 in
+    let p = is_sought c.args.sought.now in
+    sym (ap (stands p) (c.index.ensures
+    ∙ get_or_default c.self.inside.cells.items at c.index.result.now None
+    (omega (arith, c.if-at-len.true, c.len.ensures))
+    ∙ ap (λ xs. cell xs at) c.self.view_is))
+    ∙ (sym c.stands.ensures ∙ c.if-stands.true)
+
+pub returns-then-stands-clause-there : goal.returns-then-stands-clause-there
+returns-then-stands-clause-there g c =
+    is_full (is_sought c.args.sought.now) (cell c.args.self.now c.in_ok-at.field-0) (stands_there g c)
+
+pub returns-then-stands-clause-sought : goal.returns-then-stands-clause-sought
+returns-then-stands-clause-sought g c =
+    stands_at (is_sought c.args.sought.now) c.args.self.now c.in_ok-at.field-0 (stands_there g c)

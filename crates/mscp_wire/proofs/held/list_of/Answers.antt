@@ -1,0 +1,12 @@
+use Rattle.std.proofs.Common.{ap, sym, take, [], ◌∷◌, ◌++◌, ◌∙◌}
+use Rattle.mscp_wire.specs.Kept.{sents}
+use Rattle.mscp_wire.proofs.Cells.{one_taken}
+use Rattle.mscp_wire.proofs.held.list_of.Goals as goal
+
+pub loop-at-preserved : goal.loop-at-preserved
+loop-at-preserved g c =
+    let xs = c.args.cells.now in
+    c.in_ok-push_if.ensures
+    ∙ ap (λ ys. ys ++ sents (c.command_in.result ∷ [])) c.loop-at.invariant
+    ∙ ap (λ o. sents (take c.loop-at.at xs) ++ sents (o ∷ [])) c.command_in.ensures
+    ∙ sym (one_taken xs c.loop-at.at)

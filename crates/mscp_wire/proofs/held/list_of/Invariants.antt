@@ -1,0 +1,6 @@
+use Rattle.std.proofs.Common.{◌≡◌, take}
+use Rattle.mscp_wire.specs.Kept.{sents}
+use Rattle.mscp_wire.proofs.held.list_of.Given as goal
+
+abbrev pub invariant-loop-at : goal.invariant-loop-at
+invariant-loop-at g l = l.list.items ≡ sents (take l.at l.fn.cells)
