@@ -65,3 +65,6 @@ pub mod Holding
 pub mod Growing
 pub mod Passing
 pub mod Passed
+pub mod Turning
+pub mod Turns
+pub mod Serving

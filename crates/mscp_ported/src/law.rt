@@ -1,6 +1,7 @@
 // What is true of every port, for its host.
 
 ghost use Rattle.mscp_ported.specs.Answers.{PortsAnswerAsTheyMay, PortsHandOverTheRest};
+ghost use Rattle.mscp_ported.specs.Asking.{PortsServeWhoAsksForBlocks};
 ghost use Rattle.mscp_ported.specs.Awaited.{PortsEndWhatTheyTook};
 ghost use Rattle.mscp_ported.specs.Ends.{PortsSayWhatWasDecided};
 ghost use Rattle.mscp_ported.specs.Figures.{PortsLowerFigures};
@@ -239,4 +240,14 @@ pub fn ports_pass_ends_on<K: Picker>(picker: &K)
     ensures { PortsPassEndsOn K.picks picker.now }
 {
     controllers_keep_the_promise(picker);
+}
+
+/// Whoever calls a port that was made over a controller, and asks for blocks each time that it asks what is wanted: between any two
+/// polls about one command, as the controller took them, a step was told, or the command waits no more. It may tell of actions as
+/// late as it likes, or never: then no second poll is taken. Whoever asks for messages alone while it is at a block may take two
+/// polls before it tells of that block.
+pub fn ports_serve_who_asks_for_blocks<K: Picker>(picker: &K)
+    ensures { PortsServeWhoAsksForBlocks K.picks }
+{
+    let _ = picker;
 }
