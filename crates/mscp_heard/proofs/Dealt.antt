@@ -7,7 +7,8 @@ use Rattle.mscp_drive.specs.declared.connection.Connection.TheVariants.{First}
 use Rattle.mscp_heard.proofs.Joined.{IsNext, next_of}
 use Rattle.mscp_heard.proofs.Moving.{drop_at, drop_beside}
 use Rattle.mscp_heard.proofs.Notes.{Noted, copy_answered, copy_taken, noted_end, noted_news}
-use Rattle.mscp_heard.proofs.Owing.{begun_one, moves_opcode, one_more, own_number, small_number}
+use Rattle.mscp_heard.proofs.Owing.{begun_one, moves_opcode, one_more, own_number}
+use Rattle.mscp_ported.proofs.Ended.{bytes_small}
 use Rattle.mscp_heard.specs.Deeds.{AreJoined, Called, Deed, Did, IsCopyOf, IsNextText, IsTextOf, ReadsInOrder, calls_in, did, sent}
 use Rattle.mscp_host.specs.PortAccounts.{PortAccount}
 use Rattle.mscp_host.specs.PortLaw.{PortHostsKeepTheirHistory}
@@ -264,7 +265,7 @@ module _ {K : Type 0} (picks : Picking K) (c : Settings) (picker : K) (ends : Po
         bytes,
         x.message,
         x.is,
-        ap (λ b. num b 0 4) own.2 ∙ own_number bytes own.0 (small_number bytes small.0),
+        ap (λ b. num b 0 4) own.2 ∙ own_number bytes own.0 (bytes_small bytes small.0),
         code ∙ coded.0,
         (λ e. coded.1 (sym code ∙ e)),
         said_more (WasRead bytes (Ok done)) a heard d.out d.nothing d.begun,

@@ -68,3 +68,4 @@ pub mod Passed
 pub mod Turning
 pub mod Turns
 pub mod Serving
+pub mod Itself

@@ -20,6 +20,7 @@ use Rattle.mscp_ported.proofs.ByOpcode.{fitting}
 use Rattle.mscp_ported.proofs.Coming.{ends_of}
 use Rattle.mscp_ported.proofs.Ended.{bytes_small, deals, kept, shaped}
 use Rattle.mscp_ported.proofs.Holding.{promised, some_figure}
+use Rattle.mscp_ported.proofs.Itself.{own_number}
 use Rattle.mscp_ported.proofs.Growing.{Grown, begun_one, grown_none, grown_passes, pending_these, silent}
 use Rattle.mscp_ported.proofs.Passing.{Comes, next_passes, read_comes, went_grown}
 use Rattle.mscp_ported.proofs.Staying.{IsPassive, passive_stays}
@@ -135,9 +136,6 @@ module _ {K : Type 0} (picks : Picking K) (c : Settings) (picker : K)
             poll = λ b u e t. absurd (search (arith, sym none ∙ t.0));
           }
         where
-          own_number : (b : List ℕ) (own : Own) → num b 0 4 < 2 ^ 32 → num (own_text b own) 0 4 ≡ num b 0 4
-          own_number b own small = four (num b 0 4) small
-
           own_these : (kind : OutgoingKind) (text : List ℕ) → accepted_by (WasRead bytes (Ok done)) a.0 ≡ bytes ∷ []
               → num text 0 4 ≡ num bytes 0 4
               → AllByRecursion (λ (e : Pending). ((text : List ℕ)
