@@ -1,0 +1,55 @@
+-- Which rules of the wire are kept by all that a port's log shows.
+use Rattle.std.specs.Prelude.{◌≡◌, ◌≢◌, ◌<◌, ℕ, Bool, true, false, [], List, length, take, Option, Some}
+use Rattle.mscp_drive.specs.Settings.{IsValid, Settings}
+use Rattle.mscp_drive.specs.declared.connection.Connection.TheVariants.{First}
+use Rattle.mscp_controller.specs.Calls.{AnsweredCalls, Call as Made}
+use Rattle.mscp_controller.specs.Holdings.{Holdings, fresh, outstanding_of}
+use Rattle.mscp_port.specs.declared.hardware.Hardware.{Hardware}
+use Rattle.mscp_port.specs.declared.port.Port.{Port}
+use Rattle.mscp_port.specs.Calls.{IsMadeOf}
+use Rattle.mscp_port.specs.Histories.{Answered, Call, Picking}
+use Rattle.mscp_ported.specs.Awaited.{ReadsBytes}
+use Rattle.mscp_ported.specs.Talk.{AsksAlways}
+use Rattle.mscp_wire.specs.Wire.{History, IsRight, broken_by, moment_at}
+use Rattle.mscp_wire.specs.declared.moment.Moment.{Moment}
+use Rattle.mscp_wire.specs.declared.moment.Moment.TheVariants as moments
+use Rattle.mscp_wire.specs.declared.rule.Rule.{Rule}
+use Rattle.mscp_wire.specs.declared.rule.Rule.TheVariants as rules
+use Rattle.mscp_logged.specs.Logged.{logged}
+
+-- no moment of a history breaks this rule
+abbrev pub Keeps : Rule → Option ℕ → History → Type 0
+Keeps rule credits h = (i : ℕ) → i < length h → broken_by credits (take i h) (moment_at h i) ≢ Some rule
+
+-- the host keeps its rules: each message of a history is right
+abbrev pub is_message : Moment → Bool
+is_message (moments.Message via b time) = true
+is_message m = false
+
+abbrev pub HostIsRight : Option ℕ → History → Type 0
+HostIsRight credits h =
+    (i : ℕ) → i < length h → is_message (moment_at h i) ≡ true → IsRight credits (take i h) (moment_at h i)
+
+-- ---- the laws
+
+-- the law of length: a port was made over a controller, which had answered some calls before and has nothing of its
+-- host's; it is told of actions only after they were wanted, and what it reads are bytes. Then each end of its log is
+-- as long as its endcode asks
+abbrev pub PortsSendLongEnds : {K : Type 0} → Picking K → K → Type 0
+PortsSendLongEnds {K} picks picker =
+    (c : Settings) (before : List Made) (controller : Holdings K) (hardware : Hardware) (credits : ℕ)
+    (start p : Port K) (calls : List Call) (limit : Option ℕ) → IsValid c
+    → AnsweredCalls (picks picker) (fresh c picker) before controller → outstanding_of First controller ≡ []
+    → IsMadeOf hardware credits controller start → AsksAlways calls → ReadsBytes calls
+    → (a : Answered picks start calls p) → Keeps rules.Length limit (logged picks start p calls a)
+
+-- the law of answers: of such a port, whose host's messages are right: each end of its log answers a command that is
+-- outstanding
+abbrev pub PortsAnswerWhatIsOutstanding : {K : Type 0} → Picking K → K → Type 0
+PortsAnswerWhatIsOutstanding {K} picks picker =
+    (c : Settings) (before : List Made) (controller : Holdings K) (hardware : Hardware) (credits : ℕ)
+    (start p : Port K) (calls : List Call) (limit : Option ℕ) → IsValid c
+    → AnsweredCalls (picks picker) (fresh c picker) before controller → outstanding_of First controller ≡ []
+    → IsMadeOf hardware credits controller start → AsksAlways calls → ReadsBytes calls
+    → (a : Answered picks start calls p) → HostIsRight limit (logged picks start p calls a)
+    → Keeps rules.Outstanding limit (logged picks start p calls a)

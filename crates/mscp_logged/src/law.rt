@@ -1,0 +1,25 @@
+// What is true of all that a port's log shows.
+
+ghost use Rattle.mscp_logged.specs.Rules.{PortsAnswerWhatIsOutstanding, PortsSendLongEnds};
+
+use mscp_ported::{ports_end_what_they_took, ports_tell_in_order};
+use mscp_queue::Picker;
+
+/// A port was made over a controller that had nothing of its host's. Whoever calls the port tells of actions only after they were
+/// wanted, and what it reads are bytes. Then each end of the disk's that goes over the wire is as long as its endcode asks:
+/// none breaks the rule `Length` of `mscp_wire`.
+pub fn ports_send_long_ends<K: Picker>(picker: &K)
+    ensures { PortsSendLongEnds K.picks picker.now }
+{
+    ports_end_what_they_took(picker);
+    ports_tell_in_order(picker);
+}
+
+/// Of such a port: while its host's messages are right, each end answers a command that is outstanding: none breaks the rule
+/// `Outstanding`.
+pub fn ports_answer_what_is_outstanding<K: Picker>(picker: &K)
+    ensures { PortsAnswerWhatIsOutstanding K.picks picker.now }
+{
+    ports_end_what_they_took(picker);
+    ports_tell_in_order(picker);
+}
