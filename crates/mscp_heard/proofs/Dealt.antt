@@ -7,6 +7,7 @@ use Rattle.mscp_drive.specs.declared.connection.Connection.TheVariants.{First}
 use Rattle.mscp_heard.proofs.Joined.{IsNext, next_of}
 use Rattle.mscp_heard.proofs.Moving.{drop_at, drop_beside}
 use Rattle.mscp_heard.proofs.Notes.{Noted, copy_answered, copy_taken, noted_end, noted_news}
+use Rattle.mscp_ported.proofs.Itself.{own_coded}
 use Rattle.mscp_heard.proofs.Owing.{begun_one, moves_opcode, one_more, own_number}
 use Rattle.mscp_ported.proofs.Ended.{bytes_small}
 use Rattle.mscp_heard.specs.Deeds.{AreJoined, Called, Deed, Did, IsCopyOf, IsNextText, IsTextOf, ReadsInOrder, calls_in, did, sent}
@@ -31,64 +32,6 @@ use Rattle.std.proofs.Common.{ℕ, All, Bool, List, None, Option, Some, [], ap, 
 use Rattle.std.proofs.lemmas.List.{append-nil}
 use Rattle.std.proofs.lemmas.Option.{none-some, same_Some}
 use Rattle.std.specs.Prelude.{Ok, is_none, nat_le, option_map, slice_get, slice_index}
-
--- what a port answers itself has the code of the message's opcode, or of an unknown one, and is no answer to a poll
-own_coded : (v : Option Volume) (b : List ℕ) (own : Own) → own_answer false v b ≡ Some own
-    → (own.code ≡ slice_index b 8 + 0x80) × (own.code ≢ 0x82)
-own_coded v b own h = by (is_none v && asks_nothing (slice_index b 8)) refl h
-  where
-    not_formal : (opcode : ℕ) → asks_nothing opcode ≡ true → opcode + 0x80 ≢ 0x82
-    not_formal opcode is e = grind (arith, is, e)
-
-    not_moved : (opcode : ℕ) (c : Bool) → (moves_opcode opcode && c) ≡ true → opcode + 0x80 ≢ 0x82
-    not_moved opcode c is e = grind (arith, is, e)
-
-    got : (o : Option ℕ) → moves_data b ≡ true → option_map (λ status. record {
-      code = slice_index b 8 + 0x80;
-      status = status;
-      tells_bytes = true;
-    }) o ≡ Some own → (own.code ≡ slice_index b 8 + 0x80) × (own.code ≢ 0x82)
-    got None moves h = absurd (none-some own h)
-    got (Some status) moves h =
-        let same = same_Some (record { code = slice_index b 8 + 0x80; status = status; tells_bytes = true }) own h in
-        let code : own.code ≡ slice_index b 8 + 0x80 = ap (λ (x : Own). x.code) (sym same) in
-        (code, λ e. not_moved (slice_index b 8) (nat_le 32 (length b)) moves (sym code ∙ e))
-
-    refused : (o : Option Volume) → option_map (λ status. record {
-      code = slice_index b 8 + 0x80;
-      status = status;
-      tells_bytes = true;
-    }) (own_refusal b o) ≡ Some own → (own.code ≡ slice_index b 8 + 0x80) × (own.code ≢ 0x82)
-    refused None h = absurd (none-some own h)
-    refused (Some x) h = cases x.is_there (moves_data b) refl h
-      where
-        cases : (there moves : Bool) → moves_data b ≡ moves → option_map (λ status. record {
-          code = slice_index b 8 + 0x80;
-          status = status;
-          tells_bytes = true;
-        }) (cond (there && moves) (past_end x.size (num b 28 4) (num b 12 4)) None) ≡ Some own
-            → (own.code ≡ slice_index b 8 + 0x80) × (own.code ≢ 0x82)
-        cases true true is h = got (past_end x.size (num b 28 4) (num b 12 4)) is h
-        cases true false is h = absurd (none-some own h)
-        cases false m is h = absurd (none-some own h)
-
-    by : (c : Bool) → (is_none v && asks_nothing (slice_index b 8)) ≡ c → cond c (Some (record {
-      code = slice_index b 8 + 0x80;
-      status = 0;
-      tells_bytes = false;
-    })) (option_map (λ status. record {
-      code = slice_index b 8 + 0x80;
-      status = status;
-      tells_bytes = true;
-    }) (own_refusal b v)) ≡ Some own → (own.code ≡ slice_index b 8 + 0x80) × (own.code ≢ 0x82)
-    by true is h =
-        let same = same_Some (record { code = slice_index b 8 + 0x80; status = 0; tells_bytes = false }) own h in
-        let code : own.code ≡ slice_index b 8 + 0x80 = ap (λ (x : Own). x.code) (sym same) in (
-          code,
-          λ e. not_formal (slice_index b 8) (and_parts (is_none v) (asks_nothing (slice_index b 8)) is).1
-              (sym code ∙ e),
-        )
-    by false is h = refused v h
 
 -- what was said and not heard, what is awaited, and what was sent and not read, before a call and behind it: nothing
 -- changes, or news are said, or a message's end, or the next message is taken, or answered

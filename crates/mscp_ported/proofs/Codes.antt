@@ -56,7 +56,7 @@ parameters_coded (codes.Move kind) b = refl
 
 order_coded : (o : Option Opcode) (b : List ℕ) → opcode_of (slice_index b 8) ≡ o
     → IsCodeFor (endcode (order_with o b)) b
-order_coded None b e = inl refl
+order_coded None b e = inl (refl, e)
 order_coded (Some o) b e = by (nat_lt (length b) (least o))
   where
     at : (row_of o).byte ≡ slice_index b 8
@@ -92,8 +92,8 @@ handed_coded units b long plain =
   where
     by : (c : Bool) → IsCodeFor (endcode (command_of (cond c
         (take 4 b ++ little_bytes 2 (next_unit units (num b 4 2)) ++ drop 6 b) b)).order) b
-    by true = subst (λ x. (endcode (command_of (take 4 b ++ little_bytes 2 (next_unit units (num b 4 2))
-        ++ drop 6 b)).order ≡ 0x80) ⊎ (endcode (command_of (take 4 b ++ little_bytes 2 (next_unit units (num b 4 2))
+    by true = subst (λ x. ((endcode (command_of (take 4 b ++ little_bytes 2 (next_unit units (num b 4 2))
+        ++ drop 6 b)).order ≡ 0x80) × (opcode_of x ≡ None)) ⊎ (endcode (command_of (take 4 b ++ little_bytes 2 (next_unit units (num b 4 2))
         ++ drop 6 b)).order ≡ x + 0x80)) (named_byte b (next_unit units (num b 4 2)) long)
         (command_coded (take 4 b ++ little_bytes 2 (next_unit units (num b 4 2)) ++ drop 6 b))
     by false = command_coded b

@@ -1,7 +1,8 @@
 -- An end fits the message whose end it is: by its endcode, and that of a poll by the command that it is about (manual,
 -- "End Messages", "GET COMMAND STATUS").
-use Rattle.std.specs.Prelude.{◌≡◌, ◌⊎◌, ◌+◌, ◌<◌, ◌≤◌, ◌∷◌, [], ℕ, All, List, filter, length, slice_index}
+use Rattle.std.specs.Prelude.{◌≡◌, ◌⊎◌, ◌+◌, ◌<◌, ◌≤◌, ◌∷◌, [], ℕ, All, List, filter, length, slice_index, None}
 use Rattle.mscp_packet.specs.Number.{num}
+use Rattle.mscp_packet.specs.Opcodes.{opcode_of}
 use Rattle.mscp_drive.specs.Settings.{IsValid, Settings}
 use Rattle.mscp_drive.specs.declared.connection.Connection.TheVariants.{First}
 use Rattle.mscp_controller.specs.Calls.{AnsweredCalls, Call as Made}
@@ -13,9 +14,10 @@ use Rattle.mscp_port.specs.Histories.{Answered, Call, Picking}
 use Rattle.mscp_ported.specs.Awaited.{ReadsBytes, awaited, has_number}
 use Rattle.mscp_ported.specs.Ends.{ends_said_by}
 
--- an endcode is that of a message's opcode byte, or that of an unknown opcode
+-- an endcode is that of a message's opcode byte; or that of an unknown opcode, where no opcode has that byte
 abbrev pub IsCodeFor : ℕ → List ℕ → Type 0
-IsCodeFor code message = (code ≡ 0x80) ⊎ (code ≡ slice_index message 8 + 0x80)
+IsCodeFor code message =
+    ((code ≡ 0x80) × (opcode_of (slice_index message 8) ≡ None)) ⊎ (code ≡ slice_index message 8 + 0x80)
 
 -- and that of a poll is about the command that the message names, which has all bytes of a poll's
 pub record Fits (text message : List ℕ) : Type 0 where
