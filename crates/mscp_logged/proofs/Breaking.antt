@@ -3,10 +3,8 @@ use Rattle.std.proofs.Common.{◌≡◌, ◌∙◌, ◌+◌, ℕ, Bool, true, fa
 use Rattle.arrayvec.specs.ArrayVec.{ArrayVec}
 use Rattle.mscp_drive.specs.declared.connection.Connection.{Connection}
 use Rattle.mscp_port.proofs.Common.{false≢true}
-use Rattle.mscp_logged.specs.Rules.{is_message}
-use Rattle.mscp_wire.specs.Wire.{answer_by, broken, broken_at, broken_body, broken_end, broken_message, command_at, count_of, fits, has_abort, has_count, has_credit, has_endcode, has_figure, has_status, is_about, is_long, is_message as has_bytes, is_new, is_same_unit, names_unit, other_of, passes_none, place_of, polled_by, sent_by, succeeds, suits_state, unless}
+use Rattle.mscp_wire.specs.Wire.{answer_by, broken, broken_at, broken_body, broken_end, command_at, count_of, fits, has_abort, has_count, has_credit, has_endcode, has_figure, has_status, is_about, is_long, is_message as has_bytes, is_new, is_same_unit, names_unit, other_of, passes_none, place_of, polled_by, sent_by, succeeds, suits_state, unless}
 use Rattle.mscp_wire.specs.declared.answer.Answer.{Answer}
-use Rattle.mscp_wire.specs.declared.moment.Moment.{Moment}
 use Rattle.mscp_wire.specs.declared.moment.Moment.TheVariants as moments
 use Rattle.mscp_wire.specs.declared.rule.Rule.{Rule}
 use Rattle.mscp_wire.specs.declared.rule.Rule.TheVariants as rules
@@ -15,60 +13,90 @@ use Rattle.mscp_wire.specs.declared.told.Seen.{Seen}
 
 -- ---- one after the other
 
--- no end that answers an outstanding command breaks these, and no message
-abbrev pub is_early : Rule → Bool
-is_early rules.Length = true
-is_early rules.Outstanding = true
-is_early rule = false
-
-unless_late : (b : Bool) (r x : Rule) (rest : Option Rule) → is_early r ≡ false → is_early x ≡ true
-    → (rest ≡ Some x → ⊥) → unless b r rest ≡ Some x → ⊥
-unless_late true r x rest late early never e = never e
-unless_late false r x rest late early never e =
-    false≢true (sym late ∙ ap is_early (some_same r x e) ∙ early)
-  where
-    some_same : (r x : Rule) → Some r ≡ Some x → r ≡ x
-    some_same r x e = search (arith, e)
+some_same : (r x : Rule) → Some r ≡ Some x → r ≡ x
+some_same r x e = search (arith, e)
 
 none_never : (x : Rule) → None ≡ Some x → ⊥
 none_never x e = search (arith, e)
 
-module _ (x : Rule) (early : is_early x ≡ true) where
-  message_never : (credits : Option ℕ) (xs : List Sent) (s : Sent) → broken_message credits xs s ≡ Some x → ⊥
-  message_never credits xs s =
-      unless_late (is_new xs s) rules.Number x _ refl early
-      (unless_late (has_credit credits xs s) rules.Credits x _ refl early (none_never x))
+-- a test that no rule of a host's passes; or none of statuses, of what an abort does, and of order; or none of bodies
+abbrev pub IsNoHosts : (Rule → Bool) → Type 0
+IsNoHosts is = (is rules.Message ≡ false) × (is rules.Number ≡ false) × (is rules.Credits ≡ false)
 
-  body_never : (later : List Sent) (y : Sent) (unit : Seen) (e : Answer) → broken_body later y unit e ≡ Some x → ⊥
-  body_never later y unit e =
-      unless_late (succeeds e (other_of y e)) rules.Success x _ refl early
-      (unless_late (is_about e (other_of y e)) rules.About x _ refl early
-      (unless_late (has_figure later y e (polled_by y e)) rules.Figure x _ refl early
-      (unless_late (has_count e (count_of y e)) rules.Count x _ refl early
-      (unless_late (is_same_unit unit.unit e) rules.Identity x _ refl early
-      (unless_late (suits_state unit.unit.state e) rules.State x _ refl early
-      (unless_late (fits unit.controller e.controller) rules.Controller x _ refl early (none_never x)))))))
+abbrev pub IsNoStatus : (Rule → Bool) → Type 0
+IsNoStatus is = (is rules.Status ≡ false) × (is rules.Aborted ≡ false) × (is rules.Order ≡ false)
 
-  end_never : (earlier later : List Sent) (y : Sent) (unit : Seen) (e : Answer)
-      → broken_end earlier later y unit e ≡ Some x → ⊥
-  end_never earlier later y unit e =
-      unless_late (names_unit y e) rules.Unit x _ refl early
-      (unless_late (has_endcode y e) rules.Endcode x _ refl early
-      (unless_late (has_status y e) rules.Status x _ refl early
-      (unless_late (has_abort later y e) rules.Aborted x _ refl early
-      (unless_late (passes_none earlier y e) rules.Order x _ refl early (body_never later y unit e)))))
+abbrev pub IsNoBodys : (Rule → Bool) → Type 0
+IsNoBodys is = (is rules.Success ≡ false) × (is rules.About ≡ false) × (is rules.Figure ≡ false)
+    × (is rules.Count ≡ false) × (is rules.Identity ≡ false) × (is rules.State ≡ false)
+    × (is rules.Controller ≡ false)
 
-  pub message_breaks_none : (credits : Option ℕ) (xs : List Sent) (unit : Seen) (m : Moment) → is_message m ≡ true
-      → broken credits xs unit m ≡ Some x → ⊥
-  message_breaks_none credits xs unit (moments.Message via b time) is =
-      unless_late (has_bytes b.items) rules.Message x _
-      refl early (message_never credits xs (sent_by via b.items))
-  message_breaks_none credits xs unit (moments.End via b) is = absurd (false≢true is)
-  message_breaks_none credits xs unit moments.Reset is = absurd (false≢true is)
+-- a rule that passes a test isn't one of those that don't
+module _ (is : Rule → Bool) (x : Rule) (own : is x ≡ true) where
+  pub unless_other : (b : Bool) (r : Rule) (rest : Option Rule) → is r ≡ false → (rest ≡ Some x → ⊥)
+      → unless b r rest ≡ Some x → ⊥
+  unless_other true r rest other never e = never e
+  unless_other false r rest other never e = false≢true (sym other ∙ ap is (some_same r x e) ∙ own)
+
+  pub message_never : IsNoHosts is
+      → (credits : Option ℕ) (xs : List Sent) (unit : Seen) (via : Connection) (b : ArrayVec ℕ) (time : Option ℕ)
+      → broken credits xs unit (moments.Message via b time) ≡ Some x → ⊥
+  message_never off credits xs unit via b time =
+      unless_other (has_bytes b.items) rules.Message _ off.0
+      (unless_other (is_new xs (sent_by via b.items)) rules.Number _ off.1
+      (unless_other (has_credit credits xs (sent_by via b.items)) rules.Credits None off.2 (none_never x)))
+
+  pub body_never : IsNoBodys is
+      → (later : List Sent) (y : Sent) (unit : Seen) (e : Answer) → broken_body later y unit e ≡ Some x → ⊥
+  body_never off later y unit e =
+      unless_other (succeeds e (other_of y e)) rules.Success _ off.0
+      (unless_other (is_about e (other_of y e)) rules.About _ off.1
+      (unless_other (has_figure later y e (polled_by y e)) rules.Figure _ off.2
+      (unless_other (has_count e (count_of y e)) rules.Count _ off.3
+      (unless_other (is_same_unit unit.unit e) rules.Identity _ off.4
+      (unless_other (suits_state unit.unit.state e) rules.State _ off.5
+      (unless_other (fits unit.controller e.controller) rules.Controller None off.6 (none_never x)))))))
+
+  -- behind the rule of endcodes
+  pub status_never : IsNoStatus is
+      → IsNoBodys is
+      → (earlier later : List Sent) (y : Sent) (unit : Seen) (e : Answer)
+      → unless (has_status y e) rules.Status (unless (has_abort later y e) rules.Aborted
+      (unless (passes_none earlier y e) rules.Order (broken_body later y unit e))) ≡ Some x → ⊥
+  status_never off body earlier later y unit e =
+      unless_other (has_status y e) rules.Status _ off.0
+      (unless_other (has_abort later y e) rules.Aborted _ off.1
+      (unless_other (passes_none earlier y e) rules.Order _ off.2 (body_never body later y unit e)))
+
+-- ---- length, and what is answered
+
+is_early : Rule → Bool
+is_early rules.Length = true
+is_early rules.Outstanding = true
+is_early rule = false
+
+early_never : (x : Rule) → is_early x ≡ true → (earlier later : List Sent) (y : Sent) (unit : Seen) (e : Answer)
+    → broken_end earlier later y unit e ≡ Some x → ⊥
+unfolding is_early
+early_never x own earlier later y unit e =
+    unless_other is_early x own (names_unit y e) rules.Unit _ refl
+    (unless_other is_early x own (has_endcode y e) rules.Endcode _ refl
+    (status_never is_early x own (refl, refl, refl) (refl, refl, refl, refl, refl, refl, refl) earlier later y unit e))
+
+pub length_message : (credits : Option ℕ) (xs : List Sent) (unit : Seen) (via : Connection) (b : ArrayVec ℕ)
+    (time : Option ℕ) → broken credits xs unit (moments.Message via b time) ≡ Some rules.Length → ⊥
+unfolding is_early
+length_message = message_never is_early rules.Length refl (refl, refl, refl)
+
+pub outstanding_message : (credits : Option ℕ) (xs : List Sent) (unit : Seen) (via : Connection) (b : ArrayVec ℕ)
+    (time : Option ℕ) → broken credits xs unit (moments.Message via b time) ≡ Some rules.Outstanding → ⊥
+unfolding is_early
+outstanding_message = message_never is_early rules.Outstanding refl (refl, refl, refl)
 
 -- an end of the right length doesn't break Length
 pub long_breaks_none : (credits : Option ℕ) (xs : List Sent) (unit : Seen) (via : Connection) (b : ArrayVec ℕ)
     → is_long b.items ≡ true → broken credits xs unit (moments.End via b) ≡ Some rules.Length → ⊥
+unfolding is_early
 long_breaks_none credits xs unit via b long e =
     by (place_of xs (answer_by via b.items))
     (sym (ap (λ c. unless c rules.Length
@@ -76,25 +104,52 @@ long_breaks_none credits xs unit via b long e =
   where
     by : (o : Option ℕ) → broken_at xs unit (answer_by via b.items) o ≡ Some rules.Length → ⊥
     by None h = search (arith, h)
-    by (Some i) h = end_never rules.Length refl (take i xs) (drop (i + 1) xs) (command_at xs i) unit
+    by (Some i) h = early_never rules.Length refl (take i xs) (drop (i + 1) xs) (command_at xs i) unit
         (answer_by via b.items) h
 
--- and one that answers an outstanding command doesn't break Outstanding
+-- of an end which answers the command at a place only the rules of that can be broken
+pub placed_breaks : (credits : Option ℕ) (xs : List Sent) (unit : Seen) (via : Connection) (b : ArrayVec ℕ) (i : ℕ)
+    (x : Rule) → place_of xs (answer_by via b.items) ≡ Some i → (rules.Length ≡ x → ⊥)
+    → broken credits xs unit (moments.End via b) ≡ Some x
+    → broken_end (take i xs) (drop (i + 1) xs) (command_at xs i) unit (answer_by via b.items) ≡ Some x
+placed_breaks credits xs unit via b i x at other e = by (is_long b.items) e
+  where
+    by : (c : Bool) → unless c rules.Length
+        (broken_at xs unit (answer_by via b.items) (place_of xs (answer_by via b.items))) ≡ Some x
+        → broken_end (take i xs) (drop (i + 1) xs) (command_at xs i) unit (answer_by via b.items) ≡ Some x
+    by true h = sym (ap (broken_at xs unit (answer_by via b.items)) at) ∙ h
+    by false h = absurd (other (some_same rules.Length x h))
+
+-- one that answers an outstanding command doesn't break Outstanding
 pub placed_breaks_none : (credits : Option ℕ) (xs : List Sent) (unit : Seen) (via : Connection) (b : ArrayVec ℕ) (i : ℕ)
     → place_of xs (answer_by via b.items) ≡ Some i
     → broken credits xs unit (moments.End via b) ≡ Some rules.Outstanding → ⊥
-placed_breaks_none credits xs unit via b i at e = by (is_long b.items) e
-  where
-    placed : broken_at xs unit (answer_by via b.items) (place_of xs (answer_by via b.items)) ≡ Some rules.Outstanding
-        → ⊥
-    placed h = end_never rules.Outstanding refl (take i xs) (drop (i + 1) xs) (command_at xs i) unit
-        (answer_by via b.items) (sym (ap (broken_at xs unit (answer_by via b.items)) at) ∙ h)
-
-    by : (c : Bool) → unless c rules.Length
-        (broken_at xs unit (answer_by via b.items) (place_of xs (answer_by via b.items))) ≡ Some rules.Outstanding → ⊥
-    by true h = placed h
-    by false h = search (arith, h)
+unfolding is_early
+placed_breaks_none credits xs unit via b i at e =
+    early_never rules.Outstanding refl (take i xs) (drop (i + 1) xs) (command_at xs i) unit (answer_by via b.items)
+    (placed_breaks credits xs unit via b i rules.Outstanding at (λ h. search (arith, h)) e)
 
 pub reset_breaks_none : (credits : Option ℕ) (xs : List Sent) (unit : Seen) (x : Rule)
     → broken credits xs unit moments.Reset ≡ Some x → ⊥
 reset_breaks_none credits xs unit x e = none_never x e
+
+-- ---- endcodes
+
+is_of_codes : Rule → Bool
+is_of_codes rules.Endcode = true
+is_of_codes rule = false
+
+pub codes_message : (credits : Option ℕ) (xs : List Sent) (unit : Seen) (via : Connection) (b : ArrayVec ℕ)
+    (time : Option ℕ) → broken credits xs unit (moments.Message via b time) ≡ Some rules.Endcode → ⊥
+unfolding is_of_codes
+codes_message = message_never is_of_codes rules.Endcode refl (refl, refl, refl)
+
+pub coded_breaks_none : (earlier later : List Sent) (y : Sent) (unit : Seen) (e : Answer) → has_endcode y e ≡ true
+    → broken_end earlier later y unit e ≡ Some rules.Endcode → ⊥
+unfolding is_of_codes
+coded_breaks_none earlier later y unit e code =
+    unless_other is_of_codes rules.Endcode refl (names_unit y e) rules.Unit _ refl (λ h.
+    status_never is_of_codes rules.Endcode refl (refl, refl, refl) (refl, refl, refl, refl, refl, refl, refl)
+    earlier later y unit e (sym (ap (λ c. unless c rules.Endcode (unless (has_status y e) rules.Status
+    (unless (has_abort later y e) rules.Aborted (unless (passes_none earlier y e) rules.Order
+    (broken_body later y unit e))))) code) ∙ h))

@@ -7,3 +7,4 @@ pub mod Long
 pub mod Stated
 pub mod Logging
 pub mod Placed
+pub mod Coded

@@ -35,7 +35,7 @@ use Rattle.mscp_wire.specs.declared.moment.Moment.TheVariants as moments
 use Rattle.mscp_wire.specs.declared.told.Seen.{Seen}
 use Rattle.mscp_logged.specs.Logged.{end_of, ends_in, is_foreign, logged, message_of, messages_by, seen_by}
 use Rattle.mscp_logged.specs.Rules.{Keeps}
-use Rattle.mscp_logged.proofs.Breaking.{long_breaks_none, message_breaks_none, reset_breaks_none}
+use Rattle.mscp_logged.proofs.Breaking.{long_breaks_none, length_message, reset_breaks_none}
 use Rattle.mscp_logged.proofs.Own.{answers_so, own_is_whole}
 use Rattle.mscp_logged.proofs.Seen.{is_reset, reads_before, since_dead, since_reset}
 
@@ -202,8 +202,7 @@ module _ {K : Type 0} (picks : Picking K) (c : Settings) (picker : K) (ends : Po
           → broken limit (outstanding (take i h)) (seen_of (told (take i h)) (controller_told (take i h)) m) m
           ≡ Some rules.Length → ⊥
       by (moments.Message via b time) long =
-          message_breaks_none rules.Length refl limit (outstanding (take i h)) (seen (moments.Message via b time))
-          (moments.Message via b time) refl
+          length_message limit (outstanding (take i h)) (seen (moments.Message via b time)) via b time
       by (moments.End via b) long =
           long_breaks_none limit (outstanding (take i h)) (seen (moments.End via b)) via b long
       by moments.Reset long = reset_breaks_none limit (outstanding (take i h)) (seen moments.Reset) rules.Length

@@ -1,5 +1,5 @@
 -- Which rules of the wire are kept by all that a port's log shows.
-use Rattle.std.specs.Prelude.{◌≡◌, ◌≢◌, ◌<◌, ℕ, Bool, true, false, [], List, length, take, Option, Some}
+use Rattle.std.specs.Prelude.{All, ◌≡◌, ◌≢◌, ◌<◌, ℕ, Bool, true, false, [], List, length, take, Option, Some}
 use Rattle.mscp_drive.specs.Settings.{IsValid, Settings}
 use Rattle.mscp_drive.specs.declared.connection.Connection.TheVariants.{First}
 use Rattle.mscp_controller.specs.Calls.{AnsweredCalls, Call as Made}
@@ -53,3 +53,14 @@ PortsAnswerWhatIsOutstanding {K} picks picker =
     → IsMadeOf hardware credits controller start → AsksAlways calls → ReadsBytes calls
     → (a : Answered picks start calls p) → HostIsRight limit (logged picks start p calls a)
     → Keeps rules.Outstanding limit (logged picks start p calls a)
+
+-- the law of endcodes: of such a port and host, where no unit is without a block: each end of its log has the endcode
+-- of the command that it answers
+abbrev pub PortsSendRightEndcodes : {K : Type 0} → Picking K → K → Type 0
+PortsSendRightEndcodes {K} picks picker =
+    (c : Settings) (before : List Made) (controller : Holdings K) (hardware : Hardware) (credits : ℕ)
+    (start p : Port K) (calls : List Call) (limit : Option ℕ) → IsValid c → All (λ unit. 0 < unit.size) c.units
+    → AnsweredCalls (picks picker) (fresh c picker) before controller → outstanding_of First controller ≡ []
+    → IsMadeOf hardware credits controller start → AsksAlways calls → ReadsBytes calls
+    → (a : Answered picks start calls p) → HostIsRight limit (logged picks start p calls a)
+    → Keeps rules.Endcode limit (logged picks start p calls a)

@@ -1,8 +1,8 @@
 // What is true of all that a port's log shows.
 
-ghost use Rattle.mscp_logged.specs.Rules.{PortsAnswerWhatIsOutstanding, PortsSendLongEnds};
+ghost use Rattle.mscp_logged.specs.Rules.{PortsAnswerWhatIsOutstanding, PortsSendLongEnds, PortsSendRightEndcodes};
 
-use mscp_ported::{ports_end_what_they_took, ports_tell_in_order};
+use mscp_ported::{ports_end_by_opcode, ports_end_what_they_took, ports_tell_in_order};
 use mscp_queue::Picker;
 
 /// A port was made over a controller that had nothing of its host's. Whoever calls the port tells of actions only after they were
@@ -20,6 +20,16 @@ pub fn ports_send_long_ends<K: Picker>(picker: &K)
 pub fn ports_answer_what_is_outstanding<K: Picker>(picker: &K)
     ensures { PortsAnswerWhatIsOutstanding K.picks picker.now }
 {
+    ports_end_what_they_took(picker);
+    ports_tell_in_order(picker);
+}
+
+/// Of such a port, whose units have blocks: while its host's messages are right, each end has the endcode of the command that it
+/// answers: its opcode and 0x80, or 0x80 alone if that opcode is unknown. None breaks the rule `Endcode`.
+pub fn ports_send_right_endcodes<K: Picker>(picker: &K)
+    ensures { PortsSendRightEndcodes K.picks picker.now }
+{
+    ports_end_by_opcode(picker);
     ports_end_what_they_took(picker);
     ports_tell_in_order(picker);
 }

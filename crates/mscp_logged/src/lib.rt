@@ -3,4 +3,6 @@
 
 mod law;
 
-pub use crate::law::{ports_answer_what_is_outstanding, ports_send_long_ends};
+pub use crate::law::{
+    ports_answer_what_is_outstanding, ports_send_long_ends, ports_send_right_endcodes,
+};

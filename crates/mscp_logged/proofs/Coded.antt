@@ -1,0 +1,67 @@
+-- Each end of a port's log has the endcode of its command.
+use Rattle.std.proofs.Common.{◌≡◌, ◌∙◌, ◌+◌, ℕ, Bool, true, false, cond, drop, nat_eq, not, take, List, Option, None, inl, inr, refl, ap, sym, arith}
+use Rattle.std.specs.Prelude.{slice_index}
+use Rattle.mscp_packet.specs.Opcodes.{opcode_of}
+use Rattle.mscp_drive.specs.declared.connection.Connection.TheVariants.{First}
+use Rattle.mscp_port.specs.declared.port.Outgoing.{Outgoing}
+use Rattle.mscp_port.specs.declared.port.OutgoingKind.TheVariants as kinds
+use Rattle.mscp_port.specs.declared.port.Port.{Port}
+use Rattle.mscp_port.proofs.Common.{eq-eqb, eqb-true, false≢true}
+use Rattle.mscp_ported.specs.Answers.{own_answer, volume_named}
+use Rattle.mscp_ported.specs.Fitting.{IsCodeFor}
+use Rattle.mscp_ported.specs.Told.{Said}
+use Rattle.mscp_ported.proofs.Itself.{own_coded}
+use Rattle.mscp_wire.specs.Wire.{History, answer_by, command_at, has_endcode, is_required}
+use Rattle.mscp_wire.specs.declared.answer.Answer.{Answer}
+use Rattle.mscp_wire.specs.declared.rule.Rule.TheVariants as rules
+use Rattle.mscp_wire.specs.declared.sent.Sent.{Sent}
+use Rattle.mscp_logged.specs.Rules.{Keeps}
+use Rattle.mscp_logged.proofs.Breaking.{coded_breaks_none, codes_message, placed_breaks}
+use Rattle.mscp_logged.proofs.Own.{IsOwn, of_disk}
+use Rattle.mscp_logged.proofs.Placed.{keeps_rule}
+use Rattle.mscp_logged.proofs.Stated.{Stated}
+
+-- no controller may leave out an opcode that isn't known
+none_required : (n : ℕ) → opcode_of n ≡ None → is_required n ≡ false
+none_required n e = grind (arith, e)
+
+endcode_right : (y : Sent) (e : Answer) (message : List ℕ) → y.opcode ≡ slice_index message 8
+    → IsCodeFor e.code message → has_endcode y e ≡ true
+endcode_right y e message is code = by (nat_eq e.code 0x80) refl code
+  where
+    zero : (n : ℕ) → n + 0x80 ≡ 0x80 → n ≡ 0
+    zero n h = omega (arith, h)
+
+    unknown : is_required y.opcode ≡ false → nat_eq e.code 0x80 ≡ true → has_endcode y e ≡ true
+    unknown none c = ap (λ b. cond (not b) (nat_eq e.code (y.opcode + 0x80)) (not (is_required y.opcode))) c
+        ∙ ap not none
+
+    known : nat_eq e.code 0x80 ≡ false → e.code ≡ y.opcode + 0x80 → has_endcode y e ≡ true
+    known c same = ap (λ b. cond (not b) (nat_eq e.code (y.opcode + 0x80)) (not (is_required y.opcode))) c
+        ∙ eq-eqb e.code (y.opcode + 0x80) same
+
+    by : (b : Bool) → nat_eq e.code 0x80 ≡ b → IsCodeFor e.code message → has_endcode y e ≡ true
+    by true c (inl h) = unknown (ap is_required is ∙ none_required (slice_index message 8) h.1) c
+    by true c (inr h) = unknown (ap is_required (is ∙ zero (slice_index message 8)
+        (sym h ∙ eqb-true e.code 0x80 c))) c
+    by false c (inl h) = absurd (false≢true (sym c ∙ eq-eqb e.code 0x80 h.0))
+    by false c (inr h) = known c (h ∙ ap (λ n. n + 0x80) (sym is))
+
+-- the tie of an end to its message
+abbrev pub IsCoded : List ℕ → List ℕ → Type 0
+IsCoded text message = IsCodeFor (slice_index text 8) message
+
+pub own_is_coded : {K : Type 0} (old : Port K) (text : List ℕ) (o : Outgoing) → IsOwn old text o → o.kind ≡ kinds.End
+    → IsCoded o.bytes.items text
+own_is_coded old text o own kind = inr (ap (λ b. slice_index b 8) own.own.2
+    ∙ (own_coded (volume_named old text) text own.own.0
+    (ap (λ f. own_answer f (volume_named old text) text) (sym (of_disk old text o own kind)) ∙ own.own.1)).0)
+
+pub keeps_endcode : (limit : Option ℕ) (h : History) (aw : List (List ℕ)) (held : List Said)
+    → Stated IsCoded h aw held → Keeps rules.Endcode limit h
+keeps_endcode limit = keeps_rule IsCoded limit rules.Endcode (codes_message limit)
+    (λ xs unit b tied e. coded_breaks_none (take tied.place xs) (drop (tied.place + 1) xs) (command_at xs tied.place) unit
+    (answer_by First b.items)
+    (endcode_right (command_at xs tied.place) (answer_by First b.items) tied.message
+    (ap (λ (s : Sent). s.opcode) tied.command) tied.tie)
+    (placed_breaks limit xs unit First b tied.place rules.Endcode tied.at (λ h. search (arith, h)) e))
