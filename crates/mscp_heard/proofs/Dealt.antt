@@ -8,30 +8,27 @@ use Rattle.mscp_heard.proofs.Joined.{IsNext, next_of}
 use Rattle.mscp_heard.proofs.Moving.{drop_at, drop_beside}
 use Rattle.mscp_heard.proofs.Notes.{Noted, copy_answered, copy_taken, noted_end, noted_news}
 use Rattle.mscp_ported.proofs.Itself.{own_coded}
-use Rattle.mscp_heard.proofs.Owing.{begun_one, moves_opcode, one_more, own_number}
+use Rattle.mscp_heard.proofs.Owing.{begun_one, one_more, own_number}
 use Rattle.mscp_ported.proofs.Ended.{bytes_small}
 use Rattle.mscp_heard.specs.Deeds.{AreJoined, Called, Deed, Did, IsCopyOf, IsNextText, IsTextOf, ReadsInOrder, calls_in, did, sent}
 use Rattle.mscp_host.specs.PortAccounts.{PortAccount}
 use Rattle.mscp_host.specs.PortLaw.{PortHostsKeepTheirHistory}
 use Rattle.mscp_packet.specs.Number.{num}
-use Rattle.mscp_port.proofs.Common.{and_parts}
 use Rattle.mscp_port.specs.Calls.{IsMadeOf}
 use Rattle.mscp_port.specs.Departures.{begins}
 use Rattle.mscp_port.specs.Histories.{Answered, Call, Picking, WasRead}
 use Rattle.mscp_port.specs.declared.hardware.Hardware.{Hardware}
 use Rattle.mscp_port.specs.declared.port.Outgoing.{Outgoing}
 use Rattle.mscp_port.specs.declared.port.Port.{Port}
-use Rattle.mscp_port.specs.declared.volumes.Volume.{Volume}
-use Rattle.mscp_ported.specs.Answers.{kind_answered, Own, PortsAnswerAsTheyMay, asks_nothing, moves_data, own_answer, own_refusal, past_end, volume_named}
+use Rattle.mscp_ported.specs.Answers.{kind_answered, PortsAnswerAsTheyMay, own_answer, volume_named}
 use Rattle.mscp_ported.specs.Awaited.{Deals, IsAnswering, IsTaking, PortsEndWhatTheyTook, ReadsBytes, awaited, has_number, is_transfer, taken_by, without_ends}
 use Rattle.mscp_ported.specs.Ends.{ends_said_by}
 use Rattle.mscp_ported.specs.Fitting.{Fits, PortsEndByOpcode}
 use Rattle.mscp_ported.specs.Talk.{AsksAlways, Opened, Slot, Talk, Turn, talk_of}
 use Rattle.mscp_ported.specs.Told.{PortsHearInOrder, PortsOpenWhatTheyAccept, PortsTellInOrder, Said, accepted, accepted_by, said, said_in}
-use Rattle.std.proofs.Common.{ℕ, All, Bool, List, None, Option, Some, [], ap, arith, cond, drop, false, filter, inl, inr, length, map, not, refl, subst, sym, true, ◌&&◌, ◌++◌, ◌+◌, ◌<◌, ◌∙◌, ◌∷◌, ◌≡◌, ◌≢◌, ◌≤◌, ◌⊎◌}
+use Rattle.std.proofs.Common.{ℕ, All, List, None, Some, [], ap, arith, cond, drop, filter, inl, inr, length, map, not, refl, subst, sym, ◌++◌, ◌+◌, ◌<◌, ◌∙◌, ◌∷◌, ◌≡◌, ◌≢◌, ◌≤◌, ◌⊎◌}
 use Rattle.std.proofs.lemmas.List.{append-nil}
-use Rattle.std.proofs.lemmas.Option.{none-some, same_Some}
-use Rattle.std.specs.Prelude.{Ok, is_none, nat_le, option_map, slice_get, slice_index}
+use Rattle.std.specs.Prelude.{Ok, slice_get, slice_index}
 
 -- what was said and not heard, what is awaited, and what was sent and not read, before a call and behind it: nothing
 -- changes, or news are said, or a message's end, or the next message is taken, or answered

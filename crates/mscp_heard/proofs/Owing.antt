@@ -1,26 +1,16 @@
 -- What a host is owed, and what a call of its port makes of that.
-use Rattle.byteorder.specs.Endian.{little_bytes}
-use Rattle.std.specs.Prelude.{replicate}
-use Rattle.std.proofs.Common.{◌≡◌, ◌≢◌, ◌∙◌, ◌+◌, ◌*◌, ◌^◌, ◌<◌, ◌≤◌, ◌++◌, ◌∷◌, [], ℕ, suc, Bool, true, false, cond, drop, filter, length, not, List, Option, None, Some, refl, ap, sym, subst, arith}
-use Rattle.std.specs.Prelude.{◌==◌, ◌&&◌, ◌||◌, is_none, option_map, Result, Ok, slice_get, slice_index}
+use Rattle.std.proofs.Common.{◌≡◌, ◌∙◌, ◌≤◌, ◌++◌, ◌∷◌, [], ℕ, suc, drop, filter, length, not, List, Option, Some, refl, ap, sym, subst, arith}
+use Rattle.std.specs.Prelude.{Result, Ok, slice_get, slice_index}
 use Rattle.std.specs.List.{AllByRecursion}
 use Rattle.std.proofs.lemmas.List.{length-append}
-use Rattle.std.proofs.lemmas.Option.{none-some, same_Some}
-use Rattle.mscp_packet.proofs.Numbers.{four}
 use Rattle.mscp_packet.specs.Number.{num}
-use Rattle.mscp_packet.specs.Ends.{end_length, kind_of_code}
+use Rattle.mscp_packet.specs.Ends.{kind_of_code}
 use Rattle.mscp_packet.specs.declared.end.BodyKind.{BodyKind}
 use Rattle.mscp_packet.specs.declared.end.BodyKind.TheVariants as bodykinds
 use Rattle.mscp_host.specs.declared.asked.Asked.{Asked}
-use Rattle.mscp_port.specs.declared.port.Outgoing.{Outgoing}
 use Rattle.mscp_port.specs.declared.port.OutgoingKind.TheVariants as kinds
-use Rattle.mscp_port.specs.declared.stage.Stage.{Stage}
-use Rattle.mscp_port.specs.Departures.{begins}
-use Rattle.mscp_port.specs.Histories.{Call, WriteIp}
 use Rattle.mscp_queue.proofs.Lists.{every_append}
-use Rattle.mscp_port.specs.declared.volumes.Volume.{Volume}
-use Rattle.mscp_ported.specs.Answers.{asks_nothing, moves_data, own_answer, own_refusal, Own, own_text}
-use Rattle.mscp_ported.specs.Awaited.{IsWhole, bytes_in, has_number}
+use Rattle.mscp_ported.specs.Awaited.{bytes_in, has_number}
 pub use Rattle.mscp_ported.proofs.Growing.{begun_one}
 pub use Rattle.mscp_ported.proofs.Itself.{moves_opcode, own_bytes, own_number, own_whole, since_alive}
 use Rattle.mscp_ported.specs.Told.{Said}

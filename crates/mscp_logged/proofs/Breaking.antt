@@ -153,3 +153,25 @@ coded_breaks_none earlier later y unit e code =
     earlier later y unit e (sym (ap (λ c. unless c rules.Endcode (unless (has_status y e) rules.Status
     (unless (has_abort later y e) rules.Aborted (unless (passes_none earlier y e) rules.Order
     (broken_body later y unit e))))) code) ∙ h))
+
+-- ---- units
+
+is_of_units : Rule → Bool
+is_of_units rules.Unit = true
+is_of_units rule = false
+
+pub units_message : (credits : Option ℕ) (xs : List Sent) (unit : Seen) (via : Connection) (b : ArrayVec ℕ)
+    (time : Option ℕ) → broken credits xs unit (moments.Message via b time) ≡ Some rules.Unit → ⊥
+unfolding is_of_units
+units_message = message_never is_of_units rules.Unit refl (refl, refl, refl)
+
+pub named_breaks_none : (earlier later : List Sent) (y : Sent) (unit : Seen) (e : Answer) → names_unit y e ≡ true
+    → broken_end earlier later y unit e ≡ Some rules.Unit → ⊥
+unfolding is_of_units
+named_breaks_none earlier later y unit e named h =
+    unless_other is_of_units rules.Unit refl (has_endcode y e) rules.Endcode _ refl
+    (status_never is_of_units rules.Unit refl (refl, refl, refl) (refl, refl, refl, refl, refl, refl, refl) earlier
+    later y unit e)
+    (sym (ap (λ c. unless c rules.Unit (unless (has_endcode y e) rules.Endcode (unless (has_status y e) rules.Status
+    (unless (has_abort later y e) rules.Aborted (unless (passes_none earlier y e) rules.Order
+    (broken_body later y unit e)))))) named) ∙ h)

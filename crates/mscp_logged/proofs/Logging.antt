@@ -65,8 +65,8 @@ module _ {K : Type 0} (Tie : List ℕ → List ℕ → Type 0) (picks : Picking 
     (tie_end : (p : Port K) (call : Call) (calls : List Call) → ReadsBytes (call ∷ calls)
     → (a : Answered picks start (call ∷ calls) p) → (q : IsEnding (awaited picks start a.0 calls a.1) call a.0 p)
     → Tie q.out.bytes.items q.message)
-    (tie_own : (old : Port K) (text : List ℕ) (o : Outgoing) → IsOwn old text o → o.kind ≡ kinds.End
-    → Tie o.bytes.items text) (limit : Option ℕ) where
+    (tie_own : (old : Port K) (text : List ℕ) (o : Outgoing) → ((i : ℕ) → slice_index text i < 2 ^ 8)
+    → IsOwn old text o → o.kind ≡ kinds.End → Tie o.bytes.items text) (limit : Option ℕ) where
   abbrev pub State : (p : Port K) (calls : List Call) → Answered picks start calls p → Type 0
   State p calls a = Stated Tie (logged picks start p calls a) (awaited picks start p calls a) (held p)
 
@@ -172,6 +172,9 @@ module _ {K : Type 0} (Tie : List ℕ → List ℕ → Type 0) (picks : Picking 
         own : IsOwn a.0 q.message q.out
         own = answers_so picks call a.0 p a.2 q
 
+        small : (i : ℕ) → slice_index q.message i < 2 ^ 8
+        small = small_of call calls q.message q.read.0 reads q.read.1
+
         still : awaited picks start p (call ∷ calls) a ≡ aw
         still = awaited_is [] [] q.ended q.taken ∙ append-nil aw
 
@@ -184,8 +187,7 @@ module _ {K : Type 0} (Tie : List ℕ → List ℕ → Type 0) (picks : Picking 
             ap (λ b. cond b [] (map message_of (accepted_by call a.0))) task ∙ ap (map message_of) q.accepted in
             begun (message_of q.message ∷ []) aw q.out shown q.nothing q.begun still
             (answers Tie h aw (said_in q.out) q.message (none_out q.nothing) (is_new_now q.message shown)
-            (own_named a.0 q.message q.out own (small_of call calls q.message q.read.0 reads q.read.1))
-            (tie_own a.0 q.message q.out own kind))
+            (own_named a.0 q.message q.out own small) (tie_own a.0 q.message q.out small own kind))
 
     pub deals_so : Deals aw call a.0 p → State p (call ∷ calls) a
     deals_so (inl q) = calm [] aw (none_by q.accepted) q.begun (awaited_is [] [] q.ended q.taken ∙ append-nil aw)

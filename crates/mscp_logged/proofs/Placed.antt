@@ -32,7 +32,8 @@ module _ (Tie : List ℕ → List ℕ → Type 0) (limit : Option ℕ) (x : Rule
       by (moments.Message via b time) is e =
           message (outstanding (take i h)) (seen (moments.Message via b time)) via b time e
       by (moments.End via b) is e = end (outstanding (take i h)) (seen (moments.End via b)) b is.1
-          (subst (λ v. broken limit (outstanding (take i h)) (seen (moments.End via b)) (moments.End v b) ≡ Some x) is.0 e)
+          (subst (λ v. broken limit (outstanding (take i h)) (seen (moments.End via b)) (moments.End v b) ≡ Some x)
+          is.0 e)
       by moments.Reset is e = reset_breaks_none limit (outstanding (take i h)) (seen moments.Reset) x e
 
 -- ---- what is answered

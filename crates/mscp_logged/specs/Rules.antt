@@ -64,3 +64,14 @@ PortsSendRightEndcodes {K} picks picker =
     → IsMadeOf hardware credits controller start → AsksAlways calls → ReadsBytes calls
     → (a : Answered picks start calls p) → HostIsRight limit (logged picks start p calls a)
     → Keeps rules.Endcode limit (logged picks start p calls a)
+
+-- the law of units: of such a port and host: each end of its log names the unit of that command, unless the command
+-- asks for the next unit
+abbrev pub PortsNameTheUnit : {K : Type 0} → Picking K → K → Type 0
+PortsNameTheUnit {K} picks picker =
+    (c : Settings) (before : List Made) (controller : Holdings K) (hardware : Hardware) (credits : ℕ)
+    (start p : Port K) (calls : List Call) (limit : Option ℕ) → IsValid c → All (λ unit. 0 < unit.size) c.units
+    → AnsweredCalls (picks picker) (fresh c picker) before controller → outstanding_of First controller ≡ []
+    → IsMadeOf hardware credits controller start → AsksAlways calls → ReadsBytes calls
+    → (a : Answered picks start calls p) → HostIsRight limit (logged picks start p calls a)
+    → Keeps rules.Unit limit (logged picks start p calls a)

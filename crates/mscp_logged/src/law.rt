@@ -1,6 +1,6 @@
 // What is true of all that a port's log shows.
 
-ghost use Rattle.mscp_logged.specs.Rules.{PortsAnswerWhatIsOutstanding, PortsSendLongEnds, PortsSendRightEndcodes};
+ghost use Rattle.mscp_logged.specs.Rules.{PortsAnswerWhatIsOutstanding, PortsNameTheUnit, PortsSendLongEnds, PortsSendRightEndcodes};
 
 use mscp_ported::{ports_end_by_opcode, ports_end_what_they_took, ports_tell_in_order};
 use mscp_queue::Picker;
@@ -28,6 +28,16 @@ pub fn ports_answer_what_is_outstanding<K: Picker>(picker: &K)
 /// answers: its opcode and 0x80, or 0x80 alone if that opcode is unknown. None breaks the rule `Endcode`.
 pub fn ports_send_right_endcodes<K: Picker>(picker: &K)
     ensures { PortsSendRightEndcodes K.picks picker.now }
+{
+    ports_end_by_opcode(picker);
+    ports_end_what_they_took(picker);
+    ports_tell_in_order(picker);
+}
+
+/// Of such a port and host: each end names the unit of the command that it answers, unless that asks for the next unit. None breaks
+/// the rule `Unit`.
+pub fn ports_name_the_unit<K: Picker>(picker: &K)
+    ensures { PortsNameTheUnit K.picks picker.now }
 {
     ports_end_by_opcode(picker);
     ports_end_what_they_took(picker);

@@ -35,6 +35,7 @@ use Rattle.mscp_port.proofs.Common.{eq-eqb, eqb-true, none-some, same_Some}
 use Rattle.mscp_ported.specs.Awaited.{has_number}
 use Rattle.mscp_ported.specs.Ends.{Leaving}
 use Rattle.mscp_ported.specs.Fitting.{IsCodeFor}
+use Rattle.mscp_ported.proofs.Units.{IsUnitIn}
 use Rattle.mscp_ported.specs.Passing.{figure_in}
 use Rattle.mscp_ported.proofs.Buffered.{FitsBuffer}
 use Rattle.mscp_ported.proofs.Ending.{left_with, zipped}
@@ -46,6 +47,7 @@ use Rattle.mscp_ported.proofs.Whole.{code_of}
 
 -- an end, with what was decided of it, fits this message
 pub record FitsEnd (l : Leaving) (t : List ℕ) : Type 0 where
+  pub unit : IsUnitIn l.end.unit t
   pub code : IsCodeFor (cond (ends_formality l.fields.code) l.fields.code l.end.code) t
   pub about : 16 ≤ length t → (other figure : ℕ) → l.end.body ≡ bodies.Status other figure
       → (other ≡ num t 12 4) × (other < 2 ^ 32)
@@ -148,6 +150,7 @@ outcome_no_figure shape status order good other figure never is = moved_no_figur
 -- its code is that of its order, and it tells no figure
 pub record IsPlainEnd (r : Record) (e : End) : Type 0 where
   pub number : e.reference ≡ r.command.reference
+  pub unit : e.unit ≡ r.command.unit
   pub code : e.code ≡ endcode r.command.order
   pub no_figure : ((other figure : ℕ) → refused_body (endcode r.command.order) ≡ bodies.Status other figure → ⊥)
       → (other figure : ℕ) → e.body ≡ bodies.Status other figure → ⊥
@@ -162,6 +165,7 @@ given_plain k d r e h = by (goes_on d.online r.command.order k (left_of r)) h
     by true h = absurd (none-some e h)
     by false h = subst (λ (x : End). IsPlainEnd r x) (same_Some own e h) (record {
       number = refl;
+      unit = refl;
       code = refl;
       no_figure = λ never other figure is. outcome_no_figure d.unit _ r.command.order _ other figure never is;
     })
@@ -169,6 +173,7 @@ given_plain k d r e h = by (goes_on d.online r.command.order k (left_of r)) h
 pub aborted_plain : (r : Record) → IsPlainEnd r (aborted_record r)
 aborted_plain r = record {
   number = refl;
+  unit = refl;
   code = refl;
   no_figure = λ never other figure is. moved_no_figure r.command.order r.good other figure never is;
 }
@@ -178,6 +183,7 @@ pub plain_fits : (bs : List Buffer) (r : Record) (b : Buffer) (e : End) (d : Dec
     → IsPlainEnd r e → filter (is_of First e.reference) bs ≡ b ∷ [] → FitsBuffer r b t
     → d.code ≡ code_told (kept_of First e.reference bs) e.code → FitsEnd (left_with e d) t
 plain_fits bs r b e d t plain one f same = record {
+  unit = subst (λ n. IsUnitIn n t) (sym plain.unit) f.unit;
   code = subst (λ c. IsCodeFor (cond (ends_formality c) c e.code) t) (sym same)
       (kept_coded bs e t r b one f plain.code);
   about = λ long other figure is. absurd (plain.no_figure f.no_figure other figure is);

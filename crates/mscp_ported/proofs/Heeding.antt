@@ -52,6 +52,7 @@ use Rattle.mscp_ported.proofs.Tables.{answer_by}
 use Rattle.mscp_ported.specs.Answers.{own_answer, volume_named}
 use Rattle.mscp_ported.specs.Awaited.{has_number, is_taken_text, taken_by}
 use Rattle.mscp_ported.specs.Fitting.{IsCodeFor}
+use Rattle.mscp_ported.proofs.Units.{IsUnitIn, handed_unit}
 use Rattle.mscp_ported.specs.Talk.{since}
 use Rattle.mscp_queue.proofs.Lists.{every_append}
 use Rattle.mscp_queue.proofs.Named.{is_same}
@@ -185,6 +186,7 @@ module _ {K : Type 0} (bytes : List ℕ) (done : Unit) (old new : Port K) (aw : 
                 (record {
                   opcode = opcode_kept bytes (changes_at old.volumes
                       (place_in old.controller.settings.units (num bytes 4 2))) sees.long;
+                  unit = handed_unit old.controller.settings.units bytes sees.long small;
                   code = λ plain. handed_coded old.controller.settings.units bytes sees.long plain;
                   no_figure = queued_no_figure h.settings command q;
                 }) f.kept));
@@ -225,6 +227,8 @@ module _ {K : Type 0} (bytes : List ℕ) (done : Unit) (old new : Port K) (aw : 
         -- its own end
         own_fits : FitsIn (aw ++ bytes ∷ []) (left_with own (answer_by old new own))
         own_fits t only = subst (λ x. FitsEnd (left_with own (answer_by old new own)) x) same (record {
+          unit = subst (λ x. IsUnitIn x bytes) (sym (own_unit h.settings _ _ command (fault_of h.settings command)))
+              (handed_unit old.controller.settings.units bytes sees.long small);
           code = subst (λ x. IsCodeFor (cond (ends_formality x) x own.code) bytes)
               (sym (decided_code _ _ own new.controller.settings.units new.flags _))
               (bare_coded old.buffers.items own bytes
@@ -277,6 +281,11 @@ module _ {K : Type 0} (bytes : List ℕ) (done : Unit) (old new : Port K) (aw : 
                 → (own_end_with s online figure x o).code ≡ endcode x.order
             own_code s online figure x None = refl
             own_code s online figure x (Some status) = refl
+
+            own_unit : (s : Settings) (online : Bool) (figure : ℕ) (x : Command) (o : Option ℕ)
+                → (own_end_with s online figure x o).unit ≡ x.unit
+            own_unit s online figure x None = refl
+            own_unit s online figure x (Some status) = refl
 
         -- and that of the command that it aborts
         one_aborted : (m : ℕ) (x : Record) → find (is_numbered m) h.waiting ≡ Some x

@@ -56,6 +56,7 @@ pub mod Buffered
 pub mod Fitting
 pub mod Fitted
 pub mod Untouched
+pub mod Units
 pub mod Formal
 pub mod Opcodes
 pub mod Refusals

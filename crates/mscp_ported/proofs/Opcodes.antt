@@ -38,6 +38,7 @@ use Rattle.mscp_ported.proofs.Numbering.{served_waits}
 use Rattle.mscp_ported.proofs.Sole.{served_itself}
 use Rattle.mscp_ported.proofs.Staying.{went_stays}
 use Rattle.mscp_ported.proofs.Tables.{decided_by}
+use Rattle.mscp_ported.proofs.Units.{told_unit_is}
 use Rattle.mscp_ported.proofs.Wanting.{alive_or_dead}
 use Rattle.mscp_ported.specs.Awaited.{has_number, without_ends}
 use Rattle.mscp_ported.specs.Ends.{ends_begun}
@@ -146,6 +147,7 @@ module _ {K : Type 0} (blocks : Bool) (action : Action) (bytes : List ℕ) (old 
       let x = first t in
       let y = x.2 message only in
       record {
+        unit = told_unit_is old t.out.0 message y.unit;
         code = subst (λ n. IsCodeFor n message) (sym (told_code old t.out.0 x.0 x.1)) y.code;
         about = told_about old t.out.0 x.0 x.1 message shaped y;
       }

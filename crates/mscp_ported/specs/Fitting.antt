@@ -1,6 +1,6 @@
--- An end fits the message whose end it is: by its endcode, and that of a poll by the command that it is about (manual,
+-- An end fits the message whose end it is: by unit and endcode, and that of a poll by the command that it is about (manual,
 -- "End Messages", "GET COMMAND STATUS").
-use Rattle.std.specs.Prelude.{◌≡◌, ◌⊎◌, ◌+◌, ◌<◌, ◌≤◌, ◌∷◌, [], ℕ, All, List, filter, length, slice_index, None}
+use Rattle.std.specs.Prelude.{◌≡◌, ◌⊎◌, ◌+◌, ◌<◌, ◌≤◌, ◌∷◌, [], ℕ, All, List, filter, length, slice_index, true, None}
 use Rattle.mscp_packet.specs.Number.{num}
 use Rattle.mscp_packet.specs.Opcodes.{opcode_of}
 use Rattle.mscp_drive.specs.Settings.{IsValid, Settings}
@@ -11,6 +11,7 @@ use Rattle.mscp_port.specs.declared.hardware.Hardware.{Hardware}
 use Rattle.mscp_port.specs.declared.port.Port.{Port}
 use Rattle.mscp_port.specs.Calls.{IsMadeOf}
 use Rattle.mscp_port.specs.Histories.{Answered, Call, Picking}
+use Rattle.mscp_ported.specs.Answers.{asks_next}
 use Rattle.mscp_ported.specs.Awaited.{ReadsBytes, awaited, has_number}
 use Rattle.mscp_ported.specs.Ends.{ends_said_by}
 
@@ -19,8 +20,14 @@ abbrev pub IsCodeFor : ℕ → List ℕ → Type 0
 IsCodeFor code message =
     ((code ≡ 0x80) × (opcode_of (slice_index message 8) ≡ None)) ⊎ (code ≡ slice_index message 8 + 0x80)
 
--- and that of a poll is about the command that the message names, which has all bytes of a poll's
+-- a unit is the one that a message names; or it is any, where the message asks for the next unit
+abbrev pub IsUnitFor : ℕ → List ℕ → Type 0
+IsUnitFor unit message = (unit ≡ num message 4 2) ⊎ (asks_next message ≡ true)
+
+-- an end has such a unit and endcode; and that of a poll is about the command that the message names, which has all
+-- bytes of a poll's
 pub record Fits (text message : List ℕ) : Type 0 where
+  pub unit : IsUnitFor (num text 4 2) message
   pub code : IsCodeFor (slice_index text 8) message
   pub about : slice_index text 8 ≡ 0x82 → 16 ≤ length message → num text 12 4 ≡ num message 12 4
 
