@@ -151,13 +151,16 @@ module _ (host : PortAccount) (us : List Said) (ts : List (List ℕ)) where
           (λ kind x found.
               let f = one.0 x (ap (λ n. find (is_of n) host.asked) named ∙ found) in
               record {
-                code = coded x.opcode (slice_index s.text 8) (slice_index t 8) (code_or (slice_index s.text 8) t fits.code)
+                code = coded x.opcode (slice_index s.text 8) (slice_index t 8)
+                    (code_or (slice_index s.text 8) t fits.code)
                     f.code;
                 about = λ poll own.
                     let a = f.about (message_poll (slice_index s.text 8) (slice_index t 8) poll
                     (code_or (slice_index s.text 8) t fits.code))
-                    (subst (λ n. is_poll_of host.account.watch n ≡ true) (sym named) own) in
-                    (search arith, subst (λ n. is_about host.account.watch n ≡ true) (sym (fits.about poll a.0)) a.1);
+                    (subst (λ n. is_poll_of host.account.watch n ≡ true) (sym named) own) in (
+                      search arith,
+                      subst (λ n. is_about host.account.watch n ≡ true) (sym (fits.about (inr poll) a.0)) a.1,
+                    );
               }),
           tt,
         );

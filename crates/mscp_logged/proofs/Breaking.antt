@@ -175,3 +175,41 @@ named_breaks_none earlier later y unit e named h =
     (sym (ap (λ c. unless c rules.Unit (unless (has_endcode y e) rules.Endcode (unless (has_status y e) rules.Status
     (unless (has_abort later y e) rules.Aborted (unless (passes_none earlier y e) rules.Order
     (broken_body later y unit e)))))) named) ∙ h)
+
+-- ---- what an ABORT or a poll is about
+
+is_of_abouts : Rule → Bool
+is_of_abouts rules.About = true
+is_of_abouts rule = false
+
+pub abouts_message : (credits : Option ℕ) (xs : List Sent) (unit : Seen) (via : Connection) (b : ArrayVec ℕ)
+    (time : Option ℕ) → broken credits xs unit (moments.Message via b time) ≡ Some rules.About → ⊥
+unfolding is_of_abouts
+abouts_message = message_never is_of_abouts rules.About refl (refl, refl, refl)
+
+about_breaks : (later : List Sent) (y : Sent) (unit : Seen) (e : Answer) → is_about e (other_of y e) ≡ true
+    → broken_body later y unit e ≡ Some rules.About → ⊥
+unfolding is_of_abouts
+about_breaks later y unit e about =
+    unless_other is_of_abouts rules.About refl (succeeds e (other_of y e)) rules.Success _ refl (λ h.
+    unless_other is_of_abouts rules.About refl (has_figure later y e (polled_by y e)) rules.Figure _ refl
+    (unless_other is_of_abouts rules.About refl (has_count e (count_of y e)) rules.Count _ refl
+    (unless_other is_of_abouts rules.About refl (is_same_unit unit.unit e) rules.Identity _ refl
+    (unless_other is_of_abouts rules.About refl (suits_state unit.unit.state e) rules.State _ refl
+    (unless_other is_of_abouts rules.About refl (fits unit.controller e.controller) rules.Controller None refl
+    (none_never rules.About)))))
+    (sym (ap (λ c. unless c rules.About (unless (has_figure later y e (polled_by y e)) rules.Figure
+    (unless (has_count e (count_of y e)) rules.Count (unless (is_same_unit unit.unit e) rules.Identity
+    (unless (suits_state unit.unit.state e) rules.State
+    (unless (fits unit.controller e.controller) rules.Controller None)))))) about) ∙ h))
+
+pub about_breaks_none : (earlier later : List Sent) (y : Sent) (unit : Seen) (e : Answer)
+    → is_about e (other_of y e) ≡ true → broken_end earlier later y unit e ≡ Some rules.About → ⊥
+unfolding is_of_abouts
+about_breaks_none earlier later y unit e about =
+    unless_other is_of_abouts rules.About refl (names_unit y e) rules.Unit _ refl
+    (unless_other is_of_abouts rules.About refl (has_endcode y e) rules.Endcode _ refl
+    (unless_other is_of_abouts rules.About refl (has_status y e) rules.Status _ refl
+    (unless_other is_of_abouts rules.About refl (has_abort later y e) rules.Aborted _ refl
+    (unless_other is_of_abouts rules.About refl (passes_none earlier y e) rules.Order _ refl
+    (about_breaks later y unit e about)))))

@@ -10,6 +10,7 @@ use Rattle.mscp_port.specs.declared.port.OutgoingKind.TheVariants as kinds
 use Rattle.mscp_port.specs.declared.port.Port.{Port}
 use Rattle.mscp_port.proofs.Common.{eq-eqb, eqb-true, false≢true}
 use Rattle.mscp_ported.specs.Answers.{own_answer, volume_named}
+use Rattle.mscp_ported.specs.Awaited.{IsWhole}
 use Rattle.mscp_ported.specs.Fitting.{Fits, IsCodeFor, IsUnitFor}
 use Rattle.mscp_ported.specs.Told.{Said}
 use Rattle.mscp_ported.proofs.Itself.{own_coded}
@@ -20,7 +21,7 @@ use Rattle.mscp_wire.specs.declared.rule.Rule.TheVariants as rules
 use Rattle.mscp_wire.specs.declared.sent.Sent.{Sent}
 use Rattle.mscp_logged.specs.Rules.{Keeps}
 use Rattle.mscp_logged.proofs.Breaking.{coded_breaks_none, codes_message, named_breaks_none, placed_breaks, units_message}
-use Rattle.mscp_logged.proofs.Own.{IsOwn, of_disk}
+use Rattle.mscp_logged.proofs.Own.{IsOwn, of_disk, own_is_whole}
 use Rattle.mscp_logged.proofs.Placed.{keeps_rule}
 use Rattle.mscp_logged.proofs.Stated.{Stated}
 use Rattle.mscp_logged.proofs.Wired.{stem}
@@ -51,26 +52,39 @@ endcode_right y e message is code = by (nat_eq e.code 0x80) refl code
     by false c (inl h) = absurd (false≢true (sym c ∙ eq-eqb e.code 0x80 h.0))
     by false c (inr h) = known c (h ∙ ap (λ n. n + 0x80) (sym is))
 
+-- an end is whole, and fits its message
+pub record IsEndOf (text message : List ℕ) : Type 0 where
+  pub fits : Fits text message
+  pub whole : IsWhole text
+
 -- an answer of the port's own fits its message, as an end of the controller's does
-pub own_fits : {K : Type 0} (old : Port K) (text : List ℕ) (o : Outgoing) → ((i : ℕ) → slice_index text i < 2 ^ 8)
+own_fits : {K : Type 0} (old : Port K) (text : List ℕ) (o : Outgoing) → ((i : ℕ) → slice_index text i < 2 ^ 8)
     → IsOwn old text o → o.kind ≡ kinds.End → Fits o.bytes.items text
 own_fits old text o small own kind = record {
   unit = inl (ap (λ b. num b 4 2) own.own.2 ∙ two (num text 4 2) (small_unit text small));
   code = inr (ap (λ b. slice_index b 8) own.own.2 ∙ coded.0);
-  about = λ poll long. absurd (coded.1 (sym (ap (λ b. slice_index b 8) own.own.2) ∙ poll));
+  about = λ code long. absurd (elim code [
+    | inl x ↦ coded.2 (sym (ap (λ b. slice_index b 8) own.own.2) ∙ x)
+    | inr x ↦ coded.1 (sym (ap (λ b. slice_index b 8) own.own.2) ∙ x)
+  ]);
 }
   where
-    coded : (own.own.0.code ≡ slice_index text 8 + 0x80) × (own.own.0.code ≢ 0x82)
+    coded : (own.own.0.code ≡ slice_index text 8 + 0x80) × (own.own.0.code ≢ 0x82) × (own.own.0.code ≢ 0x81)
     coded = own_coded (volume_named old text) text own.own.0
         (ap (λ f. own_answer f (volume_named old text) text) (sym (of_disk old text o own kind)) ∙ own.own.1)
 
+pub own_end_of : {K : Type 0} (old : Port K) (text : List ℕ) (o : Outgoing) → ((i : ℕ) → slice_index text i < 2 ^ 8)
+    → IsOwn old text o → o.kind ≡ kinds.End → IsEndOf o.bytes.items text
+own_end_of old text o small own kind =
+    record { fits = own_fits old text o small own kind; whole = own_is_whole old text o own kind }
+
 pub keeps_endcode : (limit : Option ℕ) (h : History) (aw : List (List ℕ)) (held : List Said)
-    → Stated Fits h aw held → Keeps rules.Endcode limit h
-keeps_endcode limit = keeps_rule Fits limit rules.Endcode (codes_message limit)
+    → Stated IsEndOf h aw held → Keeps rules.Endcode limit h
+keeps_endcode limit = keeps_rule IsEndOf limit rules.Endcode (codes_message limit)
     (λ xs unit b tied e. coded_breaks_none (take tied.place xs) (drop (tied.place + 1) xs) (command_at xs tied.place)
     unit (answer_by First b.items)
     (endcode_right (command_at xs tied.place) (answer_by First b.items) tied.message
-    (ap (λ (s : Sent). s.opcode) tied.command) tied.tie.code)
+    (ap (λ (s : Sent). s.opcode) tied.command) tied.tie.fits.code)
     (placed_breaks limit xs unit First b tied.place rules.Endcode tied.at (λ h. search (arith, h)) e))
 
 -- ---- units
@@ -86,9 +100,9 @@ unit_right y e message is (inl same) = by y.next
     by false h = h
 
 pub keeps_unit : (limit : Option ℕ) (h : History) (aw : List (List ℕ)) (held : List Said)
-    → Stated Fits h aw held → Keeps rules.Unit limit h
-keeps_unit limit = keeps_rule Fits limit rules.Unit (units_message limit)
+    → Stated IsEndOf h aw held → Keeps rules.Unit limit h
+keeps_unit limit = keeps_rule IsEndOf limit rules.Unit (units_message limit)
     (λ xs unit b tied e. named_breaks_none (take tied.place xs) (drop (tied.place + 1) xs) (command_at xs tied.place)
     unit (answer_by First b.items)
-    (unit_right (command_at xs tied.place) (answer_by First b.items) tied.message tied.command tied.tie.unit)
+    (unit_right (command_at xs tied.place) (answer_by First b.items) tied.message tied.command tied.tie.fits.unit)
     (placed_breaks limit xs unit First b tied.place rules.Unit tied.at (λ h. search (arith, h)) e))

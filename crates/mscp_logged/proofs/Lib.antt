@@ -8,3 +8,4 @@ pub mod Stated
 pub mod Logging
 pub mod Placed
 pub mod Coded
+pub mod About

@@ -75,3 +75,14 @@ PortsNameTheUnit {K} picks picker =
     → IsMadeOf hardware credits controller start → AsksAlways calls → ReadsBytes calls
     → (a : Answered picks start calls p) → HostIsRight limit (logged picks start p calls a)
     → Keeps rules.Unit limit (logged picks start p calls a)
+
+-- the law of what an ABORT or a poll is about: of such a port and host: each end of one in its log names the command
+-- that its message names
+abbrev pub PortsNameTheOtherCommand : {K : Type 0} → Picking K → K → Type 0
+PortsNameTheOtherCommand {K} picks picker =
+    (c : Settings) (before : List Made) (controller : Holdings K) (hardware : Hardware) (credits : ℕ)
+    (start p : Port K) (calls : List Call) (limit : Option ℕ) → IsValid c → All (λ unit. 0 < unit.size) c.units
+    → AnsweredCalls (picks picker) (fresh c picker) before controller → outstanding_of First controller ≡ []
+    → IsMadeOf hardware credits controller start → AsksAlways calls → ReadsBytes calls
+    → (a : Answered picks start calls p) → HostIsRight limit (logged picks start p calls a)
+    → Keeps rules.About limit (logged picks start p calls a)

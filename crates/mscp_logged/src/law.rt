@@ -1,6 +1,6 @@
 // What is true of all that a port's log shows.
 
-ghost use Rattle.mscp_logged.specs.Rules.{PortsAnswerWhatIsOutstanding, PortsNameTheUnit, PortsSendLongEnds, PortsSendRightEndcodes};
+ghost use Rattle.mscp_logged.specs.Rules.{PortsAnswerWhatIsOutstanding, PortsNameTheOtherCommand, PortsNameTheUnit, PortsSendLongEnds, PortsSendRightEndcodes};
 
 use mscp_ported::{ports_end_by_opcode, ports_end_what_they_took, ports_tell_in_order};
 use mscp_queue::Picker;
@@ -38,6 +38,16 @@ pub fn ports_send_right_endcodes<K: Picker>(picker: &K)
 /// the rule `Unit`.
 pub fn ports_name_the_unit<K: Picker>(picker: &K)
     ensures { PortsNameTheUnit K.picks picker.now }
+{
+    ports_end_by_opcode(picker);
+    ports_end_what_they_took(picker);
+    ports_tell_in_order(picker);
+}
+
+/// Of such a port and host: the end of an ABORT or of a GET COMMAND STATUS names the command that its message names. None breaks the
+/// rule `About`.
+pub fn ports_name_the_other_command<K: Picker>(picker: &K)
+    ensures { PortsNameTheOtherCommand K.picks picker.now }
 {
     ports_end_by_opcode(picker);
     ports_end_what_they_took(picker);

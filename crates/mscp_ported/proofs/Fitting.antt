@@ -1,5 +1,5 @@
 -- Each end that waits fits the message whose end it is.
-use Rattle.std.proofs.Common.{◌≡◌, ◌∙◌, ◌+◌, ◌^◌, ◌<◌, ◌≤◌, ◌++◌, ◌∷◌, [], ℕ, Bool, true, false, cond, filter, length, nat_eq, not, List, Option, None, Some, inl, inr, refl, ap, sym, subst, arith}
+use Rattle.std.proofs.Common.{◌≡◌, ◌⊎◌, ◌∙◌, ◌+◌, ◌^◌, ◌<◌, ◌≤◌, ◌++◌, ◌∷◌, [], ℕ, Bool, true, false, cond, filter, length, nat_eq, not, List, Option, None, Some, inl, inr, refl, ap, sym, subst, arith}
 use Rattle.std.specs.Prelude.{find, option_map, position, slice_get, slice_index}
 use Rattle.std.specs.List.{AllByRecursion}
 use Rattle.mscp_packet.specs.Number.{num}
@@ -36,6 +36,7 @@ use Rattle.mscp_ported.specs.Awaited.{has_number}
 use Rattle.mscp_ported.specs.Ends.{Leaving}
 use Rattle.mscp_ported.specs.Fitting.{IsCodeFor}
 use Rattle.mscp_ported.proofs.Units.{IsUnitIn}
+use Rattle.mscp_ported.proofs.Codes.{about_in}
 use Rattle.mscp_ported.specs.Passing.{figure_in}
 use Rattle.mscp_ported.proofs.Buffered.{FitsBuffer}
 use Rattle.mscp_ported.proofs.Ending.{left_with, zipped}
@@ -49,7 +50,7 @@ use Rattle.mscp_ported.proofs.Whole.{code_of}
 pub record FitsEnd (l : Leaving) (t : List ℕ) : Type 0 where
   pub unit : IsUnitIn l.end.unit t
   pub code : IsCodeFor (cond (ends_formality l.fields.code) l.fields.code l.end.code) t
-  pub about : 16 ≤ length t → (other figure : ℕ) → l.end.body ≡ bodies.Status other figure
+  pub about : 16 ≤ length t → (other : ℕ) → about_in l.end.body ≡ Some other
       → (other ≡ num t 12 4) × (other < 2 ^ 32)
   -- a poll's end leaves with its own code, and its figure fits its bytes
   pub polled : (other figure : ℕ) → l.end.body ≡ bodies.Status other figure
@@ -134,26 +135,26 @@ module _ (bs : List Buffer) (e : End) (t : List ℕ) where
 
 -- ---- the end of a command that waited
 
-moved_no_figure : (order : Order) (good other figure : ℕ)
-    → ((other figure : ℕ) → refused_body (endcode order) ≡ bodies.Status other figure → ⊥)
-    → moved_body order good ≡ bodies.Status other figure → ⊥
-moved_no_figure (orders.Move kind count block) good other figure never is = search (arith, is)
-moved_no_figure order good other figure never is = never other figure is
+moved_no_about : (order : Order) (good other : ℕ)
+    → ((other : ℕ) → about_in (refused_body (endcode order)) ≡ Some other → ⊥)
+    → about_in (moved_body order good) ≡ Some other → ⊥
+moved_no_about (orders.Move kind count block) good other never is = search (arith, is)
+moved_no_about order good other never is = never other is
 
-outcome_no_figure : (shape : Shape) (status : ℕ) (order : Order) (good other figure : ℕ)
-    → ((other figure : ℕ) → refused_body (endcode order) ≡ bodies.Status other figure → ⊥)
-    → outcome_body shape status order good ≡ bodies.Status other figure → ⊥
-outcome_no_figure shape status orders.Online good other figure never is = grind (arith, is)
-outcome_no_figure shape status orders.SetUnit good other figure never is = grind (arith, is)
-outcome_no_figure shape status order good other figure never is = moved_no_figure order good other figure never is
+outcome_no_about : (shape : Shape) (status : ℕ) (order : Order) (good other : ℕ)
+    → ((other : ℕ) → about_in (refused_body (endcode order)) ≡ Some other → ⊥)
+    → about_in (outcome_body shape status order good) ≡ Some other → ⊥
+outcome_no_about shape status orders.Online good other never is = grind (arith, is)
+outcome_no_about shape status orders.SetUnit good other never is = grind (arith, is)
+outcome_no_about shape status order good other never is = moved_no_about order good other never is
 
--- its code is that of its order, and it tells no figure
+-- its code is that of its order, and it is about no other command
 pub record IsPlainEnd (r : Record) (e : End) : Type 0 where
   pub number : e.reference ≡ r.command.reference
   pub unit : e.unit ≡ r.command.unit
   pub code : e.code ≡ endcode r.command.order
-  pub no_figure : ((other figure : ℕ) → refused_body (endcode r.command.order) ≡ bodies.Status other figure → ⊥)
-      → (other figure : ℕ) → e.body ≡ bodies.Status other figure → ⊥
+  pub no_about : ((other : ℕ) → about_in (refused_body (endcode r.command.order)) ≡ Some other → ⊥)
+      → (other : ℕ) → about_in e.body ≡ Some other → ⊥
 
 pub given_plain : (k : Block) (d : Drive) (r : Record) (e : End) → end_given k d r ≡ Some e → IsPlainEnd r e
 given_plain k d r e h = by (goes_on d.online r.command.order k (left_of r)) h
@@ -167,7 +168,7 @@ given_plain k d r e h = by (goes_on d.online r.command.order k (left_of r)) h
       number = refl;
       unit = refl;
       code = refl;
-      no_figure = λ never other figure is. outcome_no_figure d.unit _ r.command.order _ other figure never is;
+      no_about = λ never other is. outcome_no_about d.unit _ r.command.order _ other never is;
     })
 
 pub aborted_plain : (r : Record) → IsPlainEnd r (aborted_record r)
@@ -175,7 +176,7 @@ aborted_plain r = record {
   number = refl;
   unit = refl;
   code = refl;
-  no_figure = λ never other figure is. moved_no_figure r.command.order r.good other figure never is;
+  no_about = λ never other is. moved_no_about r.command.order r.good other never is;
 }
 
 -- with what is decided of it, it fits
@@ -186,8 +187,8 @@ plain_fits bs r b e d t plain one f same = record {
   unit = subst (λ n. IsUnitIn n t) (sym plain.unit) f.unit;
   code = subst (λ c. IsCodeFor (cond (ends_formality c) c e.code) t) (sym same)
       (kept_coded bs e t r b one f plain.code);
-  about = λ long other figure is. absurd (plain.no_figure f.no_figure other figure is);
-  polled = λ other figure is. absurd (plain.no_figure f.no_figure other figure is);
+  about = λ long other is. absurd (plain.no_about f.no_about other is);
+  polled = λ other figure is. absurd (plain.no_about f.no_about other (ap about_in is));
 }
 
 -- ---- messages and ends beside each other
@@ -252,31 +253,49 @@ told_code p e d some =
     by true = refl
     by false = code_of e.body e d (unit_found p.controller.settings.units e.unit) p.hardware
 
+-- the code of an ABORT's end, or of a poll's
+abbrev pub IsAboutCode : ℕ → Type 0
+IsAboutCode code = (code ≡ 0x81) ⊎ (code ≡ 0x82)
+
 pub told_about : {K : Type 0} (p : Port K) (e : End) (d : Decided) → slice_get p.decided.items 0 ≡ Some d
-    → (t : List ℕ) → IsOfKind e → FitsEnd (left_with e d) t → slice_index (told_end p e) 8 ≡ 0x82 → 16 ≤ length t
+    → (t : List ℕ) → IsOfKind e → FitsEnd (left_with e d) t
+    → (slice_index (told_end p e) 8 ≡ 0x81) ⊎ (slice_index (told_end p e) 8 ≡ 0x82) → 16 ≤ length t
     → num (told_end p e) 12 4 ≡ num t 12 4
 told_about p e d some t shaped fits is long =
     ap (λ o. num (end_left e o unit p.hardware) 12 4) some
-    ∙ by (ends_formality d.code) refl (sym (told_code p e d some) ∙ is)
+    ∙ by (ends_formality d.code) refl (elim is [
+      | inl x ↦ inl (sym (told_code p e d some) ∙ x)
+      | inr x ↦ inr (sym (told_code p e d some) ∙ x)
+    ])
   where
     unit : Option Shape
     unit = unit_found p.controller.settings.units e.unit
 
-    not_formal : (code : ℕ) → ends_formality code ≡ true → code ≡ 0x82 → ⊥
-    not_formal code formal poll = search (arith, sym formal ∙ ap ends_formality poll)
+    not_formal : (code : ℕ) → ends_formality code ≡ true → IsAboutCode code → ⊥
+    not_formal code formal (inl x) = search (arith, sym formal ∙ ap ends_formality x)
+    not_formal code formal (inr x) = search (arith, sym formal ∙ ap ends_formality x)
 
-    plain : (body : EndBody) → e.body ≡ body → kind_of_code e.code ≡ Some (kind_of_body body) → e.code ≡ 0x82
+    other_kind : (kind : BodyKind) → kind_of_code e.code ≡ Some kind → IsAboutCode e.code
+        → (kind ≡ kinds_of.Abort) ⊎ (kind ≡ kinds_of.Status)
+    other_kind kind shaped (inl x) = inl (same_Some kind kinds_of.Abort (sym shaped ∙ ap kind_of_code x))
+    other_kind kind shaped (inr x) = inr (same_Some kind kinds_of.Status (sym shaped ∙ ap kind_of_code x))
+
+    plain : (body : EndBody) → e.body ≡ body → kind_of_code e.code ≡ Some (kind_of_body body) → IsAboutCode e.code
         → num (end_with_body body e d unit p.hardware) 12 4 ≡ num t 12 4
-    plain (bodies.Status other figure) same shaped poll =
-        let a = fits.about long other figure same in
+    plain (bodies.Status other figure) same shaped code =
+        let a = fits.about long other (ap about_in same) in
         ap (λ b. num (end_bytes (record e { status = d.status; body = b })) 12 4) same ∙ four other a.1 ∙ a.0
-    plain body same shaped poll = absurd (search (arith, sym shaped ∙ ap kind_of_code poll))
+    plain (bodies.Abort other) same shaped code =
+        let a = fits.about long other (ap about_in same) in
+        ap (λ b. num (end_bytes (record e { status = d.status; body = b })) 12 4) same ∙ four other a.1 ∙ a.0
+    plain body same shaped code = absurd (elim (other_kind (kind_of_body body) shaped code)
+        [ inl k ↦ search (arith, k) | inr k ↦ search (arith, k) ])
 
-    by : (c : Bool) → ends_formality d.code ≡ c → cond c d.code e.code ≡ 0x82
+    by : (c : Bool) → ends_formality d.code ≡ c → IsAboutCode (cond c d.code e.code)
         → num (cond c (head e.reference e.unit d.code d.status) (end_with_body e.body e d unit p.hardware)) 12 4
         ≡ num t 12 4
-    by true formal poll = absurd (not_formal d.code formal poll)
-    by false formal poll = plain e.body refl shaped poll
+    by true formal code = absurd (not_formal d.code formal code)
+    by false formal code = plain e.body refl shaped code
 
 -- the code of a poll's end
 status_code : (code : ℕ) → kind_of_code code ≡ Some kinds_of.Status → code ≡ 0x82

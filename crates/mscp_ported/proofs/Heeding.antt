@@ -36,7 +36,7 @@ use Rattle.mscp_ported.proofs.Answering.{none_so, own_so}
 use Rattle.mscp_ported.proofs.Awaiting.{IsLikeIt, IsNoReset, IsSmall, Kept, handed_like, is_it, nothing_there, others, own_number}
 use Rattle.mscp_ported.proofs.Awaits.{none_taken, taken_is}
 use Rattle.mscp_ported.proofs.Buffered.{FitsBuffer, IsKeptEach, abort_kept, answered_kept, few_kept, queued_kept}
-use Rattle.mscp_ported.proofs.Codes.{answered_about, handed_coded, queued_no_figure}
+use Rattle.mscp_ported.proofs.Codes.{answered_about, handed_coded, queued_no_about}
 use Rattle.mscp_ported.proofs.Coming.{come_so, ends_of}
 use Rattle.mscp_ported.proofs.Decided.{read_stays}
 use Rattle.mscp_ported.proofs.Ended.{bytes_small}
@@ -188,7 +188,7 @@ module _ {K : Type 0} (bytes : List ℕ) (done : Unit) (old new : Port K) (aw : 
                       (place_in old.controller.settings.units (num bytes 4 2))) sees.long;
                   unit = handed_unit old.controller.settings.units bytes sees.long small;
                   code = λ plain. handed_coded old.controller.settings.units bytes sees.long plain;
-                  no_figure = queued_no_figure h.settings command q;
+                  no_about = queued_no_about h.settings command q;
                 }) f.kept));
             fits = subst (λ es. AllByRecursion (FitsIn (aw ++ bytes ∷ [])) (zipped es new.decided.items))
                 (sym (ap (λ (x : Holdings K). ends_of x) is))
@@ -235,10 +235,10 @@ module _ {K : Type 0} (bytes : List ℕ) (done : Unit) (old new : Port K) (aw : 
               (ap (λ m. filter (is_of First m) old.buffers.items) own_named ∙ (f.kept n).none nothing.1)
               (subst (λ x. IsCodeFor x bytes) (sym (own_code h.settings _ _ command (fault_of h.settings command)))
               (handed_coded old.controller.settings.units bytes sees.long plain)));
-          about = λ long other figure is. (
-            answered_about h.settings _ _ old.controller.settings.units bytes long other figure is,
+          about = λ long other is. (
+            answered_about h.settings _ _ old.controller.settings.units bytes long other is,
             subst (λ x. x < 2 ^ 32)
-                (sym (answered_about h.settings _ _ old.controller.settings.units bytes long other figure is))
+                (sym (answered_about h.settings _ _ old.controller.settings.units bytes long other is))
                 (num_small bytes small),
           );
           polled = λ other figure is. (

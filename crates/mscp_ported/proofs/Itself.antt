@@ -113,33 +113,42 @@ own_whole v b own h = by (is_none v && asks_nothing (slice_index b 8)) refl h
     })
     by false is h = refused v h
 
--- what the port answers has the code of the message's opcode, and is no answer to a poll
+-- what the port answers has the code of the message's opcode, and answers neither a poll nor an ABORT
 pub own_coded : (v : Option Volume) (b : List ℕ) (own : Own) → own_answer false v b ≡ Some own
-    → (own.code ≡ slice_index b 8 + 0x80) × (own.code ≢ 0x82)
+    → (own.code ≡ slice_index b 8 + 0x80) × (own.code ≢ 0x82) × (own.code ≢ 0x81)
 own_coded v b own h = by (is_none v && asks_nothing (slice_index b 8)) refl h
   where
     not_formal : (opcode : ℕ) → asks_nothing opcode ≡ true → opcode + 0x80 ≢ 0x82
     not_formal opcode is e = grind (arith, is, e)
 
+    no_abort : (opcode : ℕ) → asks_nothing opcode ≡ true → opcode + 0x80 ≢ 0x81
+    no_abort opcode is e = grind (arith, is, e)
+
     not_moved : (opcode : ℕ) (c : Bool) → (moves_opcode opcode && c) ≡ true → opcode + 0x80 ≢ 0x82
     not_moved opcode c is e = grind (arith, is, e)
+
+    moves_no_abort : (opcode : ℕ) (c : Bool) → (moves_opcode opcode && c) ≡ true → opcode + 0x80 ≢ 0x81
+    moves_no_abort opcode c is e = grind (arith, is, e)
 
     got : (o : Option ℕ) → moves_data b ≡ true → option_map (λ status. record {
       code = slice_index b 8 + 0x80;
       status = status;
       tells_bytes = true;
-    }) o ≡ Some own → (own.code ≡ slice_index b 8 + 0x80) × (own.code ≢ 0x82)
+    }) o ≡ Some own → (own.code ≡ slice_index b 8 + 0x80) × (own.code ≢ 0x82) × (own.code ≢ 0x81)
     got None moves h = absurd (none-some own h)
     got (Some status) moves h =
         let same = same_Some (record { code = slice_index b 8 + 0x80; status = status; tells_bytes = true }) own h in
-        let code : own.code ≡ slice_index b 8 + 0x80 = ap (λ (x : Own). x.code) (sym same) in
-        (code, λ e. not_moved (slice_index b 8) (nat_le 32 (length b)) moves (sym code ∙ e))
+        let code : own.code ≡ slice_index b 8 + 0x80 = ap (λ (x : Own). x.code) (sym same) in (
+          code,
+          λ e. not_moved (slice_index b 8) (nat_le 32 (length b)) moves (sym code ∙ e),
+          λ e. moves_no_abort (slice_index b 8) (nat_le 32 (length b)) moves (sym code ∙ e),
+        )
 
     refused : (o : Option Volume) → option_map (λ status. record {
       code = slice_index b 8 + 0x80;
       status = status;
       tells_bytes = true;
-    }) (own_refusal b o) ≡ Some own → (own.code ≡ slice_index b 8 + 0x80) × (own.code ≢ 0x82)
+    }) (own_refusal b o) ≡ Some own → (own.code ≡ slice_index b 8 + 0x80) × (own.code ≢ 0x82) × (own.code ≢ 0x81)
     refused None h = absurd (none-some own h)
     refused (Some x) h = cases x.is_there (moves_data b) refl h
       where
@@ -148,7 +157,7 @@ own_coded v b own h = by (is_none v && asks_nothing (slice_index b 8)) refl h
           status = status;
           tells_bytes = true;
         }) (cond (there && moves) (past_end x.size (num b 28 4) (num b 12 4)) None) ≡ Some own
-            → (own.code ≡ slice_index b 8 + 0x80) × (own.code ≢ 0x82)
+            → (own.code ≡ slice_index b 8 + 0x80) × (own.code ≢ 0x82) × (own.code ≢ 0x81)
         cases true true is h = got (past_end x.size (num b 28 4) (num b 12 4)) is h
         cases true false is h = absurd (none-some own h)
         cases false m is h = absurd (none-some own h)
@@ -161,12 +170,14 @@ own_coded v b own h = by (is_none v && asks_nothing (slice_index b 8)) refl h
       code = slice_index b 8 + 0x80;
       status = status;
       tells_bytes = true;
-    }) (own_refusal b v)) ≡ Some own → (own.code ≡ slice_index b 8 + 0x80) × (own.code ≢ 0x82)
+    }) (own_refusal b v)) ≡ Some own → (own.code ≡ slice_index b 8 + 0x80) × (own.code ≢ 0x82) × (own.code ≢ 0x81)
     by true is h =
         let same = same_Some (record { code = slice_index b 8 + 0x80; status = 0; tells_bytes = false }) own h in
         let code : own.code ≡ slice_index b 8 + 0x80 = ap (λ (x : Own). x.code) (sym same) in (
           code,
           λ e. not_formal (slice_index b 8) (and_parts (is_none v) (asks_nothing (slice_index b 8)) is).1
+              (sym code ∙ e),
+          λ e. no_abort (slice_index b 8) (and_parts (is_none v) (asks_nothing (slice_index b 8)) is).1
               (sym code ∙ e),
         )
     by false is h = refused v h

@@ -1,5 +1,5 @@
--- An end fits the message whose end it is: by unit and endcode, and that of a poll by the command that it is about (manual,
--- "End Messages", "GET COMMAND STATUS").
+-- An end fits the message whose end it is: by unit and endcode, and that of an ABORT or a poll by the command that it
+-- is about (manual, "End Messages", "GET COMMAND STATUS").
 use Rattle.std.specs.Prelude.{◌≡◌, ◌⊎◌, ◌+◌, ◌<◌, ◌≤◌, ◌∷◌, [], ℕ, All, List, filter, length, slice_index, true, None}
 use Rattle.mscp_packet.specs.Number.{num}
 use Rattle.mscp_packet.specs.Opcodes.{opcode_of}
@@ -24,12 +24,13 @@ IsCodeFor code message =
 abbrev pub IsUnitFor : ℕ → List ℕ → Type 0
 IsUnitFor unit message = (unit ≡ num message 4 2) ⊎ (asks_next message ≡ true)
 
--- an end has such a unit and endcode; and that of a poll is about the command that the message names, which has all
--- bytes of a poll's
+-- an end has such a unit and endcode; and that of an ABORT (0x81) or of a poll (0x82) is about the command that the
+-- message names, if it has all bytes of one
 pub record Fits (text message : List ℕ) : Type 0 where
   pub unit : IsUnitFor (num text 4 2) message
   pub code : IsCodeFor (slice_index text 8) message
-  pub about : slice_index text 8 ≡ 0x82 → 16 ≤ length message → num text 12 4 ≡ num message 12 4
+  pub about : (slice_index text 8 ≡ 0x81) ⊎ (slice_index text 8 ≡ 0x82) → 16 ≤ length message
+      → num text 12 4 ≡ num message 12 4
 
 -- the law of endcodes: a port was made over a controller, which had answered some calls before, has nothing of its
 -- host's, and no unit without a block. Whoever calls the port, what it reads being bytes: an end of the controller's
