@@ -213,3 +213,41 @@ about_breaks_none earlier later y unit e about =
     (unless_other is_of_abouts rules.About refl (has_abort later y e) rules.Aborted _ refl
     (unless_other is_of_abouts rules.About refl (passes_none earlier y e) rules.Order _ refl
     (about_breaks later y unit e about)))))
+
+-- ---- their success
+
+is_of_success : Rule → Bool
+is_of_success rules.Success = true
+is_of_success rule = false
+
+pub success_message : (credits : Option ℕ) (xs : List Sent) (unit : Seen) (via : Connection) (b : ArrayVec ℕ)
+    (time : Option ℕ) → broken credits xs unit (moments.Message via b time) ≡ Some rules.Success → ⊥
+unfolding is_of_success
+success_message = message_never is_of_success rules.Success refl (refl, refl, refl)
+
+success_breaks : (later : List Sent) (y : Sent) (unit : Seen) (e : Answer) → succeeds e (other_of y e) ≡ true
+    → broken_body later y unit e ≡ Some rules.Success → ⊥
+unfolding is_of_success
+success_breaks later y unit e success h =
+    unless_other is_of_success rules.Success refl (is_about e (other_of y e)) rules.About _ refl
+    (unless_other is_of_success rules.Success refl (has_figure later y e (polled_by y e)) rules.Figure _ refl
+    (unless_other is_of_success rules.Success refl (has_count e (count_of y e)) rules.Count _ refl
+    (unless_other is_of_success rules.Success refl (is_same_unit unit.unit e) rules.Identity _ refl
+    (unless_other is_of_success rules.Success refl (suits_state unit.unit.state e) rules.State _ refl
+    (unless_other is_of_success rules.Success refl (fits unit.controller e.controller) rules.Controller None refl
+    (none_never rules.Success))))))
+    (sym (ap (λ c. unless c rules.Success (unless (is_about e (other_of y e)) rules.About
+    (unless (has_figure later y e (polled_by y e)) rules.Figure (unless (has_count e (count_of y e)) rules.Count
+    (unless (is_same_unit unit.unit e) rules.Identity (unless (suits_state unit.unit.state e) rules.State
+    (unless (fits unit.controller e.controller) rules.Controller None))))))) success) ∙ h)
+
+pub success_breaks_none : (earlier later : List Sent) (y : Sent) (unit : Seen) (e : Answer)
+    → succeeds e (other_of y e) ≡ true → broken_end earlier later y unit e ≡ Some rules.Success → ⊥
+unfolding is_of_success
+success_breaks_none earlier later y unit e success =
+    unless_other is_of_success rules.Success refl (names_unit y e) rules.Unit _ refl
+    (unless_other is_of_success rules.Success refl (has_endcode y e) rules.Endcode _ refl
+    (unless_other is_of_success rules.Success refl (has_status y e) rules.Status _ refl
+    (unless_other is_of_success rules.Success refl (has_abort later y e) rules.Aborted _ refl
+    (unless_other is_of_success rules.Success refl (passes_none earlier y e) rules.Order _ refl
+    (success_breaks later y unit e success)))))

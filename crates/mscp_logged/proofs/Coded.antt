@@ -1,5 +1,5 @@
 -- Each end of a port's log has the unit and the endcode of its command.
-use Rattle.std.proofs.Common.{◌≡◌, ◌∙◌, ◌+◌, ℕ, Bool, true, false, cond, drop, nat_eq, not, take, List, Option, None, inl, inr, refl, ap, sym, arith}
+use Rattle.std.proofs.Common.{◌≡◌, ◌⊎◌, ◌∙◌, ◌+◌, ℕ, Bool, true, false, cond, drop, nat_eq, not, take, List, Option, None, inl, inr, refl, ap, sym, arith}
 use Rattle.std.specs.Prelude.{◌<◌, ◌^◌, ◌||◌, ◌≢◌, slice_index}
 use Rattle.mscp_packet.proofs.Numbers.{two}
 use Rattle.mscp_packet.specs.Number.{num}
@@ -63,15 +63,17 @@ own_fits : {K : Type 0} (old : Port K) (text : List ℕ) (o : Outgoing) → ((i 
 own_fits old text o small own kind = record {
   unit = inl (ap (λ b. num b 4 2) own.own.2 ∙ two (num text 4 2) (small_unit text small));
   code = inr (ap (λ b. slice_index b 8) own.own.2 ∙ coded.0);
-  about = λ code long. absurd (elim code [
-    | inl x ↦ coded.2 (sym (ap (λ b. slice_index b 8) own.own.2) ∙ x)
-    | inr x ↦ coded.1 (sym (ap (λ b. slice_index b 8) own.own.2) ∙ x)
-  ]);
+  about = λ code long. absurd (neither code);
+  succeeds = λ code long. absurd (neither code);
 }
   where
     coded : (own.own.0.code ≡ slice_index text 8 + 0x80) × (own.own.0.code ≢ 0x82) × (own.own.0.code ≢ 0x81)
     coded = own_coded (volume_named old text) text own.own.0
         (ap (λ f. own_answer f (volume_named old text) text) (sym (of_disk old text o own kind)) ∙ own.own.1)
+
+    neither : (slice_index o.bytes.items 8 ≡ 0x81) ⊎ (slice_index o.bytes.items 8 ≡ 0x82) → ⊥
+    neither (inl x) = coded.2 (sym (ap (λ b. slice_index b 8) own.own.2) ∙ x)
+    neither (inr x) = coded.1 (sym (ap (λ b. slice_index b 8) own.own.2) ∙ x)
 
 pub own_end_of : {K : Type 0} (old : Port K) (text : List ℕ) (o : Outgoing) → ((i : ℕ) → slice_index text i < 2 ^ 8)
     → IsOwn old text o → o.kind ≡ kinds.End → IsEndOf o.bytes.items text

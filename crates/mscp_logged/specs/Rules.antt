@@ -86,3 +86,13 @@ PortsNameTheOtherCommand {K} picks picker =
     → IsMadeOf hardware credits controller start → AsksAlways calls → ReadsBytes calls
     → (a : Answered picks start calls p) → HostIsRight limit (logged picks start p calls a)
     → Keeps rules.About limit (logged picks start p calls a)
+
+-- the law of ABORTs and polls: of such a port and host: each of them succeeds, if it has all its bytes
+abbrev pub PortsServeAbortsAndPolls : {K : Type 0} → Picking K → K → Type 0
+PortsServeAbortsAndPolls {K} picks picker =
+    (c : Settings) (before : List Made) (controller : Holdings K) (hardware : Hardware) (credits : ℕ)
+    (start p : Port K) (calls : List Call) (limit : Option ℕ) → IsValid c → All (λ unit. 0 < unit.size) c.units
+    → AnsweredCalls (picks picker) (fresh c picker) before controller → outstanding_of First controller ≡ []
+    → IsMadeOf hardware credits controller start → AsksAlways calls → ReadsBytes calls
+    → (a : Answered picks start calls p) → HostIsRight limit (logged picks start p calls a)
+    → Keeps rules.Success limit (logged picks start p calls a)

@@ -1,6 +1,6 @@
 // What is true of all that a port's log shows.
 
-ghost use Rattle.mscp_logged.specs.Rules.{PortsAnswerWhatIsOutstanding, PortsNameTheOtherCommand, PortsNameTheUnit, PortsSendLongEnds, PortsSendRightEndcodes};
+ghost use Rattle.mscp_logged.specs.Rules.{PortsAnswerWhatIsOutstanding, PortsNameTheOtherCommand, PortsNameTheUnit, PortsSendLongEnds, PortsSendRightEndcodes, PortsServeAbortsAndPolls};
 
 use mscp_ported::{ports_end_by_opcode, ports_end_what_they_took, ports_tell_in_order};
 use mscp_queue::Picker;
@@ -48,6 +48,15 @@ pub fn ports_name_the_unit<K: Picker>(picker: &K)
 /// rule `About`.
 pub fn ports_name_the_other_command<K: Picker>(picker: &K)
     ensures { PortsNameTheOtherCommand K.picks picker.now }
+{
+    ports_end_by_opcode(picker);
+    ports_end_what_they_took(picker);
+    ports_tell_in_order(picker);
+}
+
+/// Of such a port and host: an ABORT and a GET COMMAND STATUS succeed, if they have all their bytes. None breaks the rule `Success`.
+pub fn ports_serve_aborts_and_polls<K: Picker>(picker: &K)
+    ensures { PortsServeAbortsAndPolls K.picks picker.now }
 {
     ports_end_by_opcode(picker);
     ports_end_what_they_took(picker);

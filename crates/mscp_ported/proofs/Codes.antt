@@ -11,6 +11,7 @@ use Rattle.mscp_packet.specs.declared.command.MoveKind.{MoveKind}
 use Rattle.mscp_packet.specs.declared.command.MoveKind.TheVariants as kinds
 use Rattle.mscp_packet.specs.declared.command.Order.{Order}
 use Rattle.mscp_packet.specs.declared.command.Order.TheVariants as orders
+use Rattle.mscp_packet.specs.declared.end.End.{End}
 use Rattle.mscp_packet.specs.declared.end.EndBody.{EndBody}
 use Rattle.mscp_packet.specs.declared.end.EndBody.TheVariants as bodies
 use Rattle.mscp_packet.specs.Commands.{order_with, parameters}
@@ -147,25 +148,32 @@ about_in (bodies.Abort other) = Some other
 about_in (bodies.Status other figure) = Some other
 about_in body = None
 
--- it is the one that the message names
-abbrev IsAbout : List ℕ → EndBody → Type 0
-IsAbout b body = (other : ℕ) → about_in body ≡ Some other → other ≡ num b 12 4
+-- the code of the end of an ABORT or of a poll
+abbrev pub IsAboutCode : ℕ → Type 0
+IsAboutCode code = (code ≡ 0x81) ⊎ (code ≡ 0x82)
+
+-- it is the one that the message names, and the end succeeds
+abbrev pub Succeeds : List ℕ → End → ℕ → Type 0
+Succeeds b e other = (other ≡ num b 12 4) × (e.status ≡ 0) × IsAboutCode e.code
+
+abbrev IsAbout : List ℕ → End → Type 0
+IsAbout b e = (other : ℕ) → about_in e.body ≡ Some other → Succeeds b e other
 
 short_about : (o : Opcode) (b : List ℕ) (byte : ℕ) → (row_of o).byte ≡ byte → least o ≤ 16 → 16 ≤ length b
-    → nat_lt (length b) (least o) ≡ true → IsAbout b (refused_body (bit_or byte 0x80))
-short_about o b byte at small long short = absurd (search (arith, small, long, short))
+    → nat_lt (length b) (least o) ≡ true → ⊥
+short_about o b byte at small long short = search (arith, small, long, short)
 
-other_about : (o : Opcode) (b : List ℕ) (byte : ℕ) → (row_of o).byte ≡ byte → 16 < least o
-    → IsAbout b (refused_body (bit_or byte 0x80))
-other_about codes.Abort b byte at more other is = absurd (search (arith, more))
-other_about codes.Status b byte at more other is = absurd (search (arith, more))
-other_about codes.UnitStatus b byte at more other is = absurd (search (arith, more))
-other_about codes.SetController b byte at more other is = absurd (search (arith, more))
-other_about codes.Available b byte at more other is = absurd (search (arith, more))
-other_about codes.Online b byte at more other is = absurd (search (arith, more))
-other_about codes.SetUnit b byte at more other is = absurd (search (arith, more))
-other_about (codes.Move kind) b byte at more other is = absurd (moved kind other
-    (ap (λ x. about_in (refused_body (bit_or x 0x80))) at ∙ is))
+other_about : (o : Opcode) (b : List ℕ) (byte : ℕ) → (row_of o).byte ≡ byte → 16 < least o → (other : ℕ)
+    → about_in (refused_body (bit_or byte 0x80)) ≡ Some other → ⊥
+other_about codes.Abort b byte at more other is = search (arith, more)
+other_about codes.Status b byte at more other is = search (arith, more)
+other_about codes.UnitStatus b byte at more other is = search (arith, more)
+other_about codes.SetController b byte at more other is = search (arith, more)
+other_about codes.Available b byte at more other is = search (arith, more)
+other_about codes.Online b byte at more other is = search (arith, more)
+other_about codes.SetUnit b byte at more other is = search (arith, more)
+other_about (codes.Move kind) b byte at more other is = moved kind other
+    (ap (λ x. about_in (refused_body (bit_or x 0x80))) at ∙ is)
   where
     moved : (kind : MoveKind) (other : ℕ)
         → about_in (refused_body (bit_or (row_of (codes.Move kind)).byte 0x80)) ≡ Some other → ⊥
@@ -175,8 +183,8 @@ other_about (codes.Move kind) b byte at more other is = absurd (moved kind other
     moved kinds.Read other is = search (arith, is)
     moved kinds.Write other is = search (arith, is)
 
-abbrev body_of : Settings → Bool → ℕ → Command → EndBody
-body_of c online figure command = (own_end_with c online figure command (fault_of c command)).body
+abbrev own_of : Settings → Bool → ℕ → Command → End
+own_of c online figure command = own_end_with c online figure command (fault_of c command)
 
 -- what the controller answers a command at once is about none, whatever the fault is
 abbrev Untold : Settings → Bool → ℕ → Command → Type 0
@@ -220,11 +228,11 @@ move_untold c online figure unit reference count block kinds.Read (Some u) other
 move_untold c online figure unit reference count block kinds.Write (Some u) other h = search (arith, h)
 
 parameters_about : (c : Settings) (online : Bool) (figure unit reference : ℕ) (b : List ℕ) (o : Opcode)
-    → IsAbout b (body_of c online figure (commanded unit reference (parameters o b)))
+    → IsAbout b (own_of c online figure (commanded unit reference (parameters o b)))
 parameters_about c online figure unit reference b codes.Status other is =
-    search (arith, is)
+    (search (arith, is), refl, inr refl)
 parameters_about c online figure unit reference b codes.Abort other is =
-    search (arith, is)
+    (search (arith, is), refl, inl refl)
 parameters_about c online figure unit reference b codes.UnitStatus other is = absurd (by
     (unit_found c.units unit) is)
   where
@@ -246,18 +254,18 @@ parameters_about c online figure unit reference b (codes.Move kind) other is = a
 
 answered_with : (c : Settings) (online : Bool) (figure unit reference : ℕ) (b : List ℕ) (o : Option Opcode)
     → opcode_of (slice_index b 8) ≡ o → 16 ≤ length b
-    → IsAbout b (body_of c online figure (record { reference = reference; unit = unit; order = order_with o b }))
-answered_with c online figure unit reference b None e long other is = absurd (search (arith, is))
-answered_with c online figure unit reference b (Some o) e long other is = by (nat_lt (length b) (least o)) refl is
+    → IsAbout b (own_of c online figure (record { reference = reference; unit = unit; order = order_with o b }))
+answered_with c online figure unit reference b None e long = λ other is. absurd (search (arith, is))
+answered_with c online figure unit reference b (Some o) e long = by (nat_lt (length b) (least o)) refl
   where
     at : (row_of o).byte ≡ slice_index b 8
     at = eqb-true (row_of o).byte (slice_index b 8)
         (found_is (λ x. nat_eq (row_of x).byte (slice_index b 8)) opcodes o e)
 
-    refused : nat_lt (length b) (least o) ≡ true → (n : ℕ) → least o ≡ n
-        → about_in (refused_body (bit_or (slice_index b 8) 0x80)) ≡ Some other → other ≡ num b 12 4
-    refused short n same h = elim (low n) [
-      | inl few ↦ short_about o b (slice_index b 8) at (subst (λ m. m ≤ 16) (sym same) few) long short other h
+    refused : nat_lt (length b) (least o) ≡ true → (n other : ℕ) → least o ≡ n
+        → about_in (refused_body (bit_or (slice_index b 8) 0x80)) ≡ Some other → ⊥
+    refused short n other same h = elim (low n) [
+      | inl few ↦ short_about o b (slice_index b 8) at (subst (λ m. m ≤ 16) (sym same) few) long short
       | inr more ↦ other_about o b (slice_index b 8) at (subst (λ m. 16 < m) (sym same) more) other h
     ]
       where
@@ -265,18 +273,17 @@ answered_with c online figure unit reference b (Some o) e long other is = by (na
         low n = search arith
 
     by : (x : Bool) → nat_lt (length b) (least o) ≡ x
-        → about_in (body_of c online figure (record {
+        → IsAbout b (own_of c online figure (record {
           reference = reference;
           unit = unit;
           order = cond x
               (orders.Invalid (slice_index b 8) Rattle.mscp_packet.specs.Statuses.invalid_length) (parameters o b);
         }))
-        ≡ Some other → other ≡ num b 12 4
-    by true short h = refused short (least o) refl h
-    by false enough h = parameters_about c online figure unit reference b o other h
+    by true short other h = absurd (refused short (least o) other refl h)
+    by false enough other h = parameters_about c online figure unit reference b o other h
 
 answered_command : (c : Settings) (online : Bool) (figure : ℕ) (b : List ℕ) → 16 ≤ length b
-    → IsAbout b (body_of c online figure (command_of b))
+    → IsAbout b (own_of c online figure (command_of b))
 unfolding command_of
 answered_command c online figure b long =
     answered_with c online figure (num b 4 2) (num b 0 4) b (opcode_of (slice_index b 8)) refl long
@@ -287,7 +294,7 @@ named_long (a ∷ b ∷ c ∷ d ∷ e ∷ f ∷ g ∷ h ∷ i ∷ j ∷ k ∷ l 
 named_long b n long = search (arith, long)
 
 stood_about : (c : Settings) (online : Bool) (figure : ℕ) (b : List ℕ) → 16 ≤ length b
-    → (other : ℕ) → about_in (body_of c online figure (command_of (stand_in b))) ≡ Some other → ⊥
+    → (other : ℕ) → about_in (own_of c online figure (command_of (stand_in b))).body ≡ Some other → ⊥
 unfolding command_of
 stood_about c online figure (x ∷ b ∷ d ∷ e ∷ f ∷ g ∷ h ∷ i ∷ rest) long other is =
     by (move_fault c 0 0 (unit_found c.units (num (f ∷ g ∷ []) 0 2))) is
@@ -299,19 +306,17 @@ stood_about c online figure (x ∷ b ∷ d ∷ e ∷ f ∷ g ∷ h ∷ i ∷ res
 stood_about c online figure b long other is = search (arith, long)
 
 pub answered_about : (c : Settings) (online : Bool) (figure : ℕ) (units : List Shape) (b : List ℕ) → 16 ≤ length b
-    → (other : ℕ) → about_in (body_of c online figure (command_of (handed units b))) ≡ Some other
-    → other ≡ num b 12 4
-answered_about c online figure units b long other is = by (is_formality (slice_index b 8)) (asks_for_next b) is
+    → IsAbout b (own_of c online figure (command_of (handed units b)))
+answered_about c online figure units b long = by (is_formality (slice_index b 8)) (asks_for_next b)
   where
-    by : (x y : Bool) → about_in (body_of c online figure (command_of (cond x (stand_in b)
-        (cond y (take 4 b ++ little_bytes 2 (next_unit units (num b 4 2)) ++ drop 6 b) b)))) ≡ Some other
-        → other ≡ num b 12 4
-    by true y h = absurd (stood_about c online figure b long other h)
-    by false true h = answered_command c online figure
-        (take 4 b ++ little_bytes 2 (next_unit units (num b 4 2)) ++ drop 6 b)
-        (named_long b (next_unit units (num b 4 2)) long) other h
-        ∙ named_about b (next_unit units (num b 4 2)) (search (arith, long))
-    by false false h = answered_command c online figure b long other h
+    by : (x y : Bool) → IsAbout b (own_of c online figure (command_of (cond x (stand_in b)
+        (cond y (take 4 b ++ little_bytes 2 (next_unit units (num b 4 2)) ++ drop 6 b) b))))
+    by true y other h = absurd (stood_about c online figure b long other h)
+    by false true other h =
+        let a = answered_command c online figure (take 4 b ++ little_bytes 2 (next_unit units (num b 4 2)) ++ drop 6 b)
+        (named_long b (next_unit units (num b 4 2)) long) other h in
+        (a.0 ∙ named_about b (next_unit units (num b 4 2)) (search (arith, long)), a.1, a.2)
+    by false false other h = answered_command c online figure b long other h
 
 -- ---- a command that is queued
 

@@ -26,7 +26,9 @@ use Rattle.mscp_port.specs.declared.buffers.Buffer.{Buffer}
 use Rattle.mscp_port.specs.declared.decided.Decided.{Decided}
 use Rattle.mscp_port.specs.Blocks.{kept_at, kept_of}
 use Rattle.mscp_port.specs.Buffers.{is_of}
-use Rattle.mscp_port.specs.Decided.{end_decided}
+use Rattle.mscp_port.specs.Decided.{end_decided, status_told}
+use Rattle.mscp_port.specs.declared.verdict.Verdict.TheVariants as verdicts
+use Rattle.mscp_drive.specs.declared.block.Block.TheVariants as blocks
 use Rattle.mscp_port.specs.Formalities.{code_told, ends_formality, is_formality}
 use Rattle.mscp_port.specs.Leaving.{end_left, end_with_body, head, told_end}
 use Rattle.mscp_port.specs.declared.port.Port.{Port}
@@ -36,7 +38,7 @@ use Rattle.mscp_ported.specs.Awaited.{has_number}
 use Rattle.mscp_ported.specs.Ends.{Leaving}
 use Rattle.mscp_ported.specs.Fitting.{IsCodeFor}
 use Rattle.mscp_ported.proofs.Units.{IsUnitIn}
-use Rattle.mscp_ported.proofs.Codes.{about_in}
+use Rattle.mscp_ported.proofs.Codes.{IsAboutCode, about_in}
 use Rattle.mscp_ported.specs.Passing.{figure_in}
 use Rattle.mscp_ported.proofs.Buffered.{FitsBuffer}
 use Rattle.mscp_ported.proofs.Ending.{left_with, zipped}
@@ -51,7 +53,7 @@ pub record FitsEnd (l : Leaving) (t : List ℕ) : Type 0 where
   pub unit : IsUnitIn l.end.unit t
   pub code : IsCodeFor (cond (ends_formality l.fields.code) l.fields.code l.end.code) t
   pub about : 16 ≤ length t → (other : ℕ) → about_in l.end.body ≡ Some other
-      → (other ≡ num t 12 4) × (other < 2 ^ 32)
+      → (other ≡ num t 12 4) × (other < 2 ^ 32) × (l.fields.status ≡ 0)
   -- a poll's end leaves with its own code, and its figure fits its bytes
   pub polled : (other figure : ℕ) → l.end.body ≡ bodies.Status other figure
       → (l.fields.code ≡ l.end.code) × (figure < 2 ^ 32)
@@ -73,6 +75,24 @@ decided_code code status e units flags v = by (nat_eq e.code 0x84)
     by true o = refl
     by false None = refl
     by false (Some unit) = refl
+
+pub decided_status : (code status : ℕ) (e : End) (units : List Shape) (flags : ℕ) (v : Volume)
+    → (end_decided code status e units flags v).status ≡ status
+decided_status code status e units flags v = by (nat_eq e.code 0x84)
+    (Rattle.mscp_drive.specs.UnitList.unit_found units e.unit)
+  where
+    by : (c : Bool) (o : Option Shape)
+        → (cond c (Rattle.mscp_port.specs.Decided.controller_decided code status flags)
+        (Rattle.mscp_port.specs.Decided.found_decided code status o v)).status ≡ status
+    by true o = refl
+    by false None = refl
+    by false (Some unit) = refl
+
+-- the Success of an ABORT or a poll is told as such
+pub success_told : (code : ℕ) (v : Volume) → IsAboutCode code
+    → status_told (verdicts.Served blocks.Good) code 0 v ≡ 0
+success_told code v (inl e) = ap (λ n. status_told (verdicts.Served blocks.Good) n 0 v) e
+success_told code v (inr e) = ap (λ n. status_told (verdicts.Served blocks.Good) n 0 v) e
 
 formal_code : (n : ℕ) → is_formality n ≡ true → ends_formality (n + 0x80) ≡ true
 formal_code n e = grind (arith, e)
@@ -253,9 +273,14 @@ told_code p e d some =
     by true = refl
     by false = code_of e.body e d (unit_found p.controller.settings.units e.unit) p.hardware
 
--- the code of an ABORT's end, or of a poll's
-abbrev pub IsAboutCode : ℕ → Type 0
-IsAboutCode code = (code ≡ 0x81) ⊎ (code ≡ 0x82)
+not_formal : (code : ℕ) → ends_formality code ≡ true → IsAboutCode code → ⊥
+not_formal code formal (inl x) = search (arith, sym formal ∙ ap ends_formality x)
+not_formal code formal (inr x) = search (arith, sym formal ∙ ap ends_formality x)
+
+about_kind : (code : ℕ) (kind : BodyKind) → kind_of_code code ≡ Some kind → IsAboutCode code
+    → (kind ≡ kinds_of.Abort) ⊎ (kind ≡ kinds_of.Status)
+about_kind code kind shaped (inl x) = inl (same_Some kind kinds_of.Abort (sym shaped ∙ ap kind_of_code x))
+about_kind code kind shaped (inr x) = inr (same_Some kind kinds_of.Status (sym shaped ∙ ap kind_of_code x))
 
 pub told_about : {K : Type 0} (p : Port K) (e : End) (d : Decided) → slice_get p.decided.items 0 ≡ Some d
     → (t : List ℕ) → IsOfKind e → FitsEnd (left_with e d) t
@@ -271,15 +296,6 @@ told_about p e d some t shaped fits is long =
     unit : Option Shape
     unit = unit_found p.controller.settings.units e.unit
 
-    not_formal : (code : ℕ) → ends_formality code ≡ true → IsAboutCode code → ⊥
-    not_formal code formal (inl x) = search (arith, sym formal ∙ ap ends_formality x)
-    not_formal code formal (inr x) = search (arith, sym formal ∙ ap ends_formality x)
-
-    other_kind : (kind : BodyKind) → kind_of_code e.code ≡ Some kind → IsAboutCode e.code
-        → (kind ≡ kinds_of.Abort) ⊎ (kind ≡ kinds_of.Status)
-    other_kind kind shaped (inl x) = inl (same_Some kind kinds_of.Abort (sym shaped ∙ ap kind_of_code x))
-    other_kind kind shaped (inr x) = inr (same_Some kind kinds_of.Status (sym shaped ∙ ap kind_of_code x))
-
     plain : (body : EndBody) → e.body ≡ body → kind_of_code e.code ≡ Some (kind_of_body body) → IsAboutCode e.code
         → num (end_with_body body e d unit p.hardware) 12 4 ≡ num t 12 4
     plain (bodies.Status other figure) same shaped code =
@@ -288,12 +304,41 @@ told_about p e d some t shaped fits is long =
     plain (bodies.Abort other) same shaped code =
         let a = fits.about long other (ap about_in same) in
         ap (λ b. num (end_bytes (record e { status = d.status; body = b })) 12 4) same ∙ four other a.1 ∙ a.0
-    plain body same shaped code = absurd (elim (other_kind (kind_of_body body) shaped code)
+    plain body same shaped code = absurd (elim (about_kind e.code (kind_of_body body) shaped code)
         [ inl k ↦ search (arith, k) | inr k ↦ search (arith, k) ])
 
     by : (c : Bool) → ends_formality d.code ≡ c → IsAboutCode (cond c d.code e.code)
         → num (cond c (head e.reference e.unit d.code d.status) (end_with_body e.body e d unit p.hardware)) 12 4
         ≡ num t 12 4
+    by true formal code = absurd (not_formal d.code formal code)
+    by false formal code = plain e.body refl shaped code
+
+-- and it succeeds
+pub told_success : {K : Type 0} (p : Port K) (e : End) (d : Decided) → slice_get p.decided.items 0 ≡ Some d
+    → (t : List ℕ) → IsOfKind e → FitsEnd (left_with e d) t
+    → (slice_index (told_end p e) 8 ≡ 0x81) ⊎ (slice_index (told_end p e) 8 ≡ 0x82) → 16 ≤ length t
+    → num (told_end p e) 10 2 ≡ 0
+told_success p e d some t shaped fits is long =
+    ap (λ o. num (end_left e o unit p.hardware) 10 2) some
+    ∙ by (ends_formality d.code) refl (elim is [
+      | inl x ↦ inl (sym (told_code p e d some) ∙ x)
+      | inr x ↦ inr (sym (told_code p e d some) ∙ x)
+    ])
+  where
+    unit : Option Shape
+    unit = unit_found p.controller.settings.units e.unit
+
+    plain : (body : EndBody) → e.body ≡ body → kind_of_code e.code ≡ Some (kind_of_body body) → IsAboutCode e.code
+        → num (end_with_body body e d unit p.hardware) 10 2 ≡ 0
+    plain (bodies.Status other figure) same shaped code =
+        ap (λ n. num (end_bytes (record e { status = n })) 10 2) (fits.about long other (ap about_in same)).2
+    plain (bodies.Abort other) same shaped code =
+        ap (λ n. num (end_bytes (record e { status = n })) 10 2) (fits.about long other (ap about_in same)).2
+    plain body same shaped code = absurd (elim (about_kind e.code (kind_of_body body) shaped code)
+        [ inl k ↦ search (arith, k) | inr k ↦ search (arith, k) ])
+
+    by : (c : Bool) → ends_formality d.code ≡ c → IsAboutCode (cond c d.code e.code)
+        → num (cond c (head e.reference e.unit d.code d.status) (end_with_body e.body e d unit p.hardware)) 10 2 ≡ 0
     by true formal code = absurd (not_formal d.code formal code)
     by false formal code = plain e.body refl shaped code
 

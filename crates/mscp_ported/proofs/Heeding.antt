@@ -42,12 +42,16 @@ use Rattle.mscp_ported.proofs.Decided.{read_stays}
 use Rattle.mscp_ported.proofs.Ended.{bytes_small}
 use Rattle.mscp_ported.proofs.Ending.{Grows, left_with, zipped}
 use Rattle.mscp_ported.proofs.Fitted.{Fitting, became, grown_fits, grown_long, stays, unchanged}
-use Rattle.mscp_ported.proofs.Fitting.{FitsEnd, FitsIn, aborted_plain, bare_coded, bare_same, decided_code, every_beside, plain_fits}
+use Rattle.mscp_ported.proofs.Fitting.{FitsEnd, FitsIn, aborted_plain, bare_coded, bare_same, decided_code, decided_status, success_told, every_beside, plain_fits}
 use Rattle.mscp_ported.proofs.Formal.{formal_queued}
 use Rattle.mscp_ported.proofs.Leaving.{text_grows}
 use Rattle.mscp_ported.proofs.Numbered.{At, IsNothing, first_of_one, none_beside, none_found, none_stays, some_none}
 use Rattle.mscp_ported.proofs.Owning.{and_false, number_of}
 use Rattle.mscp_ported.proofs.Sole.{found_sole, sole_comes}
+use Rattle.mscp_port.specs.Decided.{status_told}
+use Rattle.mscp_port.specs.declared.verdict.Verdict.TheVariants as verdicts
+use Rattle.mscp_drive.specs.declared.block.Block.TheVariants as blocks
+use Rattle.mscp_port.specs.Volumes.{volume_found}
 use Rattle.mscp_ported.proofs.Tables.{answer_by}
 use Rattle.mscp_ported.specs.Answers.{own_answer, volume_named}
 use Rattle.mscp_ported.specs.Awaited.{has_number, is_taken_text, taken_by}
@@ -235,12 +239,19 @@ module _ {K : Type 0} (bytes : List ℕ) (done : Unit) (old new : Port K) (aw : 
               (ap (λ m. filter (is_of First m) old.buffers.items) own_named ∙ (f.kept n).none nothing.1)
               (subst (λ x. IsCodeFor x bytes) (sym (own_code h.settings _ _ command (fault_of h.settings command)))
               (handed_coded old.controller.settings.units bytes sees.long plain)));
-          about = λ long other is. (
-            answered_about h.settings _ _ old.controller.settings.units bytes long other is,
-            subst (λ x. x < 2 ^ 32)
-                (sym (answered_about h.settings _ _ old.controller.settings.units bytes long other is))
-                (num_small bytes small),
-          );
+          about = λ long other is.
+              let a = answered_about h.settings _ _ old.controller.settings.units bytes long other is in (
+                a.0,
+                subst (λ x. x < 2 ^ 32) (sym a.0) (num_small bytes small),
+                decided_status _ _ own new.controller.settings.units new.flags _
+                    ∙ ap (λ c. status_told (verdicts.Served blocks.Good) c own.status
+                    (volume_found new.controller.settings.units new.volumes own.unit))
+                    (bare_same old.buffers.items own bytes
+                    (ap (λ m. filter (is_of First m) old.buffers.items) own_named ∙ (f.kept n).none nothing.1))
+                    ∙ ap (λ x. status_told (verdicts.Served blocks.Good) own.code x
+                    (volume_found new.controller.settings.units new.volumes own.unit)) a.1
+                    ∙ success_told own.code (volume_found new.controller.settings.units new.volumes own.unit) a.2,
+              );
           polled = λ other figure is. (
             decided_code _ _ own new.controller.settings.units new.flags _
                 ∙ bare_same old.buffers.items own bytes

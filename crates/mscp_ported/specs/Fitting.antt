@@ -25,12 +25,13 @@ abbrev pub IsUnitFor : ℕ → List ℕ → Type 0
 IsUnitFor unit message = (unit ≡ num message 4 2) ⊎ (asks_next message ≡ true)
 
 -- an end has such a unit and endcode; and that of an ABORT (0x81) or of a poll (0x82) is about the command that the
--- message names, if it has all bytes of one
+-- message names, and succeeds, if that has all bytes of one
 pub record Fits (text message : List ℕ) : Type 0 where
   pub unit : IsUnitFor (num text 4 2) message
   pub code : IsCodeFor (slice_index text 8) message
   pub about : (slice_index text 8 ≡ 0x81) ⊎ (slice_index text 8 ≡ 0x82) → 16 ≤ length message
       → num text 12 4 ≡ num message 12 4
+  pub succeeds : (slice_index text 8 ≡ 0x81) ⊎ (slice_index text 8 ≡ 0x82) → 16 ≤ length message → num text 10 2 ≡ 0
 
 -- the law of endcodes: a port was made over a controller, which had answered some calls before, has nothing of its
 -- host's, and no unit without a block. Whoever calls the port, what it reads being bytes: an end of the controller's

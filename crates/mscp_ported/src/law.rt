@@ -218,7 +218,7 @@ pub fn ports_lower_figures<K: Picker>(picker: &K)
 /// Whoever calls a port, whose controller had nothing of its host's as the port was made, and whose units have blocks, what it reads
 /// being bytes: an end of the controller's that begins to go out has the code of the message whose end it is, that of its opcode; or
 /// if no opcode has that byte, it may have the one of an unknown opcode. It names the message's unit, unless the message asks for the
-/// next one. The end of an ABORT or of a poll is about the command that its message names.
+/// next one. The end of an ABORT or of a poll succeeds, and is about the command that its message names, if that has all its bytes.
 pub fn ports_end_by_opcode<K: Picker>(picker: &K)
     ensures { PortsEndByOpcode K.picks picker.now }
 {
