@@ -1,5 +1,5 @@
 -- Which rules a moment can't break.
-use Rattle.std.proofs.Common.{◌≡◌, ◌∙◌, ◌+◌, ℕ, Bool, true, false, drop, take, List, Option, None, Some, refl, ap, sym, arith}
+use Rattle.std.proofs.Common.{inl, inr, ◌≡◌, ◌⊎◌, ◌∙◌, ◌+◌, ℕ, Bool, true, false, drop, take, List, Option, None, Some, refl, ap, sym, arith}
 use Rattle.arrayvec.specs.ArrayVec.{ArrayVec}
 use Rattle.mscp_drive.specs.declared.connection.Connection.{Connection}
 use Rattle.mscp_port.proofs.Common.{false≢true}
@@ -251,3 +251,35 @@ success_breaks_none earlier later y unit e success =
     (unless_other is_of_success rules.Success refl (has_abort later y e) rules.Aborted _ refl
     (unless_other is_of_success rules.Success refl (passes_none earlier y e) rules.Order _ refl
     (success_breaks later y unit e success)))))
+
+-- ---- the host's rules
+
+is_of_hosts : Rule → Bool
+is_of_hosts rules.Message = true
+is_of_hosts rules.Number = true
+is_of_hosts rules.Credits = true
+is_of_hosts rule = false
+
+-- no end breaks one of these
+pub end_breaks_none : (x : Rule) → (x ≡ rules.Message) ⊎ (x ≡ rules.Number) ⊎ (x ≡ rules.Credits)
+    → (credits : Option ℕ) (xs : List Sent) (unit : Seen) (via : Connection) (b : ArrayVec ℕ)
+    → broken credits xs unit (moments.End via b) ≡ Some x → ⊥
+unfolding is_of_hosts
+end_breaks_none x either credits xs unit via b =
+    unless_other is_of_hosts x own (is_long b.items) rules.Length
+    (broken_at xs unit (answer_by via b.items) (place_of xs (answer_by via b.items))) refl
+    (by (place_of xs (answer_by via b.items)))
+  where
+    own : is_of_hosts x ≡ true
+    own = elim either [
+      | inl e ↦ ap is_of_hosts e
+      | inr more ↦ elim more [ inl e ↦ ap is_of_hosts e | inr e ↦ ap is_of_hosts e ]
+    ]
+
+    by : (o : Option ℕ) → broken_at xs unit (answer_by via b.items) o ≡ Some x → ⊥
+    by None = λ h. false≢true (ap is_of_hosts (some_same rules.Outstanding x h) ∙ own)
+    by (Some i) = unless_other is_of_hosts x own (names_unit (command_at xs i) (answer_by via b.items)) rules.Unit _
+        refl
+        (unless_other is_of_hosts x own (has_endcode (command_at xs i) (answer_by via b.items)) rules.Endcode _ refl
+        (status_never is_of_hosts x own (refl, refl, refl) (refl, refl, refl, refl, refl, refl, refl) (take i xs)
+        (drop (i + 1) xs) (command_at xs i) unit (answer_by via b.items)))

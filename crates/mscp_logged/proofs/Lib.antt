@@ -9,3 +9,5 @@ pub mod Logging
 pub mod Placed
 pub mod Coded
 pub mod About
+pub mod Nine
+pub mod Rows

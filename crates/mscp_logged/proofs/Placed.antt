@@ -41,7 +41,11 @@ module _ (Tie : List ℕ → List ℕ → Type 0) (limit : Option ℕ) (x : Rule
 abbrev pub Any : List ℕ → List ℕ → Type 0
 Any text message = Unit {0}
 
+pub outstanding_of_any : (Tie : List ℕ → List ℕ → Type 0) (limit : Option ℕ) (h : History) (aw : List (List ℕ))
+    (held : List Said) → Stated Tie h aw held → Keeps rules.Outstanding limit h
+outstanding_of_any Tie limit = keeps_rule Tie limit rules.Outstanding (outstanding_message limit)
+    (λ xs unit b tied. placed_breaks_none limit xs unit First b tied.place tied.at)
+
 pub keeps_outstanding : (limit : Option ℕ) (h : History) (aw : List (List ℕ)) (held : List Said)
     → Stated Any h aw held → Keeps rules.Outstanding limit h
-keeps_outstanding limit = keeps_rule Any limit rules.Outstanding (outstanding_message limit)
-    (λ xs unit b tied. placed_breaks_none limit xs unit First b tied.place tied.at)
+keeps_outstanding = outstanding_of_any Any

@@ -96,3 +96,29 @@ PortsServeAbortsAndPolls {K} picks picker =
     → IsMadeOf hardware credits controller start → AsksAlways calls → ReadsBytes calls
     → (a : Answered picks start calls p) → HostIsRight limit (logged picks start p calls a)
     → Keeps rules.Success limit (logged picks start p calls a)
+
+-- ---- all of them
+
+-- a rule of which nothing is said here: of statuses, aborted commands, order, figures and bytes, and of what is told of
+-- units and of the controller
+abbrev pub is_left_open : Rule → Bool
+is_left_open rules.Status = true
+is_left_open rules.Aborted = true
+is_left_open rules.Order = true
+is_left_open rules.Figure = true
+is_left_open rules.Count = true
+is_left_open rules.Identity = true
+is_left_open rules.State = true
+is_left_open rules.Controller = true
+is_left_open rule = false
+
+-- the law of the other rules: of such a port and host: no moment of the log breaks one of the other nine
+abbrev pub PortsKeepNineRules : {K : Type 0} → Picking K → K → Type 0
+PortsKeepNineRules {K} picks picker =
+    (c : Settings) (before : List Made) (controller : Holdings K) (hardware : Hardware) (credits : ℕ)
+    (start p : Port K) (calls : List Call) (limit : Option ℕ) (rule : Rule) → IsValid c
+    → All (λ unit. 0 < unit.size) c.units
+    → AnsweredCalls (picks picker) (fresh c picker) before controller → outstanding_of First controller ≡ []
+    → IsMadeOf hardware credits controller start → AsksAlways calls → ReadsBytes calls
+    → (a : Answered picks start calls p) → HostIsRight limit (logged picks start p calls a)
+    → is_left_open rule ≡ false → Keeps rule limit (logged picks start p calls a)

@@ -1,6 +1,6 @@
 // What is true of all that a port's log shows.
 
-ghost use Rattle.mscp_logged.specs.Rules.{PortsAnswerWhatIsOutstanding, PortsNameTheOtherCommand, PortsNameTheUnit, PortsSendLongEnds, PortsSendRightEndcodes, PortsServeAbortsAndPolls};
+ghost use Rattle.mscp_logged.specs.Rules.{PortsAnswerWhatIsOutstanding, PortsKeepNineRules, PortsNameTheOtherCommand, PortsNameTheUnit, PortsSendLongEnds, PortsSendRightEndcodes, PortsServeAbortsAndPolls};
 
 use mscp_ported::{ports_end_by_opcode, ports_end_what_they_took, ports_tell_in_order};
 use mscp_queue::Picker;
@@ -57,6 +57,16 @@ pub fn ports_name_the_other_command<K: Picker>(picker: &K)
 /// Of such a port and host: an ABORT and a GET COMMAND STATUS succeed, if they have all their bytes. None breaks the rule `Success`.
 pub fn ports_serve_aborts_and_polls<K: Picker>(picker: &K)
     ensures { PortsServeAbortsAndPolls K.picks picker.now }
+{
+    ports_end_by_opcode(picker);
+    ports_end_what_they_took(picker);
+    ports_tell_in_order(picker);
+}
+
+/// Of such a port and host: no moment of the log breaks a rule of `mscp_wire`, but for the eight of which nothing is said here:
+/// `Status`, `Aborted`, `Order`, `Figure`, `Count`, `Identity`, `State` and `Controller`.
+pub fn ports_keep_nine_rules<K: Picker>(picker: &K)
+    ensures { PortsKeepNineRules K.picks picker.now }
 {
     ports_end_by_opcode(picker);
     ports_end_what_they_took(picker);
