@@ -1,5 +1,5 @@
 -- Rows of the log, worked by hand: what goes out and is gone, and what it shows.
-use Rattle.std.proofs.Common.{◌≡◌, ◌++◌, ◌∷◌, [], ℕ, true, false, List, None, Some, refl}
+use Rattle.std.proofs.Common.{◌≡◌, ◌∷◌, [], ℕ, true, false, List, None, Some, refl}
 use Rattle.std.specs.Prelude.{flat_map}
 use Rattle.mscp_drive.specs.declared.connection.Connection.TheVariants.{First}
 use Rattle.mscp_port.specs.declared.port.Outgoing.{Outgoing}

@@ -14,6 +14,7 @@ use Rattle.mscp_controller.specs.Holdings.{Holdings, answer_to_message, balance_
 use Rattle.mscp_controller.specs.declared.entry.SendFault.{SendFault}
 use Rattle.mscp_controller.specs.declared.entry.Sent.{Sent}
 use Rattle.mscp_controller.specs.declared.entry.Sent.TheVariants as sents
+use Rattle.mscp_port.specs.declared.action.Action.{Action}
 use Rattle.mscp_port.specs.declared.hardware.Hardware.{Hardware}
 use Rattle.mscp_port.specs.declared.port.Outgoing.{Outgoing}
 use Rattle.mscp_port.specs.declared.port.Port.{Port}
@@ -24,18 +25,18 @@ use Rattle.mscp_port.specs.declared.stage.Stage.{Stage}
 use Rattle.mscp_port.specs.declared.stage.Stage.TheVariants as stages
 use Rattle.mscp_port.specs.declared.task.Task.{Task}
 use Rattle.mscp_port.specs.declared.task.Task.TheVariants as tasks
-use Rattle.mscp_port.specs.Calls.{Hears, IsMadeOf}
+use Rattle.mscp_port.specs.Calls.{Hears, IsMadeOf, Wants}
 use Rattle.mscp_port.specs.Fair.{TellsStep}
 use Rattle.mscp_port.specs.Histories.{Answered, Becomes, Call, Picking, WriteIp, ReadIp, WriteSa, Next, PutAside, WasRead, Went, LookAgain, Tick, VolumeCame, VolumeWent, Protect}
 use Rattle.mscp_port.specs.Messages.{handed, own_end_of}
 use Rattle.mscp_port.specs.Moved.{IsStepping}
-use Rattle.mscp_port.specs.Ports.{IsAsNew, read_size}
+use Rattle.mscp_port.specs.Ports.{IsAsNew, read_size, IsReadingText}
 use Rattle.mscp_port.specs.Seen.{SeesText, Sends, answered_to, bytes_read, connection_in, header_fault, length_in}
 use Rattle.mscp_port.specs.Slots.{is_owned}
 use Rattle.mscp_port.proofs.Common.{eq-eqb, false≢true}
 use Rattle.mscp_port.proofs.Said.{none_or_some}
 use Rattle.mscp_ported.specs.Answers.{own_answer, volume_named}
-use Rattle.mscp_ported.specs.Asking.{AsksForBlocks}
+use Rattle.mscp_ported.specs.Asking.{AsksBehindPolls, AsksForBlocks}
 use Rattle.mscp_ported.specs.Awaited.{is_taken_text, taken_by}
 use Rattle.mscp_ported.specs.Figures.{figure_on}
 use Rattle.mscp_ported.specs.Passing.{IsServedSince, ServesBetweenPolls, TakesPoll}
@@ -43,8 +44,8 @@ use Rattle.mscp_ported.specs.Talk.{is_dead}
 use Rattle.mscp_ported.proofs.Answering.{handed_so, own_so, poll_command, poll_handed, polled}
 use Rattle.mscp_ported.proofs.Ended.{lived}
 use Rattle.mscp_ported.proofs.Owning.{and_false}
-use Rattle.mscp_ported.proofs.Turning.{IsHearing}
-use Rattle.mscp_ported.proofs.Turns.{AsksBlocks, TakesTurns, turns_on}
+use Rattle.mscp_ported.proofs.Turning.{IsHearing, text_quiet}
+use Rattle.mscp_ported.proofs.Turns.{IsNoNext, reads_on, wants_hears}
 
 -- ---- a block that is owed stays so until a step is told
 
@@ -187,13 +188,13 @@ module _ {K : Type 0} (bytes : List ℕ) (done : Unit) (old new : Port K) (r : H
     ]
 
   read_polls : (number : ℕ) → TakesPoll number (WasRead bytes (Ok done)) old
-      → (new.owes_block ≡ true) × IsHearing old.task
+      → (new.owes_block ≡ true) × IsReadingText old.task
   read_polls number takes = by old.task refl
     where
-      by : (t : Task) → old.task ≡ t → (new.owes_block ≡ true) × IsHearing old.task
+      by : (t : Task) → old.task ≡ t → (new.owes_block ≡ true) × IsReadingText old.task
       by (tasks.Text slot size foreign) at = (
         text_polls slot size foreign at takes.0 takes.1 takes.2,
-        subst (λ x. IsHearing x) (sym at) tt,
+        subst (λ x. IsReadingText x) (sym at) tt,
       )
       by t at = absurd (search (
         arith,
@@ -207,17 +208,27 @@ module _ {K : Type 0} (bytes : List ℕ) (done : Unit) (old new : Port K) (r : H
       by (stages.Dead code) at = absurd (search (arith, r.dead code at))
       by s at = ap is_dead at
 
--- behind a poll a block is owed, before it a message was read by a port that lives
+-- behind a poll a block is owed, and no message is looked for at once; before it a text was read by a port that lives
 record Polls {K : Type 0} (old new : Port K) : Type 0 where
   owes : new.owes_block ≡ true
   hears : IsHearing old.task
+  quiet : IsHearing new.task → ⊥
   lives : is_dead old.stage ≡ false
 
 polls_so : {K : Type 0} (picks : Picking K) (call : Call) (old new : Port K) (number : ℕ) → TakesPoll number call old
     → Becomes picks call old new → Polls old new
 polls_so picks (WasRead bytes (Ok done)) old new number takes r =
     let x = read_polls bytes done old new r number takes in
-    record { owes = x.0; hears = x.1; lives = alive_read bytes done old new r }
+    record {
+      owes = x.0;
+      hears = hearing old.task x.1;
+      quiet = text_quiet bytes done old new r x.1;
+      lives = alive_read bytes done old new r;
+    }
+  where
+    hearing : (t : Task) → IsReadingText t → IsHearing t
+    hearing (tasks.Text slot size foreign) is = tt
+    hearing t is = absurd is
 polls_so picks call old new number takes r = absurd takes
 
 -- ---- a history
@@ -271,36 +282,82 @@ module _ {K : Type 0} (picks : Picking K) (start : Port K) where
 
   module _ (hardware : Hardware) (credits : ℕ) (controller : Holdings K)
       (made : IsMadeOf hardware credits controller start) where
-    asks_now : (call : Call) (calls : List Call) → AsksForBlocks (call ∷ calls)
-        → AsksBlocks call × AsksForBlocks calls
-    asks_now (Next blocks action bytes) calls asks = asks
-    asks_now call calls asks = (tt, asks)
+    -- where a message is looked for nothing waits, or since each poll a step was told
+    abbrev IsFair : (p : Port K) (calls : List Call) → Answered picks start calls p → Type 0
+    IsFair p calls a = IsHearing p.task
+        → (p.controller.waiting ≡ []) ⊎ ((number : ℕ) → IsServedSince picks start p calls a number)
 
-    turns : (p : Port K) (calls : List Call) → AsksForBlocks calls → (a : Answered picks start calls p) → TakesTurns p
-    turns p [] asks a = λ owes hears.
-        absurd (false≢true (sym made.owes ∙ sym (ap (λ (q : Port K). q.owes_block) a) ∙ owes))
-    turns p (call ∷ calls) asks a =
-        let x = asks_now call calls asks in
-        turns_on picks a.0 p call x.0 a.2 (turns a.0 calls x.1 a.1)
+    next_fair : (p : Port K) (blocks : Bool) (action : Action) (bytes : List ℕ) (calls : List Call)
+        (a : Answered picks start (Next blocks action bytes ∷ calls) p)
+        → (blocks ≡ true) ⊎ ((number : ℕ) → IsServedSince picks start a.0 calls a.1 number) → IsFair a.0 calls a.1
+        → IsFair p (Next blocks action bytes ∷ calls) a
+    next_fair p blocks action bytes calls a asks fair hears = elim asks [
+      | inr served_so ↦ inr (λ number. inr ((λ t. t), served_so number))
+      | inl all ↦ elim (wants_hears (picks a.0.controller.picker) action a.0 p
+          (subst (λ b. Wants (picks a.0.controller.picker) b a.0 action p) all a.2.0) hears) [
+            | inl same ↦ elim (fair (subst (λ (q : Port K). IsHearing q.task) same hears)) [
+              | inl none ↦ inl (ap (λ (q : Port K). q.controller.waiting) same ∙ none)
+              | inr s ↦ inr (λ number. inr ((λ t. t), s number))
+            ]
+            | inr x ↦ by p.owes_block refl x
+          ]
+    ]
+      where
+        by : (b : Bool) → p.owes_block ≡ b
+            → (is_dead p.stage ≡ false) × (p.owes_block ≡ true → p.controller.waiting ≡ [])
+            → (p.controller.waiting ≡ []) ⊎ ((number : ℕ)
+            → IsServedSince picks start p (Next blocks action bytes ∷ calls) a number)
+        by true e x = inl (x.1 e)
+        by false e x = inr (λ number. served p (Next blocks action bytes ∷ calls) a number x.0 e)
+
+    call_fair : (p : Port K) (call : Call) (calls : List Call) (a : Answered picks start (call ∷ calls) p)
+        → IsNoNext call → IsFair a.0 calls a.1 → IsFair p (call ∷ calls) a
+    call_fair p call calls a none fair hears =
+        let k = reads_on picks a.0 p call none a.2 hears in
+        elim (fair k.hears) [
+          | inl waits ↦ inl (ap (λ (h : Holdings K). h.waiting) k.controller ∙ waits)
+          | inr s ↦ inr (λ number. since_call p call calls a number
+              (inr ((λ takes. (polls_so picks call a.0 p number takes a.2).quiet hears), s number)))
+        ]
+
+    fair : (p : Port K) (calls : List Call) (a : Answered picks start calls p) → AsksBehindPolls picks start p calls a
+        → IsFair p calls a
+    fair p [] a asks = λ hears.
+        absurd (subst (λ x. IsHearing x) (ap (λ (q : Port K). q.task) a ∙ made.free) hears)
+    fair p (Next blocks action bytes ∷ calls) a asks =
+        next_fair p blocks action bytes calls a asks.0 (fair a.0 calls a.1 asks.1)
+    fair p (call ∷ calls) a asks = call_fair p call calls a tt (fair a.0 calls a.1 asks)
+
+    asks_before : (p : Port K) (call : Call) (calls : List Call) (a : Answered picks start (call ∷ calls) p)
+        → AsksBehindPolls picks start p (call ∷ calls) a → AsksBehindPolls picks start a.0 calls a.1
+    asks_before p (Next blocks action bytes) calls a asks = asks.1
+    asks_before p call calls a asks = asks
+
+    pub serves_behind : (p : Port K) (calls : List Call) (a : Answered picks start calls p)
+        → AsksBehindPolls picks start p calls a → ServesBetweenPolls picks start p calls a
+    serves_behind p [] a asks = tt
+    serves_behind p (call ∷ calls) a asks =
+        (here (asks_before p call calls a asks), serves_behind a.0 calls a.1 (asks_before p call calls a asks))
+      where
+        here : AsksBehindPolls picks start a.0 calls a.1 → (number : ℕ) → TakesPoll number call a.0
+            → 1 ≤ figure_on a.0 number → IsServedSince picks start a.0 calls a.1 number
+        here old number takes low =
+            elim (fair a.0 calls a.1 old (polls_so picks call a.0 p number takes a.2).hears) [
+              | inl none ↦ absurd (search (
+                arith,
+                subst (λ (rs : List Record). 1
+                    ≤ figure_of_name a.0.controller.settings.budget rs (name_on First number)) none low,
+              ))
+              | inr s ↦ s number
+            ]
+
+    -- who always asks for blocks does so
+    always_asks : (p : Port K) (calls : List Call) (a : Answered picks start calls p) → AsksForBlocks calls
+        → AsksBehindPolls picks start p calls a
+    always_asks p [] a asks = tt
+    always_asks p (Next blocks action bytes ∷ calls) a asks = (inl asks.0, always_asks a.0 calls a.1 asks.1)
+    always_asks p (call ∷ calls) a asks = always_asks a.0 calls a.1 asks
 
     pub serves_between : (p : Port K) (calls : List Call) → AsksForBlocks calls → (a : Answered picks start calls p)
         → ServesBetweenPolls picks start p calls a
-    serves_between p [] asks a = tt
-    serves_between p (call ∷ calls) asks a = (here, serves_between a.0 calls (asks_now call calls asks).1 a.1)
-      where
-        here : (number : ℕ) → TakesPoll number call a.0 → 1 ≤ figure_on a.0 number
-            → IsServedSince picks start a.0 calls a.1 number
-        here number takes low =
-            let polls = polls_so picks call a.0 p number takes a.2 in
-            served a.0 calls a.1 number polls.lives (by a.0.owes_block refl polls.hears)
-          where
-            none_waits : a.0.controller.waiting ≡ [] → ⊥
-            none_waits none = search (
-              arith,
-              subst (λ (rs : List Record). 1
-                  ≤ figure_of_name a.0.controller.settings.budget rs (name_on First number)) none low,
-            )
-
-            by : (b : Bool) → a.0.owes_block ≡ b → IsHearing a.0.task → a.0.owes_block ≡ false
-            by false e hears = e
-            by true e hears = absurd (none_waits (turns a.0 calls (asks_now call calls asks).1 a.1 e hears))
+    serves_between p calls asks a = serves_behind p calls a (always_asks p calls a asks)

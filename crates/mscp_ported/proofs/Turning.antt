@@ -23,7 +23,7 @@ use Rattle.mscp_port.specs.Areas.{Rings, rings_named, slots_of}
 use Rattle.mscp_port.specs.Calls.{Goes, Hears, TakesStep, read_again, step_again, step_answered, step_at}
 use Rattle.mscp_port.specs.Messages.{own_end_of}
 use Rattle.mscp_port.specs.Moved.{TakesBegun, TakesBlock, block_begun, block_served}
-use Rattle.mscp_port.specs.Ports.{IsAsNew, IsOutcomeOf, aside, read_size}
+use Rattle.mscp_port.specs.Ports.{IsAsNew, IsOutcomeOf, IsReadingText, aside, read_size}
 use Rattle.mscp_port.specs.Seen.{SeesText, answered_to, bytes_read, connection_in, header_fault, length_in}
 use Rattle.mscp_port.specs.Slots.{is_flagged, is_owned}
 
@@ -248,29 +248,38 @@ module _ {K : Type 0} (bytes : List ℕ) (done : Unit) (old new : Port K) (r : H
       }
       by (Some code) d = forgets old new (stages.Dead code) d
 
-  text_on : (slot : Descriptor) (foreign : Bool) → SeesText slot foreign bytes old new → On
-  text_on slot foreign sees = by_own (own_end_of old foreign bytes) refl old.outgoing refl
+  -- behind a text no other is looked for at once
+  text_never : (slot : Descriptor) (foreign : Bool) → SeesText slot foreign bytes old new → IsHearing new.task → ⊥
+  text_never slot foreign sees = by_own (own_end_of old foreign bytes) refl old.outgoing refl
     where
-      free : new.task ≡ tasks.Free → On
-      free e = no_more old new tasks.Free e (λ h. h)
+      never : (t : Task) → new.task ≡ t → (IsHearing t → ⊥) → IsHearing new.task → ⊥
+      never t e f h = f (subst (λ x. IsHearing x) e h)
 
-      back : new.task ≡ tasks.Return Commands slot → On
-      back e = no_more old new (tasks.Return Commands slot) e (λ h. h)
+      by_sent : (s : Result Sent SendFault) → answered_to old bytes ≡ s → own_end_of old foreign bytes ≡ None
+          → IsHearing new.task → ⊥
+      by_sent (Ok s) e own = never (tasks.Return Commands slot) (ap (λ (p : Port K). p.task) (sees.sent s own e).frame)
+          (λ h. h)
+      by_sent (Err fault) e own = never tasks.Free (ap (λ (p : Port K). p.task) (sees.waits fault own e)) (λ h. h)
 
-      by_sent : (s : Result Sent SendFault) → answered_to old bytes ≡ s → own_end_of old foreign bytes ≡ None → On
-      by_sent (Ok s) e own = back (ap (λ (p : Port K). p.task) (sees.sent s own e).frame)
-      by_sent (Err fault) e own = free (ap (λ (p : Port K). p.task) (sees.waits fault own e))
-
-      by_own : (o : Option _) → own_end_of old foreign bytes ≡ o → (out : Option Outgoing) → old.outgoing ≡ out → On
+      by_own : (o : Option _) → own_end_of old foreign bytes ≡ o → (out : Option Outgoing) → old.outgoing ≡ out
+          → IsHearing new.task → ⊥
       by_own None e out is = by_sent (answered_to old bytes) refl e
-      by_own (Some end) e None is =
-          back (ap (λ (p : Port K). p.task) (sees.own (λ n. none-some end (sym n ∙ e)) is).0)
-      by_own (Some end) e (Some out) is = free (ap (λ (p : Port K). p.task)
-          (sees.own_waits (λ n. none-some end (sym n ∙ e)) (λ n. none-some out (sym n ∙ is))))
+      by_own (Some end) e None is = never (tasks.Return Commands slot)
+          (ap (λ (p : Port K). p.task) (sees.own (λ n. none-some end (sym n ∙ e)) is).0) (λ h. h)
+      by_own (Some end) e (Some out) is = never tasks.Free (ap (λ (p : Port K). p.task)
+          (sees.own_waits (λ n. none-some end (sym n ∙ e)) (λ n. none-some out (sym n ∙ is)))) (λ h. h)
+
+  pub text_quiet : IsReadingText old.task → IsHearing new.task → ⊥
+  text_quiet reading = by old.task refl reading
+    where
+      by : (t : Task) → old.task ≡ t → IsReadingText t → IsHearing new.task → ⊥
+      by (tasks.Text slot size foreign) at is = text_never slot foreign ((r.sees refl).text slot size foreign at)
+      by t at is = absurd is
 
   pub read_on : (t : Task) → old.task ≡ t → On
   read_on (tasks.Slot side) at = slot_on side at
   read_on (tasks.Neighbour side) at = neighbour_on side at
   read_on (tasks.Header slot) at = header_on slot at
-  read_on (tasks.Text slot size foreign) at = text_on slot foreign ((r.sees refl).text slot size foreign at)
+  read_on (tasks.Text slot size foreign) at = λ h. absurd (text_never slot foreign
+      ((r.sees refl).text slot size foreign at) h)
   read_on t at = absurd (none-some (length bytes) (sym (ap read_size at) ∙ r.only refl))

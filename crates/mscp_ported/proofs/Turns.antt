@@ -1,13 +1,14 @@
--- Who asks for blocks hears no message beside a command that waits, while the port owes a block.
-use Rattle.std.proofs.Common.{◌≡◌, ◌⊎◌, ◌∙◌, ◌&&◌, [], ◌∷◌, ℕ, Bool, true, false, not, length, nat_eq, List, Some, IfSome, inl, inr, refl, ap, sym, subst, arith}
+-- Which calls look for a message of a port's host, or read one on.
+use Rattle.std.proofs.Common.{◌≡◌, ◌≢◌, ◌⊎◌, ◌∙◌, ◌&&◌, [], ◌∷◌, ℕ, Bool, true, false, not, length, nat_eq, List, Some, IfSome, inl, inr, refl, ap, sym, subst, arith}
 use Rattle.std.specs.Prelude.{Ok, Err}
 use Rattle.std.proofs.lemmas.Option.{none-some}
-use Rattle.mscp_controller.specs.Holdings.{Holdings}
 use Rattle.mscp_queue.specs.Records.{Record}
 use Rattle.mscp_port.specs.declared.action.Action.{Action}
 use Rattle.mscp_port.specs.declared.port.Port.{Port}
 use Rattle.mscp_port.specs.declared.rings.Side.TheVariants.{Commands}
+use Rattle.mscp_port.specs.declared.stage.Stage.{Stage}
 use Rattle.mscp_port.specs.declared.stage.Stage.TheVariants as stages
+use Rattle.mscp_ported.specs.Talk.{is_dead}
 use Rattle.mscp_port.specs.declared.task.Task.{Task}
 use Rattle.mscp_port.specs.declared.task.Task.TheVariants as tasks
 use Rattle.mscp_port.specs.Calls.{Wants, read_again, step_at}
@@ -18,10 +19,6 @@ use Rattle.mscp_port.proofs.Common.{false≢true}
 use Rattle.mscp_port.proofs.Loads.{none_or_not, up_or_not}
 use Rattle.mscp_ported.proofs.Turning.{IsHearing, ReadsOn, again, anew, as_before, forgets, no_more, put, read_on, went_quiet}
 use Rattle.mscp_ported.proofs.Wanting.{alive_or_dead}
-
--- while a block is owed that happens only where nothing waits
-abbrev pub TakesTurns : {K : Type 0} → Port K → Type 0
-TakesTurns p = p.owes_block ≡ true → IsHearing p.task → p.controller.waiting ≡ []
 
 -- ---- what is wanted
 
@@ -59,8 +56,9 @@ module _ {K : Type 0} (picks : List _ → ℕ → Type 0) (action : Action) (old
       by true e = absurd (block_due new new.task due slot e)
       by false e = nothing_waits new.owes_block new.controller.waiting owes e
 
-  from_free : old.task ≡ tasks.Free → IsDue true new new.task → TakesTurns new
-  from_free free due owes hears = by new.task refl
+  from_free : old.task ≡ tasks.Free → IsDue true new new.task → IsHearing new.task → new.owes_block ≡ true
+      → new.controller.waiting ≡ []
+  from_free free due hears owes = by new.task refl
     where
       none_in_hand : (word : ℕ) → in_hand old.task ≡ Some word → ⊥
       none_in_hand word e = none-some word (sym (ap in_hand free) ∙ e)
@@ -75,28 +73,32 @@ module _ {K : Type 0} (picks : List _ → ℕ → Type 0) (action : Action) (old
           absurd (none_in_hand slot.word (holds (tasks.Text slot size foreign) e))
       by t e = absurd (subst (λ x. IsHearing x) e hears)
 
-  wants_turns : TakesTurns old → TakesTurns new
-  wants_turns turns = by old.task refl
+  -- a message is looked for as it was; or it is now, and where a block is owed nothing waits
+  pub wants_hears : IsHearing new.task → (new ≡ old)
+      ⊎ ((is_dead new.stage ≡ false) × (new.owes_block ≡ true → new.controller.waiting ≡ []))
+  wants_hears hears = by old.task refl
     where
-      same : new ≡ old → TakesTurns new
-      same e = subst (λ (p : Port K). TakesTurns p) (sym e) turns
+      lives : (s : Stage) → new.stage ≡ s → ((code : ℕ) → s ≢ stages.Dead code) → is_dead new.stage ≡ false
+      lives (stages.Dead code) e alive = absurd (alive code refl)
+      lives s e alive = ap is_dead e
 
-      by : (t : Task) → old.task ≡ t → TakesTurns new
-      by tasks.Free at = elim (alive_or_dead old old.stage refl)
-          [ inl alive ↦ from_free at (r.due alive at) | inr d ↦ same (r.dead d.0 d.1).1 ]
-      by t at = same (r.goes_on (λ e. search (arith, at, e)))
+      by : (t : Task) → old.task ≡ t → (new ≡ old)
+          ⊎ ((is_dead new.stage ≡ false) × (new.owes_block ≡ true → new.controller.waiting ≡ []))
+      by tasks.Free at = elim (alive_or_dead old old.stage refl) [
+        | inl alive ↦ inr (
+          lives new.stage refl (λ code e. alive code (sym (ap (λ (p : Port K). p.stage) r.frame) ∙ e)),
+          from_free at (r.due alive at) hears,
+        )
+        | inr d ↦ inl (r.dead d.0 d.1).1
+      ]
+      by t at = inl (r.goes_on (λ e. search (arith, at, e)))
 
 -- ---- each call
 
--- blocks are asked for by it, if it asks for anything
-abbrev pub AsksBlocks : Call → Type 0
-AsksBlocks (Next blocks action bytes) = blocks ≡ true
-AsksBlocks call = Unit {0}
-
-on_turns : {K : Type 0} (old new : Port K) → (IsHearing new.task → ReadsOn old new) → TakesTurns old → TakesTurns new
-on_turns {K} old new on turns owes hears =
-    let k = on hears in
-    ap (λ (h : Holdings K). h.waiting) k.controller ∙ turns (sym k.owes ∙ owes) k.hears
+-- it asks for nothing
+abbrev pub IsNoNext : Call → Type 0
+IsNoNext (Next blocks action bytes) = ⊥
+IsNoNext call = Unit {0}
 
 module _ {K : Type 0} (picks : Picking K) (old new : Port K) where
   volume_on : (task : Task) → new.controller ≡ old.controller → new.owes_block ≡ old.owes_block → new.task ≡ task
@@ -107,9 +109,9 @@ module _ {K : Type 0} (picks : Picking K) (old new : Port K) where
     owes = owes;
   }
 
-  pub turns_on : (call : Call) → AsksBlocks call → Becomes picks call old new → TakesTurns old → TakesTurns new
-  turns_on WriteIp asks r = on_turns old new (forgets old new stages.First r)
-  turns_on ReadIp asks r = on_turns old new (elim r.hand [
+  pub reads_on : (call : Call) → IsNoNext call → Becomes picks call old new → IsHearing new.task → ReadsOn old new
+  reads_on WriteIp none r = (forgets old new stages.First r)
+  reads_on ReadIp none r = (elim r.hand [
     | inl l ↦ elim r.frame [
       | inl e ↦ volume_on old.task (ap (λ (p : Port K). p.controller) e) (ap (λ (p : Port K). p.owes_block) e)
           l.task (λ h. h)
@@ -118,7 +120,7 @@ module _ {K : Type 0} (picks : Picking K) (old new : Port K) where
     | inr d ↦ elim d.task
         [ inl e ↦ no_more old new tasks.Free e (λ h. h) | inr e ↦ no_more old new (tasks.Clear 0) e (λ h. h) ]
   ])
-  turns_on (WriteSa word) asks r = on_turns old new (elim r.hand [
+  reads_on (WriteSa word) none r = (elim r.hand [
     | inl l ↦ elim r.frame [
       | inl e ↦ volume_on old.task (ap (λ (p : Port K). p.controller) e) (ap (λ (p : Port K). p.owes_block) e)
           l.task (λ h. h)
@@ -127,34 +129,32 @@ module _ {K : Type 0} (picks : Picking K) (old new : Port K) where
     | inr d ↦ elim d.task
         [ inl e ↦ no_more old new tasks.Free e (λ h. h) | inr e ↦ no_more old new (tasks.Clear 0) e (λ h. h) ]
   ])
-  turns_on (Next blocks action bytes) asks r =
-      wants_turns (picks old.controller.picker) action old new
-      (subst (λ b. Wants (picks old.controller.picker) b old action new) asks r.0)
-  turns_on PutAside asks r = on_turns old new (volume_on (aside old.task) (ap (λ (p : Port K). p.controller) r)
+  reads_on (Next blocks action bytes) none r = absurd none
+  reads_on PutAside none r = (volume_on (aside old.task) (ap (λ (p : Port K). p.controller) r)
       (ap (λ (p : Port K). p.owes_block) r) (ap (λ (p : Port K). p.task) r) (put old.task))
-  turns_on (WasRead bytes (Ok done)) asks r = on_turns old new (read_on bytes done old new r old.task refl)
-  turns_on (WasRead bytes (Err unasked)) asks r = on_turns old new (as_before old new r.unasked)
-  turns_on (Went outcome (Ok done)) asks r =
-      on_turns old new (went_quiet (picks old.controller.picker) outcome done old new r old.task refl)
-  turns_on (Went outcome (Err unasked)) asks r = on_turns old new (as_before old new r.unasked)
-  turns_on LookAgain asks r = on_turns old new (volume_on (read_again old.task) (ap (λ (p : Port K). p.controller) r)
+  reads_on (WasRead bytes (Ok done)) none r = (read_on bytes done old new r old.task refl)
+  reads_on (WasRead bytes (Err unasked)) none r = (as_before old new r.unasked)
+  reads_on (Went outcome (Ok done)) none r =
+      (went_quiet (picks old.controller.picker) outcome done old new r old.task refl)
+  reads_on (Went outcome (Err unasked)) none r = (as_before old new r.unasked)
+  reads_on LookAgain none r = (volume_on (read_again old.task) (ap (λ (p : Port K). p.controller) r)
       (ap (λ (p : Port K). p.owes_block) r) (ap (λ (p : Port K). p.task) r) (again old.task))
-  turns_on Tick asks r = on_turns old new (elim r.either [
+  reads_on Tick none r = (elim r.either [
     | inl e ↦ volume_on (read_again old.task) (ap (λ (p : Port K). p.controller) e)
         (ap (λ (p : Port K). p.owes_block) e) (ap (λ (p : Port K). p.task) e) (again old.task)
     | inr d ↦ forgets old new (stages.Dead 9) d
   ])
-  turns_on (VolumeCame m unit (Ok done)) asks r =
+  reads_on (VolumeCame m unit (Ok done)) none r =
       let e = r.came refl in
-      on_turns old new (volume_on (step_at (place_in old.controller.settings.units unit) old.task)
+      (volume_on (step_at (place_in old.controller.settings.units unit) old.task)
       (ap (λ (p : Port K). p.controller) e) (ap (λ (p : Port K). p.owes_block) e) (ap (λ (p : Port K). p.task) e)
       (anew (place_in old.controller.settings.units unit) old.task))
-  turns_on (VolumeCame m unit (Err fault)) asks r = on_turns old new (as_before old new r.refused)
-  turns_on (VolumeWent unit result) asks r =
-      on_turns old new (volume_on (step_at (place_in old.controller.settings.units unit) old.task)
+  reads_on (VolumeCame m unit (Err fault)) none r = (as_before old new r.refused)
+  reads_on (VolumeWent unit result) none r =
+      (volume_on (step_at (place_in old.controller.settings.units unit) old.task)
       (ap (λ (p : Port K). p.controller) r.frame) (ap (λ (p : Port K). p.owes_block) r.frame)
       (ap (λ (p : Port K). p.task) r.frame) (anew (place_in old.controller.settings.units unit) old.task))
-  turns_on (Protect protected unit result) asks r =
-      on_turns old new (volume_on (step_at (place_in old.controller.settings.units unit) old.task)
+  reads_on (Protect protected unit result) none r =
+      (volume_on (step_at (place_in old.controller.settings.units unit) old.task)
       (ap (λ (p : Port K). p.controller) r.frame) (ap (λ (p : Port K). p.owes_block) r.frame)
       (ap (λ (p : Port K). p.task) r.frame) (anew (place_in old.controller.settings.units unit) old.task))

@@ -1,7 +1,7 @@
 // What is true of every port, for its host.
 
 ghost use Rattle.mscp_ported.specs.Answers.{PortsAnswerAsTheyMay, PortsHandOverTheRest};
-ghost use Rattle.mscp_ported.specs.Asking.{PortsServeWhoAsksForBlocks};
+ghost use Rattle.mscp_ported.specs.Asking.{PortsServeWhoAsksBehindPolls, PortsServeWhoAsksForBlocks};
 ghost use Rattle.mscp_ported.specs.Awaited.{PortsEndWhatTheyTook};
 ghost use Rattle.mscp_ported.specs.Ends.{PortsSayWhatWasDecided};
 ghost use Rattle.mscp_ported.specs.Figures.{PortsLowerFigures};
@@ -249,6 +249,14 @@ pub fn ports_pass_ends_on<K: Picker>(picker: &K)
 /// polls before it tells of that block.
 pub fn ports_serve_who_asks_for_blocks<K: Picker>(picker: &K)
     ensures { PortsServeWhoAsksForBlocks K.picks }
+{
+    let _ = picker;
+}
+
+/// Of such a port: so it is too if messages alone are asked for, but only where a step was told since each poll that was taken: who
+/// is at a block may do so until a poll is taken.
+pub fn ports_serve_who_asks_behind_polls<K: Picker>(picker: &K)
+    ensures { PortsServeWhoAsksBehindPolls K.picks }
 {
     let _ = picker;
 }
