@@ -54,6 +54,7 @@ pub mod Falling
 pub mod Codes
 pub mod Buffered
 pub mod Fitting
+pub mod Saying
 pub mod Fitted
 pub mod Untouched
 pub mod Units

@@ -31,7 +31,8 @@ use Rattle.mscp_ported.proofs.Coming.{brought_for, come_so, ends_of, steps_bring
 use Rattle.mscp_ported.proofs.Dealing.{begun, begun_same, named, news_none, whole}
 use Rattle.mscp_ported.proofs.Ending.{Grows, left_with, zipped}
 use Rattle.mscp_ported.proofs.Fitted.{Fitting, became, grown_fits, grown_long, stays, unchanged}
-use Rattle.mscp_ported.proofs.Fitting.{FitsEnd, FitsIn, IsPlainEnd, decided_code, every_left, given_plain, plain_fits, told_about, told_code, told_success}
+use Rattle.mscp_ported.proofs.Fitting.{FitsEnd, FitsIn, IsPlainEnd, decided_code, every_left, given_plain, plain_fits}
+use Rattle.mscp_ported.proofs.Saying.{told_about, told_code, told_success}
 use Rattle.mscp_ported.proofs.Leaving.{step_grows}
 use Rattle.mscp_ported.proofs.Numbered.{At, first_of_one}
 use Rattle.mscp_ported.proofs.Numbering.{served_waits}
