@@ -318,7 +318,22 @@ answered_about c online figure units b long = by (is_formality (slice_index b 8)
         (a.0 ∙ named_about b (next_unit units (num b 4 2)) (search (arith, long)), a.1, a.2)
     by false false other h = answered_command c online figure b long other h
 
+-- it has the code and the unit of its command
+pub answered_code : (s : Settings) (online : Bool) (figure : ℕ) (x : Command) (o : Option ℕ)
+    → (own_end_with s online figure x o).code ≡ endcode x.order
+answered_code s online figure x None = refl
+answered_code s online figure x (Some status) = refl
+
+pub answered_unit : (s : Settings) (online : Bool) (figure : ℕ) (x : Command) (o : Option ℕ)
+    → (own_end_with s online figure x o).unit ≡ x.unit
+answered_unit s online figure x None = refl
+answered_unit s online figure x (Some status) = refl
+
 -- ---- a command that is queued
+
+-- there is room for what is kept of it
+pub under_64 : (m : ℕ) → m < 64 → nat_lt m 64 ≡ true
+under_64 m less = search (arith, less)
 
 -- it is about none
 pub queued_no_about : (c : Settings) (command : Command) → is_queued c command ≡ true → (other : ℕ)

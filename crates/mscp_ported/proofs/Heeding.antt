@@ -9,7 +9,6 @@ use Rattle.mscp_port.specs.declared.task.Task.TheVariants as tasks
 use Rattle.mscp_packet.specs.declared.command.Order.TheVariants as orders
 use Rattle.mscp_controller.specs.Arrival.{fault_of, is_queued, refusal}
 use Rattle.mscp_controller.specs.Holdings.{Holdings, aborting, answered_end, arrives, balance_of, held_unless, outstanding_of, queued, record_aborted, reference_aborted, sent_unless, taken_as, unaborted, waiting_on, with_end}
-use Rattle.mscp_controller.specs.Outcomes.{own_end_with}
 use Rattle.mscp_controller.specs.declared.entry.SendFault.{SendFault}
 use Rattle.mscp_drive.specs.Settings.{IsValid, Settings}
 use Rattle.mscp_drive.specs.declared.connection.Connection.TheVariants.{First}
@@ -36,7 +35,7 @@ use Rattle.mscp_ported.proofs.Answering.{none_so, own_so}
 use Rattle.mscp_ported.proofs.Awaiting.{IsLikeIt, IsNoReset, IsSmall, Kept, handed_like, is_it, nothing_there, others, own_number}
 use Rattle.mscp_ported.proofs.Awaits.{none_taken, taken_is}
 use Rattle.mscp_ported.proofs.Buffered.{FitsBuffer, IsKeptEach, abort_kept, answered_kept, few_kept, queued_kept}
-use Rattle.mscp_ported.proofs.Codes.{answered_about, handed_coded, queued_no_about}
+use Rattle.mscp_ported.proofs.Codes.{answered_about, answered_code, answered_unit, under_64, handed_coded, queued_no_about}
 use Rattle.mscp_ported.proofs.Coming.{come_so, ends_of}
 use Rattle.mscp_ported.proofs.Decided.{read_stays}
 use Rattle.mscp_ported.proofs.Ended.{bytes_small}
@@ -62,7 +61,6 @@ use Rattle.mscp_queue.proofs.Lists.{every_append}
 use Rattle.mscp_queue.proofs.Named.{is_same}
 use Rattle.mscp_queue.proofs.Placed.{found_is}
 use Rattle.mscp_queue.specs.Names.{name_on}
-use Rattle.mscp_queue.specs.Orders.{endcode}
 use Rattle.mscp_queue.specs.Records.{Record, aborted_record, fresh_record, name_of, without}
 use Rattle.std.proofs.Common.{ℕ, All, Bool, List, None, Option, Some, [], ap, append_assoc, arith, cond, false, filter, inl, inr, length, nat_eq, nat_lt, not, refl, subst, sym, true, ◌&&◌, ◌++◌, ◌+◌, ◌-◌, ◌<◌, ◌^◌, ◌∙◌, ◌∷◌, ◌≡◌, ◌≢◌, ◌≤◌}
 use Rattle.std.proofs.lemmas.Option.{none-some, same_Some}
@@ -175,7 +173,7 @@ module _ {K : Type 0} (bytes : List ℕ) (done : Unit) (old new : Port K) (aw : 
           let b = buffer_in bytes
           (changes_at old.volumes (place_in old.controller.settings.units (num bytes 4 2))) in
           let beside : new.buffers.items ≡ old.buffers.items ++ b ∷ [] = s.kept
-          ∙ ap (λ x. cond x (old.buffers.items ++ b ∷ []) old.buffers.items) (within (length old.buffers.items) room) in
+          ∙ ap (λ x. cond x (old.buffers.items ++ b ∷ []) old.buffers.items) (under_64 (length old.buffers.items) room) in
           record {
             long = ap (λ (x : Holdings K). length (ends_of x)) is ∙ f.long ∙ sym (ap length s.decided);
             kept = subst (λ rs. IsKeptEach (aw ++ bytes ∷ []) rs new.buffers.items)
@@ -200,9 +198,6 @@ module _ {K : Type 0} (bytes : List ℕ) (done : Unit) (old new : Port K) (aw : 
                 (every_beside aw bytes (ends_of h) old.decided.items nothing.2 f.fits));
           }
         where
-          within : (m : ℕ) → m < 64 → nat_lt m 64 ≡ true
-          within m less = search (arith, less)
-
           number_kept : (b : List ℕ) (changes : ℕ) → 12 ≤ length b → (buffer_in b changes).reference ≡ num b 0 4
           number_kept b changes long = ap (λ t. cond t 0 (num b 0 4)) {x = nat_lt (length b) 4} {y = false}
               (search (arith, long))
@@ -231,13 +226,13 @@ module _ {K : Type 0} (bytes : List ℕ) (done : Unit) (old new : Port K) (aw : 
         -- its own end
         own_fits : FitsIn (aw ++ bytes ∷ []) (left_with own (answer_by old new own))
         own_fits t only = subst (λ x. FitsEnd (left_with own (answer_by old new own)) x) same (record {
-          unit = subst (λ x. IsUnitIn x bytes) (sym (own_unit h.settings _ _ command (fault_of h.settings command)))
+          unit = subst (λ x. IsUnitIn x bytes) (sym (answered_unit h.settings _ _ command (fault_of h.settings command)))
               (handed_unit old.controller.settings.units bytes sees.long small);
           code = subst (λ x. IsCodeFor (cond (ends_formality x) x own.code) bytes)
               (sym (decided_code _ _ own new.controller.settings.units new.flags _))
               (bare_coded old.buffers.items own bytes
               (ap (λ m. filter (is_of First m) old.buffers.items) own_named ∙ (f.kept n).none nothing.1)
-              (subst (λ x. IsCodeFor x bytes) (sym (own_code h.settings _ _ command (fault_of h.settings command)))
+              (subst (λ x. IsCodeFor x bytes) (sym (answered_code h.settings _ _ command (fault_of h.settings command)))
               (handed_coded old.controller.settings.units bytes sees.long plain)));
           about = λ long other is.
               let a = answered_about h.settings _ _ old.controller.settings.units bytes long other is in (
@@ -287,16 +282,6 @@ module _ {K : Type 0} (bytes : List ℕ) (done : Unit) (old new : Port K) (aw : 
             polled_low : (order : Order) → figure_polled h.settings First h.waiting order < 2 ^ 32
             polled_low (orders.Status other) = low other
             polled_low order = omega arith
-
-            own_code : (s : Settings) (online : Bool) (figure : ℕ) (x : Command) (o : Option ℕ)
-                → (own_end_with s online figure x o).code ≡ endcode x.order
-            own_code s online figure x None = refl
-            own_code s online figure x (Some status) = refl
-
-            own_unit : (s : Settings) (online : Bool) (figure : ℕ) (x : Command) (o : Option ℕ)
-                → (own_end_with s online figure x o).unit ≡ x.unit
-            own_unit s online figure x None = refl
-            own_unit s online figure x (Some status) = refl
 
         -- and that of the command that it aborts
         one_aborted : (m : ℕ) (x : Record) → find (is_numbered m) h.waiting ≡ Some x
