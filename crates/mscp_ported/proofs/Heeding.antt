@@ -173,7 +173,8 @@ module _ {K : Type 0} (bytes : List ℕ) (done : Unit) (old new : Port K) (aw : 
           let b = buffer_in bytes
           (changes_at old.volumes (place_in old.controller.settings.units (num bytes 4 2))) in
           let beside : new.buffers.items ≡ old.buffers.items ++ b ∷ [] = s.kept
-          ∙ ap (λ x. cond x (old.buffers.items ++ b ∷ []) old.buffers.items) (under_64 (length old.buffers.items) room) in
+          ∙ ap (λ x. cond x (old.buffers.items ++ b ∷ []) old.buffers.items)
+          (under_64 (length old.buffers.items) room) in
           record {
             long = ap (λ (x : Holdings K). length (ends_of x)) is ∙ f.long ∙ sym (ap length s.decided);
             kept = subst (λ rs. IsKeptEach (aw ++ bytes ∷ []) rs new.buffers.items)
@@ -226,7 +227,8 @@ module _ {K : Type 0} (bytes : List ℕ) (done : Unit) (old new : Port K) (aw : 
         -- its own end
         own_fits : FitsIn (aw ++ bytes ∷ []) (left_with own (answer_by old new own))
         own_fits t only = subst (λ x. FitsEnd (left_with own (answer_by old new own)) x) same (record {
-          unit = subst (λ x. IsUnitIn x bytes) (sym (answered_unit h.settings _ _ command (fault_of h.settings command)))
+          unit = subst (λ x. IsUnitIn x bytes)
+              (sym (answered_unit h.settings _ _ command (fault_of h.settings command)))
               (handed_unit old.controller.settings.units bytes sees.long small);
           code = subst (λ x. IsCodeFor (cond (ends_formality x) x own.code) bytes)
               (sym (decided_code _ _ own new.controller.settings.units new.flags _))
