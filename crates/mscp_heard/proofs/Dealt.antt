@@ -7,87 +7,28 @@ use Rattle.mscp_drive.specs.declared.connection.Connection.TheVariants.{First}
 use Rattle.mscp_heard.proofs.Joined.{IsNext, next_of}
 use Rattle.mscp_heard.proofs.Moving.{drop_at, drop_beside}
 use Rattle.mscp_heard.proofs.Notes.{Noted, copy_answered, copy_taken, noted_end, noted_news}
-use Rattle.mscp_heard.proofs.Owing.{begun_one, moves_opcode, one_more, own_number, small_number}
+use Rattle.mscp_ported.proofs.Itself.{own_coded}
+use Rattle.mscp_heard.proofs.Owing.{begun_one, one_more, own_number}
+use Rattle.mscp_ported.proofs.Ended.{bytes_small}
 use Rattle.mscp_heard.specs.Deeds.{AreJoined, Called, Deed, Did, IsCopyOf, IsNextText, IsTextOf, ReadsInOrder, calls_in, did, sent}
 use Rattle.mscp_host.specs.PortAccounts.{PortAccount}
 use Rattle.mscp_host.specs.PortLaw.{PortHostsKeepTheirHistory}
 use Rattle.mscp_packet.specs.Number.{num}
-use Rattle.mscp_port.proofs.Common.{and_parts}
 use Rattle.mscp_port.specs.Calls.{IsMadeOf}
 use Rattle.mscp_port.specs.Departures.{begins}
 use Rattle.mscp_port.specs.Histories.{Answered, Call, Picking, WasRead}
 use Rattle.mscp_port.specs.declared.hardware.Hardware.{Hardware}
 use Rattle.mscp_port.specs.declared.port.Outgoing.{Outgoing}
 use Rattle.mscp_port.specs.declared.port.Port.{Port}
-use Rattle.mscp_port.specs.declared.volumes.Volume.{Volume}
-use Rattle.mscp_ported.specs.Answers.{kind_answered, Own, PortsAnswerAsTheyMay, asks_nothing, moves_data, own_answer, own_refusal, past_end, volume_named}
+use Rattle.mscp_ported.specs.Answers.{kind_answered, PortsAnswerAsTheyMay, own_answer, volume_named}
 use Rattle.mscp_ported.specs.Awaited.{Deals, IsAnswering, IsTaking, PortsEndWhatTheyTook, ReadsBytes, awaited, has_number, is_transfer, taken_by, without_ends}
 use Rattle.mscp_ported.specs.Ends.{ends_said_by}
 use Rattle.mscp_ported.specs.Fitting.{Fits, PortsEndByOpcode}
 use Rattle.mscp_ported.specs.Talk.{AsksAlways, Opened, Slot, Talk, Turn, talk_of}
 use Rattle.mscp_ported.specs.Told.{PortsHearInOrder, PortsOpenWhatTheyAccept, PortsTellInOrder, Said, accepted, accepted_by, said, said_in}
-use Rattle.std.proofs.Common.{ℕ, All, Bool, List, None, Option, Some, [], ap, arith, cond, drop, false, filter, inl, inr, length, map, not, refl, subst, sym, true, ◌&&◌, ◌++◌, ◌+◌, ◌<◌, ◌∙◌, ◌∷◌, ◌≡◌, ◌≢◌, ◌≤◌, ◌⊎◌}
+use Rattle.std.proofs.Common.{ℕ, All, List, None, Some, [], ap, arith, cond, drop, filter, inl, inr, length, map, not, refl, subst, sym, ◌++◌, ◌+◌, ◌<◌, ◌∙◌, ◌∷◌, ◌≡◌, ◌≢◌, ◌≤◌, ◌⊎◌}
 use Rattle.std.proofs.lemmas.List.{append-nil}
-use Rattle.std.proofs.lemmas.Option.{none-some, same_Some}
-use Rattle.std.specs.Prelude.{Ok, is_none, nat_le, option_map, slice_get, slice_index}
-
--- what a port answers itself has the code of the message's opcode, or of an unknown one, and is no answer to a poll
-own_coded : (v : Option Volume) (b : List ℕ) (own : Own) → own_answer false v b ≡ Some own
-    → (own.code ≡ slice_index b 8 + 0x80) × (own.code ≢ 0x82)
-own_coded v b own h = by (is_none v && asks_nothing (slice_index b 8)) refl h
-  where
-    not_formal : (opcode : ℕ) → asks_nothing opcode ≡ true → opcode + 0x80 ≢ 0x82
-    not_formal opcode is e = grind (arith, is, e)
-
-    not_moved : (opcode : ℕ) (c : Bool) → (moves_opcode opcode && c) ≡ true → opcode + 0x80 ≢ 0x82
-    not_moved opcode c is e = grind (arith, is, e)
-
-    got : (o : Option ℕ) → moves_data b ≡ true → option_map (λ status. record {
-      code = slice_index b 8 + 0x80;
-      status = status;
-      tells_bytes = true;
-    }) o ≡ Some own → (own.code ≡ slice_index b 8 + 0x80) × (own.code ≢ 0x82)
-    got None moves h = absurd (none-some own h)
-    got (Some status) moves h =
-        let same = same_Some (record { code = slice_index b 8 + 0x80; status = status; tells_bytes = true }) own h in
-        let code : own.code ≡ slice_index b 8 + 0x80 = ap (λ (x : Own). x.code) (sym same) in
-        (code, λ e. not_moved (slice_index b 8) (nat_le 32 (length b)) moves (sym code ∙ e))
-
-    refused : (o : Option Volume) → option_map (λ status. record {
-      code = slice_index b 8 + 0x80;
-      status = status;
-      tells_bytes = true;
-    }) (own_refusal b o) ≡ Some own → (own.code ≡ slice_index b 8 + 0x80) × (own.code ≢ 0x82)
-    refused None h = absurd (none-some own h)
-    refused (Some x) h = cases x.is_there (moves_data b) refl h
-      where
-        cases : (there moves : Bool) → moves_data b ≡ moves → option_map (λ status. record {
-          code = slice_index b 8 + 0x80;
-          status = status;
-          tells_bytes = true;
-        }) (cond (there && moves) (past_end x.size (num b 28 4) (num b 12 4)) None) ≡ Some own
-            → (own.code ≡ slice_index b 8 + 0x80) × (own.code ≢ 0x82)
-        cases true true is h = got (past_end x.size (num b 28 4) (num b 12 4)) is h
-        cases true false is h = absurd (none-some own h)
-        cases false m is h = absurd (none-some own h)
-
-    by : (c : Bool) → (is_none v && asks_nothing (slice_index b 8)) ≡ c → cond c (Some (record {
-      code = slice_index b 8 + 0x80;
-      status = 0;
-      tells_bytes = false;
-    })) (option_map (λ status. record {
-      code = slice_index b 8 + 0x80;
-      status = status;
-      tells_bytes = true;
-    }) (own_refusal b v)) ≡ Some own → (own.code ≡ slice_index b 8 + 0x80) × (own.code ≢ 0x82)
-    by true is h =
-        let same = same_Some (record { code = slice_index b 8 + 0x80; status = 0; tells_bytes = false }) own h in
-        let code : own.code ≡ slice_index b 8 + 0x80 = ap (λ (x : Own). x.code) (sym same) in (
-          code,
-          λ e. not_formal (slice_index b 8) (and_parts (is_none v) (asks_nothing (slice_index b 8)) is).1
-              (sym code ∙ e),
-        )
-    by false is h = refused v h
+use Rattle.std.specs.Prelude.{Ok, slice_get, slice_index}
 
 -- what was said and not heard, what is awaited, and what was sent and not read, before a call and behind it: nothing
 -- changes, or news are said, or a message's end, or the next message is taken, or answered
@@ -264,7 +205,7 @@ module _ {K : Type 0} (picks : Picking K) (c : Settings) (picker : K) (ends : Po
         bytes,
         x.message,
         x.is,
-        ap (λ b. num b 0 4) own.2 ∙ own_number bytes own.0 (small_number bytes small.0),
+        ap (λ b. num b 0 4) own.2 ∙ own_number bytes own.0 (bytes_small bytes small.0),
         code ∙ coded.0,
         (λ e. coded.1 (sym code ∙ e)),
         said_more (WasRead bytes (Ok done)) a heard d.out d.nothing d.begun,

@@ -43,7 +43,8 @@ use Rattle.mscp_heard.proofs.Telling.{IsHeard, counted, few_credits, first_part,
 use Rattle.mscp_heard.proofs.Hosts.{hears_refused, SameNumbers, hear_settles, hears_too_much, poll_sends, poll_still, submit_refused, submit_sends}
 use Rattle.mscp_heard.proofs.Moving.{drop_at}
 use Rattle.mscp_heard.proofs.Packets.{IsMessage, IsRead, message_read}
-use Rattle.mscp_heard.proofs.Owing.{Inv, IsCoded, same_ok, inv_as, since_alive, moved_few, own_number, own_bytes, own_whole, small_number, by_news, by_end, by_text, by_answer, one_more, begun_one}
+use Rattle.mscp_heard.proofs.Owing.{Inv, IsCoded, same_ok, inv_as, since_alive, moved_few, own_number, own_bytes, own_whole, by_news, by_end, by_text, by_answer, one_more, begun_one}
+use Rattle.mscp_ported.proofs.Ended.{bytes_small}
 
 module _ {K : Type 0} (picks : Picking K) (c : Settings) (picker : K) (ends : PortsEndWhatTheyTook picks picker)
     (hear : PortsHearInOrder picks) (tell : PortsTellInOrder picks) (open_so : PortsOpenWhatTheyAccept picks)
@@ -133,7 +134,7 @@ module _ {K : Type 0} (picks : Picking K) (c : Settings) (picker : K) (ends : Po
         (subst (λ y. IsRead y d.out.bytes.items) (sym kind)
         (subst (λ b. IsWhole b) (sym own.2) (own_whole (volume_named a.0 bytes) bytes own.0
         (ap (λ f. own_answer f (volume_named a.0 bytes) bytes) (sym x.disks) ∙ own.1))))
-        (ap (λ b. num b 0 4) own.2 ∙ own_number bytes own.0 (small_number bytes small.0))
+        (ap (λ b. num b 0 4) own.2 ∙ own_number bytes own.0 (bytes_small bytes small.0))
         (ap (λ b. num b 12 4) own.2 ∙ own_bytes bytes own.0))
     answers_it call a asks small reads d i = absurd (search (arith, d.read.1))
 

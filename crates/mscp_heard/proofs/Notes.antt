@@ -8,7 +8,7 @@ use Rattle.mscp_host.specs.declared.asked.Asked.{Asked}
 use Rattle.mscp_packet.specs.Number.{num}
 use Rattle.mscp_port.proofs.Common.{eqb-true}
 use Rattle.mscp_port.specs.declared.port.OutgoingKind.{OutgoingKind}
-use Rattle.mscp_ported.specs.Fitting.{Fits}
+use Rattle.mscp_ported.specs.Fitting.{Fits, IsCodeFor}
 use Rattle.mscp_ported.proofs.Dealing.{one_of}
 use Rattle.mscp_ported.specs.Awaited.{has_number}
 use Rattle.mscp_ported.specs.Told.{Said}
@@ -82,6 +82,10 @@ module _ (host new : PortAccount) (Q : ℕ → Type 0)
         messages = texts_kept ms rest.1 noted.messages;
       }
 
+code_or : (code : ℕ) (t : List ℕ) → IsCodeFor code t → (code ≡ 0x80) ⊎ (code ≡ slice_index t 8 + 0x80)
+code_or code t (inl e) = inl e.0
+code_or code t (inr e) = inr e
+
 -- an end of that code fits as its message does
 coded : (opcode code byte : ℕ) → (code ≡ 0x80) ⊎ (code ≡ byte + 0x80) → is_code_of (byte + 0x80) opcode ≡ true
     → is_code_of code opcode ≡ true
@@ -147,11 +151,16 @@ module _ (host : PortAccount) (us : List Said) (ts : List (List ℕ)) where
           (λ kind x found.
               let f = one.0 x (ap (λ n. find (is_of n) host.asked) named ∙ found) in
               record {
-                code = coded x.opcode (slice_index s.text 8) (slice_index t 8) fits.code f.code;
+                code = coded x.opcode (slice_index s.text 8) (slice_index t 8)
+                    (code_or (slice_index s.text 8) t fits.code)
+                    f.code;
                 about = λ poll own.
-                    let a = f.about (message_poll (slice_index s.text 8) (slice_index t 8) poll fits.code)
-                    (subst (λ n. is_poll_of host.account.watch n ≡ true) (sym named) own) in
-                    (search arith, subst (λ n. is_about host.account.watch n ≡ true) (sym (fits.about poll a.0)) a.1);
+                    let a = f.about (message_poll (slice_index s.text 8) (slice_index t 8) poll
+                    (code_or (slice_index s.text 8) t fits.code))
+                    (subst (λ n. is_poll_of host.account.watch n ≡ true) (sym named) own) in (
+                      search arith,
+                      subst (λ n. is_about host.account.watch n ≡ true) (sym (fits.about (inr poll) a.0)) a.1,
+                    );
               }),
           tt,
         );

@@ -19,6 +19,7 @@ use Rattle.mscp_port.specs.declared.hardware.Hardware.{Hardware}
 use Rattle.mscp_port.specs.declared.port.Port.{Port}
 use Rattle.mscp_port.specs.Calls.{IsMadeOf}
 use Rattle.mscp_port.specs.Histories.{Answered, Picking}
+use Rattle.mscp_ported.specs.Asking.{AsksForBlocks}
 use Rattle.mscp_ported.specs.Awaited.{ReadsBytes}
 use Rattle.mscp_ported.specs.Passing.{ServesBetweenPolls}
 use Rattle.mscp_ported.specs.Talk.{AsksAlways}
@@ -82,3 +83,17 @@ HostsHearNoReset {K} picks picker =
     → AreJoined IsCopyOf picks start p (Did (Hear v b answer) ∷ deeds) a
     → ServesBetweenPolls picks start p (calls_in deeds) a → PortAnswered fresh_of_port (did deeds) old
     → PortAnswers old (Hear v b answer) new → (answer ≢ Ok heards.Reset) × (answer ≢ Ok heards.Lost)
+
+-- the law of service: of such a port and host: if whoever calls the port asks for blocks each time that it asks what is
+-- wanted, the host hears neither Lost nor Reset
+abbrev pub ServedHostsHearNoReset : {K : Type 0} → Picking K → K → Type 0
+ServedHostsHearNoReset {K} picks picker =
+    (c : Settings) (before : List Made) (controller : Holdings K) (hardware : Hardware) (credits : ℕ)
+    (start p : Port K) (deeds : List Deed) (old new : PortAccount) (v : Envelope) (b : List ℕ)
+    (answer : Result Heard HearFault) → IsValid c → All (λ unit. 0 < unit.size) c.units
+    → AnsweredCalls (picks picker) (fresh c picker) before controller → outstanding_of First controller ≡ []
+    → IsMadeOf hardware credits controller start → AsksAlways (calls_in deeds) → ReadsBytes (calls_in deeds)
+    → HaveNumbers deeds → (a : Answered picks start (calls_in deeds) p)
+    → AreJoined IsCopyOf picks start p (Did (Hear v b answer) ∷ deeds) a → AsksForBlocks (calls_in deeds)
+    → PortAnswered fresh_of_port (did deeds) old → PortAnswers old (Hear v b answer) new
+    → (answer ≢ Ok heards.Reset) × (answer ≢ Ok heards.Lost)

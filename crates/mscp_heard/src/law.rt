@@ -1,12 +1,12 @@
 // What is true of each host of a port.
 
-ghost use Rattle.mscp_heard.specs.Hearing.{HostsHearNoReset, HostsHearTheirOwnEnds, HostsRefuseNothing};
+ghost use Rattle.mscp_heard.specs.Hearing.{HostsHearNoReset, HostsHearTheirOwnEnds, HostsRefuseNothing, ServedHostsHearNoReset};
 
 use mscp_host::port_hosts_keep_their_history;
 use mscp_ported::{
     ports_answer_as_they_may, ports_end_by_opcode, ports_end_what_they_took, ports_hear_in_order,
     ports_hold_what_is_awaited, ports_lower_figures, ports_open_what_they_accept,
-    ports_pass_ends_on, ports_tell_in_order,
+    ports_pass_ends_on, ports_serve_who_asks_for_blocks, ports_tell_in_order,
 };
 use mscp_queue::Picker;
 
@@ -57,4 +57,13 @@ pub fn hosts_hear_no_reset<K: Picker>(picker: &K)
     ports_pass_ends_on(picker);
     ports_tell_in_order(picker);
     port_hosts_keep_their_history();
+}
+
+/// Such a host and port. If whoever calls the port asks for blocks each time that it asks what is wanted, the host says neither
+/// `Reset` nor `Lost`, whenever it polls and whatever comes of the actions.
+pub fn served_hosts_hear_no_reset<K: Picker>(picker: &K)
+    ensures { ServedHostsHearNoReset K.picks picker.now }
+{
+    hosts_hear_no_reset(picker);
+    ports_serve_who_asks_for_blocks(picker);
 }

@@ -5,7 +5,6 @@ use Rattle.std.proofs.lemmas.Option.{none-some}
 use Rattle.mscp_packet.specs.Number.{num}
 use Rattle.mscp_packet.specs.declared.command.Command.{Command}
 use Rattle.mscp_packet.specs.declared.end.End.{End}
-use Rattle.mscp_packet.specs.declared.end.EndBody.TheVariants as bodies
 use Rattle.mscp_packet.specs.Ends.{refused_body}
 use Rattle.mscp_drive.specs.declared.block.Block.{Block}
 use Rattle.mscp_drive.specs.declared.connection.Connection.{Connection}
@@ -24,6 +23,8 @@ use Rattle.mscp_port.proofs.Common.{eq-eqb, eqb-true, false≢true}
 use Rattle.mscp_port.proofs.Kept.{is_numbered}
 use Rattle.mscp_ported.specs.Awaited.{has_number}
 use Rattle.mscp_ported.specs.Fitting.{IsCodeFor}
+use Rattle.mscp_ported.proofs.Units.{IsUnitIn}
+use Rattle.mscp_ported.proofs.Codes.{about_in}
 use Rattle.mscp_ported.proofs.Keeping.{end_number}
 use Rattle.mscp_ported.proofs.Numbered.{At, AtEach, none_beside, none_of_it, none_stays, other_number, some_none}
 use Rattle.mscp_ported.proofs.Numbering.{ended_none, not_numbered, served_waits, still_none}
@@ -33,9 +34,10 @@ use Rattle.mscp_ported.proofs.Sole.{found_sole, one_of, served_goes_on, served_i
 -- what is kept of a waiting command whose message this is
 pub record FitsBuffer (r : Record) (b : Buffer) (t : List ℕ) : Type 0 where
   pub opcode : b.opcode ≡ slice_index t 8
+  pub unit : IsUnitIn r.command.unit t
   pub code : is_formality (slice_index t 8) ≡ false → IsCodeFor (endcode r.command.order) t
-  -- and it is no poll
-  pub no_figure : (other figure : ℕ) → refused_body (endcode r.command.order) ≡ bodies.Status other figure → ⊥
+  -- and it is about no other command
+  pub no_about : (other : ℕ) → about_in (refused_body (endcode r.command.order)) ≡ Some other → ⊥
 
 -- of the command of a number, if one waits
 pub record IsKept (aw : List (List ℕ)) (rs : List Record) (bs : List Buffer) (n : ℕ) : Type 0 where
@@ -57,9 +59,10 @@ kept_as aw aw' rs rs' bs bs' n texts records buffers k = record {
 fits_alike : (r s : Record) (b : Buffer) (t : List ℕ) → s.command ≡ r.command → FitsBuffer r b t → FitsBuffer s b t
 fits_alike r s b t same f = record {
   opcode = f.opcode;
+  unit = subst (λ (c : Command). IsUnitIn c.unit t) (sym same) f.unit;
   code = λ plain. subst (λ (c : Command). IsCodeFor (endcode c.order) t) (sym same) (f.code plain);
-  no_figure = λ other figure is.
-      f.no_figure other figure (ap (λ (c : Command). refused_body (endcode c.order)) (sym same) ∙ is);
+  no_about = λ other is.
+      f.no_about other (ap (λ (c : Command). about_in (refused_body (endcode c.order))) (sym same) ∙ is);
 }
 
 -- where no command of the number waits, none is kept

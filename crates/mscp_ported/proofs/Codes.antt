@@ -11,6 +11,7 @@ use Rattle.mscp_packet.specs.declared.command.MoveKind.{MoveKind}
 use Rattle.mscp_packet.specs.declared.command.MoveKind.TheVariants as kinds
 use Rattle.mscp_packet.specs.declared.command.Order.{Order}
 use Rattle.mscp_packet.specs.declared.command.Order.TheVariants as orders
+use Rattle.mscp_packet.specs.declared.end.End.{End}
 use Rattle.mscp_packet.specs.declared.end.EndBody.{EndBody}
 use Rattle.mscp_packet.specs.declared.end.EndBody.TheVariants as bodies
 use Rattle.mscp_packet.specs.Commands.{order_with, parameters}
@@ -56,7 +57,7 @@ parameters_coded (codes.Move kind) b = refl
 
 order_coded : (o : Option Opcode) (b : List ℕ) → opcode_of (slice_index b 8) ≡ o
     → IsCodeFor (endcode (order_with o b)) b
-order_coded None b e = inl refl
+order_coded None b e = inl (refl, e)
 order_coded (Some o) b e = by (nat_lt (length b) (least o))
   where
     at : (row_of o).byte ≡ slice_index b 8
@@ -92,9 +93,10 @@ handed_coded units b long plain =
   where
     by : (c : Bool) → IsCodeFor (endcode (command_of (cond c
         (take 4 b ++ little_bytes 2 (next_unit units (num b 4 2)) ++ drop 6 b) b)).order) b
-    by true = subst (λ x. (endcode (command_of (take 4 b ++ little_bytes 2 (next_unit units (num b 4 2))
-        ++ drop 6 b)).order ≡ 0x80) ⊎ (endcode (command_of (take 4 b ++ little_bytes 2 (next_unit units (num b 4 2))
-        ++ drop 6 b)).order ≡ x + 0x80)) (named_byte b (next_unit units (num b 4 2)) long)
+    by true = subst (λ x. ((endcode (command_of (take 4 b ++ little_bytes 2 (next_unit units (num b 4 2))
+        ++ drop 6 b)).order ≡ 0x80) × (opcode_of x ≡ None))
+        ⊎ (endcode (command_of (take 4 b ++ little_bytes 2 (next_unit units (num b 4 2)) ++ drop 6 b)).order
+        ≡ x + 0x80)) (named_byte b (next_unit units (num b 4 2)) long)
         (command_coded (take 4 b ++ little_bytes 2 (next_unit units (num b 4 2)) ++ drop 6 b))
     by false = command_coded b
 
@@ -140,135 +142,148 @@ handed_about units b other long e = by (is_formality (slice_index b 8)) (asks_fo
 
 -- ---- an end that is answered at once
 
--- no body but that of a poll tells a figure
-abbrev IsAbout : List ℕ → EndBody → Type 0
-IsAbout b body = (other figure : ℕ) → body ≡ bodies.Status other figure → other ≡ num b 12 4
+-- the command that the body of an end is about: of an ABORT and of a poll
+abbrev pub about_in : EndBody → Option ℕ
+about_in (bodies.Abort other) = Some other
+about_in (bodies.Status other figure) = Some other
+about_in body = None
+
+-- the code of the end of an ABORT or of a poll
+abbrev pub IsAboutCode : ℕ → Type 0
+IsAboutCode code = (code ≡ 0x81) ⊎ (code ≡ 0x82)
+
+-- it is the one that the message names, and the end succeeds
+abbrev pub Succeeds : List ℕ → End → ℕ → Type 0
+Succeeds b e other = (other ≡ num b 12 4) × (e.status ≡ 0) × IsAboutCode e.code
+
+abbrev IsAbout : List ℕ → End → Type 0
+IsAbout b e = (other : ℕ) → about_in e.body ≡ Some other → Succeeds b e other
 
 short_about : (o : Opcode) (b : List ℕ) (byte : ℕ) → (row_of o).byte ≡ byte → least o ≤ 16 → 16 ≤ length b
-    → nat_lt (length b) (least o) ≡ true → IsAbout b (refused_body (bit_or byte 0x80))
-short_about o b byte at small long short = absurd (search (arith, small, long, short))
+    → nat_lt (length b) (least o) ≡ true → ⊥
+short_about o b byte at small long short = search (arith, small, long, short)
 
-other_about : (o : Opcode) (b : List ℕ) (byte : ℕ) → (row_of o).byte ≡ byte → 16 < least o
-    → IsAbout b (refused_body (bit_or byte 0x80))
-other_about codes.Abort b byte at more other figure is = absurd (search (arith, more))
-other_about codes.Status b byte at more other figure is = absurd (search (arith, more))
-other_about codes.UnitStatus b byte at more other figure is = absurd (search (arith, more))
-other_about codes.SetController b byte at more other figure is = absurd (search (arith, more))
-other_about codes.Available b byte at more other figure is = absurd (search (arith, more))
-other_about codes.Online b byte at more other figure is = absurd (search (arith, more))
-other_about codes.SetUnit b byte at more other figure is = absurd (search (arith, more))
-other_about (codes.Move kind) b byte at more other figure is = absurd (moved kind other figure
-    (ap (λ x. refused_body (bit_or x 0x80)) at ∙ is))
+other_about : (o : Opcode) (b : List ℕ) (byte : ℕ) → (row_of o).byte ≡ byte → 16 < least o → (other : ℕ)
+    → about_in (refused_body (bit_or byte 0x80)) ≡ Some other → ⊥
+other_about codes.Abort b byte at more other is = search (arith, more)
+other_about codes.Status b byte at more other is = search (arith, more)
+other_about codes.UnitStatus b byte at more other is = search (arith, more)
+other_about codes.SetController b byte at more other is = search (arith, more)
+other_about codes.Available b byte at more other is = search (arith, more)
+other_about codes.Online b byte at more other is = search (arith, more)
+other_about codes.SetUnit b byte at more other is = search (arith, more)
+other_about (codes.Move kind) b byte at more other is = moved kind other
+    (ap (λ x. about_in (refused_body (bit_or x 0x80))) at ∙ is)
   where
-    moved : (kind : MoveKind) (other figure : ℕ)
-        → refused_body (bit_or (row_of (codes.Move kind)).byte 0x80) ≡ bodies.Status other figure → ⊥
-    moved kinds.Access other figure is = search (arith, is)
-    moved kinds.Erase other figure is = search (arith, is)
-    moved kinds.Compare other figure is = search (arith, is)
-    moved kinds.Read other figure is = search (arith, is)
-    moved kinds.Write other figure is = search (arith, is)
+    moved : (kind : MoveKind) (other : ℕ)
+        → about_in (refused_body (bit_or (row_of (codes.Move kind)).byte 0x80)) ≡ Some other → ⊥
+    moved kinds.Access other is = search (arith, is)
+    moved kinds.Erase other is = search (arith, is)
+    moved kinds.Compare other is = search (arith, is)
+    moved kinds.Read other is = search (arith, is)
+    moved kinds.Write other is = search (arith, is)
 
-abbrev body_of : Settings → Bool → ℕ → Command → EndBody
-body_of c online figure command = (own_end_with c online figure command (fault_of c command)).body
+abbrev own_of : Settings → Bool → ℕ → Command → End
+own_of c online figure command = own_end_with c online figure command (fault_of c command)
 
--- what the controller answers a command at once tells no figure, whatever the fault is
+-- what the controller answers a command at once is about none, whatever the fault is
 abbrev Untold : Settings → Bool → ℕ → Command → Type 0
-Untold c online figure command = (o : Option ℕ) (other told : ℕ)
-    → (own_end_with c online figure command o).body ≡ bodies.Status other told → ⊥
+Untold c online figure command = (o : Option ℕ) (other : ℕ)
+    → about_in (own_end_with c online figure command o).body ≡ Some other → ⊥
 
 abbrev commanded : ℕ → ℕ → Order → Command
 commanded unit reference order = record { reference = reference; unit = unit; order = order }
 
 controller_untold : (c : Settings) (online : Bool) (figure unit reference version : ℕ)
     → Untold c online figure (commanded unit reference (orders.SetController version))
-controller_untold c online figure unit reference version None other told h = search (arith, h)
-controller_untold c online figure unit reference version (Some u) other told h = search (arith, h)
+controller_untold c online figure unit reference version None other h = search (arith, h)
+controller_untold c online figure unit reference version (Some u) other h = search (arith, h)
 
 available_untold : (c : Settings) (online : Bool) (figure unit reference : ℕ)
     → Untold c online figure (commanded unit reference orders.Available)
-available_untold c online figure unit reference None other told h = search (arith, h)
-available_untold c online figure unit reference (Some u) other told h = search (arith, h)
+available_untold c online figure unit reference None other h = search (arith, h)
+available_untold c online figure unit reference (Some u) other h = search (arith, h)
 
 online_untold : (c : Settings) (online : Bool) (figure unit reference : ℕ)
     → Untold c online figure (commanded unit reference orders.Online)
-online_untold c online figure unit reference None other told h = search (arith, h)
-online_untold c online figure unit reference (Some u) other told h = search (arith, h)
+online_untold c online figure unit reference None other h = search (arith, h)
+online_untold c online figure unit reference (Some u) other h = search (arith, h)
 
 unit_untold : (c : Settings) (online : Bool) (figure unit reference : ℕ)
     → Untold c online figure (commanded unit reference orders.SetUnit)
-unit_untold c online figure unit reference None other told h = search (arith, h)
-unit_untold c online figure unit reference (Some u) other told h = search (arith, h)
+unit_untold c online figure unit reference None other h = search (arith, h)
+unit_untold c online figure unit reference (Some u) other h = search (arith, h)
 
 move_untold : (c : Settings) (online : Bool) (figure unit reference count block : ℕ) (kind : MoveKind)
     → Untold c online figure (commanded unit reference (orders.Move kind count block))
-move_untold c online figure unit reference count block kinds.Access None other told h = search (arith, h)
-move_untold c online figure unit reference count block kinds.Erase None other told h = search (arith, h)
-move_untold c online figure unit reference count block kinds.Compare None other told h = search (arith, h)
-move_untold c online figure unit reference count block kinds.Read None other told h = search (arith, h)
-move_untold c online figure unit reference count block kinds.Write None other told h = search (arith, h)
-move_untold c online figure unit reference count block kinds.Access (Some u) other told h = search (arith, h)
-move_untold c online figure unit reference count block kinds.Erase (Some u) other told h = search (arith, h)
-move_untold c online figure unit reference count block kinds.Compare (Some u) other told h = search (arith, h)
-move_untold c online figure unit reference count block kinds.Read (Some u) other told h = search (arith, h)
-move_untold c online figure unit reference count block kinds.Write (Some u) other told h = search (arith, h)
+move_untold c online figure unit reference count block kinds.Access None other h = search (arith, h)
+move_untold c online figure unit reference count block kinds.Erase None other h = search (arith, h)
+move_untold c online figure unit reference count block kinds.Compare None other h = search (arith, h)
+move_untold c online figure unit reference count block kinds.Read None other h = search (arith, h)
+move_untold c online figure unit reference count block kinds.Write None other h = search (arith, h)
+move_untold c online figure unit reference count block kinds.Access (Some u) other h = search (arith, h)
+move_untold c online figure unit reference count block kinds.Erase (Some u) other h = search (arith, h)
+move_untold c online figure unit reference count block kinds.Compare (Some u) other h = search (arith, h)
+move_untold c online figure unit reference count block kinds.Read (Some u) other h = search (arith, h)
+move_untold c online figure unit reference count block kinds.Write (Some u) other h = search (arith, h)
 
 parameters_about : (c : Settings) (online : Bool) (figure unit reference : ℕ) (b : List ℕ) (o : Opcode)
-    → IsAbout b (body_of c online figure (commanded unit reference (parameters o b)))
-parameters_about c online figure unit reference b codes.Status other told is =
-    search (arith, is)
-parameters_about c online figure unit reference b codes.Abort other told is = absurd (search (arith, is))
-parameters_about c online figure unit reference b codes.UnitStatus other told is = absurd (by
+    → IsAbout b (own_of c online figure (commanded unit reference (parameters o b)))
+parameters_about c online figure unit reference b codes.Status other is =
+    (search (arith, is), refl, inr refl)
+parameters_about c online figure unit reference b codes.Abort other is =
+    (search (arith, is), refl, inl refl)
+parameters_about c online figure unit reference b codes.UnitStatus other is = absurd (by
     (unit_found c.units unit) is)
   where
-    by : (o : Option Shape) → (own_end_with c online figure (commanded unit reference orders.UnitStatus)
-        (unit_fault o)).body ≡ bodies.Status other told → ⊥
+    by : (o : Option Shape) → about_in (own_end_with c online figure (commanded unit reference orders.UnitStatus)
+        (unit_fault o)).body ≡ Some other → ⊥
     by None h = search (arith, h)
     by (Some u) h = search (arith, h)
-parameters_about c online figure unit reference b codes.SetController other told is = absurd
-    (controller_untold c online figure unit reference (num b 12 2) (version_fault (num b 12 2)) other told is)
-parameters_about c online figure unit reference b codes.Available other told is = absurd
-    (available_untold c online figure unit reference (unit_fault (unit_found c.units unit)) other told is)
-parameters_about c online figure unit reference b codes.Online other told is = absurd
-    (online_untold c online figure unit reference (unit_fault (unit_found c.units unit)) other told is)
-parameters_about c online figure unit reference b codes.SetUnit other told is = absurd
-    (unit_untold c online figure unit reference (unit_fault (unit_found c.units unit)) other told is)
-parameters_about c online figure unit reference b (codes.Move kind) other told is = absurd
+parameters_about c online figure unit reference b codes.SetController other is = absurd
+    (controller_untold c online figure unit reference (num b 12 2) (version_fault (num b 12 2)) other is)
+parameters_about c online figure unit reference b codes.Available other is = absurd
+    (available_untold c online figure unit reference (unit_fault (unit_found c.units unit)) other is)
+parameters_about c online figure unit reference b codes.Online other is = absurd
+    (online_untold c online figure unit reference (unit_fault (unit_found c.units unit)) other is)
+parameters_about c online figure unit reference b codes.SetUnit other is = absurd
+    (unit_untold c online figure unit reference (unit_fault (unit_found c.units unit)) other is)
+parameters_about c online figure unit reference b (codes.Move kind) other is = absurd
     (move_untold c online figure unit reference (num b 12 4) (num b 28 4) kind
-    (move_fault c (num b 12 4) (num b 28 4) (unit_found c.units unit)) other told is)
+    (move_fault c (num b 12 4) (num b 28 4) (unit_found c.units unit)) other is)
 
 answered_with : (c : Settings) (online : Bool) (figure unit reference : ℕ) (b : List ℕ) (o : Option Opcode)
     → opcode_of (slice_index b 8) ≡ o → 16 ≤ length b
-    → IsAbout b (body_of c online figure (record { reference = reference; unit = unit; order = order_with o b }))
-answered_with c online figure unit reference b None e long other told is = absurd (search (arith, is))
-answered_with c online figure unit reference b (Some o) e long other told is = by (nat_lt (length b) (least o)) refl is
+    → IsAbout b (own_of c online figure (record { reference = reference; unit = unit; order = order_with o b }))
+answered_with c online figure unit reference b None e long = λ other is. absurd (search (arith, is))
+answered_with c online figure unit reference b (Some o) e long = by (nat_lt (length b) (least o)) refl
   where
     at : (row_of o).byte ≡ slice_index b 8
     at = eqb-true (row_of o).byte (slice_index b 8)
         (found_is (λ x. nat_eq (row_of x).byte (slice_index b 8)) opcodes o e)
 
-    refused : nat_lt (length b) (least o) ≡ true → (n : ℕ) → least o ≡ n
-        → refused_body (bit_or (slice_index b 8) 0x80) ≡ bodies.Status other told → other ≡ num b 12 4
-    refused short n same h = elim (low n) [
-      | inl few ↦ short_about o b (slice_index b 8) at (subst (λ m. m ≤ 16) (sym same) few) long short other told h
-      | inr more ↦ other_about o b (slice_index b 8) at (subst (λ m. 16 < m) (sym same) more) other told h
+    refused : nat_lt (length b) (least o) ≡ true → (n other : ℕ) → least o ≡ n
+        → about_in (refused_body (bit_or (slice_index b 8) 0x80)) ≡ Some other → ⊥
+    refused short n other same h = elim (low n) [
+      | inl few ↦ short_about o b (slice_index b 8) at (subst (λ m. m ≤ 16) (sym same) few) long short
+      | inr more ↦ other_about o b (slice_index b 8) at (subst (λ m. 16 < m) (sym same) more) other h
     ]
       where
         low : (n : ℕ) → (n ≤ 16) ⊎ (16 < n)
         low n = search arith
 
     by : (x : Bool) → nat_lt (length b) (least o) ≡ x
-        → body_of c online figure (record {
+        → IsAbout b (own_of c online figure (record {
           reference = reference;
           unit = unit;
           order = cond x
               (orders.Invalid (slice_index b 8) Rattle.mscp_packet.specs.Statuses.invalid_length) (parameters o b);
-        })
-        ≡ bodies.Status other told → other ≡ num b 12 4
-    by true short h = refused short (least o) refl h
-    by false enough h = parameters_about c online figure unit reference b o other told h
+        }))
+    by true short other h = absurd (refused short (least o) other refl h)
+    by false enough other h = parameters_about c online figure unit reference b o other h
 
 answered_command : (c : Settings) (online : Bool) (figure : ℕ) (b : List ℕ) → 16 ≤ length b
-    → IsAbout b (body_of c online figure (command_of b))
+    → IsAbout b (own_of c online figure (command_of b))
 unfolding command_of
 answered_command c online figure b long =
     answered_with c online figure (num b 4 2) (num b 0 4) b (opcode_of (slice_index b 8)) refl long
@@ -279,38 +294,51 @@ named_long (a ∷ b ∷ c ∷ d ∷ e ∷ f ∷ g ∷ h ∷ i ∷ j ∷ k ∷ l 
 named_long b n long = search (arith, long)
 
 stood_about : (c : Settings) (online : Bool) (figure : ℕ) (b : List ℕ) → 16 ≤ length b
-    → (other told : ℕ) → body_of c online figure (command_of (stand_in b)) ≡ bodies.Status other told → ⊥
+    → (other : ℕ) → about_in (own_of c online figure (command_of (stand_in b))).body ≡ Some other → ⊥
 unfolding command_of
-stood_about c online figure (x ∷ b ∷ d ∷ e ∷ f ∷ g ∷ h ∷ i ∷ rest) long other told is =
+stood_about c online figure (x ∷ b ∷ d ∷ e ∷ f ∷ g ∷ h ∷ i ∷ rest) long other is =
     by (move_fault c 0 0 (unit_found c.units (num (f ∷ g ∷ []) 0 2))) is
   where
-    by : (o : Option ℕ) → (own_end_with c online figure (command_of (stand_in (x ∷ b ∷ d ∷ e ∷ f ∷ g ∷ h ∷ i ∷ rest)))
-        o).body ≡ bodies.Status other told → ⊥
+    by : (o : Option ℕ) → about_in (own_end_with c online figure
+        (command_of (stand_in (x ∷ b ∷ d ∷ e ∷ f ∷ g ∷ h ∷ i ∷ rest))) o).body ≡ Some other → ⊥
     by None h = search (arith, h)
     by (Some u) h = search (arith, h)
-stood_about c online figure b long other told is = search (arith, long)
+stood_about c online figure b long other is = search (arith, long)
 
 pub answered_about : (c : Settings) (online : Bool) (figure : ℕ) (units : List Shape) (b : List ℕ) → 16 ≤ length b
-    → (other told : ℕ) → body_of c online figure (command_of (handed units b)) ≡ bodies.Status other told
-    → other ≡ num b 12 4
-answered_about c online figure units b long other told is = by (is_formality (slice_index b 8)) (asks_for_next b) is
+    → IsAbout b (own_of c online figure (command_of (handed units b)))
+answered_about c online figure units b long = by (is_formality (slice_index b 8)) (asks_for_next b)
   where
-    by : (x y : Bool) → body_of c online figure (command_of (cond x (stand_in b)
-        (cond y (take 4 b ++ little_bytes 2 (next_unit units (num b 4 2)) ++ drop 6 b) b))) ≡ bodies.Status other told
-        → other ≡ num b 12 4
-    by true y h = absurd (stood_about c online figure b long other told h)
-    by false true h = answered_command c online figure
-        (take 4 b ++ little_bytes 2 (next_unit units (num b 4 2)) ++ drop 6 b)
-        (named_long b (next_unit units (num b 4 2)) long) other told h
-        ∙ named_about b (next_unit units (num b 4 2)) (search (arith, long))
-    by false false h = answered_command c online figure b long other told h
+    by : (x y : Bool) → IsAbout b (own_of c online figure (command_of (cond x (stand_in b)
+        (cond y (take 4 b ++ little_bytes 2 (next_unit units (num b 4 2)) ++ drop 6 b) b))))
+    by true y other h = absurd (stood_about c online figure b long other h)
+    by false true other h =
+        let a = answered_command c online figure (take 4 b ++ little_bytes 2 (next_unit units (num b 4 2)) ++ drop 6 b)
+        (named_long b (next_unit units (num b 4 2)) long) other h in
+        (a.0 ∙ named_about b (next_unit units (num b 4 2)) (search (arith, long)), a.1, a.2)
+    by false false other h = answered_command c online figure b long other h
+
+-- it has the code and the unit of its command
+pub answered_code : (s : Settings) (online : Bool) (figure : ℕ) (x : Command) (o : Option ℕ)
+    → (own_end_with s online figure x o).code ≡ endcode x.order
+answered_code s online figure x None = refl
+answered_code s online figure x (Some status) = refl
+
+pub answered_unit : (s : Settings) (online : Bool) (figure : ℕ) (x : Command) (o : Option ℕ)
+    → (own_end_with s online figure x o).unit ≡ x.unit
+answered_unit s online figure x None = refl
+answered_unit s online figure x (Some status) = refl
 
 -- ---- a command that is queued
 
--- it tells no figure
-pub queued_no_figure : (c : Settings) (command : Command) → is_queued c command ≡ true → (other figure : ℕ)
-    → refused_body (endcode command.order) ≡ bodies.Status other figure → ⊥
-queued_no_figure c command q other figure is = by command.order refl
+-- there is room for what is kept of it
+pub under_64 : (m : ℕ) → m < 64 → nat_lt m 64 ≡ true
+under_64 m less = search (arith, less)
+
+-- it is about none
+pub queued_no_about : (c : Settings) (command : Command) → is_queued c command ≡ true → (other : ℕ)
+    → about_in (refused_body (endcode command.order)) ≡ Some other → ⊥
+queued_no_about c command q other is = by command.order refl
   where
     by : (order : Order) → command.order ≡ order → ⊥
     by (orders.Abort n) e = search (arith, q, e)
@@ -318,13 +346,13 @@ queued_no_figure c command q other figure is = by command.order refl
     by orders.UnitStatus e = search (arith, q, e)
     by (orders.SetController v) e = search (arith, q, e)
     by (orders.Invalid byte status) e = search (arith, q, e)
-    by orders.Available e = search (arith, sym (ap (λ o. refused_body (endcode o)) e) ∙ is)
-    by orders.Online e = search (arith, sym (ap (λ o. refused_body (endcode o)) e) ∙ is)
-    by orders.SetUnit e = search (arith, sym (ap (λ o. refused_body (endcode o)) e) ∙ is)
-    by (orders.Move kind count block) e = moved kind (sym (ap (λ o. refused_body (endcode o)) e) ∙ is)
+    by orders.Available e = search (arith, sym (ap (λ o. about_in (refused_body (endcode o))) e) ∙ is)
+    by orders.Online e = search (arith, sym (ap (λ o. about_in (refused_body (endcode o))) e) ∙ is)
+    by orders.SetUnit e = search (arith, sym (ap (λ o. about_in (refused_body (endcode o))) e) ∙ is)
+    by (orders.Move kind count block) e = moved kind (sym (ap (λ o. about_in (refused_body (endcode o))) e) ∙ is)
       where
-        moved : (kind : MoveKind) → refused_body (endcode
-            (orders.Move kind count block)) ≡ bodies.Status other figure → ⊥
+        moved : (kind : MoveKind) → about_in (refused_body (endcode
+            (orders.Move kind count block))) ≡ Some other → ⊥
         moved kinds.Access h = search (arith, h)
         moved kinds.Erase h = search (arith, h)
         moved kinds.Compare h = search (arith, h)

@@ -72,7 +72,7 @@ module _ {K : Type 0} (picks : Picking K) (old new : Port K) where
   dead_on (VolumeWent unit result) never r d = same_dead (ap (λ (q : Port K). q.stage) r.frame) d
   dead_on (Protect protected unit result) never r d = same_dead (ap (λ (q : Port K). q.stage) r.frame) d
 
-  lived : (call : Call) → call ≢ WriteIp → Becomes picks call old new → is_dead new.stage ≡ false
+  pub lived : (call : Call) → call ≢ WriteIp → Becomes picks call old new → is_dead new.stage ≡ false
       → is_dead old.stage ≡ false
   lived call never r lives = by (is_dead old.stage) refl
     where

@@ -1,17 +1,13 @@
 -- Each end that waits fits the message whose end it is.
 use Rattle.std.proofs.Common.{◌≡◌, ◌∙◌, ◌+◌, ◌^◌, ◌<◌, ◌≤◌, ◌++◌, ◌∷◌, [], ℕ, Bool, true, false, cond, filter, length, nat_eq, not, List, Option, None, Some, inl, inr, refl, ap, sym, subst, arith}
-use Rattle.std.specs.Prelude.{find, option_map, position, slice_get, slice_index}
+use Rattle.std.specs.Prelude.{find, position, slice_get}
 use Rattle.std.specs.List.{AllByRecursion}
 use Rattle.mscp_packet.specs.Number.{num}
-use Rattle.mscp_packet.specs.declared.end.BodyKind.{BodyKind}
-use Rattle.mscp_packet.specs.declared.end.BodyKind.TheVariants as kinds_of
-use Rattle.mscp_packet.specs.Ends.{IsOfKind, endcodes, end_bytes, kind_of_body, kind_of_code, refused_body}
-use Rattle.mscp_packet.proofs.Numbers.{four}
+use Rattle.mscp_packet.specs.Ends.{refused_body}
 use Rattle.mscp_drive.specs.UnitList.{unit_found}
 use Rattle.mscp_packet.specs.declared.command.Order.{Order}
 use Rattle.mscp_packet.specs.declared.command.Order.TheVariants as orders
 use Rattle.mscp_packet.specs.declared.end.End.{End}
-use Rattle.mscp_packet.specs.declared.end.EndBody.{EndBody}
 use Rattle.mscp_packet.specs.declared.end.EndBody.TheVariants as bodies
 use Rattle.mscp_drive.specs.Shape.{Shape}
 use Rattle.mscp_drive.specs.declared.block.Block.{Block}
@@ -26,29 +22,30 @@ use Rattle.mscp_port.specs.declared.buffers.Buffer.{Buffer}
 use Rattle.mscp_port.specs.declared.decided.Decided.{Decided}
 use Rattle.mscp_port.specs.Blocks.{kept_at, kept_of}
 use Rattle.mscp_port.specs.Buffers.{is_of}
-use Rattle.mscp_port.specs.Decided.{end_decided}
+use Rattle.mscp_port.specs.Decided.{end_decided, status_told}
+use Rattle.mscp_port.specs.declared.verdict.Verdict.TheVariants as verdicts
+use Rattle.mscp_drive.specs.declared.block.Block.TheVariants as blocks
 use Rattle.mscp_port.specs.Formalities.{code_told, ends_formality, is_formality}
-use Rattle.mscp_port.specs.Leaving.{end_left, end_with_body, head, told_end}
-use Rattle.mscp_port.specs.declared.port.Port.{Port}
 use Rattle.mscp_port.specs.declared.volumes.Volume.{Volume}
 use Rattle.mscp_port.proofs.Common.{eq-eqb, eqb-true, none-some, same_Some}
 use Rattle.mscp_ported.specs.Awaited.{has_number}
 use Rattle.mscp_ported.specs.Ends.{Leaving}
 use Rattle.mscp_ported.specs.Fitting.{IsCodeFor}
-use Rattle.mscp_ported.specs.Passing.{figure_in}
+use Rattle.mscp_ported.proofs.Units.{IsUnitIn}
+use Rattle.mscp_ported.proofs.Codes.{IsAboutCode, about_in}
 use Rattle.mscp_ported.proofs.Buffered.{FitsBuffer}
 use Rattle.mscp_ported.proofs.Ending.{left_with, zipped}
 use Rattle.mscp_ported.proofs.Numbered.{ends_numbered, none_beside, none_of_it, other_number, some_none}
 use Rattle.mscp_ported.proofs.Sole.{found_sole, sole_left}
-use Rattle.mscp_ported.proofs.Whole.{code_of}
 
 -- ---- what is said of an end
 
 -- an end, with what was decided of it, fits this message
 pub record FitsEnd (l : Leaving) (t : List ℕ) : Type 0 where
+  pub unit : IsUnitIn l.end.unit t
   pub code : IsCodeFor (cond (ends_formality l.fields.code) l.fields.code l.end.code) t
-  pub about : 16 ≤ length t → (other figure : ℕ) → l.end.body ≡ bodies.Status other figure
-      → (other ≡ num t 12 4) × (other < 2 ^ 32)
+  pub about : 16 ≤ length t → (other : ℕ) → about_in l.end.body ≡ Some other
+      → (other ≡ num t 12 4) × (other < 2 ^ 32) × (l.fields.status ≡ 0)
   -- a poll's end leaves with its own code, and its figure fits its bytes
   pub polled : (other figure : ℕ) → l.end.body ≡ bodies.Status other figure
       → (l.fields.code ≡ l.end.code) × (figure < 2 ^ 32)
@@ -70,6 +67,24 @@ decided_code code status e units flags v = by (nat_eq e.code 0x84)
     by true o = refl
     by false None = refl
     by false (Some unit) = refl
+
+pub decided_status : (code status : ℕ) (e : End) (units : List Shape) (flags : ℕ) (v : Volume)
+    → (end_decided code status e units flags v).status ≡ status
+decided_status code status e units flags v = by (nat_eq e.code 0x84)
+    (Rattle.mscp_drive.specs.UnitList.unit_found units e.unit)
+  where
+    by : (c : Bool) (o : Option Shape)
+        → (cond c (Rattle.mscp_port.specs.Decided.controller_decided code status flags)
+        (Rattle.mscp_port.specs.Decided.found_decided code status o v)).status ≡ status
+    by true o = refl
+    by false None = refl
+    by false (Some unit) = refl
+
+-- the Success of an ABORT or a poll is told as such
+pub success_told : (code : ℕ) (v : Volume) → IsAboutCode code
+    → status_told (verdicts.Served blocks.Good) code 0 v ≡ 0
+success_told code v (inl e) = ap (λ n. status_told (verdicts.Served blocks.Good) n 0 v) e
+success_told code v (inr e) = ap (λ n. status_told (verdicts.Served blocks.Good) n 0 v) e
 
 formal_code : (n : ℕ) → is_formality n ≡ true → ends_formality (n + 0x80) ≡ true
 formal_code n e = grind (arith, e)
@@ -132,25 +147,26 @@ module _ (bs : List Buffer) (e : End) (t : List ℕ) where
 
 -- ---- the end of a command that waited
 
-moved_no_figure : (order : Order) (good other figure : ℕ)
-    → ((other figure : ℕ) → refused_body (endcode order) ≡ bodies.Status other figure → ⊥)
-    → moved_body order good ≡ bodies.Status other figure → ⊥
-moved_no_figure (orders.Move kind count block) good other figure never is = search (arith, is)
-moved_no_figure order good other figure never is = never other figure is
+moved_no_about : (order : Order) (good other : ℕ)
+    → ((other : ℕ) → about_in (refused_body (endcode order)) ≡ Some other → ⊥)
+    → about_in (moved_body order good) ≡ Some other → ⊥
+moved_no_about (orders.Move kind count block) good other never is = search (arith, is)
+moved_no_about order good other never is = never other is
 
-outcome_no_figure : (shape : Shape) (status : ℕ) (order : Order) (good other figure : ℕ)
-    → ((other figure : ℕ) → refused_body (endcode order) ≡ bodies.Status other figure → ⊥)
-    → outcome_body shape status order good ≡ bodies.Status other figure → ⊥
-outcome_no_figure shape status orders.Online good other figure never is = grind (arith, is)
-outcome_no_figure shape status orders.SetUnit good other figure never is = grind (arith, is)
-outcome_no_figure shape status order good other figure never is = moved_no_figure order good other figure never is
+outcome_no_about : (shape : Shape) (status : ℕ) (order : Order) (good other : ℕ)
+    → ((other : ℕ) → about_in (refused_body (endcode order)) ≡ Some other → ⊥)
+    → about_in (outcome_body shape status order good) ≡ Some other → ⊥
+outcome_no_about shape status orders.Online good other never is = grind (arith, is)
+outcome_no_about shape status orders.SetUnit good other never is = grind (arith, is)
+outcome_no_about shape status order good other never is = moved_no_about order good other never is
 
--- its code is that of its order, and it tells no figure
+-- its code is that of its order, and it is about no other command
 pub record IsPlainEnd (r : Record) (e : End) : Type 0 where
   pub number : e.reference ≡ r.command.reference
+  pub unit : e.unit ≡ r.command.unit
   pub code : e.code ≡ endcode r.command.order
-  pub no_figure : ((other figure : ℕ) → refused_body (endcode r.command.order) ≡ bodies.Status other figure → ⊥)
-      → (other figure : ℕ) → e.body ≡ bodies.Status other figure → ⊥
+  pub no_about : ((other : ℕ) → about_in (refused_body (endcode r.command.order)) ≡ Some other → ⊥)
+      → (other : ℕ) → about_in e.body ≡ Some other → ⊥
 
 pub given_plain : (k : Block) (d : Drive) (r : Record) (e : End) → end_given k d r ≡ Some e → IsPlainEnd r e
 given_plain k d r e h = by (goes_on d.online r.command.order k (left_of r)) h
@@ -162,15 +178,17 @@ given_plain k d r e h = by (goes_on d.online r.command.order k (left_of r)) h
     by true h = absurd (none-some e h)
     by false h = subst (λ (x : End). IsPlainEnd r x) (same_Some own e h) (record {
       number = refl;
+      unit = refl;
       code = refl;
-      no_figure = λ never other figure is. outcome_no_figure d.unit _ r.command.order _ other figure never is;
+      no_about = λ never other is. outcome_no_about d.unit _ r.command.order _ other never is;
     })
 
 pub aborted_plain : (r : Record) → IsPlainEnd r (aborted_record r)
 aborted_plain r = record {
   number = refl;
+  unit = refl;
   code = refl;
-  no_figure = λ never other figure is. moved_no_figure r.command.order r.good other figure never is;
+  no_about = λ never other is. moved_no_about r.command.order r.good other never is;
 }
 
 -- with what is decided of it, it fits
@@ -178,10 +196,11 @@ pub plain_fits : (bs : List Buffer) (r : Record) (b : Buffer) (e : End) (d : Dec
     → IsPlainEnd r e → filter (is_of First e.reference) bs ≡ b ∷ [] → FitsBuffer r b t
     → d.code ≡ code_told (kept_of First e.reference bs) e.code → FitsEnd (left_with e d) t
 plain_fits bs r b e d t plain one f same = record {
+  unit = subst (λ n. IsUnitIn n t) (sym plain.unit) f.unit;
   code = subst (λ c. IsCodeFor (cond (ends_formality c) c e.code) t) (sym same)
       (kept_coded bs e t r b one f plain.code);
-  about = λ long other figure is. absurd (plain.no_figure f.no_figure other figure is);
-  polled = λ other figure is. absurd (plain.no_figure f.no_figure other figure is);
+  about = λ long other is. absurd (plain.no_about f.no_about other is);
+  polled = λ other figure is. absurd (plain.no_about f.no_about other (ap about_in is));
 }
 
 -- ---- messages and ends beside each other
@@ -231,118 +250,3 @@ every_beside aw t (e ∷ es) (d ∷ ds) none all = by (nat_eq e.reference (num t
         apart : (c : Bool) → nat_eq (num t 0 4) e.reference ≡ c → c ≡ false
         apart true x = search (arith, is, eq-eqb e.reference (num t 0 4) (sym (eqb-true (num t 0 4) e.reference x)))
         apart false x = refl
-
--- ---- the text of an end
-
-pub told_code : {K : Type 0} (p : Port K) (e : End) (d : Decided) → slice_get p.decided.items 0 ≡ Some d
-    → slice_index (told_end p e) 8 ≡ cond (ends_formality d.code) d.code e.code
-told_code p e d some =
-    ap (λ o. slice_index (end_left e o (unit_found p.controller.settings.units e.unit) p.hardware) 8) some
-    ∙ by (ends_formality d.code)
-  where
-    by : (c : Bool) → slice_index (cond c (head e.reference e.unit d.code d.status)
-        (end_with_body e.body e d (unit_found p.controller.settings.units e.unit) p.hardware)) 8
-        ≡ cond c d.code e.code
-    by true = refl
-    by false = code_of e.body e d (unit_found p.controller.settings.units e.unit) p.hardware
-
-pub told_about : {K : Type 0} (p : Port K) (e : End) (d : Decided) → slice_get p.decided.items 0 ≡ Some d
-    → (t : List ℕ) → IsOfKind e → FitsEnd (left_with e d) t → slice_index (told_end p e) 8 ≡ 0x82 → 16 ≤ length t
-    → num (told_end p e) 12 4 ≡ num t 12 4
-told_about p e d some t shaped fits is long =
-    ap (λ o. num (end_left e o unit p.hardware) 12 4) some
-    ∙ by (ends_formality d.code) refl (sym (told_code p e d some) ∙ is)
-  where
-    unit : Option Shape
-    unit = unit_found p.controller.settings.units e.unit
-
-    not_formal : (code : ℕ) → ends_formality code ≡ true → code ≡ 0x82 → ⊥
-    not_formal code formal poll = search (arith, sym formal ∙ ap ends_formality poll)
-
-    plain : (body : EndBody) → e.body ≡ body → kind_of_code e.code ≡ Some (kind_of_body body) → e.code ≡ 0x82
-        → num (end_with_body body e d unit p.hardware) 12 4 ≡ num t 12 4
-    plain (bodies.Status other figure) same shaped poll =
-        let a = fits.about long other figure same in
-        ap (λ b. num (end_bytes (record e { status = d.status; body = b })) 12 4) same ∙ four other a.1 ∙ a.0
-    plain body same shaped poll = absurd (search (arith, sym shaped ∙ ap kind_of_code poll))
-
-    by : (c : Bool) → ends_formality d.code ≡ c → cond c d.code e.code ≡ 0x82
-        → num (cond c (head e.reference e.unit d.code d.status) (end_with_body e.body e d unit p.hardware)) 12 4
-        ≡ num t 12 4
-    by true formal poll = absurd (not_formal d.code formal poll)
-    by false formal poll = plain e.body refl shaped poll
-
--- the code of a poll's end
-status_code : (code : ℕ) → kind_of_code code ≡ Some kinds_of.Status → code ≡ 0x82
-status_code code e = found endcodes rows e
-  where
-    rows : AllByRecursion (λ x. x.1 ≡ kinds_of.Status → x.0 ≡ 0x82) endcodes
-    rows = grind arith
-
-    found : (xs : List (ℕ × BodyKind)) → AllByRecursion (λ x. x.1 ≡ kinds_of.Status → x.0 ≡ 0x82) xs
-        → option_map (λ x. x.1) (find (λ x. nat_eq x.0 code) xs) ≡ Some kinds_of.Status → code ≡ 0x82
-    found [] all h = absurd (none-some kinds_of.Status h)
-    found (x ∷ xs) all h = by (nat_eq x.0 code) refl h (λ y. found xs all.1 y)
-      where
-        by : (b : Bool) → nat_eq x.0 code ≡ b
-            → option_map (λ (y : ℕ × BodyKind). y.1) (cond b (Some x) (find (λ y. nat_eq y.0 code) xs))
-            ≡ Some kinds_of.Status
-            → (option_map (λ (y : ℕ × BodyKind). y.1) (find (λ y. nat_eq y.0 code) xs) ≡ Some kinds_of.Status
-            → code ≡ 0x82) → code ≡ 0x82
-        by true is h rest = sym (eqb-true x.0 code is) ∙ all.0 (same_Some x.1 kinds_of.Status h)
-        by false is h rest = rest h
-
--- what is told of the figure
-pub told_figure : {K : Type 0} (p : Port K) (e : End) (d : Decided) → slice_get p.decided.items 0 ≡ Some d
-    → (t : List ℕ) → IsOfKind e → FitsEnd (left_with e d) t
-    → cond (nat_eq (slice_index (told_end p e) 8) 0x82) (num (told_end p e) 16 4) 0 ≡ figure_in e.body
-told_figure p e d some t shaped fits = by e.body refl
-  where
-    unit : Option Shape
-    unit = unit_found p.controller.settings.units e.unit
-
-    text : List ℕ
-    text = told_end p e
-
-    not_poll : (body : EndBody) → kind_of_code e.code ≡ Some (kind_of_body body)
-        → (kind_of_body body ≡ kinds_of.Status → ⊥) → nat_eq (slice_index (told_end p e) 8) 0x82 ≡ false
-    not_poll body kind other = none (nat_eq (slice_index (told_end p e) 8) 0x82) refl
-      where
-        formal : (c : Bool) → ends_formality d.code ≡ c → cond c d.code e.code ≡ 0x82 → ⊥
-        formal true is poll = search (arith, sym is ∙ ap ends_formality poll)
-        formal false is poll = other (same_Some (kind_of_body body) kinds_of.Status
-            (sym kind ∙ ap kind_of_code poll))
-
-        none : (b : Bool) → nat_eq (slice_index (told_end p e) 8) 0x82 ≡ b → b ≡ false
-        none false is = refl
-        none true is = absurd (formal (ends_formality d.code) refl
-            (sym (told_code p e d some) ∙ eqb-true (slice_index (told_end p e) 8) 0x82 is))
-
-    nothing : (body : EndBody) → e.body ≡ body → (kind_of_body body ≡ kinds_of.Status → ⊥) → figure_in body ≡ 0
-        → cond (nat_eq (slice_index (told_end p e) 8) 0x82) (num (told_end p e) 16 4) 0 ≡ figure_in e.body
-    nothing body same other zero =
-        ap (λ b. cond b (num (told_end p e) 16 4) 0)
-        (not_poll body (shaped ∙ ap (λ x. Some (kind_of_body x)) same) other)
-        ∙ sym (ap figure_in same ∙ zero)
-
-    by : (body : EndBody) → e.body ≡ body
-        → cond (nat_eq (slice_index (told_end p e) 8) 0x82) (num (told_end p e) 16 4) 0 ≡ figure_in e.body
-    by (bodies.Status other figure) same =
-        let x = fits.polled other figure same in
-        let code : e.code ≡ 0x82 = status_code e.code (shaped ∙ ap (λ b. Some (kind_of_body b)) same) in
-        let formal : ends_formality d.code ≡ false = ap ends_formality (x.0 ∙ code) in
-        let told : slice_index (told_end p e) 8 ≡ 0x82 =
-        told_code p e d some ∙ ap (λ c. cond c d.code e.code) formal ∙ code in
-        ap (λ b. cond b (num (told_end p e) 16 4) 0) (eq-eqb (slice_index (told_end p e) 8) 0x82 told)
-        ∙ ap (λ o. num (end_left e o unit p.hardware) 16 4) some
-        ∙ ap (λ c. num (cond c (head e.reference e.unit d.code d.status)
-        (end_with_body e.body e d unit p.hardware)) 16 4) formal
-        ∙ ap (λ b. num (end_with_body b e d unit p.hardware) 16 4) same
-        ∙ ap (λ b. num (end_bytes (record e { status = d.status; body = b })) 16 4) same
-        ∙ four figure x.1 ∙ sym (ap figure_in same)
-    by (bodies.Moved count) same = nothing (bodies.Moved count) same (λ k. search (arith, k)) refl
-    by bodies.Bare same = nothing bodies.Bare same (λ k. search (arith, k)) refl
-    by (bodies.Abort other) same = nothing (bodies.Abort other) same (λ k. search (arith, k)) refl
-    by (bodies.UnitStatus x y z v w) same = nothing (bodies.UnitStatus x y z v w) same (λ k. search (arith, k)) refl
-    by (bodies.Controller x y) same = nothing (bodies.Controller x y) same (λ k. search (arith, k)) refl
-    by (bodies.Online x y z v) same = nothing (bodies.Online x y z v) same (λ k. search (arith, k)) refl

@@ -9,7 +9,6 @@ use Rattle.mscp_port.specs.declared.task.Task.TheVariants as tasks
 use Rattle.mscp_packet.specs.declared.command.Order.TheVariants as orders
 use Rattle.mscp_controller.specs.Arrival.{fault_of, is_queued, refusal}
 use Rattle.mscp_controller.specs.Holdings.{Holdings, aborting, answered_end, arrives, balance_of, held_unless, outstanding_of, queued, record_aborted, reference_aborted, sent_unless, taken_as, unaborted, waiting_on, with_end}
-use Rattle.mscp_controller.specs.Outcomes.{own_end_with}
 use Rattle.mscp_controller.specs.declared.entry.SendFault.{SendFault}
 use Rattle.mscp_drive.specs.Settings.{IsValid, Settings}
 use Rattle.mscp_drive.specs.declared.connection.Connection.TheVariants.{First}
@@ -36,28 +35,32 @@ use Rattle.mscp_ported.proofs.Answering.{none_so, own_so}
 use Rattle.mscp_ported.proofs.Awaiting.{IsLikeIt, IsNoReset, IsSmall, Kept, handed_like, is_it, nothing_there, others, own_number}
 use Rattle.mscp_ported.proofs.Awaits.{none_taken, taken_is}
 use Rattle.mscp_ported.proofs.Buffered.{FitsBuffer, IsKeptEach, abort_kept, answered_kept, few_kept, queued_kept}
-use Rattle.mscp_ported.proofs.Codes.{answered_about, handed_coded, queued_no_figure}
+use Rattle.mscp_ported.proofs.Codes.{answered_about, answered_code, answered_unit, under_64, handed_coded, queued_no_about}
 use Rattle.mscp_ported.proofs.Coming.{come_so, ends_of}
 use Rattle.mscp_ported.proofs.Decided.{read_stays}
 use Rattle.mscp_ported.proofs.Ended.{bytes_small}
 use Rattle.mscp_ported.proofs.Ending.{Grows, left_with, zipped}
 use Rattle.mscp_ported.proofs.Fitted.{Fitting, became, grown_fits, grown_long, stays, unchanged}
-use Rattle.mscp_ported.proofs.Fitting.{FitsEnd, FitsIn, aborted_plain, bare_coded, bare_same, decided_code, every_beside, plain_fits}
+use Rattle.mscp_ported.proofs.Fitting.{FitsEnd, FitsIn, aborted_plain, bare_coded, bare_same, decided_code, decided_status, success_told, every_beside, plain_fits}
 use Rattle.mscp_ported.proofs.Formal.{formal_queued}
 use Rattle.mscp_ported.proofs.Leaving.{text_grows}
 use Rattle.mscp_ported.proofs.Numbered.{At, IsNothing, first_of_one, none_beside, none_found, none_stays, some_none}
 use Rattle.mscp_ported.proofs.Owning.{and_false, number_of}
 use Rattle.mscp_ported.proofs.Sole.{found_sole, sole_comes}
+use Rattle.mscp_port.specs.Decided.{status_told}
+use Rattle.mscp_port.specs.declared.verdict.Verdict.TheVariants as verdicts
+use Rattle.mscp_drive.specs.declared.block.Block.TheVariants as blocks
+use Rattle.mscp_port.specs.Volumes.{volume_found}
 use Rattle.mscp_ported.proofs.Tables.{answer_by}
 use Rattle.mscp_ported.specs.Answers.{own_answer, volume_named}
 use Rattle.mscp_ported.specs.Awaited.{has_number, is_taken_text, taken_by}
 use Rattle.mscp_ported.specs.Fitting.{IsCodeFor}
+use Rattle.mscp_ported.proofs.Units.{IsUnitIn, handed_unit}
 use Rattle.mscp_ported.specs.Talk.{since}
 use Rattle.mscp_queue.proofs.Lists.{every_append}
 use Rattle.mscp_queue.proofs.Named.{is_same}
 use Rattle.mscp_queue.proofs.Placed.{found_is}
 use Rattle.mscp_queue.specs.Names.{name_on}
-use Rattle.mscp_queue.specs.Orders.{endcode}
 use Rattle.mscp_queue.specs.Records.{Record, aborted_record, fresh_record, name_of, without}
 use Rattle.std.proofs.Common.{ℕ, All, Bool, List, None, Option, Some, [], ap, append_assoc, arith, cond, false, filter, inl, inr, length, nat_eq, nat_lt, not, refl, subst, sym, true, ◌&&◌, ◌++◌, ◌+◌, ◌-◌, ◌<◌, ◌^◌, ◌∙◌, ◌∷◌, ◌≡◌, ◌≢◌, ◌≤◌}
 use Rattle.std.proofs.lemmas.Option.{none-some, same_Some}
@@ -170,7 +173,8 @@ module _ {K : Type 0} (bytes : List ℕ) (done : Unit) (old new : Port K) (aw : 
           let b = buffer_in bytes
           (changes_at old.volumes (place_in old.controller.settings.units (num bytes 4 2))) in
           let beside : new.buffers.items ≡ old.buffers.items ++ b ∷ [] = s.kept
-          ∙ ap (λ x. cond x (old.buffers.items ++ b ∷ []) old.buffers.items) (within (length old.buffers.items) room) in
+          ∙ ap (λ x. cond x (old.buffers.items ++ b ∷ []) old.buffers.items)
+          (under_64 (length old.buffers.items) room) in
           record {
             long = ap (λ (x : Holdings K). length (ends_of x)) is ∙ f.long ∙ sym (ap length s.decided);
             kept = subst (λ rs. IsKeptEach (aw ++ bytes ∷ []) rs new.buffers.items)
@@ -185,8 +189,9 @@ module _ {K : Type 0} (bytes : List ℕ) (done : Unit) (old new : Port K) (aw : 
                 (record {
                   opcode = opcode_kept bytes (changes_at old.volumes
                       (place_in old.controller.settings.units (num bytes 4 2))) sees.long;
+                  unit = handed_unit old.controller.settings.units bytes sees.long small;
                   code = λ plain. handed_coded old.controller.settings.units bytes sees.long plain;
-                  no_figure = queued_no_figure h.settings command q;
+                  no_about = queued_no_about h.settings command q;
                 }) f.kept));
             fits = subst (λ es. AllByRecursion (FitsIn (aw ++ bytes ∷ [])) (zipped es new.decided.items))
                 (sym (ap (λ (x : Holdings K). ends_of x) is))
@@ -194,9 +199,6 @@ module _ {K : Type 0} (bytes : List ℕ) (done : Unit) (old new : Port K) (aw : 
                 (every_beside aw bytes (ends_of h) old.decided.items nothing.2 f.fits));
           }
         where
-          within : (m : ℕ) → m < 64 → nat_lt m 64 ≡ true
-          within m less = search (arith, less)
-
           number_kept : (b : List ℕ) (changes : ℕ) → 12 ≤ length b → (buffer_in b changes).reference ≡ num b 0 4
           number_kept b changes long = ap (λ t. cond t 0 (num b 0 4)) {x = nat_lt (length b) 4} {y = false}
               (search (arith, long))
@@ -225,18 +227,28 @@ module _ {K : Type 0} (bytes : List ℕ) (done : Unit) (old new : Port K) (aw : 
         -- its own end
         own_fits : FitsIn (aw ++ bytes ∷ []) (left_with own (answer_by old new own))
         own_fits t only = subst (λ x. FitsEnd (left_with own (answer_by old new own)) x) same (record {
+          unit = subst (λ x. IsUnitIn x bytes)
+              (sym (answered_unit h.settings _ _ command (fault_of h.settings command)))
+              (handed_unit old.controller.settings.units bytes sees.long small);
           code = subst (λ x. IsCodeFor (cond (ends_formality x) x own.code) bytes)
               (sym (decided_code _ _ own new.controller.settings.units new.flags _))
               (bare_coded old.buffers.items own bytes
               (ap (λ m. filter (is_of First m) old.buffers.items) own_named ∙ (f.kept n).none nothing.1)
-              (subst (λ x. IsCodeFor x bytes) (sym (own_code h.settings _ _ command (fault_of h.settings command)))
+              (subst (λ x. IsCodeFor x bytes) (sym (answered_code h.settings _ _ command (fault_of h.settings command)))
               (handed_coded old.controller.settings.units bytes sees.long plain)));
-          about = λ long other figure is. (
-            answered_about h.settings _ _ old.controller.settings.units bytes long other figure is,
-            subst (λ x. x < 2 ^ 32)
-                (sym (answered_about h.settings _ _ old.controller.settings.units bytes long other figure is))
-                (num_small bytes small),
-          );
+          about = λ long other is.
+              let a = answered_about h.settings _ _ old.controller.settings.units bytes long other is in (
+                a.0,
+                subst (λ x. x < 2 ^ 32) (sym a.0) (num_small bytes small),
+                decided_status _ _ own new.controller.settings.units new.flags _
+                    ∙ ap (λ c. status_told (verdicts.Served blocks.Good) c own.status
+                    (volume_found new.controller.settings.units new.volumes own.unit))
+                    (bare_same old.buffers.items own bytes
+                    (ap (λ m. filter (is_of First m) old.buffers.items) own_named ∙ (f.kept n).none nothing.1))
+                    ∙ ap (λ x. status_told (verdicts.Served blocks.Good) own.code x
+                    (volume_found new.controller.settings.units new.volumes own.unit)) a.1
+                    ∙ success_told own.code (volume_found new.controller.settings.units new.volumes own.unit) a.2,
+              );
           polled = λ other figure is. (
             decided_code _ _ own new.controller.settings.units new.flags _
                 ∙ bare_same old.buffers.items own bytes
@@ -272,11 +284,6 @@ module _ {K : Type 0} (bytes : List ℕ) (done : Unit) (old new : Port K) (aw : 
             polled_low : (order : Order) → figure_polled h.settings First h.waiting order < 2 ^ 32
             polled_low (orders.Status other) = low other
             polled_low order = omega arith
-
-            own_code : (s : Settings) (online : Bool) (figure : ℕ) (x : Command) (o : Option ℕ)
-                → (own_end_with s online figure x o).code ≡ endcode x.order
-            own_code s online figure x None = refl
-            own_code s online figure x (Some status) = refl
 
         -- and that of the command that it aborts
         one_aborted : (m : ℕ) (x : Record) → find (is_numbered m) h.waiting ≡ Some x

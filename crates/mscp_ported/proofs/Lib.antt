@@ -54,8 +54,10 @@ pub mod Falling
 pub mod Codes
 pub mod Buffered
 pub mod Fitting
+pub mod Saying
 pub mod Fitted
 pub mod Untouched
+pub mod Units
 pub mod Formal
 pub mod Opcodes
 pub mod Refusals
@@ -65,3 +67,7 @@ pub mod Holding
 pub mod Growing
 pub mod Passing
 pub mod Passed
+pub mod Turning
+pub mod Turns
+pub mod Serving
+pub mod Itself

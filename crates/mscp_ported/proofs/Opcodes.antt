@@ -31,13 +31,15 @@ use Rattle.mscp_ported.proofs.Coming.{brought_for, come_so, ends_of, steps_bring
 use Rattle.mscp_ported.proofs.Dealing.{begun, begun_same, named, news_none, whole}
 use Rattle.mscp_ported.proofs.Ending.{Grows, left_with, zipped}
 use Rattle.mscp_ported.proofs.Fitted.{Fitting, became, grown_fits, grown_long, stays, unchanged}
-use Rattle.mscp_ported.proofs.Fitting.{FitsEnd, FitsIn, IsPlainEnd, decided_code, every_left, given_plain, plain_fits, told_about, told_code}
+use Rattle.mscp_ported.proofs.Fitting.{FitsEnd, FitsIn, IsPlainEnd, decided_code, every_left, given_plain, plain_fits}
+use Rattle.mscp_ported.proofs.Saying.{told_about, told_code, told_success}
 use Rattle.mscp_ported.proofs.Leaving.{step_grows}
 use Rattle.mscp_ported.proofs.Numbered.{At, first_of_one}
 use Rattle.mscp_ported.proofs.Numbering.{served_waits}
 use Rattle.mscp_ported.proofs.Sole.{served_itself}
 use Rattle.mscp_ported.proofs.Staying.{went_stays}
 use Rattle.mscp_ported.proofs.Tables.{decided_by}
+use Rattle.mscp_ported.proofs.Units.{told_unit_is}
 use Rattle.mscp_ported.proofs.Wanting.{alive_or_dead}
 use Rattle.mscp_ported.specs.Awaited.{has_number, without_ends}
 use Rattle.mscp_ported.specs.Ends.{ends_begun}
@@ -146,8 +148,10 @@ module _ {K : Type 0} (blocks : Bool) (action : Action) (bytes : List ℕ) (old 
       let x = first t in
       let y = x.2 message only in
       record {
+        unit = told_unit_is old t.out.0 message y.unit;
         code = subst (λ n. IsCodeFor n message) (sym (told_code old t.out.0 x.0 x.1)) y.code;
         about = told_about old t.out.0 x.0 x.1 message shaped y;
+        succeeds = told_success old t.out.0 x.0 x.1 message shaped y;
       }
 
   pub said_fits : ((e : End) → slice_get (ends_of old.controller) 0 ≡ Some e → IsOfKind e) → (text message : List ℕ)

@@ -5,7 +5,6 @@ use Rattle.mscp_controller.specs.Controllers.{ControllersKeepThePromise}
 use Rattle.mscp_controller.specs.Holdings.{Holdings, fresh, outstanding_of}
 use Rattle.mscp_drive.specs.Settings.{IsValid, Settings}
 use Rattle.mscp_drive.specs.declared.connection.Connection.TheVariants.{First}
-use Rattle.mscp_packet.proofs.Numbers.{four}
 use Rattle.mscp_packet.specs.Number.{num}
 use Rattle.mscp_port.proofs.Kept.{is_numbered}
 use Rattle.mscp_port.specs.Calls.{IsMadeOf}
@@ -20,10 +19,10 @@ use Rattle.mscp_ported.proofs.ByOpcode.{fitting}
 use Rattle.mscp_ported.proofs.Coming.{ends_of}
 use Rattle.mscp_ported.proofs.Ended.{bytes_small, deals, kept, shaped}
 use Rattle.mscp_ported.proofs.Holding.{promised, some_figure}
+use Rattle.mscp_ported.proofs.Itself.{own_number}
 use Rattle.mscp_ported.proofs.Growing.{Grown, begun_one, grown_none, grown_passes, pending_these, silent}
 use Rattle.mscp_ported.proofs.Passing.{Comes, next_passes, read_comes, went_grown}
 use Rattle.mscp_ported.proofs.Staying.{IsPassive, passive_stays}
-use Rattle.mscp_ported.specs.Answers.{Own, own_text}
 use Rattle.mscp_ported.specs.Awaited.{Deals, ReadsBytes, awaited, taken_by}
 use Rattle.mscp_ported.specs.Ends.{ends_said_by}
 use Rattle.mscp_ported.specs.Figures.{figure_on}
@@ -32,7 +31,7 @@ use Rattle.mscp_ported.specs.Talk.{AsksAlways, is_dead}
 use Rattle.mscp_ported.specs.Told.{accepted_by, said_in}
 use Rattle.mscp_queue.proofs.Lists.{every_append}
 use Rattle.mscp_queue.specs.Records.{Record}
-use Rattle.std.proofs.Common.{ℕ, All, List, [], ap, arith, false, filter, inl, inr, map, refl, subst, sym, ◌++◌, ◌<◌, ◌^◌, ◌∙◌, ◌∷◌, ◌≡◌, ◌≢◌, ◌≤◌, ◌⊎◌}
+use Rattle.std.proofs.Common.{ℕ, All, List, [], ap, arith, false, filter, inl, inr, map, refl, subst, sym, ◌++◌, ◌<◌, ◌∙◌, ◌∷◌, ◌≡◌, ◌≢◌, ◌≤◌, ◌⊎◌}
 use Rattle.std.proofs.lemmas.List.{append-nil}
 use Rattle.std.specs.List.{AllByRecursion}
 use Rattle.std.specs.Prelude.{Err, Ok, flat_map}
@@ -135,9 +134,6 @@ module _ {K : Type 0} (picks : Picking K) (c : Settings) (picker : K)
             poll = λ b u e t. absurd (search (arith, sym none ∙ t.0));
           }
         where
-          own_number : (b : List ℕ) (own : Own) → num b 0 4 < 2 ^ 32 → num (own_text b own) 0 4 ≡ num b 0 4
-          own_number b own small = four (num b 0 4) small
-
           own_these : (kind : OutgoingKind) (text : List ℕ) → accepted_by (WasRead bytes (Ok done)) a.0 ≡ bytes ∷ []
               → num text 0 4 ≡ num bytes 0 4
               → AllByRecursion (λ (e : Pending). ((text : List ℕ)

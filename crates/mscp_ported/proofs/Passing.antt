@@ -40,7 +40,7 @@ use Rattle.mscp_ported.proofs.Coming.{brought_for, ends_of, steps_bring}
 use Rattle.mscp_ported.proofs.Dealing.{begun_same, named, news_none, next_deals, own, whole}
 use Rattle.mscp_ported.proofs.Decided.{read_stays}
 use Rattle.mscp_ported.proofs.Fitted.{Fitting}
-use Rattle.mscp_ported.proofs.Fitting.{told_figure}
+use Rattle.mscp_ported.proofs.Saying.{told_figure}
 use Rattle.mscp_ported.proofs.Keeping.{end_number}
 use Rattle.mscp_ported.proofs.Numbered.{At, none_found}
 use Rattle.mscp_ported.proofs.Numbering.{served_waits}

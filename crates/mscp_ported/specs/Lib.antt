@@ -16,3 +16,4 @@ pub mod Awaited
 pub mod Figures
 pub mod Fitting
 pub mod Passing
+pub mod Asking

@@ -1,6 +1,7 @@
 // What is true of every port, for its host.
 
 ghost use Rattle.mscp_ported.specs.Answers.{PortsAnswerAsTheyMay, PortsHandOverTheRest};
+ghost use Rattle.mscp_ported.specs.Asking.{PortsServeWhoAsksBehindPolls, PortsServeWhoAsksForBlocks};
 ghost use Rattle.mscp_ported.specs.Awaited.{PortsEndWhatTheyTook};
 ghost use Rattle.mscp_ported.specs.Ends.{PortsSayWhatWasDecided};
 ghost use Rattle.mscp_ported.specs.Figures.{PortsLowerFigures};
@@ -215,8 +216,9 @@ pub fn ports_lower_figures<K: Picker>(picker: &K)
 }
 
 /// Whoever calls a port, whose controller had nothing of its host's as the port was made, and whose units have blocks, what it reads
-/// being bytes: an end of the controller's that begins to go out has the code of the message whose end it is, that of its opcode, or
-/// the one of an unknown opcode. The end of a poll is about the command that the poll names.
+/// being bytes: an end of the controller's that begins to go out has the code of the message whose end it is, that of its opcode; or
+/// if no opcode has that byte, it may have the one of an unknown opcode. It names the message's unit, unless the message asks for the
+/// next one. The end of an ABORT or of a poll succeeds, and is about the command that its message names, if that has all its bytes.
 pub fn ports_end_by_opcode<K: Picker>(picker: &K)
     ensures { PortsEndByOpcode K.picks picker.now }
 {
@@ -239,4 +241,22 @@ pub fn ports_pass_ends_on<K: Picker>(picker: &K)
     ensures { PortsPassEndsOn K.picks picker.now }
 {
     controllers_keep_the_promise(picker);
+}
+
+/// Whoever calls a port that was made over a controller, and asks for blocks each time that it asks what is wanted: between any two
+/// polls about one command, as the controller took them, a step was told, or the command waits no more. It may tell of actions as
+/// late as it likes, or never: then no second poll is taken. Whoever asks for messages alone while it is at a block may take two
+/// polls before it tells of that block.
+pub fn ports_serve_who_asks_for_blocks<K: Picker>(picker: &K)
+    ensures { PortsServeWhoAsksForBlocks K.picks }
+{
+    let _ = picker;
+}
+
+/// Of such a port: so it is too if messages alone are asked for, but only where a step was told since each poll that was taken: who
+/// is at a block may do so until a poll is taken.
+pub fn ports_serve_who_asks_behind_polls<K: Picker>(picker: &K)
+    ensures { PortsServeWhoAsksBehindPolls K.picks }
+{
+    let _ = picker;
 }

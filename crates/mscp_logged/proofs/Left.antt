@@ -1,0 +1,122 @@
+-- An end that leaves answers a command that is outstanding, and takes it away.
+use Rattle.std.proofs.Common.{◌≡◌, ◌∙◌, ◌+◌, ◌++◌, ◌∷◌, [], ℕ, false, cond, drop, filter, length, map, nat_eq, take, List, Some, inl, inr, refl, ap, sym, subst, arith}
+use Rattle.std.specs.List.{position}
+use Rattle.std.specs.Prelude.{slice_index_or}
+use Rattle.std.proofs.lemmas.List.Elements.{filter-append}
+use Rattle.mscp_packet.specs.Number.{num}
+use Rattle.mscp_drive.specs.declared.connection.Connection.TheVariants.{First}
+use Rattle.mscp_queue.proofs.Placed.{Found, find_cases, position_first}
+use Rattle.mscp_port.specs.declared.port.OutgoingKind.TheVariants as kinds
+use Rattle.mscp_port.proofs.Common.{and_parts, eqb-true}
+use Rattle.mscp_ported.specs.Told.{Said}
+use Rattle.mscp_ported.proofs.Numbered.{some_none}
+use Rattle.mscp_ported.proofs.Owning.{and_false}
+use Rattle.mscp_wire.specs.Wire.{after_end, answer_by, command_at, hears, place_of, same_connection, sent_by}
+use Rattle.mscp_wire.specs.declared.answer.Answer.{Answer}
+use Rattle.mscp_wire.specs.declared.sent.Sent.{Sent}
+use Rattle.mscp_logged.proofs.Wired.{At, IsOwed, Wired, back_of, filter_map, front_of, named, none_front, same_or, stem}
+
+pub at_front : {X : Type 0} (front : List X) (x : X) (back : List X) (d : X)
+    → slice_index_or (front ++ x ∷ back) (length front) d ≡ x
+at_front [] x back d = refl
+at_front (y ∷ ys) x back d = at_front ys x back d
+
+module _ (Tie : List ℕ → List ℕ → Type 0) (xs : List Sent) (aw : List (List ℕ)) (s : Said)
+    (w : Wired Tie xs aw (s ∷ [])) (kind : s.kind ≡ kinds.End) where
+  abbrev pub answer : Answer
+  answer = answer_by First s.text
+
+  abbrev n : ℕ
+  n = num s.text 0 4
+
+  abbrev owed : IsOwed Tie xs aw s.text
+  owed = w.owed.0 kind
+
+  -- the place of its command, and that command
+  pub record IsAnswered : Type 0 where
+    pub place : ℕ
+    pub at : place_of xs answer ≡ Some place
+    pub command : stem (command_at xs place) ≡ sent_by First owed.message
+    pub left : Wired Tie (after_end xs answer (Some place)) aw []
+
+  module _ (front : List Sent) (x : Sent) (back : List Sent) (f : Found (named n) xs front x back) where
+    abbrev hear : Sent → Sent
+    hear = hears (command_at xs (length front)) answer
+
+    at : place_of xs answer ≡ Some (length front)
+    at = ap (position (named n)) f.is ∙ position_first (named n) front x back f.before f.passed
+
+    after : after_end xs answer (Some (length front)) ≡ map hear (front ++ back)
+    after = ap (λ zs. map hear (take (length front) zs ++ drop (length front + 1) zs)) f.is
+        ∙ ap (λ zs. map hear (zs ++ drop (length front + 1) (front ++ x ∷ back))) (front_of front x back)
+        ∙ ap (λ zs. map hear (front ++ zs)) (back_of front x back)
+
+    all_of : (k : ℕ) → filter (named k) xs
+        ≡ filter (named k) front ++ cond (named k x) (x ∷ filter (named k) back) (filter (named k) back)
+    all_of k = ap (filter (named k)) f.is ∙ filter-append (named k) front (x ∷ back)
+
+    left_of : (k : ℕ) → filter (named k) (after_end xs answer (Some (length front)))
+        ≡ map hear (filter (named k) front ++ filter (named k) back)
+    left_of k = ap (filter (named k)) after ∙ filter_map (named k) hear (λ y. refl) (front ++ back)
+        ∙ ap (map hear) (filter-append (named k) front back)
+
+    -- it is the only one of the number
+    only : x ∷ filter (named n) back ≡ owed.own ∷ []
+    only = sym (all_of n ∙ ap (λ zs. zs ++ cond (named n x) (x ∷ filter (named n) back) (filter (named n) back))
+        (none_front (named n) front f.before)
+        ∙ ap (λ b. cond b (x ∷ filter (named n) back) (filter (named n) back)) f.passed) ∙ owed.sole
+
+    none_left : filter (named n) (after_end xs answer (Some (length front))) ≡ []
+    none_left = left_of n ∙ ap (λ zs. map hear (zs ++ filter (named n) back)) (none_front (named n) front f.before)
+        ∙ ap (map hear) (tail_of x owed.own (filter (named n) back) only)
+      where
+        tail_of : (y z : Sent) (ys : List Sent) → y ∷ ys ≡ z ∷ [] → ys ≡ []
+        tail_of y z ys e = search (arith, e)
+
+    first_is : x ≡ owed.own
+    first_is = head_of x owed.own (filter (named n) back) only
+      where
+        head_of : (y z : Sent) (ys : List Sent) → y ∷ ys ≡ z ∷ [] → y ≡ z
+        head_of y z ys e = search (arith, e)
+
+    other_left : (k : ℕ) → nat_eq n k ≡ false
+        → filter (named k) (after_end xs answer (Some (length front))) ≡ map hear (filter (named k) xs)
+    other_left k d = left_of k ∙ ap (map hear) (sym (all_of k
+        ∙ ap (λ b. filter (named k) front ++ cond b (x ∷ filter (named k) back) (filter (named k) back)) apart))
+      where
+        number : x.reference ≡ n
+        number = eqb-true x.reference n
+            (and_parts (same_connection x.connection First) (nat_eq x.reference n) f.passed).1
+
+        apart : named k x ≡ false
+        apart = and_false (same_connection x.connection First) (nat_eq x.reference k)
+            (ap (λ j. nat_eq j k) number ∙ d)
+
+    each_left : (k : ℕ) → At (after_end xs answer (Some (length front))) aw k
+    each_left k = elim (same_or n k) [
+      | inl e ↦ subst (λ j. At (after_end xs answer (Some (length front))) aw j) e (inl (none_left, owed.none))
+      | inr d ↦ elim (w.each k) [
+        | inl free ↦ inl (other_left k d ∙ ap (map hear) free.0, free.1)
+        | inr o ↦ inr (record {
+          own = hear o.own;
+          sole = other_left k d ∙ ap (map hear) o.sole;
+          awaited = elim o.awaited [ inl none ↦ inl none | inr some ↦ inr (some.0, some.1, some.2) ];
+        })
+      ]
+    ]
+
+    answered : IsAnswered
+    answered = record {
+      place = length front;
+      at = at;
+      command = ap stem (ap (λ zs. command_at zs (length front)) f.is
+          ∙ at_front front x back (sent_by First []) ∙ first_is)
+          ∙ owed.is;
+      left = record { each = each_left; owed = tt };
+    }
+
+  pub end_leaves : IsAnswered
+  end_leaves = elim (find_cases (named n) xs) [
+    | inl none ↦ absurd (some_none owed.own [] (sym owed.sole ∙ none_front (named n) xs none))
+    | inr some ↦ answered some.0 some.1 some.2 some.3
+  ]

@@ -1,0 +1,13 @@
+pub mod Wired
+pub mod Left
+pub mod Seen
+pub mod Own
+pub mod Breaking
+pub mod Long
+pub mod Stated
+pub mod Logging
+pub mod Placed
+pub mod Coded
+pub mod About
+pub mod Nine
+pub mod Rows

@@ -1,0 +1,223 @@
+-- What is known of a port's log, over a whole list of calls.
+use Rattle.std.proofs.Common.{◌≡◌, ◌≢◌, ◌∙◌, ◌<◌, ◌^◌, ◌&&◌, ◌++◌, ◌∷◌, [], ℕ, Bool, true, false, cond, filter, map, not, List, Option, None, Some, inl, inr, refl, ap, append_assoc, sym, subst, arith}
+use Rattle.std.specs.Prelude.{Ok, flat_map, is_none, is_ok, option_to_list, slice_index}
+use Rattle.std.proofs.lemmas.List.{append-nil}
+use Rattle.mscp_packet.specs.Number.{num}
+use Rattle.mscp_drive.specs.Settings.{IsValid, Settings}
+use Rattle.mscp_drive.specs.declared.connection.Connection.TheVariants.{First}
+use Rattle.mscp_controller.specs.Calls.{AnsweredCalls, Call as Made}
+use Rattle.mscp_controller.specs.Holdings.{Holdings, answer_to_message, fresh, outstanding_of}
+use Rattle.mscp_port.specs.declared.hardware.Hardware.{Hardware}
+use Rattle.mscp_port.specs.declared.port.Outgoing.{Outgoing}
+use Rattle.mscp_port.specs.declared.port.OutgoingKind.TheVariants as kinds
+use Rattle.mscp_port.specs.declared.port.Port.{Port}
+use Rattle.mscp_port.specs.declared.task.Task.{Task}
+use Rattle.mscp_port.specs.declared.task.Task.TheVariants as tasks
+use Rattle.mscp_port.specs.Calls.{IsMadeOf}
+use Rattle.mscp_port.specs.Departures.{begins, leaves}
+use Rattle.mscp_port.specs.Histories.{Answered, Call, Picking, WasRead, WriteIp}
+use Rattle.mscp_port.specs.Packets.{end_kind}
+use Rattle.mscp_ported.specs.Answers.{own_answer, text_handed, volume_named}
+use Rattle.mscp_ported.specs.Awaited.{Deals, IsAnswering, IsEnding, IsTaking, PortsEndWhatTheyTook, ReadsBytes, awaited, has_number, is_taken_text, taken_by, without_ends}
+use Rattle.mscp_ported.specs.Ends.{ends_said_by}
+use Rattle.mscp_ported.specs.Talk.{AsksAlways, is_dead}
+use Rattle.mscp_ported.specs.Told.{PortsTellInOrder, Said, accepted_by, held, said, said_in}
+use Rattle.mscp_ported.proofs.Following.{asked_before}
+use Rattle.mscp_ported.proofs.Itself.{since_alive}
+use Rattle.mscp_wire.specs.Wire.{History, IsRight, is_new, outstanding, sent_by}
+use Rattle.mscp_wire.specs.declared.moment.Moment.TheVariants as moments
+use Rattle.mscp_logged.specs.Logged.{ends_in, is_foreign, logged, message_of, messages_by, seen_by}
+use Rattle.mscp_logged.specs.Rules.{HostIsRight, is_message}
+use Rattle.mscp_logged.proofs.Own.{IsOwn, answers_so, own_named}
+use Rattle.mscp_logged.proofs.Seen.{is_reset, last_is, no_message, none_held, reads_before, since_dead, since_reset}
+use Rattle.mscp_logged.proofs.Stated.{Stated, answers, as_it_is, begins_end, begins_other, each_at, each_front, left, nothing_stated, right_new, takes}
+use Rattle.mscp_logged.proofs.Wired.{nothing_wired}
+
+-- a message that the controller takes is for the disks
+taken_disk : {K : Type 0} (call : Call) (old : Port K) (t : List ℕ) → taken_by call old ≡ t ∷ []
+    → is_foreign old.task ≡ false
+taken_disk (WasRead bytes (Ok done)) old t e = by old.task refl
+  where
+    here : (task : Task) → old.task ≡ task
+        → cond (is_taken_text old bytes task) (bytes ∷ []) [] ≡ t ∷ []
+    here task at = ap (λ x. cond (is_taken_text old bytes x) (bytes ∷ []) []) (sym at) ∙ e
+
+    text : (foreign : Bool) → cond (is_none (own_answer foreign (volume_named old bytes) bytes)
+        && is_ok (answer_to_message First old.controller (text_handed old.controller.settings.units bytes)))
+        (bytes ∷ []) [] ≡ t ∷ [] → foreign ≡ false
+    text true h = absurd (search (arith, h))
+    text false h = refl
+
+    by : (task : Task) → old.task ≡ task → is_foreign old.task ≡ false
+    by (tasks.Text slot size foreign) at = ap is_foreign at ∙ text foreign (here (tasks.Text slot size foreign) at)
+    by task at = ap is_foreign at
+taken_disk call old t e = absurd (search (arith, e))
+
+small_of : (call : Call) (calls : List Call) (t : List ℕ) (done : Unit) → ReadsBytes (call ∷ calls)
+    → call ≡ WasRead t (Ok done) → (i : ℕ) → slice_index t i < 2 ^ 8
+small_of call calls t done reads is = (subst (λ x. ReadsBytes (x ∷ calls)) is reads).0
+
+module _ {K : Type 0} (Tie : List ℕ → List ℕ → Type 0) (picks : Picking K) (c : Settings) (picker : K)
+    (ends : PortsEndWhatTheyTook picks picker) (tell : PortsTellInOrder picks) (before : List Made)
+    (controller : Holdings K) (hardware : Hardware) (credits : ℕ) (start : Port K) (valid : IsValid c)
+    (was : AnsweredCalls (picks picker) (fresh c picker) before controller)
+    (quiet : outstanding_of First controller ≡ []) (made : IsMadeOf hardware credits controller start)
+    (tie_end : (p : Port K) (call : Call) (calls : List Call) → ReadsBytes (call ∷ calls)
+    → (a : Answered picks start (call ∷ calls) p) → (q : IsEnding (awaited picks start a.0 calls a.1) call a.0 p)
+    → Tie q.out.bytes.items q.message)
+    (tie_own : (old : Port K) (text : List ℕ) (o : Outgoing) → ((i : ℕ) → slice_index text i < 2 ^ 8)
+    → IsOwn old text o → o.kind ≡ kinds.End → Tie o.bytes.items text) (limit : Option ℕ) where
+  abbrev pub State : (p : Port K) (calls : List Call) → Answered picks start calls p → Type 0
+  State p calls a = Stated Tie (logged picks start p calls a) (awaited picks start p calls a) (held p)
+
+  -- nothing is held where nothing was said
+  nothing_held : (p : Port K) (calls : List Call) → AsksAlways calls → (a : Answered picks start calls p)
+      → said picks start p calls a ≡ [] → held p ≡ []
+  nothing_held p calls asks a none =
+      let t = (tell hardware credits controller start p calls made asks a).0 in none_held t.0 (held p) (t.1 ∙ none)
+
+  forgotten : (p : Port K) (calls : List Call) → AsksAlways calls → (a : Answered picks start calls p)
+      → said picks start p calls a ≡ [] → logged picks start p calls a ≡ [] → awaited picks start p calls a ≡ []
+      → State p calls a
+  forgotten p calls asks a none no_moment no_text =
+      as_it_is Tie [] [] (logged picks start p calls a) (awaited picks start p calls a) [] (held p) no_moment no_text
+      (nothing_held p calls asks a none) (nothing_stated Tie [] (nothing_wired Tie [] [] refl refl))
+
+  module _ (p : Port K) (call : Call) (calls : List Call) (asks : AsksAlways (call ∷ calls))
+      (reads : ReadsBytes (call ∷ calls)) (a : Answered picks start (call ∷ calls) p) (never : call ≢ WriteIp)
+      (lives : is_dead p.stage ≡ false) (s : State a.0 calls a.1)
+      (host : HostIsRight limit (logged picks start p (call ∷ calls) a)) where
+    abbrev h : History
+    h = logged picks start a.0 calls a.1
+
+    abbrev aw : List (List ℕ)
+    aw = awaited picks start a.0 calls a.1
+
+    abbrev gone : History
+    gone = flat_map ends_in (leaves a.0.outgoing p.outgoing)
+
+    log_is : (ms : History) → messages_by call a.0 ≡ ms → logged picks start p (call ∷ calls) a ≡ (h ++ ms) ++ gone
+    log_is ms e = since_alive p.stage call h (seen_by call a.0 p) never lives ∙ ap (λ x. h ++ (x ++ gone)) e
+        ∙ sym (append_assoc h ms gone)
+
+    awaited_is : (xs ys : List (List ℕ)) → ends_said_by call a.0 p ≡ xs → taken_by call a.0 ≡ ys
+        → awaited picks start p (call ∷ calls) a ≡ without_ends xs aw ++ ys
+    awaited_is xs ys e f = since_alive p.stage call _ _ never lives
+        ∙ ap (λ x. without_ends x aw ++ taken_by call a.0) e ∙ ap (λ y. without_ends xs aw ++ y) f
+
+    -- what goes out stays the same
+    same_held : begins a.0.outgoing p.outgoing ≡ [] → (o x : Outgoing) → a.0.outgoing ≡ Some o → p.outgoing ≡ Some x
+        → said_in o ≡ said_in x
+    same_held none o x was_out is_out =
+        let old = (tell hardware credits controller start a.0 calls made (asked_before call calls asks) a.1).0 in
+        let now = (tell hardware credits controller start p (call ∷ calls) made asks a).0 in
+        last_is old.0 now.0 (said_in o) (said_in x)
+        (ap (λ z. old.0 ++ map said_in (option_to_list z)) (sym was_out) ∙ old.1
+        ∙ sym (now.1 ∙ since_alive p.stage call _ _ never lives
+        ∙ ap (λ os. said picks start a.0 calls a.1 ++ map said_in os) none
+        ∙ append-nil (said picks start a.0 calls a.1))
+        ∙ ap (λ z. now.0 ++ map said_in (option_to_list z)) is_out)
+
+    -- the message that comes is new
+    is_new_now : (t : List ℕ) → messages_by call a.0 ≡ message_of t ∷ []
+        → is_new (outstanding h) (sent_by First t) ≡ true
+    is_new_now t e = right_new limit h t (each_at (λ x m. is_message m ≡ true → IsRight limit x m) moments.Reset h
+        (message_of t) gone (subst (λ x. HostIsRight limit x) (log_is (message_of t ∷ []) e
+        ∙ append_assoc h (message_of t ∷ []) gone) host) refl)
+
+    -- nothing begins to go out
+    calm : (ms : History) (xs : List (List ℕ)) → messages_by call a.0 ≡ ms → begins a.0.outgoing p.outgoing ≡ []
+        → awaited picks start p (call ∷ calls) a ≡ xs → Stated Tie (h ++ ms) xs (held a.0) → State p (call ∷ calls) a
+    calm ms xs e none f x = as_it_is Tie ((h ++ ms) ++ gone) xs (logged picks start p (call ∷ calls) a)
+        (awaited picks start p (call ∷ calls) a) (held p) (held p) (log_is ms e) f refl
+        (left Tie (h ++ ms) xs a.0.outgoing p.outgoing x none (same_held none))
+
+    -- or something does
+    begun : (ms : History) (xs : List (List ℕ)) (o : Outgoing) → messages_by call a.0 ≡ ms → a.0.outgoing ≡ None
+        → p.outgoing ≡ Some o → awaited picks start p (call ∷ calls) a ≡ xs
+        → Stated Tie (h ++ ms) xs (said_in o ∷ []) → State p (call ∷ calls) a
+    begun ms xs o e nothing some f x = as_it_is Tie (h ++ ms) xs (logged picks start p (call ∷ calls) a)
+        (awaited picks start p (call ∷ calls) a) (said_in o ∷ []) (held p)
+        (log_is ms e ∙ ap (λ z. (h ++ ms) ++ flat_map ends_in (leaves z p.outgoing)) nothing ∙ append-nil (h ++ ms)) f
+        (ap (λ z. map said_in (option_to_list z)) some) x
+
+    with_none : (xs : List (List ℕ)) (us : List Said) → Stated Tie h xs us → Stated Tie (h ++ []) xs us
+    with_none xs us x = as_it_is Tie h xs (h ++ []) xs us us (append-nil h) refl refl x
+
+    none_out : a.0.outgoing ≡ None → Stated Tie h aw []
+    none_out nothing = as_it_is Tie h aw h aw (held a.0) [] refl refl
+        (sym (ap (λ z. map said_in (option_to_list z)) nothing)) s
+
+    none_by : accepted_by call a.0 ≡ [] → messages_by call a.0 ≡ []
+    none_by e = no_message call a.0 (accepted_by call a.0) e
+
+    ending : IsEnding aw call a.0 p → State p (call ∷ calls) a
+    ending q = begun [] (filter (λ t. not (has_number (num q.out.bytes.items 0 4) t)) aw) q.out (none_by q.accepted)
+        q.nothing q.begun (awaited_is (q.out.bytes.items ∷ []) [] q.ended q.taken ∙ append-nil _)
+        (with_none _ (said_in q.out ∷ []) (begins_end Tie h aw (said_in q.out) q.message (none_out q.nothing) q.only
+        (tie_end p call calls reads a q)))
+
+    taking : IsTaking call a.0 p → State p (call ∷ calls) a
+    taking q =
+        let disk = taken_disk call a.0 q.message q.taken in
+        let shown : messages_by call a.0 ≡ message_of q.message ∷ [] =
+        ap (λ b. cond b [] (map message_of (accepted_by call a.0))) disk ∙ ap (map message_of) q.accepted in
+        calm (message_of q.message ∷ []) (aw ++ q.message ∷ []) shown q.begun
+        (awaited_is [] (q.message ∷ []) q.ended q.taken)
+        (takes Tie h aw (held a.0) q.message s (is_new_now q.message shown))
+
+    answering : (q : IsAnswering call a.0 p) → State p (call ∷ calls) a
+    answering q = by own.foreign own.task own.kind
+      where
+        own : IsOwn a.0 q.message q.out
+        own = answers_so picks call a.0 p a.2 q
+
+        small : (i : ℕ) → slice_index q.message i < 2 ^ 8
+        small = small_of call calls q.message q.read.0 reads q.read.1
+
+        still : awaited picks start p (call ∷ calls) a ≡ aw
+        still = awaited_is [] [] q.ended q.taken ∙ append-nil aw
+
+        by : (foreign : Bool) → is_foreign a.0.task ≡ foreign → q.out.kind ≡ end_kind foreign → State p (call ∷ calls) a
+        by true task kind = begun [] aw q.out (ap (λ b. cond b [] (map message_of (accepted_by call a.0))) task)
+            q.nothing q.begun still (with_none aw (said_in q.out ∷ [])
+            (begins_other Tie h aw (said_in q.out) (none_out q.nothing) (λ e. search (arith, sym kind ∙ e))))
+        by false task kind =
+            let shown : messages_by call a.0 ≡ message_of q.message ∷ [] =
+            ap (λ b. cond b [] (map message_of (accepted_by call a.0))) task ∙ ap (map message_of) q.accepted in
+            begun (message_of q.message ∷ []) aw q.out shown q.nothing q.begun still
+            (answers Tie h aw (said_in q.out) q.message (none_out q.nothing) (is_new_now q.message shown)
+            (own_named a.0 q.message q.out own small) (tie_own a.0 q.message q.out small own kind))
+
+    pub deals_so : Deals aw call a.0 p → State p (call ∷ calls) a
+    deals_so (inl q) = calm [] aw (none_by q.accepted) q.begun (awaited_is [] [] q.ended q.taken ∙ append-nil aw)
+        (with_none aw (held a.0) s)
+    deals_so (inr (inl q)) = begun [] aw q.out (none_by q.accepted) q.nothing q.begun
+        (awaited_is [] [] q.ended q.taken ∙ append-nil aw) (with_none aw (said_in q.out ∷ [])
+        (begins_other Tie h aw (said_in q.out) (none_out q.nothing) (λ e. search (arith, sym q.kind ∙ e))))
+    deals_so (inr (inr (inl q))) = ending q
+    deals_so (inr (inr (inr (inl q)))) = taking q
+    deals_so (inr (inr (inr (inr q)))) = answering q
+
+  pub stated : (p : Port K) (calls : List Call) → AsksAlways calls → ReadsBytes calls
+      → (a : Answered picks start calls p)
+      → HostIsRight limit (logged picks start p calls a) → State p calls a
+  stated p [] asks reads a host = forgotten p [] asks a refl refl refl
+  stated p (call ∷ calls) asks reads a host = elim (is_reset call) [
+    | inl reset ↦ forgotten p (call ∷ calls) asks a (since_reset p.stage call _ _ reset)
+        (since_reset p.stage call _ _ reset) (since_reset p.stage call _ _ reset)
+    | inr never ↦ by (λ x. stated a.0 calls (asked_before call calls asks) (reads_before call calls reads) a.1 x) never
+        (is_dead p.stage) refl
+  ]
+    where
+      by : (HostIsRight limit (logged picks start a.0 calls a.1) → State a.0 calls a.1) → call ≢ WriteIp → (b : Bool)
+          → is_dead p.stage ≡ b → State p (call ∷ calls) a
+      by so_far never true dead = forgotten p (call ∷ calls) asks a (since_dead p.stage call _ _ dead)
+          (since_dead p.stage call _ _ dead) (since_dead p.stage call _ _ dead)
+      by so_far never false lives =
+          let d = ends c before controller hardware credits start p call calls valid was quiet made reads a never
+          lives in
+          let old_host = each_front (λ x m. is_message m ≡ true → IsRight limit x m) moments.Reset
+          (logged picks start a.0 calls a.1) (seen_by call a.0 p)
+          (subst (λ x. HostIsRight limit x) (since_alive p.stage call _ _ never lives) host) in
+          deals_so p call calls asks reads a never lives (so_far old_host) host d.1

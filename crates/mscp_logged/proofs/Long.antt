@@ -1,0 +1,208 @@
+-- Each end of a port's log is as long as its endcode asks.
+use Rattle.std.proofs.Common.{◌≡◌, ◌≢◌, ◌∙◌, ◌≤◌, ◌++◌, ◌∷◌, [], ℕ, Bool, true, false, cond, length, map, nat_eq, List, Option, None, Some, inl, inr, refl, sym, subst, arith}
+use Rattle.std.specs.Prelude.{find, flat_map, nat_le, option_map, option_to_list, slice_index, take}
+use Rattle.std.specs.List.{AllByRecursion, list_all}
+use Rattle.std.proofs.lemmas.Bool.{and_from, and_parts, le-leb}
+use Rattle.std.proofs.lemmas.Option.{none-some, same_Some}
+use Rattle.std.proofs.lemmas.List.Elements.{All-from_recursion}
+use Rattle.mscp_packet.specs.Ends.{end_length, endcodes, kind_of_code}
+use Rattle.mscp_packet.specs.declared.end.BodyKind.{BodyKind}
+use Rattle.mscp_drive.specs.Settings.{IsValid, Settings}
+use Rattle.mscp_drive.specs.declared.connection.Connection.TheVariants.{First}
+use Rattle.mscp_queue.proofs.Lists.{every_append, every_parts}
+use Rattle.mscp_controller.specs.Calls.{AnsweredCalls, Call as Made}
+use Rattle.mscp_controller.specs.Holdings.{Holdings, fresh, outstanding_of}
+use Rattle.mscp_port.specs.declared.hardware.Hardware.{Hardware}
+use Rattle.mscp_port.specs.declared.port.Outgoing.{Outgoing}
+use Rattle.mscp_port.specs.declared.port.OutgoingKind.{OutgoingKind}
+use Rattle.mscp_port.specs.declared.port.OutgoingKind.TheVariants as kinds
+use Rattle.mscp_port.specs.declared.port.Port.{Port}
+use Rattle.mscp_port.specs.Calls.{IsMadeOf}
+use Rattle.mscp_port.specs.Departures.{begins, leaves}
+use Rattle.mscp_port.specs.Histories.{Answered, Call, Picking, WriteIp}
+use Rattle.mscp_port.proofs.Common.{eqb-true}
+use Rattle.mscp_ported.specs.Awaited.{Deals, IsWhole, PortsEndWhatTheyTook, ReadsBytes, awaited}
+use Rattle.mscp_ported.specs.Ends.{end_said}
+use Rattle.mscp_ported.specs.Talk.{AsksAlways, is_dead}
+use Rattle.mscp_ported.specs.Told.{PortsTellInOrder, Said, accepted_by, held, said, said_in}
+use Rattle.mscp_ported.proofs.Following.{asked_before}
+use Rattle.mscp_ported.proofs.Growing.{begun_one}
+use Rattle.mscp_ported.proofs.Itself.{since_alive}
+use Rattle.mscp_wire.specs.Wire.{History, broken, controller as controller_told, is_long, least_length, moment_at, outstanding, seen_of, told}
+use Rattle.mscp_wire.specs.declared.rule.Rule.TheVariants as rules
+use Rattle.mscp_wire.specs.declared.moment.Moment.{Moment}
+use Rattle.mscp_wire.specs.declared.moment.Moment.TheVariants as moments
+use Rattle.mscp_wire.specs.declared.told.Seen.{Seen}
+use Rattle.mscp_logged.specs.Logged.{end_of, ends_in, is_foreign, logged, message_of, messages_by, seen_by}
+use Rattle.mscp_logged.specs.Rules.{Keeps}
+use Rattle.mscp_logged.proofs.Breaking.{long_breaks_none, length_message, reset_breaks_none}
+use Rattle.mscp_logged.proofs.Own.{answers_so, own_is_whole}
+use Rattle.mscp_logged.proofs.Seen.{is_reset, reads_before, since_dead, since_reset}
+
+-- ---- a whole end is long
+
+-- what is found passes a test that all pass
+found_passes : {X : Type 0} (p q : X → Bool) (xs : List X) (x : X) → find p xs ≡ Some x → list_all q xs ≡ true
+    → (p x ≡ true) × (q x ≡ true)
+found_passes p q [] x h a = absurd (none-some x h)
+found_passes p q (y ∷ ys) x h a = search (arith, found_passes p q ys x, and_parts)
+
+-- an endcode asks for no more than 12 bytes, or for as many as the body has that is its own
+least_none : (code : ℕ) → kind_of_code code ≡ None → least_length code ≤ 12
+least_none code e = grind (arith, e)
+
+least_some : (code : ℕ) (kind : BodyKind) → kind_of_code code ≡ Some kind → least_length code ≤ end_length kind
+least_some code kind e = by (find (λ entry. nat_eq entry.0 code) endcodes) refl e
+  where
+    is_low : (n m : ℕ) → nat_le n m ≡ true → n ≤ m
+    is_low n m h = search (arith, h)
+
+    by : (o : Option (ℕ × BodyKind)) → find (λ entry. nat_eq entry.0 code) endcodes ≡ o
+        → option_map (λ entry. entry.1) o ≡ Some kind → least_length code ≤ end_length kind
+    by None found h = absurd (none-some kind h)
+    by (Some entry) found h =
+        let f = found_passes (λ entry. nat_eq entry.0 code)
+        (λ entry. nat_le (least_length entry.0) (end_length entry.1)) endcodes entry found refl in
+        subst (λ n. least_length n ≤ end_length kind) (eqb-true entry.0 code f.0)
+        (subst (λ k. least_length entry.0 ≤ end_length k) (same_Some entry.1 kind h)
+        (is_low (least_length entry.0) (end_length entry.1) f.1))
+
+pub whole_long : (text : List ℕ) → IsWhole text → is_long text ≡ true
+whole_long text whole = by (kind_of_code (slice_index text 8)) refl
+  where
+    at_least : (n : ℕ) → n ≤ length text → nat_le n (length text) ≡ true
+    at_least n low = le-leb n (length text) low
+
+    long : least_length (slice_index text 8) ≤ length text → is_long text ≡ true
+    long low = and_from (nat_le 12 (length text)) (nat_le (least_length (slice_index text 8)) (length text))
+        (at_least 12 whole.long) (at_least (least_length (slice_index text 8)) low)
+
+    by : (o : Option BodyKind) → kind_of_code (slice_index text 8) ≡ o → is_long text ≡ true
+    by None e = long (search (arith, whole.long, least_none (slice_index text 8) e))
+    by (Some kind) e = long (search (arith, whole.body kind e, least_some (slice_index text 8) kind e))
+
+-- ---- all that is said
+
+abbrev IsLong : Said → Type 0
+IsLong s = s.kind ≡ kinds.End → is_long s.text ≡ true
+
+-- and all moments of a log
+abbrev IsLongMoment : Moment → Type 0
+IsLongMoment (moments.Message via b time) = Unit {0}
+IsLongMoment (moments.End via b) = is_long b.items ≡ true
+IsLongMoment moments.Reset = Unit {0}
+
+module _ {K : Type 0} (picks : Picking K) (c : Settings) (picker : K) (ends : PortsEndWhatTheyTook picks picker)
+    (tell : PortsTellInOrder picks) (before : List Made) (controller : Holdings K) (hardware : Hardware) (credits : ℕ)
+    (start : Port K) (valid : IsValid c)
+    (was : AnsweredCalls (picks picker) (fresh c picker) before controller)
+    (quiet : outstanding_of First controller ≡ []) (made : IsMadeOf hardware credits controller start) where
+  -- what begins to go out by a call
+  begun_long : (p : Port K) (call : Call) (calls : List Call) (a : Answered picks start (call ∷ calls) p)
+      → Deals (awaited picks start a.0 calls a.1) call a.0 p
+      → AllByRecursion IsLong (map said_in (begins a.0.outgoing p.outgoing))
+  begun_long p call calls a (inl q) = subst (λ os. AllByRecursion IsLong (map said_in os)) (sym q.begun) tt
+  begun_long p call calls a (inr (inl q)) =
+      subst (λ os. AllByRecursion IsLong (map said_in os))
+      (sym (begun_one a.0.outgoing p.outgoing q.out q.nothing q.begun))
+      ((λ kind. absurd (search (arith, sym q.kind ∙ kind))), tt)
+  begun_long p call calls a (inr (inr (inl q))) =
+      subst (λ os. AllByRecursion IsLong (map said_in os))
+      (sym (begun_one a.0.outgoing p.outgoing q.out q.nothing q.begun))
+      ((λ kind. whole_long q.out.bytes.items q.whole), tt)
+  begun_long p call calls a (inr (inr (inr (inl q)))) =
+      subst (λ os. AllByRecursion IsLong (map said_in os)) (sym q.begun) tt
+  begun_long p call calls a (inr (inr (inr (inr q)))) =
+      subst (λ os. AllByRecursion IsLong (map said_in os))
+      (sym (begun_one a.0.outgoing p.outgoing q.out q.nothing q.begun)) (
+        (λ kind. whole_long q.out.bytes.items
+            (own_is_whole a.0 q.message q.out (answers_so picks call a.0 p a.2 q) kind)),
+        tt,
+      )
+
+  said_long : (p : Port K) (calls : List Call) → ReadsBytes calls → (a : Answered picks start calls p)
+      → AllByRecursion IsLong (said picks start p calls a)
+  said_long p [] reads a = tt
+  said_long p (call ∷ calls) reads a = elim (is_reset call) [
+    | inl reset ↦ subst (λ ss. AllByRecursion IsLong ss) (sym (since_reset p.stage call _ _ reset)) tt
+    | inr never ↦ by (said_long a.0 calls (reads_before call calls reads) a.1) never (is_dead p.stage) refl
+  ]
+    where
+      by : AllByRecursion IsLong (said picks start a.0 calls a.1) → call ≢ WriteIp → (b : Bool) → is_dead p.stage ≡ b
+          → AllByRecursion IsLong (said picks start p (call ∷ calls) a)
+      by so_far never true dead = subst (λ ss. AllByRecursion IsLong ss) (sym (since_dead p.stage call _ _ dead)) tt
+      by so_far never false lives =
+          let d = ends c before controller hardware credits start p call calls valid was quiet made reads a never
+          lives in
+          subst (λ ss. AllByRecursion IsLong ss) (sym (since_alive p.stage call _ _ never lives))
+          (every_append IsLong (said picks start a.0 calls a.1) (map said_in (begins a.0.outgoing p.outgoing))
+          so_far (begun_long p call calls a d.1))
+
+  -- what goes out is of that
+  held_long : (p : Port K) (calls : List Call) → AsksAlways calls → ReadsBytes calls
+      → (a : Answered picks start calls p) → AllByRecursion IsLong (held p)
+  held_long p calls asks reads a =
+      let t = (tell hardware credits controller start p calls made asks a).0 in
+      (every_parts IsLong t.0 (held p)
+      (subst (λ ss. AllByRecursion IsLong ss) (sym t.1) (said_long p calls reads a))).1
+
+  -- ---- all that is logged
+
+  messages_long : (b : Bool) (ts : List (List ℕ)) → AllByRecursion IsLongMoment (cond b [] (map message_of ts))
+  messages_long true ts = tt
+  messages_long false [] = tt
+  messages_long false (t ∷ ts) = (tt, messages_long false ts)
+
+  end_long : (kind : OutgoingKind) (text : List ℕ) → (kind ≡ kinds.End → is_long text ≡ true)
+      → AllByRecursion IsLongMoment (map end_of (end_said kind text) ++ [])
+  end_long kinds.Attention text long = tt
+  end_long kinds.End text long = (long refl, tt)
+  end_long kinds.UtilitiesEnd text long = tt
+
+  left_long : (old new : Option Outgoing) → AllByRecursion IsLong (map said_in (option_to_list old))
+      → AllByRecursion IsLongMoment (flat_map ends_in (leaves old new))
+  left_long None new long = tt
+  left_long (Some o) (Some x) long = tt
+  left_long (Some o) None long = end_long o.kind o.bytes.items long.0
+
+  pub logged_long : (p : Port K) (calls : List Call) → AsksAlways calls → ReadsBytes calls
+      → (a : Answered picks start calls p) → AllByRecursion IsLongMoment (logged picks start p calls a)
+  logged_long p [] asks reads a = tt
+  logged_long p (call ∷ calls) asks reads a = elim (is_reset call) [
+    | inl reset ↦ subst (λ h. AllByRecursion IsLongMoment h) (sym (since_reset p.stage call _ _ reset)) tt
+    | inr never ↦ by (logged_long a.0 calls (asked_before call calls asks) (reads_before call calls reads) a.1) never
+        (is_dead p.stage) refl
+  ]
+    where
+      by : AllByRecursion IsLongMoment (logged picks start a.0 calls a.1) → call ≢ WriteIp → (b : Bool)
+          → is_dead p.stage ≡ b → AllByRecursion IsLongMoment (logged picks start p (call ∷ calls) a)
+      by so_far never true dead = subst (λ h. AllByRecursion IsLongMoment h) (sym (since_dead p.stage call _ _ dead)) tt
+      by so_far never false lives = subst (λ h. AllByRecursion IsLongMoment h)
+          (sym (since_alive p.stage call _ _ never lives))
+          (every_append IsLongMoment (logged picks start a.0 calls a.1) (seen_by call a.0 p)
+          so_far (every_append IsLongMoment (messages_by call a.0) (flat_map ends_in (leaves a.0.outgoing p.outgoing))
+          (messages_long (is_foreign a.0.task) (accepted_by call a.0))
+          (left_long a.0.outgoing p.outgoing (held_long a.0 calls (asked_before call calls asks)
+          (reads_before call calls reads) a.1))))
+
+  -- ---- the law
+
+  pub keeps_length : (p : Port K) (calls : List Call) (limit : Option ℕ) → AsksAlways calls → ReadsBytes calls
+      → (a : Answered picks start calls p) → Keeps rules.Length limit (logged picks start p calls a)
+  keeps_length p calls limit asks reads a i low = by (moment_at h i)
+      (All-from_recursion IsLongMoment h (logged_long p calls asks reads a) i moments.Reset low)
+    where
+      h : History
+      h = logged picks start p calls a
+
+      seen : Moment → Seen
+      seen m = seen_of (told (take i h)) (controller_told (take i h)) m
+
+      by : (m : Moment) → IsLongMoment m
+          → broken limit (outstanding (take i h)) (seen_of (told (take i h)) (controller_told (take i h)) m) m
+          ≡ Some rules.Length → ⊥
+      by (moments.Message via b time) long =
+          length_message limit (outstanding (take i h)) (seen (moments.Message via b time)) via b time
+      by (moments.End via b) long =
+          long_breaks_none limit (outstanding (take i h)) (seen (moments.End via b)) via b long
+      by moments.Reset long = reset_breaks_none limit (outstanding (take i h)) (seen moments.Reset) rules.Length

@@ -1,0 +1,90 @@
+-- What begins to go out as a port answers a message itself.
+use Rattle.std.proofs.Common.{◌≡◌, ◌∙◌, ℕ, Bool, true, false, List, Option, None, Some, IsSomeAnd, inl, inr, refl, ap, sym, subst, arith}
+use Rattle.std.specs.Prelude.{Ok, slice_index, ◌<◌, ◌^◌}
+use Rattle.std.proofs.lemmas.Option.{none-some}
+use Rattle.mscp_packet.specs.Ends.{end_bytes}
+use Rattle.mscp_packet.specs.Number.{num}
+use Rattle.mscp_packet.specs.declared.end.End.{End}
+use Rattle.mscp_port.specs.declared.port.Outgoing.{Outgoing}
+use Rattle.mscp_port.specs.declared.port.OutgoingKind.TheVariants as kinds
+use Rattle.mscp_port.specs.declared.port.Port.{Port}
+use Rattle.mscp_port.specs.declared.slot.Descriptor.{Descriptor}
+use Rattle.mscp_port.specs.declared.task.Task.TheVariants as tasks
+use Rattle.mscp_port.specs.Calls.{Hears}
+use Rattle.mscp_port.specs.Histories.{Becomes, Call, Picking, WasRead}
+use Rattle.mscp_port.specs.Messages.{own_end_of}
+use Rattle.mscp_port.specs.Outgoings.{AnswersItself}
+use Rattle.mscp_port.specs.Packets.{end_kind}
+use Rattle.mscp_ported.specs.Answers.{Own, own_answer, own_text, volume_named}
+use Rattle.mscp_ported.specs.Awaited.{IsAnswering, IsWhole}
+use Rattle.mscp_ported.proofs.Answering.{own_so}
+use Rattle.mscp_ported.proofs.Ended.{bytes_small}
+use Rattle.mscp_ported.proofs.Itself.{own_number, own_whole}
+use Rattle.mscp_logged.specs.Logged.{is_foreign}
+
+-- it has the number of its message, is an end of the disk's just if that is for the disks, and is whole then
+pub record IsOwn {K : Type 0} (old : Port K) (text : List ℕ) (o : Outgoing) : Type 0 where
+  pub foreign : Bool
+  pub task : is_foreign old.task ≡ foreign
+  pub kind : o.kind ≡ end_kind foreign
+  pub own : (own : Own) × (own_answer foreign (volume_named old text) text ≡ Some own)
+      × (o.bytes.items ≡ own_text text own)
+
+module _ {K : Type 0} (bytes : List ℕ) (done : Unit) (old new : Port K) (r : Hears bytes old (Ok done) new)
+    (o : Outgoing) (nothing : old.outgoing ≡ None) (begun : new.outgoing ≡ Some o) where
+  by_text : (slot : Descriptor) (size : ℕ) (foreign : Bool) → old.task ≡ tasks.Text slot size foreign
+      → AnswersItself foreign bytes old new → IsOwn old bytes o
+  by_text slot size foreign at answers = by (own_end_of old foreign bytes) refl answers.out
+    where
+      by : (x : Option End) → own_end_of old foreign bytes ≡ x → IsSomeAnd x (λ e. IsSomeAnd new.outgoing
+          (λ z. (z.bytes.items ≡ end_bytes e) × (z.kind ≡ end_kind foreign))) → IsOwn old bytes o
+      by None e h = absurd h
+      by (Some end) e h =
+          let said = subst (λ q. IsSomeAnd q (λ z. (z.bytes.items ≡ end_bytes end)
+          × (z.kind ≡ end_kind foreign))) begun h in
+          let own = own_so foreign (volume_named old bytes) bytes end e in
+          record {
+            foreign = foreign;
+            task = ap is_foreign at;
+            kind = said.1;
+            own = (own.0, own.1, said.0 ∙ own.2);
+          }
+
+  pub is_own : IsOwn old bytes o
+  is_own = elim r.out [
+    | inl same ↦ absurd (none-some o (sym (same ∙ nothing) ∙ begun))
+    | inr more ↦ elim more [
+      | inl t ↦ by_text t.0 t.1 t.2 t.3 t.4
+      | inr d ↦ absurd (none-some o (sym d.1.outgoing ∙ begun))
+    ]
+  ]
+
+pub answers_so : {K : Type 0} (picks : Picking K) (call : Call) (old new : Port K) → Becomes picks call old new
+    → (d : IsAnswering call old new) → IsOwn old d.message d.out
+answers_so picks (WasRead bytes (Ok done)) old new r d =
+    subst (λ b. IsOwn old b d.out) (bytes_read bytes d.message d.read.0 (d.read.1))
+    (is_own bytes done old new r d.out d.nothing d.begun)
+  where
+    text_of : Call → List ℕ
+    text_of (WasRead b x) = b
+    text_of call = bytes
+
+    bytes_read : (b m : List ℕ) (u : Unit) → WasRead bytes (Ok done) ≡ WasRead m (Ok u) → bytes ≡ m
+    bytes_read b m u e = ap text_of e
+answers_so picks call old new r d = absurd (search (arith, d.read.1))
+
+module _ {K : Type 0} (old : Port K) (text : List ℕ) (o : Outgoing) (is : IsOwn old text o) where
+  pub own_named : ((i : ℕ) → slice_index text i < 2 ^ 8) → num o.bytes.items 0 4 ≡ num text 0 4
+  own_named small = ap (λ b. num b 0 4) is.own.2 ∙ own_number text is.own.0 (bytes_small text small)
+
+  -- the end of a message for the disks
+  pub of_disk : o.kind ≡ kinds.End → is.foreign ≡ false
+  of_disk kind = by is.foreign (sym is.kind ∙ kind)
+    where
+      by : (b : Bool) → end_kind b ≡ kinds.End → b ≡ false
+      by true e = absurd (search (arith, e))
+      by false e = refl
+
+  pub own_is_whole : o.kind ≡ kinds.End → IsWhole o.bytes.items
+  own_is_whole kind = subst (λ b. IsWhole b) (sym is.own.2) (own_whole (volume_named old text) text is.own.0
+      (ap (λ f. own_answer f (volume_named old text) text) (sym (of_disk kind)) ∙ is.own.1))

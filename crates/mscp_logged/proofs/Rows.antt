@@ -1,0 +1,41 @@
+-- Rows of the log, worked by hand: what goes out and is gone, and what it shows.
+use Rattle.std.proofs.Common.{◌≡◌, ◌∷◌, [], ℕ, true, false, List, None, Some, refl}
+use Rattle.std.specs.Prelude.{flat_map}
+use Rattle.mscp_drive.specs.declared.connection.Connection.TheVariants.{First}
+use Rattle.mscp_port.specs.declared.port.Outgoing.{Outgoing}
+use Rattle.mscp_port.specs.declared.port.OutgoingKind.{OutgoingKind}
+use Rattle.mscp_port.specs.declared.port.OutgoingKind.TheVariants as kinds
+use Rattle.mscp_port.specs.declared.slot.Descriptor.{Descriptor}
+use Rattle.mscp_port.specs.declared.task.Task.TheVariants as tasks
+use Rattle.mscp_port.specs.Departures.{leaves}
+use Rattle.mscp_wire.specs.declared.moment.Moment.TheVariants as moments
+use Rattle.mscp_logged.specs.Logged.{ends_in, is_foreign}
+
+-- the end of a FLUSH: number 7, unit 0, code 0x93, Success
+flush : List ℕ
+flush = 7 ∷ 0 ∷ 0 ∷ 0 ∷ 0 ∷ 0 ∷ 0 ∷ 0 ∷ 0x93 ∷ 0 ∷ 0 ∷ 0 ∷ []
+
+out : OutgoingKind → Outgoing
+out kind = record { bytes = record { items = flush }; kind = kind }
+
+end_is_seen_as_it_is_gone : flat_map ends_in (leaves (Some (out kinds.End)) None)
+    ≡ moments.End First (record { items = flush }) ∷ []
+unfolding out
+end_is_seen_as_it_is_gone = refl
+
+end_that_stays_is_not_seen : flat_map ends_in (leaves (Some (out kinds.End)) (Some (out kinds.End))) ≡ []
+end_that_stays_is_not_seen = refl
+
+news_are_not_seen : flat_map ends_in (leaves (Some (out kinds.Attention)) None) ≡ []
+unfolding out
+news_are_not_seen = refl
+
+end_for_the_utilities_is_not_seen : flat_map ends_in (leaves (Some (out kinds.UtilitiesEnd)) None) ≡ []
+unfolding out
+end_for_the_utilities_is_not_seen = refl
+
+text_for_the_utilities_is_foreign : (slot : Descriptor) → is_foreign (tasks.Text slot 12 true) ≡ true
+text_for_the_utilities_is_foreign slot = refl
+
+text_for_the_disks_is_not : (slot : Descriptor) → is_foreign (tasks.Text slot 12 false) ≡ false
+text_for_the_disks_is_not slot = refl

@@ -1,0 +1,57 @@
+-- What a port's log shows: the ends in it are those that go out, and each answers a command that is outstanding.
+use Rattle.std.proofs.Common.{◌≡◌, ◌≢◌, ◌⊎◌, ◌∙◌, ◌++◌, ◌∷◌, [], ℕ, Bool, true, false, cond, map, List, Option, None, Some, inl, inr, refl, ap, sym, arith}
+use Rattle.mscp_port.specs.declared.port.Outgoing.{Outgoing}
+use Rattle.mscp_port.specs.declared.port.Port.{Port}
+use Rattle.mscp_port.specs.declared.stage.Stage.{Stage}
+use Rattle.mscp_port.specs.Departures.{begins}
+use Rattle.mscp_port.specs.Histories.{Call, WasRead, WriteIp}
+use Rattle.mscp_ported.specs.Awaited.{ReadsBytes}
+use Rattle.mscp_ported.specs.Talk.{is_dead, since}
+use Rattle.mscp_logged.specs.Logged.{is_foreign, message_of}
+
+-- ---- since all was forgotten
+
+pub is_reset : (call : Call) → (call ≡ WriteIp) ⊎ (call ≢ WriteIp)
+is_reset WriteIp = inl refl
+is_reset call = inr (λ e. search (arith, e))
+
+pub since_reset : {X : Type 0} (s : Stage) (call : Call) (xs ys : List X) → call ≡ WriteIp → since s call xs ys ≡ []
+since_reset s WriteIp xs ys e = refl
+since_reset s call xs ys e = search (arith, e)
+
+pub since_dead : {X : Type 0} (s : Stage) (call : Call) (xs ys : List X) → is_dead s ≡ true → since s call xs ys ≡ []
+since_dead s WriteIp xs ys dead = refl
+since_dead s call xs ys dead = ap (λ b. cond b [] (xs ++ ys)) dead
+
+-- ---- what is held
+
+pub last_is : {X : Type 0} (xs ys : List X) (x y : X) → xs ++ x ∷ [] ≡ ys ++ y ∷ [] → x ≡ y
+last_is [] [] x y e = search (arith, e)
+last_is [] (z ∷ []) x y e = search (arith, e)
+last_is [] (z ∷ w ∷ zs) x y e = search (arith, e)
+last_is (z ∷ []) [] x y e = search (arith, e)
+last_is (z ∷ w ∷ zs) [] x y e = search (arith, e)
+last_is (z ∷ zs) (w ∷ ws) x y e = last_is zs ws x y (search (arith, e))
+
+pub none_held : {X : Type 0} (xs ys : List X) → xs ++ ys ≡ [] → ys ≡ []
+none_held [] ys e = e
+none_held (x ∷ xs) ys e = search (arith, e)
+
+pub begun_none : (old new : Option Outgoing) (o : Outgoing) → old ≡ None → new ≡ Some o → begins old new ≡ [] → ⊥
+begun_none old new o none some e =
+    search (arith, sym (ap (λ x. begins x new) none ∙ ap (begins None) some) ∙ e)
+
+-- ---- messages
+
+module _ {K : Type 0} (call : Call) (old : Port K) where
+  pub no_message : (accepted : List (List ℕ)) → accepted ≡ []
+      → cond (is_foreign old.task) [] (map message_of accepted) ≡ []
+  no_message accepted e = ap (λ ts. cond (is_foreign old.task) [] (map message_of ts)) e ∙ by (is_foreign old.task)
+    where
+      by : (b : Bool) → cond b [] (map message_of []) ≡ []
+      by true = refl
+      by false = refl
+
+pub reads_before : (call : Call) (calls : List Call) → ReadsBytes (call ∷ calls) → ReadsBytes calls
+reads_before (WasRead bytes result) calls reads = reads.1
+reads_before call calls reads = reads

@@ -1,0 +1,156 @@
+-- What is known of a log: each end in it has a tie to the command that it answers.
+use Rattle.std.proofs.Common.{◌≡◌, ◌∙◌, ◌<◌, ◌++◌, ◌∷◌, [], ℕ, Bool, true, false, filter, length, map, not, take, List, Option, None, Some, refl, ap, sym, subst, arith}
+use Rattle.std.specs.Prelude.{flat_map, option_to_list, slice_index_or}
+use Rattle.std.proofs.lemmas.List.{append-nil, get_or_append_left, length-append, take-append-le}
+use Rattle.mscp_packet.specs.Number.{num}
+use Rattle.mscp_drive.specs.declared.connection.Connection.TheVariants.{First}
+use Rattle.mscp_queue.proofs.Placed.{each_push}
+use Rattle.mscp_port.specs.declared.port.Outgoing.{Outgoing}
+use Rattle.mscp_port.specs.declared.port.OutgoingKind.{OutgoingKind}
+use Rattle.mscp_port.specs.declared.port.OutgoingKind.TheVariants as kinds
+use Rattle.mscp_port.specs.Departures.{begins, leaves}
+use Rattle.mscp_ported.specs.Awaited.{has_number}
+use Rattle.mscp_ported.specs.Ends.{end_said}
+use Rattle.mscp_ported.specs.Told.{Said, said_in}
+use Rattle.mscp_wire.specs.Wire.{History, IsRight, answer_by, broken_message, command_at, controller, is_new, moment_at, outstanding, place_of, seen_of, sent_by, told, unless}
+use Rattle.mscp_wire.specs.declared.moment.Moment.{Moment}
+use Rattle.mscp_wire.specs.declared.moment.Moment.TheVariants as moments
+use Rattle.mscp_wire.specs.declared.rule.Rule.{Rule}
+use Rattle.mscp_wire.specs.declared.rule.Rule.TheVariants as rules
+use Rattle.mscp_wire.specs.declared.sent.Sent.{Sent}
+use Rattle.mscp_logged.specs.Logged.{end_of, ends_in, message_of}
+use Rattle.mscp_logged.proofs.Left.{at_front, end_leaves}
+use Rattle.mscp_logged.proofs.Seen.{begun_none}
+use Rattle.mscp_logged.proofs.Wired.{Wired, end_begins, front_of, message_answered, message_taken, named, none_any, outstanding_more, stem}
+
+-- ---- each moment behind those before it
+
+module _ {X : Type 0} (R : List X → X → Type 0) (d : X) where
+  abbrev pub Each : List X → Type 0
+  Each xs = (i : ℕ) → i < length xs → R (take i xs) (slice_index_or xs i d)
+
+  pub each_front : (xs ys : List X) → Each (xs ++ ys) → Each xs
+  each_front xs ys each i low = subst (λ x. R (take i xs) x) (get_or_append_left xs ys d i low)
+      (subst (λ zs. R zs (slice_index_or (xs ++ ys) i d)) (take-append-le i xs ys (search (arith, low)))
+      (each i (search (arith, low, length-append xs ys))))
+
+  pub each_at : (xs : List X) (x : X) (ys : List X) → Each (xs ++ x ∷ ys) → R xs x
+  each_at xs x ys each = subst (λ z. R xs z) (at_front xs x ys d)
+      (subst (λ zs. R zs (slice_index_or (xs ++ x ∷ ys) (length xs) d)) (front_of xs x ys)
+      (each (length xs) (search (arith, length-append xs (x ∷ ys)))))
+
+-- a host's right message has a new number
+pub right_new : (credits : Option ℕ) (h : History) (t : List ℕ) → IsRight credits h (message_of t)
+    → is_new (outstanding h) (sent_by First t) ≡ true
+right_new credits h t e = by (Rattle.mscp_wire.specs.Wire.is_message t) e
+  where
+    new : (b : Bool) (rest : Option Rule) → unless b rules.Number rest ≡ None → b ≡ true
+    new true rest x = refl
+    new false rest x = search (arith, x)
+
+    by : (b : Bool) → unless b rules.Message (broken_message credits (outstanding h) (sent_by First t)) ≡ None
+        → is_new (outstanding h) (sent_by First t) ≡ true
+    by true x = new (is_new (outstanding h) (sent_by First t)) _ x
+    by false x = search (arith, x)
+
+new_none : (xs : List Sent) (t : List ℕ) → is_new xs (sent_by First t) ≡ true
+    → filter (named (num t 0 4)) xs ≡ []
+new_none xs t e = none_any (named (num t 0 4)) xs (isnt _ e)
+  where
+    isnt : (b : Bool) → not b ≡ true → b ≡ false
+    isnt true h = search (arith, h)
+    isnt false h = refl
+
+module _ (Tie : List ℕ → List ℕ → Type 0) where
+  -- an end answers the command of a message at a place, and has its tie to that
+  pub record IsTied (xs : List Sent) (text : List ℕ) : Type 0 where
+    pub place : ℕ
+    pub at : place_of xs (answer_by First text) ≡ Some place
+    pub message : List ℕ
+    pub command : stem (command_at xs place) ≡ sent_by First message
+    pub tie : Tie text message
+
+  abbrev pub IsSeen : History → Moment → Type 0
+  IsSeen h (moments.Message via b time) = Unit {0}
+  IsSeen h (moments.End via b) = (via ≡ First) × IsTied (outstanding h) b.items
+  IsSeen h moments.Reset = Unit {0}
+
+  pub record Stated (h : History) (aw : List (List ℕ)) (held : List Said) : Type 0 where
+    pub each : (i : ℕ) → i < length h → IsSeen (take i h) (moment_at h i)
+    pub wired : Wired Tie (outstanding h) aw held
+
+  pub nothing_stated : (aw : List (List ℕ)) → Wired Tie [] aw [] → Stated [] aw []
+  nothing_stated aw w = record { each = λ i low. search (arith, low); wired = w }
+
+  module _ (h : History) (aw : List (List ℕ)) where
+    pub as_it_is : (h' : History) (aw' : List (List ℕ)) (held held' : List Said) → h' ≡ h → aw' ≡ aw → held' ≡ held
+        → Stated h aw held → Stated h' aw' held'
+    as_it_is h' aw' held held' e f g s = subst (λ x. Stated x aw' held') (sym e)
+        (subst (λ x. Stated h x held') (sym f) (subst (λ x. Stated h aw x) (sym g) s))
+
+    -- a message comes
+    pub takes : (held : List Said) (t : List ℕ) → Stated h aw held → is_new (outstanding h) (sent_by First t) ≡ true
+        → Stated (h ++ message_of t ∷ []) (aw ++ t ∷ []) held
+    takes held t s new = record {
+      each = each_push moments.Reset IsSeen h (message_of t) s.each tt;
+      wired = subst (λ xs. Wired Tie xs (aw ++ t ∷ []) held) (sym (outstanding_more h (message_of t)))
+          (message_taken Tie (outstanding h) aw t _ refl (new_none (outstanding h) t new) held s.wired);
+    }
+
+    pub answers : (o : Said) (t : List ℕ) → Stated h aw [] → is_new (outstanding h) (sent_by First t) ≡ true
+        → num o.text 0 4 ≡ num t 0 4 → Tie o.text t → Stated (h ++ message_of t ∷ []) aw (o ∷ [])
+    answers o t s new same tie = record {
+      each = each_push moments.Reset IsSeen h (message_of t) s.each tt;
+      wired = subst (λ xs. Wired Tie xs aw (o ∷ [])) (sym (outstanding_more h (message_of t)))
+          (message_answered Tie (outstanding h) aw t _ refl (new_none (outstanding h) t new) o s.wired same tie);
+    }
+
+    -- something begins to go out
+    pub begins_end : (o : Said) (m : List ℕ) → Stated h aw [] → filter (has_number (num o.text 0 4)) aw ≡ m ∷ []
+        → Tie o.text m → Stated h (filter (λ t. not (has_number (num o.text 0 4) t)) aw) (o ∷ [])
+    begins_end o m s only tie =
+        record { each = s.each; wired = end_begins Tie (outstanding h) aw o m s.wired only tie }
+
+    pub begins_other : (o : Said) → Stated h aw [] → (o.kind ≡ kinds.End → ⊥) → Stated h aw (o ∷ [])
+    begins_other o s never = record {
+      each = s.each;
+      wired = record { each = s.wired.each; owed = ((λ kind. absurd (never kind)), tt) };
+    }
+
+    -- an end leaves
+    pub leaves_end : (o : Said) → Stated h aw (o ∷ []) → o.kind ≡ kinds.End → Stated (h ++ end_of o.text ∷ []) aw []
+    leaves_end o s kind =
+        let x = end_leaves Tie (outstanding h) aw o s.wired kind in
+        let owed = s.wired.owed.0 kind in
+        record {
+          each = each_push moments.Reset IsSeen h (end_of o.text) s.each (
+            refl,
+            record { place = x.place; at = x.at; message = owed.message; command = x.command; tie = owed.tie },
+          );
+          wired = subst (λ xs. Wired Tie xs aw []) (sym (outstanding_more h (end_of o.text)
+              ∙ ap (Rattle.mscp_wire.specs.Wire.after_end (outstanding h) (answer_by First o.text)) x.at)) x.left;
+        }
+
+    pub leaves_other : (o : Said) → Stated h aw (o ∷ []) → Stated h aw []
+    leaves_other o s = record { each = s.each; wired = record { each = s.wired.each; owed = tt } }
+
+    -- what goes out stays so, or leaves
+    pub left : (old new : Option Outgoing) → Stated h aw (map said_in (option_to_list old)) → begins old new ≡ []
+        → ((o x : Outgoing) → old ≡ Some o → new ≡ Some x → said_in o ≡ said_in x)
+        → Stated (h ++ flat_map ends_in (leaves old new)) aw (map said_in (option_to_list new))
+    left None None s none same = as_it_is (h ++ []) aw [] [] (append-nil h) refl refl s
+    left None (Some x) s none same = absurd (begun_none None (Some x) x refl refl none)
+    left (Some o) (Some x) s none same =
+        as_it_is (h ++ []) aw (said_in o ∷ []) (said_in x ∷ []) (append-nil h) refl
+        (ap (λ y. y ∷ []) (sym (same o x refl refl))) s
+    left (Some o) None s none same = by o.kind refl
+      where
+        by : (k : OutgoingKind) → o.kind ≡ k → Stated (h ++ (map end_of (end_said o.kind o.bytes.items) ++ [])) aw []
+        by kinds.Attention e = as_it_is (h ++ (map end_of (end_said o.kind o.bytes.items) ++ [])) aw [] []
+            (ap (λ k. h ++ (map end_of (end_said k o.bytes.items) ++ [])) e ∙ append-nil h) refl refl
+            (leaves_other (said_in o) s)
+        by kinds.UtilitiesEnd e = as_it_is (h ++ (map end_of (end_said o.kind o.bytes.items) ++ [])) aw [] []
+            (ap (λ k. h ++ (map end_of (end_said k o.bytes.items) ++ [])) e ∙ append-nil h) refl refl
+            (leaves_other (said_in o) s)
+        by kinds.End e = subst (λ k. Stated (h ++ (map end_of (end_said k o.bytes.items) ++ [])) aw []) (sym e)
+            (leaves_end (said_in o) s e)

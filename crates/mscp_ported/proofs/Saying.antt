@@ -1,0 +1,180 @@
+-- The bytes with which an end leaves say what it says.
+use Rattle.std.proofs.Common.{◌≡◌, ◌⊎◌, ◌∙◌, ◌≤◌, ◌∷◌, [], ℕ, Bool, true, false, cond, length, nat_eq, List, Option, Some, inl, inr, refl, ap, sym, arith}
+use Rattle.std.specs.Prelude.{find, option_map, slice_get, slice_index}
+use Rattle.std.specs.List.{AllByRecursion}
+use Rattle.mscp_packet.specs.Number.{num}
+use Rattle.mscp_packet.specs.declared.end.BodyKind.{BodyKind}
+use Rattle.mscp_packet.specs.declared.end.BodyKind.TheVariants as kinds_of
+use Rattle.mscp_packet.specs.Ends.{IsOfKind, endcodes, end_bytes, kind_of_body, kind_of_code}
+use Rattle.mscp_packet.proofs.Numbers.{four}
+use Rattle.mscp_drive.specs.UnitList.{unit_found}
+use Rattle.mscp_packet.specs.declared.end.End.{End}
+use Rattle.mscp_packet.specs.declared.end.EndBody.{EndBody}
+use Rattle.mscp_packet.specs.declared.end.EndBody.TheVariants as bodies
+use Rattle.mscp_drive.specs.Shape.{Shape}
+use Rattle.mscp_port.specs.declared.decided.Decided.{Decided}
+use Rattle.mscp_port.specs.Formalities.{ends_formality}
+use Rattle.mscp_port.specs.Leaving.{end_left, end_with_body, head, told_end}
+use Rattle.mscp_port.specs.declared.port.Port.{Port}
+use Rattle.mscp_port.proofs.Common.{eq-eqb, eqb-true, none-some, same_Some}
+use Rattle.mscp_ported.proofs.Codes.{IsAboutCode, about_in}
+use Rattle.mscp_ported.specs.Passing.{figure_in}
+use Rattle.mscp_ported.proofs.Ending.{left_with}
+use Rattle.mscp_ported.proofs.Whole.{code_of}
+use Rattle.mscp_ported.proofs.Fitting.{FitsEnd}
+
+pub told_code : {K : Type 0} (p : Port K) (e : End) (d : Decided) → slice_get p.decided.items 0 ≡ Some d
+    → slice_index (told_end p e) 8 ≡ cond (ends_formality d.code) d.code e.code
+told_code p e d some =
+    ap (λ o. slice_index (end_left e o (unit_found p.controller.settings.units e.unit) p.hardware) 8) some
+    ∙ by (ends_formality d.code)
+  where
+    by : (c : Bool) → slice_index (cond c (head e.reference e.unit d.code d.status)
+        (end_with_body e.body e d (unit_found p.controller.settings.units e.unit) p.hardware)) 8
+        ≡ cond c d.code e.code
+    by true = refl
+    by false = code_of e.body e d (unit_found p.controller.settings.units e.unit) p.hardware
+
+not_formal : (code : ℕ) → ends_formality code ≡ true → IsAboutCode code → ⊥
+not_formal code formal (inl x) = search (arith, sym formal ∙ ap ends_formality x)
+not_formal code formal (inr x) = search (arith, sym formal ∙ ap ends_formality x)
+
+about_kind : (code : ℕ) (kind : BodyKind) → kind_of_code code ≡ Some kind → IsAboutCode code
+    → (kind ≡ kinds_of.Abort) ⊎ (kind ≡ kinds_of.Status)
+about_kind code kind shaped (inl x) = inl (same_Some kind kinds_of.Abort (sym shaped ∙ ap kind_of_code x))
+about_kind code kind shaped (inr x) = inr (same_Some kind kinds_of.Status (sym shaped ∙ ap kind_of_code x))
+
+pub told_about : {K : Type 0} (p : Port K) (e : End) (d : Decided) → slice_get p.decided.items 0 ≡ Some d
+    → (t : List ℕ) → IsOfKind e → FitsEnd (left_with e d) t
+    → (slice_index (told_end p e) 8 ≡ 0x81) ⊎ (slice_index (told_end p e) 8 ≡ 0x82) → 16 ≤ length t
+    → num (told_end p e) 12 4 ≡ num t 12 4
+told_about p e d some t shaped fits is long =
+    ap (λ o. num (end_left e o unit p.hardware) 12 4) some
+    ∙ by (ends_formality d.code) refl (elim is [
+      | inl x ↦ inl (sym (told_code p e d some) ∙ x)
+      | inr x ↦ inr (sym (told_code p e d some) ∙ x)
+    ])
+  where
+    unit : Option Shape
+    unit = unit_found p.controller.settings.units e.unit
+
+    plain : (body : EndBody) → e.body ≡ body → kind_of_code e.code ≡ Some (kind_of_body body) → IsAboutCode e.code
+        → num (end_with_body body e d unit p.hardware) 12 4 ≡ num t 12 4
+    plain (bodies.Status other figure) same shaped code =
+        let a = fits.about long other (ap about_in same) in
+        ap (λ b. num (end_bytes (record e { status = d.status; body = b })) 12 4) same ∙ four other a.1 ∙ a.0
+    plain (bodies.Abort other) same shaped code =
+        let a = fits.about long other (ap about_in same) in
+        ap (λ b. num (end_bytes (record e { status = d.status; body = b })) 12 4) same ∙ four other a.1 ∙ a.0
+    plain body same shaped code = absurd (elim (about_kind e.code (kind_of_body body) shaped code)
+        [ inl k ↦ search (arith, k) | inr k ↦ search (arith, k) ])
+
+    by : (c : Bool) → ends_formality d.code ≡ c → IsAboutCode (cond c d.code e.code)
+        → num (cond c (head e.reference e.unit d.code d.status) (end_with_body e.body e d unit p.hardware)) 12 4
+        ≡ num t 12 4
+    by true formal code = absurd (not_formal d.code formal code)
+    by false formal code = plain e.body refl shaped code
+
+-- and it succeeds
+pub told_success : {K : Type 0} (p : Port K) (e : End) (d : Decided) → slice_get p.decided.items 0 ≡ Some d
+    → (t : List ℕ) → IsOfKind e → FitsEnd (left_with e d) t
+    → (slice_index (told_end p e) 8 ≡ 0x81) ⊎ (slice_index (told_end p e) 8 ≡ 0x82) → 16 ≤ length t
+    → num (told_end p e) 10 2 ≡ 0
+told_success p e d some t shaped fits is long =
+    ap (λ o. num (end_left e o unit p.hardware) 10 2) some
+    ∙ by (ends_formality d.code) refl (elim is [
+      | inl x ↦ inl (sym (told_code p e d some) ∙ x)
+      | inr x ↦ inr (sym (told_code p e d some) ∙ x)
+    ])
+  where
+    unit : Option Shape
+    unit = unit_found p.controller.settings.units e.unit
+
+    plain : (body : EndBody) → e.body ≡ body → kind_of_code e.code ≡ Some (kind_of_body body) → IsAboutCode e.code
+        → num (end_with_body body e d unit p.hardware) 10 2 ≡ 0
+    plain (bodies.Status other figure) same shaped code =
+        ap (λ n. num (end_bytes (record e { status = n })) 10 2) (fits.about long other (ap about_in same)).2
+    plain (bodies.Abort other) same shaped code =
+        ap (λ n. num (end_bytes (record e { status = n })) 10 2) (fits.about long other (ap about_in same)).2
+    plain body same shaped code = absurd (elim (about_kind e.code (kind_of_body body) shaped code)
+        [ inl k ↦ search (arith, k) | inr k ↦ search (arith, k) ])
+
+    by : (c : Bool) → ends_formality d.code ≡ c → IsAboutCode (cond c d.code e.code)
+        → num (cond c (head e.reference e.unit d.code d.status) (end_with_body e.body e d unit p.hardware)) 10 2 ≡ 0
+    by true formal code = absurd (not_formal d.code formal code)
+    by false formal code = plain e.body refl shaped code
+
+-- the code of a poll's end
+status_code : (code : ℕ) → kind_of_code code ≡ Some kinds_of.Status → code ≡ 0x82
+status_code code e = found endcodes rows e
+  where
+    rows : AllByRecursion (λ x. x.1 ≡ kinds_of.Status → x.0 ≡ 0x82) endcodes
+    rows = grind arith
+
+    found : (xs : List (ℕ × BodyKind)) → AllByRecursion (λ x. x.1 ≡ kinds_of.Status → x.0 ≡ 0x82) xs
+        → option_map (λ x. x.1) (find (λ x. nat_eq x.0 code) xs) ≡ Some kinds_of.Status → code ≡ 0x82
+    found [] all h = absurd (none-some kinds_of.Status h)
+    found (x ∷ xs) all h = by (nat_eq x.0 code) refl h (λ y. found xs all.1 y)
+      where
+        by : (b : Bool) → nat_eq x.0 code ≡ b
+            → option_map (λ (y : ℕ × BodyKind). y.1) (cond b (Some x) (find (λ y. nat_eq y.0 code) xs))
+            ≡ Some kinds_of.Status
+            → (option_map (λ (y : ℕ × BodyKind). y.1) (find (λ y. nat_eq y.0 code) xs) ≡ Some kinds_of.Status
+            → code ≡ 0x82) → code ≡ 0x82
+        by true is h rest = sym (eqb-true x.0 code is) ∙ all.0 (same_Some x.1 kinds_of.Status h)
+        by false is h rest = rest h
+
+-- what is told of the figure
+pub told_figure : {K : Type 0} (p : Port K) (e : End) (d : Decided) → slice_get p.decided.items 0 ≡ Some d
+    → (t : List ℕ) → IsOfKind e → FitsEnd (left_with e d) t
+    → cond (nat_eq (slice_index (told_end p e) 8) 0x82) (num (told_end p e) 16 4) 0 ≡ figure_in e.body
+told_figure p e d some t shaped fits = by e.body refl
+  where
+    unit : Option Shape
+    unit = unit_found p.controller.settings.units e.unit
+
+    text : List ℕ
+    text = told_end p e
+
+    not_poll : (body : EndBody) → kind_of_code e.code ≡ Some (kind_of_body body)
+        → (kind_of_body body ≡ kinds_of.Status → ⊥) → nat_eq (slice_index (told_end p e) 8) 0x82 ≡ false
+    not_poll body kind other = none (nat_eq (slice_index (told_end p e) 8) 0x82) refl
+      where
+        formal : (c : Bool) → ends_formality d.code ≡ c → cond c d.code e.code ≡ 0x82 → ⊥
+        formal true is poll = search (arith, sym is ∙ ap ends_formality poll)
+        formal false is poll = other (same_Some (kind_of_body body) kinds_of.Status
+            (sym kind ∙ ap kind_of_code poll))
+
+        none : (b : Bool) → nat_eq (slice_index (told_end p e) 8) 0x82 ≡ b → b ≡ false
+        none false is = refl
+        none true is = absurd (formal (ends_formality d.code) refl
+            (sym (told_code p e d some) ∙ eqb-true (slice_index (told_end p e) 8) 0x82 is))
+
+    nothing : (body : EndBody) → e.body ≡ body → (kind_of_body body ≡ kinds_of.Status → ⊥) → figure_in body ≡ 0
+        → cond (nat_eq (slice_index (told_end p e) 8) 0x82) (num (told_end p e) 16 4) 0 ≡ figure_in e.body
+    nothing body same other zero =
+        ap (λ b. cond b (num (told_end p e) 16 4) 0)
+        (not_poll body (shaped ∙ ap (λ x. Some (kind_of_body x)) same) other)
+        ∙ sym (ap figure_in same ∙ zero)
+
+    by : (body : EndBody) → e.body ≡ body
+        → cond (nat_eq (slice_index (told_end p e) 8) 0x82) (num (told_end p e) 16 4) 0 ≡ figure_in e.body
+    by (bodies.Status other figure) same =
+        let x = fits.polled other figure same in
+        let code : e.code ≡ 0x82 = status_code e.code (shaped ∙ ap (λ b. Some (kind_of_body b)) same) in
+        let formal : ends_formality d.code ≡ false = ap ends_formality (x.0 ∙ code) in
+        let told : slice_index (told_end p e) 8 ≡ 0x82 =
+        told_code p e d some ∙ ap (λ c. cond c d.code e.code) formal ∙ code in
+        ap (λ b. cond b (num (told_end p e) 16 4) 0) (eq-eqb (slice_index (told_end p e) 8) 0x82 told)
+        ∙ ap (λ o. num (end_left e o unit p.hardware) 16 4) some
+        ∙ ap (λ c. num (cond c (head e.reference e.unit d.code d.status)
+        (end_with_body e.body e d unit p.hardware)) 16 4) formal
+        ∙ ap (λ b. num (end_with_body b e d unit p.hardware) 16 4) same
+        ∙ ap (λ b. num (end_bytes (record e { status = d.status; body = b })) 16 4) same
+        ∙ four figure x.1 ∙ sym (ap figure_in same)
+    by (bodies.Moved count) same = nothing (bodies.Moved count) same (λ k. search (arith, k)) refl
+    by bodies.Bare same = nothing bodies.Bare same (λ k. search (arith, k)) refl
+    by (bodies.Abort other) same = nothing (bodies.Abort other) same (λ k. search (arith, k)) refl
+    by (bodies.UnitStatus x y z v w) same = nothing (bodies.UnitStatus x y z v w) same (λ k. search (arith, k)) refl
+    by (bodies.Controller x y) same = nothing (bodies.Controller x y) same (λ k. search (arith, k)) refl
+    by (bodies.Online x y z v) same = nothing (bodies.Online x y z v) same (λ k. search (arith, k)) refl

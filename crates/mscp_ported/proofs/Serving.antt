@@ -1,0 +1,363 @@
+-- Whoever always asks for blocks has a step told between two polls of a command that waits.
+use Rattle.std.proofs.Common.{◌≡◌, ◌≢◌, ◌⊎◌, ◌∙◌, ◌≤◌, ◌&&◌, ◌∷◌, [], ℕ, Bool, true, false, cond, length, List, Option, None, Some, MatchOption, inl, inr, refl, ap, sym, subst, arith}
+use Rattle.std.specs.Prelude.{◌==◌, Result, Ok, Err, is_none, is_ok, slice_index}
+use Rattle.std.proofs.lemmas.Option.{none-some}
+use Rattle.mscp_packet.specs.Number.{num}
+unfoldable use Rattle.mscp_packet.specs.Commands.{command_of}
+use Rattle.mscp_packet.specs.declared.end.End.{End}
+use Rattle.mscp_drive.specs.declared.connection.Connection.TheVariants.{First}
+use Rattle.mscp_queue.specs.Figures.{figure_of_name}
+use Rattle.mscp_queue.specs.Names.{name_on}
+use Rattle.mscp_queue.specs.Records.{Record}
+use Rattle.mscp_controller.specs.Arrival.{refusal}
+use Rattle.mscp_controller.specs.Holdings.{Holdings, answer_to_message, balance_of, outstanding_of, sent_unless, taken_as}
+use Rattle.mscp_controller.specs.declared.entry.SendFault.{SendFault}
+use Rattle.mscp_controller.specs.declared.entry.Sent.{Sent}
+use Rattle.mscp_controller.specs.declared.entry.Sent.TheVariants as sents
+use Rattle.mscp_port.specs.declared.action.Action.{Action}
+use Rattle.mscp_port.specs.declared.hardware.Hardware.{Hardware}
+use Rattle.mscp_port.specs.declared.port.Outgoing.{Outgoing}
+use Rattle.mscp_port.specs.declared.port.Port.{Port}
+use Rattle.mscp_port.specs.declared.rings.Side.{Side}
+use Rattle.mscp_port.specs.declared.rings.Side.TheVariants.{Responses, Commands}
+use Rattle.mscp_port.specs.declared.slot.Descriptor.{Descriptor}
+use Rattle.mscp_port.specs.declared.stage.Stage.{Stage}
+use Rattle.mscp_port.specs.declared.stage.Stage.TheVariants as stages
+use Rattle.mscp_port.specs.declared.task.Task.{Task}
+use Rattle.mscp_port.specs.declared.task.Task.TheVariants as tasks
+use Rattle.mscp_port.specs.Calls.{Hears, IsMadeOf, Wants}
+use Rattle.mscp_port.specs.Fair.{TellsStep}
+use Rattle.mscp_port.specs.Histories.{Answered, Becomes, Call, Picking, WriteIp, ReadIp, WriteSa, Next, PutAside, WasRead, Went, LookAgain, Tick, VolumeCame, VolumeWent, Protect}
+use Rattle.mscp_port.specs.Messages.{handed, own_end_of}
+use Rattle.mscp_port.specs.Moved.{IsStepping}
+use Rattle.mscp_port.specs.Ports.{IsAsNew, read_size, IsReadingText}
+use Rattle.mscp_port.specs.Seen.{SeesText, Sends, answered_to, bytes_read, connection_in, header_fault, length_in}
+use Rattle.mscp_port.specs.Slots.{is_owned}
+use Rattle.mscp_port.proofs.Common.{eq-eqb, false≢true}
+use Rattle.mscp_port.proofs.Said.{none_or_some}
+use Rattle.mscp_ported.specs.Answers.{own_answer, volume_named}
+use Rattle.mscp_ported.specs.Asking.{AsksBehindPolls, AsksForBlocks}
+use Rattle.mscp_ported.specs.Awaited.{is_taken_text, taken_by}
+use Rattle.mscp_ported.specs.Figures.{figure_on}
+use Rattle.mscp_ported.specs.Passing.{IsServedSince, ServesBetweenPolls, TakesPoll}
+use Rattle.mscp_ported.specs.Talk.{is_dead}
+use Rattle.mscp_ported.proofs.Answering.{handed_so, own_so, poll_command, poll_handed, polled}
+use Rattle.mscp_ported.proofs.Ended.{lived}
+use Rattle.mscp_ported.proofs.Owning.{and_false}
+use Rattle.mscp_ported.proofs.Turning.{IsHearing, text_quiet}
+use Rattle.mscp_ported.proofs.Turns.{IsNoNext, reads_on, wants_hears}
+
+-- ---- a block that is owed stays so until a step is told
+
+sent_owes : {K : Type 0} (slot : Descriptor) (s : Sent) (bytes : List ℕ) (old new : Port K)
+    → Sends slot s bytes old new → old.owes_block ≡ true → new.owes_block ≡ true
+sent_owes slot s bytes old new sends owes = grind arith
+
+module _ {K : Type 0} (bytes : List ℕ) (done : Unit) (old new : Port K) (r : Hears bytes old (Ok done) new)
+    (lives : is_dead new.stage ≡ false) (owes : old.owes_block ≡ true) where
+  abbrev So : Type 0
+  So = new.owes_block ≡ true
+
+  same : (x : Port K) → new ≡ x → x.owes_block ≡ old.owes_block → So
+  same x e is = ap (λ (p : Port K). p.owes_block) e ∙ is ∙ owes
+
+  text_owes : (slot : Descriptor) (foreign : Bool) → SeesText slot foreign bytes old new → So
+  text_owes slot foreign sees = by_own (own_end_of old foreign bytes) refl old.outgoing refl
+    where
+      by_sent : (s : Result Sent SendFault) → answered_to old bytes ≡ s → own_end_of old foreign bytes ≡ None → So
+      by_sent (Ok s) e own = sent_owes slot s bytes old new (sees.sent s own e) owes
+      by_sent (Err fault) e own = same _ (sees.waits fault own e) refl
+
+      by_own : (o : Option End) → own_end_of old foreign bytes ≡ o → (out : Option Outgoing) → old.outgoing ≡ out → So
+      by_own None e out is = by_sent (answered_to old bytes) refl e
+      by_own (Some end) e None is = same _ (sees.own (λ n. none-some end (sym n ∙ e)) is).0 refl
+      by_own (Some end) e (Some out) is =
+          same _ (sees.own_waits (λ n. none-some end (sym n ∙ e)) (λ n. none-some out (sym n ∙ is))) refl
+
+  slot_owes : (side : Side) → old.task ≡ tasks.Slot side → So
+  slot_owes Responses at = by (is_owned (num bytes 0 4)) ((r.sees refl).slot Responses at)
+    where
+      by : (b : Bool) → new ≡ cond b (record old { task = tasks.Packet (record { word = num bytes 0 4 }) })
+          (record old { is_full = true; task = tasks.Free }) → So
+      by true e = same _ e refl
+      by false e = same _ e refl
+  slot_owes Commands at = by (is_owned (num bytes 0 4)) ((r.sees refl).slot Commands at)
+    where
+      by : (b : Bool) → new ≡ cond b (record old { task = tasks.Header (record { word = num bytes 0 4 }) })
+          (record old { is_polled = false; task = tasks.Free }) → So
+      by true e = same _ e refl
+      by false e = same _ e refl
+
+  header_owes : (slot : Descriptor) → old.task ≡ tasks.Header slot → So
+  header_owes slot at = by (header_fault (num bytes 0 4)) ((r.sees refl).header slot at)
+    where
+      by : (o : Option ℕ) → MatchOption o (new ≡ record old {
+        task = tasks.Text slot (bytes_read (length_in (num bytes 0 4))) (connection_in (num bytes 0 4) == 2);
+      })
+          (λ code. IsAsNew (stages.Dead code) old new) → So
+      by None e = same _ e refl
+      by (Some code) d = absurd (search (arith, lives, ap is_dead d.stage))
+
+  read_owes : (t : Task) → old.task ≡ t → So
+  read_owes (tasks.Slot side) at = slot_owes side at
+  read_owes (tasks.Neighbour side) at = same _ ((r.sees refl).neighbour side at) refl
+  read_owes (tasks.Header slot) at = header_owes slot at
+  read_owes (tasks.Text slot size foreign) at = text_owes slot foreign ((r.sees refl).text slot size foreign at)
+  read_owes t at = absurd (none-some (length bytes) (sym (ap read_size at) ∙ r.only refl))
+
+module _ {K : Type 0} (picks : Picking K) (old new : Port K) (lives : is_dead new.stage ≡ false)
+    (owes : old.owes_block ≡ true) where
+  as_it_was : (x : Port K) → new ≡ x → x.owes_block ≡ old.owes_block → new.owes_block ≡ true
+  as_it_was x e is = ap (λ (p : Port K). p.owes_block) e ∙ is ∙ owes
+
+  dies : (code : ℕ) → IsAsNew (stages.Dead code) old new → new.owes_block ≡ true
+  dies code d = absurd (search (arith, lives, ap is_dead d.stage))
+
+  owes_on : (call : Call) → call ≢ WriteIp → (TellsStep call old → ⊥) → Becomes picks call old new
+      → new.owes_block ≡ true
+  owes_on WriteIp never none r = absurd (never refl)
+  owes_on ReadIp never none r = elim r.frame [ inl e ↦ as_it_was _ e refl | inr d ↦ dies d.0 d.1 ]
+  owes_on (WriteSa word) never none r = elim r.frame [ inl e ↦ as_it_was _ e refl | inr d ↦ dies d.0 d.1 ]
+  owes_on (Next blocks action bytes) never none r = as_it_was _ r.0.frame refl
+  owes_on PutAside never none r = as_it_was _ r refl
+  owes_on (WasRead bytes (Ok done)) never none r = read_owes bytes done old new r lives owes old.task refl
+  owes_on (WasRead bytes (Err unasked)) never none r = as_it_was _ r.unasked refl
+  owes_on (Went outcome (Ok done)) never none r = elim r.commands [
+    | inl k ↦ k.owes ∙ owes
+    | inr more ↦ elim more [ inl block ↦ absurd (none block.0) | inr d ↦ dies d.0 d.1 ]
+  ]
+  owes_on (Went outcome (Err unasked)) never none r = as_it_was _ r.unasked refl
+  owes_on LookAgain never none r = as_it_was _ r refl
+  owes_on Tick never none r = elim r.either [ inl e ↦ as_it_was _ e refl | inr d ↦ dies 9 d ]
+  owes_on (VolumeCame m unit (Ok done)) never none r = as_it_was _ (r.came refl) refl
+  owes_on (VolumeCame m unit (Err fault)) never none r = as_it_was _ r.refused refl
+  owes_on (VolumeWent unit result) never none r = as_it_was _ r.frame refl
+  owes_on (Protect protected unit result) never none r = as_it_was _ r.frame refl
+
+-- ---- a poll
+
+module _ {K : Type 0} (bytes : List ℕ) (done : Unit) (old new : Port K) (r : Hears bytes old (Ok done) new) where
+  module _ (slot : Descriptor) (size : ℕ) (foreign : Bool) (at : old.task ≡ tasks.Text slot size foreign)
+      (took : taken_by (WasRead bytes (Ok done)) old ≡ bytes ∷ []) (poll : slice_index bytes 8 ≡ 2)
+      (long : 16 ≤ length bytes) where
+    abbrev h : Holdings K
+    h = old.controller
+
+    abbrev sent : List ℕ
+    sent = handed old.controller.settings.units bytes
+
+    sees : SeesText slot foreign bytes old new
+    sees = (r.sees refl).text slot size foreign at
+
+    -- the controller takes it, and the port has no answer of its own
+    is_taken : cond (is_none (own_answer foreign (volume_named old bytes) bytes) && is_ok (answered_to old bytes))
+        (bytes ∷ []) [] ≡ bytes ∷ []
+    is_taken = ap (λ b. cond (is_none (own_answer foreign (volume_named old bytes) bytes)
+        && is_ok (answer_to_message First old.controller b)) (bytes ∷ []) [])
+        (handed_so old.controller.settings.units bytes)
+        ∙ ap (λ t. cond (is_taken_text old bytes t) (bytes ∷ []) []) (sym at) ∙ took
+
+    none_taken : (is_none (own_answer foreign (volume_named old bytes) bytes) && is_ok (answered_to old bytes)) ≡ false
+        → ⊥
+    none_taken none = search (arith, sym (ap (λ b. cond b (bytes ∷ []) []) none) ∙ is_taken)
+
+    answers : own_end_of old foreign bytes ≡ None
+        → refusal (balance_of First h) (outstanding_of First h) sent ≡ None → new.owes_block ≡ true
+    answers none e =
+        let same : command_of sent ≡ polled bytes =
+        ap command_of (handed_so old.controller.settings.units bytes
+        ∙ poll_handed old.controller.settings.units bytes poll) ∙ poll_command bytes poll long in
+        let answered : answered_to old bytes ≡ Ok (sents.Answered (num bytes 0 4) None) =
+        ap (sent_unless First h (command_of sent)) e ∙ ap (λ c. Ok (taken_as First h c)) same in
+        ap (λ (p : Port K). p.owes_block) (sees.sent (sents.Answered (num bytes 0 4) None) none answered).frame
+        ∙ ap (λ b. cond b true old.owes_block) (eq-eqb (slice_index bytes 8) 2 poll)
+
+    judged : (o : Option SendFault) → refusal (balance_of First h) (outstanding_of First h) sent ≡ o
+        → own_end_of old foreign bytes ≡ None → new.owes_block ≡ true
+    judged None e none = answers none e
+    judged (Some fault) e none = absurd (none_taken (and_false
+        (is_none (own_answer foreign (volume_named old bytes) bytes)) (is_ok (answered_to old bytes))
+        (ap is_ok (ap (sent_unless First h (command_of sent)) e))))
+
+    text_polls : new.owes_block ≡ true
+    text_polls = elim (none_or_some (own_end_of old foreign bytes)) [
+      | inl none ↦ judged (refusal (balance_of First h) (outstanding_of First h) sent) refl none
+      | inr own ↦
+          let o = own_so foreign (volume_named old bytes) bytes own.0 own.1 in
+          absurd (none_taken (ap (λ x. is_none x && is_ok (answered_to old bytes)) o.1))
+    ]
+
+  read_polls : (number : ℕ) → TakesPoll number (WasRead bytes (Ok done)) old
+      → (new.owes_block ≡ true) × IsReadingText old.task
+  read_polls number takes = by old.task refl
+    where
+      by : (t : Task) → old.task ≡ t → (new.owes_block ≡ true) × IsReadingText old.task
+      by (tasks.Text slot size foreign) at = (
+        text_polls slot size foreign at takes.0 takes.1 takes.2,
+        subst (λ x. IsReadingText x) (sym at) tt,
+      )
+      by t at = absurd (search (
+        arith,
+        sym (ap (λ x. cond (is_taken_text old bytes x) (bytes ∷ []) []) at) ∙ takes.0,
+      ))
+
+  alive_read : is_dead old.stage ≡ false
+  alive_read = by old.stage refl
+    where
+      by : (s : Stage) → old.stage ≡ s → is_dead old.stage ≡ false
+      by (stages.Dead code) at = absurd (search (arith, r.dead code at))
+      by s at = ap is_dead at
+
+-- behind a poll a block is owed, and no message is looked for at once; before it a text was read by a port that lives
+record Polls {K : Type 0} (old new : Port K) : Type 0 where
+  owes : new.owes_block ≡ true
+  hears : IsHearing old.task
+  quiet : IsHearing new.task → ⊥
+  lives : is_dead old.stage ≡ false
+
+polls_so : {K : Type 0} (picks : Picking K) (call : Call) (old new : Port K) (number : ℕ) → TakesPoll number call old
+    → Becomes picks call old new → Polls old new
+polls_so picks (WasRead bytes (Ok done)) old new number takes r =
+    let x = read_polls bytes done old new r number takes in
+    record {
+      owes = x.0;
+      hears = hearing old.task x.1;
+      quiet = text_quiet bytes done old new r x.1;
+      lives = alive_read bytes done old new r;
+    }
+  where
+    hearing : (t : Task) → IsReadingText t → IsHearing t
+    hearing (tasks.Text slot size foreign) is = tt
+    hearing t is = absurd is
+polls_so picks call old new number takes r = absurd takes
+
+-- ---- a history
+
+tells_or_not : {K : Type 0} (call : Call) (old : Port K) → TellsStep call old ⊎ (TellsStep call old → ⊥)
+tells_or_not (Went outcome (Ok done)) old = by old.task
+  where
+    by : (t : Task) → IsStepping t ⊎ (IsStepping t → ⊥)
+    by (tasks.Step verdict) = inl tt
+    by tasks.Transfer = inl tt
+    by t = inr (λ h. h)
+tells_or_not call old = inr (λ h. h)
+
+is_reset : (call : Call) → (call ≡ WriteIp) ⊎ (call ≢ WriteIp)
+is_reset WriteIp = inl refl
+is_reset call = inr (λ e. search (arith, e))
+
+module _ {K : Type 0} (picks : Picking K) (start : Port K) where
+  since_reset : (p : Port K) (call : Call) (calls : List Call) (a : Answered picks start (call ∷ calls) p) (number : ℕ)
+      → call ≡ WriteIp → IsServedSince picks start p (call ∷ calls) a number
+  since_reset p WriteIp calls a number e = tt
+  since_reset p call calls a number e = search (arith, e)
+
+  since_call : (p : Port K) (call : Call) (calls : List Call) (a : Answered picks start (call ∷ calls) p) (number : ℕ)
+      → TellsStep call a.0 ⊎ ((TakesPoll number call a.0 → ⊥) × IsServedSince picks start a.0 calls a.1 number)
+      → IsServedSince picks start p (call ∷ calls) a number
+  since_call p WriteIp calls a number s = tt
+  since_call p call calls a number s = s
+
+  -- where no block is owed, no poll was taken since the last step
+  served : (p : Port K) (calls : List Call) (a : Answered picks start calls p) (number : ℕ) → is_dead p.stage ≡ false
+      → p.owes_block ≡ false → IsServedSince picks start p calls a number
+  served p [] a number lives none = tt
+  served p (call ∷ calls) a number lives none = elim (is_reset call) [
+    | inl e ↦ since_reset p call calls a number e
+    | inr never ↦ since_call p call calls a number (elim (tells_or_not call a.0) [
+      | inl tells ↦ inl tells
+      | inr quiet ↦ inr (
+        λ takes. false≢true (sym none ∙ (polls_so picks call a.0 p number takes a.2).owes),
+        served a.0 calls a.1 number (lived picks a.0 p call never a.2 lives) (not_before never quiet),
+      )
+    ])
+  ]
+    where
+      not_before : call ≢ WriteIp → (TellsStep call a.0 → ⊥) → a.0.owes_block ≡ false
+      not_before never quiet = by a.0.owes_block refl
+        where
+          by : (b : Bool) → a.0.owes_block ≡ b → b ≡ false
+          by true e = absurd (false≢true (sym none ∙ owes_on picks a.0 p lives e call never quiet a.2))
+          by false e = refl
+
+  module _ (hardware : Hardware) (credits : ℕ) (controller : Holdings K)
+      (made : IsMadeOf hardware credits controller start) where
+    -- where a message is looked for nothing waits, or since each poll a step was told
+    abbrev IsFair : (p : Port K) (calls : List Call) → Answered picks start calls p → Type 0
+    IsFair p calls a = IsHearing p.task
+        → (p.controller.waiting ≡ []) ⊎ ((number : ℕ) → IsServedSince picks start p calls a number)
+
+    next_fair : (p : Port K) (blocks : Bool) (action : Action) (bytes : List ℕ) (calls : List Call)
+        (a : Answered picks start (Next blocks action bytes ∷ calls) p)
+        → (blocks ≡ true) ⊎ ((number : ℕ) → IsServedSince picks start a.0 calls a.1 number) → IsFair a.0 calls a.1
+        → IsFair p (Next blocks action bytes ∷ calls) a
+    next_fair p blocks action bytes calls a asks fair hears = elim asks [
+      | inr served_so ↦ inr (λ number. inr ((λ t. t), served_so number))
+      | inl all ↦ elim (wants_hears (picks a.0.controller.picker) action a.0 p
+          (subst (λ b. Wants (picks a.0.controller.picker) b a.0 action p) all a.2.0) hears) [
+            | inl same ↦ elim (fair (subst (λ (q : Port K). IsHearing q.task) same hears)) [
+              | inl none ↦ inl (ap (λ (q : Port K). q.controller.waiting) same ∙ none)
+              | inr s ↦ inr (λ number. inr ((λ t. t), s number))
+            ]
+            | inr x ↦ by p.owes_block refl x
+          ]
+    ]
+      where
+        by : (b : Bool) → p.owes_block ≡ b
+            → (is_dead p.stage ≡ false) × (p.owes_block ≡ true → p.controller.waiting ≡ [])
+            → (p.controller.waiting ≡ []) ⊎ ((number : ℕ)
+            → IsServedSince picks start p (Next blocks action bytes ∷ calls) a number)
+        by true e x = inl (x.1 e)
+        by false e x = inr (λ number. served p (Next blocks action bytes ∷ calls) a number x.0 e)
+
+    call_fair : (p : Port K) (call : Call) (calls : List Call) (a : Answered picks start (call ∷ calls) p)
+        → IsNoNext call → IsFair a.0 calls a.1 → IsFair p (call ∷ calls) a
+    call_fair p call calls a none fair hears =
+        let k = reads_on picks a.0 p call none a.2 hears in
+        elim (fair k.hears) [
+          | inl waits ↦ inl (ap (λ (h : Holdings K). h.waiting) k.controller ∙ waits)
+          | inr s ↦ inr (λ number. since_call p call calls a number
+              (inr ((λ takes. (polls_so picks call a.0 p number takes a.2).quiet hears), s number)))
+        ]
+
+    fair : (p : Port K) (calls : List Call) (a : Answered picks start calls p) → AsksBehindPolls picks start p calls a
+        → IsFair p calls a
+    fair p [] a asks = λ hears.
+        absurd (subst (λ x. IsHearing x) (ap (λ (q : Port K). q.task) a ∙ made.free) hears)
+    fair p (Next blocks action bytes ∷ calls) a asks =
+        next_fair p blocks action bytes calls a asks.0 (fair a.0 calls a.1 asks.1)
+    fair p (call ∷ calls) a asks = call_fair p call calls a tt (fair a.0 calls a.1 asks)
+
+    asks_before : (p : Port K) (call : Call) (calls : List Call) (a : Answered picks start (call ∷ calls) p)
+        → AsksBehindPolls picks start p (call ∷ calls) a → AsksBehindPolls picks start a.0 calls a.1
+    asks_before p (Next blocks action bytes) calls a asks = asks.1
+    asks_before p call calls a asks = asks
+
+    pub serves_behind : (p : Port K) (calls : List Call) (a : Answered picks start calls p)
+        → AsksBehindPolls picks start p calls a → ServesBetweenPolls picks start p calls a
+    serves_behind p [] a asks = tt
+    serves_behind p (call ∷ calls) a asks =
+        (here (asks_before p call calls a asks), serves_behind a.0 calls a.1 (asks_before p call calls a asks))
+      where
+        here : AsksBehindPolls picks start a.0 calls a.1 → (number : ℕ) → TakesPoll number call a.0
+            → 1 ≤ figure_on a.0 number → IsServedSince picks start a.0 calls a.1 number
+        here old number takes low =
+            elim (fair a.0 calls a.1 old (polls_so picks call a.0 p number takes a.2).hears) [
+              | inl none ↦ absurd (search (
+                arith,
+                subst (λ (rs : List Record). 1
+                    ≤ figure_of_name a.0.controller.settings.budget rs (name_on First number)) none low,
+              ))
+              | inr s ↦ s number
+            ]
+
+    -- who always asks for blocks does so
+    always_asks : (p : Port K) (calls : List Call) (a : Answered picks start calls p) → AsksForBlocks calls
+        → AsksBehindPolls picks start p calls a
+    always_asks p [] a asks = tt
+    always_asks p (Next blocks action bytes ∷ calls) a asks = (inl asks.0, always_asks a.0 calls a.1 asks.1)
+    always_asks p (call ∷ calls) a asks = always_asks a.0 calls a.1 asks
+
+    pub serves_between : (p : Port K) (calls : List Call) → AsksForBlocks calls → (a : Answered picks start calls p)
+        → ServesBetweenPolls picks start p calls a
+    serves_between p calls asks a = serves_behind p calls a (always_asks p calls a asks)
