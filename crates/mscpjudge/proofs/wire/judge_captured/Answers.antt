@@ -11,6 +11,7 @@ returns-clause-told g c =
         k.came,
         k.comes,
         c.wire_outcome.ensures ∙ k.outcome,
-        rw (c.deref-3.ensures.value, c.in_ok-text.ensures, c.deref-2.ensures.value, k.text) at (c.in_ok-write_all.ensures.bytes),
+        rw (c.deref-3.ensures.value, c.in_ok-text.ensures, c.deref-2.ensures.value, k.text) at
+            (c.in_ok-write_all.ensures.bytes),
       ),
     )
