@@ -219,7 +219,7 @@ endcodes() {
     done
 }
 
-# What the judge calls an opcode that no controller may leave out.
+# What the judge calls an opcode.
 opcode_named() {
     case $1 in
         1) echo ABORT ;;
@@ -231,6 +231,10 @@ opcode_named() {
         10) echo SET UNIT CHARACTERISTICS ;;
         33) echo READ ;;
         34) echo WRITE ;;
+        11) echo DETERMINE ACCESS PATHS ;;
+        17) echo COMPARE CONTROLLER DATA ;;
+        19) echo FLUSH ;;
+        20) echo REPLACE ;;
     esac
 }
 
@@ -251,7 +255,7 @@ short_messages() {
         wire_breaks 'controller: status' 'ABORT 1 of unit 0' "send $(packet 15 1 0 1 0)" "$(aborted 1 0 0)" &&
         wire_breaks 'controller: status' 'SET CONTROLLER CHARACTERISTICS 1 of unit 0' "send $(packet 13 1 0 4 0)" \
             "end $(packet 28 1 0 132 0)" &&
-        wire_breaks 'controller: status' 'command of an unknown opcode 1 of unit 0' "send $(packet 31 1 0 20 0)" \
+        wire_breaks 'controller: status' 'REPLACE 1 of unit 0' "send $(packet 31 1 0 20 0)" \
             "end $(packet 12 1 0 148 0)" &&
         wire_is_right '2 1 0 1 0' '' "send $(packet 32 1 0 20 0)" "end $(packet 12 1 0 148 0)" &&
         wire_is_right '2 1 0 1 0' '' "send $(packet 31 1 0 33 0)" "$(moved 1 1 0)" &&
@@ -292,7 +296,7 @@ orders() {
 orders_of_others() {
     local opcode
     for opcode in 11 17 19 20; do
-        wire_breaks 'controller: order' "command of an unknown opcode 2 of unit 0" "$(online 1)" \
+        wire_breaks 'controller: order' "$(opcode_named "$opcode") 2 of unit 0" "$(online 1)" \
             "send $(packet 32 2 0 "$opcode" 0)" "end $(packet 32 2 0 $((opcode + 128)) 0)" &&
             wire_breaks 'controller: order' 'AVAILABLE 2 of unit 0' "send $(packet 32 1 0 "$opcode" 0)" "$(available 2)" \
                 "$(availed 2 0)" &&
@@ -435,7 +439,7 @@ byte_counts() {
 
 # Those of a COMPARE CONTROLLER DATA are counted if its end tells a number.
 compared_bytes() {
-    local send end who='command of an unknown opcode 1 of unit 0'
+    local send end who='COMPARE CONTROLLER DATA 1 of unit 0'
     send="send $(packet 32 1 0 17 0 1024)"
     wire_breaks 'controller: byte count' "$who" "$send" "end $(packet 32 1 0 145 0 512)" &&
         wire_breaks 'controller: byte count' "$who" "$send" "end $(packet 16 1 0 145 7 1025)" || return

@@ -15,11 +15,16 @@ opcode_name opcode =
     if nat_eq opcode 8 then codes "AVAILABLE" else (
     if nat_eq opcode 9 then codes "ONLINE" else (
     if nat_eq opcode 10 then codes "SET UNIT CHARACTERISTICS" else (
+    if nat_eq opcode 11 then codes "DETERMINE ACCESS PATHS" else (
     if nat_eq opcode 16 then codes "ACCESS" else (
+    if nat_eq opcode 17 then codes "COMPARE CONTROLLER DATA" else (
     if nat_eq opcode 18 then codes "ERASE" else (
+    if nat_eq opcode 19 then codes "FLUSH" else (
+    if nat_eq opcode 20 then codes "REPLACE" else (
     if nat_eq opcode 32 then codes "COMPARE HOST DATA" else (
     if nat_eq opcode 33 then codes "READ" else (
-    if nat_eq opcode 34 then codes "WRITE" else codes "command of an unknown opcode")))))))))))
+    if nat_eq opcode 34 then codes "WRITE" else (
+    if nat_eq opcode 47 then codes "FORMAT" else codes "command of an unknown opcode"))))))))))))))))
 
 -- what a status of a code is called (manual, "Status and Event Codes")
 abbrev pub status_name : ℕ → List ℕ

@@ -29,11 +29,16 @@ pub fn opcode_name(opcode: u8) -> &'static str
         8 => "AVAILABLE",
         9 => "ONLINE",
         10 => "SET UNIT CHARACTERISTICS",
+        11 => "DETERMINE ACCESS PATHS",
         16 => "ACCESS",
+        17 => "COMPARE CONTROLLER DATA",
         18 => "ERASE",
+        19 => "FLUSH",
+        20 => "REPLACE",
         32 => "COMPARE HOST DATA",
         33 => "READ",
         34 => "WRITE",
+        47 => "FORMAT",
         _ => "command of an unknown opcode",
     }
 }
