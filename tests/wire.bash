@@ -714,6 +714,34 @@ unit_states() {
             "$(reading 2)" "$(moved 2 0 1024)"
 }
 
+# A GET UNIT STATUS may be answered at any moment between its message and its end: beside an ONLINE or an AVAILABLE of its
+# unit it may tell what was before that or after it, and tells nothing of what comes behind.
+unit_states_meanwhile() {
+    local up=("$(online 1 5)" "$(tells_online 1 0 3 4 800)") read=("$(reading 9 5)" "$(moved 9 0 1024 5)")
+    local asks=$(unit_status 3 5 0) there away gone=("$(available 4 5)" "end $(packet 12 4 5 136 0)")
+    there=$(tells_status 3 0 3 4 0) away=$(tells_status 3 4 0 0 0)
+    wire_is_right '5 2 0 2 1' '' reset "${up[0]}" "$asks" "$there" "${up[1]}" &&
+        wire_is_right '7 3 0 3 1' '' reset "${up[0]}" "$asks" "${up[1]}" "$away" "${read[@]}" &&
+        wire_is_right '7 3 0 3 1' '' reset "$asks" "${up[@]}" "$away" "${read[@]}" &&
+        wire_is_right '6 3 0 3 0' '' "${up[@]}" "$asks" "${gone[@]}" "$there" &&
+        wire_is_right '6 3 0 3 0' '' "${up[@]}" "${gone[0]}" "$asks" "${gone[1]}" "$there" &&
+        wire_is_right '8 4 0 4 0' '' "${up[@]}" "${read[0]}" "${gone[0]}" "$asks" "$away" "${read[1]}" "${gone[1]}" &&
+        wire_is_right '8 4 0 4 0' '' "${up[@]}" "$asks" "${gone[@]}" "$(online 6 5)" "$(tells_online 6 0 9 9 9)" "$there" &&
+        wire_breaks 'controller: state' 'GET UNIT STATUS 3 of unit 5' reset "${up[@]}" "${gone[@]}" "$asks" "$there" &&
+        wire_breaks 'controller: state' 'READ 9 of unit 5' "${up[@]}" "$asks" "$away" "${read[@]}" || return
+    # Of another unit, of the other host, by another command, and beside a GET UNIT STATUS that came later.
+    wire_breaks 'controller: state' 'GET UNIT STATUS 3 of unit 5' reset "$(online 1 6)" "$asks" "$there" &&
+        wire_breaks 'controller: state' 'GET UNIT STATUS 3 of unit 5' reset "second ${gone[0]}" "$asks" "$there" &&
+        wire_breaks 'controller: state' 'GET UNIT STATUS 3 of unit 5' reset "send $(packet 36 2 5 10 0)" "$asks" "$there" &&
+        wire_breaks 'controller: state' 'GET UNIT STATUS 7 of unit 5' reset "$asks" "${gone[@]}" "$(unit_status 7 5 0)" \
+            "${there/03000000/07000000}" || return
+    # One of the next unit is beside what its end names, or what ended meanwhile.
+    wire_is_right '4 2 0 1 1' 'outstanding: ONLINE 1 of unit 5' reset "$(unit_status 3 2 1)" "${up[0]}" "$there" &&
+        wire_is_right '5 2 0 2 1' '' reset "$(unit_status 3 2 1)" "${gone[@]}" "$there" &&
+        wire_breaks 'controller: state' 'GET UNIT STATUS 3 of unit 2' reset "$(online 1 6)" "$(unit_status 3 2 1)" "$there" &&
+        wire_breaks 'controller: state' 'GET UNIT STATUS 3 of unit 2' reset "${gone[@]}" "$(unit_status 3 2 1)" "$there"
+}
+
 # If the other host brings the unit online, its end may be told late.
 units_of_two_hosts() {
     local read=("second $(reading 9 5)" "second $(moved 9 0 1024 5)")

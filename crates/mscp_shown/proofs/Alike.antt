@@ -1,6 +1,6 @@
 -- Lists of outstanding commands that differ only in times, in what was told of them, and in what polls ask, keep the
 -- same rules.
-use Rattle.std.proofs.Common.{◌≡◌, ℕ, zero, suc, ◌+◌, Bool, cond, not, ◌||◌, List, [], ◌∷◌, length, get_or, take, drop, refl, ap, sym, ◌∙◌, Some, None}
+use Rattle.std.proofs.Common.{◌≡◌, ℕ, zero, suc, ◌+◌, Bool, false, cond, not, ◌||◌, List, [], ◌∷◌, length, get_or, take, drop, refl, ap, sym, ◌∙◌, Some, None}
 use Rattle.std.specs.Prelude.{count_by, nat_lt}
 use Rattle.std.specs.List.{list_any, position}
 use Rattle.std.proofs.lemmas.List.Sums.{sum_by-cons}
@@ -8,9 +8,9 @@ use Rattle.std.specs.List.{position_or_len}
 use Rattle.mscp_wire.specs.declared.sent.Asked.TheVariants.{Nothing}
 use Rattle.mscp_wire.specs.declared.sent.Sent.{Sent}
 
--- a command, without what was told of it, what it asks, and times
+-- a command, without what was told of it, what it asks, what ended beside it, and times
 abbrev pub bare : Sent → Sent
-bare s = record s { time = None; told = None; polled = None; asked = Nothing }
+bare s = record s { time = None; told = None; polled = None; asked = Nothing; beside = false }
 
 abbrev pub Alike : List Sent → List Sent → Type 0
 Alike [] [] = Unit {0}

@@ -333,7 +333,7 @@ module _ (c : Settings) (t : Trace) (own : Connection) (b : ArrayVec ℕ) (known
       (subst (λ o. Heard c (t ++ taking ∷ []) (after_end xs a o)) (sym at)
       (heard_took c own t taking xs a i e rest took.is at refl number asks figure h.orders.single h.tallied h.heard left
       refl (λ via. refl) (λ via. refl) (λ via. known.room.taken via)))
-      (λ via. tt) (told_more c (shown t) a h.units told)
+      (λ via. tt) (told_more c (shown t) a (wire.settles (wire.outstanding (shown t)) a) h.units told)
     where
       by_side : (via : Connection) (passes : Bool)
           → one_if (wire.same_connection own via && passes) ≡ cond (same_connection own via) (one_if passes) 0

@@ -252,11 +252,12 @@ AreTold c h =
     (via : Connection) (unit : ℕ) (i : Identity) → (told h via unit).identity ≡ Some i → IsOf (unit_shape c unit) i
 
 -- an end of a unit keeps that
-pub told_more : (c : Settings) (h : History) (a : Answer) → AreTold c h → IsTold c a → (via : Connection) (unit : ℕ)
-    (i : Identity) → (told_after_end via unit (told h via unit) a).identity ≡ Some i → IsOf (unit_shape c unit) i
-told_more c h a known is via unit i =
+pub told_more : (c : Settings) (h : History) (a : Answer) (settled : Bool) → AreTold c h → IsTold c a → (via : Connection)
+    (unit : ℕ) (i : Identity) → (told_after_end via unit settled (told h via unit) a).identity ≡ Some i
+    → IsOf (unit_shape c unit) i
+told_more c h a settled known is via unit i =
     let t = told h via unit in
-    by_cases (nat_eq a.unit unit) (leaves a) (brings a) (learns t a) (same_connection a.connection via)
+    by_cases (nat_eq a.unit unit) (leaves a) (brings a) (learns t a) (same_connection a.connection via && settled)
     (was_online a) t a.identity
     (not (leaves a) && (brings a || t.sure || (learns t a && nat_eq a.code 0x83)))
     (if says_away a then turned t.state Away else (if brings a then turned t.state Open else t.state))

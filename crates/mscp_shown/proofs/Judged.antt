@@ -16,13 +16,15 @@ use Rattle.mscp_wire.specs.declared.sent.Asked.{Asked}
 use Rattle.mscp_wire.specs.declared.sent.Asked.TheVariants.{Gone, Nothing, Oldest}
 use Rattle.mscp_wire.specs.declared.sent.Sent.{Sent}
 use Rattle.mscp_wire.specs.declared.told.Seen.{Seen}
+use Rattle.mscp_wire.specs.declared.told.Told.{Told}
+use Rattle.mscp_drive.specs.declared.connection.Connection.{Connection}
 use Rattle.mscp_shown.proofs.Alike.{Alike, alike_any, alike_at, alike_count, alike_drop, alike_position, alike_take, bare}
 use Rattle.mscp_shown.proofs.Lenient.{Falls, apart_at, apart_from, falls_found, falls_one, hears_bare, linked_end, named_turned, pairs_take}
 use Rattle.mscp_shown.proofs.Linking.{Alone, AsksOf, IsLow, Linked, asks_at, below_lower, linked_alike, linked_sent, nobody}
 use Rattle.mscp_shown.proofs.Pairing.{pairs_out}
 use Rattle.mscp_shown.proofs.Shown.{placed}
 use Rattle.mscp_shown.proofs.Strict as strict
-use Rattle.mscp_shown.proofs.Strict.{IsRightMessage, hears, may_tell}
+use Rattle.mscp_shown.proofs.Strict.{IsRightMessage, hears, may_tell, seen_of}
 
 -- ---- lists
 every_none : (q : Sent → Bool) (xs : List Sent) → list_any q xs ≡ false → AllByRecursion (λ x. q x ≡ false) xs
@@ -270,9 +272,26 @@ module _ (xs ys : List Sent) (h : State xs ys) (u : Seen) (b : List ℕ) (e : An
       (alike_take i xs ys both)))
       ∙ (ap (λ s. wire.passes_none (take i xs) s e) (sym same) ∙ r.order)
 
-  end_right : wire.suits_state u.unit.state e ≡ true → wire.fits u.controller e.controller ≡ true
-      → wire.unless (wire.is_long b) rules.Length (wire.broken_at ys u e (place_of ys e)) ≡ None
-  end_right stated known =
+  end_right : (settled : Bool) → wire.suits_state u.unit.state e ≡ true → wire.fits u.controller e.controller ≡ true
+      → wire.unless (wire.is_long b) rules.Length
+      (wire.broken_at ys (record { unit = if settled then u.unit else wire.told_nothing; controller = u.controller }) e
+      (place_of ys e)) ≡ None
+  end_right false stated known =
+      rw (
+        place_same,
+        r.length,
+        ap (λ s. wire.names_unit s e) (sym same) ∙ r.unit,
+        ap (λ s. wire.has_endcode s e) (sym same) ∙ r.endcode,
+        ap (λ s. wire.has_status s e) (sym same) ∙ r.status,
+        aborted_right,
+        order_right,
+        ap (λ s. wire.succeeds e (wire.other_of s e)) (sym same) ∙ r.success,
+        ap (λ s. wire.is_about e (wire.other_of s e)) (sym same) ∙ r.about,
+        ap (wire.has_figure (drop (i + 1) ys) y e) asks ∙ figure_right p refl r.figure,
+        ap (λ s. wire.has_count e (wire.count_of s e)) (sym same) ∙ r.count,
+        known,
+      ) refl
+  end_right true stated known =
       rw (
         place_same,
         r.length,
@@ -291,22 +310,25 @@ module _ (xs ys : List Sent) (h : State xs ys) (u : Seen) (b : List ℕ) (e : An
       ) refl
 
 -- ---- a moment
-step : (credits timeout : Option ℕ) (xs ys : List Sent) (u : Seen) (m : Moment) → State xs ys
-    → strict.IsRightAfter credits xs u m → strict.IsStated u m
-    → (wire.broken credits ys u m ≡ None) × State (strict.after xs m) (wire.after timeout ys m)
-step credits timeout xs ys u (moments.Message via b time) h r stated = (
+step : (credits timeout : Option ℕ) (xs ys : List Sent) (units : Connection → ℕ → Told) (known : Option ℕ) (m : Moment)
+    → State xs ys → strict.IsRightAfter credits xs (seen_of units known m) m
+    → strict.IsStated (seen_of units known m) m
+    → (wire.broken credits ys (wire.seen_of ys units known m) m ≡ None)
+    × State (strict.after xs m) (wire.after timeout ys m)
+step credits timeout xs ys units known (moments.Message via b time) h r stated = (
   sent_right credits xs ys h b.items (sent_by via b.items) r,
   sent_kept credits xs ys h timeout time b.items (sent_by via b.items) r,
 )
-step credits timeout xs ys u (moments.End via b) h r stated =
+step credits timeout xs ys units known (moments.End via b) h r stated =
     let e = answer_by via b.items in
+    let u = seen_of units known (moments.End via b) in
     let found = place_same xs ys h u b.items e r.0 r.1 in (
-      end_right xs ys h u b.items e r.0 r.1 stated.0 stated.1,
+      end_right xs ys h u b.items e r.0 r.1 (wire.settles ys e) stated.0 stated.1,
       subst (λ o. State (strict.after_end xs e o) (wire.after_end ys e (place_of ys e))) (sym r.1.outstanding)
           (subst (λ o. State (strict.after_end xs e (Some r.0)) (wire.after_end ys e o)) (sym found)
           (end_kept xs ys h u b.items e r.0 r.1)),
     )
-step credits timeout xs ys u moments.Reset h r stated = (refl, record { link = tt; alone = tt })
+step credits timeout xs ys units known moments.Reset h r stated = (refl, record { link = tt; alone = tt })
 
 states : (credits : Option ℕ) (h : History) → strict.AreRight credits h → strict.AreStated h → (n : ℕ) → n ≤ length h
     → State (strict.outstanding (take n h)) (wire.outstanding (take n h))
@@ -316,7 +338,7 @@ states credits h r d (suc n) l =
     let before = take n h in
     let m = moment_at h n in
     let more = (step credits (wire.timeout before) (strict.outstanding before) (wire.outstanding before)
-    (wire.seen_of (wire.told before) (wire.controller before) m)
+    (wire.told before) (wire.controller before)
     m (states credits h r d n (omega (arith, l))) (r n low) (d n low)).1 in
     subst (λ t. State (strict.outstanding t) (wire.outstanding t)) (sym (more_taken h n low))
     (subst (λ xs. State xs (wire.outstanding (before ++ m ∷ []))) (sym (fold_push strict.after [] before m))
@@ -328,6 +350,6 @@ pub lenient : (credits : Option ℕ) (h : History) → strict.AreRight credits h
 lenient credits h r d i l =
     let before = take i h in
     (step credits (wire.timeout before) (strict.outstanding before) (wire.outstanding before)
-    (wire.seen_of (wire.told before) (wire.controller before) (moment_at h i)) (moment_at h i)
+    (wire.told before) (wire.controller before) (moment_at h i)
     (states credits h r d i (omega (arith, l)))
     (r i l) (d i l)).0

@@ -11,7 +11,8 @@ use Rattle.mscp_wire.specs.declared.moment.Moment.TheVariants as moments
 use Rattle.mscp_shown.proofs.Strict as strict
 use Rattle.mscp_shown.proofs.Strict.{AreRight, after, after_end, outstanding}
 use Rattle.mscp_shown.proofs.Messages.{HasRoom}
-use Rattle.mscp_wire.specs.Wire.{told, told_after, told_nothing}
+use Rattle.mscp_wire.specs.Wire.{told, told_after}
+use Rattle.mscp_wire.proofs.Passing.{told_push}
 use Rattle.mscp_wire.specs.declared.identity.Identity.{Identity}
 use Rattle.mscp_wire.specs.declared.told.Told.{Told}
 use Rattle.std.proofs.lemmas.List.Sums.{fold_push}
@@ -118,7 +119,7 @@ module _ (c : Settings) (t : Trace) (m : Moment) (h : Inv c t) where
       → Heard c (t ++ m ∷ []) (after (outstanding (shown t)) w)
       → ((via : Connection) → AllByRecursion (IsFit c) (ends_at c via t m))
       → ((via : Connection) (unit : ℕ) (i : Identity)
-      → (told_after via unit (told (shown t) via unit) w).identity ≡ Some i → IsOf (unit_shape c unit) i)
+      → (told_after (wire.outstanding (shown t)) via unit (told (shown t) via unit) w).identity ≡ Some i → IsOf (unit_shape c unit) i)
       → More c t m
   shows_one w e same right owners orders heard fit units =
       let is : shown (t ++ m ∷ []) ≡ shown t ++ w ∷ [] = shown_more t m ∙ ap (λ l. shown t ++ l) e in
@@ -132,7 +133,7 @@ module _ (c : Settings) (t : Trace) (m : Moment) (h : Inv c t) where
         fit = fit;
         units = subst (AreTold c) (sym is)
             (λ via unit i k. units via unit i
-            (ap (λ (z : Told). z.identity) (sym (fold_push (told_after via unit) told_nothing (shown t) w)) ∙ k));
+            (ap (λ (z : Told). z.identity) (sym (told_push (shown t) w via unit)) ∙ k));
         kept = λ credits covers. subst (AreRight credits) (sym is)
             (kept_more credits (shown t) w (h.kept credits covers) (right credits covers));
       }

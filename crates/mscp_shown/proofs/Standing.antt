@@ -10,7 +10,7 @@ use Rattle.mscp_packet.specs.Number.{num}
 use Rattle.mscp_packet.specs.declared.command.Order.{Order}
 use Rattle.mscp_packet.specs.declared.command.Order.TheVariants as orders
 use Rattle.mscp_wire.specs.Wire as wire
-use Rattle.mscp_wire.specs.Wire.{History, answer_by, sent_by, shares, suits_state, told, told_after, told_after_end, told_after_message, seen_of, controller as controller_of, controller_after}
+use Rattle.mscp_wire.specs.Wire.{History, answer_by, sent_by, shares, suits_state, told, told_after, told_after_end, told_after_message, controller as controller_of, controller_after}
 use Rattle.mscp_wire.specs.declared.moment.Moment.{Moment as Wired}
 use Rattle.mscp_wire.specs.declared.moment.Moment.TheVariants as moments
 use Rattle.mscp_wire.specs.declared.told.State.TheVariants.{Shared}
@@ -21,8 +21,9 @@ use Rattle.mscp_shown.proofs.Identity.{own_identifier}
 use Rattle.mscp_shown.proofs.Kept.{same_sides}
 use Rattle.mscp_shown.proofs.Saying.{Says, sent_says}
 use Rattle.mscp_shown.proofs.Shown.{shown_more}
-use Rattle.mscp_shown.proofs.Stating.{IsShared, Stated, message_state, shared_message, shared_stated, stated_append, told_push}
-use Rattle.mscp_shown.proofs.Strict.{AreStated, IsStated}
+use Rattle.mscp_shown.proofs.Stating.{IsShared, Stated, message_state, shared_message, shared_stated, stated_append}
+use Rattle.mscp_wire.proofs.Passing.{told_push}
+use Rattle.mscp_shown.proofs.Strict.{AreStated, IsStated, seen_of}
 
 -- the command of a moment is no ONLINE, or its unit is shared to the other host
 abbrev pub Shares : History → Moment → Type 0

@@ -1,5 +1,5 @@
 -- What hosts are told of the states of units suits what the ends that they haven't taken yet say.
-use Rattle.mscp_controller.proofs.Basics.{◌≡◌, ◌||◌, ◌&&◌, ◌⊎◌, inl, ⊎_elim, ℕ, Bool, true, false, not, List, [], ◌∷◌, ◌++◌, refl, ap, sym, ◌∙◌, subst, append-nil, append_assoc, arith, if◌then◌else◌, nat_eq, None, AllByRecursion, true≢false, false≢true, Connection, End, Settings, unit, end_bytes, same_connection, own_side}
+use Rattle.mscp_controller.proofs.Basics.{◌≡◌, ◌||◌, ◌&&◌, ◌⊎◌, inl, ⊎_elim, ℕ, Bool, true, false, not, List, [], ◌∷◌, ◌++◌, refl, ap, sym, ◌∙◌, subst, append-nil, append_assoc, arith, if◌then◌else◌, nat_eq, None, AllByRecursion, eqb-true, true≢false, false≢true, Connection, End, Settings, unit, end_bytes, same_connection, own_side}
 use Rattle.std.proofs.Common.{inr}
 use Rattle.std.proofs.lemmas.List.Sums.{fold_push}
 use Rattle.mscp_wire.specs.Wire as wire
@@ -59,6 +59,40 @@ pub stated_change : (unit : ℕ) (old new : Bool) (s : State) (es : List End) �
     → Stated unit old s es → Stated unit new s es
 stated_change unit old new s [] f h = λ e. f (h e)
 stated_change unit old new s (e ∷ es) f h = (h.0, stated_change unit old new (state_then unit s e) es f h.1)
+
+-- of a GET UNIT STATUS (0x83) that isn't settled nothing is told: what is asked then is no more
+opened : (unit : ℕ) (online : Bool) (es : List End) → Stated unit online Away es → Stated unit online Open es
+opened unit online [] h = λ e. cc
+opened unit online (e ∷ es) h = (
+  λ q. refl,
+  by_bools (nat_eq e.unit unit) (away_of e.code e.status) (brings_of e.code e.status) h.1,
+)
+  where
+    by_bools : (here away on : Bool)
+        → Stated unit online (if here then (if away then turned Away Away else (if on then turned Away Open else Away))
+        else Away) es
+        → Stated unit online (if here then (if away then turned Open Away else (if on then turned Open Open else Open))
+        else Open) es
+    by_bools false away on k = opened unit online es k
+    by_bools true true on k = k
+    by_bools true false true k = k
+    by_bools true false false k = opened unit online es k
+
+pub stated_unsettled : (unit : ℕ) (online : Bool) (s : State) (e : End) (es : List End) → nat_eq e.code 0x83 ≡ true
+    → Stated unit online (state_then unit s e) es → Stated unit online s es
+stated_unsettled unit online s e es code h =
+    by_bools (nat_eq e.unit unit) (away_of e.code e.status) (brings_of e.code e.status)
+    (ap (λ n. brings_of n e.status) (eqb-true e.code 0x83 code)) s h
+  where
+    by_bools : (here away on : Bool) → on ≡ false → (s : State)
+        → Stated unit online (if here then (if away then turned s Away else (if on then turned s Open else s)) else s) es
+        → Stated unit online s es
+    by_bools false away on none s k = k
+    by_bools true true on none Shared k = k
+    by_bools true true on none Away k = k
+    by_bools true true on none Open k = opened unit online es k
+    by_bools true false true none s k = absurd (true≢false none)
+    by_bools true false false none s k = k
 
 -- one end more
 last_fits : (old new : Bool) (s : State) (code status : ℕ) → Effects old new code status → (s ≡ Away → old ≡ false)
@@ -129,7 +163,7 @@ module _ (c : Settings) (own : Connection) (e : End) (fit : IsFit c e) where
       ap (λ k. own_state s k a.status) r.code ∙ ap (own_state s e.code) r.status
 
   -- of its own host's unit
-  pub state_read : (unit : ℕ) (t : Told) → (told_after_end own unit t a).state ≡ state_then unit t.state e
+  pub state_read : (unit : ℕ) (t : Told) → (told_after_end own unit true t a).state ≡ state_then unit t.state e
   state_read unit t =
       let r = reads c own e fit in
       by_side (nat_eq a.unit unit) (wire.same_connection own own) (same_sides own own ∙ own_side own)
@@ -137,17 +171,17 @@ module _ (c : Settings) (own : Connection) (e : End) (fit : IsFit c e) where
       ∙ ap (λ s. if nat_eq e.unit unit then s else t.state) (own_read t.state))
     where
       by_side : (b s : Bool) → s ≡ true
-          → (if not b then t else (if s then after_own t a else after_other t a)).state
+          → (if not b then t else (if s && true then after_own t a else after_other t a)).state
           ≡ (if b then (after_own t a).state else t.state)
       by_side true true h = refl
       by_side false true h = refl
       by_side b false h = absurd (false≢true h)
 
-  -- and of the other's
-  pub state_other : (via : Connection) (unit : ℕ) (t : Told) → same_connection own via ≡ false
-      → (told_after_end via unit t a).state ≡ t.state
-  state_other via unit t h =
-      by_side (nat_eq a.unit unit) (wire.same_connection own via) (same_sides own via ∙ h)
+  -- and of the other's, or one that isn't settled
+  pub state_other : (via : Connection) (unit : ℕ) (settled : Bool) (t : Told)
+      → (wire.same_connection own via && settled) ≡ false → (told_after_end via unit settled t a).state ≡ t.state
+  state_other via unit settled t h =
+      by_side (nat_eq a.unit unit) (wire.same_connection own via && settled) h
     where
       by_side : (b s : Bool) → s ≡ false
           → (if not b then t else (if s then after_own t a else after_other t a)).state ≡ t.state
@@ -172,10 +206,6 @@ module _ (c : Settings) (own : Connection) (e : End) (fit : IsFit c e) where
 abbrev pub IsShared : History → Connection → ℕ → Type 0
 IsShared h via unit = (told h via unit).state ≡ Shared
 
-pub told_push : (h : History) (w : Wired) (via : Connection) (unit : ℕ)
-    → told (h ++ w ∷ []) via unit ≡ told_after via unit (told h via unit) w
-told_push h w via unit = fold_push (told_after via unit) told_nothing h w
-
 -- a message
 pub message_state : (via own : Connection) (unit : ℕ) (t : Told) (b : List ℕ)
     → ((told_after_message via unit t (sent_by own b)).state ≡ t.state)
@@ -192,10 +222,10 @@ pub shared_message : (via own : Connection) (unit : ℕ) (t : Told) (b : List �
     → (told_after_message via unit t (sent_by own b)).state ≡ Shared
 shared_message via own unit t b h = ⊎_elim (λ e. e ∙ h) (λ e. e) (message_state via own unit t b)
 
-pub shared_end : (via : Connection) (unit : ℕ) (t : Told) (a : Answer) → t.state ≡ Shared
-    → (told_after_end via unit t a).state ≡ Shared
-shared_end via unit t a h =
-    by_bools (nat_eq a.unit unit) (wire.same_connection a.connection via) (says_away a) (brings a)
+pub shared_end : (via : Connection) (unit : ℕ) (settled : Bool) (t : Told) (a : Answer) → t.state ≡ Shared
+    → (told_after_end via unit settled t a).state ≡ Shared
+shared_end via unit settled t a h =
+    by_bools (nat_eq a.unit unit) (wire.same_connection a.connection via && settled) (says_away a) (brings a)
   where
     own : (w b : Bool) → (if w then turned t.state Away else (if b then turned t.state Open else t.state)) ≡ Shared
     own w b =

@@ -10,6 +10,8 @@ use Rattle.mscp_wire.specs.declared.moment.Moment.{Moment}
 use Rattle.mscp_wire.specs.declared.moment.Moment.TheVariants as moments
 use Rattle.mscp_wire.specs.declared.sent.Sent.{Sent}
 use Rattle.mscp_wire.specs.declared.told.Seen.{Seen}
+use Rattle.mscp_wire.specs.declared.told.Told.{Told}
+use Rattle.mscp_drive.specs.declared.connection.Connection.{Connection}
 
 -- a command, once a figure was told of it, if it is the one that the poll is about
 abbrev pub hears : Answer → Option ℕ → Sent → Sent
@@ -65,6 +67,12 @@ pub record IsRightEnd (xs : List Sent) (was : Seen) (b : List ℕ) (e : Answer) 
   pub count : wire.has_count e (wire.count_of (command_at xs i) e) ≡ true
   pub identity : wire.is_same_unit was.unit e ≡ true
 
+-- what was told of the unit that a moment's end names, whether it is settled or not, and of the controller
+abbrev pub seen_of : (Connection → ℕ → Told) → Option ℕ → Moment → Seen
+seen_of units known (moments.End via b) =
+    record { unit = units via (answer_by via b.items).unit; controller = known }
+seen_of units known m = wire.seen_nothing
+
 -- a moment is right, before which these are outstanding and this was told of its unit
 abbrev pub IsRightAfter : Option ℕ → List Sent → Seen → Moment → Type 0
 IsRightAfter credits xs unit (moments.Message via b time) = IsRightMessage credits xs b.items (sent_by via b.items)
@@ -72,7 +80,7 @@ IsRightAfter credits xs unit (moments.End via b) = (i : ℕ) × IsRightEnd xs un
 IsRightAfter credits xs unit moments.Reset = Unit {0}
 
 abbrev pub IsRight : Option ℕ → History → Moment → Type 0
-IsRight credits h m = IsRightAfter credits (outstanding h) (wire.seen_of (wire.told h) (wire.controller h) m) m
+IsRight credits h m = IsRightAfter credits (outstanding h) (seen_of (wire.told h) (wire.controller h) m) m
 
 abbrev pub AreRight : Option ℕ → History → Type 0
 AreRight credits h = (i : ℕ) → i < length h → IsRight credits (take i h) (wire.moment_at h i)
@@ -87,5 +95,5 @@ IsStated seen m = Unit {0}
 abbrev pub AreStated : History → Type 0
 AreStated h =
     (i : ℕ) → i < length h
-    → IsStated (wire.seen_of (wire.told (take i h)) (wire.controller (take i h)) (wire.moment_at h i))
+    → IsStated (seen_of (wire.told (take i h)) (wire.controller (take i h)) (wire.moment_at h i))
     (wire.moment_at h i)

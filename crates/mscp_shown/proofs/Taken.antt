@@ -7,7 +7,11 @@ use Rattle.mscp_controller.specs.Ends.{figure_asked}
 use Rattle.mscp_controller.specs.Units.{is_online}
 use Rattle.mscp_controller.specs.declared.entry.Entry.{Entry}
 use Rattle.mscp_packet.specs.Number.{num}
-use Rattle.mscp_wire.specs.Wire.{answer_by, sent_by, suits_state, told, told_after_end, seen_of, controller as controller_of, controller_after}
+use Rattle.mscp_wire.specs.Wire as wire
+use Rattle.mscp_wire.specs.Wire.{answer_by, is_settled_at, outstanding, place_of, sent_by, settles, suits_state, told, told_after_end, controller as controller_of, controller_after}
+use Rattle.mscp_wire.specs.declared.answer.Answer.{Answer}
+use Rattle.mscp_wire.specs.declared.sent.Sent.{Sent}
+use Rattle.mscp_wire.proofs.Passing.{told_push}
 use Rattle.mscp_wire.specs.declared.moment.Moment.{Moment as Wired}
 use Rattle.mscp_wire.specs.declared.moment.Moment.TheVariants as moments
 use Rattle.mscp_wire.specs.declared.told.Told.{Told}
@@ -18,8 +22,9 @@ use Rattle.mscp_shown.proofs.Owed.{untaken_took}
 use Rattle.mscp_shown.proofs.Reading.{IsFit, reads}
 use Rattle.mscp_shown.proofs.Saying.{sent_says}
 use Rattle.mscp_shown.proofs.Shown.{shown_more}
-use Rattle.mscp_shown.proofs.Stating.{Stated, fits_read, shared_end, state_other, state_read, told_push}
-use Rattle.mscp_shown.proofs.Strict.{AreStated, IsStated}
+use Rattle.mscp_shown.proofs.Kept.{same_sides}
+use Rattle.mscp_shown.proofs.Stating.{Stated, fits_read, shared_end, state_other, state_read, stated_unsettled}
+use Rattle.mscp_shown.proofs.Strict.{AreStated, IsStated, seen_of}
 use Rattle.mscp_shown.proofs.Suiting.{own_ends}
 use Rattle.mscp_shown.proofs.Standing.{Shares, Stands, waits_more}
 
@@ -51,6 +56,20 @@ module _ (c : Settings) (own : Connection) (t : Trace) (b : List ℕ) (h : Stand
       )
 
 -- ---- a take
+-- an end that isn't settled is one of GET UNIT STATUS
+unsettled_code : (xs : List Sent) (a : Answer) → settles xs a ≡ false → nat_eq a.code 0x83 ≡ true
+unsettled_code xs a h = by_place (place_of xs a) h
+  where
+    either : (x y : Bool) → (not x || not y) ≡ false → x ≡ true
+    either x y k = grind arith
+
+    by_place : (o : Option ℕ) → is_settled_at xs a o ≡ false → nat_eq a.code 0x83 ≡ true
+    by_place None k = absurd (true≢false k)
+    by_place (Some i) k = either (nat_eq a.code 0x83) _ k
+
+never : (b : Bool) → (b && false) ≡ false
+never b = grind arith
+
 module _ (c : Settings) (t : Trace) (own : Connection) (b : ArrayVec ℕ) (known : Known c t) (h : Stands c t)
     (e : End) (rest : List End) (us : untaken c own t ≡ e ∷ rest) (bytes : b.items ≡ end_bytes e)
     (kind : IsOfKind e) (fit : IsFit c e) where
@@ -60,12 +79,16 @@ module _ (c : Settings) (t : Trace) (own : Connection) (b : ArrayVec ℕ) (known
   abbrev w : Wired
   w = moments.End own b
 
+  abbrev settled : Bool
+  settled = settles (outstanding (shown t)) (answer_by own (end_bytes e))
+
   told_then : (via : Connection) (unit : ℕ)
       → told (shown t ++ w ∷ []) via unit
-      ≡ told_after_end via unit (told (shown t) via unit) (answer_by own (end_bytes e))
+      ≡ told_after_end via unit settled (told (shown t) via unit) (answer_by own (end_bytes e))
   told_then via unit =
       told_push (shown t) w via unit
-      ∙ ap (λ l. told_after_end via unit (told (shown t) via unit) (answer_by own l)) bytes
+      ∙ ap (λ l. told_after_end via unit (settles (outstanding (shown t)) (answer_by own l)) (told (shown t) via unit)
+      (answer_by own l)) bytes
 
   head_fits : suits_state (told (shown t) own (num b.items 4 2)).state (answer_by own b.items) ≡ true
   head_fits =
@@ -103,7 +126,8 @@ module _ (c : Settings) (t : Trace) (own : Connection) (b : ArrayVec ℕ) (known
             (λ x k o via s.
             let u = (command_of (sent_bytes (moment t x).0)).unit in
             ap (λ (z : Told). z.state) (told_push (shown t) w via u)
-            ∙ shared_end via u (told (shown t) via u) (answer_by own b.items) (k o via s))
+            ∙ shared_end via u (settles (outstanding (shown t)) (answer_by own b.items)) (told (shown t) via u)
+            (answer_by own b.items) (k o via s))
             (waiting t) h.shared)
             (λ q. absurd (false≢true q)));
         controller = λ n q.
@@ -117,23 +141,39 @@ module _ (c : Settings) (t : Trace) (own : Connection) (b : ArrayVec ℕ) (known
             ));
       }
     where
+      -- what its own host is told
+      own_told : (unit : ℕ) (sure : Bool) → settled ≡ sure
+          → Stated unit (is_online t unit)
+          (told_after_end own unit sure (told (shown t) own unit) (answer_by own (end_bytes e))).state rest
+      own_told unit true q =
+          subst (λ z. Stated unit (is_online t unit) z rest)
+          (sym (state_read c own e fit unit (told (shown t) own unit)))
+          (subst (Stated unit (is_online t unit) (told (shown t) own unit).state) us (h.stated own unit)).1
+      own_told unit false q =
+          subst (λ z. Stated unit (is_online t unit) z rest)
+          (sym (state_other c own e fit own unit false (told (shown t) own unit)
+          (never (wire.same_connection own own))))
+          (stated_unsettled unit (is_online t unit) (told (shown t) own unit).state e rest
+          (sym (ap (λ n. nat_eq n 0x83) (reads c own e fit).code)
+          ∙ unsettled_code (outstanding (shown t)) (answer_by own (end_bytes e)) q)
+          (subst (Stated unit (is_online t unit) (told (shown t) own unit).state) us (h.stated own unit)).1)
+
       by_side : (via : Connection) (unit : ℕ) (here : Bool) → same_connection own via ≡ here
           → Stated unit (is_online t unit)
-          (told_after_end via unit (told (shown t) via unit) (answer_by own (end_bytes e))).state
+          (told_after_end via unit settled (told (shown t) via unit) (answer_by own (end_bytes e))).state
           (untaken c via (t ++ taking ∷ []))
       by_side via unit true side =
           subst (λ v. Stated unit (is_online t unit)
-          (told_after_end v unit (told (shown t) v unit) (answer_by own (end_bytes e))).state
+          (told_after_end v unit settled (told (shown t) v unit) (answer_by own (end_bytes e))).state
           (untaken c v (t ++ taking ∷ []))) (one_side own via side)
           (subst (Stated unit (is_online t unit)
-          (told_after_end own unit (told (shown t) own unit) (answer_by own (end_bytes e))).state)
+          (told_after_end own unit settled (told (shown t) own unit) (answer_by own (end_bytes e))).state)
           (sym (untaken_took c own t taking (own_side own) refl ∙ ap (drop 1) us))
-          (subst (λ z. Stated unit (is_online t unit) z rest)
-          (sym (state_read c own e fit unit (told (shown t) own unit)))
-          (subst (Stated unit (is_online t unit) (told (shown t) own unit).state) us (h.stated own unit)).1))
+          (own_told unit settled refl))
       by_side via unit false side =
           subst (Stated unit (is_online t unit)
-          (told_after_end via unit (told (shown t) via unit) (answer_by own (end_bytes e))).state)
+          (told_after_end via unit settled (told (shown t) via unit) (answer_by own (end_bytes e))).state)
           (sym (untaken_more c via t taking side (known.room.taken via) ∙ append-nil (untaken c via t)))
           (subst (λ z. Stated unit (is_online t unit) z (untaken c via t))
-          (sym (state_other c own e fit via unit (told (shown t) via unit) side)) (h.stated via unit))
+          (sym (state_other c own e fit via unit settled (told (shown t) via unit)
+          (ap (λ b. b && settled) (same_sides own via ∙ side)))) (h.stated via unit))

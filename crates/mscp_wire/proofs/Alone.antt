@@ -8,15 +8,15 @@ use Rattle.std.proofs.lemmas.List.{drop_more}
 use Rattle.std.proofs.lemmas.List.Sums.{sum_by-append, sum_by-cons}
 use Rattle.mscp_drive.specs.declared.connection.Connection.{Connection}
 use Rattle.mscp_drive.specs.declared.connection.Connection.TheVariants.{First}
-use Rattle.mscp_wire.specs.Kept.{IsTally, by_asked, by_fence, by_line, by_name, leaves, slot_if, slot_of, tells, with_figure}
-use Rattle.mscp_wire.specs.Wire.{asks_oldest, command_at, hears, is_it, is_polled, polled_by, is_named, is_ordered, is_sequential, keeps_back, left, polls, same_connection, sent_by}
+use Rattle.mscp_wire.specs.Kept.{IsTally, by_asked, by_fence, by_line, by_name, heard, leaves, slot_if, slot_of, tells, with_figure}
+use Rattle.mscp_wire.specs.Wire.{asks_oldest, command_at, is_it, is_polled, polled_by, is_named, is_ordered, is_sequential, keeps_back, left, polls, same_connection, sent_by}
 use Rattle.mscp_wire.specs.declared.answer.Answer.{Answer}
 use Rattle.mscp_wire.specs.declared.sent.Sent.{Sent}
 use Rattle.mscp_wire.proofs.Keys.{same_key}
 use Rattle.mscp_wire.proofs.Names.{count_at, place_at}
 
 -- none is counted
-count_none : (q : Sent → Bool) (x : Sent) (xs : List Sent) → count_by q (x ∷ xs) ≡ 0
+pub count_none : (q : Sent → Bool) (x : Sent) (xs : List Sent) → count_by q (x ∷ xs) ≡ 0
     → (q x ≡ false) × (count_by q xs ≡ 0)
 count_none q x xs h =
     let whole = sum_by-cons (λ s. cond (q s) 1 0) x xs in
@@ -273,7 +273,7 @@ left_alone y cs xs ys zs slot k i s t same at h e one b polled is put new =
 
 -- the end of a poll of the oldest command tells its figure to those of a name, after those that polled it were left
 told_left : (y : Sent) (e : Answer) (n : ℕ) (s : Sent) → asks_oldest y.asked ≡ true → polled_by y e ≡ Some n
-    → tells e.connection n e.figure y.time (leaves y s) ≡ hears y e s
+    → tells e.connection n e.figure y.time (leaves y s) ≡ heard y e s
 told_left y e n s asks polled =
     by_left (polls y s)
     ∙ sym (ap (λ b. record s {
@@ -311,12 +311,12 @@ told_left y e n s asks polled =
 
 pub heard_both : (y : Sent) (e : Answer) (n : ℕ) (xs ys zs : List Sent) → asks_oldest y.asked ≡ true
     → polled_by y e ≡ Some n → ys ≡ map (leaves y) xs → zs ≡ map (tells e.connection n e.figure y.time) ys
-    → zs ≡ map (hears y e) xs
+    → zs ≡ map (heard y e) xs
 heard_both y e n xs ys zs asks polled l t =
     t ∙ ap (map (tells e.connection n e.figure y.time)) l ∙ over xs
   where
-    over : (xs : List Sent) → map (tells e.connection n e.figure y.time) (map (leaves y) xs) ≡ map (hears y e) xs
+    over : (xs : List Sent) → map (tells e.connection n e.figure y.time) (map (leaves y) xs) ≡ map (heard y e) xs
     over [] = refl
     over (x ∷ xs) =
         ap (λ s. s ∷ map (tells e.connection n e.figure y.time) (map (leaves y) xs)) (told_left y e n x asks polled)
-        ∙ ap (λ l. hears y e x ∷ l) (over xs)
+        ∙ ap (λ l. heard y e x ∷ l) (over xs)

@@ -3,7 +3,7 @@ use Rattle.std.proofs.Common.{◌≡◌, ℕ, refl, ap, ◌∙◌, subst, if◌t
 use Rattle.std.specs.Prelude.{IfSome}
 use Rattle.mscp_drive.specs.declared.connection.Connection.{Connection}
 use Rattle.mscp_wire.specs.Kept.{sents}
-use Rattle.mscp_wire.specs.Wire.{answer_by, is_long, kept, passed_of, seen_before, seen_nothing}
+use Rattle.mscp_wire.specs.Wire.{answer_by, is_long, kept, passed_of, seen_before, seen_nothing, settles, told_nothing, unit_before}
 use Rattle.mscp_wire.specs.declared.judge.Judge.{Judge}
 use Rattle.mscp_wire.specs.declared.moment.Moment.{Moment}
 use Rattle.mscp_wire.specs.declared.moment.Moment.TheVariants as moments
@@ -21,19 +21,22 @@ pub passed_then : {A : Type 0} (old new : Judge A) (m : Moment) (xs : List Sent)
 passed_then {A = A} old new m xs same is =
     ap (λ (j : Judge A). passed_of (sents j.commands) m) same ∙ ap (λ ys. passed_of ys m) is
 
-pub seen_then : {A : Type 0} (old new : Judge A) (m : Moment) (units : Connection → ℕ → Told) (known : Option ℕ)
-    → new ≡ old → ((via : Connection) (unit : ℕ) → kept old.units via unit ≡ units via unit) → old.controller ≡ known
-    → seen_before (kept new.units) new.controller m ≡ seen_before units known m
-seen_then {A = A} old new m units known same told is =
-    ap (λ (j : Judge A). seen_before (kept j.units) j.controller m) same ∙ by_moment m
+pub seen_then : {A : Type 0} (old new : Judge A) (m : Moment) (xs : List Sent) (units : Connection → ℕ → Told)
+    (known : Option ℕ) → new ≡ old → sents old.commands ≡ xs
+    → ((via : Connection) (unit : ℕ) → kept old.units via unit ≡ units via unit) → old.controller ≡ known
+    → seen_before (sents new.commands) (kept new.units) new.controller m ≡ seen_before xs units known m
+seen_then {A = A} old new m xs units known same are told is =
+    ap (λ (j : Judge A). seen_before (sents j.commands) (kept j.units) j.controller m) same
+    ∙ (ap (λ ys. seen_before ys (kept old.units) old.controller m) are ∙ by_moment m)
   where
     seen : Told → Option ℕ → Seen
     seen unit controller = record { unit = unit; controller = controller }
 
-    by_moment : (m : Moment) → seen_before (kept old.units) old.controller m ≡ seen_before units known m
+    by_moment : (m : Moment) → seen_before xs (kept old.units) old.controller m ≡ seen_before xs units known m
     by_moment (moments.Message via b time) = refl
     by_moment (moments.End via b) =
-        ap (λ t. if is_long b.items then seen t old.controller else seen_nothing)
-        (told via (answer_by via b.items).unit)
-        ∙ ap (λ k. if is_long b.items then seen (units via (answer_by via b.items).unit) k else seen_nothing) is
+        let a = answer_by via b.items in
+        ap (λ t. if is_long b.items then seen (if settles xs a then t else told_nothing) old.controller
+        else seen_nothing) (told a.connection a.unit)
+        ∙ ap (λ k. if is_long b.items then seen (unit_before xs units a) k else seen_nothing) is
     by_moment moments.Reset = refl

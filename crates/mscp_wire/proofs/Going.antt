@@ -136,7 +136,8 @@ right_counts credits xs unit moments.Reset h = refl
 pub right_told : (log : Log) (m : Moment) → broken_by log.credits log.moments m ≡ None
     → counts (outstanding log.moments) m ≡ true
 right_told log m h =
-    right_counts log.credits (outstanding log.moments) (seen_of (told log.moments) (controller log.moments) m) m h
+    right_counts log.credits (outstanding log.moments)
+    (seen_of (outstanding log.moments) (told log.moments) (controller log.moments) m) m h
 
 -- so it names its command
 pub counts_named : (xs : List Sent) (m : Moment) → counts xs m ≡ true → is_named_in m ≡ true
@@ -180,7 +181,7 @@ pub advanced : {A : Type 0} (number : ℕ) (log : Log) (mentions : Connection �
     (old new : Course A) → IsOn log mentions old → new.judge.credits ≡ old.judge.credits
     → sents new.judge.commands ≡ after old.judge.timeout (sents old.judge.commands) m
     → ((via : Connection) (unit : ℕ) → kept new.judge.units via unit
-    ≡ told_after via unit (kept old.judge.units via unit) m)
+    ≡ told_after (sents old.judge.commands) via unit (kept old.judge.units via unit) m)
     → ((identifier : ℕ) → kept_called new.judge.units identifier
     ≡ called_after identifier (kept_called old.judge.units identifier) m)
     → new.judge.controller ≡ controller_after old.judge.controller m
@@ -193,7 +194,7 @@ advanced number log mentions m old new s credits commands units called controlle
     rw does record {
       credits = credits ∙ s.credits;
       commands = pushed log.moments m _ _ _ s.timeout s.commands commands;
-      units = told_more log.moments m _ _ s.units units;
+      units = told_more log.moments m _ _ _ s.commands s.units units;
       controller = controller_more log.moments m _ _ s.controller controller;
       timeout = timeout_more log.moments m _ _ s.timeout timeout;
       called = called_more log.moments m _ _ s.called called;

@@ -1,11 +1,10 @@
 -- Which rule a message and an end break.
-use Rattle.std.proofs.Common.{◌≡◌, ℕ, ◌≤◌, List, length, sym, ap, ◌∙◌, Option, Result, Ok, Err, true}
+use Rattle.std.proofs.Common.{◌≡◌, ℕ, ◌≤◌, List, length, sym, ap, ◌∙◌, if◌then◌else◌, Bool, Option, Result, Ok, Err, true}
 use Rattle.std.proofs.lemmas.Bool.{le-leb}
 use Rattle.arrayvec.specs.ArrayVec.{ArrayVec}
 use Rattle.std.specs.Result.{IfOk}
 use Rattle.mscp_drive.specs.declared.connection.Connection.{Connection}
-use Rattle.mscp_packet.specs.Number.{num}
-use Rattle.mscp_wire.specs.Wire.{answer_by, broken, broken_at, broken_message, is_long, is_message, place_of, sent_by, seen_of, unless}
+use Rattle.mscp_wire.specs.Wire.{answer_by, broken, broken_at, broken_message, is_long, is_message, is_settled_at, place_of, sent_by, seen_of, told_nothing, unit_before, unless}
 use Rattle.mscp_wire.specs.declared.moment.Moment.{Moment}
 use Rattle.mscp_wire.specs.declared.moment.Moment.TheVariants as moments
 use Rattle.mscp_wire.specs.declared.rule.Rule.{Rule}
@@ -26,34 +25,39 @@ long_message via b credits xs ys s broken long is same h =
 
 -- the rule that an end breaks, as long as its endcode asks
 pub ended_rule : (b : List ℕ) (xs ys : List Sent) (units : Connection → ℕ → Told) (known : Option ℕ)
-    (via : Connection) (a : Answer) (t : Told) (p : Option ℕ) (r : Option Rule) → is_long b ≡ true
-    → a ≡ answer_by via b → t ≡ units via a.unit → ys ≡ xs → p ≡ place_of xs a
-    → r ≡ broken_at ys (record { unit = t; controller = known }) a p
-    → r ≡ unless (is_long b) rules.Length (broken_at xs (record { unit = units via (num b 4 2); controller = known })
+    (via : Connection) (a : Answer) (settled : Bool) (seen : Seen) (p : Option ℕ) (r : Option Rule) → is_long b ≡ true
+    → a ≡ answer_by via b → settled ≡ is_settled_at xs a p
+    → seen ≡ record { unit = if settled then units a.connection a.unit else told_nothing; controller = known }
+    → ys ≡ xs → p ≡ place_of xs a → r ≡ broken_at ys seen a p
+    → r ≡ unless (is_long b) rules.Length (broken_at xs
+    (record { unit = unit_before xs units (answer_by via b); controller = known })
     (answer_by via b) (place_of xs (answer_by via b)))
-ended_rule b xs ys units known via a t p r long is here same at h =
-    let seen : Seen = record { unit = units via (num b 4 2); controller = known } in
+ended_rule b xs ys units known via a settled seen p r long is sure here same at h =
+    let compared : Answer → Seen = λ z. record { unit = unit_before xs units z; controller = known } in
+    let whole : seen ≡ compared a =
+    here
+    ∙ ap (λ q. record { unit = if q then units a.connection a.unit else told_nothing; controller = known })
+    (sure ∙ ap (is_settled_at xs a) at) in
     h
-    ∙ (ap (λ zs. broken_at zs (record { unit = t; controller = known }) a p) same
-    ∙ (ap (broken_at xs (record { unit = t; controller = known }) a) at
-    ∙ (ap (λ z. broken_at xs (record { unit = z; controller = known }) a (place_of xs a))
-    (here ∙ ap (λ (z : Answer). units via z.unit) is)
-    ∙ (ap (λ z. broken_at xs seen z (place_of xs z)) is
-    ∙ sym (ap (λ q. unless q rules.Length (broken_at xs seen (answer_by via b) (place_of xs (answer_by via b))))
-    long)))))
+    ∙ (ap (λ zs. broken_at zs seen a p) same
+    ∙ (ap (broken_at xs seen a) at
+    ∙ (ap (λ z. broken_at xs z a (place_of xs a)) whole
+    ∙ (ap (λ z. broken_at xs (compared z) z (place_of xs z)) is
+    ∙ sym (ap (λ q. unless q rules.Length (broken_at xs (compared (answer_by via b)) (answer_by via b)
+    (place_of xs (answer_by via b)))) long)))))
 
 -- the same by its moment
 pub stepped_end : {E : Type 0} (r : Result Stepped E) (credits : Option ℕ) (xs : List Sent)
     (units : Connection → ℕ → Told) (known : Option ℕ) (via : Connection) (b : ArrayVec ℕ) (bytes : List ℕ) (m : Moment)
     → m ≡ moments.End via b → bytes ≡ b.items
     → IfOk r (λ o. o.rule ≡ unless (is_long bytes) rules.Length (broken_at xs
-    (record { unit = units via (num bytes 4 2); controller = known }) (answer_by via bytes)
+    (record { unit = unit_before xs units (answer_by via bytes); controller = known }) (answer_by via bytes)
     (place_of xs (answer_by via bytes))))
-    → IfOk r (λ o. o.rule ≡ broken credits xs (seen_of units known m) m)
+    → IfOk r (λ o. o.rule ≡ broken credits xs (seen_of xs units known m) m)
 stepped_end (Ok o) credits xs units known via b bytes m is same h =
     h
     ∙ (ap (λ l. unless (is_long l) rules.Length (broken_at xs
-    (record { unit = units via (num l 4 2); controller = known }) (answer_by via l) (place_of xs (answer_by via l))))
-    same
-    ∙ sym (ap (λ z. broken credits xs (seen_of units known z) z) is))
+    (record { unit = unit_before xs units (answer_by via l); controller = known }) (answer_by via l)
+    (place_of xs (answer_by via l)))) same
+    ∙ sym (ap (λ z. broken credits xs (seen_of xs units known z) z) is))
 stepped_end (Err e) credits xs units known via b bytes m is same h = h

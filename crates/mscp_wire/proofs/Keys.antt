@@ -68,27 +68,30 @@ put_called old new identifier unit h called e q =
 
 -- ---- an end and a command
 -- what both hosts were told of the unit of an end was put in place
-pub heard_end : (old new : Connection → ℕ → Told) (e : Answer) (own others : Told) (side : Connection)
-    → own ≡ after_own (old e.connection e.unit) e → side ≡ other_side e.connection
+abbrev own_end : Bool → Answer → Told → Told
+own_end settled e t = if settled then after_own t e else after_other t e
+
+pub heard_end : (old new : Connection → ℕ → Told) (e : Answer) (settled : Bool) (own others : Told) (side : Connection)
+    → own ≡ own_end settled e (old e.connection e.unit) → side ≡ other_side e.connection
     → others ≡ after_other (old side e.unit) e
     → ((via : Connection) (unit : ℕ) → new via unit
     ≡ (if nat_eq e.unit unit then (if same_connection e.connection via then own else others) else old via unit))
-    → (via : Connection) (unit : ℕ) → new via unit ≡ told_after_end via unit (old via unit) e
-heard_end old new e own others side o s t p via unit =
+    → (via : Connection) (unit : ℕ) → new via unit ≡ told_after_end via unit settled (old via unit) e
+heard_end old new e settled own others side o s t p via unit =
     p via unit
     ∙ (ap (λ z. if nat_eq e.unit unit then (if same_connection e.connection via then z else others) else old via unit) o
     ∙ (ap (λ z. if nat_eq e.unit unit then (if same_connection e.connection via
-    then after_own (old e.connection e.unit) e else z) else old via unit)
+    then own_end settled e (old e.connection e.unit) else z) else old via unit)
     (t ∙ ap (λ z. after_other (old z e.unit) e) s)
     ∙ by_unit (nat_eq e.unit unit) refl e.connection via))
   where
     by_unit : (b : Bool) → nat_eq e.unit unit ≡ b → (c v : Connection)
-        → (if b then (if same_connection c v then after_own (old c e.unit) e
+        → (if b then (if same_connection c v then own_end settled e (old c e.unit)
         else after_other (old (other_side c) e.unit) e) else old v unit)
-        ≡ (if not b then old v unit else (if same_connection c v then after_own (old v unit) e
+        ≡ (if not b then old v unit else (if same_connection c v && settled then after_own (old v unit) e
         else after_other (old v unit) e))
-    by_unit true h First First = ap (λ n. after_own (old First n) e) (eqb-true e.unit unit h)
-    by_unit true h Second Second = ap (λ n. after_own (old Second n) e) (eqb-true e.unit unit h)
+    by_unit true h First First = ap (λ n. own_end settled e (old First n)) (eqb-true e.unit unit h)
+    by_unit true h Second Second = ap (λ n. own_end settled e (old Second n)) (eqb-true e.unit unit h)
     by_unit true h First Second = ap (λ n. after_other (old Second n) e) (eqb-true e.unit unit h)
     by_unit true h Second First = ap (λ n. after_other (old First n) e) (eqb-true e.unit unit h)
     by_unit false h c v = refl

@@ -8,6 +8,7 @@ pub mod Meaning
 pub mod Once
 mod Names
 mod Alone
+mod Marking
 mod Tables
 mod Contradicted
 pub mod Going

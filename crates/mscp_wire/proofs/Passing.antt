@@ -1,5 +1,5 @@
 -- What comes of the lines of a log.
-use Rattle.std.proofs.Common.{◌≡◌, ◌≢◌, ◌⊎◌, ℕ, Bool, true, false, List, [], ◌∷◌, ◌++◌, arith, refl, sym, ap, ◌∙◌, Option, Some, None, Result, Ok, Err}
+use Rattle.std.proofs.Common.{◌≡◌, ◌≢◌, ◌⊎◌, ℕ, Bool, true, false, List, [], ◌∷◌, ◌++◌, arith, refl, sym, ap, ◌∙◌, if◌then◌else◌, Option, Some, None, Result, Ok, Err}
 use Rattle.std.specs.Prelude.{is_some}
 use Rattle.std.proofs.lemmas.Bool.Decides.{nat_tests}
 use Rattle.std.proofs.lemmas.List.Sums.{fold_push}
@@ -8,8 +8,7 @@ use Rattle.mscp_reader.specs.Outcome.{in_line}
 use Rattle.mscp_reader.specs.declared.fault.Cause.{Cause}
 use Rattle.mscp_reader.specs.declared.fault.Cause.TheVariants as causes
 use Rattle.mscp_reader.specs.declared.fault.ScriptFault.{ScriptFault}
-use Rattle.mscp_wire.specs.Wire.{History, Standing, after, broken, broken_by, controller, controller_after, outstanding, seen_of, standing_after, standing_first, timeout, timeout_after, told, told_after, told_nothing}
-use Rattle.mscp_packet.specs.Number.{num}
+use Rattle.mscp_wire.specs.Wire.{History, Standing, after, answer_by, broken, broken_by, controller, controller_after, outstanding, seen_of, settles, standing_after, standing_first, timeout, timeout_after, told, told_after, told_nothing, unit_before}
 use Rattle.mscp_drive.specs.declared.connection.Connection.{Connection}
 use Rattle.mscp_wire.specs.declared.moment.Moment.TheVariants as moments
 use Rattle.mscp_wire.specs.declared.rule.Rule.{Rule}
@@ -53,13 +52,16 @@ pub credits_late : (n c : ℕ) (log : Log) (t : Totals) (b : Bool) → t ≡ tot
 credits_late n c log t b p q h = grind (arith, nat_tests)
 
 -- the same was told of a moment's unit, and of the controller
-pub seen_same : (units : Connection → ℕ → Told) (known : Option ℕ) (h : History) (m : Moment) → AreTold units h
-    → known ≡ controller h → seen_of units known m ≡ seen_of (told h) (controller h) m
-seen_same units known h (moments.Message via b time) u k = refl
-seen_same units known h (moments.End via b) u k =
-    ap (λ z. record { unit = z; controller = known }) (u via (num b.items 4 2))
-    ∙ ap (λ z. record { unit = told h via (num b.items 4 2); controller = z }) k
-seen_same units known h moments.Reset u k = refl
+pub seen_same : (xs ys : List Sent) (units : Connection → ℕ → Told) (known : Option ℕ) (h : History) (m : Moment)
+    → xs ≡ ys → AreTold units h → known ≡ controller h
+    → seen_of xs units known m ≡ seen_of ys (told h) (controller h) m
+seen_same xs ys units known h (moments.Message via b time) e u k = refl
+seen_same xs ys units known h (moments.End via b) e u k =
+    let a = answer_by via b.items in
+    ap (λ zs. record { unit = unit_before zs units a; controller = known }) e
+    ∙ ap (λ z. record { unit = if settles ys a then z else told_nothing; controller = known }) (u a.connection a.unit)
+    ∙ ap (λ z. record { unit = unit_before ys (told h) a; controller = z }) k
+seen_same xs ys units known h moments.Reset e u k = refl
 
 -- the controller after one moment more
 pub controller_more : (h : History) (m : Moment) (old new : Option ℕ) → old ≡ controller h
@@ -75,22 +77,29 @@ timeout_more h m old new p q =
     ∙ sym (ap (λ (s : Standing). s.timeout) (fold_push standing_after standing_first h m))
 
 -- what was told after one moment more
-pub told_more : (h : History) (m : Moment) (old new : Connection → ℕ → Told) → AreTold old h
-    → ((via : Connection) (unit : ℕ) → new via unit ≡ told_after via unit (old via unit) m)
+pub told_push : (h : History) (m : Moment) (via : Connection) (unit : ℕ)
+    → told (h ++ m ∷ []) via unit ≡ told_after (outstanding h) via unit (told h via unit) m
+told_push h m via unit = ap (λ (s : Standing). s.units via unit) (fold_push standing_after standing_first h m)
+
+pub told_more : (h : History) (m : Moment) (xs : List Sent) (old new : Connection → ℕ → Told) → xs ≡ outstanding h
+    → AreTold old h
+    → ((via : Connection) (unit : ℕ) → new via unit ≡ told_after xs via unit (old via unit) m)
     → AreTold new (h ++ m ∷ [])
-told_more h m old new u k via unit =
-    k via unit ∙ ap (λ o. told_after via unit o m) (u via unit)
-    ∙ sym (fold_push (told_after via unit) told_nothing h m)
+told_more h m xs old new e u k via unit =
+    k via unit ∙ ap (λ ys. told_after ys via unit (old via unit) m) e
+    ∙ ap (λ o. told_after (outstanding h) via unit o m) (u via unit)
+    ∙ sym (told_push h m via unit)
 
 -- the first rule that a moment breaks after a log, if it breaks one
 pub broken_after : (log : Log) (m : Moment) (credits : Option ℕ) (xs : List Sent) (units : Connection → ℕ → Told)
     (known : Option ℕ) (rule : Option Rule) → credits ≡ log.credits → xs ≡ outstanding log.moments
     → AreTold units log.moments → known ≡ controller log.moments
-    → rule ≡ broken credits xs (seen_of units known m) m → broken_by log.credits log.moments m ≡ rule
+    → rule ≡ broken credits xs (seen_of xs units known m) m → broken_by log.credits log.moments m ≡ rule
 broken_after log m credits xs units known rule p q u w h =
-    let was = seen_of (told log.moments) (controller log.moments) m in
+    let was = seen_of (outstanding log.moments) (told log.moments) (controller log.moments) m in
     ap (λ c. broken c (outstanding log.moments) was m) (sym p) ∙ ap (λ ys. broken credits ys was m) (sym q)
-    ∙ ap (λ o. broken credits xs o m) (sym (seen_same units known log.moments m u w)) ∙ sym h
+    ∙ ap (λ o. broken credits xs o m) (sym (seen_same xs (outstanding log.moments) units known log.moments m q u w))
+    ∙ sym h
 
 -- what is outstanding after one moment more
 pub pushed : (h : History) (m : Moment) (known : Option ℕ) (xs ys : List Sent) → known ≡ timeout h

@@ -117,7 +117,7 @@ finding_by number f m (Some rule) = Some (record {
     moment = m;
     command = command_of (outstanding f.log.moments) m;
     passed = passed_of (outstanding f.log.moments) m;
-    seen = seen_before (told f.log.moments) (controller f.log.moments) m;
+    seen = seen_before (outstanding f.log.moments) (told f.log.moments) (controller f.log.moments) m;
   };
   places = record {
     sent = sent_in f.mentions (command_of (outstanding f.log.moments) m);

@@ -26,11 +26,11 @@ use Rattle.mscp_wire.specs.declared.told.Told.{Told}
 
 -- ---- of an end
 
--- an end tells of a unit another identity than this, if that is there. The rule of identities lets it pass if both are
--- told by SET UNIT CHARACTERISTICS alone: then the unit may be available, so that its volume may have changed
+-- an end of SET UNIT CHARACTERISTICS (0x8A) tells of a unit another identity than this, if that is there. The rule of
+-- identities lets it pass if both are told so alone: then the unit may be available, so that its volume may have changed
 abbrev pub is_another : Option Identity → Answer → Bool
 is_another None e = false
-is_another (Some known) e = tells_unit e && not (agrees e.identity known)
+is_another (Some known) e = nat_eq e.code 0x8A && tells_unit e && not (agrees e.identity known)
 
 -- how many blocks stand behind a unit's size: those of its replacement and caching table, which GET UNIT STATUS tells.
 -- Without it these are the most that it can tell, 65,535 blocks in each of 255 copies

@@ -1,10 +1,12 @@
 -- What is kept beside the commands that are outstanding, so that each is found soon.
-use Rattle.std.specs.Prelude.{◌≡◌, ℕ, ◌+◌, ◌-◌, ◌%◌, ◌<◌, ◌≤◌, ◌^◌, cond, nat_le, length, take, Bool, true, false, ◌||◌, nat_eq, if◌then◌else◌, List, get_or, count_by, Option, Some, None}
+use Rattle.std.specs.Prelude.{◌≡◌, ℕ, ◌+◌, ◌-◌, ◌%◌, ◌<◌, ◌≤◌, ◌^◌, cond, nat_le, length, take, Bool, true, false, not, ◌&&◌, ◌||◌, nat_eq, if◌then◌else◌, List, get_or, count_by, Option, Some, None}
 use Rattle.std.specs.List.{filter_map}
 use Rattle.mscp_drive.specs.declared.connection.Connection.{Connection}
 use Rattle.mscp_drive.specs.declared.connection.Connection.TheVariants.{First, Second}
 use Rattle.mscp_wire.specs.Messages.{is_named, is_ordered, is_sequential, same_connection}
-use Rattle.mscp_wire.specs.Polls.{is_it, left, polls}
+use Rattle.mscp_wire.specs.Polls.{is_it, left, polls, turns_beside}
+use Rattle.mscp_wire.specs.Polls.{tells as told_by}
+use Rattle.mscp_wire.specs.declared.answer.Answer.{Answer}
 use Rattle.mscp_wire.specs.Units.{key}
 use Rattle.mscp_wire.specs.declared.sent.Asked.{Asked}
 use Rattle.mscp_wire.specs.declared.sent.Asked.TheVariants.{Gone, Nothing, Oldest}
@@ -61,6 +63,15 @@ slot_if via (Some number) = Some (slot_of via number)
 abbrev pub by_asked : Sent → Option ℕ
 by_asked s = if nat_eq s.opcode 2 then slot_if s.connection s.parameter else None
 
+-- a GET UNIT STATUS beside which its unit had one state so far is counted by that, or by its connection if it asks for
+-- the next unit
+abbrev pub by_status : Sent → Option ℕ
+by_status s =
+    if nat_eq s.opcode 3 && not s.next && not s.beside then Some (slot_of s.connection s.unit) else None
+
+abbrev pub by_next : Sent → Option ℕ
+by_next s = if nat_eq s.opcode 3 && s.next && not s.beside then Some (slot_of s.connection 0) else None
+
 -- a count of 255 stays, since it isn't known how many more there were
 abbrev pub more : ℕ → ℕ
 more count = if nat_le 255 count then 255 else count + 1
@@ -83,8 +94,16 @@ pub record IsKept {A : Type 0} (xs : List Sent) (kinds : Tallies A) : Type 0 whe
   pub fences : IsTally by_fence kinds.fences.counts.items xs
   pub lines : IsTally by_line kinds.lines.counts.items xs
   pub asked : IsTally by_asked kinds.asked.counts.items xs
+  pub statuses : IsTally by_status kinds.statuses.counts.items xs
+  pub nexts : IsTally by_next kinds.nexts.counts.items xs
   pub first : kinds.first ≡ count_by (is_on First) xs
   pub second : kinds.second ≡ count_by (is_on Second) xs
+
+-- no GET UNIT STATUS is counted of this unit or of whichever is next
+abbrev pub has_none : {A : Type 0} → Connection → ℕ → Tallies A → Bool
+has_none via unit kinds =
+    nat_eq (get_or kinds.statuses.counts.items (slot_of via unit) 255) 0
+    && nat_eq (get_or kinds.nexts.counts.items (slot_of via 0) 255) 0
 
 -- the numbers of each connection's may grow
 pub record IsFew {A : Type 0} (kinds : Tallies A) : Type 0 where
@@ -109,6 +128,18 @@ tells via number figure time s = if is_named via number s then with_figure figur
 -- a command that is outstanding, once y ended
 abbrev pub leaves : Sent → Sent → Sent
 leaves y s = if polls y s then record s { asked = left s.asked } else s
+
+-- what is heard of figures
+abbrev pub heard : Sent → Answer → Sent → Sent
+heard y e s = record s {
+  told = if told_by y e s then e.figure else s.told;
+  polled = if told_by y e s then y.time else s.polled;
+  asked = if polls y s then left s.asked else s.asked;
+}
+
+-- and of a unit's state
+abbrev pub besides : Sent → Sent → Sent
+besides y s = if turns_beside y s then record s { beside = true } else s
 
 -- a poll asks of a command that ended since
 abbrev pub asks_gone : Asked → Bool

@@ -53,6 +53,7 @@ sent_by via b = record {
   told = None;
   polled = None;
   asked = Nothing;
+  beside = false;
 }
 
 -- what an end of 44 bytes at least says of its unit, if it is one of ONLINE, SET UNIT CHARACTERISTICS or GET UNIT

@@ -112,11 +112,24 @@ abbrev pub left : Asked → Asked
 left (Oldest last) = Gone last
 left asked = Nothing
 
+-- ---- beside which commands a GET UNIT STATUS is answered
+
+-- an AVAILABLE (8) or an ONLINE (9) changes the state of its unit
+abbrev pub turns : ℕ → Bool
+turns opcode = nat_eq opcode 8 || nat_eq opcode 9
+
+-- y is one, and s a GET UNIT STATUS (3) of its unit, or of whichever is next
+abbrev pub turns_beside : Sent → Sent → Bool
+turns_beside y s =
+    turns y.opcode && nat_eq s.opcode 3 && same_connection s.connection y.connection
+    && (s.next || nat_eq s.unit y.unit)
+
 -- a command that is outstanding, once the end e of y came: it hears the figure that is told of it, and when y was sent,
--- and to a poll of y that is gone
+-- to a poll of y that is gone, and a GET UNIT STATUS that its unit may have another state
 abbrev pub hears : Sent → Answer → Sent → Sent
 hears y e s = record s {
   told = if tells y e s then e.figure else s.told;
   polled = if tells y e s then y.time else s.polled;
   asked = if polls y s then left s.asked else s.asked;
+  beside = turns_beside y s || s.beside;
 }

@@ -49,7 +49,7 @@ pub record IsWrong (number : ℕ) (log : Log) (said : Result Said Cause) (wrong 
   pub rule : broken_by log.credits log.moments wrong.moment ≡ Some wrong.rule
   pub command : wrong.command ≡ command_of (outstanding log.moments) wrong.moment
   pub passed : wrong.passed ≡ passed_of (outstanding log.moments) wrong.moment
-  pub seen : wrong.seen ≡ seen_before (told log.moments) (controller log.moments) wrong.moment
+  pub seen : wrong.seen ≡ seen_before (outstanding log.moments) (told log.moments) (controller log.moments) wrong.moment
 
 -- the first moment that isn't right
 pub record IsFirstWrong (bytes : List ℕ) (wrong : Wrong) : Type 0 where

@@ -1,10 +1,9 @@
 -- What a host was told of units: by its own ends, and of whether they are online by the other host's, too.
 use Rattle.std.specs.Prelude.{◌≡◌, ℕ, ◌+◌, ◌*◌, ◌/◌, ◌%◌, Bool, true, false, not, ◌&&◌, ◌||◌, nat_eq, if◌then◌else◌, fold, Option, Some, None}
 use Rattle.std.specs.HashMap as hashed
-use Rattle.mscp_packet.specs.Number.{num}
 use Rattle.mscp_drive.specs.declared.connection.Connection.{Connection}
 use Rattle.mscp_drive.specs.declared.connection.Connection.TheVariants.{First, Second}
-use Rattle.mscp_wire.specs.Messages.{History, answer_by, controller_in, same_connection, timeout_in, sent_by, status_code}
+use Rattle.mscp_wire.specs.Messages.{History, answer_by, controller_in, same_connection, timeout_in, status_code}
 use Rattle.mscp_wire.specs.Polls.{is_it}
 use Rattle.mscp_wire.specs.Rows.{found}
 use Rattle.mscp_wire.specs.declared.answer.Answer.{Answer}
@@ -14,7 +13,6 @@ use Rattle.mscp_wire.specs.declared.moment.Moment.TheVariants as moments
 use Rattle.mscp_wire.specs.declared.row.Entry.{Entry}
 use Rattle.mscp_wire.specs.declared.sent.Sent.{Sent}
 use Rattle.mscp_wire.specs.declared.noted.Noted.{Noted}
-use Rattle.mscp_wire.specs.declared.told.Seen.{Seen}
 use Rattle.mscp_wire.specs.declared.told.State.{State}
 use Rattle.mscp_wire.specs.declared.told.State.TheVariants.{Away, Open, Shared}
 use Rattle.mscp_wire.specs.declared.told.Told.{Told}
@@ -179,11 +177,12 @@ after_other told e = record told {
   noted = noted_other told.noted e;
 }
 
--- what the host of a connection was told of a unit once an end came
-abbrev pub told_after_end : Connection → ℕ → Told → Answer → Told
-told_after_end via unit told e =
+-- what the host of a connection was told of a unit once an end came. One that isn't settled tells its own host no more
+-- than it does the other one
+abbrev pub told_after_end : Connection → ℕ → Bool → Told → Answer → Told
+told_after_end via unit settled told e =
     if not (nat_eq e.unit unit) then told else (
-    if same_connection e.connection via then after_own told e else after_other told e)
+    if same_connection e.connection via && settled then after_own told e else after_other told e)
 
 -- the other host's command is an ONLINE (9) of the unit
 abbrev pub shares : Connection → ℕ → Sent → Bool
@@ -192,16 +191,6 @@ shares via unit s = nat_eq s.opcode 9 && nat_eq s.unit unit && not (same_connect
 -- the same once a command came
 abbrev pub told_after_message : Connection → ℕ → Told → Sent → Told
 told_after_message via unit told s = if shares via unit s then record told { state = Shared } else told
-
--- the same once a moment more came
-abbrev pub told_after : Connection → ℕ → Told → Moment → Told
-told_after via unit told (moments.Message other b time) = told_after_message via unit told (sent_by other b.items)
-told_after via unit told (moments.End other b) = told_after_end via unit told (answer_by other b.items)
-told_after via unit told moments.Reset = told_reset
-
--- what the host of a connection was told of a unit after a history
-abbrev pub told : History → Connection → ℕ → Told
-told h via unit = fold (told_after via unit) told_nothing h
 
 -- ---- what was told of the controller
 
@@ -242,12 +231,6 @@ called_after identifier known moments.Reset = None
 -- the same after a history
 abbrev pub called : History → ℕ → Option ℕ
 called h identifier = fold (called_after identifier) None h
-
--- what was told of the unit that a moment's end names, and of the controller
-abbrev pub seen_of : (Connection → ℕ → Told) → Option ℕ → Moment → Seen
-seen_of units known (moments.Message via b time) = record { unit = told_nothing; controller = None }
-seen_of units known (moments.End via b) = record { unit = units via (num b.items 4 2); controller = known }
-seen_of units known moments.Reset = record { unit = told_nothing; controller = None }
 
 -- ---- the units that are kept
 

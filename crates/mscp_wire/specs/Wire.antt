@@ -36,8 +36,8 @@ use Rattle.std.specs.List.{list_any}
 use Rattle.mscp_drive.specs.declared.connection.Connection.{Connection}
 use Rattle.mscp_drive.specs.declared.connection.Connection.TheVariants.{First}
 pub use Rattle.mscp_wire.specs.Messages.{History, answer_by, asks_for_next, controller_in, is_compared, protected_in, table_in, four_in, identity_in, is_about_another, is_immediate, is_known, is_named, is_ordered, is_required, is_sequential, is_short, is_modified, is_sequential_class, is_transfer, is_transfer_class, is_unknown, is_unknown_class, least_length, least_message, same_connection, sent_by, status_code, timeout_in}
-pub use Rattle.mscp_wire.specs.Polls.{asked_about, asked_by, asking, asks_oldest, has_figure, has_number, hears, is_below, is_hasty, is_it, is_oldest, is_polled, is_refused, left, may_ask, may_be, may_tell, polled_by, polls, tells, waits_on}
-pub use Rattle.mscp_wire.specs.Units.{Puts, after_other, after_own, agrees, brings, called, called_after, called_after_end, called_in, controller, controller_after, describes, fits, identifier_of, kept_called, noted_nothing, noted_other, noted_own, size_of, is_known_unit, is_moved, is_of_unit, is_same_unit, is_single, is_unsure, learns, kept, key, later_of, leaves, other_side, says_away, says_online, seen_of, shares, suits_state, tells_unit, timeout_after, told, told_after, told_after_end, told_after_message, told_nothing, told_reset, told_to, turned, was_online}
+pub use Rattle.mscp_wire.specs.Polls.{asked_about, asked_by, asking, asks_oldest, has_figure, has_number, hears, is_below, is_hasty, is_it, is_oldest, is_polled, is_refused, left, may_ask, may_be, may_tell, polled_by, polls, tells, turns, turns_beside, waits_on}
+pub use Rattle.mscp_wire.specs.Units.{Puts, after_other, after_own, agrees, brings, called, called_after, called_after_end, called_in, controller, controller_after, describes, fits, identifier_of, kept_called, noted_nothing, noted_other, noted_own, size_of, is_known_unit, is_moved, is_of_unit, is_same_unit, is_single, is_unsure, learns, kept, key, later_of, leaves, other_side, says_away, says_online, shares, suits_state, tells_unit, timeout_after, told_after_end, told_after_message, told_nothing, told_reset, told_to, turned, was_online}
 use Rattle.mscp_wire.specs.declared.answer.Answer.{Answer}
 use Rattle.mscp_wire.specs.declared.moment.Moment.{Moment}
 use Rattle.mscp_wire.specs.declared.moment.Moment.TheVariants as moments
@@ -231,16 +231,48 @@ passed_of xs (moments.End via b) =
     if is_long b.items then passed_at xs (place_of xs (answer_by via b.items)) else None
 passed_of xs moments.Reset = None
 
--- what was told of the unit that a moment's end names, and of the controller, if it is as long as its endcode asks
+-- ---- which ends are settled
+
+-- a command that changes the state of a connection's unit
+abbrev pub is_turning : Connection → ℕ → Sent → Bool
+is_turning via unit s = turns s.opcode && same_connection s.connection via && nat_eq s.unit unit
+
+-- the end of a GET UNIT STATUS (0x83) may tell what was at any moment between its message and itself. So it is settled
+-- only if no AVAILABLE or ONLINE of its unit was outstanding between: none ended beside y, and none still is
+abbrev pub is_settled : List Sent → Sent → Answer → Bool
+is_settled xs y e =
+    not (nat_eq e.code 0x83) || not (y.beside || list_any (is_turning e.connection e.unit) xs)
+
+abbrev pub is_settled_at : List Sent → Answer → Option ℕ → Bool
+is_settled_at xs e None = true
+is_settled_at xs e (Some i) = is_settled xs (command_at xs i) e
+
+-- the same of any end
+abbrev pub settles : List Sent → Answer → Bool
+settles xs e = is_settled_at xs e (place_of xs e)
+
+-- ---- what was told before
+
+-- what an end is compared with of its unit: nothing, if it isn't settled
+abbrev pub unit_before : List Sent → (Connection → ℕ → Told) → Answer → Told
+unit_before xs units e = if settles xs e then units e.connection e.unit else told_nothing
+
 abbrev pub seen_nothing : Seen
 seen_nothing = record { unit = told_nothing; controller = None }
 
-abbrev pub seen_before : (Connection → ℕ → Told) → Option ℕ → Moment → Seen
-seen_before units known (moments.Message via b time) = seen_nothing
-seen_before units known (moments.End via b) =
-    if is_long b.items then record { unit = units via (answer_by via b.items).unit; controller = known }
-    else seen_nothing
-seen_before units known moments.Reset = seen_nothing
+-- what was told of the unit that a moment's end names, and of the controller
+abbrev pub seen_of : List Sent → (Connection → ℕ → Told) → Option ℕ → Moment → Seen
+seen_of xs units known (moments.Message via b time) = seen_nothing
+seen_of xs units known (moments.End via b) =
+    record { unit = unit_before xs units (answer_by via b.items); controller = known }
+seen_of xs units known moments.Reset = seen_nothing
+
+-- the same, if it is as long as its endcode asks
+abbrev pub seen_before : List Sent → (Connection → ℕ → Told) → Option ℕ → Moment → Seen
+seen_before xs units known (moments.Message via b time) = seen_nothing
+seen_before xs units known (moments.End via b) =
+    if is_long b.items then seen_of xs units known (moments.End via b) else seen_nothing
+seen_before xs units known moments.Reset = seen_nothing
 
 -- what is outstanding once the end of the command at a place came: the others hear it
 abbrev pub after_end : List Sent → Answer → Option ℕ → List Sent
@@ -258,17 +290,29 @@ after timeout xs (moments.Message via b time) = xs ++ asking timeout xs (timed t
 after timeout xs (moments.End via b) = after_end xs (answer_by via b.items) (place_of xs (answer_by via b.items))
 after timeout xs moments.Reset = []
 
--- what stands after a history: the controller timeout, if it was told, and the commands that are outstanding, oldest
--- first (manual, "Flow Control")
+-- what the host of a connection was told of a unit once a moment more came, before which these were outstanding
+abbrev pub told_after : List Sent → Connection → ℕ → Told → Moment → Told
+told_after xs via unit told (moments.Message other b time) = told_after_message via unit told (sent_by other b.items)
+told_after xs via unit told (moments.End other b) =
+    told_after_end via unit (settles xs (answer_by other b.items)) told (answer_by other b.items)
+told_after xs via unit told moments.Reset = told_reset
+
+-- what stands after a history: the controller timeout, if it was told, the commands that are outstanding, oldest first
+-- (manual, "Flow Control"), and what the host of a connection was told of a unit
 pub record Standing : Type 0 where
   pub timeout : Option ℕ
   pub commands : List Sent
+  pub units : Connection → ℕ → Told
 
 abbrev pub standing_after : Standing → Moment → Standing
-standing_after s m = record { timeout = timeout_after s.timeout m; commands = after s.timeout s.commands m }
+standing_after s m = record {
+  timeout = timeout_after s.timeout m;
+  commands = after s.timeout s.commands m;
+  units = λ via unit. told_after s.commands via unit (s.units via unit) m;
+}
 
 abbrev pub standing_first : Standing
-standing_first = record { timeout = None; commands = [] }
+standing_first = record { timeout = None; commands = []; units = λ via unit. told_nothing }
 
 abbrev pub standing : History → Standing
 standing h = fold standing_after standing_first h
@@ -278,6 +322,9 @@ timeout h = (standing h).timeout
 
 abbrev pub outstanding : History → List Sent
 outstanding h = (standing h).commands
+
+abbrev pub told : History → Connection → ℕ → Told
+told h = (standing h).units
 
 -- ---- the first rule that is broken
 
@@ -326,7 +373,7 @@ broken credits xs unit moments.Reset = None
 
 -- by a moment after a history
 abbrev pub broken_by : Option ℕ → History → Moment → Option Rule
-broken_by credits h m = broken credits (outstanding h) (seen_of (told h) (controller h) m) m
+broken_by credits h m = broken credits (outstanding h) (seen_of (outstanding h) (told h) (controller h) m) m
 
 -- ---- a moment that is right
 

@@ -9,7 +9,7 @@ use crate::answer::{Answer, is_long};
 use crate::judge::Judge;
 use crate::moment::Moment;
 use crate::sent::Sent;
-use crate::told::Seen;
+use crate::told::{Seen, Told};
 use mscp_drive::Connection;
 use std::alloc::Allocator;
 
@@ -36,10 +36,29 @@ impl<A: Allocator + Copy> Judge<A> {
         }
     }
 
-    /// What was told of the unit that the end in these bytes names, and of the controller.
-    fn seen_by(&self, connection: Connection, bytes: &[u8]) -> Seen
+    /// What an end is compared with: what was told of its unit, if it is settled, and of the controller.
+    pub fn seen_by(&self, answer: &Answer, settled: bool) -> Seen
+        ensures { result ≡ record {
+          unit = if settled then wire.kept self.now.units answer.now.connection answer.now.unit else wire.told_nothing;
+          controller = self.now.controller;
+        } }
+    {
+        let unit = if settled {
+            self.units.told(answer.connection, answer.unit)
+        } else {
+            Told::nothing()
+        };
+        Seen {
+            unit,
+            controller: self.controller,
+        }
+    }
+
+    /// The same of the end in these bytes.
+    fn seen_in(&self, connection: Connection, bytes: &[u8]) -> Seen
         ensures { result ≡ (if wire.is_long bytes.now then record {
-          unit = wire.kept self.now.units connection (wire.answer_by connection bytes.now).unit;
+          unit = wire.unit_before (sents self.now.commands) (wire.kept self.now.units)
+              (wire.answer_by connection bytes.now);
           controller = self.now.controller;
         } else wire.seen_nothing) }
     {
@@ -47,18 +66,16 @@ impl<A: Allocator + Copy> Judge<A> {
             return Seen::nothing();
         }
         let answer = Answer::of(connection, bytes);
-        Seen {
-            unit: self.units.told(connection, answer.unit),
-            controller: self.controller,
-        }
+        let at = self.commands.cell_of(&answer);
+        self.seen_by(&answer, self.commands.settles(at, &answer))
     }
 
     /// The same of a moment's end.
     pub fn seen(&self, moment: &Moment) -> Seen
-        ensures { result ≡ wire.seen_before (wire.kept self.now.units) self.now.controller moment.now }
+        ensures { result ≡ wire.seen_before (sents self.now.commands) (wire.kept self.now.units) self.now.controller moment.now }
     {
         match moment {
-            Moment::End(connection, message) => self.seen_by(*connection, message.as_slice()),
+            Moment::End(connection, message) => self.seen_in(*connection, message.as_slice()),
             _ => Seen::nothing(),
         }
     }

@@ -3,7 +3,7 @@
 // Each stands in a cell. A command that leaves moves no other: its cell stays, empty, until most cells are. Then the others
 // move together. So each end moves a command or two, whichever it is of.
 
-ghost use Rattle.std.specs.Prelude.{◌≡◌, ◌+◌, ◌-◌, ◌<◌, ◌^◌, ◌++◌, ◌∷◌, [], find, length, map, take, drop, position, false, true, Some, None, OnOk, IfOk, IfSome, IsSome};
+ghost use Rattle.std.specs.Prelude.{◌≡◌, ◌+◌, ◌-◌, ◌<◌, ◌^◌, ◌++◌, ◌∷◌, [], find, length, map, take, drop, option_map, position, set, false, true, Some, None, OnOk, IfOk, IfSome, IsSome};
 ghost use Rattle.std.specs.List.{list_any, remove};
 ghost use Rattle.mscp_wire.specs.Wire as wire;
 ghost use Rattle.mscp_wire.specs.Kept as kept;
@@ -11,6 +11,7 @@ ghost use Rattle.mscp_wire.specs.Kept.{cell, place, place_if, sents};
 ghost use Rattle.mscp_wire.specs.Sought.{is_sought};
 
 use crate::answer::Answer;
+use crate::besides::{marked, turns, turns_beside};
 use crate::held::{
     Sought, cell_of, command_if, command_in, has, list_of, note, note_all, put_in, stands,
 };
@@ -205,27 +206,14 @@ impl<A: Allocator + Copy> Commands<A> {
             || !has(self.before(at), &Sought::Keeping(*command))
     }
 
-    /// The first that keeps the one in a cell back, if one does.
-    #[tactic(auto, using(crate::proofs::Names::found_at))]
-    fn keeper_of(&self, at: usize) -> Option<Sent>
-        requires { IsSome (cell self.now at) }
-        ensures { result ≡ find (wire.keeps_back (wire.command_at (sents self.now) (place self.now at)))
-            (take (place self.now at) (sents self.now)) }
+    /// Whether an AVAILABLE or an ONLINE of a unit is outstanding.
+    pub fn has_turning(&self, connection: Connection, unit: u16) -> bool
+        ensures { result ≡ list_any (wire.is_turning connection unit) (sents self.now) }
     {
-        let command = self.at(at);
-        let earlier = self.before(at);
-        command_if(earlier, cell_of(earlier, &Sought::Keeping(command)))
-    }
-
-    /// The same, if there is a cell.
-    pub fn passed_at(&self, at: Option<usize>) -> Option<Sent>
-        requires { IfSome at (λ i. IsSome (cell self.now i)) }
-        ensures { result ≡ wire.passed_at (sents self.now) (place_if self.now at) }
-    {
-        match at {
-            Some(at) => self.keeper_of(at),
-            None => None,
+        if self.tallies.fences.at(slot_of(connection, u32::from(unit))) == 0 {
+            return false;
         }
+        has(self.cells.as_slice(), &Sought::Turning(connection, unit))
     }
 
     /// Begins to count, if no command is outstanding and nothing was counted so far.
@@ -364,9 +352,9 @@ impl<A: Allocator + Copy> Commands<A> {
         leave_all(&mut self.cells, ended);
     }
 
-    /// They hear the end of a command.
+    /// They hear of figures by the end of a command.
     fn hear(&mut self, ended: &Sent, answer: &Answer)
-        ensures { sents self.new ≡ map (wire.hears ended.now answer.now) (sents self.old) }
+        ensures { sents self.new ≡ map (kept.heard ended.now answer.now) (sents self.old) }
     {
         self.leave(ended);
         if !asks_oldest(ended.asked) {
@@ -377,6 +365,38 @@ impl<A: Allocator + Copy> Commands<A> {
         }
     }
 
+    /// The one in a cell hears that another ended, which may have changed the state of its unit.
+    fn mark_in(&mut self, at: usize, ended: &Sent)
+        requires { at < length self.old }
+        ensures { self.new ≡ set self.old at (option_map (kept.besides ended.now) (cell self.old at)) }
+    {
+        if let Some(other) = self.cells[at] {
+            if !other.beside && turns_beside(ended, &other) {
+                self.tallies.mark(&other);
+                self.cells[at] = Some(marked(ended, &other));
+            }
+        }
+    }
+
+    /// All hear it.
+    fn mark_all(&mut self, ended: &Sent)
+        ensures { sents self.new ≡ map (kept.besides ended.now) (sents self.old) }
+    {
+        for at in 0..self.cells.len() {
+            self.mark_in(at, ended);
+        }
+    }
+
+    /// They hear it if it may have.
+    fn mark(&mut self, ended: &Sent)
+        ensures { sents self.new ≡ map (kept.besides ended.now) (sents self.old) }
+    {
+        if !turns(ended.opcode) || self.tallies.has_no_status(ended.connection, ended.unit) {
+            return;
+        }
+        self.mark_all(ended);
+    }
+
     /// The end of the one in a cell came: the others hear it.
     pub fn take(&mut self, at: usize, answer: &Answer)
         requires { IsSome (cell self.old at) }
@@ -384,5 +404,6 @@ impl<A: Allocator + Copy> Commands<A> {
     {
         let ended = self.remove(at);
         self.hear(&ended, answer);
+        self.mark(&ended);
     }
 }

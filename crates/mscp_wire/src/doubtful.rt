@@ -15,12 +15,14 @@ use std::alloc::Allocator;
 /// The most blocks that all copies of a replacement and caching table have: 65,535 in each of 255.
 const MOST_BLOCKS: u32 = 16_711_425;
 
-/// Whether an end tells of a unit another identity than this, if that is there.
+/// Whether an end of SET UNIT CHARACTERISTICS tells of a unit another identity than this, if that is there.
 fn is_another(identity: Option<Identity>, answer: &Answer) -> bool
     ensures { result ≡ doubt.is_another identity answer.now }
 {
     match identity {
-        Some(known) => answer.tells_unit() && !agrees(answer.identity, &known),
+        Some(known) => {
+            answer.code == 0x8A && answer.tells_unit() && !agrees(answer.identity, &known)
+        }
         None => false,
     }
 }
@@ -102,21 +104,16 @@ fn skips<A: Allocator + Copy>(units: &Units<A>, command: &Sent, answer: &Answer)
         && units.told(answer.connection, command.unit).noted.present
 }
 
-/// What is doubtful of the end of a command, by what was told before of units, and of that which it names.
-fn doubtful_end<A: Allocator + Copy>(
-    units: &Units<A>,
-    told: &Told,
-    answer: &Answer,
-    command: &Sent,
-) -> Doubtful
-    requires { told.now ≡ wire.kept units.now answer.now.connection answer.now.unit }
+/// What is doubtful of the end of a command, by what was told before of units.
+fn doubtful_end<A: Allocator + Copy>(units: &Units<A>, answer: &Answer, command: &Sent) -> Doubtful
     ensures { result ≡ doubt.doubtful_end (wire.kept units.now) (wire.kept_called units.now) answer.now command.now }
 {
+    let told = units.told(answer.connection, answer.unit);
     Doubtful {
         identity: is_another(told.identity, answer),
-        size: is_past(told, command, answer),
+        size: is_past(&told, command, answer),
         status: is_odd(command, answer),
-        protection: writes_protected(told, answer),
+        protection: writes_protected(&told, answer),
         identifier: units.is_called_twice(answer),
         next: skips(units, command, answer),
     }
@@ -125,15 +122,13 @@ fn doubtful_end<A: Allocator + Copy>(
 /// The same, if it answers one.
 pub fn doubtful_found<A: Allocator + Copy>(
     units: &Units<A>,
-    told: &Told,
     answer: &Answer,
     command: Option<Sent>,
 ) -> Doubtful
-    requires { told.now ≡ wire.kept units.now answer.now.connection answer.now.unit }
     ensures { result ≡ doubt.doubtful_found (wire.kept units.now) (wire.kept_called units.now) answer.now command }
 {
     match command {
-        Some(command) => doubtful_end(units, told, answer, &command),
+        Some(command) => doubtful_end(units, answer, &command),
         None => Doubtful::nothing(),
     }
 }

@@ -7,6 +7,7 @@ ghost use Rattle.mscp_wire.specs.Wire as wire;
 ghost use Rattle.mscp_wire.specs.Sought.{is_sought};
 ghost use Rattle.mscp_wire.specs.Kept.{cell, place, place_if, sents, stands};
 
+use crate::besides::is_turning;
 use crate::outstanding::{aborts, keeps_back};
 use crate::polls::{polls, waits_on};
 use crate::sent::Sent;
@@ -46,6 +47,8 @@ pub enum Sought {
     PollOf(Sent),
     /// One for which the host of this connection waits.
     WaitedFor(Connection),
+    /// One that changes the state of this unit of a connection.
+    Turning(Connection, u16),
 }
 
 /// Whether a command is one that is sought.
@@ -59,6 +62,7 @@ pub fn is_sought(sought: &Sought, command: &Sent) -> bool
         Sought::Keeping(other) => keeps_back(other, command),
         Sought::PollOf(other) => polls(other, command),
         Sought::WaitedFor(connection) => waits_on(*connection, command),
+        Sought::Turning(connection, unit) => is_turning(*connection, *unit, command),
     }
 }
 

@@ -251,7 +251,9 @@ impl<A: Allocator + Copy> Judge<A> {
         ensures after { OnOk result (sents self.new.commands
             ≡ wire.after_end (sents self.old.commands) answer.now (place_if self.old.commands at)) }
         ensures units { OnOk result ((via : connections.Connection) (unit : ℕ) → wire.kept self.new.units via unit
-            ≡ wire.told_after_end via unit (wire.kept self.old.units via unit) answer.now) }
+            ≡ wire.told_after_end via unit
+            (wire.is_settled_at (sents self.old.commands) answer.now (place_if self.old.commands at))
+            (wire.kept self.old.units via unit) answer.now) }
         ensures called { OnOk result ((identifier : ℕ) → wire.kept_called self.new.units identifier
             ≡ wire.called_after_end identifier (wire.kept_called self.old.units identifier) answer.now) }
         ensures controller { OnOk result (self.new.controller
@@ -259,7 +261,8 @@ impl<A: Allocator + Copy> Judge<A> {
         ensures timeout { OnOk result (self.new.timeout ≡ wire.later_of answer.now.timeout self.old.timeout) }
         ensures credits { self.new.credits ≡ self.old.credits }
     {
-        self.units.hear_end(answer)?;
+        self.units
+            .hear_end(answer, self.commands.settles(at, answer))?;
         self.controller = later_of(answer.controller, self.controller);
         self.timeout = later_time(answer.timeout, self.timeout);
         if let Some(at) = at {
@@ -273,7 +276,8 @@ impl<A: Allocator + Copy> Judge<A> {
     fn end(&mut self, connection: Connection, bytes: &[u8]) -> Result<Stepped, OutOfMemory>
         ensures rule { IfOk result (λ o. o.rule ≡ wire.unless (wire.is_long bytes.now) Rule.Length
             (wire.broken_at (sents self.old.commands) (record {
-              unit = wire.kept self.old.units connection (num bytes.now 4 2);
+              unit = wire.unit_before (sents self.old.commands) (wire.kept self.old.units)
+                  (wire.answer_by connection bytes.now);
               controller = self.old.controller;
             })
             (wire.answer_by connection bytes.now)
@@ -292,6 +296,7 @@ impl<A: Allocator + Copy> Judge<A> {
             (wire.place_of (sents self.old.commands) (wire.answer_by connection bytes.now))) }
         ensures units { IfOk result (λ o. o.rule ≡ None → (via : connections.Connection) (unit : ℕ)
             → wire.kept self.new.units via unit ≡ wire.told_after_end via unit
+            (wire.settles (sents self.old.commands) (wire.answer_by connection bytes.now))
             (wire.kept self.old.units via unit) (wire.answer_by connection bytes.now)) }
         ensures called { IfOk result (λ o. o.rule ≡ None → (identifier : ℕ)
             → wire.kept_called self.new.units identifier
@@ -310,13 +315,10 @@ impl<A: Allocator + Copy> Judge<A> {
         let answer = Answer::of(connection, bytes);
         let at = self.commands.cell_of(&answer);
         let command = self.commands.command_if(at);
-        let seen = Seen {
-            unit: self.units.told(connection, answer.unit),
-            controller: self.controller,
-        };
+        let seen = self.seen_by(&answer, self.commands.settles(at, &answer));
         let rule = broken_answer(&self.commands, &seen, &answer, at);
         let fall = fall_found(&answer, command);
-        let doubtful = doubtful_found(&self.units, &seen.unit, &answer, command);
+        let doubtful = doubtful_found(&self.units, &answer, command);
         if rule.is_none() {
             self.ended(&answer, at)?;
         }
@@ -331,7 +333,8 @@ impl<A: Allocator + Copy> Judge<A> {
     /// What comes of a moment. If it breaks no rule it is added to those before it.
     pub fn step(&mut self, moment: &Moment) -> Result<Stepped, OutOfMemory>
         ensures rule { IfOk result (λ o. o.rule ≡ wire.broken self.old.credits (sents self.old.commands)
-            (wire.seen_of (wire.kept self.old.units) self.old.controller moment.now) moment.now) }
+            (wire.seen_of (sents self.old.commands) (wire.kept self.old.units) self.old.controller moment.now)
+            moment.now) }
         ensures command { IfOk result (λ o. o.command ≡ wire.command_of (sents self.old.commands) moment.now) }
         ensures fall { IfOk result (λ o. o.fall ≡ total.fall_after (sents self.old.commands) moment.now) }
         ensures doubtful { IfOk result (λ o. o.doubtful ≡ doubt.doubtful (sents self.old.commands) (wire.kept self.old.units)
@@ -340,7 +343,7 @@ impl<A: Allocator + Copy> Judge<A> {
             ≡ wire.after self.old.timeout (sents self.old.commands) moment.now) }
         ensures units { IfOk result (λ o. o.rule ≡ None → (via : connections.Connection) (unit : ℕ)
             → wire.kept self.new.units via unit
-            ≡ wire.told_after via unit (wire.kept self.old.units via unit) moment.now) }
+            ≡ wire.told_after (sents self.old.commands) via unit (wire.kept self.old.units via unit) moment.now) }
         ensures called { IfOk result (λ o. o.rule ≡ None → (identifier : ℕ)
             → wire.kept_called self.new.units identifier
             ≡ wire.called_after identifier (wire.kept_called self.old.units identifier) moment.now) }

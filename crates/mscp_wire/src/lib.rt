@@ -3,6 +3,7 @@
 
 mod against;
 mod answer;
+mod besides;
 mod commands;
 mod course;
 mod doubtful;
@@ -18,6 +19,7 @@ mod moment;
 mod noted;
 mod onward;
 mod outstanding;
+mod passed;
 mod polls;
 mod row;
 mod rule;

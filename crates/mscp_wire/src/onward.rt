@@ -76,7 +76,7 @@ impl<A: Allocator + Copy> Judge<A> {
         ensures after { OnOk result (sents self.new.commands
             ≡ wire.after self.old.timeout (sents self.old.commands) moment.now) }
         ensures units { OnOk result ((via : connections.Connection) (unit : ℕ) → wire.kept self.new.units via unit
-            ≡ wire.told_after via unit (wire.kept self.old.units via unit) moment.now) }
+            ≡ wire.told_after (sents self.old.commands) via unit (wire.kept self.old.units via unit) moment.now) }
         ensures called { OnOk result ((identifier : ℕ) → wire.kept_called self.new.units identifier
             ≡ wire.called_after identifier (wire.kept_called self.old.units identifier) moment.now) }
         ensures controller { OnOk result (self.new.controller ≡ wire.controller_after self.old.controller moment.now) }

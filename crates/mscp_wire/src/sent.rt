@@ -46,6 +46,8 @@ pub struct Sent {
     pub polled: Option<u64>,
     /// What it asks of another command, if it is a poll.
     pub asked: Asked,
+    /// Whether an AVAILABLE or an ONLINE of its unit ended beside it, if it is a GET UNIT STATUS.
+    pub beside: bool,
 }
 
 /// The number in the four bytes from a place on, if there are so many.
@@ -105,6 +107,7 @@ impl Sent {
             told: None,
             polled: None,
             asked: Asked::Nothing,
+            beside: false,
         }
     }
 

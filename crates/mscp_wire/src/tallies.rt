@@ -1,6 +1,6 @@
 // How many of the commands that are outstanding there are of each kind.
 
-ghost use Rattle.std.specs.Prelude.{◌≡◌, ◌+◌, ◌<◌, ◌≤◌, ◌^◌, ◌++◌, ◌∷◌, ℕ, List, [], cond, length, IfSome};
+ghost use Rattle.std.specs.Prelude.{◌≡◌, ◌+◌, ◌<◌, ◌≤◌, ◌^◌, ◌++◌, ◌∷◌, ℕ, List, [], cond, length, set, true, IfSome};
 ghost use Rattle.std.specs.List.{remove};
 ghost use Rattle.mscp_wire.specs.Wire.{command_at};
 ghost use Rattle.mscp_wire.specs.Kept as kept;
@@ -23,6 +23,11 @@ pub struct Tallies<A: Allocator> {
     pub lines: Tally<A>,
     /// Polls, by the names of the commands that they are about.
     pub asked: Tally<A>,
+    /// GET UNIT STATUS by their units, but for those that ask for the next unit, and those whose unit may have had two
+    /// states since they came.
+    pub statuses: Tally<A>,
+    /// Those of the next unit by their connections.
+    pub nexts: Tally<A>,
     /// Of each connection.
     pub first: usize,
     pub second: usize,
@@ -67,6 +72,28 @@ pub fn by_asked(command: &Sent) -> Option<usize>
     }
 }
 
+/// By which number the unit of a GET UNIT STATUS is counted, if that had one state so far.
+fn by_status(command: &Sent) -> Option<usize>
+    ensures { result ≡ kept.by_status command.now }
+{
+    if command.opcode == 3 && !command.next && !command.beside {
+        Some(slot_of(command.connection, u32::from(command.unit)))
+    } else {
+        None
+    }
+}
+
+/// The same of one that asks for the next unit.
+fn by_next(command: &Sent) -> Option<usize>
+    ensures { result ≡ kept.by_next command.now }
+{
+    if command.opcode == 3 && command.next && !command.beside {
+        Some(slot_of(command.connection, 0))
+    } else {
+        None
+    }
+}
+
 /// Whether a command is of a connection.
 fn is_on(connection: Connection, command: &Sent) -> bool
     ensures { result ≡ kept.is_on connection command.now }
@@ -100,6 +127,8 @@ impl<A: Allocator + Copy> Tallies<A> {
             fences: Tally::unknown(alloc),
             lines: Tally::unknown(alloc),
             asked: Tally::unknown(alloc),
+            statuses: Tally::unknown(alloc),
+            nexts: Tally::unknown(alloc),
             first: 0,
             second: 0,
         }
@@ -113,6 +142,8 @@ impl<A: Allocator + Copy> Tallies<A> {
         self.fences.begin()?;
         self.lines.begin()?;
         self.asked.begin()?;
+        self.statuses.begin()?;
+        self.nexts.begin()?;
         Ok(())
     }
 
@@ -126,6 +157,8 @@ impl<A: Allocator + Copy> Tallies<A> {
         self.fences.add(by_fence(command));
         self.lines.add(by_line(command));
         self.asked.add(by_asked(command));
+        self.statuses.add(by_status(command));
+        self.nexts.add(by_next(command));
         self.first = one_more(self.first, is_on(Connection::First, command));
         self.second = one_more(self.second, is_on(Connection::Second, command));
     }
@@ -140,7 +173,27 @@ impl<A: Allocator + Copy> Tallies<A> {
         self.fences.subtract(by_fence(command));
         self.lines.subtract(by_line(command));
         self.asked.subtract(by_asked(command));
+        self.statuses.subtract(by_status(command));
+        self.nexts.subtract(by_next(command));
         self.first = one_less(self.first, is_on(Connection::First, command));
         self.second = one_less(self.second, is_on(Connection::Second, command));
+    }
+
+    /// Whether it is soon seen that no GET UNIT STATUS is outstanding of this unit or of whichever is next, whose unit had
+    /// one state so far.
+    pub fn has_no_status(&self, connection: Connection, unit: u16) -> bool
+        ensures { result ≡ kept.has_none connection unit self.now }
+    {
+        self.statuses.at(slot_of(connection, u32::from(unit))) == 0
+            && self.nexts.at(slot_of(connection, 0)) == 0
+    }
+
+    /// The unit of one may have had two states since it came.
+    pub fn mark(&mut self, command: &Sent)
+        ensures { (xs : List sents.Sent) (i : ℕ) → i < length xs → command.now ≡ command_at xs i
+            → kept.IsKept xs self.old → kept.IsKept (set xs i (record command.now { beside = true })) self.new }
+    {
+        self.statuses.subtract(by_status(command));
+        self.nexts.subtract(by_next(command));
     }
 }

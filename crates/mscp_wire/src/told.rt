@@ -1,6 +1,6 @@
 // What a host was told of a unit.
 
-ghost use Rattle.std.specs.Prelude.{◌≡◌};
+ghost use Rattle.std.specs.Prelude.{◌≡◌, if◌then◌else◌};
 ghost use Rattle.mscp_wire.specs.Wire as wire;
 
 use crate::answer::Answer;
@@ -217,6 +217,17 @@ impl Told {
             sure: !is_new && self.sure,
             state: self.state,
             noted: self.noted.other(answer),
+        }
+    }
+
+    /// And once one of its own did, which is settled or not.
+    pub fn after_end(&self, answer: &Answer, settled: bool) -> Told
+        ensures { result ≡ (if settled then wire.after_own self.now answer.now else wire.after_other self.now answer.now) }
+    {
+        if settled {
+            self.after_own(answer)
+        } else {
+            self.after_other(answer)
         }
     }
 }

@@ -132,10 +132,10 @@ impl<A: Allocator + Copy> Units<A> {
         Ok(())
     }
 
-    /// What was told once an end came.
-    pub fn hear_end(&mut self, answer: &Answer) -> Result<(), OutOfMemory>
+    /// What was told once an end came, which is settled or not.
+    pub fn hear_end(&mut self, answer: &Answer, settled: bool) -> Result<(), OutOfMemory>
         ensures told { OnOk result ((via : connections.Connection) (unit : ℕ) → wire.kept self.new via unit
-            ≡ wire.told_after_end via unit (wire.kept self.old via unit) answer.now) }
+            ≡ wire.told_after_end via unit settled (wire.kept self.old via unit) answer.now) }
         ensures called { OnOk result ((identifier : ℕ) → wire.kept_called self.new identifier
             ≡ wire.called_after_end identifier (wire.kept_called self.old identifier) answer.now) }
     {
@@ -143,7 +143,9 @@ impl<A: Allocator + Copy> Units<A> {
             return Ok(());
         }
         let other = other_side(answer.connection);
-        let own = self.told(answer.connection, answer.unit).after_own(answer);
+        let own = self
+            .told(answer.connection, answer.unit)
+            .after_end(answer, settled);
         let others = self.told(other, answer.unit).after_other(answer);
         self.put(answer.connection, answer.unit, own, others)?;
         self.hear_call(answer)?;

@@ -22,8 +22,8 @@ returns-in-Some-clause-after g c = λ log s. record {
       (kept_then _ _ _ _ c.in-Some.is c.in_ok-rule.ensures.unchanged) s.commands;
   seen =
       c.seen.ensures
-      ∙ seen_then c.args.self.now.judge c.step.new.self c.args.moment _ _
-      (kept_then _ _ _ _ c.in-Some.is c.in_ok-rule.ensures.unchanged) s.units s.controller;
+      ∙ seen_then c.args.self.now.judge c.step.new.self c.args.moment _ _ _
+      (kept_then _ _ _ _ c.in-Some.is c.in_ok-rule.ensures.unchanged) s.commands s.units s.controller;
 }
 
 pub returns-in-None-clause-after : goal.returns-in-None-clause-after
@@ -39,7 +39,7 @@ returns-in-None-clause-after g c = λ log s.
             (sym c.in-None.is ∙ c.in_ok-rule.ensures.rule));
         credits = c.in_ok-rule.ensures.credits ∙ s.credits;
         commands = after;
-        units = told_more log.moments c.args.moment _ _ s.units (c.in_ok-rule.ensures.units c.in-None.is);
+        units = told_more log.moments c.args.moment _ _ _ s.commands s.units (c.in_ok-rule.ensures.units c.in-None.is);
         controller = controller_more log.moments c.args.moment _ _ s.controller
             (c.in_ok-rule.ensures.controller c.in-None.is);
         timeout = timeout_more log.moments c.args.moment _ _ s.timeout (c.in_ok-rule.ensures.timeout c.in-None.is);

@@ -1,0 +1,18 @@
+use Rattle.std.proofs.Common.{ap, map, ◌∙◌}
+use Rattle.std.specs.List.{remove}
+use Rattle.mscp_wire.specs.Kept.{besides, heard, place, sents}
+use Rattle.mscp_wire.specs.Wire.{command_at, hears}
+use Rattle.mscp_wire.proofs.Marking.{heard_all, removed}
+use Rattle.mscp_wire.proofs.commands.Commands.take.Goals as goal
+
+pub returns : goal.returns
+returns g c =
+    let xs = sents c.args.self.now in
+    let p = place c.args.self.now c.args.at in
+    let y = c.remove-ended.result in
+    let e = c.args.answer.now in
+    c.mark.ensures
+    ∙ (ap (map (besides y)) (c.hear.ensures ∙ ap (map (heard y e)) c.remove-ended.ensures.others)
+    ∙ (heard_all y e (remove xs p)
+    ∙ (ap (λ z. map (hears z e) (remove xs p)) c.remove-ended.ensures.gone
+    ∙ removed (hears (command_at xs p) e) xs p)))

@@ -1,0 +1,48 @@
+// Beside which commands a GET UNIT STATUS is answered. It may be answered at any moment between its message and its end.
+// So if an AVAILABLE or an ONLINE of its unit is outstanding at any time between, its end may tell what was before that
+// one or after it, and proves nothing.
+
+ghost use Rattle.std.specs.Prelude.{◌≡◌};
+ghost use Rattle.mscp_wire.specs.Wire as wire;
+ghost use Rattle.mscp_wire.specs.Kept as kept;
+
+use crate::sent::Sent;
+use mscp_drive::Connection;
+
+/// Whether a command of this opcode changes the state of its unit: an AVAILABLE and an ONLINE do.
+pub fn turns(opcode: u8) -> bool
+    ensures { result ≡ wire.turns opcode }
+{
+    opcode == 8 || opcode == 9
+}
+
+/// Whether a command does, and another is a GET UNIT STATUS of its unit, or of whichever is next.
+pub fn turns_beside(command: &Sent, status: &Sent) -> bool
+    ensures { result ≡ wire.turns_beside command.now status.now }
+{
+    turns(command.opcode)
+        && status.opcode == 3
+        && status.connection == command.connection
+        && (status.next || status.unit == command.unit)
+}
+
+/// Whether a command changes the state of this unit of a connection.
+pub fn is_turning(connection: Connection, unit: u16, command: &Sent) -> bool
+    ensures { result ≡ wire.is_turning connection unit command.now }
+{
+    turns(command.opcode) && command.connection == connection && command.unit == unit
+}
+
+/// Another command, once one that may have changed the state of its unit ended.
+pub fn marked(ended: &Sent, other: &Sent) -> Sent
+    ensures { result ≡ kept.besides ended.now other.now }
+{
+    if turns_beside(ended, other) {
+        Sent {
+            beside: true,
+            ..*other
+        }
+    } else {
+        *other
+    }
+}
