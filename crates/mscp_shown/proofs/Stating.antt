@@ -65,18 +65,18 @@ opened : (unit : ℕ) (online : Bool) (es : List End) → Stated unit online Awa
 opened unit online [] h = λ e. cc
 opened unit online (e ∷ es) h = (
   λ q. refl,
-  by_bools (nat_eq e.unit unit) (away_of e.code e.status) (brings_of e.code e.status) h.1,
+  by_bools (nat_eq e.unit unit) (away_of e.code e.status) (brings_of e.code e.status) (opened unit online es) h.1,
 )
   where
-    by_bools : (here away on : Bool)
+    by_bools : (here away on : Bool) → (Stated unit online Away es → Stated unit online Open es)
         → Stated unit online (if here then (if away then turned Away Away else (if on then turned Away Open else Away))
         else Away) es
         → Stated unit online (if here then (if away then turned Open Away else (if on then turned Open Open else Open))
         else Open) es
-    by_bools false away on k = opened unit online es k
-    by_bools true true on k = k
-    by_bools true false true k = k
-    by_bools true false false k = opened unit online es k
+    by_bools false away on f k = f k
+    by_bools true true on f k = k
+    by_bools true false true f k = k
+    by_bools true false false f k = f k
 
 pub stated_unsettled : (unit : ℕ) (online : Bool) (s : State) (e : End) (es : List End) → nat_eq e.code 0x83 ≡ true
     → Stated unit online (state_then unit s e) es → Stated unit online s es

@@ -3,15 +3,16 @@
 // Each stands in a cell. A command that leaves moves no other: its cell stays, empty, until most cells are. Then the others
 // move together. So each end moves a command or two, whichever it is of.
 
-ghost use Rattle.std.specs.Prelude.{◌≡◌, ◌+◌, ◌-◌, ◌<◌, ◌^◌, ◌++◌, ◌∷◌, [], find, length, map, take, drop, option_map, position, set, false, true, Some, None, OnOk, IfOk, IfSome, IsSome};
+ghost use Rattle.std.specs.Prelude.{◌≡◌, ◌+◌, ◌-◌, ◌<◌, ◌^◌, ◌++◌, ◌∷◌, [], find, length, map, take, drop, position, false, true, Some, None, OnOk, IfOk, IfSome, IsSome};
 ghost use Rattle.std.specs.List.{list_any, remove};
 ghost use Rattle.mscp_wire.specs.Wire as wire;
 ghost use Rattle.mscp_wire.specs.Kept as kept;
 ghost use Rattle.mscp_wire.specs.Kept.{cell, place, place_if, sents};
 ghost use Rattle.mscp_wire.specs.Sought.{is_sought};
 
+mod marking;
+
 use crate::answer::Answer;
-use crate::besides::{marked, turns, turns_beside};
 use crate::held::{
     Sought, cell_of, command_if, command_in, has, list_of, note, note_all, put_in, stands,
 };
@@ -363,38 +364,6 @@ impl<A: Allocator + Copy> Commands<A> {
         if let Some(other) = answer.polled_by(ended) {
             self.tell((answer.connection, other), answer.figure, ended.time);
         }
-    }
-
-    /// The one in a cell hears that another ended, which may have changed the state of its unit.
-    fn mark_in(&mut self, at: usize, ended: &Sent)
-        requires { at < length self.old }
-        ensures { self.new ≡ set self.old at (option_map (kept.besides ended.now) (cell self.old at)) }
-    {
-        if let Some(other) = self.cells[at] {
-            if !other.beside && turns_beside(ended, &other) {
-                self.tallies.mark(&other);
-                self.cells[at] = Some(marked(ended, &other));
-            }
-        }
-    }
-
-    /// All hear it.
-    fn mark_all(&mut self, ended: &Sent)
-        ensures { sents self.new ≡ map (kept.besides ended.now) (sents self.old) }
-    {
-        for at in 0..self.cells.len() {
-            self.mark_in(at, ended);
-        }
-    }
-
-    /// They hear it if it may have.
-    fn mark(&mut self, ended: &Sent)
-        ensures { sents self.new ≡ map (kept.besides ended.now) (sents self.old) }
-    {
-        if !turns(ended.opcode) || self.tallies.has_no_status(ended.connection, ended.unit) {
-            return;
-        }
-        self.mark_all(ended);
     }
 
     /// The end of the one in a cell came: the others hear it.

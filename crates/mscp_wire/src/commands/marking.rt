@@ -1,0 +1,45 @@
+// Each GET UNIT STATUS hears once that its unit may have another state: it is counted until then. So of those that are
+// outstanding none is looked at that heard it before.
+
+ghost use Rattle.std.specs.Prelude.{◌≡◌, ◌<◌, length, map, option_map, set};
+ghost use Rattle.mscp_wire.specs.Kept as kept;
+ghost use Rattle.mscp_wire.specs.Kept.{cell, sents};
+
+use crate::besides::{marked, turns, turns_beside};
+use crate::commands::Commands;
+use crate::sent::Sent;
+use std::alloc::Allocator;
+
+impl<A: Allocator + Copy> Commands<A> {
+    /// The one in a cell hears that another ended, which may have changed the state of its unit.
+    fn mark_in(&mut self, at: usize, ended: &Sent)
+        requires { at < length self.old }
+        ensures { self.new ≡ set self.old at (option_map (kept.besides ended.now) (cell self.old at)) }
+    {
+        if let Some(other) = self.cells[at] {
+            if !other.beside && turns_beside(ended, &other) {
+                self.tallies.mark(&other);
+                self.cells[at] = Some(marked(ended, &other));
+            }
+        }
+    }
+
+    /// All hear it.
+    fn mark_all(&mut self, ended: &Sent)
+        ensures { sents self.new ≡ map (kept.besides ended.now) (sents self.old) }
+    {
+        for at in 0..self.cells.len() {
+            self.mark_in(at, ended);
+        }
+    }
+
+    /// They hear it if it may have.
+    pub fn mark(&mut self, ended: &Sent)
+        ensures { sents self.new ≡ map (kept.besides ended.now) (sents self.old) }
+    {
+        if !turns(ended.opcode) || self.tallies.has_no_status(ended.connection, ended.unit) {
+            return;
+        }
+        self.mark_all(ended);
+    }
+}
