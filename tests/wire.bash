@@ -771,6 +771,51 @@ no_log_of_the_wire() {
         wire_refuses 'line 1: byte' $'reset\t' && wire_refuses 'line 2: count' "$(reading 1)" '@1 send'
 }
 
+# A line of this word with a whole packet: its envelope tells a length, a type, credits and a connection, and this is behind.
+whole() { echo "$1 $(low_first "$2" 2)$(printf '%x%x%02x' "$3" "$4" "$5")$6"; }
+
+# Of whole packets those of other types or connections are passed over, and what stands behind a message, too.
+whole_packets() {
+    local online up poll abort
+    read -r _ online <<<"$(online 1)"
+    read -r _ up <<<"$(onlined 1 0)"
+    read -r _ poll <<<"$(poll 4 2)"
+    read -r _ abort <<<"$(abort 4 1)"
+    wire_is_right '2 1 0 1 0' '' "$(whole from 12 0 0 0 "$online")" "$(whole to 44 0 3 0 "$up")" &&
+        wire_is_right '2 1 0 1 0' '' "$(whole 'second from' 12 0 0 0 "$online")" "$(whole 'second to' 44 0 15 0 "$up")" &&
+        wire_is_right '2 1 0 1 0' '' "$(online 1)" "@7.5 $(whole to 44 0 1 0 "${up}2a2a")" &&
+        wire_is_right '1 1 0 0 0' 'outstanding: ONLINE 1 of unit 0' "$(whole from 12 0 0 0 "$online$up")" &&
+        wire_is_right '1 1 0 0 0' 'outstanding: ONLINE 1 of unit 0' "$(online 1)" "$(whole from 16 0 0 2 "$abort")" \
+            "$(whole to 12 1 0 0 "$online")" "$(whole to 0 2 4 0 '')" "$(whole to 99 0 0 1 '')" &&
+        wire_is_right '1 1 0 0 0' 'outstanding: ONLINE 1 of unit 0' "$(online 1)" "$(whole to 12 0 0 0 "$(packet 12 0 0 64 0)")" &&
+        wire_breaks 'host: message' '' "$(whole from 11 0 0 0 "$poll")" &&
+        wire_breaks 'controller: length' '' "$(whole from 12 0 0 0 "$online")" "$(whole to 43 0 0 0 "$up")" || return
+    wire_refuses 'line 1: hex' "$(whole from 13 0 0 0 "$online")" && wire_refuses 'line 1: hex' "$(whole to 0 0 0 0 "$up")" &&
+        wire_refuses 'line 1: hex' 'to 0c0000' && wire_refuses 'line 1: hex' 'from 0c00000' && wire_refuses 'line 1: hex' 'to 0c0000xx' &&
+        wire_refuses 'line 1: hex' "$(whole from 65 0 0 0 "$(packet 65 1 0 33 0)")" && wire_refuses 'line 1: count' from &&
+        wire_refuses 'line 1: count' "$(whole to 12 0 0 0 "$online") 00" && wire_refuses 'line 1: word' "From ${online}"
+}
+
+# So a log says the same as that of its packets.
+whole_packets_say_the_same() {
+    local log line time word digits
+    for log in examples/*.wire; do
+        while IFS= read -r line; do
+            time=
+            [[ $line != @* ]] || time="${line%% *} "
+            read -r word digits <<<"${line#"$time"}"
+            case $word in
+                send) whole "${time}from" $((${#digits} / 2)) 0 0 0 "$digits" ;;
+                end) whole "${time}to" $((${#digits} / 2)) 0 1 0 "$digits" ;;
+                *) printf '%s\n' "$line" ;;
+            esac
+        done <"$log" >"$room/whole"
+        "$program" wire "$log" >"$room/out"
+        "$program" wire "$room/whole" | cmp -- - "$room/out" || return
+        [ "$log" != examples/captured.wire ] || ! cmp -s -- "$log" "$room/whole" || return
+    done
+}
+
 # The log in words is this, by its name and on standard input.
 shows() {
     "$program" wire --show "$room/log" </dev/null >"$room/out" 2>"$room/err" && cmp -- "$room/out" - &&

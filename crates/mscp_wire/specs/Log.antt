@@ -1,9 +1,10 @@
 -- A log of the wire: what its lines say, and what they tell. No judge is in these definitions.
-use Rattle.std.specs.Prelude.{ℕ, ◌+◌, ◌-◌, ◌*◌, ◌^◌, ◌==◌, Bool, false, nat_eq, nat_lt, ◌&&◌, if◌then◌else◌, List, [], ◌∷◌, ◌++◌, length, take, drop, position, codes, slice_index, Option, Some, None, is_none, Result, Ok, Err}
+use Rattle.std.specs.Prelude.{ℕ, ◌+◌, ◌-◌, ◌*◌, ◌^◌, ◌/◌, ◌==◌, Bool, false, not, nat_eq, nat_lt, ◌&&◌, ◌||◌, if◌then◌else◌, List, [], ◌∷◌, ◌++◌, length, take, drop, position, codes, slice_index, Option, Some, None, is_none, Result, Ok, Err}
 use Rattle.std.specs.Str.{bytes_eq}
 use Rattle.arrayvec.specs.ArrayVec.{ArrayVec}
 use Rattle.mscp_drive.specs.declared.connection.Connection.{Connection}
 use Rattle.mscp_drive.specs.declared.connection.Connection.TheVariants.{First, Second}
+use Rattle.mscp_packet.specs.Number.{num}
 use Rattle.mscp_packet.specs.Steps.{◌>>=◌}
 use Rattle.mscp_reader.specs.Grammar.{only_number, said_at}
 use Rattle.mscp_reader.specs.Lexical.{wide}
@@ -71,6 +72,34 @@ packet_of (b ∷ bytes) = Ok (record { items = b ∷ bytes })
 unfoldable pub packet : List (List ℕ) → Result (ArrayVec ℕ) Cause
 packet fields = one fields >>= λ digits. packet_of (bytes_in digits)
 
+-- an envelope is of a message, or an end, of the disk's connection: both its type and its connection are 0. The low four
+-- bits beside the type are credits
+abbrev pub is_disks : List ℕ → Bool
+is_disks envelope =
+    nat_lt 3 (length envelope) && nat_eq (slice_index envelope 2 / 16) 0 && nat_eq (slice_index envelope 3) 0
+
+-- as many bytes of a message as its envelope says
+abbrev pub cut : ArrayVec ℕ → ℕ → Result (ArrayVec ℕ) Cause
+cut message count =
+    if nat_eq count 0 || nat_lt (length message.items) count then Err causes.Hex
+    else Ok (record { items = take count message.items })
+
+-- the message behind an envelope, if it is the disk's
+abbrev pub message_in : List ℕ → List ℕ → Result (Option (ArrayVec ℕ)) Cause
+message_in envelope digits =
+    if not (nat_eq (length envelope) 4) then Err causes.Hex else (
+    if not (is_disks envelope) then Ok None
+    else (cut (record { items = bytes_in digits }) (num envelope 0 2) >>= λ b. Ok (Some b)))
+
+-- the same by the digits of a whole packet: four bytes of an envelope, and then the message
+abbrev pub enveloped : List ℕ → Result (Option (ArrayVec ℕ)) Cause
+enveloped digits =
+    if nat_lt (length digits) 8 then Err causes.Hex else message_in (bytes_in (take 8 digits)) (drop 8 digits)
+
+-- the one word that is left is the digits of such a packet
+unfoldable pub whole_packet : List (List ℕ) → Result (Option (ArrayVec ℕ)) Cause
+whole_packet fields = one fields >>= enveloped
+
 -- what the controller sends is an attention message (0x40), which answers no command (manual, "Attention Messages")
 abbrev pub is_attention : List ℕ → Bool
 is_attention b = nat_eq (slice_index b 8) 0x40
@@ -79,13 +108,24 @@ is_attention b = nat_eq (slice_index b 8) 0x40
 abbrev pub sends : Connection → ArrayVec ℕ → Said
 sends via b = if is_attention b.items then says.Attention via b else says.Happens (moments.End via b)
 
+-- a packet of a host, or of the controller, says nothing if it isn't the disk's
+abbrev pub sent_whole : Option ℕ → Connection → Option (ArrayVec ℕ) → Said
+sent_whole time via None = says.Nothing
+sent_whole time via (Some b) = says.Happens (moments.Message via b time)
+
+abbrev pub sends_whole : Connection → Option (ArrayVec ℕ) → Said
+sends_whole via None = says.Nothing
+sends_whole via (Some b) = sends via b
+
 -- a message or an end of a connection at this time, by the first word
 unfoldable pub happens_on : Option ℕ → Connection → List (List ℕ) → Result Said Cause
 happens_on time via [] = Err causes.Count
 happens_on time via (word ∷ fields) =
     if bytes_eq word (codes "send") then (packet fields >>= λ b. Ok (says.Happens (moments.Message via b time))) else (
-    if bytes_eq word (codes "end") then (packet fields >>= λ b. Ok (sends via b))
-    else Err causes.Word)
+    if bytes_eq word (codes "end") then (packet fields >>= λ b. Ok (sends via b)) else (
+    if bytes_eq word (codes "from") then (whole_packet fields >>= λ b. Ok (sent_whole time via b)) else (
+    if bytes_eq word (codes "to") then (whole_packet fields >>= λ b. Ok (sends_whole via b))
+    else Err causes.Word)))
 
 -- what the words of a line say, behind its time
 unfoldable pub said_by : Option ℕ → List (List ℕ) → Result Said Cause

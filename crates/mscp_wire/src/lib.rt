@@ -8,6 +8,7 @@ mod commands;
 mod course;
 mod doubtful;
 mod doubts;
+mod envelope;
 mod falls;
 mod held;
 mod identity;

@@ -6,6 +6,7 @@ ghost use Rattle.mscp_reader.specs.Lexical as lexical;
 ghost use Rattle.mscp_reader.specs.Grammar.{only_number};
 ghost use Rattle.mscp_wire.specs.Log as log;
 
+use crate::envelope::enveloped;
 use crate::moment::Moment;
 use arrayvec::ArrayVec;
 use mscp_drive::Connection;
@@ -131,6 +132,34 @@ fn sends(connection: Connection, message: ArrayVec<u8, 64>) -> Said
     }
 }
 
+/// The message of a packet with its envelope, whose digits are the one word that is left, if it is the disk's.
+#[tactic(auto, unfolding(crate::specs::Log::whole_packet))]
+fn whole_packet(words: Words<'_>) -> Result<Option<ArrayVec<u8, 64>>, Cause>
+    ensures { result ≡ log.whole_packet (lexical.words words.entry.rest.now) }
+{
+    enveloped(words.one()?)
+}
+
+/// What a host sends by a packet: nothing, if that isn't the disk's.
+fn sent_whole(time: Option<u64>, connection: Connection, message: Option<ArrayVec<u8, 64>>) -> Said
+    ensures { result ≡ log.sent_whole time connection message }
+{
+    match message {
+        Some(message) => Said::Happens(Moment::Message(connection, message, time)),
+        None => Said::Nothing,
+    }
+}
+
+/// And the controller.
+fn sends_whole(connection: Connection, message: Option<ArrayVec<u8, 64>>) -> Said
+    ensures { result ≡ log.sends_whole connection message }
+{
+    match message {
+        Some(message) => sends(connection, message),
+        None => Said::Nothing,
+    }
+}
+
 /// A message or an end of a connection at this time, by the first word and those behind it.
 #[tactic(auto, unfolding(crate::specs::Log::happens_on))]
 fn happens(
@@ -146,6 +175,10 @@ fn happens(
         Ok(Said::Happens(Moment::Message(connection, message, time)))
     } else if word == b"end".as_slice() {
         Ok(sends(connection, packet(fields)?))
+    } else if word == b"from".as_slice() {
+        Ok(sent_whole(time, connection, whole_packet(fields)?))
+    } else if word == b"to".as_slice() {
+        Ok(sends_whole(connection, whole_packet(fields)?))
     } else {
         Err(Cause::Word)
     }
