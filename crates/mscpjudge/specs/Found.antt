@@ -77,15 +77,3 @@ abbrev pub verdict_found : {A : Type 0} → List ℕ → Verdict A → Result (L
 verdict_found bytes (verdicts.Right totals doubts commands) =
     Ok (wire_text bytes (verdicts.Right totals doubts commands))
 verdict_found bytes (verdicts.Wrong wrong) = log_found bytes
-
--- what is written is that of the log that the reader gave. Nothing is written on a fault, and a fault of the log is
--- that of what the reader gave, or of what comes behind the first moment that isn't right; nothing is said where the
--- write failed
-abbrev pub TellsAll : Result Outcome Fault → Option (List ℕ) → Option (List ℕ) → Option (List ℕ) → Type 0
-TellsAll (Ok outcome) known old new =
-    IsGiven known (λ log. (came : Result Log Wrong) × Comes log (Ok came) × (outcome ≡ came_outcome came)
-    × (text : List ℕ) × (all_text log came ≡ Ok text) × Appends old new text)
-TellsAll (Err faults.Write) known old new = Unit {0}
-TellsAll (Err (faults.Log fault)) known old new =
-    (new ≡ old) × IsGiven known (λ log. Comes log (Err fault) ⊎ (log_found log ≡ Err fault))
-TellsAll (Err fault) known old new = new ≡ old

@@ -1,4 +1,5 @@
 pub mod Said
+pub mod Ports
 pub mod Chosen
 pub mod Endings
 pub mod Heard
@@ -8,5 +9,6 @@ pub mod Values
 pub mod Places
 pub mod Wired
 pub mod Found
+pub mod Told
 pub mod Showing
 pub mod Common

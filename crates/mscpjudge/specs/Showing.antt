@@ -19,11 +19,14 @@ use Rattle.mscp_wire.specs.declared.line.Said.TheVariants as says
 use Rattle.mscp_wire.specs.declared.moment.Moment.{Moment}
 use Rattle.mscp_wire.specs.declared.moment.Moment.TheVariants as moments
 use Rattle.mscp_drive.specs.declared.connection.Connection.{Connection}
+use Rattle.mscpjudge.specs.Ports.{line_kind}
 use Rattle.mscpjudge.specs.Wired.{connection_name}
 use Rattle.mscpjudge.specs.declared.fault.Fault.{Fault}
 use Rattle.mscpjudge.specs.declared.fault.Fault.TheVariants as faults
 use Rattle.mscpjudge.specs.declared.judging.Outcome.{Outcome}
 use Rattle.mscpjudge.specs.declared.judging.Outcome.TheVariants as outcomes
+use Rattle.mscpjudge.specs.declared.ports.Kind.{Kind}
+use Rattle.mscpjudge.specs.declared.ports.Kind.TheVariants as kinds
 
 -- why bytes are no packet, and their digits
 abbrev pub unread_text : List ℕ → List ℕ → List ℕ
@@ -62,8 +65,22 @@ said_text number (says.Happens m) = codes "line " ++ decimal number ++ codes ": 
 said_text number (says.Attention via b) = codes "line " ++ decimal number ++ codes ": " ++ sent_text via b.items
 
 -- the same, or its fault
+abbrev pub read_shown : ℕ → List ℕ → Result (List ℕ) ScriptFault
+read_shown number line = in_line number (line_says number line) >>= λ said. Ok (said_text number said)
+
+-- the line of a port
+abbrev pub named_text : ℕ → ℕ → List ℕ
+named_text number port = codes "line " ++ decimal number ++ codes ": port " ++ decimal port ++ codes "\n"
+
+-- a line that is this for the ports
+abbrev pub kind_shown : ℕ → List ℕ → Kind → Result (List ℕ) ScriptFault
+kind_shown number line (kinds.Names port) = Ok (named_text number port)
+kind_shown number line (kinds.Faulty cause) = Err (record { line = number; cause = cause })
+kind_shown number line kind = read_shown number line
+
+-- a line
 unfoldable pub line_shown : ℕ → List ℕ → Result (List ℕ) ScriptFault
-line_shown number line = in_line number (line_says number line) >>= λ said. Ok (said_text number said)
+line_shown number line = kind_shown number line (line_kind number line)
 
 -- what lines say behind this text, where so many lines stand before, or the first fault
 unfoldable pub lines_shown : ℕ → List ℕ → List (List ℕ) → Result (List ℕ) ScriptFault

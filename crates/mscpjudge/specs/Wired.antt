@@ -176,13 +176,3 @@ wire_text bytes (verdicts.Wrong wrong) = broken_text wrong (places_in bytes)
 abbrev pub wire_outcome : {A : Type 0} → Verdict A → Outcome
 wire_outcome (verdicts.Right totals doubts commands) = outcomes.Legal
 wire_outcome (verdicts.Wrong wrong) = outcomes.Wrong
-
--- what is written is what came of the log that the reader gave. Nothing is written on a fault, and a fault of the log
--- is that of what the reader gave; nothing is said where the write failed
-abbrev pub TellsWire : Result Outcome Fault → Option (List ℕ) → Option (List ℕ) → Option (List ℕ) → Type 0
-TellsWire (Ok outcome) known old new =
-    IsGiven known (λ log. (came : Result Log Wrong) × Comes log (Ok came) × (outcome ≡ came_outcome came)
-    × Appends old new (came_text log came))
-TellsWire (Err faults.Write) known old new = Unit {0}
-TellsWire (Err (faults.Log fault)) known old new = (new ≡ old) × IsGiven known (λ log. Comes log (Err fault))
-TellsWire (Err fault) known old new = new ≡ old

@@ -4,13 +4,14 @@ ghost use Rattle.std.specs.Prelude.{◌≡◌, ◌≤◌, ◌++◌, [], false, O
 ghost use Rattle.mscp_reader.specs.Lexical as lexical;
 ghost use Rattle.mscp_reader.specs.Outcome.{Tells};
 ghost use Rattle.mscpjudge.specs.Common.{WritesOnce};
-ghost use Rattle.mscpjudge.specs.Showing.{ShowsLine, TellsShown, bytes_text, line_shown, lines_shown, log_shown, moment_text, said_text, sent_text, unread_text};
+ghost use Rattle.mscpjudge.specs.Showing.{ShowsLine, TellsShown, bytes_text, line_shown, lines_shown, log_shown, moment_text, named_text, read_shown, said_text, sent_text, unread_text};
 
 use crate::fault::Fault;
 use crate::judging::Outcome;
+use crate::ports::{Kind, line_kind};
 use crate::wire::connection_name;
 use mscp_controller::Connection;
-use mscp_reader::{Lines, ReadFault, lines_of};
+use mscp_reader::{Lines, ReadFault, ScriptFault, lines_of};
 use mscp_script::{Sink, Source, read_all};
 use mscp_text::{ShowFault, put, put_field, show_packet};
 use mscp_wire::{Moment, Said, line_says};
@@ -99,15 +100,40 @@ fn put_said(alloc: Global, text: &mut Vec<u8>, number: u32, said: &Said) -> Resu
 }
 
 /// The same of the line's bytes.
-#[tactic(auto, unfolding(crate::specs::Showing::line_shown))]
-fn put_line(alloc: Global, text: &mut Vec<u8>, number: u32, line: &[u8]) -> Result<(), ReadFault>
+fn put_read(alloc: Global, text: &mut Vec<u8>, number: u32, line: &[u8]) -> Result<(), ReadFault>
     requires { 1 ≤ number }
-    ensures { ShowsLine result (line_shown number line.now) text.old.items text.new.items }
+    ensures { ShowsLine result (read_shown number line.now) text.old.items text.new.items }
 {
     let said = line_says(number, line)?;
     match put_said(alloc, text, number, &said) {
         Ok(()) => Ok(()),
         Err(_) => Err(ReadFault::OutOfMemory),
+    }
+}
+
+/// Appends the line of a port.
+fn put_named(text: &mut Vec<u8>, number: u32, port: u32) -> Result<(), ReadFault>
+    ensures { ShowsLine result (Ok (named_text number port)) text.old.items text.new.items }
+{
+    put_field(text, "line ", number)?;
+    put_field(text, ": port ", port)?;
+    put(text, "\n")?;
+    Ok(())
+}
+
+/// Appends what a line says, to the ports or to others.
+#[tactic(auto, unfolding(crate::specs::Showing::line_shown))]
+fn put_line(alloc: Global, text: &mut Vec<u8>, number: u32, line: &[u8]) -> Result<(), ReadFault>
+    requires { 1 ≤ number }
+    ensures { ShowsLine result (line_shown number line.now) text.old.items text.new.items }
+{
+    match line_kind(number, line) {
+        Kind::Names(port) => put_named(text, number, port),
+        Kind::Faulty(cause) => Err(ReadFault::Script(ScriptFault {
+            line: number,
+            cause,
+        })),
+        Kind::Bare | Kind::Says => put_read(alloc, text, number, line),
     }
 }
 

@@ -1,20 +1,18 @@
 // What is said of a log of the wire.
 
-ghost use Rattle.std.specs.Prelude.{◌≡◌, ◌++◌, false, OnOk, IfOk};
-ghost use Rattle.mscpjudge.specs.Common.{flat_map, TellsWire, WritesOnce, breach_text, breaker_name, broken_text, command_text, connection_name, meant_text, opcode_name, outstanding_text, wire_outcome, wire_text};
+ghost use Rattle.std.specs.Prelude.{◌≡◌, ◌++◌, OnOk, IfOk};
+ghost use Rattle.mscpjudge.specs.Common.{flat_map, breach_text, breaker_name, broken_text, command_text, connection_name, meant_text, opcode_name, outstanding_text, wire_outcome, wire_text};
 ghost use Rattle.mscp_wire.specs.Course.{places_in};
 ghost use Rattle.mscpjudge.specs.Wired as wired;
 
 use crate::doubts::put_doubts;
-use crate::fault::Fault;
 use crate::judging::Outcome;
 use crate::places::put_places;
 use crate::totals::put_totals;
 use crate::values::{put_against, put_told};
 use mscp_controller::{Connection, OutOfMemory};
-use mscp_script::{Sink, Source, read_all};
 use mscp_text::{put, put_field};
-use mscp_wire::{Places, Rule, Sent, Verdict, Wrong, judge_wire, places_in};
+use mscp_wire::{Places, Rule, Sent, Verdict, Wrong, places_in};
 use std::alloc::{AllocError, Allocator, Global};
 
 /// What a command of an opcode is called.
@@ -259,22 +257,4 @@ pub fn wire_outcome<A: Allocator>(verdict: &Verdict<A>) -> Outcome
         Verdict::Right(..) => Outcome::Legal,
         Verdict::Wrong(_) => Outcome::Wrong,
     }
-}
-
-/// Judges the log of the wire that a reader gives, and writes what is said of it in one write.
-pub fn judge_captured<R: Source, W: Sink>(
-    alloc: Global,
-    reader: &mut R,
-    writer: &mut W,
-) -> Result<Outcome, Fault>
-    requires reader { R.has_failed reader.old ≡ false }
-    requires writer { W.has_failed writer.old ≡ false }
-    ensures told { TellsWire result (R.remaining reader.old) (W.contents writer.old) (W.contents writer.new) }
-    ensures once { WritesOnce result (W.writes writer.old) (W.writes writer.new) }
-{
-    let log = read_all(alloc, reader)?;
-    let verdict = judge_wire(alloc, &log)?;
-    let text = text_of(alloc, &log, &verdict)?;
-    writer.write_all(&text)?;
-    Ok(wire_outcome(&verdict))
 }
