@@ -3,5 +3,5 @@ pub mod Shown
 pub mod Counted
 pub mod Going
 pub mod Ported
-pub mod Telling
+pub mod Answered
 pub mod Standing

@@ -18,14 +18,15 @@ use Rattle.mscp_wire.specs.declared.log.Verdict.TheVariants as verdicts
 use Rattle.mscp_wire.specs.declared.rule.Rule.{Rule}
 use Rattle.mscp_wire.specs.declared.rule.Rule.TheVariants as rules
 use Rattle.mscp_wire.specs.declared.wrong.Wrong.{Wrong}
+use Rattle.mscpjudge.specs.Times.{log_time}
 use Rattle.mscpjudge.specs.Wired.{breach_text, came_outcome, came_text, rule_name, wire_text}
 use Rattle.mscpjudge.specs.declared.fault.Fault.{Fault}
 use Rattle.mscpjudge.specs.declared.fault.Fault.TheVariants as faults
 use Rattle.mscpjudge.specs.declared.judging.Outcome.{Outcome}
 
--- the lines of what is found
-unfoldable pub finding_text : Finding → List ℕ
-finding_text finding = breach_text finding.wrong finding.places
+-- the lines of what is found, where lines tell these times
+unfoldable pub finding_text : (ℕ → Option ℕ) → Finding → List ℕ
+finding_text time finding = breach_text time finding.wrong finding.places
 
 -- the rule that it breaks
 abbrev pub broken_of : Finding → Rule
@@ -55,17 +56,18 @@ abbrev pub broken_rules_text : List Rule → List ℕ
 broken_rules_text broken = flat_map (rule_text broken) rules_in_order
 
 -- all that is found
-abbrev pub found_text : List Finding → List ℕ
-found_text found = flat_map finding_text found ++ broken_rules_text (map broken_of found)
+abbrev pub found_text : (ℕ → Option ℕ) → List Finding → List ℕ
+found_text time found = flat_map (finding_text time) found ++ broken_rules_text (map broken_of found)
 
 -- what is found in lines, or their first fault
-abbrev pub lines_found : List (List ℕ) → Result (List ℕ) ScriptFault
-lines_found all = findings_in 0 no_findings all >>= λ f. Ok (found_text f.found)
+abbrev pub lines_found : (ℕ → Option ℕ) → List (List ℕ) → Result (List ℕ) ScriptFault
+lines_found time all = findings_in 0 no_findings all >>= λ f. Ok (found_text time f.found)
 
 -- the same of a log
 abbrev pub log_found : List ℕ → Result (List ℕ) ScriptFault
 log_found bytes =
-    if nat_lt 16777216 (length bytes) then Err (record { line = 0; cause = causes.Size }) else lines_found (lines bytes)
+    if nat_lt 16777216 (length bytes) then Err (record { line = 0; cause = causes.Size })
+    else lines_found (log_time bytes) (lines bytes)
 
 -- what is written of what came of a log: all that is wrong, if something is
 abbrev pub all_text : List ℕ → Result Log Wrong → Result (List ℕ) ScriptFault

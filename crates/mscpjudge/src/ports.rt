@@ -4,9 +4,10 @@
 ghost use Rattle.std.specs.Prelude.{◌≡◌, ◌≤◌, ◌<◌, ◌++◌, ◌∷◌, length, IfOk, OnOk};
 ghost use Rattle.mscp_reader.specs.Lexical as lexical;
 ghost use Rattle.mscp_reader.specs.Grammar.{only_number};
-ghost use Rattle.mscp_wire.specs.Log.{is_time, without_time};
+ghost use Rattle.mscp_wire.specs.Log.{without_time};
 ghost use Rattle.mscpjudge.specs.Ports as ports;
 
+use crate::time::is_time;
 use mscp_reader::{Cause, Lines, ScriptFault, Words, lines_of, wide, words_of};
 use std::alloc::{AllocError, Allocator};
 
@@ -28,13 +29,6 @@ pub enum Kind {
 pub struct Section<A: Allocator> {
     pub log: Vec<u8, A>,
     pub occurs: bool,
-}
-
-/// Whether a word is a time.
-fn is_time(word: &[u8]) -> bool
-    ensures { result ≡ is_time word.now }
-{
-    matches!(word, [b'@', ..])
 }
 
 /// The one number that is left.

@@ -1,5 +1,5 @@
 -- What is said of one log, and of one port more.
-use Rattle.std.proofs.Common.{◌≡◌, ◌⊎◌, inl, inr, ℕ, ◌+◌, ◌<◌, ◌≤◌, suc, zero, arith, nat_le, nat_tests, Bool, true, false, if◌then◌else◌, List, [], ◌++◌, refl, sym, ap, subst, ◌∙◌, add-one, Option, Some, None, Result, Ok, Err}
+use Rattle.std.proofs.Common.{◌≡◌, ◌⊎◌, inl, inr, ℕ, ◌+◌, ◌<◌, ◌≤◌, suc, zero, arith, nat_le, Bool, true, false, if◌then◌else◌, List, [], ◌++◌, refl, sym, ap, subst, ◌∙◌, add-one, Option, Some, None, Result, Ok, Err}
 use Rattle.mscp_reader.specs.Outcome.{Fails}
 use Rattle.mscp_reader.specs.declared.fault.ReadFault.{ReadFault}
 use Rattle.mscp_reader.specs.declared.fault.ReadFault.TheVariants as reads
@@ -74,16 +74,16 @@ one_fails extent verdict log (reads.Script fault) judges only h =
 one_fails extent verdict log reads.OutOfMemory judges only h = tt
 
 -- or before it
-pub other_is : {A : Type 0} (extent : Extent) (log : List ℕ) (fault : ScriptFault)
+pub other_is : (A : Type 0) (extent : Extent) (log : List ℕ) (fault : ScriptFault)
     → ((came : Result (Result Log Wrong) ScriptFault) → Comes log came → Says {A = A} (Err (reads.Script fault)) came)
     → (other : ScriptFault) → IsFault extent log other → other ≡ fault
-other_is extent log fault only other (inl comes) = let e = only (Err other) comes in cc
-other_is extent log fault only other (inr (came, comes, h)) = let e = only (Ok came) comes in cc
+other_is A extent log fault only other (inl comes) = let e = only (Err other) comes in cc
+other_is A extent log fault only other (inr (came, comes, h)) = let e = only (Ok came) comes in cc
 
-pub one_refused : {A : Type 0} (extent : Extent) (log : List ℕ) (fault : ReadFault)
+pub one_refused : (A : Type 0) (extent : Extent) (log : List ℕ) (fault : ReadFault)
     → Judges {A = A} (Err fault) log
     → ((came : Result (Result Log Wrong) ScriptFault) → Comes log came → Says {A = A} (Err fault) came)
     → TellsOne extent (Err fault) log
-one_refused {A = A} extent log (reads.Script fault) judges only =
-    (inl judges, λ other h. other_is {A = A} extent log fault only other h)
-one_refused extent log reads.OutOfMemory judges only = tt
+one_refused A extent log (reads.Script fault) judges only =
+    (inl judges, λ other h. other_is A extent log fault only other h)
+one_refused A extent log reads.OutOfMemory judges only = tt
