@@ -9,11 +9,6 @@ use Rattle.mscp_reader.specs.declared.fault.ScriptFault.{ScriptFault}
 use Rattle.mscp_wire.specs.Course.{Findings, GoesOn, findings_in, findings_with, no_findings}
 use Rattle.mscp_wire.specs.Log.{line_says}
 use Rattle.mscp_wire.specs.declared.course.Course.{Course}
-use Rattle.mscp_wire.specs.declared.log.Verdict.{Verdict}
-use Rattle.mscp_wire.specs.declared.log.Verdict.TheVariants as verdicts
-use Rattle.mscpjudge.specs.Found.{TellsAll, log_found, verdict_found}
-use Rattle.mscpjudge.specs.Said.{fault_of_log}
-use Rattle.mscp_script.specs.Whole.{IsFront, most_read}
 
 -- a line more
 pub found_more : (n number : ℕ) (f next : Findings) (line : List ℕ) (rest : List (List ℕ)) → number ≡ n + 1
@@ -46,16 +41,3 @@ fails_on reads.OutOfMemory read on h = tt
 pub found_none : (n : ℕ) (f : Findings) → findings_in n f [] ≡ Ok f
 unfolding findings_in
 found_none n f = refl
-
--- what is at fault behind a moment that isn't right
-pub verdict_fails : {A : Type 0} (verdict : Verdict A) (log : List ℕ) (fault : ScriptFault)
-    → verdict_found log verdict ≡ Err fault → log_found log ≡ Err fault
-verdict_fails (verdicts.Right totals doubts commands) log fault h = cc
-verdict_fails (verdicts.Wrong wrong) log fault h = h
-
-pub all_fails : {A : Type 0} (read : ReadFault) (verdict : Verdict A) (log : List ℕ) (known old new : Option (List ℕ))
-    → IsFront most_read known log → Fails read (verdict_found log verdict) → new ≡ old
-    → TellsAll (Err (fault_of_log read)) known old new
-all_fails (reads.Script fault) verdict log known old new front h same =
-    (same, (log, front, inr (verdict_fails verdict log fault h)))
-all_fails reads.OutOfMemory verdict log known old new front h same = same

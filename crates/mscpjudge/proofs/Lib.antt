@@ -2,3 +2,6 @@ pub mod Coming
 pub mod Shown
 pub mod Counted
 pub mod Going
+pub mod Ported
+pub mod Answered
+pub mod Standing

@@ -1,5 +1,5 @@
 -- What is written of a command.
-use Rattle.std.specs.Prelude.{ℕ, List, [], ◌++◌, codes}
+use Rattle.std.specs.Prelude.{ℕ, nat_eq, nat_le, Bool, ◌&&◌, ◌||◌, if◌then◌else◌, List, [], ◌++◌, codes}
 use Rattle.std.specs.Fmt.{decimal}
 use Rattle.mscp_drive.specs.declared.connection.Connection.{Connection}
 use Rattle.mscp_drive.specs.declared.connection.Connection.TheVariants.{First, Second}
@@ -11,8 +11,22 @@ abbrev pub connection_name : Connection → List ℕ
 connection_name First = []
 connection_name Second = codes "second "
 
+-- an opcode has a name
+abbrev pub has_name : ℕ → Bool
+has_name opcode =
+    (nat_le 1 opcode && nat_le opcode 4) || (nat_le 8 opcode && nat_le opcode 11) || (nat_le 16 opcode && nat_le opcode 20)
+    || (nat_le 32 opcode && nat_le opcode 34) || nat_eq opcode 47
+
+-- a command of an opcode that has one, or has none
+abbrev pub named_text : Sent → List ℕ
+named_text s =
+    opcode_name s.opcode ++ (codes " " ++ decimal s.reference) ++ (codes " of unit " ++ decimal s.unit) ++ codes "\n"
+
+abbrev pub unnamed_text : Sent → List ℕ
+unnamed_text s =
+    (codes "command " ++ decimal s.reference) ++ (codes " of unit " ++ decimal s.unit)
+    ++ (codes " (unknown opcode " ++ decimal s.opcode) ++ codes ")\n"
+
 -- what a command is
 abbrev pub command_text : Sent → List ℕ
-command_text s =
-    connection_name s.connection ++ opcode_name s.opcode ++ (codes " " ++ decimal s.reference)
-    ++ (codes " of unit " ++ decimal s.unit) ++ codes "\n"
+command_text s = connection_name s.connection ++ (if has_name s.opcode then named_text s else unnamed_text s)

@@ -18,14 +18,15 @@ use Rattle.mscp_wire.specs.declared.log.Verdict.TheVariants as verdicts
 use Rattle.mscp_wire.specs.declared.rule.Rule.{Rule}
 use Rattle.mscp_wire.specs.declared.rule.Rule.TheVariants as rules
 use Rattle.mscp_wire.specs.declared.wrong.Wrong.{Wrong}
+use Rattle.mscpjudge.specs.Times.{log_time}
 use Rattle.mscpjudge.specs.Wired.{breach_text, came_outcome, came_text, rule_name, wire_text}
 use Rattle.mscpjudge.specs.declared.fault.Fault.{Fault}
 use Rattle.mscpjudge.specs.declared.fault.Fault.TheVariants as faults
 use Rattle.mscpjudge.specs.declared.judging.Outcome.{Outcome}
 
--- the lines of what is found
-unfoldable pub finding_text : Finding → List ℕ
-finding_text finding = breach_text finding.wrong finding.places
+-- the lines of what is found, where lines tell these times
+unfoldable pub finding_text : (ℕ → Option ℕ) → Finding → List ℕ
+finding_text time finding = breach_text time finding.wrong finding.places
 
 -- the rule that it breaks
 abbrev pub broken_of : Finding → Rule
@@ -55,17 +56,18 @@ abbrev pub broken_rules_text : List Rule → List ℕ
 broken_rules_text broken = flat_map (rule_text broken) rules_in_order
 
 -- all that is found
-abbrev pub found_text : List Finding → List ℕ
-found_text found = flat_map finding_text found ++ broken_rules_text (map broken_of found)
+abbrev pub found_text : (ℕ → Option ℕ) → List Finding → List ℕ
+found_text time found = flat_map (finding_text time) found ++ broken_rules_text (map broken_of found)
 
 -- what is found in lines, or their first fault
-abbrev pub lines_found : List (List ℕ) → Result (List ℕ) ScriptFault
-lines_found all = findings_in 0 no_findings all >>= λ f. Ok (found_text f.found)
+abbrev pub lines_found : (ℕ → Option ℕ) → List (List ℕ) → Result (List ℕ) ScriptFault
+lines_found time all = findings_in 0 no_findings all >>= λ f. Ok (found_text time f.found)
 
 -- the same of a log
 abbrev pub log_found : List ℕ → Result (List ℕ) ScriptFault
 log_found bytes =
-    if nat_lt 16777216 (length bytes) then Err (record { line = 0; cause = causes.Size }) else lines_found (lines bytes)
+    if nat_lt 16777216 (length bytes) then Err (record { line = 0; cause = causes.Size })
+    else lines_found (log_time bytes) (lines bytes)
 
 -- what is written of what came of a log: all that is wrong, if something is
 abbrev pub all_text : List ℕ → Result Log Wrong → Result (List ℕ) ScriptFault
@@ -77,15 +79,3 @@ abbrev pub verdict_found : {A : Type 0} → List ℕ → Verdict A → Result (L
 verdict_found bytes (verdicts.Right totals doubts commands) =
     Ok (wire_text bytes (verdicts.Right totals doubts commands))
 verdict_found bytes (verdicts.Wrong wrong) = log_found bytes
-
--- what is written is that of the log that the reader gave. Nothing is written on a fault, and a fault of the log is
--- that of what the reader gave, or of what comes behind the first moment that isn't right; nothing is said where the
--- write failed
-abbrev pub TellsAll : Result Outcome Fault → Option (List ℕ) → Option (List ℕ) → Option (List ℕ) → Type 0
-TellsAll (Ok outcome) known old new =
-    IsGiven known (λ log. (came : Result Log Wrong) × Comes log (Ok came) × (outcome ≡ came_outcome came)
-    × (text : List ℕ) × (all_text log came ≡ Ok text) × Appends old new text)
-TellsAll (Err faults.Write) known old new = Unit {0}
-TellsAll (Err (faults.Log fault)) known old new =
-    (new ≡ old) × IsGiven known (λ log. Comes log (Err fault) ⊎ (log_found log ≡ Err fault))
-TellsAll (Err fault) known old new = new ≡ old

@@ -1,12 +1,17 @@
 pub mod Said
+pub mod Ports
+pub mod Times
 pub mod Chosen
 pub mod Endings
 pub mod Heard
 pub mod Counted
 pub mod Commands
+pub mod Lengths
 pub mod Values
 pub mod Places
+pub mod Timing
 pub mod Wired
 pub mod Found
+pub mod Told
 pub mod Showing
 pub mod Common

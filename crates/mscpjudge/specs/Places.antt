@@ -4,20 +4,22 @@ use Rattle.std.specs.Fmt.{decimal}
 use Rattle.mscp_wire.specs.declared.course.Places.{Places}
 use Rattle.mscp_wire.specs.declared.rule.Rule.{Rule}
 use Rattle.mscp_wire.specs.declared.rule.Rule.TheVariants as rules
+use Rattle.mscpjudge.specs.Times.{at_text}
 
--- a line behind words, if it is known
-abbrev pub place_text : List ℕ → Option ℕ → List ℕ
-place_text words None = []
-place_text words (Some line) = words ++ codes " in line " ++ decimal line ++ codes "\n"
+-- a line behind words, if it is known, and its time
+abbrev pub place_text : (ℕ → Option ℕ) → List ℕ → Option ℕ → List ℕ
+place_text time words None = []
+place_text time words (Some line) =
+    words ++ (codes " in line " ++ decimal line) ++ at_text (time line) ++ codes "\n"
 
 -- where a moment breaks a rule: of a message only the earlier one of its number, of an end where its command was sent,
 -- and what that passes, or where the figure was told last
-unfoldable pub places_text : Rule → Places → List ℕ
-places_text rules.Message places = []
-places_text rules.Number places = place_text (codes "the other was sent") places.sent
-places_text rules.Credits places = []
-places_text rules.Order places =
-    place_text (codes "sent") places.sent ++ place_text (codes "what it passes was sent") places.passed
-places_text rules.Figure places =
-    place_text (codes "sent") places.sent ++ place_text (codes "the last was told") places.asked
-places_text rule places = place_text (codes "sent") places.sent
+unfoldable pub places_text : (ℕ → Option ℕ) → Rule → Places → List ℕ
+places_text time rules.Message places = []
+places_text time rules.Number places = place_text time (codes "the other was sent") places.sent
+places_text time rules.Credits places = []
+places_text time rules.Order places =
+    place_text time (codes "sent") places.sent ++ place_text time (codes "what it passes was sent") places.passed
+places_text time rules.Figure places =
+    place_text time (codes "sent") places.sent ++ place_text time (codes "the last was told") places.asked
+places_text time rule places = place_text time (codes "sent") places.sent

@@ -19,11 +19,15 @@ use Rattle.mscp_wire.specs.declared.line.Said.TheVariants as says
 use Rattle.mscp_wire.specs.declared.moment.Moment.{Moment}
 use Rattle.mscp_wire.specs.declared.moment.Moment.TheVariants as moments
 use Rattle.mscp_drive.specs.declared.connection.Connection.{Connection}
+use Rattle.mscpjudge.specs.Ports.{line_kind}
+use Rattle.mscpjudge.specs.Times.{at_text, line_time}
 use Rattle.mscpjudge.specs.Wired.{connection_name}
 use Rattle.mscpjudge.specs.declared.fault.Fault.{Fault}
 use Rattle.mscpjudge.specs.declared.fault.Fault.TheVariants as faults
 use Rattle.mscpjudge.specs.declared.judging.Outcome.{Outcome}
 use Rattle.mscpjudge.specs.declared.judging.Outcome.TheVariants as outcomes
+use Rattle.mscpjudge.specs.declared.ports.Kind.{Kind}
+use Rattle.mscpjudge.specs.declared.ports.Kind.TheVariants as kinds
 
 -- why bytes are no packet, and their digits
 abbrev pub unread_text : List ℕ → List ℕ → List ℕ
@@ -53,17 +57,34 @@ moment_text (moments.Message via b time) = connection_name via ++ codes "host: "
 moment_text (moments.End via b) = sent_text via b.items
 moment_text moments.Reset = codes "reset\n"
 
+-- the number of a line, and its time
+abbrev pub number_text : ℕ → Option ℕ → List ℕ
+number_text number time = (codes "line " ++ decimal number) ++ at_text time ++ codes ": "
+
 -- what the line of this number says
-abbrev pub said_text : ℕ → Said → List ℕ
-said_text number says.Nothing = []
-said_text number (says.Credits c) =
-    codes "line " ++ decimal number ++ codes ": credits " ++ decimal c ++ codes "\n"
-said_text number (says.Happens m) = codes "line " ++ decimal number ++ codes ": " ++ moment_text m
-said_text number (says.Attention via b) = codes "line " ++ decimal number ++ codes ": " ++ sent_text via b.items
+abbrev pub said_text : ℕ → Option ℕ → Said → List ℕ
+said_text number time says.Nothing = []
+said_text number time (says.Credits c) = number_text number time ++ (codes "credits " ++ decimal c) ++ codes "\n"
+said_text number time (says.Happens m) = number_text number time ++ moment_text m
+said_text number time (says.Attention via b) = number_text number time ++ sent_text via b.items
 
 -- the same, or its fault
+abbrev pub read_shown : ℕ → List ℕ → Result (List ℕ) ScriptFault
+read_shown number line = in_line number (line_says number line) >>= λ said. Ok (said_text number (line_time number line) said)
+
+-- the line of a port
+abbrev pub named_text : ℕ → Option ℕ → ℕ → List ℕ
+named_text number time port = number_text number time ++ (codes "port " ++ decimal port) ++ codes "\n"
+
+-- a line that is this for the ports
+abbrev pub kind_shown : ℕ → List ℕ → Kind → Result (List ℕ) ScriptFault
+kind_shown number line (kinds.Names port) = Ok (named_text number (line_time number line) port)
+kind_shown number line (kinds.Faulty cause) = Err (record { line = number; cause = cause })
+kind_shown number line kind = read_shown number line
+
+-- a line
 unfoldable pub line_shown : ℕ → List ℕ → Result (List ℕ) ScriptFault
-line_shown number line = in_line number (line_says number line) >>= λ said. Ok (said_text number said)
+line_shown number line = kind_shown number line (line_kind number line)
 
 -- what lines say behind this text, where so many lines stand before, or the first fault
 unfoldable pub lines_shown : ℕ → List ℕ → List (List ℕ) → Result (List ℕ) ScriptFault

@@ -16,6 +16,7 @@ use Rattle.mscp_wire.specs.declared.sent.Asked.TheVariants as asks
 use Rattle.mscp_wire.specs.declared.sent.Sent.{Sent}
 use Rattle.mscp_wire.specs.declared.told.Seen.{Seen}
 use Rattle.mscpjudge.specs.Commands.{command_text}
+use Rattle.mscpjudge.specs.Lengths.{length_text}
 
 -- ---- numbers
 
@@ -125,13 +126,17 @@ abbrev pub controller_text : Option ℕ → Option ℕ → List ℕ
 controller_text (Some told) (Some known) = identifier_text told known
 controller_text told known = []
 
+-- the figure of the command that is polled, and the last one
+abbrev pub figure_text : Option ℕ → Option ℕ → Option ℕ → List ℕ
+figure_text polled told last =
+    codes "figure of command " ++ number_text polled ++ both_text (codes ": ") told (codes ", the last was ") last
+
 -- of an end of this command that breaks a rule
 unfoldable pub compared_text : Rule → Answer → Sent → Option Sent → Seen → List ℕ
 compared_text rules.Order e y passed seen = passed_text passed
 compared_text rules.About e y passed seen =
     both_text (codes "names: command ") e.parameter (codes ", not ") y.parameter
-compared_text rules.Figure e y passed seen =
-    both_text (codes "figure: ") e.figure (codes ", the last was ") (last_of y.asked)
+compared_text rules.Figure e y passed seen = figure_text y.parameter e.figure (last_of y.asked)
 compared_text rules.Count e y passed seen =
     both_text (codes "bytes: ") e.parameter (codes ", asked for ") y.parameter
 compared_text rules.Identity e y passed seen = identity_text e.identity seen.unit.identity
@@ -139,7 +144,12 @@ compared_text rules.Controller e y passed seen = controller_text e.controller se
 compared_text rule e y passed seen = []
 
 -- of a moment, which is about this command
-unfoldable pub against_text : Rule → Moment → Option Sent → Option Sent → Seen → List ℕ
-against_text rule (moments.End via b) (Some y) passed seen =
+unfoldable pub answered_text : Rule → Moment → Option Sent → Option Sent → Seen → List ℕ
+answered_text rule (moments.End via b) (Some y) passed seen =
     if nat_lt (length b.items) 12 then [] else compared_text rule (answer_by via b.items) y passed seen
-against_text rule m y passed seen = []
+answered_text rule m y passed seen = []
+
+-- the same. Of an end that is too short it isn't asked which command that is
+unfoldable pub against_text : Rule → Moment → Option Sent → Option Sent → Seen → List ℕ
+against_text rules.Length (moments.End via b) command passed seen = length_text b.items
+against_text rule m command passed seen = answered_text rule m command passed seen

@@ -23,6 +23,8 @@ use Rattle.mscp_wire.specs.declared.wrong.Wrong.{Wrong}
 pub use Rattle.mscpjudge.specs.Commands.{command_text, connection_name}
 use Rattle.mscpjudge.specs.Counted.{totals_text}
 use Rattle.mscpjudge.specs.Places.{places_text}
+use Rattle.mscpjudge.specs.Times.{at_text, log_time}
+use Rattle.mscpjudge.specs.Timing.{timing_text}
 use Rattle.mscpjudge.specs.Values.{against_text, told_text}
 use Rattle.mscpjudge.specs.declared.fault.Fault.{Fault}
 use Rattle.mscpjudge.specs.declared.fault.Fault.TheVariants as faults
@@ -114,16 +116,17 @@ rule_line rule = codes "rule of the " ++ breaker_name rule ++ codes ": " ++ rule
 abbrev pub manual_line : Rule → List ℕ
 manual_line rule = codes "manual: " ++ rule_text rule ++ codes "\n"
 
--- the lines of a moment that isn't right
-abbrev pub breach_text : Wrong → Places → List ℕ
-breach_text wrong places =
-    codes "line " ++ decimal wrong.line ++ codes ": not right\n" ++ rule_line wrong.rule ++ meant_text wrong.command
-    ++ told_text wrong.moment ++ against_text wrong.rule wrong.moment wrong.command wrong.passed wrong.seen
-    ++ places_text wrong.rule places
+-- the lines of a moment that isn't right, where lines tell these times
+abbrev pub breach_text : (ℕ → Option ℕ) → Wrong → Places → List ℕ
+breach_text time wrong places =
+    (codes "line " ++ decimal wrong.line) ++ at_text (time wrong.line) ++ codes ": not right\n" ++ rule_line wrong.rule
+    ++ meant_text wrong.command ++ told_text wrong.moment
+    ++ against_text wrong.rule wrong.moment wrong.command wrong.passed wrong.seen
+    ++ places_text time wrong.rule places
 
 -- and those of a log that isn't
-abbrev pub broken_text : Wrong → Places → List ℕ
-broken_text wrong places = breach_text wrong places ++ manual_line wrong.rule
+abbrev pub broken_text : (ℕ → Option ℕ) → Wrong → Places → List ℕ
+broken_text time wrong places = breach_text time wrong places ++ manual_line wrong.rule
 
 -- the end of a line about the command of a moment, if it has one
 abbrev pub answered_text : Option Sent → List ℕ
@@ -159,9 +162,9 @@ doubts_text doubts =
 -- the lines of what came of a log of these bytes
 abbrev pub came_text : List ℕ → Result Log Wrong → List ℕ
 came_text bytes (Ok log) =
-    totals_text (totals_of log.moments) ++ doubts_text (doubts_of log)
+    totals_text (totals_of log.moments) ++ timing_text bytes ++ doubts_text (doubts_of log)
     ++ flat_map outstanding_text (outstanding log.moments)
-came_text bytes (Err wrong) = broken_text wrong (places_in bytes)
+came_text bytes (Err wrong) = broken_text (log_time bytes) wrong (places_in bytes)
 
 abbrev pub came_outcome : Result Log Wrong → Outcome
 came_outcome (Ok log) = outcomes.Legal
@@ -170,19 +173,9 @@ came_outcome (Err wrong) = outcomes.Wrong
 -- the lines of a verdict, and how the log is judged by it
 abbrev pub wire_text : {A : Type 0} → List ℕ → Verdict A → List ℕ
 wire_text bytes (verdicts.Right totals doubts commands) =
-    totals_text totals ++ doubts_text doubts ++ flat_map outstanding_text commands.items
-wire_text bytes (verdicts.Wrong wrong) = broken_text wrong (places_in bytes)
+    totals_text totals ++ timing_text bytes ++ doubts_text doubts ++ flat_map outstanding_text commands.items
+wire_text bytes (verdicts.Wrong wrong) = broken_text (log_time bytes) wrong (places_in bytes)
 
 abbrev pub wire_outcome : {A : Type 0} → Verdict A → Outcome
 wire_outcome (verdicts.Right totals doubts commands) = outcomes.Legal
 wire_outcome (verdicts.Wrong wrong) = outcomes.Wrong
-
--- what is written is what came of the log that the reader gave. Nothing is written on a fault, and a fault of the log
--- is that of what the reader gave; nothing is said where the write failed
-abbrev pub TellsWire : Result Outcome Fault → Option (List ℕ) → Option (List ℕ) → Option (List ℕ) → Type 0
-TellsWire (Ok outcome) known old new =
-    IsGiven known (λ log. (came : Result Log Wrong) × Comes log (Ok came) × (outcome ≡ came_outcome came)
-    × Appends old new (came_text log came))
-TellsWire (Err faults.Write) known old new = Unit {0}
-TellsWire (Err (faults.Log fault)) known old new = (new ≡ old) × IsGiven known (λ log. Comes log (Err fault))
-TellsWire (Err fault) known old new = new ≡ old

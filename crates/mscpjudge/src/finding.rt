@@ -1,19 +1,18 @@
 // All that is wrong in a log of the wire. The log is judged first: only one that isn't right is gone over once more.
 
-ghost use Rattle.std.specs.Prelude.{◌≡◌, ◌≤◌, ◌++◌, ◌∷◌, [], length, count_by, false, OnOk};
+ghost use Rattle.std.specs.Prelude.{◌≡◌, ◌≤◌, ◌++◌, ◌∷◌, [], count_by, OnOk};
 ghost use Rattle.mscp_reader.specs.Lexical as lexical;
 ghost use Rattle.mscp_reader.specs.Outcome.{Tells};
-ghost use Rattle.mscpjudge.specs.Common.{TellsAll, WritesOnce, breaks, broken_of, count_text, broken_rules_text, finding_text, lines_found, log_found};
+ghost use Rattle.mscpjudge.specs.Common.{breaks, broken_of, broken_rules_text, finding_text, lines_found, log_found};
 ghost use Rattle.mscpjudge.specs.Found as found;
+ghost use Rattle.mscpjudge.specs.Times.{time_of};
 
-use crate::fault::Fault;
-use crate::judging::Outcome;
-use crate::wire::{put_wrong, rule_name, text_of, wire_outcome};
+use crate::times::{Times, times_in};
+use crate::wire::{put_wrong, rule_name, text_of};
 use mscp_controller::OutOfMemory;
 use mscp_reader::{Lines, ReadFault, lines_of};
-use mscp_script::{Sink, Source, read_all};
 use mscp_text::{put, put_field};
-use mscp_wire::{Course, Finding, Rule, Verdict, judge_wire};
+use mscp_wire::{Course, Finding, Rule, Verdict};
 use std::alloc::{AllocError, Allocator, Global};
 
 /// All rules, in the order in which they are asked.
@@ -90,26 +89,28 @@ fn put_finding(
     text: &mut Vec<u8>,
     broken: &mut Vec<Rule>,
     finding: &Finding,
+    times: &Times,
 ) -> Result<(), OutOfMemory>
-    ensures text { OnOk result (text.new.items ≡ text.old.items ++ finding_text finding.now) }
+    ensures text { OnOk result (text.new.items ≡ text.old.items ++ finding_text (time_of times.now.lines) finding.now) }
     ensures broken { OnOk result (broken.new.items ≡ broken.old.items ++ broken_of finding.now ∷ []) }
 {
-    put_wrong(text, &finding.wrong, &finding.places)?;
+    put_wrong(text, &finding.wrong, &finding.places, times)?;
     broken.push(finding.wrong.rule)?;
     Ok(())
 }
 
 /// What is found in lines.
-fn find_lines(alloc: Global, lines: &mut Lines<'_>) -> Result<Vec<u8>, ReadFault>
+fn find_lines(alloc: Global, lines: &mut Lines<'_>, times: &Times) -> Result<Vec<u8>, ReadFault>
     requires { lines.old.number ≡ 0 }
-    ensures { Tells (λ text. text.items) result (lines_found (lexical.lines lines.old.rest.now)) }
+    ensures { Tells (λ text. text.items) result (lines_found (time_of times.now.lines)
+        (lexical.lines lines.old.rest.now)) }
 {
     let mut course = Course::new(alloc);
     let mut text = Vec::new(alloc);
     let mut broken = Vec::new(alloc);
     while let Some(line) = lines.cut() {
         if let Some(finding) = course.line(lines.number, line)? {
-            put_finding(&mut text, &mut broken, &finding)?;
+            put_finding(&mut text, &mut broken, &finding, times)?;
         }
     }
     put_counts(&mut text, broken.as_slice())?;
@@ -121,33 +122,16 @@ fn find_all(alloc: Global, bytes: &[u8]) -> Result<Vec<u8>, ReadFault>
     ensures { Tells (λ text. text.items) result (log_found bytes.now) }
 {
     let mut lines = lines_of(bytes)?;
-    find_lines(alloc, &mut lines)
+    let times = times_in(alloc, bytes)?;
+    find_lines(alloc, &mut lines, &times)
 }
 
 /// What is said of a log of which this is the verdict.
-fn all_of(alloc: Global, log: &[u8], verdict: &Verdict<Global>) -> Result<Vec<u8>, ReadFault>
+pub fn all_of(alloc: Global, log: &[u8], verdict: &Verdict<Global>) -> Result<Vec<u8>, ReadFault>
     ensures { Tells (λ text. text.items) result (found.verdict_found log.now verdict.now) }
 {
     match verdict {
         Verdict::Right(..) => Ok(text_of(alloc, log, verdict)?),
         Verdict::Wrong(_) => find_all(alloc, log),
     }
-}
-
-/// Judges the log of the wire that a reader gives, and writes all that is wrong in it in one write.
-pub fn judge_all<R: Source, W: Sink>(
-    alloc: Global,
-    reader: &mut R,
-    writer: &mut W,
-) -> Result<Outcome, Fault>
-    requires reader { R.has_failed reader.old ≡ false }
-    requires writer { W.has_failed writer.old ≡ false }
-    ensures told { TellsAll result (R.remaining reader.old) (W.contents writer.old) (W.contents writer.new) }
-    ensures once { WritesOnce result (W.writes writer.old) (W.writes writer.new) }
-{
-    let log = read_all(alloc, reader)?;
-    let verdict = judge_wire(alloc, &log)?;
-    let text = all_of(alloc, &log, &verdict)?;
-    writer.write_all(&text)?;
-    Ok(wire_outcome(&verdict))
 }

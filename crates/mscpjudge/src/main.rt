@@ -10,8 +10,14 @@ mod fault;
 mod finding;
 mod hearing;
 mod judging;
+mod lengths;
 mod places;
+mod ports;
 mod showing;
+mod telling;
+mod time;
+mod times;
+mod timing;
 mod totals;
 mod values;
 mod wire;
@@ -20,11 +26,10 @@ use crate::choosing::{Call, asking_of};
 use crate::ending::Ending;
 use crate::explaining::{limit_of, limit_on_wire, line_of};
 use crate::fault::{Fault, words_fault};
-use crate::finding::judge_all;
 use crate::hearing::hear;
 use crate::judging::{Outcome, judge};
 use crate::showing::show_captured;
-use crate::wire::judge_captured;
+use crate::telling::{Extent, judge_captured};
 use mscp_reader::ScriptFault;
 use mscp_script::{Stream, read_all};
 use std::fs::File;
@@ -45,8 +50,8 @@ fn answer<R: Read + Drop>(rt: &HostRuntime, call: Call, reader: R) -> Result<Out
     match call {
         Call::Legal => judge(rt.alloc(), &mut reader, &mut writer),
         Call::Host => hear(rt.alloc(), &mut reader, &mut writer),
-        Call::Wire => judge_captured(rt.alloc(), &mut reader, &mut writer),
-        Call::All => judge_all(rt.alloc(), &mut reader, &mut writer),
+        Call::Wire => judge_captured(rt.alloc(), Extent::First, &mut reader, &mut writer),
+        Call::All => judge_captured(rt.alloc(), Extent::All, &mut reader, &mut writer),
         Call::Show => show_captured(rt.alloc(), &mut reader, &mut writer),
     }
 }

@@ -2,7 +2,10 @@
 
 ghost use Rattle.std.specs.Prelude.{◌≡◌, ◌++◌, OnOk};
 ghost use Rattle.mscpjudge.specs.Common.{place_text, places_text};
+ghost use Rattle.mscpjudge.specs.Times.{time_of};
 
+use crate::time::put_at;
+use crate::times::Times;
 use mscp_text::{put, put_field};
 use mscp_wire::{Places, Rule};
 use std::alloc::{AllocError, Allocator};
@@ -12,13 +15,15 @@ fn put_place<A: Allocator>(
     text: &mut Vec<u8, A>,
     words: &str,
     line: Option<u32>,
+    times: &Times,
 ) -> Result<(), AllocError>
-    ensures { OnOk result (text.new.items ≡ text.old.items ++ place_text words.now line) }
+    ensures { OnOk result (text.new.items ≡ text.old.items ++ place_text (time_of times.now.lines) words.now line) }
 {
     match line {
         Some(line) => {
             put(text, words)?;
             put_field(text, " in line ", line)?;
+            put_at(text, times.at(line))?;
             put(text, "\n")
         }
         None => Ok(()),
@@ -31,20 +36,21 @@ pub fn put_places<A: Allocator>(
     text: &mut Vec<u8, A>,
     rule: Rule,
     places: &Places,
+    times: &Times,
 ) -> Result<(), AllocError>
-    ensures { OnOk result (text.new.items ≡ text.old.items ++ places_text rule places.now) }
+    ensures { OnOk result (text.new.items ≡ text.old.items ++ places_text (time_of times.now.lines) rule places.now) }
 {
     match rule {
         Rule::Message | Rule::Credits => Ok(()),
-        Rule::Number => put_place(text, "the other was sent", places.sent),
+        Rule::Number => put_place(text, "the other was sent", places.sent, times),
         Rule::Order => {
-            put_place(text, "sent", places.sent)?;
-            put_place(text, "what it passes was sent", places.passed)
+            put_place(text, "sent", places.sent, times)?;
+            put_place(text, "what it passes was sent", places.passed, times)
         }
         Rule::Figure => {
-            put_place(text, "sent", places.sent)?;
-            put_place(text, "the last was told", places.asked)
+            put_place(text, "sent", places.sent, times)?;
+            put_place(text, "the last was told", places.asked, times)
         }
-        _ => put_place(text, "sent", places.sent),
+        _ => put_place(text, "sent", places.sent, times),
     }
 }

@@ -4,13 +4,15 @@ ghost use Rattle.std.specs.Prelude.{◌≡◌, ◌≤◌, ◌++◌, [], false, O
 ghost use Rattle.mscp_reader.specs.Lexical as lexical;
 ghost use Rattle.mscp_reader.specs.Outcome.{Tells};
 ghost use Rattle.mscpjudge.specs.Common.{WritesOnce};
-ghost use Rattle.mscpjudge.specs.Showing.{ShowsLine, TellsShown, bytes_text, line_shown, lines_shown, log_shown, moment_text, said_text, sent_text, unread_text};
+ghost use Rattle.mscpjudge.specs.Showing.{ShowsLine, TellsShown, bytes_text, line_shown, lines_shown, log_shown, moment_text, named_text, number_text, read_shown, said_text, sent_text, unread_text};
 
 use crate::fault::Fault;
 use crate::judging::Outcome;
+use crate::ports::{Kind, line_kind};
+use crate::time::{line_time, put_at};
 use crate::wire::connection_name;
 use mscp_controller::Connection;
-use mscp_reader::{Lines, ReadFault, lines_of};
+use mscp_reader::{Lines, ReadFault, ScriptFault, lines_of};
 use mscp_script::{Sink, Source, read_all};
 use mscp_text::{ShowFault, put, put_field, show_packet};
 use mscp_wire::{Moment, Said, line_says};
@@ -74,40 +76,85 @@ fn put_moment(alloc: Global, text: &mut Vec<u8>, moment: &Moment) -> Result<(), 
     }
 }
 
-/// Appends what the line of this number says.
-fn put_said(alloc: Global, text: &mut Vec<u8>, number: u32, said: &Said) -> Result<(), AllocError>
-    ensures { OnOk result (text.new.items ≡ text.old.items ++ said_text number said.now) }
+/// Appends the number of a line, and its time.
+fn put_number(text: &mut Vec<u8>, number: u32, time: Option<u64>) -> Result<(), AllocError>
+    ensures { OnOk result (text.new.items ≡ text.old.items ++ number_text number time) }
+{
+    put_field(text, "line ", number)?;
+    put_at(text, time)?;
+    put(text, ": ")
+}
+
+/// Appends what the line of this number says, and when.
+fn put_said(
+    alloc: Global,
+    text: &mut Vec<u8>,
+    number: u32,
+    time: Option<u64>,
+    said: &Said,
+) -> Result<(), AllocError>
+    ensures { OnOk result (text.new.items ≡ text.old.items ++ said_text number time said.now) }
 {
     match said {
         Said::Nothing => Ok(()),
         Said::Credits(credits) => {
-            put_field(text, "line ", number)?;
-            put_field(text, ": credits ", *credits)?;
+            put_number(text, number, time)?;
+            put_field(text, "credits ", *credits)?;
             put(text, "\n")
         }
         Said::Happens(moment) => {
-            put_field(text, "line ", number)?;
-            put(text, ": ")?;
+            put_number(text, number, time)?;
             put_moment(alloc, text, moment)
         }
         Said::Attention(connection, message) => {
-            put_field(text, "line ", number)?;
-            put(text, ": ")?;
+            put_number(text, number, time)?;
             put_sent(alloc, text, *connection, message.as_slice())
         }
     }
 }
 
 /// The same of the line's bytes.
+fn put_read(alloc: Global, text: &mut Vec<u8>, number: u32, line: &[u8]) -> Result<(), ReadFault>
+    requires { 1 ≤ number }
+    ensures { ShowsLine result (read_shown number line.now) text.old.items text.new.items }
+{
+    let said = line_says(number, line)?;
+    match put_said(alloc, text, number, line_time(number, line), &said) {
+        Ok(()) => Ok(()),
+        Err(_) => Err(ReadFault::OutOfMemory),
+    }
+}
+
+/// Appends the line of a port.
+fn put_named(
+    text: &mut Vec<u8>,
+    number: u32,
+    time: Option<u64>,
+    port: u32,
+) -> Result<(), AllocError>
+    ensures { OnOk result (text.new.items ≡ text.old.items ++ named_text number time port) }
+{
+    put_number(text, number, time)?;
+    put_field(text, "port ", port)?;
+    put(text, "\n")
+}
+
+/// Appends what a line says, to the ports or to others.
 #[tactic(auto, unfolding(crate::specs::Showing::line_shown))]
 fn put_line(alloc: Global, text: &mut Vec<u8>, number: u32, line: &[u8]) -> Result<(), ReadFault>
     requires { 1 ≤ number }
     ensures { ShowsLine result (line_shown number line.now) text.old.items text.new.items }
 {
-    let said = line_says(number, line)?;
-    match put_said(alloc, text, number, &said) {
-        Ok(()) => Ok(()),
-        Err(_) => Err(ReadFault::OutOfMemory),
+    match line_kind(number, line) {
+        Kind::Names(port) => match put_named(text, number, line_time(number, line), port) {
+            Ok(()) => Ok(()),
+            Err(_) => Err(ReadFault::OutOfMemory),
+        },
+        Kind::Faulty(cause) => Err(ReadFault::Script(ScriptFault {
+            line: number,
+            cause,
+        })),
+        Kind::Bare | Kind::Says => put_read(alloc, text, number, line),
     }
 }
 

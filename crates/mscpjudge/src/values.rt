@@ -4,6 +4,7 @@
 ghost use Rattle.std.specs.Prelude.{◌≡◌, ◌≤◌, ◌++◌, length, slice_index, OnOk};
 ghost use Rattle.mscpjudge.specs.Values as values;
 
+use crate::lengths::put_length;
 use crate::wire::put_command;
 use mscp_packet::fields::{four_at, two_at};
 use mscp_text::{put, put_field, write_hex};
@@ -297,6 +298,20 @@ fn put_controller<A: Allocator>(
     }
 }
 
+/// Appends the line of the figure of the command that is polled, and of the last one.
+fn put_figure<A: Allocator>(
+    text: &mut Vec<u8, A>,
+    polled: Option<u32>,
+    told: Option<u32>,
+    last: Option<u32>,
+) -> Result<(), AllocError>
+    ensures { OnOk result (text.new.items ≡ text.old.items ++ values.figure_text polled told last) }
+{
+    put(text, "figure of command ")?;
+    put_number(text, polled)?;
+    put_both(text, ": ", told, ", the last was ", last)
+}
+
 /// Appends what an end of a command that breaks a rule is compared with.
 #[tactic(auto, unfolding(crate::specs::Values::compared_text))]
 fn put_compared<A: Allocator>(
@@ -319,11 +334,10 @@ fn put_compared<A: Allocator>(
             ", not ",
             command.parameter,
         ),
-        Rule::Figure => put_both(
+        Rule::Figure => put_figure(
             text,
-            "figure: ",
+            command.parameter,
             answer.figure,
-            ", the last was ",
             last_of(command.asked),
         ),
         Rule::Count => put_both(
@@ -339,11 +353,11 @@ fn put_compared<A: Allocator>(
     }
 }
 
-/// Appends what a moment that breaks a rule is compared with, if there is something.
-#[tactic(auto, unfolding(crate::specs::Values::against_text))]
-pub fn put_against<A: Allocator>(text: &mut Vec<u8, A>, wrong: &Wrong) -> Result<(), AllocError>
+/// Appends what the end of a command is compared with.
+#[tactic(auto, unfolding(crate::specs::Values::answered_text))]
+fn put_answered<A: Allocator>(text: &mut Vec<u8, A>, wrong: &Wrong) -> Result<(), AllocError>
     ensures { OnOk result (text.new.items ≡ text.old.items
-        ++ values.against_text wrong.now.rule wrong.now.moment wrong.now.command wrong.now.passed wrong.now.seen) }
+        ++ values.answered_text wrong.now.rule wrong.now.moment wrong.now.command wrong.now.passed wrong.now.seen) }
 {
     let (Moment::End(connection, message), Some(command)) = (&wrong.moment, &wrong.command) else {
         return Ok(());
@@ -360,4 +374,16 @@ pub fn put_against<A: Allocator>(text: &mut Vec<u8, A>, wrong: &Wrong) -> Result
         &wrong.passed,
         &wrong.seen,
     )
+}
+
+/// Appends what a moment that breaks a rule is compared with, if there is something.
+#[tactic(auto, unfolding(crate::specs::Values::against_text))]
+pub fn put_against<A: Allocator>(text: &mut Vec<u8, A>, wrong: &Wrong) -> Result<(), AllocError>
+    ensures { OnOk result (text.new.items ≡ text.old.items
+        ++ values.against_text wrong.now.rule wrong.now.moment wrong.now.command wrong.now.passed wrong.now.seen) }
+{
+    match (wrong.rule, &wrong.moment) {
+        (Rule::Length, Moment::End(_, message)) => put_length(text, message.as_slice()),
+        _ => put_answered(text, wrong),
+    }
 }

@@ -1,20 +1,23 @@
 // What is said of a log of the wire.
 
-ghost use Rattle.std.specs.Prelude.{◌≡◌, ◌++◌, false, OnOk, IfOk};
-ghost use Rattle.mscpjudge.specs.Common.{flat_map, TellsWire, WritesOnce, breach_text, breaker_name, broken_text, command_text, connection_name, meant_text, opcode_name, outstanding_text, wire_outcome, wire_text};
+ghost use Rattle.std.specs.Prelude.{◌≡◌, ◌++◌, OnOk, IfOk};
+ghost use Rattle.mscpjudge.specs.Common.{flat_map, breach_text, breaker_name, broken_text, command_text, connection_name, meant_text, opcode_name, outstanding_text, wire_outcome, wire_text};
 ghost use Rattle.mscp_wire.specs.Course.{places_in};
+ghost use Rattle.mscpjudge.specs.Commands as commands;
+ghost use Rattle.mscpjudge.specs.Times.{log_time, time_of};
 ghost use Rattle.mscpjudge.specs.Wired as wired;
 
 use crate::doubts::put_doubts;
-use crate::fault::Fault;
 use crate::judging::Outcome;
 use crate::places::put_places;
+use crate::time::put_at;
+use crate::times::{Times, times_in};
+use crate::timing::put_timing;
 use crate::totals::put_totals;
 use crate::values::{put_against, put_told};
 use mscp_controller::{Connection, OutOfMemory};
-use mscp_script::{Sink, Source, read_all};
 use mscp_text::{put, put_field};
-use mscp_wire::{Places, Rule, Sent, Verdict, Wrong, judge_wire, places_in};
+use mscp_wire::{Places, Rule, Sent, Verdict, Wrong, places_in};
 use std::alloc::{AllocError, Allocator, Global};
 
 /// What a command of an opcode is called.
@@ -127,15 +130,43 @@ fn rule_text(rule: Rule) -> &'static str
     }
 }
 
+/// Whether an opcode has a name.
+fn has_name(opcode: u8) -> bool
+    ensures { result ≡ commands.has_name opcode }
+{
+    matches!(opcode, 1..=4 | 8..=11 | 16..=20 | 32..=34 | 47)
+}
+
+/// Appends a command of an opcode that has a name, and ends the line.
+fn put_named<A: Allocator>(text: &mut Vec<u8, A>, command: &Sent) -> Result<(), AllocError>
+    ensures { OnOk result (text.new.items ≡ text.old.items ++ commands.named_text command.now) }
+{
+    put(text, opcode_name(command.opcode))?;
+    put_field(text, " ", command.reference)?;
+    put_field(text, " of unit ", command.unit)?;
+    put(text, "\n")
+}
+
+/// Appends a command of any other opcode, and ends the line.
+fn put_unnamed<A: Allocator>(text: &mut Vec<u8, A>, command: &Sent) -> Result<(), AllocError>
+    ensures { OnOk result (text.new.items ≡ text.old.items ++ commands.unnamed_text command.now) }
+{
+    put_field(text, "command ", command.reference)?;
+    put_field(text, " of unit ", command.unit)?;
+    put_field(text, " (unknown opcode ", command.opcode)?;
+    put(text, ")\n")
+}
+
 /// Appends what a command is, and ends the line.
 pub fn put_command<A: Allocator>(text: &mut Vec<u8, A>, command: &Sent) -> Result<(), AllocError>
     ensures { OnOk result (text.new.items ≡ text.old.items ++ command_text command.now) }
 {
     put(text, connection_name(command.connection))?;
-    put(text, opcode_name(command.opcode))?;
-    put_field(text, " ", command.reference)?;
-    put_field(text, " of unit ", command.unit)?;
-    put(text, "\n")
+    if has_name(command.opcode) {
+        put_named(text, command)
+    } else {
+        put_unnamed(text, command)
+    }
 }
 
 /// Appends the line of a command that is still outstanding.
@@ -195,16 +226,19 @@ pub fn put_wrong<A: Allocator>(
     text: &mut Vec<u8, A>,
     wrong: &Wrong,
     places: &Places,
+    times: &Times,
 ) -> Result<(), AllocError>
-    ensures { OnOk result (text.new.items ≡ text.old.items ++ breach_text wrong.now places.now) }
+    ensures { OnOk result (text.new.items ≡ text.old.items
+        ++ breach_text (time_of times.now.lines) wrong.now places.now) }
 {
     put_field(text, "line ", wrong.line)?;
+    put_at(text, times.at(wrong.line))?;
     put(text, ": not right\n")?;
     put_rule(text, wrong.rule)?;
     put_meant(text, &wrong.command)?;
     put_told(text, &wrong.moment)?;
     put_against(text, wrong)?;
-    put_places(text, wrong.rule, places)
+    put_places(text, wrong.rule, places, times)
 }
 
 /// Appends the lines of a log of which this moment is the first that isn't right.
@@ -214,10 +248,11 @@ fn put_broken(
     log: &[u8],
     wrong: &Wrong,
 ) -> Result<(), OutOfMemory>
-    ensures { OnOk result (text.new.items ≡ text.old.items ++ broken_text wrong.now (places_in log.now)) }
+    ensures { OnOk result (text.new.items ≡ text.old.items ++ broken_text (log_time log.now) wrong.now (places_in log.now)) }
 {
     let places = places_in(alloc, log)?;
-    put_wrong(text, wrong, &places)?;
+    let times = times_in(alloc, log)?;
+    put_wrong(text, wrong, &places, &times)?;
     put_manual(text, wrong.rule)?;
     Ok(())
 }
@@ -234,6 +269,7 @@ fn put_verdict(
     match verdict {
         Verdict::Right(totals, doubts, commands) => {
             put_totals(text, totals)?;
+            put_timing(alloc, text, log)?;
             put_doubts(text, doubts)?;
             put_outstanding(text, commands.as_slice())?;
             Ok(())
@@ -259,22 +295,4 @@ pub fn wire_outcome<A: Allocator>(verdict: &Verdict<A>) -> Outcome
         Verdict::Right(..) => Outcome::Legal,
         Verdict::Wrong(_) => Outcome::Wrong,
     }
-}
-
-/// Judges the log of the wire that a reader gives, and writes what is said of it in one write.
-pub fn judge_captured<R: Source, W: Sink>(
-    alloc: Global,
-    reader: &mut R,
-    writer: &mut W,
-) -> Result<Outcome, Fault>
-    requires reader { R.has_failed reader.old ≡ false }
-    requires writer { W.has_failed writer.old ≡ false }
-    ensures told { TellsWire result (R.remaining reader.old) (W.contents writer.old) (W.contents writer.new) }
-    ensures once { WritesOnce result (W.writes writer.old) (W.writes writer.new) }
-{
-    let log = read_all(alloc, reader)?;
-    let verdict = judge_wire(alloc, &log)?;
-    let text = text_of(alloc, &log, &verdict)?;
-    writer.write_all(&text)?;
-    Ok(wire_outcome(&verdict))
 }

@@ -9,6 +9,7 @@ use Rattle.mscp_reader.specs.Outcome.{Fails, Tells}
 use Rattle.mscp_wire.specs.Course.{Findings, GoesOn, findings_in, no_findings}
 use Rattle.mscp_wire.specs.Log.{line_says}
 use Rattle.mscpjudge.specs.Found.{broken_of, broken_rules_text, finding_text, found_text, lines_found}
+use Rattle.mscpjudge.specs.Times.{time_of}
 use Rattle.mscpjudge.proofs.Going.{fails_on, found_fails, found_more, found_none}
 use Rattle.mscpjudge.proofs.finding.find_lines.Goals as goal
 
@@ -32,9 +33,9 @@ loop-line-preserved-in-Continue-branch-3 c =
       findings = goes.0;
       on = goes.2;
       text =
-          c.in_ok-put_finding.ensures.text ∙ ap (λ t. t ++ finding_text x) i.text
-          ∙ sym (ap (flat_map finding_text) goes.3 ∙ flat_map-append finding_text i.findings.found (x ∷ [])
-          ∙ ap (λ t. flat_map finding_text i.findings.found ++ t) (append-nil (finding_text x)));
+          c.in_ok-put_finding.ensures.text ∙ ap (λ t. t ++ finding_text (time_of c.args.times.now.lines) x) i.text
+          ∙ sym (ap (flat_map (finding_text (time_of c.args.times.now.lines))) goes.3 ∙ flat_map-append (finding_text (time_of c.args.times.now.lines)) i.findings.found (x ∷ [])
+          ∙ ap (λ t. flat_map (finding_text (time_of c.args.times.now.lines)) i.findings.found ++ t) (append-nil (finding_text (time_of c.args.times.now.lines) x)));
       broken =
           c.in_ok-put_finding.ensures.broken ∙ ap (λ t. t ++ broken_of x ∷ []) i.broken
           ∙ sym (ap (map broken_of) goes.3 ∙ map-append broken_of i.findings.found (x ∷ []));
@@ -54,7 +55,7 @@ loop-line-preserved c =
     record {
       findings = goes.0;
       on = goes.2;
-      text = i.text ∙ sym (ap (flat_map finding_text) same);
+      text = i.text ∙ sym (ap (flat_map (finding_text (time_of c.args.times.now.lines))) same);
       broken = i.broken ∙ sym (ap (map broken_of) same);
       read =
           i.read ∙ ap (findings_in c.loop-line.lines.number i.findings) c.in-Some.ensures.line
@@ -66,11 +67,11 @@ pub returns-in_err-finding : goal.returns-in_err-finding
 returns-in_err-finding c =
     let i = c.loop-line.invariant in
     let p = err_from_is_err_and c.from_residual.result c.from_residual.ensures.1 in
-    subst (λ r. Tells (λ text. text.items) r (lines_found (lines c.args.lines.now.rest.now)))
+    subst (λ r. Tells (λ text. text.items) r (lines_found (time_of c.args.times.now.lines) (lines c.args.lines.now.rest.now)))
     (sym (p.1 ∙ ap (λ f. Err f) p.2))
-    (subst (λ r. Fails c.in_err-finding.field-0.0 (r >>= λ (f : Findings). Ok (found_text f.found)))
+    (subst (λ r. Fails c.in_err-finding.field-0.0 (r >>= λ (f : Findings). Ok (found_text (time_of c.args.times.now.lines) f.found)))
     (sym (i.read ∙ ap (findings_in c.loop-line.lines.number i.findings) c.in-Some.ensures.line))
-    (fails_on c.in_err-finding.field-0.0 _ (λ (f : Findings). Ok (found_text f.found))
+    (fails_on c.in_err-finding.field-0.0 _ (λ (f : Findings). Ok (found_text (time_of c.args.times.now.lines) f.found))
     (found_fails c.loop-line.lines.number c.cut.new.self.number i.findings c.in-Some.line.now
     (lines c.cut.new.self.rest.now) c.in_err-finding.field-0.0 c.line.new.self c.in-Some.ensures.counted
     (c.in_err-finding.ensures i.findings i.on))))
@@ -78,9 +79,9 @@ returns-in_err-finding c =
 pub returns : goal.returns
 returns c =
     let i = c.loop-line.invariant in
-    ap (λ r. r >>= λ (f : Findings). Ok (found_text f.found))
+    ap (λ r. r >>= λ (f : Findings). Ok (found_text (time_of c.args.times.now.lines) f.found))
     (i.read ∙ ap (findings_in c.loop-line.lines.number i.findings) c.in_default.ensures.line
     ∙ found_none c.loop-line.lines.number i.findings)
     ∙ ap Ok (sym (c.in_ok-put_counts.ensures
     ∙ ap (λ t. t ++ broken_rules_text c.as_slice.result.now) i.text
-    ∙ ap (λ b. flat_map finding_text i.findings.found ++ broken_rules_text b) (c.as_slice.ensures.value ∙ i.broken)))
+    ∙ ap (λ b. flat_map (finding_text (time_of c.args.times.now.lines)) i.findings.found ++ broken_rules_text b) (c.as_slice.ensures.value ∙ i.broken)))

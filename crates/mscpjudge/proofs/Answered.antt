@@ -1,0 +1,89 @@
+-- What is said of one log, and of one port more.
+use Rattle.std.proofs.Common.{◌≡◌, ◌⊎◌, inl, inr, ℕ, ◌+◌, ◌<◌, ◌≤◌, suc, zero, arith, nat_le, Bool, true, false, if◌then◌else◌, List, [], ◌++◌, refl, sym, ap, subst, ◌∙◌, add-one, Option, Some, None, Result, Ok, Err}
+use Rattle.mscp_reader.specs.Outcome.{Fails}
+use Rattle.mscp_reader.specs.declared.fault.ReadFault.{ReadFault}
+use Rattle.mscp_reader.specs.declared.fault.ReadFault.TheVariants as reads
+use Rattle.mscp_reader.specs.declared.fault.ScriptFault.{ScriptFault}
+use Rattle.mscp_wire.specs.Log.{Log}
+use Rattle.mscp_wire.specs.Right.{Comes, Judges, Says}
+use Rattle.mscp_wire.specs.declared.log.Verdict.{Verdict}
+use Rattle.mscp_wire.specs.declared.log.Verdict.TheVariants as verdicts
+use Rattle.mscp_wire.specs.declared.wrong.Wrong.{Wrong}
+use Rattle.mscpjudge.proofs.Coming.{Came, came_of}
+use Rattle.mscpjudge.specs.Ports.{occurs, port_fault, port_log}
+use Rattle.mscpjudge.specs.Told.{Answers, Goes, IsAt, IsFault, IsFaultBelow, IsFirstBelow, IsTold, SaysBelow, Stands, TellsOne, earlier, extent_text, port_text, verdict_by, worse}
+use Rattle.mscpjudge.specs.Wired.{wire_outcome}
+use Rattle.mscpjudge.specs.declared.judging.Outcome.{Outcome}
+use Rattle.mscpjudge.specs.declared.judging.Outcome.TheVariants as outcomes
+use Rattle.mscpjudge.specs.declared.telling.Extent.{Extent}
+use Rattle.mscpjudge.specs.declared.telling.Extent.TheVariants as extents
+use Rattle.mscpjudge.specs.declared.telling.Told.{Told}
+
+-- ---- one log
+
+-- what is written of a verdict is what is written of what came of its log
+pub by_came : {A : Type 0} (extent : Extent) (verdict : Verdict A) (log : List ℕ) (k : Came verdict log)
+    → verdict_by extent log verdict ≡ extent_text extent log k.came
+by_came extents.First verdict log k = ap Ok k.text
+by_came extents.All verdict log k = k.all
+
+-- a log that comes so has no fault but that of its verdict
+pub fault_of_came : {A : Type 0} (extent : Extent) (verdict : Verdict A) (log : List ℕ) (came : Result Log Wrong)
+    (fault : ScriptFault) → Says (Ok verdict) (Ok came) → extent_text extent log came ≡ Err fault
+    → verdict_by extent log verdict ≡ Err fault
+fault_of_came extents.First verdict log came fault s h = cc
+fault_of_came extents.All (verdicts.Right totals doubts commands) log (Ok l) fault s h = cc
+fault_of_came extents.All (verdicts.Right totals doubts commands) log (Err wrong) fault s h =
+    let e : Ok (Err wrong) ≡ Ok (Ok s.0) = s.1 in cc
+fault_of_came extents.All (verdicts.Wrong w) log (Ok l) fault s h = cc
+fault_of_came extents.All (verdicts.Wrong w) log (Err wrong) fault s h = h
+
+pub no_fault : {A : Type 0} (verdict : Verdict A) (fault : ScriptFault) → Says (Ok verdict) (Err fault) → ⊥
+no_fault (verdicts.Right totals doubts commands) fault s = let e = s.1 in cc
+no_fault (verdicts.Wrong wrong) fault s = cc
+
+pub fault_of : {A : Type 0} (extent : Extent) (verdict : Verdict A) (log : List ℕ)
+    → ((came : Result (Result Log Wrong) ScriptFault) → Comes log came → Says (Ok verdict) came)
+    → (fault : ScriptFault) → IsFault extent log fault → verdict_by extent log verdict ≡ Err fault
+fault_of extent verdict log only fault (inl comes) = absurd (no_fault verdict fault (only (Err fault) comes))
+fault_of extent verdict log only fault (inr (came, comes, h)) =
+    fault_of_came extent verdict log came fault (only (Ok came) comes) h
+
+-- it is told
+pub one_told : {A : Type 0} (extent : Extent) (verdict : Verdict A) (log : List ℕ) (told : Told)
+    → Judges (Ok verdict) log
+    → ((came : Result (Result Log Wrong) ScriptFault) → Comes log came → Says (Ok verdict) came)
+    → verdict_by extent log verdict ≡ Ok told.text.items → told.outcome ≡ wire_outcome verdict
+    → TellsOne extent (Ok told) log
+one_told extent verdict log told judges only text outcome =
+    let k = came_of verdict log judges in (
+      (k.came, k.comes, outcome ∙ k.outcome, sym (by_came extent verdict log k) ∙ text),
+      λ fault h. let e = fault_of extent verdict log only fault h in cc,
+    )
+
+-- it is at fault behind the first moment that isn't right
+pub one_fails : {A : Type 0} (extent : Extent) (verdict : Verdict A) (log : List ℕ) (fault : ReadFault)
+    → Judges (Ok verdict) log
+    → ((came : Result (Result Log Wrong) ScriptFault) → Comes log came → Says (Ok verdict) came)
+    → Fails fault (verdict_by extent log verdict) → TellsOne extent (Err fault) log
+one_fails extent verdict log (reads.Script fault) judges only h =
+    let k = came_of verdict log judges in (
+      inr (k.came, k.comes, sym (by_came extent verdict log k) ∙ h),
+      λ other o. let e = fault_of extent verdict log only other o in cc,
+    )
+one_fails extent verdict log reads.OutOfMemory judges only h = tt
+
+-- or before it
+pub other_is : (A : Type 0) (extent : Extent) (log : List ℕ) (fault : ScriptFault)
+    → ((came : Result (Result Log Wrong) ScriptFault) → Comes log came → Says {A = A} (Err (reads.Script fault)) came)
+    → (other : ScriptFault) → IsFault extent log other → other ≡ fault
+other_is A extent log fault only other (inl comes) = let e = only (Err other) comes in cc
+other_is A extent log fault only other (inr (came, comes, h)) = let e = only (Ok came) comes in cc
+
+pub one_refused : (A : Type 0) (extent : Extent) (log : List ℕ) (fault : ReadFault)
+    → Judges {A = A} (Err fault) log
+    → ((came : Result (Result Log Wrong) ScriptFault) → Comes log came → Says {A = A} (Err fault) came)
+    → TellsOne extent (Err fault) log
+one_refused A extent log (reads.Script fault) judges only =
+    (inl judges, λ other h. other_is A extent log fault only other h)
+one_refused A extent log reads.OutOfMemory judges only = tt
