@@ -15,7 +15,6 @@ use Rattle.mscp_wire.specs.Wire.{told, told_after}
 use Rattle.mscp_wire.proofs.Passing.{told_push}
 use Rattle.mscp_wire.specs.declared.identity.Identity.{Identity}
 use Rattle.mscp_wire.specs.declared.told.Told.{Told}
-use Rattle.std.proofs.lemmas.List.Sums.{fold_push}
 use Rattle.mscp_drive.specs.Settings.{unit_shape}
 use Rattle.mscp_shown.proofs.Identity.{AreTold, IsOf}
 use Rattle.mscp_shown.specs.Shown.{shown, shown_by}

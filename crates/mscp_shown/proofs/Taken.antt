@@ -1,5 +1,5 @@
 -- So does an answer, and what a host takes.
-use Rattle.mscp_controller.proofs.Basics.{◌≡◌, ℕ, arith, ◌&&◌, ◌||◌, Bool, true, false, not, nat_eq, true≢false, List, [], ◌∷◌, ◌++◌, map, refl, ap, sym, ◌∙◌, subst, append-nil, Some, None, IsOfKind, AllByRecursion, false≢true, eq-eqb, ArrayVec, Connection, End, Event, Settings, Trace, Moment, moment, sent_bytes, command, command_of, unit, waiting, untaken, answer, aborted_end, good, own_end, end_bytes, every_append, every_weaker, same_connection, one_side, own_side, is_queued, each_push, aborted, untaken_more, drop}
+use Rattle.mscp_controller.proofs.Basics.{◌≡◌, ℕ, Option, arith, ◌&&◌, ◌||◌, Bool, true, false, not, nat_eq, true≢false, List, [], ◌∷◌, ◌++◌, map, refl, ap, sym, ◌∙◌, subst, append-nil, Some, None, IsOfKind, AllByRecursion, false≢true, eq-eqb, ArrayVec, Connection, End, Event, Settings, Trace, Moment, moment, sent_bytes, command, command_of, unit, waiting, untaken, answer, aborted_end, good, own_end, end_bytes, every_append, every_weaker, same_connection, one_side, own_side, is_queued, each_push, aborted, untaken_more, drop}
 use Rattle.std.proofs.lemmas.List.Sums.{fold_push}
 use Rattle.mscp_controller.proofs.Promise.Known.{Known}
 use Rattle.mscp_controller.proofs.Promise.States.{is_online_kept}
