@@ -118,7 +118,8 @@ module _ (c : Settings) (t : Trace) (m : Moment) (h : Inv c t) where
       → Heard c (t ++ m ∷ []) (after (outstanding (shown t)) w)
       → ((via : Connection) → AllByRecursion (IsFit c) (ends_at c via t m))
       → ((via : Connection) (unit : ℕ) (i : Identity)
-      → (told_after (wire.outstanding (shown t)) via unit (told (shown t) via unit) w).identity ≡ Some i → IsOf (unit_shape c unit) i)
+      → (told_after (wire.outstanding (shown t)) via unit (told (shown t) via unit) w).identity ≡ Some i
+      → IsOf (unit_shape c unit) i)
       → More c t m
   shows_one w e same right owners orders heard fit units =
       let is : shown (t ++ m ∷ []) ≡ shown t ++ w ∷ [] = shown_more t m ∙ ap (λ l. shown t ++ l) e in

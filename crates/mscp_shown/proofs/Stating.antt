@@ -83,7 +83,8 @@ stated_unsettled unit online s e es code h =
     (ap (λ n. brings_of n e.status) (eqb-true e.code 0x83 code)) s h
   where
     by_bools : (here away on : Bool) → on ≡ false → (s : State)
-        → Stated unit online (if here then (if away then turned s Away else (if on then turned s Open else s)) else s) es
+        → Stated unit online
+        (if here then (if away then turned s Away else (if on then turned s Open else s)) else s) es
         → Stated unit online s es
     by_bools false away on none s k = k
     by_bools true true on none Shared k = k

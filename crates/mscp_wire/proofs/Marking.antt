@@ -68,7 +68,8 @@ kept_marked xs i s old new o p l is e f more next names fences lines asked first
       fences = rw fences (tally_same by_fence _ xs i s t l is refl k.fences);
       lines = rw lines (tally_same by_line _ xs i s t l is refl k.lines);
       asked = rw asked (tally_same by_asked _ xs i s t l is refl k.asked);
-      statuses = tally_gone by_status _ _ xs i s t o e (never (nat_eq s.opcode 3) (not s.next) (slot_of s.connection s.unit))
+      statuses = tally_gone by_status _ _ xs i s t o e
+          (never (nat_eq s.opcode 3) (not s.next) (slot_of s.connection s.unit))
           k.statuses l is more;
       nexts = tally_gone by_next _ _ xs i s t p f (never (nat_eq s.opcode 3) s.next (slot_of s.connection 0)) k.nexts l
           is next;
@@ -159,7 +160,8 @@ none_marked y cs ds xs ys same h k none =
     (nat_eq (get_or ds (slot_of y.connection 0) 255) 0) none in
     let m = eqb-true (get_or cs (slot_of y.connection y.unit) 255) 0 p.0 in
     let n = eqb-true (get_or ds (slot_of y.connection 0) 255) 0 p.1 in
-    map_neither (λ s. is_it (by_status s) (slot_of y.connection y.unit)) (λ s. is_it (by_next s) (slot_of y.connection 0))
+    map_neither (λ s. is_it (by_status s) (slot_of y.connection y.unit))
+    (λ s. is_it (by_next s) (slot_of y.connection 0))
     (besides y) (uncounted y) xs
     (ap (count_by (λ s. is_it (by_status s) (slot_of y.connection y.unit))) (sym same)
     ∙ (sym (h (slot_of y.connection y.unit) (omega (arith, m))) ∙ m))

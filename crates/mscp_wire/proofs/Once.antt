@@ -146,7 +146,8 @@ module _ (bytes : List ℕ) where
           → wrong.passed ≡ passed_of (outstanding log.moments) wrong.moment
           → other.passed ≡ passed_of (outstanding log.moments) other.moment
           → wrong.seen ≡ seen_before (outstanding log.moments) (told log.moments) (controller log.moments) wrong.moment
-          → other.seen ≡ seen_before (outstanding log.moments) (told log.moments) (controller log.moments) other.moment → wrong ≡ other
+          → other.seen ≡ seen_before (outstanding log.moments) (told log.moments) (controller log.moments) other.moment
+          → wrong ≡ other
       one log l m r s c d p q u v = grind arith
 
   fault_once : (fault other : ScriptFault) → IsTooLarge bytes fault ⊎ IsFirstFault bytes fault

@@ -27,7 +27,7 @@ use Rattle.mscp_wire.specs.declared.told.Told.{Told}
 -- ---- of an end
 
 -- an end of SET UNIT CHARACTERISTICS (0x8A) tells of a unit another identity than this, if that is there. The rule of
--- identities lets it pass if both are told so alone: then the unit may be available, so that its volume may have changed
+-- identities lets it pass if both are told so alone: then the unit may be available, so its volume may have changed
 abbrev pub is_another : Option Identity → Answer → Bool
 is_another None e = false
 is_another (Some known) e = nat_eq e.code 0x8A && tells_unit e && not (agrees e.identity known)

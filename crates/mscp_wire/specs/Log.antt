@@ -72,8 +72,8 @@ packet_of (b ∷ bytes) = Ok (record { items = b ∷ bytes })
 unfoldable pub packet : List (List ℕ) → Result (ArrayVec ℕ) Cause
 packet fields = one fields >>= λ digits. packet_of (bytes_in digits)
 
--- an envelope is of a message, or an end, of the disk's connection: both its type and its connection are 0. The low four
--- bits beside the type are credits
+-- an envelope is of a message, or an end, of the disk's connection: both its type and its connection are 0. The low
+-- four bits beside the type are credits
 abbrev pub is_disks : List ℕ → Bool
 is_disks envelope =
     nat_lt 3 (length envelope) && nat_eq (slice_index envelope 2 / 16) 0 && nat_eq (slice_index envelope 3) 0

@@ -32,8 +32,8 @@
 --                                 says that its unit was online, only if the unit is online   suits_state
 --                    Controller   the identifier of the controller stays as it is             fits
 --
--- An end of GET UNIT STATUS is asked for Identity and State only if it is settled: no AVAILABLE and no ONLINE of its unit
--- was outstanding between its message and itself.
+-- An end of GET UNIT STATUS is asked for Identity and State only if it is settled: no AVAILABLE and no ONLINE of its
+-- unit was outstanding between its message and itself.
 use Rattle.std.specs.Prelude.{◌≡◌, ℕ, ◌+◌, ◌/◌, ◌<◌, Bool, true, false, not, ◌&&◌, ◌||◌, nat_eq, nat_le, nat_lt, if◌then◌else◌, List, [], ◌∷◌, ◌++◌, length, map, take, drop, find, position, count_by, fold, min, slice_index, slice_index_or, Option, Some, None, is_some}
 use Rattle.std.specs.List.{list_any}
 use Rattle.mscp_drive.specs.declared.connection.Connection.{Connection}
