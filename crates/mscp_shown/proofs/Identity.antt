@@ -253,7 +253,8 @@ AreTold c h =
 
 -- an end of a unit keeps that
 pub told_more : (c : Settings) (h : History) (a : Answer) (settled : Bool) → AreTold c h → IsTold c a
-    → (via : Connection) (unit : ℕ) (i : Identity) → (told_after_end via unit settled (told h via unit) a).identity ≡ Some i
+    → (via : Connection) (unit : ℕ) (i : Identity)
+    → (told_after_end via unit settled (told h via unit) a).identity ≡ Some i
     → IsOf (unit_shape c unit) i
 told_more c h a settled known is via unit i =
     let t = told h via unit in
