@@ -28,5 +28,5 @@ unnamed_text s =
     ++ (codes " (unknown opcode " ++ decimal s.opcode) ++ codes ")\n"
 
 -- what a command is
-abbrev pub command_text : Sent → List ℕ
+unfoldable pub command_text : Sent → List ℕ
 command_text s = connection_name s.connection ++ (if has_name s.opcode then named_text s else unnamed_text s)

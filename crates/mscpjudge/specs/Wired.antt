@@ -116,11 +116,14 @@ rule_line rule = codes "rule of the " ++ breaker_name rule ++ codes ": " ++ rule
 abbrev pub manual_line : Rule → List ℕ
 manual_line rule = codes "manual: " ++ rule_text rule ++ codes "\n"
 
+-- which line isn't right, and its time
+unfoldable pub line_text : (ℕ → Option ℕ) → ℕ → List ℕ
+line_text time line = (codes "line " ++ decimal line) ++ at_text (time line) ++ codes ": not right\n"
+
 -- the lines of a moment that isn't right, where lines tell these times
 abbrev pub breach_text : (ℕ → Option ℕ) → Wrong → Places → List ℕ
 breach_text time wrong places =
-    (codes "line " ++ decimal wrong.line) ++ at_text (time wrong.line) ++ codes ": not right\n" ++ rule_line wrong.rule
-    ++ meant_text wrong.command ++ told_text wrong.moment
+    line_text time wrong.line ++ rule_line wrong.rule ++ meant_text wrong.command ++ told_text wrong.moment
     ++ against_text wrong.rule wrong.moment wrong.command wrong.passed wrong.seen
     ++ places_text time wrong.rule places
 

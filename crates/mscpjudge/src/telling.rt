@@ -148,10 +148,10 @@ impl Telling {
             → tells.IsAt (port + 1) extent log.now self.new) }
     {
         let section = section_of(alloc, log, port)?;
-        if section.occurs {
-            self.section(alloc, extent, port, &section.log)?;
+        if !section.occurs {
+            return Ok(());
         }
-        Ok(())
+        self.section(alloc, extent, port, &section.log)
     }
 }
 
