@@ -19,6 +19,7 @@ use Rattle.mscp_wire.specs.declared.log.Verdict.TheVariants as verdicts
 use Rattle.mscp_wire.specs.declared.rule.Rule.{Rule}
 use Rattle.mscp_wire.specs.declared.rule.Rule.TheVariants as rules
 use Rattle.mscp_wire.specs.declared.sent.Sent.{Sent}
+use Rattle.mscp_wire.specs.declared.totals.Totals.{Totals}
 use Rattle.mscp_wire.specs.declared.wrong.Wrong.{Wrong}
 pub use Rattle.mscpjudge.specs.Commands.{command_text, connection_name}
 use Rattle.mscpjudge.specs.Counted.{totals_text}
@@ -162,10 +163,14 @@ doubts_text doubts =
     -- a GET UNIT STATUS that asks for the next unit passes one that is there
     ++ doubt_text (codes "next unit") doubts.next
 
--- the lines of what came of a log of these bytes
+-- the lines of the totals of a log of these bytes, and of its times
+unfoldable pub counted_text : List ℕ → Totals → List ℕ
+counted_text bytes totals = totals_text totals ++ timing_text bytes
+
+-- the lines of what came of it
 abbrev pub came_text : List ℕ → Result Log Wrong → List ℕ
 came_text bytes (Ok log) =
-    totals_text (totals_of log.moments) ++ timing_text bytes ++ doubts_text (doubts_of log)
+    counted_text bytes (totals_of log.moments) ++ doubts_text (doubts_of log)
     ++ flat_map outstanding_text (outstanding log.moments)
 came_text bytes (Err wrong) = broken_text (log_time bytes) wrong (places_in bytes)
 
@@ -176,7 +181,7 @@ came_outcome (Err wrong) = outcomes.Wrong
 -- the lines of a verdict, and how the log is judged by it
 abbrev pub wire_text : {A : Type 0} → List ℕ → Verdict A → List ℕ
 wire_text bytes (verdicts.Right totals doubts commands) =
-    totals_text totals ++ timing_text bytes ++ doubts_text doubts ++ flat_map outstanding_text commands.items
+    counted_text bytes totals ++ doubts_text doubts ++ flat_map outstanding_text commands.items
 wire_text bytes (verdicts.Wrong wrong) = broken_text (log_time bytes) wrong (places_in bytes)
 
 abbrev pub wire_outcome : {A : Type 0} → Verdict A → Outcome

@@ -1,13 +1,13 @@
 // How long commands take in a log that is right, by the times that its lines tell. A log without times isn't gone over.
 
-ghost use Rattle.std.specs.Prelude.{◌≡◌, ◌≤◌, ◌<◌, ◌+◌, ◌++◌, ℕ, length, OnOk, IfOk};
+ghost use Rattle.std.specs.Prelude.{◌≡◌, ◌≤◌, ◌<◌, ◌+◌, ◌++◌, length, OnOk, IfOk};
 ghost use Rattle.std.specs.List.{list_any};
 ghost use Rattle.mscp_reader.specs.Lexical as lexical;
 ghost use Rattle.mscp_reader.specs.Common.{in_line};
 ghost use Rattle.std.specs.Prelude.{Result};
 ghost use Rattle.mscp_wire.specs.declared.line.Said.{Said};
 ghost use Rattle.mscp_reader.specs.declared.fault.Cause.{Cause};
-ghost use Rattle.mscp_wire.specs.Wire.{is_hasty, is_message, key, later_of, sent_by, timed, timeout_in};
+ghost use Rattle.mscp_wire.specs.Wire.{is_hasty, key, later_of};
 ghost use Rattle.mscpjudge.specs.Timing as timings;
 
 use crate::time::{line_time, put_seconds};

@@ -17,7 +17,7 @@ use crate::totals::put_totals;
 use crate::values::{put_against, put_told};
 use mscp_controller::{Connection, OutOfMemory};
 use mscp_text::{put, put_field};
-use mscp_wire::{Places, Rule, Sent, Verdict, Wrong, places_in};
+use mscp_wire::{Places, Rule, Sent, Totals, Verdict, Wrong, places_in};
 use std::alloc::{AllocError, Allocator, Global};
 
 /// What a command of an opcode is called.
@@ -266,6 +266,20 @@ fn put_broken(
     Ok(())
 }
 
+/// Appends the lines of the totals of a log, and of its times.
+#[tactic(auto, unfolding(crate::specs::Wired::counted_text))]
+fn put_counted(
+    alloc: Global,
+    text: &mut Vec<u8>,
+    log: &[u8],
+    totals: &Totals,
+) -> Result<(), AllocError>
+    ensures { OnOk result (text.new.items ≡ text.old.items ++ wired.counted_text log.now totals.now) }
+{
+    put_totals(text, totals)?;
+    put_timing(alloc, text, log)
+}
+
 /// Appends the lines of a verdict on a log.
 fn put_verdict(
     alloc: Global,
@@ -277,8 +291,7 @@ fn put_verdict(
 {
     match verdict {
         Verdict::Right(totals, doubts, commands) => {
-            put_totals(text, totals)?;
-            put_timing(alloc, text, log)?;
+            put_counted(alloc, text, log, totals)?;
             put_doubts(text, doubts)?;
             put_outstanding(text, commands.as_slice())?;
             Ok(())
