@@ -74,16 +74,16 @@ one_fails extent verdict log (reads.Script fault) judges only h =
 one_fails extent verdict log reads.OutOfMemory judges only h = tt
 
 -- or before it
-pub other_is : (A : Type 0) (extent : Extent) (log : List ℕ) (fault : ScriptFault)
+pub other_is : {A : Type 0} (alloc : A) (extent : Extent) (log : List ℕ) (fault : ScriptFault)
     → ((came : Result (Result Log Wrong) ScriptFault) → Comes log came → Says {A = A} (Err (reads.Script fault)) came)
     → (other : ScriptFault) → IsFault extent log other → other ≡ fault
-other_is A extent log fault only other (inl comes) = let e = only (Err other) comes in cc
-other_is A extent log fault only other (inr (came, comes, h)) = let e = only (Ok came) comes in cc
+other_is alloc extent log fault only other (inl comes) = let e = only (Err other) comes in cc
+other_is alloc extent log fault only other (inr (came, comes, h)) = let e = only (Ok came) comes in cc
 
-pub one_refused : (A : Type 0) (extent : Extent) (log : List ℕ) (fault : ReadFault)
+pub one_refused : {A : Type 0} (alloc : A) (extent : Extent) (log : List ℕ) (fault : ReadFault)
     → Judges {A = A} (Err fault) log
     → ((came : Result (Result Log Wrong) ScriptFault) → Comes log came → Says {A = A} (Err fault) came)
     → TellsOne extent (Err fault) log
-one_refused A extent log (reads.Script fault) judges only =
-    (inl judges, λ other h. other_is A extent log fault only other h)
-one_refused A extent log reads.OutOfMemory judges only = tt
+one_refused alloc extent log (reads.Script fault) judges only =
+    (inl judges, λ other h. other_is alloc extent log fault only other h)
+one_refused alloc extent log reads.OutOfMemory judges only = tt

@@ -57,8 +57,8 @@ unfolding lines_of
 lines_none port n at = refl
 
 -- a line that isn't at fault
-pub not_faulty : (number : ℕ) (kind : Kind) (rest : Option ScriptFault) → ((cause : Cause) → kind ≡ kinds.Faulty cause → ⊥)
-    → fault_or number kind rest ≡ rest
+pub not_faulty : (number : ℕ) (kind : Kind) (rest : Option ScriptFault)
+    → ((cause : Cause) → kind ≡ kinds.Faulty cause → ⊥) → fault_or number kind rest ≡ rest
 not_faulty number (kinds.Faulty cause) rest h = absurd (h cause refl)
 not_faulty number kinds.Bare rest h = refl
 not_faulty number kinds.Says rest h = refl

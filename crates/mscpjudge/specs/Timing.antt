@@ -139,7 +139,8 @@ after_lines before t (line ∷ rest) =
 
 -- from which line to which
 unfoldable pub lines_text : Span → List ℕ
-lines_text span = (codes ", from line " ++ decimal span.first) ++ (codes " to line " ++ decimal span.last) ++ codes ": "
+lines_text span =
+    (codes ", from line " ++ decimal span.first) ++ (codes " to line " ++ decimal span.last) ++ codes ": "
 
 -- a time behind a word, from which line to which, and of which command
 abbrev pub told_text : List ℕ → Span → List ℕ

@@ -148,10 +148,10 @@ impl Telling {
             → tells.IsAt (port + 1) extent log.now self.new) }
     {
         let section = section_of(alloc, log, port)?;
-        if !section.occurs {
-            return Ok(());
+        if section.occurs {
+            return self.section(alloc, extent, port, &section.log);
         }
-        self.section(alloc, extent, port, &section.log)
+        Ok(())
     }
 }
 

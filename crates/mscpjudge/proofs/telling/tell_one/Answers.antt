@@ -8,7 +8,7 @@ pub returns-in_err-verdict : goal.returns-in_err-verdict
 returns-in_err-verdict c =
     let p = err_from_is_err_and c.from_residual.result c.from_residual.ensures.1 in
     subst (λ r. TellsOne c.args.extent r c.args.log.now) (sym (p.1 ∙ ap (λ f. Err f) p.2))
-    (one_refused _ c.args.extent c.args.log.now c.in_err-verdict.field-0.0 c.in_err-verdict.ensures.judges
+    (one_refused c.args.alloc c.args.extent c.args.log.now c.in_err-verdict.field-0.0 c.in_err-verdict.ensures.judges
     c.in_err-verdict.ensures.only)
 
 pub returns-in_err-text : goal.returns-in_err-text

@@ -1,4 +1,4 @@
-use Rattle.std.proofs.Common.{◌∙◌, subst}
+use Rattle.std.proofs.Common.{◌≡◌, ◌∙◌, arith, subst}
 use Rattle.mscpjudge.specs.Told.{Stands}
 use Rattle.mscpjudge.proofs.Standing.{first_at}
 use Rattle.mscpjudge.proofs.telling.tell_ports.Goals as goal
@@ -11,9 +11,15 @@ loop-port-init c =
 pub returns-in-Some : goal.returns-in-Some
 returns-in-Some c =
     subst (λ x. Stands 8 c.args.extent c.args.log.now x c.loop-port.telling.told.outcome
-    c.loop-port.telling.told.text.items) c.in-Some.is c.loop-port.invariant
+    c.loop-port.telling.told.text.items) c.in-Some.is
+    (let e : c.loop-port.port ≡ 8 = omega arith in
+    subst (λ n. Stands n c.args.extent c.args.log.now c.loop-port.telling.fault c.loop-port.telling.told.outcome
+    c.loop-port.telling.told.text.items) e c.loop-port.invariant)
 
 pub returns-in-None : goal.returns-in-None
 returns-in-None c =
     subst (λ x. Stands 8 c.args.extent c.args.log.now x c.loop-port.telling.told.outcome
-    c.loop-port.telling.told.text.items) c.in-None.is c.loop-port.invariant
+    c.loop-port.telling.told.text.items) c.in-None.is
+    (let e : c.loop-port.port ≡ 8 = omega arith in
+    subst (λ n. Stands n c.args.extent c.args.log.now c.loop-port.telling.fault c.loop-port.telling.told.outcome
+    c.loop-port.telling.told.text.items) e c.loop-port.invariant)

@@ -14,7 +14,7 @@ pub returns-in-Err-Script : goal.returns-in-Err-Script
 returns-in-Err-Script c =
     λ bytes is same s.
     let k = subst (λ l. TellsOne c.args.extent (Err (reads.Script c.in-Err-Script.fault)) l) same
-    c.in-Err-Script.ensures in
+    (subst (λ f. TellsOne c.args.extent (Err f) c.args.log.now) c.in-Err-Script.field-0-is c.in-Err-Script.ensures) in
     subst (λ f. IsFirstBelow (c.args.port + 1) c.args.extent bytes f) (sym c.earlier.ensures)
     (stands_fails c.args.port c.args.extent bytes c.args.self.now.fault c.in-Err-Script.fault
     c.args.self.now.told.outcome c.args.self.now.told.text.items is k.0 k.1 s)
