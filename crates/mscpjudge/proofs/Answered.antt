@@ -1,5 +1,5 @@
 -- What is said of one log, and of one port more.
-use Rattle.std.proofs.Common.{◌≡◌, ◌⊎◌, inl, inr, ℕ, ◌+◌, ◌<◌, ◌≤◌, suc, zero, arith, nat_le, Bool, true, false, if◌then◌else◌, List, [], ◌++◌, refl, sym, ap, subst, ◌∙◌, add-one, Option, Some, None, Result, Ok, Err}
+use Rattle.std.proofs.Common.{◌≡◌, inl, inr, ℕ, List, sym, ap, ◌∙◌, Result, Ok, Err}
 use Rattle.mscp_reader.specs.Outcome.{Fails}
 use Rattle.mscp_reader.specs.declared.fault.ReadFault.{ReadFault}
 use Rattle.mscp_reader.specs.declared.fault.ReadFault.TheVariants as reads
@@ -10,11 +10,8 @@ use Rattle.mscp_wire.specs.declared.log.Verdict.{Verdict}
 use Rattle.mscp_wire.specs.declared.log.Verdict.TheVariants as verdicts
 use Rattle.mscp_wire.specs.declared.wrong.Wrong.{Wrong}
 use Rattle.mscpjudge.proofs.Coming.{Came, came_of}
-use Rattle.mscpjudge.specs.Ports.{occurs, port_fault, port_log}
-use Rattle.mscpjudge.specs.Told.{Answers, Goes, IsAt, IsFault, IsFaultBelow, IsFirstBelow, IsTold, SaysBelow, Stands, TellsOne, earlier, extent_text, port_text, verdict_by, worse}
+use Rattle.mscpjudge.specs.Told.{IsFault, TellsOne, extent_text, verdict_by}
 use Rattle.mscpjudge.specs.Wired.{wire_outcome}
-use Rattle.mscpjudge.specs.declared.judging.Outcome.{Outcome}
-use Rattle.mscpjudge.specs.declared.judging.Outcome.TheVariants as outcomes
 use Rattle.mscpjudge.specs.declared.telling.Extent.{Extent}
 use Rattle.mscpjudge.specs.declared.telling.Extent.TheVariants as extents
 use Rattle.mscpjudge.specs.declared.telling.Told.{Told}

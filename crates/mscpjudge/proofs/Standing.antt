@@ -1,5 +1,5 @@
 -- What is said of the ports below one more.
-use Rattle.std.proofs.Common.{◌≡◌, ◌⊎◌, inl, inr, ℕ, ◌+◌, ◌<◌, ◌≤◌, suc, zero, arith, nat_le, Bool, true, false, if◌then◌else◌, List, [], ◌++◌, length, refl, sym, ap, subst, ◌∙◌, add-one, Option, Some, None, Result, Ok, Err}
+use Rattle.std.proofs.Common.{◌≡◌, ◌⊎◌, inl, inr, ℕ, ◌+◌, ◌<◌, ◌≤◌, suc, arith, nat_le, Bool, true, false, if◌then◌else◌, List, [], ◌++◌, length, refl, sym, ap, subst, add-one, Option, Some, None, Result, Ok, Err}
 use Rattle.std.proofs.lemmas.Bool.Decides.{nat_tests}
 use Rattle.std.proofs.Math.Nat.{eq-or-lt_of_le}
 use Rattle.mscp_reader.specs.declared.fault.ReadFault.{ReadFault}
@@ -8,7 +8,7 @@ use Rattle.mscp_reader.specs.declared.fault.ScriptFault.{ScriptFault}
 use Rattle.mscp_script.specs.Whole.{IsFront, most_read}
 use Rattle.mscpjudge.specs.Ports.{has_ports, occurs, port_fault, port_log}
 use Rattle.mscpjudge.specs.Said.{fault_of_log}
-use Rattle.mscpjudge.specs.Told.{Answers, Goes, IsAt, IsFault, IsFaultBelow, IsFirstBelow, IsTold, SaysBelow, Stands, TellsBy, TellsOne, TellsWire, earlier, port_text, worse}
+use Rattle.mscpjudge.specs.Told.{Answers, Goes, IsAt, IsFault, IsFaultBelow, IsFirstBelow, SaysBelow, Stands, TellsBy, TellsOne, TellsWire, earlier, port_text, worse}
 use Rattle.mscpjudge.specs.declared.judging.Outcome.{Outcome}
 use Rattle.mscpjudge.specs.declared.judging.Outcome.TheVariants as outcomes
 use Rattle.mscpjudge.specs.declared.telling.Extent.{Extent}

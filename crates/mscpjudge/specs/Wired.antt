@@ -1,13 +1,10 @@
 -- What is written of a log of the wire.
-use Rattle.std.specs.Prelude.{◌≡◌, ℕ, List, [], ◌++◌, codes, Option, Some, None, Result, Ok, Err}
+use Rattle.std.specs.Prelude.{ℕ, List, [], ◌++◌, codes, Option, Some, None, Result, Ok, Err}
 use Rattle.std.specs.List.{flat_map}
 use Rattle.std.specs.Fmt.{decimal}
-use Rattle.std.specs.Io.KnownBytes.{Appends}
-use Rattle.mscp_script.specs.Simulated.{IsGiven}
 use Rattle.mscp_wire.specs.Wire.{outstanding}
 use Rattle.mscp_wire.specs.Course.{places_in}
 use Rattle.mscp_wire.specs.Log.{Log}
-use Rattle.mscp_wire.specs.Right.{Comes}
 use Rattle.mscp_wire.specs.Totals.{totals_of}
 use Rattle.mscp_wire.specs.Doubts.{doubts_of}
 use Rattle.mscp_wire.specs.declared.doubts.Doubt.{Doubt}
@@ -27,8 +24,6 @@ use Rattle.mscpjudge.specs.Places.{places_text}
 use Rattle.mscpjudge.specs.Times.{at_text, log_time}
 use Rattle.mscpjudge.specs.Timing.{timing_text}
 use Rattle.mscpjudge.specs.Values.{against_text, told_text}
-use Rattle.mscpjudge.specs.declared.fault.Fault.{Fault}
-use Rattle.mscpjudge.specs.declared.fault.Fault.TheVariants as faults
 use Rattle.mscpjudge.specs.declared.judging.Outcome.{Outcome}
 use Rattle.mscpjudge.specs.declared.judging.Outcome.TheVariants as outcomes
 
