@@ -1,5 +1,5 @@
 -- What is said of one log, and of one port more.
-use Rattle.std.proofs.Common.{◌≡◌, ◌⊎◌, inl, inr, ℕ, ◌+◌, ◌<◌, ◌≤◌, suc, zero, arith, nat_le, Bool, true, false, if◌then◌else◌, List, [], ◌++◌, refl, sym, ap, subst, ◌∙◌, add-one, Option, Some, None, Result, Ok, Err}
+use Rattle.std.proofs.Common.{◌≡◌, inl, inr, ℕ, List, sym, ap, ◌∙◌, Result, Ok, Err}
 use Rattle.mscp_reader.specs.Outcome.{Fails}
 use Rattle.mscp_reader.specs.declared.fault.ReadFault.{ReadFault}
 use Rattle.mscp_reader.specs.declared.fault.ReadFault.TheVariants as reads
@@ -10,11 +10,8 @@ use Rattle.mscp_wire.specs.declared.log.Verdict.{Verdict}
 use Rattle.mscp_wire.specs.declared.log.Verdict.TheVariants as verdicts
 use Rattle.mscp_wire.specs.declared.wrong.Wrong.{Wrong}
 use Rattle.mscpjudge.proofs.Coming.{Came, came_of}
-use Rattle.mscpjudge.specs.Ports.{occurs, port_fault, port_log}
-use Rattle.mscpjudge.specs.Told.{Answers, Goes, IsAt, IsFault, IsFaultBelow, IsFirstBelow, IsTold, SaysBelow, Stands, TellsOne, earlier, extent_text, port_text, verdict_by, worse}
+use Rattle.mscpjudge.specs.Told.{IsFault, TellsOne, extent_text, verdict_by}
 use Rattle.mscpjudge.specs.Wired.{wire_outcome}
-use Rattle.mscpjudge.specs.declared.judging.Outcome.{Outcome}
-use Rattle.mscpjudge.specs.declared.judging.Outcome.TheVariants as outcomes
 use Rattle.mscpjudge.specs.declared.telling.Extent.{Extent}
 use Rattle.mscpjudge.specs.declared.telling.Extent.TheVariants as extents
 use Rattle.mscpjudge.specs.declared.telling.Told.{Told}
@@ -74,16 +71,16 @@ one_fails extent verdict log (reads.Script fault) judges only h =
 one_fails extent verdict log reads.OutOfMemory judges only h = tt
 
 -- or before it
-pub other_is : (A : Type 0) (extent : Extent) (log : List ℕ) (fault : ScriptFault)
+pub other_is : {A : Type 0} (alloc : A) (extent : Extent) (log : List ℕ) (fault : ScriptFault)
     → ((came : Result (Result Log Wrong) ScriptFault) → Comes log came → Says {A = A} (Err (reads.Script fault)) came)
     → (other : ScriptFault) → IsFault extent log other → other ≡ fault
-other_is A extent log fault only other (inl comes) = let e = only (Err other) comes in cc
-other_is A extent log fault only other (inr (came, comes, h)) = let e = only (Ok came) comes in cc
+other_is alloc extent log fault only other (inl comes) = let e = only (Err other) comes in cc
+other_is alloc extent log fault only other (inr (came, comes, h)) = let e = only (Ok came) comes in cc
 
-pub one_refused : (A : Type 0) (extent : Extent) (log : List ℕ) (fault : ReadFault)
+pub one_refused : {A : Type 0} (alloc : A) (extent : Extent) (log : List ℕ) (fault : ReadFault)
     → Judges {A = A} (Err fault) log
     → ((came : Result (Result Log Wrong) ScriptFault) → Comes log came → Says {A = A} (Err fault) came)
     → TellsOne extent (Err fault) log
-one_refused A extent log (reads.Script fault) judges only =
-    (inl judges, λ other h. other_is A extent log fault only other h)
-one_refused A extent log reads.OutOfMemory judges only = tt
+one_refused alloc extent log (reads.Script fault) judges only =
+    (inl judges, λ other h. other_is alloc extent log fault only other h)
+one_refused alloc extent log reads.OutOfMemory judges only = tt

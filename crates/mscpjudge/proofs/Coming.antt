@@ -8,9 +8,7 @@ use Rattle.mscp_wire.specs.Doubts.{doubts_of}
 use Rattle.mscp_wire.specs.declared.log.Verdict.{Verdict}
 use Rattle.mscp_wire.specs.declared.log.Verdict.TheVariants as verdicts
 use Rattle.mscp_wire.specs.declared.wrong.Wrong.{Wrong}
-use Rattle.mscpjudge.specs.Wired.{came_outcome, came_text, doubts_text, outstanding_text, wire_outcome, wire_text}
-use Rattle.mscpjudge.specs.Counted.{totals_text}
-use Rattle.mscpjudge.specs.Timing.{timing_text}
+use Rattle.mscpjudge.specs.Wired.{came_outcome, came_text, counted_text, doubts_text, outstanding_text, wire_outcome, wire_text}
 use Rattle.mscpjudge.specs.Found.{all_text, verdict_found}
 
 pub record Came {A : Type 0} (verdict : Verdict A) (log : List ℕ) : Type 0 where
@@ -22,9 +20,9 @@ pub record Came {A : Type 0} (verdict : Verdict A) (log : List ℕ) : Type 0 whe
 
 pub came_of : {A : Type 0} (verdict : Verdict A) (log : List ℕ) → Judges (Ok verdict) log → Came verdict log
 came_of (verdicts.Right totals doubts commands) log j =
-    let text = ap (λ t. totals_text t ++ timing_text log ++ doubts_text doubts ++ flat_map outstanding_text commands.items) j.2
-    ∙ ap (λ d. totals_text (totals_of j.0.moments) ++ timing_text log ++ doubts_text d ++ flat_map outstanding_text commands.items) j.3
-    ∙ ap (λ xs. totals_text (totals_of j.0.moments) ++ timing_text log ++ doubts_text (doubts_of j.0) ++ flat_map outstanding_text xs)
+    let text = ap (λ t. counted_text log t ++ doubts_text doubts ++ flat_map outstanding_text commands.items) j.2
+    ∙ ap (λ d. counted_text log (totals_of j.0.moments) ++ doubts_text d ++ flat_map outstanding_text commands.items) j.3
+    ∙ ap (λ xs. counted_text log (totals_of j.0.moments) ++ doubts_text (doubts_of j.0) ++ flat_map outstanding_text xs)
     j.4 in
     record { came = Ok j.0; comes = j.1; outcome = refl; text = text; all = ap Ok text }
 came_of (verdicts.Wrong wrong) log j = record { came = Err wrong; comes = j; outcome = refl; text = refl; all = refl }

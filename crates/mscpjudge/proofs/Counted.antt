@@ -17,3 +17,9 @@ pub joined : {T E : Type 0} (r : Result T E) (old first second new a b c : List 
 joined (Ok x) old first second new a b c p q h =
     h ∙ ap (λ z. z ++ c) (q ∙ ap (λ z. z ++ b) p) ∙ simp append_assoc
 joined (Err x) old first second new a b c p q h = h
+
+-- and two
+pub joined_two : {T E : Type 0} (r : Result T E) (old first new a b : List ℕ) → first ≡ old ++ a
+    → OnOk r (new ≡ first ++ b) → OnOk r (new ≡ old ++ (a ++ b))
+joined_two (Ok x) old first new a b p h = h ∙ ap (λ z. z ++ b) p ∙ append_assoc old a b
+joined_two (Err x) old first new a b p h = h

@@ -1,12 +1,11 @@
 -- What comes of the lines of a log of which all is found that is wrong.
-use Rattle.std.proofs.Common.{◌≡◌, ℕ, ◌+◌, List, [], ◌∷◌, refl, sym, ap, subst, ◌∙◌, inr, Option, Result, Ok, Err}
+use Rattle.std.proofs.Common.{◌≡◌, ℕ, ◌+◌, List, [], ◌∷◌, refl, sym, ap, subst, ◌∙◌, Result, Ok, Err}
 use Rattle.mscp_packet.specs.Steps.{◌>>=◌}
 use Rattle.mscp_reader.specs.Outcome.{Fails, in_line}
-use Rattle.mscp_reader.specs.declared.fault.Cause.{Cause}
 use Rattle.mscp_reader.specs.declared.fault.ReadFault.{ReadFault}
 use Rattle.mscp_reader.specs.declared.fault.ReadFault.TheVariants as reads
 use Rattle.mscp_reader.specs.declared.fault.ScriptFault.{ScriptFault}
-use Rattle.mscp_wire.specs.Course.{Findings, GoesOn, findings_in, findings_with, no_findings}
+use Rattle.mscp_wire.specs.Course.{Findings, GoesOn, findings_in, findings_with}
 use Rattle.mscp_wire.specs.Log.{line_says}
 use Rattle.mscp_wire.specs.declared.course.Course.{Course}
 

@@ -5,3 +5,4 @@ pub mod Going
 pub mod Ported
 pub mod Answered
 pub mod Standing
+pub mod Timed

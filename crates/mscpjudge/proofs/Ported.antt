@@ -1,5 +1,5 @@
 -- What comes of the lines of a log for the ports, a line more at a time.
-use Rattle.std.proofs.Common.{◌≡◌, ℕ, ◌+◌, Bool, true, false, ◌||◌, List, [], ◌∷◌, ◌++◌, refl, sym, ap, subst, ◌∙◌, append_assoc, Option, Some, None}
+use Rattle.std.proofs.Common.{◌≡◌, ℕ, ◌+◌, Bool, false, ◌||◌, List, [], ◌∷◌, ◌++◌, refl, sym, ap, subst, ◌∙◌, append_assoc, Option, None}
 use Rattle.std.specs.List.{flat_map}
 use Rattle.std.proofs.Math.Bool.{or_assoc}
 use Rattle.mscpjudge.specs.Ports.{fault_in, fault_or, have_ports, is_port, line_kind, line_of, lines_of, occurs_in, port_after, shows, with_end}
@@ -57,8 +57,8 @@ unfolding lines_of
 lines_none port n at = refl
 
 -- a line that isn't at fault
-pub not_faulty : (number : ℕ) (kind : Kind) (rest : Option ScriptFault) → ((cause : Cause) → kind ≡ kinds.Faulty cause → ⊥)
-    → fault_or number kind rest ≡ rest
+pub not_faulty : (number : ℕ) (kind : Kind) (rest : Option ScriptFault)
+    → ((cause : Cause) → kind ≡ kinds.Faulty cause → ⊥) → fault_or number kind rest ≡ rest
 not_faulty number (kinds.Faulty cause) rest h = absurd (h cause refl)
 not_faulty number kinds.Bare rest h = refl
 not_faulty number kinds.Says rest h = refl

@@ -1,15 +1,20 @@
 -- What is said of the ports below one more.
-use Rattle.std.proofs.Common.{◌≡◌, ◌⊎◌, inl, inr, ℕ, ◌+◌, ◌<◌, ◌≤◌, suc, zero, arith, nat_le, Bool, true, false, if◌then◌else◌, List, [], ◌++◌, refl, sym, ap, subst, ◌∙◌, add-one, Option, Some, None, Result, Ok, Err}
+use Rattle.std.proofs.Common.{◌≡◌, ◌⊎◌, inl, inr, ℕ, ◌+◌, ◌<◌, ◌≤◌, suc, arith, nat_le, Bool, true, false, if◌then◌else◌, List, [], ◌++◌, length, refl, sym, ap, subst, add-one, Option, Some, None, Result, Ok, Err}
 use Rattle.std.proofs.lemmas.Bool.Decides.{nat_tests}
 use Rattle.std.proofs.Math.Nat.{eq-or-lt_of_le}
 use Rattle.mscp_reader.specs.declared.fault.ReadFault.{ReadFault}
 use Rattle.mscp_reader.specs.declared.fault.ReadFault.TheVariants as reads
 use Rattle.mscp_reader.specs.declared.fault.ScriptFault.{ScriptFault}
-use Rattle.mscpjudge.specs.Ports.{occurs, port_fault, port_log}
-use Rattle.mscpjudge.specs.Told.{Answers, Goes, IsAt, IsFault, IsFaultBelow, IsFirstBelow, IsTold, SaysBelow, Stands, TellsOne, earlier, port_text, worse}
+use Rattle.mscp_script.specs.Whole.{IsFront, most_read}
+use Rattle.mscpjudge.specs.Ports.{has_ports, occurs, port_fault, port_log}
+use Rattle.mscpjudge.specs.Said.{fault_of_log}
+use Rattle.mscpjudge.specs.Told.{Answers, Goes, IsAt, IsFault, IsFaultBelow, IsFirstBelow, SaysBelow, Stands, TellsBy, TellsOne, TellsWire, earlier, port_text, worse}
 use Rattle.mscpjudge.specs.declared.judging.Outcome.{Outcome}
 use Rattle.mscpjudge.specs.declared.judging.Outcome.TheVariants as outcomes
 use Rattle.mscpjudge.specs.declared.telling.Extent.{Extent}
+use Rattle.mscpjudge.specs.declared.telling.Telling.{Telling}
+use Rattle.mscpjudge.specs.declared.telling.Told.{Told}
+use Rattle.std.specs.Result.{OnOk}
 
 -- ---- no port
 
@@ -152,3 +157,58 @@ stands_fails n extent bytes None fault outcome text e is only s =
     stands_first n extent bytes fault outcome text e is only s
 stands_fails n extent bytes (Some first) fault outcome text e is only s =
     stands_earlier n extent bytes first fault e is only s (nat_le first.line fault.line) refl
+
+-- ---- the whole
+
+-- what is said of a log without ports
+pub one_is : (extent : Extent) (bytes : List ℕ) (r : Result Told ReadFault) → TellsOne extent r bytes
+    → TellsBy false extent r bytes
+one_is extent bytes (Ok told) h = h.0
+one_is extent bytes (Err (reads.Script fault)) h = h.0
+one_is extent bytes (Err reads.OutOfMemory) h = tt
+
+-- a log with ports isn't too large
+pub small : (bytes : List ℕ) → has_ports bytes ≡ true → length bytes ≤ 16777216
+small bytes h = grind (arith, nat_tests)
+
+-- nothing is written of a log at fault
+pub whole_fails : (extent : Extent) (read : ReadFault) (log : List ℕ) (known old new : Option (List ℕ))
+    → IsFront most_read known log → TellsBy (has_ports log) extent (Err read) log → new ≡ old
+    → TellsWire extent (Err (fault_of_log read)) known old new
+whole_fails extent (reads.Script fault) log known old new front h e = (e, (log, front, h))
+whole_fails extent reads.OutOfMemory log known old new front h e = e
+
+-- ---- a port more
+
+pub told_at : (n : ℕ) (extent : Extent) (bytes log : List ℕ) (old new : Telling) (told : Told) → log ≡ port_log bytes n
+    → occurs bytes n ≡ true → TellsOne extent (Ok told) log → new.fault ≡ old.fault
+    → new.told.outcome ≡ worse old.told.outcome told.outcome
+    → new.told.text.items ≡ old.told.text.items ++ port_text n ++ told.text.items → IsAt n extent bytes old
+    → IsAt (n + 1) extent bytes new
+told_at n extent bytes log old new told same is one f o t s =
+    let k = subst (λ l. TellsOne extent (Ok told) l) same one in
+    subst (λ x. Stands (n + 1) extent bytes x new.told.outcome new.told.text.items) (sym f)
+    (stands_told n extent bytes old.fault old.told.outcome told.outcome new.told.outcome old.told.text.items
+    told.text.items new.told.text.items is k.0 k.1 o t s)
+
+pub fails_at : (n : ℕ) (extent : Extent) (bytes log : List ℕ) (old new : Telling) (fault : ScriptFault)
+    → log ≡ port_log bytes n → occurs bytes n ≡ true → TellsOne extent (Err (reads.Script fault)) log
+    → new.fault ≡ Some (earlier old.fault fault) → IsAt n extent bytes old → IsAt (n + 1) extent bytes new
+fails_at n extent bytes log old new fault same is one f s =
+    let k = subst (λ l. TellsOne extent (Err (reads.Script fault)) l) same one in
+    subst (λ x. Stands (n + 1) extent bytes x new.told.outcome new.told.text.items) (sym f)
+    (stands_fails n extent bytes old.fault fault old.told.outcome old.told.text.items is k.0 k.1 s)
+
+pub skipped_at : (n : ℕ) (extent : Extent) (bytes : List ℕ) (t : Telling) → occurs bytes n ≡ false
+    → IsAt n extent bytes t → IsAt (n + 1) extent bytes t
+skipped_at n extent bytes t e s = stands_skipped n extent bytes t.fault t.told.outcome t.told.text.items e s
+
+pub first_at : (extent : Extent) (bytes : List ℕ) (t : Telling) → t.fault ≡ port_fault bytes
+    → t.told.outcome ≡ outcomes.Legal → t.told.text.items ≡ [] → IsAt 0 extent bytes t
+first_at extent bytes t f o x =
+    subst (λ y. Stands 0 extent bytes t.fault t.told.outcome y) (sym x)
+    (subst (λ y. Stands 0 extent bytes t.fault y []) (sym o) (stands_none extent bytes t.fault f))
+
+pub on_ok : {T E : Type 0} (r : Result T E) (P Q : Type 0) → OnOk r P → (P → Q) → OnOk r Q
+on_ok (Ok x) P Q h f = f h
+on_ok (Err x) P Q h f = h

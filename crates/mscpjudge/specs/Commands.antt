@@ -14,8 +14,8 @@ connection_name Second = codes "second "
 -- an opcode has a name
 abbrev pub has_name : ℕ → Bool
 has_name opcode =
-    (nat_le 1 opcode && nat_le opcode 4) || (nat_le 8 opcode && nat_le opcode 11) || (nat_le 16 opcode && nat_le opcode 20)
-    || (nat_le 32 opcode && nat_le opcode 34) || nat_eq opcode 47
+    (nat_le 1 opcode && nat_le opcode 4) || (nat_le 8 opcode && nat_le opcode 11)
+    || (nat_le 16 opcode && nat_le opcode 20) || (nat_le 32 opcode && nat_le opcode 34) || nat_eq opcode 47
 
 -- a command of an opcode that has one, or has none
 abbrev pub named_text : Sent → List ℕ
@@ -28,5 +28,5 @@ unnamed_text s =
     ++ (codes " (unknown opcode " ++ decimal s.opcode) ++ codes ")\n"
 
 -- what a command is
-abbrev pub command_text : Sent → List ℕ
+unfoldable pub command_text : Sent → List ℕ
 command_text s = connection_name s.connection ++ (if has_name s.opcode then named_text s else unnamed_text s)

@@ -1,17 +1,14 @@
 -- What is written of all that is wrong in a log of the wire: each moment, and how many break each rule.
-use Rattle.std.specs.Prelude.{◌≡◌, ◌⊎◌, ℕ, zero, suc, Bool, nat_lt, if◌then◌else◌, List, [], ◌∷◌, ◌++◌, codes, length, map, count_by, Option, Result, Ok, Err}
+use Rattle.std.specs.Prelude.{ℕ, zero, suc, Bool, nat_lt, if◌then◌else◌, List, [], ◌∷◌, ◌++◌, codes, length, map, count_by, Option, Result, Ok, Err}
 use Rattle.std.specs.List.{flat_map}
 use Rattle.std.specs.Fmt.{decimal}
 use Rattle.std.specs.Str.{bytes_eq}
-use Rattle.std.specs.Io.KnownBytes.{Appends}
 use Rattle.mscp_packet.specs.Steps.{◌>>=◌}
 use Rattle.mscp_reader.specs.Lexical.{lines}
 use Rattle.mscp_reader.specs.declared.fault.Cause.TheVariants as causes
 use Rattle.mscp_reader.specs.declared.fault.ScriptFault.{ScriptFault}
-use Rattle.mscp_script.specs.Simulated.{IsGiven}
-use Rattle.mscp_wire.specs.Course.{Findings, findings_in, no_findings}
+use Rattle.mscp_wire.specs.Course.{findings_in, no_findings}
 use Rattle.mscp_wire.specs.Log.{Log}
-use Rattle.mscp_wire.specs.Right.{Comes}
 use Rattle.mscp_wire.specs.declared.course.Finding.{Finding}
 use Rattle.mscp_wire.specs.declared.log.Verdict.{Verdict}
 use Rattle.mscp_wire.specs.declared.log.Verdict.TheVariants as verdicts
@@ -19,10 +16,7 @@ use Rattle.mscp_wire.specs.declared.rule.Rule.{Rule}
 use Rattle.mscp_wire.specs.declared.rule.Rule.TheVariants as rules
 use Rattle.mscp_wire.specs.declared.wrong.Wrong.{Wrong}
 use Rattle.mscpjudge.specs.Times.{log_time}
-use Rattle.mscpjudge.specs.Wired.{breach_text, came_outcome, came_text, rule_name, wire_text}
-use Rattle.mscpjudge.specs.declared.fault.Fault.{Fault}
-use Rattle.mscpjudge.specs.declared.fault.Fault.TheVariants as faults
-use Rattle.mscpjudge.specs.declared.judging.Outcome.{Outcome}
+use Rattle.mscpjudge.specs.Wired.{breach_text, came_text, rule_name, wire_text}
 
 -- the lines of what is found, where lines tell these times
 unfoldable pub finding_text : (ℕ → Option ℕ) → Finding → List ℕ

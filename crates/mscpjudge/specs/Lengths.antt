@@ -8,6 +8,8 @@ unfoldable pub least_bytes : List ℕ → ℕ
 least_bytes b = if nat_lt (length b) 12 then 12 else least_length (slice_index b 8)
 
 -- its length, and what its endcode asks for
+unfoldable pub lengths_text : ℕ → ℕ → List ℕ
+lengths_text n least = (codes "length: " ++ decimal n) ++ (codes ", asked for " ++ decimal least) ++ codes " at least\n"
+
 abbrev pub length_text : List ℕ → List ℕ
-length_text b =
-    (codes "length: " ++ decimal (length b)) ++ (codes ", asked for " ++ decimal (least_bytes b)) ++ codes " at least\n"
+length_text b = lengths_text (length b) (least_bytes b)

@@ -68,8 +68,8 @@ fault_in before (line ∷ rest) = fault_or (before + 1) (line_kind (before + 1) 
 abbrev pub port_fault : List ℕ → Option ScriptFault
 port_fault bytes = fault_in 0 (lines bytes)
 
--- a line of this kind shows that a port occurs, where it stands among those of one: it names it, or it is one of its own
--- and says something
+-- a line of this kind shows that a port occurs, where it stands among those of one: it names it, or it is one of its
+-- own and says something
 abbrev pub shows : ℕ → ℕ → Kind → Bool
 shows port at (kinds.Names n) = nat_eq n port
 shows port at kinds.Says = nat_eq at port
@@ -87,8 +87,8 @@ occurs bytes port = occurs_in port 0 0 (lines bytes)
 
 -- ---- the log of a port
 
--- a line as it stands in the log of a port, where it stands among those of one: lines of the other ports are empty there,
--- and so are those that begin with the word `port`
+-- a line as it stands in the log of a port, where it stands among those of one: lines of the other ports are empty
+-- there, and so are those that begin with the word `port`
 abbrev pub line_of : ℕ → ℕ → Kind → List ℕ → List ℕ
 line_of port at (kinds.Names n) line = []
 line_of port at (kinds.Faulty cause) line = []

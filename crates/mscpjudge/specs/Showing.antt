@@ -70,7 +70,8 @@ said_text number time (says.Attention via b) = number_text number time ++ sent_t
 
 -- the same, or its fault
 abbrev pub read_shown : ℕ → List ℕ → Result (List ℕ) ScriptFault
-read_shown number line = in_line number (line_says number line) >>= λ said. Ok (said_text number (line_time number line) said)
+read_shown number line =
+    in_line number (line_says number line) >>= λ said. Ok (said_text number (line_time number line) said)
 
 -- the line of a port
 abbrev pub named_text : ℕ → Option ℕ → ℕ → List ℕ

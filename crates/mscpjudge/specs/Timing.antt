@@ -1,5 +1,5 @@
 -- How long commands take in a log of the wire that is right, by the times that its lines tell.
-use Rattle.std.specs.Prelude.{◌≡◌, ℕ, ◌+◌, ◌-◌, ◌==◌, ◌&&◌, nat_eq, nat_lt, not, Bool, true, false, if◌then◌else◌, List, [], ◌∷◌, ◌++◌, codes, slice_index, Option, Some, None, Result, Ok, Err}
+use Rattle.std.specs.Prelude.{◌≡◌, ℕ, ◌+◌, ◌-◌, ◌==◌, ◌&&◌, nat_eq, nat_lt, Bool, true, false, if◌then◌else◌, List, [], ◌∷◌, ◌++◌, codes, length, Option, Some, None, Result, Ok}
 use Rattle.std.specs.Ordering.{nat_cmp}
 use Rattle.std.specs.BTreeMap as tree
 use Rattle.std.specs.Fmt.{decimal}
@@ -137,27 +137,42 @@ after_lines before t (line ∷ rest) =
 
 -- ---- what is written
 
--- a time, from which line to which, and of which command, if there is one
-abbrev pub span_text : List ℕ → Option Span → List ℕ
+-- from which line to which
+unfoldable pub lines_text : Span → List ℕ
+lines_text span =
+    (codes ", from line " ++ decimal span.first) ++ (codes " to line " ++ decimal span.last) ++ codes ": "
+
+-- a time behind a word, from which line to which, and of which command
+abbrev pub told_text : List ℕ → Span → List ℕ
+told_text word span = word ++ seconds_text span.time ++ lines_text span ++ command_text span.command
+
+-- the same, if there is one
+unfoldable pub span_text : List ℕ → Option Span → List ℕ
 span_text word None = []
-span_text word (Some span) =
-    word ++ seconds_text span.time ++ (codes ", from line " ++ decimal span.first)
-    ++ (codes " to line " ++ decimal span.last) ++ codes ": " ++ command_text span.command
+span_text word (Some span) = told_text word span
 
 -- how many polls were hasty, if some were
 abbrev pub hasty_text : ℕ → List ℕ
 hasty_text count = if nat_eq count 0 then [] else codes "hasty polls: " ++ decimal count ++ codes "\n"
 
+unfoldable pub spans_text : Option Span → Option Span → ℕ → List ℕ
+spans_text longest poll hasty =
+    span_text (codes "longest: ") longest ++ span_text (codes "longest poll: ") poll ++ hasty_text hasty
+
 abbrev pub timed_text : Timed → List ℕ
-timed_text t = span_text (codes "longest: ") t.longest ++ span_text (codes "longest poll: ") t.poll ++ hasty_text t.hasty
+timed_text t = spans_text t.longest t.poll t.hasty
 
 -- a byte is '@', with which each time begins
 abbrev pub is_at : ℕ → Bool
 is_at b = b == 64
 
--- the lines of the times of a log, if it tells some
-abbrev pub timing_text : List ℕ → List ℕ
-timing_text bytes = if list_any is_at bytes then timed_text (after_lines 0 nothing_timed (lines bytes)) else []
+-- the lines of the times of a log, if it tells some and isn't too large
+abbrev pub lines_timed : List ℕ → List ℕ
+lines_timed bytes =
+    if nat_lt 16777216 (length bytes) then [] else timed_text (after_lines 0 nothing_timed (lines bytes))
+
+unfoldable pub timing_text : List ℕ → List ℕ
+timing_text bytes = if list_any is_at bytes then lines_timed bytes else []
 
 -- ---- what is kept
 

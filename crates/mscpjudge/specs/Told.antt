@@ -134,7 +134,8 @@ abbrev pub TellsWire : Extent → Result Outcome Fault → Option (List ℕ) →
 TellsWire extent (Ok outcome) known old new =
     IsGiven known (λ log. (text : List ℕ) × SaysAll extent log outcome text × Appends old new text)
 TellsWire extent (Err faults.Write) known old new = Unit {0}
-TellsWire extent (Err (faults.Log fault)) known old new = (new ≡ old) × IsGiven known (λ log. FailsAll extent log fault)
+TellsWire extent (Err (faults.Log fault)) known old new =
+    (new ≡ old) × IsGiven known (λ log. FailsAll extent log fault)
 TellsWire extent (Err fault) known old new = new ≡ old
 
 -- ---- what is kept

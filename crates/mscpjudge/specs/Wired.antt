@@ -1,13 +1,10 @@
 -- What is written of a log of the wire.
-use Rattle.std.specs.Prelude.{◌≡◌, ℕ, List, [], ◌++◌, codes, Option, Some, None, Result, Ok, Err}
+use Rattle.std.specs.Prelude.{ℕ, List, [], ◌++◌, codes, Option, Some, None, Result, Ok, Err}
 use Rattle.std.specs.List.{flat_map}
 use Rattle.std.specs.Fmt.{decimal}
-use Rattle.std.specs.Io.KnownBytes.{Appends}
-use Rattle.mscp_script.specs.Simulated.{IsGiven}
 use Rattle.mscp_wire.specs.Wire.{outstanding}
 use Rattle.mscp_wire.specs.Course.{places_in}
 use Rattle.mscp_wire.specs.Log.{Log}
-use Rattle.mscp_wire.specs.Right.{Comes}
 use Rattle.mscp_wire.specs.Totals.{totals_of}
 use Rattle.mscp_wire.specs.Doubts.{doubts_of}
 use Rattle.mscp_wire.specs.declared.doubts.Doubt.{Doubt}
@@ -19,6 +16,7 @@ use Rattle.mscp_wire.specs.declared.log.Verdict.TheVariants as verdicts
 use Rattle.mscp_wire.specs.declared.rule.Rule.{Rule}
 use Rattle.mscp_wire.specs.declared.rule.Rule.TheVariants as rules
 use Rattle.mscp_wire.specs.declared.sent.Sent.{Sent}
+use Rattle.mscp_wire.specs.declared.totals.Totals.{Totals}
 use Rattle.mscp_wire.specs.declared.wrong.Wrong.{Wrong}
 pub use Rattle.mscpjudge.specs.Commands.{command_text, connection_name}
 use Rattle.mscpjudge.specs.Counted.{totals_text}
@@ -26,8 +24,6 @@ use Rattle.mscpjudge.specs.Places.{places_text}
 use Rattle.mscpjudge.specs.Times.{at_text, log_time}
 use Rattle.mscpjudge.specs.Timing.{timing_text}
 use Rattle.mscpjudge.specs.Values.{against_text, told_text}
-use Rattle.mscpjudge.specs.declared.fault.Fault.{Fault}
-use Rattle.mscpjudge.specs.declared.fault.Fault.TheVariants as faults
 use Rattle.mscpjudge.specs.declared.judging.Outcome.{Outcome}
 use Rattle.mscpjudge.specs.declared.judging.Outcome.TheVariants as outcomes
 
@@ -116,11 +112,14 @@ rule_line rule = codes "rule of the " ++ breaker_name rule ++ codes ": " ++ rule
 abbrev pub manual_line : Rule → List ℕ
 manual_line rule = codes "manual: " ++ rule_text rule ++ codes "\n"
 
+-- which line isn't right, and its time
+unfoldable pub line_text : (ℕ → Option ℕ) → ℕ → List ℕ
+line_text time line = (codes "line " ++ decimal line) ++ at_text (time line) ++ codes ": not right\n"
+
 -- the lines of a moment that isn't right, where lines tell these times
 abbrev pub breach_text : (ℕ → Option ℕ) → Wrong → Places → List ℕ
 breach_text time wrong places =
-    (codes "line " ++ decimal wrong.line) ++ at_text (time wrong.line) ++ codes ": not right\n" ++ rule_line wrong.rule
-    ++ meant_text wrong.command ++ told_text wrong.moment
+    line_text time wrong.line ++ rule_line wrong.rule ++ meant_text wrong.command ++ told_text wrong.moment
     ++ against_text wrong.rule wrong.moment wrong.command wrong.passed wrong.seen
     ++ places_text time wrong.rule places
 
@@ -159,10 +158,14 @@ doubts_text doubts =
     -- a GET UNIT STATUS that asks for the next unit passes one that is there
     ++ doubt_text (codes "next unit") doubts.next
 
--- the lines of what came of a log of these bytes
+-- the lines of the totals of a log of these bytes, and of its times
+unfoldable pub counted_text : List ℕ → Totals → List ℕ
+counted_text bytes totals = totals_text totals ++ timing_text bytes
+
+-- the lines of what came of it
 abbrev pub came_text : List ℕ → Result Log Wrong → List ℕ
 came_text bytes (Ok log) =
-    totals_text (totals_of log.moments) ++ timing_text bytes ++ doubts_text (doubts_of log)
+    counted_text bytes (totals_of log.moments) ++ doubts_text (doubts_of log)
     ++ flat_map outstanding_text (outstanding log.moments)
 came_text bytes (Err wrong) = broken_text (log_time bytes) wrong (places_in bytes)
 
@@ -173,7 +176,7 @@ came_outcome (Err wrong) = outcomes.Wrong
 -- the lines of a verdict, and how the log is judged by it
 abbrev pub wire_text : {A : Type 0} → List ℕ → Verdict A → List ℕ
 wire_text bytes (verdicts.Right totals doubts commands) =
-    totals_text totals ++ timing_text bytes ++ doubts_text doubts ++ flat_map outstanding_text commands.items
+    counted_text bytes totals ++ doubts_text doubts ++ flat_map outstanding_text commands.items
 wire_text bytes (verdicts.Wrong wrong) = broken_text (log_time bytes) wrong (places_in bytes)
 
 abbrev pub wire_outcome : {A : Type 0} → Verdict A → Outcome

@@ -1,6 +1,6 @@
 // All that is wrong in a log of the wire. The log is judged first: only one that isn't right is gone over once more.
 
-ghost use Rattle.std.specs.Prelude.{◌≡◌, ◌≤◌, ◌++◌, ◌∷◌, [], count_by, OnOk};
+ghost use Rattle.std.specs.Prelude.{◌≡◌, ◌++◌, ◌∷◌, [], count_by, OnOk};
 ghost use Rattle.mscp_reader.specs.Lexical as lexical;
 ghost use Rattle.mscp_reader.specs.Outcome.{Tells};
 ghost use Rattle.mscpjudge.specs.Common.{breaks, broken_of, broken_rules_text, finding_text, lines_found, log_found};

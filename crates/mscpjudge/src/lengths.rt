@@ -2,7 +2,7 @@
 
 ghost use Rattle.std.specs.Prelude.{◌≡◌, ◌++◌, OnOk};
 ghost use Rattle.mscp_wire.specs.Wire.{least_length};
-ghost use Rattle.mscpjudge.specs.Lengths.{least_bytes, length_text};
+ghost use Rattle.mscpjudge.specs.Lengths.{least_bytes, length_text, lengths_text};
 
 use mscp_text::{put, put_field};
 use std::alloc::{AllocError, Allocator};
@@ -34,11 +34,23 @@ fn least_bytes(bytes: &[u8]) -> usize
     }
 }
 
+/// Appends a length, and what is asked for.
+#[tactic(auto, unfolding(crate::specs::Lengths::lengths_text))]
+fn put_lengths<A: Allocator>(
+    text: &mut Vec<u8, A>,
+    length: usize,
+    least: usize,
+) -> Result<(), AllocError>
+    ensures { OnOk result (text.new.items ≡ text.old.items ++ lengths_text length least) }
+{
+    put_field(text, "length: ", length)?;
+    put_field(text, ", asked for ", least)?;
+    put(text, " at least\n")
+}
+
 /// Appends the line of the length of an end.
 pub fn put_length<A: Allocator>(text: &mut Vec<u8, A>, bytes: &[u8]) -> Result<(), AllocError>
     ensures { OnOk result (text.new.items ≡ text.old.items ++ length_text bytes.now) }
 {
-    put_field(text, "length: ", bytes.len())?;
-    put_field(text, ", asked for ", least_bytes(bytes))?;
-    put(text, " at least\n")
+    put_lengths(text, bytes.len(), least_bytes(bytes))
 }

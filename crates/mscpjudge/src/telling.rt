@@ -149,7 +149,7 @@ impl Telling {
     {
         let section = section_of(alloc, log, port)?;
         if section.occurs {
-            self.section(alloc, extent, port, &section.log)?;
+            return self.section(alloc, extent, port, &section.log);
         }
         Ok(())
     }

@@ -1,17 +1,20 @@
 // How long commands take in a log that is right, by the times that its lines tell. A log without times isn't gone over.
 
-ghost use Rattle.std.specs.Prelude.{◌≡◌, ◌≤◌, ◌<◌, ◌+◌, ◌++◌, ℕ, length, OnOk, IfOk};
+ghost use Rattle.std.specs.Prelude.{◌≡◌, ◌≤◌, ◌<◌, ◌+◌, ◌++◌, length, OnOk, IfOk};
 ghost use Rattle.std.specs.List.{list_any};
 ghost use Rattle.mscp_reader.specs.Lexical as lexical;
-ghost use Rattle.mscp_wire.specs.Wire.{is_hasty, is_message, key, later_of, sent_by, timed, timeout_in};
+ghost use Rattle.mscp_reader.specs.Common.{in_line};
+ghost use Rattle.std.specs.Prelude.{Result};
+ghost use Rattle.mscp_wire.specs.declared.line.Said.{Said};
+ghost use Rattle.mscp_reader.specs.declared.fault.Cause.{Cause};
+ghost use Rattle.mscp_wire.specs.Wire.{is_hasty, key, later_of};
 ghost use Rattle.mscpjudge.specs.Timing as timings;
 
 use crate::time::{line_time, put_seconds};
 use crate::wire::put_command;
-use memchr::memchr;
-use mscp_controller::{Connection, OutOfMemory};
+use mscp_controller::Connection;
 use mscp_packet::fields::four_at;
-use mscp_reader::{Lines, lines_of};
+use mscp_reader::{Lines, ScriptFault, lines_of};
 use mscp_text::{put, put_field};
 use mscp_wire::{Answer, Moment, Said, Sent, line_says};
 use std::alloc::{AllocError, Allocator, Global};
@@ -48,7 +51,7 @@ pub struct Timing {
 fn has_times(log: &[u8]) -> bool
     ensures { result ≡ list_any timings.is_at log.now }
 {
-    memchr(b'@', log).is_some()
+    log.iter().any(|byte| *byte == b'@')
 }
 
 /// The number for a reference number of a connection.
@@ -81,6 +84,15 @@ fn is_soon(timeout: Option<u16>, polled: &Option<Waiting>, time: Option<u64>) ->
         Some(polled) => is_hasty(timeout, polled.command.polled, time),
         None => false,
     }
+}
+
+/// One more, if a poll is so soon.
+fn counted(soon: bool, count: u32) -> u32
+    requires { count < 4294967295 }
+    ensures count { result ≡ timings.counted soon count }
+    ensures bound { result ≤ count + 1 }
+{
+    if soon { count + 1 } else { count }
 }
 
 /// The reference number that a poll names, if a command is one.
@@ -246,9 +258,8 @@ impl Timing {
         ensures hasty { self.new.hasty ≤ number }
     {
         let polled = about(&self.waiting, command.connection, polled_in(&command));
-        if is_soon(self.timeout, &polled, command.time) {
-            self.hasty += 1;
-        }
+        let soon = is_soon(self.timeout, &polled, command.time);
+        self.hasty = counted(soon, self.hasty);
         poll_by(&mut self.waiting, &command)?;
         let sending = Waiting {
             line: number,
@@ -319,6 +330,25 @@ impl Timing {
     }
 }
 
+/// The same of what a line says, if it tells a moment.
+fn hear_said(
+    timing: &mut Timing,
+    alloc: Global,
+    number: u32,
+    time: Option<u64>,
+    said: &Result<Said, ScriptFault>,
+) -> Result<(), AllocError>
+    requires { timing.old.hasty < number }
+    ensures timed { OnOk result ((t : timings.Timed) (read : Result Said Cause) → timings.IsTimed t timing.old
+        → said.now ≡ in_line number read → timings.IsTimed (timings.after_said number time t read) timing.new) }
+    ensures hasty { timing.new.hasty ≤ number }
+{
+    match said {
+        Ok(Said::Happens(moment)) => timing.hear(alloc, number, time, moment),
+        _ => Ok(()),
+    }
+}
+
 /// What the lines of a log tell.
 fn timing_of(alloc: Global, lines: &mut Lines<'_>) -> Result<Timing, AllocError>
     requires { lines.old.number ≡ 0 }
@@ -327,14 +357,35 @@ fn timing_of(alloc: Global, lines: &mut Lines<'_>) -> Result<Timing, AllocError>
 {
     let mut timing = Timing::none(alloc);
     while let Some(line) = lines.cut() {
-        if let Ok(Said::Happens(moment)) = line_says(lines.number, line) {
-            timing.hear(alloc, lines.number, line_time(lines.number, line), &moment)?;
-        }
+        let time = line_time(lines.number, line);
+        let said = line_says(lines.number, line);
+        hear_said(&mut timing, alloc, lines.number, time, &said)?;
     }
     Ok(timing)
 }
 
-/// Appends a time, from which line to which, and of which command, if there is one.
+/// Appends from which line to which.
+#[tactic(auto, unfolding(crate::specs::Timing::lines_text))]
+fn put_lines<A: Allocator>(text: &mut Vec<u8, A>, span: &Span) -> Result<(), AllocError>
+    ensures { OnOk result (text.new.items ≡ text.old.items ++ timings.lines_text span.now) }
+{
+    put_field(text, ", from line ", span.first)?;
+    put_field(text, " to line ", span.last)?;
+    put(text, ": ")
+}
+
+/// Appends a time behind a word, from which line to which, and of which command.
+fn put_told<A: Allocator>(text: &mut Vec<u8, A>, word: &str, span: &Span) -> Result<(), AllocError>
+    ensures { OnOk result (text.new.items ≡ text.old.items ++ timings.told_text word.now span.now) }
+{
+    put(text, word)?;
+    put_seconds(text, span.time)?;
+    put_lines(text, span)?;
+    put_command(text, &span.command)
+}
+
+/// The same, if there is one.
+#[tactic(auto, unfolding(crate::specs::Timing::span_text))]
 fn put_span<A: Allocator>(
     text: &mut Vec<u8, A>,
     word: &str,
@@ -343,14 +394,7 @@ fn put_span<A: Allocator>(
     ensures { OnOk result (text.new.items ≡ text.old.items ++ timings.span_text word.now span.now) }
 {
     match span {
-        Some(span) => {
-            put(text, word)?;
-            put_seconds(text, span.time)?;
-            put_field(text, ", from line ", span.first)?;
-            put_field(text, " to line ", span.last)?;
-            put(text, ": ")?;
-            put_command(text, &span.command)
-        }
+        Some(span) => put_told(text, word, span),
         None => Ok(()),
     }
 }
@@ -366,19 +410,42 @@ fn put_hasty<A: Allocator>(text: &mut Vec<u8, A>, count: u32) -> Result<(), Allo
     put(text, "\n")
 }
 
-/// Appends the lines of the times of a log, if it tells some.
-pub fn put_timing(alloc: Global, text: &mut Vec<u8>, log: &[u8]) -> Result<(), OutOfMemory>
+/// Appends the lines of what was timed.
+#[tactic(auto, unfolding(crate::specs::Timing::spans_text))]
+fn put_spans<A: Allocator>(
+    text: &mut Vec<u8, A>,
+    longest: &Option<Span>,
+    poll: &Option<Span>,
+    hasty: u32,
+) -> Result<(), AllocError>
+    ensures { OnOk result (text.new.items ≡ text.old.items ++ timings.spans_text longest.now poll.now hasty) }
+{
+    put_span(text, "longest: ", longest)?;
+    put_span(text, "longest poll: ", poll)?;
+    put_hasty(text, hasty)
+}
+
+/// Appends the lines of the times of a log that isn't too large.
+fn put_timed(alloc: Global, text: &mut Vec<u8>, log: &[u8]) -> Result<(), AllocError>
+    ensures { OnOk result (text.new.items ≡ text.old.items ++ timings.lines_timed log.now) }
+{
+    match lines_of(log) {
+        Ok(mut lines) => {
+            let timing = timing_of(alloc, &mut lines)?;
+            put_spans(text, &timing.longest, &timing.poll, timing.hasty)
+        }
+        Err(_) => Ok(()),
+    }
+}
+
+/// The same, if it tells some.
+#[tactic(auto, unfolding(crate::specs::Timing::timing_text))]
+pub fn put_timing(alloc: Global, text: &mut Vec<u8>, log: &[u8]) -> Result<(), AllocError>
     ensures { OnOk result (text.new.items ≡ text.old.items ++ timings.timing_text log.now) }
 {
-    if !has_times(log) {
-        return Ok(());
+    if has_times(log) {
+        put_timed(alloc, text, log)
+    } else {
+        Ok(())
     }
-    let Ok(mut lines) = lines_of(log) else {
-        return Ok(());
-    };
-    let timing = timing_of(alloc, &mut lines)?;
-    put_span(text, "longest: ", &timing.longest)?;
-    put_span(text, "longest poll: ", &timing.poll)?;
-    put_hasty(text, timing.hasty)?;
-    Ok(())
 }

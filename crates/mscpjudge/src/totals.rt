@@ -1,6 +1,6 @@
 // The totals of a log of the wire.
 
-ghost use Rattle.std.specs.Prelude.{◌≡◌, ◌<◌, ◌++◌, length, slice_index, OnOk};
+ghost use Rattle.std.specs.Prelude.{◌≡◌, ◌<◌, ◌++◌, length, OnOk};
 ghost use Rattle.mscpjudge.specs.Counted as counted;
 
 use crate::wire::opcode_name;

@@ -17,7 +17,7 @@ use crate::totals::put_totals;
 use crate::values::{put_against, put_told};
 use mscp_controller::{Connection, OutOfMemory};
 use mscp_text::{put, put_field};
-use mscp_wire::{Places, Rule, Sent, Verdict, Wrong, places_in};
+use mscp_wire::{Places, Rule, Sent, Totals, Verdict, Wrong, places_in};
 use std::alloc::{AllocError, Allocator, Global};
 
 /// What a command of an opcode is called.
@@ -158,6 +158,7 @@ fn put_unnamed<A: Allocator>(text: &mut Vec<u8, A>, command: &Sent) -> Result<()
 }
 
 /// Appends what a command is, and ends the line.
+#[tactic(auto, unfolding(crate::specs::Commands::command_text))]
 pub fn put_command<A: Allocator>(text: &mut Vec<u8, A>, command: &Sent) -> Result<(), AllocError>
     ensures { OnOk result (text.new.items ≡ text.old.items ++ command_text command.now) }
 {
@@ -221,6 +222,16 @@ fn put_manual<A: Allocator>(text: &mut Vec<u8, A>, rule: Rule) -> Result<(), All
     put(text, "\n")
 }
 
+/// Appends which line isn't right, and its time.
+#[tactic(auto, unfolding(crate::specs::Wired::line_text))]
+fn put_line<A: Allocator>(text: &mut Vec<u8, A>, line: u32, times: &Times) -> Result<(), AllocError>
+    ensures { OnOk result (text.new.items ≡ text.old.items ++ wired.line_text (time_of times.now.lines) line) }
+{
+    put_field(text, "line ", line)?;
+    put_at(text, times.at(line))?;
+    put(text, ": not right\n")
+}
+
 /// Appends the lines of a moment that isn't right.
 pub fn put_wrong<A: Allocator>(
     text: &mut Vec<u8, A>,
@@ -231,9 +242,7 @@ pub fn put_wrong<A: Allocator>(
     ensures { OnOk result (text.new.items ≡ text.old.items
         ++ breach_text (time_of times.now.lines) wrong.now places.now) }
 {
-    put_field(text, "line ", wrong.line)?;
-    put_at(text, times.at(wrong.line))?;
-    put(text, ": not right\n")?;
+    put_line(text, wrong.line, times)?;
     put_rule(text, wrong.rule)?;
     put_meant(text, &wrong.command)?;
     put_told(text, &wrong.moment)?;
@@ -257,6 +266,20 @@ fn put_broken(
     Ok(())
 }
 
+/// Appends the lines of the totals of a log, and of its times.
+#[tactic(auto, unfolding(crate::specs::Wired::counted_text))]
+fn put_counted(
+    alloc: Global,
+    text: &mut Vec<u8>,
+    log: &[u8],
+    totals: &Totals,
+) -> Result<(), AllocError>
+    ensures { OnOk result (text.new.items ≡ text.old.items ++ wired.counted_text log.now totals.now) }
+{
+    put_totals(text, totals)?;
+    put_timing(alloc, text, log)
+}
+
 /// Appends the lines of a verdict on a log.
 fn put_verdict(
     alloc: Global,
@@ -268,8 +291,7 @@ fn put_verdict(
 {
     match verdict {
         Verdict::Right(totals, doubts, commands) => {
-            put_totals(text, totals)?;
-            put_timing(alloc, text, log)?;
+            put_counted(alloc, text, log, totals)?;
             put_doubts(text, doubts)?;
             put_outstanding(text, commands.as_slice())?;
             Ok(())

@@ -1,4 +1,4 @@
-use Rattle.std.proofs.Common.{◌++◌, ◌∷◌, [], refl, sym, ap, subst, map, ◌∙◌, Ok, Err}
+use Rattle.std.proofs.Common.{◌++◌, ◌∷◌, [], sym, ap, subst, map, ◌∙◌, Ok, Err}
 use Rattle.std.specs.List.{flat_map}
 use Rattle.std.proofs.lemmas.Grind.{flat_map-append}
 use Rattle.std.proofs.lemmas.List.{append-nil, map-append}
@@ -34,8 +34,10 @@ loop-line-preserved-in-Continue-branch-3 c =
       on = goes.2;
       text =
           c.in_ok-put_finding.ensures.text ∙ ap (λ t. t ++ finding_text (time_of c.args.times.now.lines) x) i.text
-          ∙ sym (ap (flat_map (finding_text (time_of c.args.times.now.lines))) goes.3 ∙ flat_map-append (finding_text (time_of c.args.times.now.lines)) i.findings.found (x ∷ [])
-          ∙ ap (λ t. flat_map (finding_text (time_of c.args.times.now.lines)) i.findings.found ++ t) (append-nil (finding_text (time_of c.args.times.now.lines) x)));
+          ∙ sym (ap (flat_map (finding_text (time_of c.args.times.now.lines))) goes.3
+          ∙ flat_map-append (finding_text (time_of c.args.times.now.lines)) i.findings.found (x ∷ [])
+          ∙ ap (λ t. flat_map (finding_text (time_of c.args.times.now.lines)) i.findings.found ++ t)
+          (append-nil (finding_text (time_of c.args.times.now.lines) x)));
       broken =
           c.in_ok-put_finding.ensures.broken ∙ ap (λ t. t ++ broken_of x ∷ []) i.broken
           ∙ sym (ap (map broken_of) goes.3 ∙ map-append broken_of i.findings.found (x ∷ []));
@@ -84,4 +86,5 @@ returns c =
     ∙ found_none c.loop-line.lines.number i.findings)
     ∙ ap Ok (sym (c.in_ok-put_counts.ensures
     ∙ ap (λ t. t ++ broken_rules_text c.as_slice.result.now) i.text
-    ∙ ap (λ b. flat_map (finding_text (time_of c.args.times.now.lines)) i.findings.found ++ broken_rules_text b) (c.as_slice.ensures.value ∙ i.broken)))
+    ∙ ap (λ b. flat_map (finding_text (time_of c.args.times.now.lines)) i.findings.found
+    ++ broken_rules_text b) (c.as_slice.ensures.value ∙ i.broken)))
