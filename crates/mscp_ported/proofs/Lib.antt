@@ -52,6 +52,7 @@ pub mod Dealing
 pub mod Ended
 pub mod Falling
 pub mod Codes
+pub mod Origins
 pub mod Buffered
 pub mod Fitting
 pub mod Saying
