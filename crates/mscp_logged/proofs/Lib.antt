@@ -9,5 +9,12 @@ pub mod Logging
 pub mod Placed
 pub mod Coded
 pub mod About
-pub mod Nine
+pub mod Faults
+pub mod Statuses
+pub mod Bytes
+pub mod Made
+pub mod Suited
+pub mod Answered
+pub mod Tied
+pub mod Kept
 pub mod Rows

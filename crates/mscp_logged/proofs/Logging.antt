@@ -62,7 +62,8 @@ module _ {K : Type 0} (Tie : List ℕ → List ℕ → Type 0) (picks : Picking 
     (controller : Holdings K) (hardware : Hardware) (credits : ℕ) (start : Port K) (valid : IsValid c)
     (was : AnsweredCalls (picks picker) (fresh c picker) before controller)
     (quiet : outstanding_of First controller ≡ []) (made : IsMadeOf hardware credits controller start)
-    (tie_end : (p : Port K) (call : Call) (calls : List Call) → ReadsBytes (call ∷ calls)
+    (Fine : List Call → Type 0) (fine_before : (call : Call) (calls : List Call) → Fine (call ∷ calls) → Fine calls)
+    (tie_end : (p : Port K) (call : Call) (calls : List Call) → ReadsBytes (call ∷ calls) → Fine (call ∷ calls)
     → (a : Answered picks start (call ∷ calls) p) → (q : IsEnding (awaited picks start a.0 calls a.1) call a.0 p)
     → Tie q.out.bytes.items q.message)
     (tie_own : (old : Port K) (text : List ℕ) (o : Outgoing) → ((i : ℕ) → slice_index text i < 2 ^ 8)
@@ -84,7 +85,8 @@ module _ {K : Type 0} (Tie : List ℕ → List ℕ → Type 0) (picks : Picking 
       (nothing_held p calls asks a none) (nothing_stated Tie [] (nothing_wired Tie [] [] refl refl))
 
   module _ (p : Port K) (call : Call) (calls : List Call) (asks : AsksAlways (call ∷ calls))
-      (reads : ReadsBytes (call ∷ calls)) (a : Answered picks start (call ∷ calls) p) (never : call ≢ WriteIp)
+      (reads : ReadsBytes (call ∷ calls)) (fine : Fine (call ∷ calls)) (a : Answered picks start (call ∷ calls) p)
+      (never : call ≢ WriteIp)
       (lives : is_dead p.stage ≡ false) (s : State a.0 calls a.1)
       (host : HostIsRight limit (logged picks start p (call ∷ calls) a)) where
     abbrev h : History
@@ -155,7 +157,7 @@ module _ {K : Type 0} (Tie : List ℕ → List ℕ → Type 0) (picks : Picking 
     ending q = begun [] (filter (λ t. not (has_number (num q.out.bytes.items 0 4) t)) aw) q.out (none_by q.accepted)
         q.nothing q.begun (awaited_is (q.out.bytes.items ∷ []) [] q.ended q.taken ∙ append-nil _)
         (with_none _ (said_in q.out ∷ []) (begins_end Tie h aw (said_in q.out) q.message (none_out q.nothing) q.only
-        (tie_end p call calls reads a q)))
+        (tie_end p call calls reads fine a q)))
 
     taking : IsTaking call a.0 p → State p (call ∷ calls) a
     taking q =
@@ -199,14 +201,15 @@ module _ {K : Type 0} (Tie : List ℕ → List ℕ → Type 0) (picks : Picking 
     deals_so (inr (inr (inr (inl q)))) = taking q
     deals_so (inr (inr (inr (inr q)))) = answering q
 
-  pub stated : (p : Port K) (calls : List Call) → AsksAlways calls → ReadsBytes calls
+  pub stated : (p : Port K) (calls : List Call) → AsksAlways calls → ReadsBytes calls → Fine calls
       → (a : Answered picks start calls p)
       → HostIsRight limit (logged picks start p calls a) → State p calls a
-  stated p [] asks reads a host = forgotten p [] asks a refl refl refl
-  stated p (call ∷ calls) asks reads a host = elim (is_reset call) [
+  stated p [] asks reads fine a host = forgotten p [] asks a refl refl refl
+  stated p (call ∷ calls) asks reads fine a host = elim (is_reset call) [
     | inl reset ↦ forgotten p (call ∷ calls) asks a (since_reset p.stage call _ _ reset)
         (since_reset p.stage call _ _ reset) (since_reset p.stage call _ _ reset)
-    | inr never ↦ by (λ x. stated a.0 calls (asked_before call calls asks) (reads_before call calls reads) a.1 x) never
+    | inr never ↦ by (λ x. stated a.0 calls (asked_before call calls asks) (reads_before call calls reads)
+        (fine_before call calls fine) a.1 x) never
         (is_dead p.stage) refl
   ]
     where
@@ -220,4 +223,4 @@ module _ {K : Type 0} (Tie : List ℕ → List ℕ → Type 0) (picks : Picking 
           let old_host = each_front (λ x m. is_message m ≡ true → IsRight limit x m) moments.Reset
           (logged picks start a.0 calls a.1) (seen_by call a.0 p)
           (subst (λ x. HostIsRight limit x) (since_alive p.stage call _ _ never lives) host) in
-          deals_so p call calls asks reads a never lives (so_far old_host) host d.1
+          deals_so p call calls asks reads fine a never lives (so_far old_host) host d.1

@@ -73,7 +73,7 @@ module _ (Tie : List ℕ → List ℕ → Type 0) where
   abbrev pub IsSeen : History → Moment → Type 0
   IsSeen h (moments.Message via b time) = Unit {0}
   IsSeen h (moments.End via b) = (via ≡ First) × IsTied (outstanding h) b.items
-  IsSeen h moments.Reset = Unit {0}
+  IsSeen h m = Unit {0}
 
   pub record Stated (h : History) (aw : List (List ℕ)) (held : List Said) : Type 0 where
     pub each : (i : ℕ) → i < length h → IsSeen (take i h) (moment_at h i)
