@@ -24,7 +24,7 @@ use Rattle.mscp_port.specs.declared.buffers.Buffer.{Buffer}
 use Rattle.mscp_port.specs.declared.decided.Decided.{Decided}
 use Rattle.mscp_port.specs.Blocks.{kept_at, kept_of}
 use Rattle.mscp_port.specs.Buffers.{is_of}
-use Rattle.mscp_port.specs.Decided.{end_decided, status_told}
+use Rattle.mscp_port.specs.Decided.{controller_decided, end_decided, found_decided, status_told}
 use Rattle.mscp_port.specs.declared.verdict.Verdict.TheVariants as verdicts
 use Rattle.mscp_drive.specs.declared.block.Block.TheVariants as blocks
 use Rattle.mscp_port.specs.Formalities.{code_told, ends_formality, is_formality}
@@ -64,29 +64,25 @@ FitsIn c Told aw l = (t : List ℕ) → filter (has_number l.end.reference) aw �
 
 -- ---- codes
 
-pub decided_code : (code status : ℕ) (e : End) (units : List Shape) (flags : ℕ) (v : Volume)
-    → (end_decided code status e units flags v).code ≡ code
-decided_code code status e units flags v = by (nat_eq e.code 0x84)
-    (Rattle.mscp_drive.specs.UnitList.unit_found units e.unit)
+decided_both : (code status : ℕ) (e : End) (units : List Shape) (flags : ℕ) (v : Volume)
+    → ((end_decided code status e units flags v).code ≡ code)
+    × ((end_decided code status e units flags v).status ≡ status)
+decided_both code status e units flags v = by (nat_eq e.code 0x84) (unit_found units e.unit)
   where
     by : (c : Bool) (o : Option Shape)
-        → (cond c (Rattle.mscp_port.specs.Decided.controller_decided code status flags)
-        (Rattle.mscp_port.specs.Decided.found_decided code status o v)).code ≡ code
-    by true o = refl
-    by false None = refl
-    by false (Some unit) = refl
+        → ((cond c (controller_decided code status flags) (found_decided code status o v)).code ≡ code)
+        × ((cond c (controller_decided code status flags) (found_decided code status o v)).status ≡ status)
+    by true o = (refl, refl)
+    by false None = (refl, refl)
+    by false (Some unit) = (refl, refl)
+
+pub decided_code : (code status : ℕ) (e : End) (units : List Shape) (flags : ℕ) (v : Volume)
+    → (end_decided code status e units flags v).code ≡ code
+decided_code code status e units flags v = (decided_both code status e units flags v).0
 
 pub decided_status : (code status : ℕ) (e : End) (units : List Shape) (flags : ℕ) (v : Volume)
     → (end_decided code status e units flags v).status ≡ status
-decided_status code status e units flags v = by (nat_eq e.code 0x84)
-    (Rattle.mscp_drive.specs.UnitList.unit_found units e.unit)
-  where
-    by : (c : Bool) (o : Option Shape)
-        → (cond c (Rattle.mscp_port.specs.Decided.controller_decided code status flags)
-        (Rattle.mscp_port.specs.Decided.found_decided code status o v)).status ≡ status
-    by true o = refl
-    by false None = refl
-    by false (Some unit) = refl
+decided_status code status e units flags v = (decided_both code status e units flags v).1
 
 -- so is the status of an answer, and that of a step's end
 pub answer_told : {K : Type 0} (old new : Port K) (e : End)
