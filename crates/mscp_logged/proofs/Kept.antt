@@ -37,9 +37,9 @@ IsKnownBy c m = Unit {0}
 
 after_known : (c : Settings) (told : Option ℕ) (m : Moment) → IsKnownBy c m → IsKnown c told
     → IsKnown c (controller_after told m)
-after_known c told (moments.Message via b time) new was = was
 after_known c told (moments.End via b) new was = later_known c (controller_in b.items) told new was
-after_known c told m new was = inl refl
+after_known c told moments.Reset new was = inl refl
+after_known c told m new was = was
 
 all_known : (c : Settings) (h : History) (told : Option ℕ) → AllByRecursion (IsKnownBy c) h → IsKnown c told
     → IsKnown c (fold controller_after told h)
@@ -111,7 +111,6 @@ keeps_rules c F limit x h aw held s host asked f = keeps_rule (IsEndOf c F) limi
     (subst (λ o. IsKnown c o) (sym is) (told i)) b tied x asked f) host
   where
     known : (prefix : History) (m : Moment) → IsSeen (IsEndOf c F) prefix m → IsKnownBy c m
-    known prefix (moments.Message via b time) is = tt
     known prefix (moments.End via b) is = is.1.tie.known
     known prefix m is = tt
 
