@@ -4,6 +4,8 @@ use Rattle.std.specs.Prelude.{find, option_map, slice_index}
 use Rattle.std.proofs.lemmas.Option.{none-some}
 use Rattle.mscp_packet.specs.Number.{num}
 use Rattle.mscp_packet.specs.declared.command.Command.{Command}
+use Rattle.mscp_packet.specs.declared.command.Order.{Order}
+use Rattle.mscp_packet.specs.declared.command.Order.TheVariants as orders
 use Rattle.mscp_packet.specs.declared.end.End.{End}
 use Rattle.mscp_packet.specs.Ends.{refused_body}
 use Rattle.mscp_drive.specs.declared.block.Block.{Block}
@@ -14,7 +16,7 @@ use Rattle.mscp_queue.specs.Names.{name_on}
 use Rattle.mscp_queue.specs.Orders.{endcode}
 use Rattle.mscp_queue.specs.Records.{Record, advanced, record_at, without}
 use Rattle.mscp_queue.specs.Serving.{end_given, waiting_after}
-use Rattle.mscp_controller.specs.Holdings.{waiting_on}
+use Rattle.mscp_controller.specs.Holdings.{reference_aborted, unaborted, waiting_on}
 use Rattle.mscp_port.specs.declared.buffers.Buffer.{Buffer}
 use Rattle.mscp_port.specs.Buffers.{buffer_in, is_of, without as without_kept, without_aborted}
 use Rattle.mscp_port.specs.Formalities.{is_formality}
@@ -265,6 +267,15 @@ answered_kept aw rs bs t none kept n = by (nat_eq (num t 0 4) n) refl
         subst (λ m. filter (is_numbered m) rs ≡ []) (eqb-true (num t 0 4) n d) none in
         nothing_kept (aw ++ t ∷ []) rs bs n here ((kept n).none here)
     by false d = kept_as aw (aw ++ t ∷ []) rs rs bs bs n (none_beside (has_number n) aw t d) refl refl (kept n)
+
+-- and may abort another
+pub answer_kept : (aw : List (List ℕ)) (rs : List Record) (es : List End) (bs : List Buffer) (t : List ℕ)
+    (order : Order) → filter (is_numbered (num t 0 4)) rs ≡ [] → AtEach aw rs es → IsKeptEach aw rs bs
+    → IsKeptEach (aw ++ t ∷ []) (unaborted First rs order) (without_aborted (reference_aborted First rs order) bs)
+answer_kept aw rs es bs t (orders.Abort m) none at kept = answered_kept aw (without (name_on First m) rs)
+    (without_aborted (option_map (λ r. r.command.reference) (find (is_numbered m) rs)) bs) t
+    (none_stays (is_numbered (num t 0 4)) (λ r. not (is_numbered m r)) rs none) (abort_kept aw rs es bs m at kept)
+answer_kept aw rs es bs t order none at kept = answered_kept aw rs bs t none kept
 
 -- the end of one is taken
 pub taken_kept : (aw : List (List ℕ)) (rs : List Record) (bs : List Buffer) (m : ℕ) → IsKeptEach aw rs bs

@@ -23,6 +23,7 @@ use Rattle.mscp_ported.proofs.Ended.{kept, no_ends, nothing_two, shaped}
 use Rattle.mscp_ported.proofs.Ending.{zipped}
 use Rattle.mscp_ported.proofs.Fitted.{Fitting, nothing_fits, stays}
 use Rattle.mscp_ported.proofs.Fitting.{FitsIn}
+use Rattle.mscp_ported.proofs.Followed.{AreFollowed}
 use Rattle.mscp_ported.proofs.Heeding.{read_fits}
 use Rattle.mscp_ported.proofs.Numbered.{some_none}
 use Rattle.mscp_ported.proofs.Opcodes.{IsSaid, next_fits, said_is, went_fits}
@@ -91,6 +92,7 @@ module _ {K : Type 0} (picks : Picking K) (c : Settings) (picker : K)
           own = λ r t e f. absurd (some_none t [] (sym f));
         };
         fits = subst (λ es. AllByRecursion (FitsIn c Told []) (zipped es p.decided.items)) (sym no_end) tt;
+        followed = subst (λ es. AreFollowed Told [] es) (sym no_end) tt;
       }
   fitting p (call ∷ calls) reads fine a = by call a reads fine
       (fitting a.0 calls (reads_before call calls reads) (fine_before call calls fine) a.1)
@@ -118,7 +120,7 @@ module _ {K : Type 0} (picks : Picking K) (c : Settings) (picker : K)
   pub ends_said : (p : Port K) (call : Call) (calls : List Call) (text message : List ℕ) → ReadsBytes (call ∷ calls)
       → Fine (call ∷ calls) → (a : Answered picks start (call ∷ calls) p) → ends_said_by call a.0 p ≡ text ∷ []
       → filter (has_number (num text 0 4)) (awaited picks start a.0 calls a.1) ≡ message ∷ []
-      → IsSaid c Told a.0 text message
+      → IsSaid c Told a.0 (awaited picks start a.0 calls a.1) text message
   ends_said p (Next blocks action bytes) calls text message reads fine a said only =
       said_is blocks action bytes a.0 p (awaited picks start a.0 calls a.1) (numbers_kept a.0 calls reads a.1)
       (fitting a.0 calls reads (fine_before (Next blocks action bytes) calls fine) a.1)

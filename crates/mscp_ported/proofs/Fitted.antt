@@ -19,6 +19,7 @@ use Rattle.mscp_ported.proofs.Buffered.{IsKeptEach}
 use Rattle.mscp_ported.proofs.Coming.{ends_of}
 use Rattle.mscp_ported.proofs.Ending.{Grows, left_with, zip_map, zip_more, zipped}
 use Rattle.mscp_ported.proofs.Fitting.{FitsIn}
+use Rattle.mscp_ported.proofs.Followed.{AreFollowed, followed_forgotten}
 use Rattle.mscp_ported.proofs.Numbered.{some_none}
 use Rattle.mscp_ported.proofs.Staying.{Stays}
 use Rattle.mscp_ported.specs.Awaited.{taken_by, without_ends}
@@ -35,6 +36,7 @@ pub record Fitting (c : Settings) (Told : Verdict → Record → Type 0) {K : Ty
   pub long : length (ends_of p.controller) ≡ length p.decided.items
   pub kept : IsKeptEach aw p.controller.waiting p.buffers.items
   pub fits : AllByRecursion (FitsIn c Told aw) (zipped (ends_of p.controller) p.decided.items)
+  pub followed : AreFollowed Told aw (ends_of p.controller)
 
 -- all was forgotten
 pub nothing_fits : {c : Settings} {Told : Verdict → Record → Type 0} {K : Type 0} (p : Port K) (aw : List (List ℕ))
@@ -47,6 +49,7 @@ nothing_fits {c} {Told} p aw none no_end nothing no_buffer = record {
     own = λ r t e f. absurd (some_none r [] (sym e ∙ ap (filter (is_numbered n)) none));
   };
   fits = subst (λ es. AllByRecursion (FitsIn c Told aw) (zipped es p.decided.items)) (sym no_end) tt;
+  followed = subst (λ es. AreFollowed Told aw es) (sym no_end) tt;
 }
 
 -- no message is awaited any more
@@ -74,6 +77,7 @@ module _ {c : Settings} {Told : Verdict → Record → Type 0} {K : Type 0} (cal
         long = x.long;
         kept = forget_each xs new.controller.waiting new.buffers.items x.kept;
         fits = forget_ends c Told (zipped (ends_of new.controller) new.decided.items);
+        followed = followed_forgotten Told xs (ends_of new.controller) x.followed;
       }
       by false = subst (λ z. Fitting c Told new z) (sym e) x
 
@@ -93,6 +97,7 @@ module _ {c : Settings} {Told : Verdict → Record → Type 0} {K : Type 0} (cal
             (subst (λ bs. IsKeptEach aw old.controller.waiting bs) (sym buffers) k.kept);
         fits = subst (λ es. AllByRecursion (FitsIn c Told aw) (zipped es new.decided.items)) (sym ends)
             (subst (λ ds. AllByRecursion (FitsIn c Told aw) (zipped (ends_of old.controller) ds)) (sym decided) k.fits);
+        followed = subst (λ es. AreFollowed Told aw es) (sym ends) k.followed;
       })
 
   pub stays : ends_said_by call old new ≡ [] → taken_by call old ≡ [] → Stays old new

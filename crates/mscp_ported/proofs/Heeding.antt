@@ -20,7 +20,7 @@ use Rattle.mscp_packet.specs.declared.end.End.{End}
 use Rattle.mscp_port.proofs.Common.{eq-eqb, eqb-true}
 use Rattle.mscp_port.proofs.Kept.{is_numbered}
 use Rattle.mscp_port.proofs.Said.{none_or_some}
-use Rattle.mscp_port.specs.Buffers.{buffer_in, is_of, without_aborted}
+use Rattle.mscp_port.specs.Buffers.{buffer_in, is_of}
 use Rattle.mscp_port.specs.Calls.{Hears}
 use Rattle.mscp_port.specs.Formalities.{ends_formality, is_formality}
 use Rattle.mscp_port.specs.Histories.{WasRead}
@@ -34,7 +34,7 @@ use Rattle.mscp_port.specs.declared.task.Task.{Task}
 use Rattle.mscp_ported.proofs.Answering.{none_so, own_so}
 use Rattle.mscp_ported.proofs.Awaiting.{IsLikeIt, IsNoReset, IsSmall, Kept, handed_like, is_it, nothing_there, others, own_number}
 use Rattle.mscp_ported.proofs.Awaits.{none_taken, taken_is}
-use Rattle.mscp_ported.proofs.Buffered.{FitsBuffer, IsKeptEach, abort_kept, answered_kept, few_kept, number_kept, opcode_kept, queued_kept}
+use Rattle.mscp_ported.proofs.Buffered.{FitsBuffer, IsKeptEach, answer_kept, few_kept, number_kept, opcode_kept, queued_kept}
 use Rattle.mscp_ported.proofs.Codes.{answered_about, answered_code, answered_unit, under_64, handed_coded, queued_no_about}
 use Rattle.mscp_ported.proofs.Coming.{come_so, ends_of}
 use Rattle.mscp_ported.proofs.Decided.{read_stays}
@@ -42,9 +42,10 @@ use Rattle.mscp_ported.proofs.Ended.{bytes_small}
 use Rattle.mscp_ported.proofs.Ending.{Grows, left_with, zipped}
 use Rattle.mscp_ported.proofs.Fitted.{Fitting, became, grown_fits, grown_long, stays, unchanged}
 use Rattle.mscp_ported.proofs.Fitting.{FitsEnd, FitsIn, aborted_plain, answer_told, bare_coded, bare_same, decided_code, success_told, every_beside, plain_fits}
+use Rattle.mscp_ported.proofs.Followed.{AreFollowed, answers_follow, followed_beside, followed_more}
 use Rattle.mscp_ported.proofs.Formal.{formal_queued}
 use Rattle.mscp_ported.proofs.Leaving.{text_grows}
-use Rattle.mscp_ported.proofs.Numbered.{At, IsNothing, first_of_one, none_beside, none_found, none_stays, some_none}
+use Rattle.mscp_ported.proofs.Numbered.{At, IsNothing, first_of_one, none_beside, none_found, some_none}
 use Rattle.mscp_ported.proofs.Origins.{IsOf, IsText, aborted_of, answer_of, queued_of}
 use Rattle.mscp_ported.proofs.Owning.{and_false, number_of}
 use Rattle.mscp_ported.proofs.Sole.{found_sole, sole_comes}
@@ -59,9 +60,8 @@ use Rattle.mscp_ported.proofs.Units.{IsUnitIn, handed_unit}
 use Rattle.mscp_ported.specs.Talk.{since}
 use Rattle.mscp_queue.proofs.Lists.{every_append}
 use Rattle.mscp_queue.proofs.Placed.{found_is}
-use Rattle.mscp_queue.specs.Names.{name_on}
-use Rattle.mscp_queue.specs.Records.{Record, aborted_record, fresh_record, without}
-use Rattle.std.proofs.Common.{ℕ, All, Bool, List, None, Option, Some, [], ap, append_assoc, arith, cond, false, filter, inl, inr, length, nat_eq, not, refl, subst, sym, true, ◌&&◌, ◌++◌, ◌+◌, ◌-◌, ◌<◌, ◌^◌, ◌∙◌, ◌∷◌, ◌≡◌, ◌≢◌, ◌≤◌}
+use Rattle.mscp_queue.specs.Records.{Record, aborted_record, fresh_record}
+use Rattle.std.proofs.Common.{ℕ, All, Bool, List, None, Option, Some, [], ap, append_assoc, arith, cond, false, filter, inl, inr, length, nat_eq, refl, subst, sym, true, ◌&&◌, ◌++◌, ◌+◌, ◌-◌, ◌<◌, ◌^◌, ◌∙◌, ◌∷◌, ◌≡◌, ◌≢◌, ◌≤◌}
 use Rattle.std.proofs.lemmas.Option.{none-some, same_Some}
 use Rattle.std.specs.List.{AllByRecursion}
 use Rattle.std.specs.Prelude.{Ok, find, is_none, is_ok, option_map, option_to_list, slice_index}
@@ -206,6 +206,9 @@ module _ {c : Settings} {Told : Verdict → Record → Type 0} {K : Type 0} (byt
                 (sym (ap (λ (x : Holdings K). ends_of x) is))
                 (subst (λ ds. AllByRecursion (FitsIn c Told (aw ++ bytes ∷ [])) (zipped (ends_of h) ds)) (sym s.decided)
                 (every_beside c Told aw bytes (ends_of h) old.decided.items nothing.2 f.fits));
+            followed = subst (λ es. AreFollowed Told (aw ++ bytes ∷ []) es)
+                (sym (ap (λ (x : Holdings K). ends_of x) is))
+                (followed_beside Told aw bytes (ends_of h) nothing.2 f.followed);
           }
 
       -- or it is answered at once
@@ -336,13 +339,8 @@ module _ {c : Settings} {Told : Verdict → Record → Type 0} {K : Type 0} (byt
             by (Some x) found = (one_aborted m x found, tt)
         aborted_fits order = tt
 
-        kept_so : (order : Order) → IsKeptEach (aw ++ bytes ∷ []) (unaborted First h.waiting order)
-            (without_aborted (reference_aborted First h.waiting order) old.buffers.items)
-        kept_so (orders.Abort m) = answered_kept aw (without (name_on First m) h.waiting)
-            (without_aborted (option_map (λ r. r.command.reference) (find (is_numbered m) h.waiting)) old.buffers.items)
-            bytes (none_stays (is_numbered n) (λ r. not (is_numbered m r)) h.waiting nothing.1)
-            (abort_kept aw h.waiting (ends_of h) old.buffers.items m k.each f.kept)
-        kept_so order = answered_kept aw h.waiting old.buffers.items bytes nothing.1 f.kept
+        ends_now : ends_of new.controller ≡ ends_of h ++ (aborted ++ own ∷ [])
+        ends_now = ap (λ (x : Holdings K). ends_of x) is ∙ append_assoc (ends_of h) aborted (own ∷ [])
 
         answered_fits : Fits
         answered_fits = record {
@@ -350,14 +348,17 @@ module _ {c : Settings} {Told : Verdict → Record → Type 0} {K : Type 0} (byt
           kept = subst (λ rs. IsKeptEach (aw ++ bytes ∷ []) rs new.buffers.items)
               (sym (ap (λ (x : Holdings K). x.waiting) is))
               (subst (λ bs. IsKeptEach (aw ++ bytes ∷ []) (unaborted First h.waiting command.order) bs) (sym s.kept)
-              (kept_so command.order));
+              (answer_kept aw h.waiting (ends_of h) old.buffers.items bytes command.order nothing.1 k.each f.kept));
           fits = grown_fits c Told old new (answer_by old new) g f.long (aw ++ bytes ∷ [])
               (every_beside c Told aw bytes (ends_of h) old.decided.items nothing.2 f.fits)
               (subst (λ es. AllByRecursion FitsNow es)
-              (sym (come_so old new (aborted ++ own ∷ []) (ap (λ (x : Holdings K). ends_of x) is
-              ∙ append_assoc (ends_of h) aborted (own ∷ []))) ∙ come_so old new g.brought g.ends)
+              (sym (come_so old new (aborted ++ own ∷ []) ends_now) ∙ come_so old new g.brought g.ends)
               (every_append FitsNow aborted (own ∷ [])
               (aborted_fits command.order) (own_fits, tt)));
+          followed = subst (λ es. AreFollowed Told (aw ++ bytes ∷ []) es) (sym ends_now)
+              (followed_more Told (aw ++ bytes ∷ []) (ends_of h) (aborted ++ own ∷ [])
+              (followed_beside Told aw bytes (ends_of h) nothing.2 f.followed)
+              (answers_follow Told h aw bytes sees.long immediate own_named nothing.1));
         }
 
       taken : (q : Bool) → is_queued h.settings command ≡ q → Fits

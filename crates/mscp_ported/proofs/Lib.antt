@@ -53,6 +53,8 @@ pub mod Ended
 pub mod Falling
 pub mod Codes
 pub mod Origins
+pub mod Behind
+pub mod Followed
 pub mod Buffered
 pub mod Fitting
 pub mod Saying

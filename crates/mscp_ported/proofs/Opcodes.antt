@@ -33,9 +33,10 @@ use Rattle.mscp_ported.proofs.Dealing.{begun, begun_same, named, news_none, whol
 use Rattle.mscp_ported.proofs.Ending.{Grows, left_with, zipped}
 use Rattle.mscp_ported.proofs.Fitted.{Fitting, became, grown_fits, grown_long, stays, unchanged}
 use Rattle.mscp_ported.proofs.Fitting.{FitsEnd, FitsIn, IsPlainEnd, decided_code, every_left, given_plain, plain_fits, step_told}
+use Rattle.mscp_ported.proofs.Followed.{AreFollowed, IsFollowed, followed_left, followed_more, none_else}
 use Rattle.mscp_ported.proofs.Saying.{told_about, told_code, told_success}
 use Rattle.mscp_ported.proofs.Leaving.{step_grows}
-use Rattle.mscp_ported.proofs.Numbered.{At, first_of_one}
+use Rattle.mscp_ported.proofs.Numbered.{At, AtEach, first_of_one}
 use Rattle.mscp_ported.proofs.Numbering.{served_waits}
 use Rattle.mscp_ported.proofs.Origins.{IsOf}
 use Rattle.mscp_ported.proofs.Sole.{found_sole, served_itself}
@@ -63,17 +64,20 @@ use Rattle.std.specs.Prelude.{Err, Ok, Result, find, slice_get}
 
 -- this is the text of an end that fits its message
 pub record IsSaid (c : Settings) (Told : Verdict → Record → Type 0) {K : Type 0} (old : Port K)
-    (text message : List ℕ) : Type 0 where
+    (aw : List (List ℕ)) (text message : List ℕ) : Type 0 where
   pub end : End
   pub decided : Decided
   pub first : slice_get old.decided.items 0 ≡ Some decided
   pub shaped : IsOfKind end
   pub fits : FitsEnd c Told (left_with end decided) message
   pub is : told_end old end ≡ text
+  pub named : num text 0 4 ≡ end.reference
+  pub only : filter (has_number end.reference) aw ≡ message ∷ []
+  pub followed : IsFollowed Told aw end (drop 1 (ends_of old.controller))
 
-pub said_fits : {c : Settings} {Told : Verdict → Record → Type 0} {K : Type 0} (old : Port K) (text message : List ℕ)
-    → IsSaid c Told old text message → Fits text message
-said_fits old text message s = subst (λ x. Fits x message) s.is (record {
+pub said_fits : {c : Settings} {Told : Verdict → Record → Type 0} {K : Type 0} (old : Port K) (aw : List (List ℕ))
+    (text message : List ℕ) → IsSaid c Told old aw text message → Fits text message
+said_fits old aw text message s = subst (λ x. Fits x message) s.is (record {
   unit = told_unit_is old s.end message s.fits.unit;
   code = subst (λ n. IsCodeFor n message) (sym (told_code old s.end s.decided s.first)) s.fits.code;
   about = told_about old s.end s.decided s.first message s.shaped s.fits;
@@ -142,6 +146,11 @@ module _ {c : Settings} {Told : Verdict → Record → Type 0} {K : Type 0} (blo
               (subst (λ ds. AllByRecursion (FitsIn c Told (filter (λ x. not (has_number e.reference x)) aw))
               (zipped es ds))
               (sym t.decided) (every_left c Told aw e.reference (zipped es (drop 1 old.decided.items)) first.4));
+          followed = subst (λ xs. AreFollowed Told (filter (λ x. not (has_number e.reference x)) aw) xs)
+              (sym (ap (λ (h : Holdings K). ends_of h) t.controller))
+              (followed_left Told aw e.reference es (none_else aw old.controller.waiting e es
+              (subst (λ xs. AtEach aw old.controller.waiting xs) is k.each))
+              (subst (λ xs. AreFollowed Told aw xs) is f.followed).1);
         })
 
   pub next_fits : Then
@@ -170,21 +179,25 @@ module _ {c : Settings} {Told : Verdict → Record → Type 0} {K : Type 0} (blo
   -- and it is what begins to go out, if something does
   pub said_is : ((e : End) → slice_get (ends_of old.controller) 0 ≡ Some e → IsOfKind e) → (text message : List ℕ)
       → ends_begun old.outgoing new.outgoing ≡ text ∷ [] → filter (has_number (num text 0 4)) aw ≡ message ∷ []
-      → IsSaid c Told old text message
+      → IsSaid c Told old aw text message
   said_is shaped text message said only = elim (looks_or_not old) [
     | inl looks ↦ elim (r.says.looks looks) [
       | inl t ↦
           let same : told_end old t.out.0 ≡ text =
           one_text (told_end old t.out.0) text (sym (begun blocks action bytes old new aw k picks r t) ∙ said) in
           let x = first t in
+          let number = sym (named blocks action bytes old new aw k picks r t) ∙ ap (λ x. num x 0 4) same in
+          let its_own = ap (λ n. filter (has_number n) aw) number in
           record {
             end = t.out.0;
             decided = x.0;
             first = x.1;
             shaped = shaped t.out.0 t.out.1;
-            fits = x.2 message (ap (λ n. filter (has_number n) aw)
-                (sym (named blocks action bytes old new aw k picks r t) ∙ ap (λ x. num x 0 4) same) ∙ only);
+            fits = x.2 message (its_own ∙ only);
             is = same;
+            named = sym number;
+            only = its_own ∙ only;
+            followed = (subst (λ es. AreFollowed Told aw es) (is t) f.followed).0;
           }
       | inr n ↦ absurd (none_said text (sym (ap (λ o. ends_begun o new.outgoing) n.nothing
           ∙ news_none blocks action bytes old new aw k picks r new.volumes old.volumes old.controller.settings.units
@@ -241,6 +254,9 @@ module _ {c : Settings} {Told : Verdict → Record → Type 0} {K : Type 0} (pic
                 (subst (λ es. AllByRecursion (λ e. FitsIn c Told aw (left_with e (decided_by verdict old new e))) es)
                 (sym (come_so old new (brought_for name.connection ended) ends) ∙ come_so old new g.brought g.ends)
                 (brought name.connection ended (ap (λ (n : Name). n.connection) is) given));
+            followed = subst (λ es. AreFollowed Told aw es) (sym ends)
+                (followed_more Told aw (ends_of old.controller) (brought_for name.connection ended) f.followed
+                (stepped name.connection ended (ap (λ (n : Name). n.connection) is) given));
           })
         where
           rs0 : List Record
@@ -255,6 +271,24 @@ module _ {c : Settings} {Told : Verdict → Record → Type 0} {K : Type 0} (pic
           d : Drive
           d = drive_at old.controller.drives rs0 place
 
+          numbered : r0.connection ≡ First → is_numbered r0.command.reference r0 ≡ true
+          numbered via = is_same (name_of r0) (name_on First r0.command.reference)
+              (ap (λ y. name_on y r0.command.reference) via)
+
+          -- it is found by its name
+          sole_is : r0.connection ≡ First → find (has_name name) rs0 ≡ Some r0
+          sole_is via = by (k.each r0.command.reference)
+            where
+              by : At aw rs0 (ends_of old.controller) r0.command.reference → find (has_name name) rs0 ≡ Some r0
+              by (inl none) =
+                  absurd (served_waits r0.command.reference b d rs0 place inside (numbered via) none.1)
+              by (inr (inr x)) =
+                  absurd (served_waits r0.command.reference b d rs0 place inside (numbered via) x.none)
+              by (inr (inl w)) = subst (λ m. find (has_name m) rs0 ≡ Some r0)
+                  (sym (ap (λ via. name_on via r0.command.reference) via) ∙ is)
+                  (found_sole (is_numbered r0.command.reference) rs0 w.own w.sole ∙ ap Some
+                  (sym (served_itself r0.command.reference b d rs0 place inside w.own w.sole (numbered via))))
+
           fits_so : (e : End) → r0.connection ≡ First → end_given b d r0 ≡ Some e
               → FitsIn c Told aw (left_with e (decided_by verdict old new e))
           fits_so e via given t only = by (k.each n)
@@ -266,7 +300,7 @@ module _ {c : Settings} {Told : Verdict → Record → Type 0} {K : Type 0} (pic
               n = r0.command.reference
 
               mine : is_numbered n r0 ≡ true
-              mine = is_same (name_of r0) (name_on First n) (ap (λ y. name_on y n) via)
+              mine = numbered via
 
               by : At aw rs0 (ends_of old.controller) n → FitsEnd c Told (left_with e (decided_by verdict old new e)) t
               by (inl none) = absurd (served_waits n b d rs0 place inside mine none.1)
@@ -275,9 +309,6 @@ module _ {c : Settings} {Told : Verdict → Record → Type 0} {K : Type 0} (pic
                   let x = (f.kept n).own w.own t w.sole
                   (ap (λ m. filter (has_number m) aw) (sym plain.number) ∙ only) in
                   let same : r0 ≡ w.own = served_itself n b d rs0 place inside w.own w.sole mine in
-                  let found : find (has_name name) rs0 ≡ Some r0 =
-                  subst (λ m. find (has_name m) rs0 ≡ Some r0) (sym (ap (λ via. name_on via n) via) ∙ is)
-                  (found_sole (is_numbered n) rs0 w.own w.sole ∙ ap Some (sym same)) in
                   plain_fits old.buffers.items r0 x.0 e (decided_by verdict old new e) t plain
                   (ap (λ m. filter (is_of First m) old.buffers.items) plain.number ∙ x.1)
                   (subst (λ z. FitsBuffer z x.0 t) (sym same) x.2)
@@ -287,10 +318,25 @@ module _ {c : Settings} {Told : Verdict → Record → Type 0} {K : Type 0} (pic
                     of = subst (λ z. IsOf z t) (sym same) x.2.of;
                     drive = d;
                     verdict = verdict;
-                    is = told verdict how name was r0 found;
+                    is = told verdict how name was r0 (sole_is via);
                     end = given;
                     told = step_told verdict old new e;
                   })))
+
+          stepped : (via : Connection) (o : Option End) → r0.connection ≡ via → o ≡ end_given b d r0
+              → AreFollowed Told aw (brought_for via o)
+          stepped First None via same = tt
+          stepped First (Some e) via same = (
+            inr (inl (record {
+              own = r0;
+              drive = d;
+              verdict = verdict;
+              told = told verdict how name was r0 (sole_is via);
+              is = sym same;
+            })),
+            tt,
+          )
+          stepped Second o via same = tt
 
           brought : (via : Connection) (o : Option End) → r0.connection ≡ via → o ≡ end_given b d r0
               → AllByRecursion (λ e. FitsIn c Told aw (left_with e (decided_by verdict old new e))) (brought_for via o)
