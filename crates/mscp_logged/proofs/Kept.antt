@@ -1,12 +1,12 @@
 -- Which rules of the wire a port keeps, if its host is right.
-use Rattle.std.proofs.Common.{◌≡◌, ◌∙◌, ◌+◌, ◌<◌, ◌∷◌, [], ℕ, zero, suc, true, false, drop, length, take, List, Option, None, Some, inl, inr, refl, ap, sym, subst, arith}
-use Rattle.std.specs.List.{AllByRecursion}
-use Rattle.std.specs.Prelude.{fold, is_some}
+use Rattle.std.proofs.Common.{◌≡◌, ◌∙◌, ◌+◌, ◌<◌, ◌∷◌, [], ℕ, zero, suc, Bool, nat_eq, not, true, false, drop, length, take, List, Option, None, Some, inl, inr, refl, ap, sym, subst, arith}
+use Rattle.std.specs.List.{AllByRecursion, list_any}
+use Rattle.std.specs.Prelude.{◌||◌, fold, is_some}
 use Rattle.mscp_drive.specs.Settings.{Settings}
 use Rattle.mscp_drive.specs.declared.connection.Connection.TheVariants.{First}
-use Rattle.mscp_port.proofs.Common.{eq-eqb, false≢true}
+use Rattle.mscp_port.proofs.Common.{eq-eqb, eqb-true, false≢true}
 use Rattle.mscp_ported.specs.Told.{Said}
-use Rattle.mscp_wire.specs.Wire.{History, answer_by, command_at, controller, controller_after, controller_in, count_of, fits, has_count, has_status, later_of, moment_at, outstanding}
+use Rattle.mscp_wire.specs.Wire.{History, aborts, answer_by, command_at, controller, controller_after, controller_in, count_of, fits, has_abort, has_count, has_status, later_of, moment_at, outstanding, status_code}
 use Rattle.mscp_wire.specs.declared.answer.Answer.{Answer}
 use Rattle.mscp_wire.specs.declared.moment.Moment.{Moment}
 use Rattle.mscp_wire.specs.declared.moment.Moment.TheVariants as moments
@@ -68,7 +68,7 @@ fits_known c one other (inr e) (inr k) = subst (λ o. fits o other ≡ true) (sy
 -- ---- the end of a command
 
 module _ (c : Settings) (F : Type 0) (xs : List Sent) (unit : Seen) (known : IsKnown c unit.controller) (b : List ℕ)
-    (tied : IsTied (IsEndOf c F) xs b) where
+    (tied : IsTied (IsEndOf c F) F xs b) where
   abbrev y : Sent
   y = command_at xs tied.place
 
@@ -82,6 +82,12 @@ module _ (c : Settings) (F : Type 0) (xs : List Sent) (unit : Seen) (known : IsK
       endcode_right y e tied.message (ap (λ (s : Sent). s.opcode) tied.command) tied.tie.fits.code
   command_right rules.Status asked f =
       subst (λ s. has_status s e ≡ true) (sym tied.command) (tied.tie.suited (f refl)).status
+  command_right rules.Aborted asked f = aborted_right (nat_eq (status_code e) 2) refl
+    where
+      aborted_right : (b : Bool) → nat_eq (status_code e) 2 ≡ b → has_abort (drop (tied.place + 1) xs) y e ≡ true
+      aborted_right true is = ap (λ b. not b || list_any (aborts y) (drop (tied.place + 1) xs)) is
+          ∙ tied.abort (f refl) (eqb-true (status_code e) 2 is)
+      aborted_right false is = ap (λ b. not b || list_any (aborts y) (drop (tied.place + 1) xs)) is
   command_right rules.Success asked f =
       success_right y b tied.message tied.command tied.tie.fits tied.tie.whole
   command_right rules.About asked f = about_right y b tied.message tied.command tied.tie.fits tied.tie.whole
@@ -104,13 +110,13 @@ module _ (c : Settings) (F : Type 0) (xs : List Sent) (unit : Seen) (known : IsK
 -- ---- all of them
 
 pub keeps_rules : (c : Settings) (F : Type 0) (limit : Option ℕ) (x : Rule) (h : History) (aw : List (List ℕ))
-    (held : List Said) → Stated (IsEndOf c F) h aw held → HostIsRight limit h → is_left_open x ≡ false
+    (held : List Said) → Stated (IsEndOf c F) F h aw held → HostIsRight limit h → is_left_open x ≡ false
     → (is_of_drives x ≡ true → F) → Keeps x limit h
-keeps_rules c F limit x h aw held s host asked f = keeps_rule (IsEndOf c F) limit x h aw held s
+keeps_rules c F limit x h aw held s host asked f = keeps_rule (IsEndOf c F) F limit x h aw held s
     (λ i unit b low is tied. end_right c F (outstanding (take i h)) unit
     (subst (λ o. IsKnown c o) (sym is) (told i)) b tied x asked f) host
   where
-    known : (prefix : History) (m : Moment) → IsSeen (IsEndOf c F) prefix m → IsKnownBy c m
+    known : (prefix : History) (m : Moment) → IsSeen (IsEndOf c F) F prefix m → IsKnownBy c m
     known prefix (moments.End via b) is = is.1.tie.known
     known prefix m is = tt
 

@@ -1,4 +1,5 @@
 pub mod Wired
+pub mod Lined
 pub mod Left
 pub mod Seen
 pub mod Own

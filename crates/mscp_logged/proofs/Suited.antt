@@ -2,7 +2,7 @@
 -- the controller than its own.
 use Rattle.byteorder.specs.Endian.{little_bytes}
 use Rattle.std.proofs.Common.{◌≡◌, ◌⊎◌, ◌∙◌, ◌+◌, ◌<◌, ◌≤◌, ◌^◌, ℕ, Bool, true, false, cond, length, nat_eq, not, List, Option, None, Some, inl, inr, refl, ap, sym, subst, arith}
-use Rattle.std.specs.Prelude.{◌%◌, ◌&&◌, ◌||◌, nat_le, nat_lt, slice_index}
+use Rattle.std.specs.Prelude.{◌%◌, ◌*◌, ◌/◌, ◌&&◌, ◌||◌, nat_le, nat_lt, slice_index}
 use Rattle.std.proofs.lemmas.Option.{same_Some}
 use Rattle.mscp_packet.proofs.Numbers.{four, two}
 use Rattle.mscp_packet.specs.Commands.{command_of}
@@ -15,22 +15,26 @@ use Rattle.mscp_packet.specs.declared.end.EndBody.TheVariants as bodies
 use Rattle.mscp_drive.specs.Settings.{Settings}
 use Rattle.mscp_drive.specs.Shape.{Shape}
 use Rattle.mscp_drive.specs.UnitList.{unit_found}
+use Rattle.mscp_drive.specs.declared.block.Block.TheVariants as blocks
 use Rattle.mscp_drive.specs.declared.connection.Connection.TheVariants.{First}
 use Rattle.mscp_queue.specs.Records.{Record}
 use Rattle.mscp_port.specs.Blocks.{block_told}
-use Rattle.mscp_port.specs.Formalities.{ends_formality, is_formality}
+use Rattle.mscp_port.specs.Decided.{status_after, status_told, unit_state}
+use Rattle.mscp_port.specs.Formalities.{ends_formality, formal_status, is_formality}
 use Rattle.mscp_port.specs.Leaving.{controller_end, end_left, end_with_body, head}
 use Rattle.mscp_port.specs.Messages.{handed}
 use Rattle.mscp_port.specs.declared.decided.Decided.{Decided}
 use Rattle.mscp_port.specs.declared.hardware.Hardware.{Hardware}
 use Rattle.mscp_port.specs.declared.port.Port.{Port}
 use Rattle.mscp_port.specs.declared.verdict.Verdict.{Verdict}
+use Rattle.mscp_port.specs.declared.verdict.Verdict.TheVariants as verdicts
+use Rattle.mscp_port.specs.declared.volumes.Volume.{Volume}
 use Rattle.mscp_port.proofs.Common.{eqb-true, false≢true}
 use Rattle.mscp_ported.specs.Ends.{Leaving}
 use Rattle.mscp_ported.specs.Fitting.{IsCodeFor}
 use Rattle.mscp_ported.proofs.Ending.{left_with}
 use Rattle.mscp_ported.proofs.Opcodes.{IsSaid}
-use Rattle.mscp_ported.proofs.Origins.{IsMade}
+use Rattle.mscp_ported.proofs.Origins.{IsMade, IsToldSo}
 use Rattle.mscp_ported.proofs.Whole.{code_of}
 use Rattle.mscp_wire.specs.Wire.{answer_by, controller_in, count_of, has_code, has_count, has_status, is_plain, points_into, sent_by, status_code}
 use Rattle.mscp_wire.specs.declared.answer.Answer.{Answer}
@@ -147,8 +151,49 @@ no_formality n e h = grind (arith, e, h)
 formal_high : (code : ℕ) → code ≡ 0x80 → ends_formality code ≡ true → ⊥
 formal_high code e h = search (arith, sym h ∙ ap ends_formality e)
 
-module _ {K : Type 0} (c : Settings) (Told : Verdict → Record → Type 0) (old : Port K) (text t : List ℕ)
-    (s : IsSaid c Told old text t) where
+-- ---- statuses
+
+low_bits : (x : ℕ) → num (little_bytes 2 x) 0 2 % 32 ≡ x % 32
+low_bits x = low x
+  where
+    low : (x : ℕ) → (0 + x % 256 * 1 + x / 256 % 256 * 256) % 32 ≡ x % 32
+    low x = omega arith
+
+body_bits : (body : EndBody) (e : End) (d : Decided) (o : Option Shape) (h : Hardware)
+    → num (end_with_body body e d o h) 10 2 ≡ num (little_bytes 2 d.status) 0 2
+body_bits body e d o h = grind arith
+
+-- an end is told that its command was aborted just if the controller made it so
+told_two : (verdict : Verdict) (code status : ℕ) (v : Volume) → status_told verdict code status v % 32 ≡ 2
+    → status % 32 ≡ 2
+told_two verdict code status v h = by (ends_formality code) h
+  where
+    formal : (b : Bool) → nat_eq status 2 ≡ b → cond b 2 0 % 32 ≡ 2 → status % 32 ≡ 2
+    formal true is e = ap (λ n. n % 32) (eqb-true status 2 is)
+    formal false is e = search (arith, e)
+
+    state : (a b : Bool) → cond (not a) 0x23 (cond (not b) 4 0) % 32 ≡ 2 → status % 32 ≡ 2
+    state false b e = search (arith, e)
+    state true false e = search (arith, e)
+    state true true e = search (arith, e)
+
+    served : (x y m : Bool) → cond x (unit_state v) (cond y (cond m 0x0100 0) status) % 32 ≡ 2 → status % 32 ≡ 2
+    served true y m e = state v.is_there v.is_mounted e
+    served false true true e = search (arith, e)
+    served false true false e = search (arith, e)
+    served false false m e = e
+
+    after : (w : Verdict) → status_after w code status v % 32 ≡ 2 → status % 32 ≡ 2
+    after verdicts.NoVolume e = search (arith, e)
+    after verdicts.NotOnline e = search (arith, e)
+    after (verdicts.Served block) e = served _ _ v.is_mounted e
+
+    by : (b : Bool) → cond b (formal_status status) (status_after verdict code status v) % 32 ≡ 2 → status % 32 ≡ 2
+    by true e = formal (nat_eq status 2) refl e
+    by false e = after verdict e
+
+module _ {K : Type 0} (c : Settings) (Told : Verdict → Record → Type 0) (old : Port K) (aw : List (List ℕ))
+    (text t : List ℕ) (s : IsSaid c Told old aw text t) where
   abbrev e : End
   e = s.end
 
@@ -275,18 +320,41 @@ module _ {K : Type 0} (c : Settings) (Told : Verdict → Record → Type 0) (old
       by true h true k true m = inr (in_it true true true h k m ∙ ap Some (formal (ends_formality d.code) refl
           (eqb-true (slice_index text 8) 0x84 h) (eqb-true (num text 10 2 % 32) 0 k)))
 
+  -- ---- whether it says that its command was aborted
+
+  status_low : num text 10 2 % 32 ≡ 2 → d.status % 32 ≡ 2
+  status_low h = by (ends_formality d.code) refl
+    where
+      by : (b : Bool) → ends_formality d.code ≡ b → d.status % 32 ≡ 2
+      by true is = sym (low_bits d.status) ∙ ap (λ x. num x 10 2 % 32) (text_is true is) ∙ h
+      by false is = sym (low_bits d.status)
+          ∙ ap (λ n. n % 32) (sym (body_bits e.body e d o old.hardware))
+          ∙ ap (λ x. num x 10 2 % 32) (text_is false is) ∙ h
+
+  pub says_aborted : num text 10 2 % 32 ≡ 2 → e.status % 32 ≡ 2
+  says_aborted h = by s.fits.made
+    where
+      so : (verdict : Verdict) → IsToldSo verdict l → e.status % 32 ≡ 2
+      so verdict x = told_two verdict d.code e.status x.0 (ap (λ n. n % 32) (sym x.1) ∙ status_low h)
+
+      by : IsMade c Told l t → e.status % 32 ≡ 2
+      by (inl x) = so (verdicts.Served blocks.Good) x.told
+      by (inr (inl x)) = so (verdicts.Served blocks.Good) x.told
+      by (inr (inr x)) = so x.verdict x.told
+
 -- ---- its status, and the bytes that it counts
 
-module _ {K : Type 0} (c : Settings) (old : Port K) (text t : List ℕ) (s : IsSaid c IsToldOf old text t) where
+module _ {K : Type 0} (c : Settings) (old : Port K) (aw : List (List ℕ)) (text t : List ℕ)
+    (s : IsSaid c IsToldOf old aw text t) where
   abbrev answer : Answer
   answer = answer_by First text
 
   plain_keeps : ends_formality s.decided.code ≡ false → Keeps (of_unit t answer.unit) answer
   plain_keeps is =
-      let none = plain c IsToldOf old text t s is in
+      let none = plain c IsToldOf old aw text t s is in
       let k = made_kept c (left_with s.end s.decided) t none is (s.fits.same is) s.fits.made in
       let o = unit_found old.controller.settings.units s.end.unit in
-      let same = text_is c IsToldOf old text t s false is in
+      let same = text_is c IsToldOf old aw text t s false is in
       keeps (of_unit t answer.unit) answer (command_of (handed k.units t)).order s.decided.status s.end.body
       (handed_says k.units t k.message none answer.unit) (handed_long k.units t k.message none answer.unit)
       k.apt.suits k.apt.fine refl
@@ -299,5 +367,5 @@ module _ {K : Type 0} (c : Settings) (old : Port K) (text t : List ℕ) (s : IsS
   said_suited = by (ends_formality s.decided.code) refl
     where
       by : (b : Bool) → ends_formality s.decided.code ≡ b → IsSuited text t
-      by true is = formal_so c IsToldOf old text t s is
+      by true is = formal_so c IsToldOf old aw text t s is
       by false is = let k = plain_keeps is in record { status = k.status; count = k.count }

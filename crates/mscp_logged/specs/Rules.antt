@@ -66,9 +66,8 @@ abbrev pub PortsAnswerWhatIsOutstanding : {K : Type 0} → Picking K → K → T
 PortsAnswerWhatIsOutstanding picks picker =
     OfLogs picks picker (λ c calls h. (limit : Option ℕ) → HostIsRight limit h → Keeps rules.Outstanding limit h)
 
--- a rule of which nothing is said here: of aborted commands, of order and figures, and of what is told of units
+-- a rule of which nothing is said here: of order and figures, and of what is told of units
 abbrev pub is_left_open : Rule → Bool
-is_left_open rules.Aborted = true
 is_left_open rules.Order = true
 is_left_open rules.Figure = true
 is_left_open rules.Identity = true
@@ -78,12 +77,13 @@ is_left_open rule = false
 -- one that hangs on what drives tell of blocks that failed
 abbrev pub is_of_drives : Rule → Bool
 is_of_drives rules.Status = true
+is_of_drives rules.Aborted = true
 is_of_drives rules.Count = true
 is_of_drives rule = false
 
 -- the law of the other rules: while the host's messages are right, and if no unit is without a block, no moment breaks
 -- one of them; for those that hang on drives, if what is told of blocks that failed is what these may tell
-abbrev pub PortsKeepTwelveRules : {K : Type 0} → Picking K → K → Type 0
-PortsKeepTwelveRules picks picker = OfLogs picks picker (λ c calls h. (limit : Option ℕ) (rule : Rule)
+abbrev pub PortsKeepThirteenRules : {K : Type 0} → Picking K → K → Type 0
+PortsKeepThirteenRules picks picker = OfLogs picks picker (λ c calls h. (limit : Option ℕ) (rule : Rule)
     → All (λ unit. 0 < unit.size) c.units → HostIsRight limit h → is_left_open rule ≡ false
     → (is_of_drives rule ≡ true → TellsFaults calls) → Keeps rule limit h)
