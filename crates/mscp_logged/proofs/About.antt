@@ -1,5 +1,5 @@
 -- Each end of an ABORT or a poll in a port's log succeeds, and is about the command that its message names.
-use Rattle.std.proofs.Common.{◌≡◌, ◌⊎◌, ◌∙◌, ◌+◌, ◌≤◌, ◌&&◌, ℕ, Bool, true, false, cond, drop, length, nat_eq, not, take, List, Option, None, Some, inl, inr, refl, ap, sym, arith}
+use Rattle.std.proofs.Common.{◌≡◌, ◌⊎◌, ◌∙◌, ◌+◌, ◌≤◌, ◌&&◌, ℕ, Bool, true, false, cond, length, nat_eq, not, List, None, Some, inl, inr, refl, ap, sym, arith}
 use Rattle.std.specs.Prelude.{◌%◌, nat_le, slice_index}
 use Rattle.std.proofs.lemmas.Bool.{le-leb}
 use Rattle.mscp_packet.specs.Ends.{kind_of_code}
@@ -8,17 +8,10 @@ use Rattle.mscp_packet.specs.declared.end.BodyKind.TheVariants as bodykinds
 use Rattle.mscp_drive.specs.declared.connection.Connection.TheVariants.{First}
 use Rattle.mscp_port.proofs.Common.{eq-eqb, eqb-true, false≢true}
 use Rattle.mscp_ported.specs.Awaited.{IsWhole}
-use Rattle.mscp_ported.specs.Fitting.{IsCodeFor}
-use Rattle.mscp_ported.specs.Told.{Said}
-use Rattle.mscp_wire.specs.Wire.{History, answer_by, command_at, is_about, is_about_another, is_it, is_refused, other_of, sent_by, succeeds}
+use Rattle.mscp_ported.specs.Fitting.{Fits, IsCodeFor}
+use Rattle.mscp_wire.specs.Wire.{answer_by, is_about, is_about_another, is_it, is_refused, other_of, sent_by, succeeds}
 use Rattle.mscp_wire.specs.declared.answer.Answer.{Answer}
-use Rattle.mscp_wire.specs.declared.rule.Rule.TheVariants as rules
 use Rattle.mscp_wire.specs.declared.sent.Sent.{Sent}
-use Rattle.mscp_logged.specs.Rules.{Keeps}
-use Rattle.mscp_logged.proofs.Breaking.{about_breaks_none, abouts_message, placed_breaks, success_breaks_none, success_message}
-use Rattle.mscp_logged.proofs.Coded.{IsEndOf}
-use Rattle.mscp_logged.proofs.Placed.{keeps_rule}
-use Rattle.mscp_logged.proofs.Stated.{Stated}
 use Rattle.mscp_logged.proofs.Wired.{stem}
 
 -- the code of the end of such a command, if it is known
@@ -38,7 +31,8 @@ about_long : (text : List ℕ) → IsWhole text → (slice_index text 8 ≡ 0x81
 about_long text whole (inl e) = whole.body bodykinds.Abort (ap kind_of_code e)
 about_long text whole (inr e) = search (arith, whole.body bodykinds.Status (ap kind_of_code e))
 
-module _ (y : Sent) (text message : List ℕ) (is : stem y ≡ sent_by First message) (end : IsEndOf text message) where
+module _ (y : Sent) (text message : List ℕ) (is : stem y ≡ sent_by First message) (fits : Fits text message)
+    (whole : IsWhole text) where
   abbrev e : Answer
   e = answer_by First text
 
@@ -72,7 +66,7 @@ module _ (y : Sent) (text message : List ℕ) (is : stem y ≡ sent_by First mes
       by false h true k true l false long = inl (guard false true true h k l ∙ parameter false long)
       by false h true k true l true long = inr (record {
         long = low 16 (length message) long;
-        code = about_code (slice_index text 8) y.opcode message (ap (λ (s : Sent). s.opcode) is) h k end.fits.code;
+        code = about_code (slice_index text 8) y.opcode message (ap (λ (s : Sent). s.opcode) is) h k fits.code;
         is_it = guard false true true h k l ∙ parameter true long;
       })
 
@@ -80,28 +74,12 @@ module _ (y : Sent) (text message : List ℕ) (is : stem y ≡ sent_by First mes
   about_right = elim other_or [
     | inl none ↦ ap (is_about e) none
     | inr n ↦ ap (is_about e) n.is_it ∙ ap (λ b. is_it (cond b (Some (num text 12 4)) None) (num message 12 4))
-        (le-leb 16 (length text) (about_long text end.whole n.code))
-        ∙ eq-eqb (num text 12 4) (num message 12 4) (end.fits.about n.code n.long)
+        (le-leb 16 (length text) (about_long text whole n.code))
+        ∙ eq-eqb (num text 12 4) (num message 12 4) (fits.about n.code n.long)
   ]
 
   pub success_right : succeeds e (other_of y e) ≡ true
   success_right = elim other_or [
     | inl none ↦ ap (succeeds e) none
-    | inr n ↦ ap (succeeds e) n.is_it ∙ ap (λ x. nat_eq (x % 32) 0) (end.fits.succeeds n.code n.long)
+    | inr n ↦ ap (succeeds e) n.is_it ∙ ap (λ x. nat_eq (x % 32) 0) (fits.succeeds n.code n.long)
   ]
-
-pub keeps_about : (limit : Option ℕ) (h : History) (aw : List (List ℕ)) (held : List Said)
-    → Stated IsEndOf h aw held → Keeps rules.About limit h
-keeps_about limit = keeps_rule IsEndOf limit rules.About (abouts_message limit)
-    (λ xs unit b tied e. about_breaks_none (take tied.place xs) (drop (tied.place + 1) xs) (command_at xs tied.place)
-    unit (answer_by First b.items)
-    (about_right (command_at xs tied.place) b.items tied.message tied.command tied.tie)
-    (placed_breaks limit xs unit First b tied.place rules.About tied.at (λ h. search (arith, h)) e))
-
-pub keeps_success : (limit : Option ℕ) (h : History) (aw : List (List ℕ)) (held : List Said)
-    → Stated IsEndOf h aw held → Keeps rules.Success limit h
-keeps_success limit = keeps_rule IsEndOf limit rules.Success (success_message limit)
-    (λ xs unit b tied e. success_breaks_none (take tied.place xs) (drop (tied.place + 1) xs) (command_at xs tied.place)
-    unit (answer_by First b.items)
-    (success_right (command_at xs tied.place) b.items tied.message tied.command tied.tie)
-    (placed_breaks limit xs unit First b tied.place rules.Success tied.at (λ h. search (arith, h)) e))

@@ -1,285 +1,128 @@
--- Which rules a moment can't break.
-use Rattle.std.proofs.Common.{inl, inr, ◌≡◌, ◌⊎◌, ◌∙◌, ◌+◌, ℕ, Bool, true, false, drop, take, List, Option, None, Some, refl, ap, sym, arith}
-use Rattle.arrayvec.specs.ArrayVec.{ArrayVec}
+-- Which rules a moment can't break: those of which a test holds.
+use Rattle.std.proofs.Common.{◌≡◌, ◌∙◌, ◌+◌, ◌<◌, ℕ, Bool, true, false, drop, length, not, take, List, Option, None, Some, refl, ap, sym, arith}
+use Rattle.std.specs.Prelude.{is_some}
 use Rattle.mscp_drive.specs.declared.connection.Connection.{Connection}
 use Rattle.mscp_port.proofs.Common.{false≢true}
-use Rattle.mscp_wire.specs.Wire.{answer_by, broken, broken_at, broken_body, broken_end, command_at, count_of, fits, has_abort, has_count, has_credit, has_endcode, has_figure, has_status, is_about, is_long, is_message as has_bytes, is_new, is_same_unit, names_unit, other_of, passes_none, place_of, polled_by, sent_by, succeeds, suits_state, unless}
+use Rattle.mscp_wire.specs.Wire.{History, answer_by, broken, broken_at, broken_end, command_at, controller, count_of, fits, has_abort, has_count, has_endcode, has_figure, has_status, is_about, is_long, moment_at, names_unit, other_of, outstanding, passes_none, place_of, polled_by, seen_of, succeeds, told, unless}
 use Rattle.mscp_wire.specs.declared.answer.Answer.{Answer}
+use Rattle.mscp_wire.specs.declared.moment.Moment.{Moment}
 use Rattle.mscp_wire.specs.declared.moment.Moment.TheVariants as moments
 use Rattle.mscp_wire.specs.declared.rule.Rule.{Rule}
 use Rattle.mscp_wire.specs.declared.rule.Rule.TheVariants as rules
 use Rattle.mscp_wire.specs.declared.sent.Sent.{Sent}
 use Rattle.mscp_wire.specs.declared.told.Seen.{Seen}
+use Rattle.mscp_logged.specs.Rules.{Keeps}
 
 -- ---- one after the other
 
 some_same : (r x : Rule) → Some r ≡ Some x → r ≡ x
 some_same r x e = search (arith, e)
 
-none_never : (x : Rule) → None ≡ Some x → ⊥
+pub none_never : (x : Rule) → None ≡ Some x → ⊥
 none_never x e = search (arith, e)
 
--- a test that no rule of a host's passes; or none of statuses, of what an abort does, and of order; or none of bodies
-abbrev pub IsNoHosts : (Rule → Bool) → Type 0
-IsNoHosts is = (is rules.Message ≡ false) × (is rules.Number ≡ false) × (is rules.Credits ≡ false)
+-- of rules that are asked one after the other none is broken of which a test holds
+module _ (holds : Rule → Bool) (x : Rule) where
+  none_fails : None ≡ Some x → holds x ≡ false
+  none_fails e = absurd (none_never x e)
 
-abbrev pub IsNoStatus : (Rule → Bool) → Type 0
-IsNoStatus is = (is rules.Status ≡ false) × (is rules.Aborted ≡ false) × (is rules.Order ≡ false)
+  unless_fails : (r : Rule) (b : Bool) (rest : Option Rule) → (b ≡ false → holds r ≡ false)
+      → (rest ≡ Some x → holds x ≡ false) → unless b r rest ≡ Some x → holds x ≡ false
+  unless_fails r true rest own later e = later e
+  unless_fails r false rest own later e = ap holds (sym (some_same r x e)) ∙ own refl
 
-abbrev pub IsNoBodys : (Rule → Bool) → Type 0
-IsNoBodys is = (is rules.Success ≡ false) × (is rules.About ≡ false) × (is rules.Figure ≡ false)
-    × (is rules.Count ≡ false) × (is rules.Identity ≡ false) × (is rules.State ≡ false)
-    × (is rules.Controller ≡ false)
+-- ---- the end of a command
 
--- a rule that passes a test isn't one of those that don't
-module _ (is : Rule → Bool) (x : Rule) (own : is x ≡ true) where
-  pub unless_other : (b : Bool) (r : Rule) (rest : Option Rule) → is r ≡ false → (rest ≡ Some x → ⊥)
-      → unless b r rest ≡ Some x → ⊥
-  unless_other true r rest other never e = never e
-  unless_other false r rest other never e = false≢true (sym other ∙ ap is (some_same r x e) ∙ own)
+module _ (earlier later : List Sent) (y : Sent) (unit : Seen) (e : Answer) where
+  -- of Identity and State nothing is said here
+  abbrev pub command_holds : Rule → Bool
+  command_holds rules.Unit = names_unit y e
+  command_holds rules.Endcode = has_endcode y e
+  command_holds rules.Status = has_status y e
+  command_holds rules.Aborted = has_abort later y e
+  command_holds rules.Order = passes_none earlier y e
+  command_holds rules.Success = succeeds e (other_of y e)
+  command_holds rules.About = is_about e (other_of y e)
+  command_holds rules.Figure = has_figure later y e (polled_by y e)
+  command_holds rules.Count = has_count e (count_of y e)
+  command_holds rules.Identity = false
+  command_holds rules.State = false
+  command_holds rules.Controller = fits unit.controller e.controller
+  command_holds rule = true
 
-  pub message_never : IsNoHosts is
-      → (credits : Option ℕ) (xs : List Sent) (unit : Seen) (via : Connection) (b : ArrayVec ℕ) (time : Option ℕ)
-      → broken credits xs unit (moments.Message via b time) ≡ Some x → ⊥
-  message_never off credits xs unit via b time =
-      unless_other (has_bytes b.items) rules.Message _ off.0
-      (unless_other (is_new xs (sent_by via b.items)) rules.Number _ off.1
-      (unless_other (has_credit credits xs (sent_by via b.items)) rules.Credits None off.2 (none_never x)))
+  command_fails : (x : Rule) → broken_end earlier later y unit e ≡ Some x → command_holds x ≡ false
+  command_fails x =
+      unless_fails command_holds x rules.Unit _ _ (λ b. b)
+      (unless_fails command_holds x rules.Endcode _ _ (λ b. b)
+      (unless_fails command_holds x rules.Status _ _ (λ b. b)
+      (unless_fails command_holds x rules.Aborted _ _ (λ b. b)
+      (unless_fails command_holds x rules.Order _ _ (λ b. b)
+      (unless_fails command_holds x rules.Success _ _ (λ b. b)
+      (unless_fails command_holds x rules.About _ _ (λ b. b)
+      (unless_fails command_holds x rules.Figure _ _ (λ b. b)
+      (unless_fails command_holds x rules.Count _ _ (λ b. b)
+      (unless_fails command_holds x rules.Identity _ _ (λ b. refl)
+      (unless_fails command_holds x rules.State _ _ (λ b. refl)
+      (unless_fails command_holds x rules.Controller _ _ (λ b. b) (none_fails command_holds x))))))))))))
 
-  pub body_never : IsNoBodys is
-      → (later : List Sent) (y : Sent) (unit : Seen) (e : Answer) → broken_body later y unit e ≡ Some x → ⊥
-  body_never off later y unit e =
-      unless_other (succeeds e (other_of y e)) rules.Success _ off.0
-      (unless_other (is_about e (other_of y e)) rules.About _ off.1
-      (unless_other (has_figure later y e (polled_by y e)) rules.Figure _ off.2
-      (unless_other (has_count e (count_of y e)) rules.Count _ off.3
-      (unless_other (is_same_unit unit.unit e) rules.Identity _ off.4
-      (unless_other (suits_state unit.unit.state e) rules.State _ off.5
-      (unless_other (fits unit.controller e.controller) rules.Controller None off.6 (none_never x)))))))
+-- ---- a moment
 
-  -- behind the rule of endcodes
-  pub status_never : IsNoStatus is
-      → IsNoBodys is
-      → (earlier later : List Sent) (y : Sent) (unit : Seen) (e : Answer)
-      → unless (has_status y e) rules.Status (unless (has_abort later y e) rules.Aborted
-      (unless (passes_none earlier y e) rules.Order (broken_body later y unit e))) ≡ Some x → ⊥
-  status_never off body earlier later y unit e =
-      unless_other (has_status y e) rules.Status _ off.0
-      (unless_other (has_abort later y e) rules.Aborted _ off.1
-      (unless_other (passes_none earlier y e) rules.Order _ off.2 (body_never body later y unit e)))
+-- a rule of a host's
+abbrev pub is_hosts : Rule → Bool
+is_hosts rules.Message = true
+is_hosts rules.Number = true
+is_hosts rules.Credits = true
+is_hosts rule = false
 
--- ---- length, and what is answered
+module _ (xs : List Sent) (unit : Seen) where
+  -- the end of the command at a place, if it is there
+  abbrev pub placed_holds : Answer → Option ℕ → Rule → Bool
+  placed_holds e None rule = false
+  placed_holds e (Some i) rule = command_holds (take i xs) (drop (i + 1) xs) (command_at xs i) unit e rule
 
-is_early : Rule → Bool
-is_early rules.Length = true
-is_early rules.Outstanding = true
-is_early rule = false
+  abbrev pub end_holds : Connection → List ℕ → Rule → Bool
+  end_holds via b rules.Length = is_long b
+  end_holds via b rules.Outstanding = is_some (place_of xs (answer_by via b))
+  end_holds via b rule = placed_holds (answer_by via b) (place_of xs (answer_by via b)) rule
 
-early_never : (x : Rule) → is_early x ≡ true → (earlier later : List Sent) (y : Sent) (unit : Seen) (e : Answer)
-    → broken_end earlier later y unit e ≡ Some x → ⊥
-unfolding is_early
-early_never x own earlier later y unit e =
-    unless_other is_early x own (names_unit y e) rules.Unit _ refl
-    (unless_other is_early x own (has_endcode y e) rules.Endcode _ refl
-    (status_never is_early x own (refl, refl, refl) (refl, refl, refl, refl, refl, refl, refl) earlier later y unit e))
+  -- of a message nothing is said here of a rule of its host's
+  abbrev pub moment_holds : Moment → Rule → Bool
+  moment_holds (moments.Message via b time) rule = not (is_hosts rule)
+  moment_holds (moments.End via b) rule = end_holds via b.items rule
+  moment_holds m rule = true
 
-pub length_message : (credits : Option ℕ) (xs : List Sent) (unit : Seen) (via : Connection) (b : ArrayVec ℕ)
-    (time : Option ℕ) → broken credits xs unit (moments.Message via b time) ≡ Some rules.Length → ⊥
-unfolding is_early
-length_message = message_never is_early rules.Length refl (refl, refl, refl)
+  end_fails : (via : Connection) (b : List ℕ) (x : Rule) (o : Option ℕ) → place_of xs (answer_by via b) ≡ o
+      → broken_at xs unit (answer_by via b) o ≡ Some x → end_holds via b x ≡ false
+  end_fails via b x None at e =
+      ap (end_holds via b) (sym (some_same rules.Outstanding x e)) ∙ ap is_some at
+  end_fails via b x (Some i) at e =
+      by x (command_fails (take i xs) (drop (i + 1) xs) (command_at xs i) unit (answer_by via b) x e)
+    where
+      by : (x : Rule) → command_holds (take i xs) (drop (i + 1) xs) (command_at xs i) unit (answer_by via b) x ≡ false
+          → end_holds via b x ≡ false
+      by rules.Length h = absurd (false≢true (sym h))
+      by rules.Outstanding h = absurd (false≢true (sym h))
+      by x h = ap (λ o. placed_holds (answer_by via b) o x) at ∙ h
 
-pub outstanding_message : (credits : Option ℕ) (xs : List Sent) (unit : Seen) (via : Connection) (b : ArrayVec ℕ)
-    (time : Option ℕ) → broken credits xs unit (moments.Message via b time) ≡ Some rules.Outstanding → ⊥
-unfolding is_early
-outstanding_message = message_never is_early rules.Outstanding refl (refl, refl, refl)
+  pub moment_fails : (credits : Option ℕ) (m : Moment) (x : Rule) → broken credits xs unit m ≡ Some x
+      → moment_holds m x ≡ false
+  moment_fails credits (moments.Message via b time) x =
+      unless_fails (λ r. not (is_hosts r)) x rules.Message _ _ (λ b. refl)
+      (unless_fails (λ r. not (is_hosts r)) x rules.Number _ _ (λ b. refl)
+      (unless_fails (λ r. not (is_hosts r)) x rules.Credits _ _ (λ b. refl) (none_fails (λ r. not (is_hosts r)) x)))
+  moment_fails credits (moments.End via b) x =
+      unless_fails (end_holds via b.items) x rules.Length _ _ (λ b. b)
+      (end_fails via b.items x (place_of xs (answer_by via b.items)) refl)
+  moment_fails credits m x = none_fails (moment_holds m) x
 
--- an end of the right length doesn't break Length
-pub long_breaks_none : (credits : Option ℕ) (xs : List Sent) (unit : Seen) (via : Connection) (b : ArrayVec ℕ)
-    → is_long b.items ≡ true → broken credits xs unit (moments.End via b) ≡ Some rules.Length → ⊥
-unfolding is_early
-long_breaks_none credits xs unit via b long e =
-    by (place_of xs (answer_by via b.items))
-    (sym (ap (λ c. unless c rules.Length
-    (broken_at xs unit (answer_by via b.items) (place_of xs (answer_by via b.items)))) long) ∙ e)
-  where
-    by : (o : Option ℕ) → broken_at xs unit (answer_by via b.items) o ≡ Some rules.Length → ⊥
-    by None h = search (arith, h)
-    by (Some i) h = early_never rules.Length refl (take i xs) (drop (i + 1) xs) (command_at xs i) unit
-        (answer_by via b.items) h
+-- what was told of a moment's unit and of the controller before it
+abbrev pub seen_at : History → Moment → Seen
+seen_at h m = seen_of (told h) (controller h) m
 
--- of an end which answers the command at a place only the rules of that can be broken
-pub placed_breaks : (credits : Option ℕ) (xs : List Sent) (unit : Seen) (via : Connection) (b : ArrayVec ℕ) (i : ℕ)
-    (x : Rule) → place_of xs (answer_by via b.items) ≡ Some i → (rules.Length ≡ x → ⊥)
-    → broken credits xs unit (moments.End via b) ≡ Some x
-    → broken_end (take i xs) (drop (i + 1) xs) (command_at xs i) unit (answer_by via b.items) ≡ Some x
-placed_breaks credits xs unit via b i x at other e = by (is_long b.items) e
-  where
-    by : (c : Bool) → unless c rules.Length
-        (broken_at xs unit (answer_by via b.items) (place_of xs (answer_by via b.items))) ≡ Some x
-        → broken_end (take i xs) (drop (i + 1) xs) (command_at xs i) unit (answer_by via b.items) ≡ Some x
-    by true h = sym (ap (broken_at xs unit (answer_by via b.items)) at) ∙ h
-    by false h = absurd (other (some_same rules.Length x h))
-
--- one that answers an outstanding command doesn't break Outstanding
-pub placed_breaks_none : (credits : Option ℕ) (xs : List Sent) (unit : Seen) (via : Connection) (b : ArrayVec ℕ) (i : ℕ)
-    → place_of xs (answer_by via b.items) ≡ Some i
-    → broken credits xs unit (moments.End via b) ≡ Some rules.Outstanding → ⊥
-unfolding is_early
-placed_breaks_none credits xs unit via b i at e =
-    early_never rules.Outstanding refl (take i xs) (drop (i + 1) xs) (command_at xs i) unit (answer_by via b.items)
-    (placed_breaks credits xs unit via b i rules.Outstanding at (λ h. search (arith, h)) e)
-
-pub reset_breaks_none : (credits : Option ℕ) (xs : List Sent) (unit : Seen) (x : Rule)
-    → broken credits xs unit moments.Reset ≡ Some x → ⊥
-reset_breaks_none credits xs unit x e = none_never x e
-
--- ---- endcodes
-
-is_of_codes : Rule → Bool
-is_of_codes rules.Endcode = true
-is_of_codes rule = false
-
-pub codes_message : (credits : Option ℕ) (xs : List Sent) (unit : Seen) (via : Connection) (b : ArrayVec ℕ)
-    (time : Option ℕ) → broken credits xs unit (moments.Message via b time) ≡ Some rules.Endcode → ⊥
-unfolding is_of_codes
-codes_message = message_never is_of_codes rules.Endcode refl (refl, refl, refl)
-
-pub coded_breaks_none : (earlier later : List Sent) (y : Sent) (unit : Seen) (e : Answer) → has_endcode y e ≡ true
-    → broken_end earlier later y unit e ≡ Some rules.Endcode → ⊥
-unfolding is_of_codes
-coded_breaks_none earlier later y unit e code =
-    unless_other is_of_codes rules.Endcode refl (names_unit y e) rules.Unit _ refl (λ h.
-    status_never is_of_codes rules.Endcode refl (refl, refl, refl) (refl, refl, refl, refl, refl, refl, refl)
-    earlier later y unit e (sym (ap (λ c. unless c rules.Endcode (unless (has_status y e) rules.Status
-    (unless (has_abort later y e) rules.Aborted (unless (passes_none earlier y e) rules.Order
-    (broken_body later y unit e))))) code) ∙ h))
-
--- ---- units
-
-is_of_units : Rule → Bool
-is_of_units rules.Unit = true
-is_of_units rule = false
-
-pub units_message : (credits : Option ℕ) (xs : List Sent) (unit : Seen) (via : Connection) (b : ArrayVec ℕ)
-    (time : Option ℕ) → broken credits xs unit (moments.Message via b time) ≡ Some rules.Unit → ⊥
-unfolding is_of_units
-units_message = message_never is_of_units rules.Unit refl (refl, refl, refl)
-
-pub named_breaks_none : (earlier later : List Sent) (y : Sent) (unit : Seen) (e : Answer) → names_unit y e ≡ true
-    → broken_end earlier later y unit e ≡ Some rules.Unit → ⊥
-unfolding is_of_units
-named_breaks_none earlier later y unit e named h =
-    unless_other is_of_units rules.Unit refl (has_endcode y e) rules.Endcode _ refl
-    (status_never is_of_units rules.Unit refl (refl, refl, refl) (refl, refl, refl, refl, refl, refl, refl) earlier
-    later y unit e)
-    (sym (ap (λ c. unless c rules.Unit (unless (has_endcode y e) rules.Endcode (unless (has_status y e) rules.Status
-    (unless (has_abort later y e) rules.Aborted (unless (passes_none earlier y e) rules.Order
-    (broken_body later y unit e)))))) named) ∙ h)
-
--- ---- what an ABORT or a poll is about
-
-is_of_abouts : Rule → Bool
-is_of_abouts rules.About = true
-is_of_abouts rule = false
-
-pub abouts_message : (credits : Option ℕ) (xs : List Sent) (unit : Seen) (via : Connection) (b : ArrayVec ℕ)
-    (time : Option ℕ) → broken credits xs unit (moments.Message via b time) ≡ Some rules.About → ⊥
-unfolding is_of_abouts
-abouts_message = message_never is_of_abouts rules.About refl (refl, refl, refl)
-
-about_breaks : (later : List Sent) (y : Sent) (unit : Seen) (e : Answer) → is_about e (other_of y e) ≡ true
-    → broken_body later y unit e ≡ Some rules.About → ⊥
-unfolding is_of_abouts
-about_breaks later y unit e about =
-    unless_other is_of_abouts rules.About refl (succeeds e (other_of y e)) rules.Success _ refl (λ h.
-    unless_other is_of_abouts rules.About refl (has_figure later y e (polled_by y e)) rules.Figure _ refl
-    (unless_other is_of_abouts rules.About refl (has_count e (count_of y e)) rules.Count _ refl
-    (unless_other is_of_abouts rules.About refl (is_same_unit unit.unit e) rules.Identity _ refl
-    (unless_other is_of_abouts rules.About refl (suits_state unit.unit.state e) rules.State _ refl
-    (unless_other is_of_abouts rules.About refl (fits unit.controller e.controller) rules.Controller None refl
-    (none_never rules.About)))))
-    (sym (ap (λ c. unless c rules.About (unless (has_figure later y e (polled_by y e)) rules.Figure
-    (unless (has_count e (count_of y e)) rules.Count (unless (is_same_unit unit.unit e) rules.Identity
-    (unless (suits_state unit.unit.state e) rules.State
-    (unless (fits unit.controller e.controller) rules.Controller None)))))) about) ∙ h))
-
-pub about_breaks_none : (earlier later : List Sent) (y : Sent) (unit : Seen) (e : Answer)
-    → is_about e (other_of y e) ≡ true → broken_end earlier later y unit e ≡ Some rules.About → ⊥
-unfolding is_of_abouts
-about_breaks_none earlier later y unit e about =
-    unless_other is_of_abouts rules.About refl (names_unit y e) rules.Unit _ refl
-    (unless_other is_of_abouts rules.About refl (has_endcode y e) rules.Endcode _ refl
-    (unless_other is_of_abouts rules.About refl (has_status y e) rules.Status _ refl
-    (unless_other is_of_abouts rules.About refl (has_abort later y e) rules.Aborted _ refl
-    (unless_other is_of_abouts rules.About refl (passes_none earlier y e) rules.Order _ refl
-    (about_breaks later y unit e about)))))
-
--- ---- their success
-
-is_of_success : Rule → Bool
-is_of_success rules.Success = true
-is_of_success rule = false
-
-pub success_message : (credits : Option ℕ) (xs : List Sent) (unit : Seen) (via : Connection) (b : ArrayVec ℕ)
-    (time : Option ℕ) → broken credits xs unit (moments.Message via b time) ≡ Some rules.Success → ⊥
-unfolding is_of_success
-success_message = message_never is_of_success rules.Success refl (refl, refl, refl)
-
-success_breaks : (later : List Sent) (y : Sent) (unit : Seen) (e : Answer) → succeeds e (other_of y e) ≡ true
-    → broken_body later y unit e ≡ Some rules.Success → ⊥
-unfolding is_of_success
-success_breaks later y unit e success h =
-    unless_other is_of_success rules.Success refl (is_about e (other_of y e)) rules.About _ refl
-    (unless_other is_of_success rules.Success refl (has_figure later y e (polled_by y e)) rules.Figure _ refl
-    (unless_other is_of_success rules.Success refl (has_count e (count_of y e)) rules.Count _ refl
-    (unless_other is_of_success rules.Success refl (is_same_unit unit.unit e) rules.Identity _ refl
-    (unless_other is_of_success rules.Success refl (suits_state unit.unit.state e) rules.State _ refl
-    (unless_other is_of_success rules.Success refl (fits unit.controller e.controller) rules.Controller None refl
-    (none_never rules.Success))))))
-    (sym (ap (λ c. unless c rules.Success (unless (is_about e (other_of y e)) rules.About
-    (unless (has_figure later y e (polled_by y e)) rules.Figure (unless (has_count e (count_of y e)) rules.Count
-    (unless (is_same_unit unit.unit e) rules.Identity (unless (suits_state unit.unit.state e) rules.State
-    (unless (fits unit.controller e.controller) rules.Controller None))))))) success) ∙ h)
-
-pub success_breaks_none : (earlier later : List Sent) (y : Sent) (unit : Seen) (e : Answer)
-    → succeeds e (other_of y e) ≡ true → broken_end earlier later y unit e ≡ Some rules.Success → ⊥
-unfolding is_of_success
-success_breaks_none earlier later y unit e success =
-    unless_other is_of_success rules.Success refl (names_unit y e) rules.Unit _ refl
-    (unless_other is_of_success rules.Success refl (has_endcode y e) rules.Endcode _ refl
-    (unless_other is_of_success rules.Success refl (has_status y e) rules.Status _ refl
-    (unless_other is_of_success rules.Success refl (has_abort later y e) rules.Aborted _ refl
-    (unless_other is_of_success rules.Success refl (passes_none earlier y e) rules.Order _ refl
-    (success_breaks later y unit e success)))))
-
--- ---- the host's rules
-
-is_of_hosts : Rule → Bool
-is_of_hosts rules.Message = true
-is_of_hosts rules.Number = true
-is_of_hosts rules.Credits = true
-is_of_hosts rule = false
-
--- no end breaks one of these
-pub end_breaks_none : (x : Rule) → (x ≡ rules.Message) ⊎ (x ≡ rules.Number) ⊎ (x ≡ rules.Credits)
-    → (credits : Option ℕ) (xs : List Sent) (unit : Seen) (via : Connection) (b : ArrayVec ℕ)
-    → broken credits xs unit (moments.End via b) ≡ Some x → ⊥
-unfolding is_of_hosts
-end_breaks_none x either credits xs unit via b =
-    unless_other is_of_hosts x own (is_long b.items) rules.Length
-    (broken_at xs unit (answer_by via b.items) (place_of xs (answer_by via b.items))) refl
-    (by (place_of xs (answer_by via b.items)))
-  where
-    own : is_of_hosts x ≡ true
-    own = elim either [
-      | inl e ↦ ap is_of_hosts e
-      | inr more ↦ elim more [ inl e ↦ ap is_of_hosts e | inr e ↦ ap is_of_hosts e ]
-    ]
-
-    by : (o : Option ℕ) → broken_at xs unit (answer_by via b.items) o ≡ Some x → ⊥
-    by None = λ h. false≢true (ap is_of_hosts (some_same rules.Outstanding x h) ∙ own)
-    by (Some i) = unless_other is_of_hosts x own (names_unit (command_at xs i) (answer_by via b.items)) rules.Unit _
-        refl
-        (unless_other is_of_hosts x own (has_endcode (command_at xs i) (answer_by via b.items)) rules.Endcode _ refl
-        (status_never is_of_hosts x own (refl, refl, refl) (refl, refl, refl, refl, refl, refl, refl) (take i xs)
-        (drop (i + 1) xs) (command_at xs i) unit (answer_by via b.items)))
+-- a history keeps a rule which holds at each of its moments
+pub keeps_so : (limit : Option ℕ) (h : History) (x : Rule)
+    → ((i : ℕ) → i < length h → (unit : Seen) → moment_holds (outstanding (take i h)) unit (moment_at h i) x ≡ true)
+    → Keeps x limit h
+keeps_so limit h x each i low e =
+    let seen = seen_at (take i h) (moment_at h i) in
+    false≢true (sym (moment_fails (outstanding (take i h)) seen limit (moment_at h i) x e) ∙ each i low seen)

@@ -1,5 +1,5 @@
--- Each end of a port's log has the unit and the endcode of its command.
-use Rattle.std.proofs.Common.{◌≡◌, ◌⊎◌, ◌∙◌, ◌+◌, ℕ, Bool, true, false, cond, drop, nat_eq, not, take, List, Option, None, inl, inr, refl, ap, sym, arith}
+-- An end that fits its message has the unit and the endcode of its command.
+use Rattle.std.proofs.Common.{◌≡◌, ◌⊎◌, ◌∙◌, ◌+◌, ℕ, Bool, true, false, cond, nat_eq, not, List, None, inl, inr, refl, ap, sym, arith}
 use Rattle.std.specs.Prelude.{◌<◌, ◌^◌, ◌||◌, ◌≢◌, slice_index}
 use Rattle.mscp_packet.proofs.Numbers.{two}
 use Rattle.mscp_packet.specs.Number.{num}
@@ -10,27 +10,20 @@ use Rattle.mscp_port.specs.declared.port.OutgoingKind.TheVariants as kinds
 use Rattle.mscp_port.specs.declared.port.Port.{Port}
 use Rattle.mscp_port.proofs.Common.{eq-eqb, eqb-true, false≢true}
 use Rattle.mscp_ported.specs.Answers.{own_answer, volume_named}
-use Rattle.mscp_ported.specs.Awaited.{IsWhole}
 use Rattle.mscp_ported.specs.Fitting.{Fits, IsCodeFor, IsUnitFor}
-use Rattle.mscp_ported.specs.Told.{Said}
 use Rattle.mscp_ported.proofs.Itself.{own_coded}
 use Rattle.mscp_ported.proofs.Units.{small_unit}
-use Rattle.mscp_wire.specs.Wire.{History, answer_by, command_at, has_endcode, is_required, names_unit, sent_by}
+use Rattle.mscp_wire.specs.Wire.{has_endcode, is_required, names_unit, sent_by}
 use Rattle.mscp_wire.specs.declared.answer.Answer.{Answer}
-use Rattle.mscp_wire.specs.declared.rule.Rule.TheVariants as rules
 use Rattle.mscp_wire.specs.declared.sent.Sent.{Sent}
-use Rattle.mscp_logged.specs.Rules.{Keeps}
-use Rattle.mscp_logged.proofs.Breaking.{coded_breaks_none, codes_message, named_breaks_none, placed_breaks, units_message}
-use Rattle.mscp_logged.proofs.Own.{IsOwn, of_disk, own_is_whole}
-use Rattle.mscp_logged.proofs.Placed.{keeps_rule}
-use Rattle.mscp_logged.proofs.Stated.{Stated}
+use Rattle.mscp_logged.proofs.Own.{IsOwn, of_disk}
 use Rattle.mscp_logged.proofs.Wired.{stem}
 
 -- no controller may leave out an opcode that isn't known
 none_required : (n : ℕ) → opcode_of n ≡ None → is_required n ≡ false
 none_required n e = grind (arith, e)
 
-endcode_right : (y : Sent) (e : Answer) (message : List ℕ) → y.opcode ≡ slice_index message 8
+pub endcode_right : (y : Sent) (e : Answer) (message : List ℕ) → y.opcode ≡ slice_index message 8
     → IsCodeFor e.code message → has_endcode y e ≡ true
 endcode_right y e message is code = by (nat_eq e.code 0x80) refl code
   where
@@ -52,13 +45,8 @@ endcode_right y e message is code = by (nat_eq e.code 0x80) refl code
     by false c (inl h) = absurd (false≢true (sym c ∙ eq-eqb e.code 0x80 h.0))
     by false c (inr h) = known c (h ∙ ap (λ n. n + 0x80) (sym is))
 
--- an end is whole, and fits its message
-pub record IsEndOf (text message : List ℕ) : Type 0 where
-  pub fits : Fits text message
-  pub whole : IsWhole text
-
 -- an answer of the port's own fits its message, as an end of the controller's does
-own_fits : {K : Type 0} (old : Port K) (text : List ℕ) (o : Outgoing) → ((i : ℕ) → slice_index text i < 2 ^ 8)
+pub own_fits : {K : Type 0} (old : Port K) (text : List ℕ) (o : Outgoing) → ((i : ℕ) → slice_index text i < 2 ^ 8)
     → IsOwn old text o → o.kind ≡ kinds.End → Fits o.bytes.items text
 own_fits old text o small own kind = record {
   unit = inl (ap (λ b. num b 4 2) own.own.2 ∙ two (num text 4 2) (small_unit text small));
@@ -75,23 +63,9 @@ own_fits old text o small own kind = record {
     neither (inl x) = coded.2 (sym (ap (λ b. slice_index b 8) own.own.2) ∙ x)
     neither (inr x) = coded.1 (sym (ap (λ b. slice_index b 8) own.own.2) ∙ x)
 
-pub own_end_of : {K : Type 0} (old : Port K) (text : List ℕ) (o : Outgoing) → ((i : ℕ) → slice_index text i < 2 ^ 8)
-    → IsOwn old text o → o.kind ≡ kinds.End → IsEndOf o.bytes.items text
-own_end_of old text o small own kind =
-    record { fits = own_fits old text o small own kind; whole = own_is_whole old text o own kind }
-
-pub keeps_endcode : (limit : Option ℕ) (h : History) (aw : List (List ℕ)) (held : List Said)
-    → Stated IsEndOf h aw held → Keeps rules.Endcode limit h
-keeps_endcode limit = keeps_rule IsEndOf limit rules.Endcode (codes_message limit)
-    (λ xs unit b tied e. coded_breaks_none (take tied.place xs) (drop (tied.place + 1) xs) (command_at xs tied.place)
-    unit (answer_by First b.items)
-    (endcode_right (command_at xs tied.place) (answer_by First b.items) tied.message
-    (ap (λ (s : Sent). s.opcode) tied.command) tied.tie.fits.code)
-    (placed_breaks limit xs unit First b tied.place rules.Endcode tied.at (λ h. search (arith, h)) e))
-
 -- ---- units
 
-unit_right : (y : Sent) (e : Answer) (message : List ℕ) → stem y ≡ sent_by First message → IsUnitFor e.unit message
+pub unit_right : (y : Sent) (e : Answer) (message : List ℕ) → stem y ≡ sent_by First message → IsUnitFor e.unit message
     → names_unit y e ≡ true
 unit_right y e message is (inr next) = ap (λ b. b || nat_eq e.unit y.unit) (ap (λ (s : Sent). s.next) is ∙ next)
 unit_right y e message is (inl same) = by y.next
@@ -100,11 +74,3 @@ unit_right y e message is (inl same) = by y.next
     by : (b : Bool) → nat_eq e.unit y.unit ≡ true → (b || nat_eq e.unit y.unit) ≡ true
     by true h = refl
     by false h = h
-
-pub keeps_unit : (limit : Option ℕ) (h : History) (aw : List (List ℕ)) (held : List Said)
-    → Stated IsEndOf h aw held → Keeps rules.Unit limit h
-keeps_unit limit = keeps_rule IsEndOf limit rules.Unit (units_message limit)
-    (λ xs unit b tied e. named_breaks_none (take tied.place xs) (drop (tied.place + 1) xs) (command_at xs tied.place)
-    unit (answer_by First b.items)
-    (unit_right (command_at xs tied.place) (answer_by First b.items) tied.message tied.command tied.tie.fits.unit)
-    (placed_breaks limit xs unit First b tied.place rules.Unit tied.at (λ h. search (arith, h)) e))

@@ -1,6 +1,6 @@
 -- An end that leaves answers a command that is outstanding, and takes it away.
-use Rattle.std.proofs.Common.{◌≡◌, ◌∙◌, ◌+◌, ◌++◌, ◌∷◌, [], ℕ, false, cond, drop, filter, length, map, nat_eq, take, List, Some, inl, inr, refl, ap, sym, subst, arith}
-use Rattle.std.specs.List.{position}
+use Rattle.std.proofs.Common.{◌≡◌, ◌∙◌, ◌+◌, ◌++◌, ◌∷◌, [], ℕ, true, false, cond, drop, filter, length, map, nat_eq, not, take, List, Some, inl, inr, refl, ap, sym, subst, arith}
+use Rattle.std.specs.List.{list_any, position}
 use Rattle.std.specs.Prelude.{slice_index_or}
 use Rattle.std.proofs.lemmas.List.Elements.{filter-append}
 use Rattle.mscp_packet.specs.Number.{num}
@@ -11,7 +11,8 @@ use Rattle.mscp_port.proofs.Common.{and_parts, eqb-true}
 use Rattle.mscp_ported.specs.Told.{Said}
 use Rattle.mscp_ported.proofs.Numbered.{some_none}
 use Rattle.mscp_ported.proofs.Owning.{and_false}
-use Rattle.mscp_wire.specs.Wire.{after_end, answer_by, command_at, hears, place_of, same_connection, sent_by}
+use Rattle.mscp_logged.proofs.Lined.{all_left, behind, behind_aborts}
+use Rattle.mscp_wire.specs.Wire.{aborts, after_end, answer_by, command_at, hears, place_of, same_connection, sent_by}
 use Rattle.mscp_wire.specs.declared.answer.Answer.{Answer}
 use Rattle.mscp_wire.specs.declared.sent.Sent.{Sent}
 use Rattle.mscp_logged.proofs.Wired.{At, IsOwed, Wired, back_of, filter_map, front_of, named, none_front, same_or, stem}
@@ -38,6 +39,10 @@ module _ (Tie : List ℕ → List ℕ → Type 0) (xs : List Sent) (aw : List (L
     pub at : place_of xs answer ≡ Some place
     pub command : stem (command_at xs place) ≡ sent_by First owed.message
     pub left : Wired Tie (after_end xs answer (Some place)) aw []
+    pub others : List Sent
+    pub without : filter (λ x. not (named n x)) xs ≡ others
+    pub after : after_end xs answer (Some place) ≡ map (hears (command_at xs place) answer) others
+    pub aborted : (m : ℕ) → behind n m xs ≡ true → list_any (aborts (command_at xs place)) (drop (place + 1) xs) ≡ true
 
   module _ (front : List Sent) (x : Sent) (back : List Sent) (f : Found (named n) xs front x back) where
     abbrev hear : Sent → Sent
@@ -65,6 +70,20 @@ module _ (Tie : List ℕ → List ℕ → Type 0) (xs : List Sent) (aw : List (L
     only = sym (all_of n ∙ ap (λ zs. zs ++ cond (named n x) (x ∷ filter (named n) back) (filter (named n) back))
         (none_front (named n) front f.before)
         ∙ ap (λ b. cond b (x ∷ filter (named n) back) (filter (named n) back)) f.passed) ∙ owed.sole
+
+    -- the others are those that don't have its number
+    without_it : filter (λ y. not (named n y)) xs ≡ front ++ back
+    without_it = ap (filter (λ y. not (named n y))) f.is ∙ filter-append (λ y. not (named n y)) front (x ∷ back)
+        ∙ ap (λ zs. zs ++ filter (λ y. not (named n y)) (x ∷ back))
+        (all_left (named n) front (none_front (named n) front f.before))
+        ∙ ap (λ b. front ++ cond (not b) (x ∷ filter (λ y. not (named n y)) back) (filter (λ y. not (named n y)) back))
+        f.passed ∙ ap (λ zs. front ++ zs) (all_left (named n) back none_behind)
+      where
+        tail_of : (y z : Sent) (ys : List Sent) → y ∷ ys ≡ z ∷ [] → ys ≡ []
+        tail_of y z ys e = search (arith, e)
+
+        none_behind : filter (named n) back ≡ []
+        none_behind = tail_of x owed.own (filter (named n) back) only
 
     none_left : filter (named n) (after_end xs answer (Some (length front))) ≡ []
     none_left = left_of n ∙ ap (λ zs. map hear (zs ++ filter (named n) back)) (none_front (named n) front f.before)
@@ -113,6 +132,15 @@ module _ (Tie : List ℕ → List ℕ → Type 0) (xs : List Sent) (aw : List (L
           ∙ at_front front x back (sent_by First []) ∙ first_is)
           ∙ owed.is;
       left = record { each = each_left; owed = tt };
+      others = front ++ back;
+      without = without_it;
+      after = after;
+      aborted = λ m late. ap (λ zs. list_any (aborts (command_at xs (length front))) zs)
+          (ap (drop (length front + 1)) f.is ∙ back_of front x back)
+          ∙ ap (λ (y : Sent). list_any (aborts y) back) (ap (λ zs. command_at zs (length front)) f.is
+          ∙ at_front front x back (sent_by First []))
+          ∙ behind_aborts n m front x back f.before f.passed
+          (ap (behind n m) (sym f.is) ∙ late);
     }
 
   pub end_leaves : IsAnswered

@@ -1,4 +1,5 @@
 pub mod Wired
+pub mod Lined
 pub mod Left
 pub mod Seen
 pub mod Own
@@ -9,5 +10,12 @@ pub mod Logging
 pub mod Placed
 pub mod Coded
 pub mod About
-pub mod Nine
+pub mod Faults
+pub mod Statuses
+pub mod Bytes
+pub mod Made
+pub mod Suited
+pub mod Answered
+pub mod Tied
+pub mod Kept
 pub mod Rows

@@ -1,6 +1,6 @@
 -- What is known of a port's log, over a whole list of calls.
 use Rattle.std.proofs.Common.{◌≡◌, ◌≢◌, ◌∙◌, ◌<◌, ◌^◌, ◌&&◌, ◌++◌, ◌∷◌, [], ℕ, Bool, true, false, cond, filter, map, not, List, Option, None, Some, inl, inr, refl, ap, append_assoc, sym, subst, arith}
-use Rattle.std.specs.Prelude.{Ok, flat_map, is_none, is_ok, option_to_list, slice_index}
+use Rattle.std.specs.Prelude.{◌%◌, Ok, flat_map, is_none, is_ok, option_to_list, slice_index}
 use Rattle.std.proofs.lemmas.List.{append-nil}
 use Rattle.mscp_packet.specs.Number.{num}
 use Rattle.mscp_drive.specs.Settings.{IsValid, Settings}
@@ -22,6 +22,7 @@ use Rattle.mscp_ported.specs.Awaited.{Deals, IsAnswering, IsEnding, IsTaking, Po
 use Rattle.mscp_ported.specs.Ends.{ends_said_by}
 use Rattle.mscp_ported.specs.Talk.{AsksAlways, is_dead}
 use Rattle.mscp_ported.specs.Told.{PortsTellInOrder, Said, accepted_by, held, said, said_in}
+use Rattle.mscp_ported.proofs.Behind.{aborts_behind}
 use Rattle.mscp_ported.proofs.Following.{asked_before}
 use Rattle.mscp_ported.proofs.Itself.{since_alive}
 use Rattle.mscp_wire.specs.Wire.{History, IsRight, is_new, outstanding, sent_by}
@@ -57,18 +58,25 @@ small_of : (call : Call) (calls : List Call) (t : List ℕ) (done : Unit) → Re
     → call ≡ WasRead t (Ok done) → (i : ℕ) → slice_index t i < 2 ^ 8
 small_of call calls t done reads is = (subst (λ x. ReadsBytes (x ∷ calls)) is reads).0
 
-module _ {K : Type 0} (Tie : List ℕ → List ℕ → Type 0) (picks : Picking K) (c : Settings) (picker : K)
+module _ {K : Type 0} (Tie : List ℕ → List ℕ → Type 0) (G : Type 0) (picks : Picking K) (c : Settings) (picker : K)
     (ends : PortsEndWhatTheyTook picks picker) (tell : PortsTellInOrder picks) (before : List Made)
     (controller : Holdings K) (hardware : Hardware) (credits : ℕ) (start : Port K) (valid : IsValid c)
     (was : AnsweredCalls (picks picker) (fresh c picker) before controller)
     (quiet : outstanding_of First controller ≡ []) (made : IsMadeOf hardware credits controller start)
-    (tie_end : (p : Port K) (call : Call) (calls : List Call) → ReadsBytes (call ∷ calls)
+    (Fine : List Call → Type 0) (fine_before : (call : Call) (calls : List Call) → Fine (call ∷ calls) → Fine calls)
+    (tie_end : (p : Port K) (call : Call) (calls : List Call) → ReadsBytes (call ∷ calls) → Fine (call ∷ calls)
     → (a : Answered picks start (call ∷ calls) p) → (q : IsEnding (awaited picks start a.0 calls a.1) call a.0 p)
     → Tie q.out.bytes.items q.message)
+    (late_end : (p : Port K) (call : Call) (calls : List Call) → ReadsBytes (call ∷ calls) → Fine (call ∷ calls)
+    → (a : Answered picks start (call ∷ calls) p) → (q : IsEnding (awaited picks start a.0 calls a.1) call a.0 p)
+    → G → num q.out.bytes.items 10 2 % 32 ≡ 2
+    → (k : ℕ) × (aborts_behind (num q.out.bytes.items 0 4) k (awaited picks start a.0 calls a.1) ≡ true))
+    (late_own : (old : Port K) (text : List ℕ) (o : Outgoing) → IsOwn old text o → o.kind ≡ kinds.End → G
+    → num o.bytes.items 10 2 % 32 ≡ 2 → ⊥)
     (tie_own : (old : Port K) (text : List ℕ) (o : Outgoing) → ((i : ℕ) → slice_index text i < 2 ^ 8)
     → IsOwn old text o → o.kind ≡ kinds.End → Tie o.bytes.items text) (limit : Option ℕ) where
   abbrev pub State : (p : Port K) (calls : List Call) → Answered picks start calls p → Type 0
-  State p calls a = Stated Tie (logged picks start p calls a) (awaited picks start p calls a) (held p)
+  State p calls a = Stated Tie G (logged picks start p calls a) (awaited picks start p calls a) (held p)
 
   -- nothing is held where nothing was said
   nothing_held : (p : Port K) (calls : List Call) → AsksAlways calls → (a : Answered picks start calls p)
@@ -80,11 +88,12 @@ module _ {K : Type 0} (Tie : List ℕ → List ℕ → Type 0) (picks : Picking 
       → said picks start p calls a ≡ [] → logged picks start p calls a ≡ [] → awaited picks start p calls a ≡ []
       → State p calls a
   forgotten p calls asks a none no_moment no_text =
-      as_it_is Tie [] [] (logged picks start p calls a) (awaited picks start p calls a) [] (held p) no_moment no_text
-      (nothing_held p calls asks a none) (nothing_stated Tie [] (nothing_wired Tie [] [] refl refl))
+      as_it_is Tie G [] [] (logged picks start p calls a) (awaited picks start p calls a) [] (held p) no_moment no_text
+      (nothing_held p calls asks a none) (nothing_stated Tie G (nothing_wired Tie [] [] refl refl))
 
   module _ (p : Port K) (call : Call) (calls : List Call) (asks : AsksAlways (call ∷ calls))
-      (reads : ReadsBytes (call ∷ calls)) (a : Answered picks start (call ∷ calls) p) (never : call ≢ WriteIp)
+      (reads : ReadsBytes (call ∷ calls)) (fine : Fine (call ∷ calls)) (a : Answered picks start (call ∷ calls) p)
+      (never : call ≢ WriteIp)
       (lives : is_dead p.stage ≡ false) (s : State a.0 calls a.1)
       (host : HostIsRight limit (logged picks start p (call ∷ calls) a)) where
     abbrev h : History
@@ -127,25 +136,25 @@ module _ {K : Type 0} (Tie : List ℕ → List ℕ → Type 0) (picks : Picking 
 
     -- nothing begins to go out
     calm : (ms : History) (xs : List (List ℕ)) → messages_by call a.0 ≡ ms → begins a.0.outgoing p.outgoing ≡ []
-        → awaited picks start p (call ∷ calls) a ≡ xs → Stated Tie (h ++ ms) xs (held a.0) → State p (call ∷ calls) a
-    calm ms xs e none f x = as_it_is Tie ((h ++ ms) ++ gone) xs (logged picks start p (call ∷ calls) a)
+        → awaited picks start p (call ∷ calls) a ≡ xs → Stated Tie G (h ++ ms) xs (held a.0) → State p (call ∷ calls) a
+    calm ms xs e none f x = as_it_is Tie G ((h ++ ms) ++ gone) xs (logged picks start p (call ∷ calls) a)
         (awaited picks start p (call ∷ calls) a) (held p) (held p) (log_is ms e) f refl
-        (left Tie (h ++ ms) xs a.0.outgoing p.outgoing x none (same_held none))
+        (left Tie G (h ++ ms) xs a.0.outgoing p.outgoing x none (same_held none))
 
     -- or something does
     begun : (ms : History) (xs : List (List ℕ)) (o : Outgoing) → messages_by call a.0 ≡ ms → a.0.outgoing ≡ None
         → p.outgoing ≡ Some o → awaited picks start p (call ∷ calls) a ≡ xs
-        → Stated Tie (h ++ ms) xs (said_in o ∷ []) → State p (call ∷ calls) a
-    begun ms xs o e nothing some f x = as_it_is Tie (h ++ ms) xs (logged picks start p (call ∷ calls) a)
+        → Stated Tie G (h ++ ms) xs (said_in o ∷ []) → State p (call ∷ calls) a
+    begun ms xs o e nothing some f x = as_it_is Tie G (h ++ ms) xs (logged picks start p (call ∷ calls) a)
         (awaited picks start p (call ∷ calls) a) (said_in o ∷ []) (held p)
         (log_is ms e ∙ ap (λ z. (h ++ ms) ++ flat_map ends_in (leaves z p.outgoing)) nothing ∙ append-nil (h ++ ms)) f
         (ap (λ z. map said_in (option_to_list z)) some) x
 
-    with_none : (xs : List (List ℕ)) (us : List Said) → Stated Tie h xs us → Stated Tie (h ++ []) xs us
-    with_none xs us x = as_it_is Tie h xs (h ++ []) xs us us (append-nil h) refl refl x
+    with_none : (xs : List (List ℕ)) (us : List Said) → Stated Tie G h xs us → Stated Tie G (h ++ []) xs us
+    with_none xs us x = as_it_is Tie G h xs (h ++ []) xs us us (append-nil h) refl refl x
 
-    none_out : a.0.outgoing ≡ None → Stated Tie h aw []
-    none_out nothing = as_it_is Tie h aw h aw (held a.0) [] refl refl
+    none_out : a.0.outgoing ≡ None → Stated Tie G h aw []
+    none_out nothing = as_it_is Tie G h aw h aw (held a.0) [] refl refl
         (sym (ap (λ z. map said_in (option_to_list z)) nothing)) s
 
     none_by : accepted_by call a.0 ≡ [] → messages_by call a.0 ≡ []
@@ -154,8 +163,8 @@ module _ {K : Type 0} (Tie : List ℕ → List ℕ → Type 0) (picks : Picking 
     ending : IsEnding aw call a.0 p → State p (call ∷ calls) a
     ending q = begun [] (filter (λ t. not (has_number (num q.out.bytes.items 0 4) t)) aw) q.out (none_by q.accepted)
         q.nothing q.begun (awaited_is (q.out.bytes.items ∷ []) [] q.ended q.taken ∙ append-nil _)
-        (with_none _ (said_in q.out ∷ []) (begins_end Tie h aw (said_in q.out) q.message (none_out q.nothing) q.only
-        (tie_end p call calls reads a q)))
+        (with_none _ (said_in q.out ∷ []) (begins_end Tie G h aw (said_in q.out) q.message (none_out q.nothing) q.only
+        (tie_end p call calls reads fine a q) q.kind (late_end p call calls reads fine a q)))
 
     taking : IsTaking call a.0 p → State p (call ∷ calls) a
     taking q =
@@ -164,7 +173,7 @@ module _ {K : Type 0} (Tie : List ℕ → List ℕ → Type 0) (picks : Picking 
         ap (λ b. cond b [] (map message_of (accepted_by call a.0))) disk ∙ ap (map message_of) q.accepted in
         calm (message_of q.message ∷ []) (aw ++ q.message ∷ []) shown q.begun
         (awaited_is [] (q.message ∷ []) q.ended q.taken)
-        (takes Tie h aw (held a.0) q.message s (is_new_now q.message shown))
+        (takes Tie G h aw (held a.0) q.message s (is_new_now q.message shown))
 
     answering : (q : IsAnswering call a.0 p) → State p (call ∷ calls) a
     answering q = by own.foreign own.task own.kind
@@ -181,32 +190,34 @@ module _ {K : Type 0} (Tie : List ℕ → List ℕ → Type 0) (picks : Picking 
         by : (foreign : Bool) → is_foreign a.0.task ≡ foreign → q.out.kind ≡ end_kind foreign → State p (call ∷ calls) a
         by true task kind = begun [] aw q.out (ap (λ b. cond b [] (map message_of (accepted_by call a.0))) task)
             q.nothing q.begun still (with_none aw (said_in q.out ∷ [])
-            (begins_other Tie h aw (said_in q.out) (none_out q.nothing) (λ e. search (arith, sym kind ∙ e))))
+            (begins_other Tie G h aw (said_in q.out) (none_out q.nothing) (λ e. search (arith, sym kind ∙ e))))
         by false task kind =
             let shown : messages_by call a.0 ≡ message_of q.message ∷ [] =
             ap (λ b. cond b [] (map message_of (accepted_by call a.0))) task ∙ ap (map message_of) q.accepted in
             begun (message_of q.message ∷ []) aw q.out shown q.nothing q.begun still
-            (answers Tie h aw (said_in q.out) q.message (none_out q.nothing) (is_new_now q.message shown)
-            (own_named a.0 q.message q.out own small) (tie_own a.0 q.message q.out small own kind))
+            (answers Tie G h aw (said_in q.out) q.message (none_out q.nothing) (is_new_now q.message shown)
+            (own_named a.0 q.message q.out own small) (tie_own a.0 q.message q.out small own kind) kind
+            (late_own a.0 q.message q.out own kind))
 
     pub deals_so : Deals aw call a.0 p → State p (call ∷ calls) a
     deals_so (inl q) = calm [] aw (none_by q.accepted) q.begun (awaited_is [] [] q.ended q.taken ∙ append-nil aw)
         (with_none aw (held a.0) s)
     deals_so (inr (inl q)) = begun [] aw q.out (none_by q.accepted) q.nothing q.begun
         (awaited_is [] [] q.ended q.taken ∙ append-nil aw) (with_none aw (said_in q.out ∷ [])
-        (begins_other Tie h aw (said_in q.out) (none_out q.nothing) (λ e. search (arith, sym q.kind ∙ e))))
+        (begins_other Tie G h aw (said_in q.out) (none_out q.nothing) (λ e. search (arith, sym q.kind ∙ e))))
     deals_so (inr (inr (inl q))) = ending q
     deals_so (inr (inr (inr (inl q)))) = taking q
     deals_so (inr (inr (inr (inr q)))) = answering q
 
-  pub stated : (p : Port K) (calls : List Call) → AsksAlways calls → ReadsBytes calls
+  pub stated : (p : Port K) (calls : List Call) → AsksAlways calls → ReadsBytes calls → Fine calls
       → (a : Answered picks start calls p)
       → HostIsRight limit (logged picks start p calls a) → State p calls a
-  stated p [] asks reads a host = forgotten p [] asks a refl refl refl
-  stated p (call ∷ calls) asks reads a host = elim (is_reset call) [
+  stated p [] asks reads fine a host = forgotten p [] asks a refl refl refl
+  stated p (call ∷ calls) asks reads fine a host = elim (is_reset call) [
     | inl reset ↦ forgotten p (call ∷ calls) asks a (since_reset p.stage call _ _ reset)
         (since_reset p.stage call _ _ reset) (since_reset p.stage call _ _ reset)
-    | inr never ↦ by (λ x. stated a.0 calls (asked_before call calls asks) (reads_before call calls reads) a.1 x) never
+    | inr never ↦ by (λ x. stated a.0 calls (asked_before call calls asks) (reads_before call calls reads)
+        (fine_before call calls fine) a.1 x) never
         (is_dead p.stage) refl
   ]
     where
@@ -220,4 +231,4 @@ module _ {K : Type 0} (Tie : List ℕ → List ℕ → Type 0) (picks : Picking 
           let old_host = each_front (λ x m. is_message m ≡ true → IsRight limit x m) moments.Reset
           (logged picks start a.0 calls a.1) (seen_by call a.0 p)
           (subst (λ x. HostIsRight limit x) (since_alive p.stage call _ _ never lives) host) in
-          deals_so p call calls asks reads a never lives (so_far old_host) host d.1
+          deals_so p call calls asks reads fine a never lives (so_far old_host) host d.1

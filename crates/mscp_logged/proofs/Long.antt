@@ -28,14 +28,15 @@ use Rattle.mscp_ported.specs.Told.{PortsTellInOrder, Said, accepted_by, held, sa
 use Rattle.mscp_ported.proofs.Following.{asked_before}
 use Rattle.mscp_ported.proofs.Growing.{begun_one}
 use Rattle.mscp_ported.proofs.Itself.{since_alive}
-use Rattle.mscp_wire.specs.Wire.{History, broken, controller as controller_told, is_long, least_length, moment_at, outstanding, seen_of, told}
+use Rattle.mscp_wire.specs.Wire.{is_long, least_length, moment_at, outstanding}
 use Rattle.mscp_wire.specs.declared.rule.Rule.TheVariants as rules
 use Rattle.mscp_wire.specs.declared.moment.Moment.{Moment}
 use Rattle.mscp_wire.specs.declared.moment.Moment.TheVariants as moments
+use Rattle.mscp_wire.specs.declared.sent.Sent.{Sent}
 use Rattle.mscp_wire.specs.declared.told.Seen.{Seen}
 use Rattle.mscp_logged.specs.Logged.{end_of, ends_in, is_foreign, logged, message_of, messages_by, seen_by}
 use Rattle.mscp_logged.specs.Rules.{Keeps}
-use Rattle.mscp_logged.proofs.Breaking.{long_breaks_none, length_message, reset_breaks_none}
+use Rattle.mscp_logged.proofs.Breaking.{keeps_so, moment_holds}
 use Rattle.mscp_logged.proofs.Own.{answers_so, own_is_whole}
 use Rattle.mscp_logged.proofs.Seen.{is_reset, reads_before, since_dead, since_reset}
 
@@ -90,7 +91,7 @@ IsLong s = s.kind ≡ kinds.End → is_long s.text ≡ true
 abbrev IsLongMoment : Moment → Type 0
 IsLongMoment (moments.Message via b time) = Unit {0}
 IsLongMoment (moments.End via b) = is_long b.items ≡ true
-IsLongMoment moments.Reset = Unit {0}
+IsLongMoment m = Unit {0}
 
 module _ {K : Type 0} (picks : Picking K) (c : Settings) (picker : K) (ends : PortsEndWhatTheyTook picks picker)
     (tell : PortsTellInOrder picks) (before : List Made) (controller : Holdings K) (hardware : Hardware) (credits : ℕ)
@@ -189,20 +190,13 @@ module _ {K : Type 0} (picks : Picking K) (c : Settings) (picker : K) (ends : Po
 
   pub keeps_length : (p : Port K) (calls : List Call) (limit : Option ℕ) → AsksAlways calls → ReadsBytes calls
       → (a : Answered picks start calls p) → Keeps rules.Length limit (logged picks start p calls a)
-  keeps_length p calls limit asks reads a i low = by (moment_at h i)
-      (All-from_recursion IsLongMoment h (logged_long p calls asks reads a) i moments.Reset low)
+  keeps_length p calls limit asks reads a = keeps_so limit (logged picks start p calls a) rules.Length
+      (λ i low unit. by (outstanding (take i (logged picks start p calls a))) unit
+      (moment_at (logged picks start p calls a) i)
+      (All-from_recursion IsLongMoment (logged picks start p calls a) (logged_long p calls asks reads a) i moments.Reset
+      low))
     where
-      h : History
-      h = logged picks start p calls a
-
-      seen : Moment → Seen
-      seen m = seen_of (told (take i h)) (controller_told (take i h)) m
-
-      by : (m : Moment) → IsLongMoment m
-          → broken limit (outstanding (take i h)) (seen_of (told (take i h)) (controller_told (take i h)) m) m
-          ≡ Some rules.Length → ⊥
-      by (moments.Message via b time) long =
-          length_message limit (outstanding (take i h)) (seen (moments.Message via b time)) via b time
-      by (moments.End via b) long =
-          long_breaks_none limit (outstanding (take i h)) (seen (moments.End via b)) via b long
-      by moments.Reset long = reset_breaks_none limit (outstanding (take i h)) (seen moments.Reset) rules.Length
+      by : (xs : List Sent) (unit : Seen) (m : Moment) → IsLongMoment m → moment_holds xs unit m rules.Length ≡ true
+      by xs unit (moments.Message via b time) long = refl
+      by xs unit (moments.End via b) long = long
+      by xs unit m long = refl

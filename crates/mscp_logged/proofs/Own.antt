@@ -1,5 +1,5 @@
 -- What begins to go out as a port answers a message itself.
-use Rattle.std.proofs.Common.{◌≡◌, ◌∙◌, ℕ, Bool, true, false, List, Option, None, Some, IsSomeAnd, inl, inr, refl, ap, sym, subst, arith}
+use Rattle.std.proofs.Common.{◌≡◌, ◌≤◌, ◌∙◌, ℕ, Bool, true, false, length, List, Option, None, Some, IsSomeAnd, inl, inr, refl, ap, sym, subst, arith}
 use Rattle.std.specs.Prelude.{Ok, slice_index, ◌<◌, ◌^◌}
 use Rattle.std.proofs.lemmas.Option.{none-some}
 use Rattle.mscp_packet.specs.Ends.{end_bytes}
@@ -26,6 +26,7 @@ use Rattle.mscp_logged.specs.Logged.{is_foreign}
 pub record IsOwn {K : Type 0} (old : Port K) (text : List ℕ) (o : Outgoing) : Type 0 where
   pub foreign : Bool
   pub task : is_foreign old.task ≡ foreign
+  pub long : 12 ≤ length text
   pub kind : o.kind ≡ end_kind foreign
   pub own : (own : Own) × (own_answer foreign (volume_named old text) text ≡ Some own)
       × (o.bytes.items ≡ own_text text own)
@@ -46,6 +47,7 @@ module _ {K : Type 0} (bytes : List ℕ) (done : Unit) (old new : Port K) (r : H
           record {
             foreign = foreign;
             task = ap is_foreign at;
+            long = ((r.sees refl).text slot size foreign at).long;
             kind = said.1;
             own = (own.0, own.1, said.0 ∙ own.2);
           }

@@ -1,51 +1,34 @@
 -- Which rules all ends of a port's log keep, by the command that each answers and its tie to that.
-use Rattle.std.proofs.Common.{◌≡◌, ℕ, take, List, Option, Some, subst}
-use Rattle.arrayvec.specs.ArrayVec.{ArrayVec}
-use Rattle.mscp_drive.specs.declared.connection.Connection.{Connection}
+use Rattle.std.proofs.Common.{◌≡◌, ◌∙◌, ◌<◌, ℕ, true, length, take, List, Option, None, Some, refl, sym, subst}
 use Rattle.mscp_drive.specs.declared.connection.Connection.TheVariants.{First}
-use Rattle.mscp_wire.specs.Wire.{History, broken, controller as controller_told, moment_at, outstanding, seen_of, told}
+use Rattle.mscp_port.proofs.Common.{false≢true}
+use Rattle.mscp_ported.specs.Told.{Said}
+use Rattle.mscp_wire.specs.Wire.{History, broken_by, controller, moment_at, outstanding}
 use Rattle.mscp_wire.specs.declared.moment.Moment.{Moment}
 use Rattle.mscp_wire.specs.declared.moment.Moment.TheVariants as moments
 use Rattle.mscp_wire.specs.declared.rule.Rule.{Rule}
-use Rattle.mscp_wire.specs.declared.rule.Rule.TheVariants as rules
-use Rattle.mscp_wire.specs.declared.sent.Sent.{Sent}
 use Rattle.mscp_wire.specs.declared.told.Seen.{Seen}
-use Rattle.mscp_ported.specs.Told.{Said}
-use Rattle.mscp_logged.specs.Rules.{Keeps}
-use Rattle.mscp_logged.proofs.Breaking.{outstanding_message, placed_breaks_none, reset_breaks_none}
+use Rattle.mscp_logged.specs.Rules.{HostIsRight, Keeps, is_message}
+use Rattle.mscp_logged.proofs.Breaking.{end_holds, moment_fails, none_never, seen_at}
 use Rattle.mscp_logged.proofs.Stated.{IsSeen, IsTied, Stated}
 
-module _ (Tie : List ℕ → List ℕ → Type 0) (limit : Option ℕ) (x : Rule)
-    (message : (xs : List Sent) (unit : Seen) (via : Connection) (b : ArrayVec ℕ) (time : Option ℕ)
-    → broken limit xs unit (moments.Message via b time) ≡ Some x → ⊥)
-    (end : (xs : List Sent) (unit : Seen) (b : ArrayVec ℕ) → IsTied Tie xs b.items
-    → broken limit xs unit (moments.End First b) ≡ Some x → ⊥) where
-  pub keeps_rule : (h : History) (aw : List (List ℕ)) (held : List Said) → Stated Tie h aw held → Keeps x limit h
-  keeps_rule h aw held s i low = by (moment_at h i) (s.each i low)
-    where
-      seen : Moment → Seen
-      seen m = seen_of (told (take i h)) (controller_told (take i h)) m
-
-      by : (m : Moment) → IsSeen Tie (take i h) m
-          → broken limit (outstanding (take i h)) (seen_of (told (take i h)) (controller_told (take i h)) m) m ≡ Some x
-          → ⊥
-      by (moments.Message via b time) is e =
-          message (outstanding (take i h)) (seen (moments.Message via b time)) via b time e
-      by (moments.End via b) is e = end (outstanding (take i h)) (seen (moments.End via b)) b is.1
-          (subst (λ v. broken limit (outstanding (take i h)) (seen (moments.End via b)) (moments.End v b) ≡ Some x)
-          is.0 e)
-      by moments.Reset is e = reset_breaks_none limit (outstanding (take i h)) (seen moments.Reset) x e
-
--- ---- what is answered
+-- where the host's messages are right, a rule is kept that holds of each end with such a tie
+pub keeps_rule : (Tie : List ℕ → List ℕ → Type 0) (G : Type 0) (limit : Option ℕ) (x : Rule) (h : History)
+    (aw : List (List ℕ)) (held : List Said) → Stated Tie G h aw held
+    → ((i : ℕ) (unit : Seen) (b : List ℕ) → i < length h → unit.controller ≡ controller (take i h)
+    → IsTied Tie G (outstanding (take i h)) b → end_holds (outstanding (take i h)) unit First b x ≡ true)
+    → HostIsRight limit h → Keeps x limit h
+keeps_rule Tie G limit x h aw held s ends host i low = by (moment_at h i) (s.each i low) (host i low)
+  where
+    by : (m : Moment) → IsSeen Tie G (take i h) m → (is_message m ≡ true → broken_by limit (take i h) m ≡ None)
+        → broken_by limit (take i h) m ≡ Some x → ⊥
+    by (moments.Message via b time) is right e = none_never x (sym (right refl) ∙ e)
+    by (moments.End via b) is right e =
+        let unit = seen_at (take i h) (moments.End via b) in
+        false≢true (sym (moment_fails (outstanding (take i h)) unit limit (moments.End via b) x e)
+        ∙ subst (λ v. end_holds (outstanding (take i h)) unit v b.items x ≡ true) (sym is.0)
+        (ends i unit b.items low refl is.1))
+    by m is right e = none_never x e
 
 abbrev pub Any : List ℕ → List ℕ → Type 0
 Any text message = Unit {0}
-
-pub outstanding_of_any : (Tie : List ℕ → List ℕ → Type 0) (limit : Option ℕ) (h : History) (aw : List (List ℕ))
-    (held : List Said) → Stated Tie h aw held → Keeps rules.Outstanding limit h
-outstanding_of_any Tie limit = keeps_rule Tie limit rules.Outstanding (outstanding_message limit)
-    (λ xs unit b tied. placed_breaks_none limit xs unit First b tied.place tied.at)
-
-pub keeps_outstanding : (limit : Option ℕ) (h : History) (aw : List (List ℕ)) (held : List Said)
-    → Stated Any h aw held → Keeps rules.Outstanding limit h
-keeps_outstanding = outstanding_of_any Any

@@ -1,15 +1,18 @@
--- Rows of the log, worked by hand: what goes out and is gone, and what it shows.
-use Rattle.std.proofs.Common.{◌≡◌, ◌∷◌, [], ℕ, true, false, List, None, Some, refl}
-use Rattle.std.specs.Prelude.{flat_map}
+-- Rows of the log, worked by hand: what goes out and is gone, and what it shows; and what may be told of a block.
+use Rattle.std.proofs.Common.{◌≡◌, ◌∷◌, [], ℕ, true, false, List, None, Some, refl, arith}
+use Rattle.std.specs.Prelude.{Ok, flat_map}
 use Rattle.mscp_drive.specs.declared.connection.Connection.TheVariants.{First}
+use Rattle.mscp_port.specs.declared.action.Outcome.TheVariants as outcomes
 use Rattle.mscp_port.specs.declared.port.Outgoing.{Outgoing}
 use Rattle.mscp_port.specs.declared.port.OutgoingKind.{OutgoingKind}
 use Rattle.mscp_port.specs.declared.port.OutgoingKind.TheVariants as kinds
 use Rattle.mscp_port.specs.declared.slot.Descriptor.{Descriptor}
 use Rattle.mscp_port.specs.declared.task.Task.TheVariants as tasks
 use Rattle.mscp_port.specs.Departures.{leaves}
+use Rattle.mscp_port.specs.Histories.{Went}
 use Rattle.mscp_wire.specs.declared.moment.Moment.TheVariants as moments
 use Rattle.mscp_logged.specs.Logged.{ends_in, is_foreign}
+use Rattle.mscp_logged.specs.Rules.{TellsFaults}
 
 -- the end of a FLUSH: number 7, unit 0, code 0x93, Success
 flush : List ℕ
@@ -39,3 +42,13 @@ text_for_the_utilities_is_foreign slot = refl
 
 text_for_the_disks_is_not : (slot : Descriptor) → is_foreign (tasks.Text slot 12 false) ≡ false
 text_for_the_disks_is_not slot = refl
+
+-- Data Error (8) is a status that a medium may have, and Success (0) is none
+data_error_is_told : TellsFaults (Went (outcomes.Failed 8) (Ok tt) ∷ [])
+data_error_is_told = ((omega arith, omega arith, omega arith), tt)
+
+success_of_a_failed_block_is_not : TellsFaults (Went (outcomes.Failed 0) (Ok tt) ∷ []) → ⊥
+success_of_a_failed_block_is_not h = omega (arith, h.0.1)
+
+done_is_told : TellsFaults (Went outcomes.Done (Ok tt) ∷ [])
+done_is_told = (tt, tt)

@@ -1,6 +1,6 @@
 -- What is known of a log: each end in it has a tie to the command that it answers.
-use Rattle.std.proofs.Common.{◌≡◌, ◌∙◌, ◌<◌, ◌++◌, ◌∷◌, [], ℕ, Bool, true, false, filter, length, map, not, take, List, Option, None, Some, refl, ap, sym, subst, arith}
-use Rattle.std.specs.Prelude.{flat_map, option_to_list, slice_index_or}
+use Rattle.std.proofs.Common.{◌≡◌, ◌∙◌, ◌+◌, ◌<◌, ◌++◌, ◌∷◌, [], ℕ, Bool, true, false, cond, drop, filter, length, map, nat_eq, not, take, List, Option, None, Some, refl, ap, sym, subst, arith}
+use Rattle.std.specs.Prelude.{◌%◌, flat_map, option_to_list, slice_index_or}
 use Rattle.std.proofs.lemmas.List.{append-nil, get_or_append_left, length-append, take-append-le}
 use Rattle.mscp_packet.specs.Number.{num}
 use Rattle.mscp_drive.specs.declared.connection.Connection.TheVariants.{First}
@@ -12,7 +12,12 @@ use Rattle.mscp_port.specs.Departures.{begins, leaves}
 use Rattle.mscp_ported.specs.Awaited.{has_number}
 use Rattle.mscp_ported.specs.Ends.{end_said}
 use Rattle.mscp_ported.specs.Told.{Said, said_in}
-use Rattle.mscp_wire.specs.Wire.{History, IsRight, answer_by, broken_message, command_at, controller, is_new, moment_at, outstanding, place_of, seen_of, sent_by, told, unless}
+use Rattle.mscp_ported.proofs.Behind.{aborts_behind}
+use Rattle.mscp_ported.proofs.Numbered.{some_none}
+use Rattle.mscp_port.proofs.Common.{eq-eqb, eqb-true}
+use Rattle.std.specs.List.{list_any}
+use Rattle.std.proofs.lemmas.List.Elements.{filter-append}
+use Rattle.mscp_wire.specs.Wire.{aborts, History, IsRight, answer_by, broken_message, command_at, controller, is_new, moment_at, outstanding, place_of, seen_of, sent_by, told, unless}
 use Rattle.mscp_wire.specs.declared.moment.Moment.{Moment}
 use Rattle.mscp_wire.specs.declared.moment.Moment.TheVariants as moments
 use Rattle.mscp_wire.specs.declared.rule.Rule.{Rule}
@@ -20,8 +25,9 @@ use Rattle.mscp_wire.specs.declared.rule.Rule.TheVariants as rules
 use Rattle.mscp_wire.specs.declared.sent.Sent.{Sent}
 use Rattle.mscp_logged.specs.Logged.{end_of, ends_in, message_of}
 use Rattle.mscp_logged.proofs.Left.{at_front, end_leaves}
+use Rattle.mscp_logged.proofs.Lined.{AreLate, AreLined, all_left, late_more, left_by, lined_behind, lined_left, lined_map, lined_more, without_held}
 use Rattle.mscp_logged.proofs.Seen.{begun_none}
-use Rattle.mscp_logged.proofs.Wired.{Wired, end_begins, front_of, message_answered, message_taken, named, none_any, outstanding_more, stem}
+use Rattle.mscp_logged.proofs.Wired.{AreOwed, Wired, end_begins, front_of, message_answered, message_taken, named, none_any, outstanding_more, stem}
 
 -- ---- each moment behind those before it
 
@@ -61,7 +67,12 @@ new_none xs t e = none_any (named (num t 0 4)) xs (isnt _ e)
     isnt true h = search (arith, h)
     isnt false h = refl
 
-module _ (Tie : List ℕ → List ℕ → Type 0) where
+none_left_by : (kind : OutgoingKind) (n : ℕ) (xs : List Sent) → (kind ≡ kinds.End → ⊥) → left_by kind n xs ≡ xs
+none_left_by kinds.Attention n xs never = refl
+none_left_by kinds.UtilitiesEnd n xs never = refl
+none_left_by kinds.End n xs never = absurd (never refl)
+
+module _ (Tie : List ℕ → List ℕ → Type 0) (G : Type 0) where
   -- an end answers the command of a message at a place, and has its tie to that
   pub record IsTied (xs : List Sent) (text : List ℕ) : Type 0 where
     pub place : ℕ
@@ -69,18 +80,21 @@ module _ (Tie : List ℕ → List ℕ → Type 0) where
     pub message : List ℕ
     pub command : stem (command_at xs place) ≡ sent_by First message
     pub tie : Tie text message
+    pub abort : G → num text 10 2 % 32 ≡ 2 → list_any (aborts (command_at xs place)) (drop (place + 1) xs) ≡ true
 
   abbrev pub IsSeen : History → Moment → Type 0
   IsSeen h (moments.Message via b time) = Unit {0}
   IsSeen h (moments.End via b) = (via ≡ First) × IsTied (outstanding h) b.items
-  IsSeen h moments.Reset = Unit {0}
+  IsSeen h m = Unit {0}
 
   pub record Stated (h : History) (aw : List (List ℕ)) (held : List Said) : Type 0 where
     pub each : (i : ℕ) → i < length h → IsSeen (take i h) (moment_at h i)
     pub wired : Wired Tie (outstanding h) aw held
+    pub lined : AreLined (without_held held (outstanding h)) aw
+    pub late : AreLate G (outstanding h) held
 
-  pub nothing_stated : (aw : List (List ℕ)) → Wired Tie [] aw [] → Stated [] aw []
-  nothing_stated aw w = record { each = λ i low. search (arith, low); wired = w }
+  pub nothing_stated : Wired Tie [] [] [] → Stated [] [] []
+  nothing_stated w = record { each = λ i low. search (arith, low); wired = w; lined = tt; late = tt }
 
   module _ (h : History) (aw : List (List ℕ)) where
     pub as_it_is : (h' : History) (aw' : List (List ℕ)) (held held' : List Said) → h' ≡ h → aw' ≡ aw → held' ≡ held
@@ -95,26 +109,92 @@ module _ (Tie : List ℕ → List ℕ → Type 0) where
       each = each_push moments.Reset IsSeen h (message_of t) s.each tt;
       wired = subst (λ xs. Wired Tie xs (aw ++ t ∷ []) held) (sym (outstanding_more h (message_of t)))
           (message_taken Tie (outstanding h) aw t _ refl (new_none (outstanding h) t new) held s.wired);
+      lined = subst (λ xs. AreLined (without_held held xs) (aw ++ t ∷ [])) (sym (outstanding_more h (message_of t)))
+          (by held s.wired.owed s.lined _ refl);
+      late = subst (λ xs. AreLate G xs held) (sym (outstanding_more h (message_of t)))
+          (late_more G (outstanding h) _ held s.late);
     }
+      where
+        xs : List Sent
+        xs = outstanding h
+
+        apart : (n : ℕ) (own : Sent) → filter (named n) xs ≡ own ∷ [] → (b : Bool) → nat_eq (num t 0 4) n ≡ b
+            → b ≡ false
+        apart n own sole true e = absurd (some_none own [] (sym sole
+            ∙ subst (λ k. filter (named k) xs ≡ []) (eqb-true (num t 0 4) n e) (new_none xs t new)))
+        apart n own sole false e = refl
+
+        beside : (kind : OutgoingKind) (n : ℕ) → (kind ≡ kinds.End → nat_eq (num t 0 4) n ≡ false) → (x : Sent)
+            → stem x ≡ sent_by First t → AreLined (left_by kind n xs) aw
+            → AreLined (left_by kind n (xs ++ x ∷ [])) (aw ++ t ∷ [])
+        beside kinds.Attention n other x is all = lined_more xs aw x t all is
+        beside kinds.UtilitiesEnd n other x is all = lined_more xs aw x t all is
+        beside kinds.End n other x is all = subst (λ zs. AreLined zs (aw ++ t ∷ []))
+            (sym (filter-append (λ y. not (named n y)) xs (x ∷ [])
+            ∙ ap (λ b. filter (λ y. not (named n y)) xs ++ cond (not b) (x ∷ []) []) (ap (named n) is ∙ other refl)))
+            (lined_more (filter (λ y. not (named n y)) xs) aw x t all is)
+
+        by : (held : List Said) → AreOwed Tie xs aw held → AreLined (without_held held xs) aw → (x : Sent)
+            → stem x ≡ sent_by First t → AreLined (without_held held (xs ++ x ∷ [])) (aw ++ t ∷ [])
+        by [] owed all x is = lined_more xs aw x t all is
+        by (o ∷ held) owed all x is = beside o.kind (num o.text 0 4) (λ kind. let own = owed.0 kind in
+            apart (num o.text 0 4) own.own own.sole (nat_eq (num t 0 4) (num o.text 0 4)) refl) x is all
 
     pub answers : (o : Said) (t : List ℕ) → Stated h aw [] → is_new (outstanding h) (sent_by First t) ≡ true
-        → num o.text 0 4 ≡ num t 0 4 → Tie o.text t → Stated (h ++ message_of t ∷ []) aw (o ∷ [])
-    answers o t s new same tie = record {
+        → num o.text 0 4 ≡ num t 0 4 → Tie o.text t → o.kind ≡ kinds.End → (G → num o.text 10 2 % 32 ≡ 2 → ⊥)
+        → Stated (h ++ message_of t ∷ []) aw (o ∷ [])
+    answers o t s new same tie kind never = record {
       each = each_push moments.Reset IsSeen h (message_of t) s.each tt;
       wired = subst (λ xs. Wired Tie xs aw (o ∷ [])) (sym (outstanding_more h (message_of t)))
           (message_answered Tie (outstanding h) aw t _ refl (new_none (outstanding h) t new) o s.wired same tie);
+      lined = subst (λ xs. AreLined (left_by o.kind (num o.text 0 4) xs) aw) (sym (outstanding_more h (message_of t)))
+          (here _ refl);
+      late = ((λ kind g aborted. absurd (never g aborted)), tt);
     }
+      where
+        xs : List Sent
+        xs = outstanding h
+
+        none : filter (named (num o.text 0 4)) xs ≡ []
+        none = subst (λ n. filter (named n) xs ≡ []) (sym same) (new_none xs t new)
+
+        by : (x : Sent) → stem x ≡ sent_by First t
+            → AreLined (filter (λ y. not (named (num o.text 0 4) y)) (xs ++ x ∷ [])) aw
+        by x is = subst (λ zs. AreLined zs aw) (sym (filter-append (λ y. not (named (num o.text 0 4) y)) xs (x ∷ [])
+            ∙ ap (λ zs. zs ++ filter (λ y. not (named (num o.text 0 4) y)) (x ∷ []))
+            (all_left (named (num o.text 0 4)) xs none)
+            ∙ ap (λ b. xs ++ cond (not b) (x ∷ []) []) (ap (named (num o.text 0 4)) is
+            ∙ eq-eqb (num t 0 4) (num o.text 0 4) (sym same)) ∙ append-nil xs)) s.lined
+
+        here : (x : Sent) → stem x ≡ sent_by First t
+            → AreLined (left_by o.kind (num o.text 0 4) (outstanding h ++ x ∷ [])) aw
+        here x is =
+            subst (λ k. AreLined (left_by k (num o.text 0 4) (outstanding h ++ x ∷ [])) aw) (sym kind) (by x is)
 
     -- something begins to go out
     pub begins_end : (o : Said) (m : List ℕ) → Stated h aw [] → filter (has_number (num o.text 0 4)) aw ≡ m ∷ []
-        → Tie o.text m → Stated h (filter (λ t. not (has_number (num o.text 0 4) t)) aw) (o ∷ [])
-    begins_end o m s only tie =
-        record { each = s.each; wired = end_begins Tie (outstanding h) aw o m s.wired only tie }
+        → Tie o.text m → o.kind ≡ kinds.End
+        → (G → num o.text 10 2 % 32 ≡ 2 → (k : ℕ) × (aborts_behind (num o.text 0 4) k aw ≡ true))
+        → Stated h (filter (λ t. not (has_number (num o.text 0 4) t)) aw) (o ∷ [])
+    begins_end o m s only tie kind late = record {
+      each = s.each;
+      wired = end_begins Tie (outstanding h) aw o m s.wired only tie;
+      lined = subst (λ k. AreLined (left_by k (num o.text 0 4) (outstanding h))
+          (filter (λ t. not (has_number (num o.text 0 4) t)) aw)) (sym kind)
+          (lined_left (num o.text 0 4) (outstanding h) aw s.lined);
+      late = (
+        (λ kind g aborted. let z = late g aborted in
+            (z.0, lined_behind (num o.text 0 4) z.0 (outstanding h) aw s.lined z.1)),
+        tt,
+      );
+    }
 
     pub begins_other : (o : Said) → Stated h aw [] → (o.kind ≡ kinds.End → ⊥) → Stated h aw (o ∷ [])
     begins_other o s never = record {
       each = s.each;
       wired = record { each = s.wired.each; owed = ((λ kind. absurd (never kind)), tt) };
+      lined = subst (λ xs. AreLined xs aw) (sym (none_left_by o.kind (num o.text 0 4) (outstanding h) never)) s.lined;
+      late = ((λ kind. absurd (never kind)), tt);
     }
 
     -- an end leaves
@@ -125,14 +205,31 @@ module _ (Tie : List ℕ → List ℕ → Type 0) where
         record {
           each = each_push moments.Reset IsSeen h (end_of o.text) s.each (
             refl,
-            record { place = x.place; at = x.at; message = owed.message; command = x.command; tie = owed.tie },
+            record {
+              place = x.place;
+              at = x.at;
+              message = owed.message;
+              command = x.command;
+              tie = owed.tie;
+              abort = λ g aborted. let z = s.late.0 kind g aborted in x.aborted z.0 z.1;
+            },
           );
           wired = subst (λ xs. Wired Tie xs aw []) (sym (outstanding_more h (end_of o.text)
               ∙ ap (Rattle.mscp_wire.specs.Wire.after_end (outstanding h) (answer_by First o.text)) x.at)) x.left;
+          lined = subst (λ xs. AreLined xs aw) (sym (outstanding_more h (end_of o.text)
+              ∙ ap (Rattle.mscp_wire.specs.Wire.after_end (outstanding h) (answer_by First o.text)) x.at ∙ x.after))
+              (lined_map _ (λ y. refl) x.others aw (subst (λ zs. AreLined zs aw) x.without
+              (subst (λ k. AreLined (left_by k (num o.text 0 4) (outstanding h)) aw) kind s.lined)));
+          late = tt;
         }
 
-    pub leaves_other : (o : Said) → Stated h aw (o ∷ []) → Stated h aw []
-    leaves_other o s = record { each = s.each; wired = record { each = s.wired.each; owed = tt } }
+    pub leaves_other : (o : Said) → Stated h aw (o ∷ []) → (o.kind ≡ kinds.End → ⊥) → Stated h aw []
+    leaves_other o s never = record {
+      each = s.each;
+      wired = record { each = s.wired.each; owed = tt };
+      lined = subst (λ xs. AreLined xs aw) (none_left_by o.kind (num o.text 0 4) (outstanding h) never) s.lined;
+      late = tt;
+    }
 
     -- what goes out stays so, or leaves
     pub left : (old new : Option Outgoing) → Stated h aw (map said_in (option_to_list old)) → begins old new ≡ []
@@ -148,9 +245,9 @@ module _ (Tie : List ℕ → List ℕ → Type 0) where
         by : (k : OutgoingKind) → o.kind ≡ k → Stated (h ++ (map end_of (end_said o.kind o.bytes.items) ++ [])) aw []
         by kinds.Attention e = as_it_is (h ++ (map end_of (end_said o.kind o.bytes.items) ++ [])) aw [] []
             (ap (λ k. h ++ (map end_of (end_said k o.bytes.items) ++ [])) e ∙ append-nil h) refl refl
-            (leaves_other (said_in o) s)
+            (leaves_other (said_in o) s (λ k. search (arith, sym e ∙ k)))
         by kinds.UtilitiesEnd e = as_it_is (h ++ (map end_of (end_said o.kind o.bytes.items) ++ [])) aw [] []
             (ap (λ k. h ++ (map end_of (end_said k o.bytes.items) ++ [])) e ∙ append-nil h) refl refl
-            (leaves_other (said_in o) s)
+            (leaves_other (said_in o) s (λ k. search (arith, sym e ∙ k)))
         by kinds.End e = subst (λ k. Stated (h ++ (map end_of (end_said k o.bytes.items) ++ [])) aw []) (sym e)
             (leaves_end (said_in o) s e)

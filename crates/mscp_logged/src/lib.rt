@@ -4,7 +4,5 @@
 mod law;
 
 pub use crate::law::{
-    ports_answer_what_is_outstanding, ports_keep_nine_rules, ports_name_the_other_command,
-    ports_name_the_unit, ports_send_long_ends, ports_send_right_endcodes,
-    ports_serve_aborts_and_polls,
+    ports_answer_what_is_outstanding, ports_keep_thirteen_rules, ports_send_long_ends,
 };

@@ -1,9 +1,11 @@
 -- What is kept of each command that waits for a host is what its message said, and there is room for it.
-use Rattle.std.proofs.Common.{◌≡◌, ◌∙◌, ◌+◌, ◌<◌, ◌≤◌, ◌++◌, ◌∷◌, [], ℕ, zero, suc, Bool, true, false, cond, filter, length, nat_eq, not, List, Option, None, Some, inl, inr, refl, ap, sym, subst, arith}
+use Rattle.std.proofs.Common.{◌≡◌, ◌∙◌, ◌+◌, ◌<◌, ◌≤◌, ◌++◌, ◌∷◌, [], ℕ, zero, suc, Bool, true, false, cond, filter, length, nat_eq, nat_lt, not, List, Option, None, Some, inl, inr, refl, ap, sym, subst, arith}
 use Rattle.std.specs.Prelude.{find, option_map, slice_index}
 use Rattle.std.proofs.lemmas.Option.{none-some}
 use Rattle.mscp_packet.specs.Number.{num}
 use Rattle.mscp_packet.specs.declared.command.Command.{Command}
+use Rattle.mscp_packet.specs.declared.command.Order.{Order}
+use Rattle.mscp_packet.specs.declared.command.Order.TheVariants as orders
 use Rattle.mscp_packet.specs.declared.end.End.{End}
 use Rattle.mscp_packet.specs.Ends.{refused_body}
 use Rattle.mscp_drive.specs.declared.block.Block.{Block}
@@ -14,9 +16,9 @@ use Rattle.mscp_queue.specs.Names.{name_on}
 use Rattle.mscp_queue.specs.Orders.{endcode}
 use Rattle.mscp_queue.specs.Records.{Record, advanced, record_at, without}
 use Rattle.mscp_queue.specs.Serving.{end_given, waiting_after}
-use Rattle.mscp_controller.specs.Holdings.{waiting_on}
+use Rattle.mscp_controller.specs.Holdings.{reference_aborted, unaborted, waiting_on}
 use Rattle.mscp_port.specs.declared.buffers.Buffer.{Buffer}
-use Rattle.mscp_port.specs.Buffers.{is_of, without as without_kept, without_aborted}
+use Rattle.mscp_port.specs.Buffers.{buffer_in, is_of, without as without_kept, without_aborted}
 use Rattle.mscp_port.specs.Formalities.{is_formality}
 use Rattle.mscp_port.specs.Moved.{kept_after}
 use Rattle.mscp_port.proofs.Common.{eq-eqb, eqb-true, false≢true}
@@ -28,6 +30,7 @@ use Rattle.mscp_ported.proofs.Codes.{about_in}
 use Rattle.mscp_ported.proofs.Keeping.{end_number}
 use Rattle.mscp_ported.proofs.Numbered.{At, AtEach, none_beside, none_of_it, none_stays, other_number, some_none}
 use Rattle.mscp_ported.proofs.Numbering.{ended_none, not_numbered, served_waits, still_none}
+use Rattle.mscp_ported.proofs.Origins.{IsLeft, IsOf, left_advanced, left_alike, of_left}
 use Rattle.mscp_ported.proofs.Owning.{apart_numbers, number_of}
 use Rattle.mscp_ported.proofs.Sole.{found_sole, one_of, served_goes_on, served_itself, served_other, sole_comes, sole_left}
 
@@ -38,6 +41,7 @@ pub record FitsBuffer (r : Record) (b : Buffer) (t : List ℕ) : Type 0 where
   pub code : is_formality (slice_index t 8) ≡ false → IsCodeFor (endcode r.command.order) t
   -- and it is about no other command
   pub no_about : (other : ℕ) → about_in (refused_body (endcode r.command.order)) ≡ Some other → ⊥
+  pub of : IsOf r t
 
 -- of the command of a number, if one waits
 pub record IsKept (aw : List (List ℕ)) (rs : List Record) (bs : List Buffer) (n : ℕ) : Type 0 where
@@ -56,13 +60,14 @@ kept_as aw aw' rs rs' bs bs' n texts records buffers k = record {
   own = λ r t e f. let x = k.own r t (sym records ∙ e) (sym texts ∙ f) in (x.0, buffers ∙ x.1, x.2);
 }
 
-fits_alike : (r s : Record) (b : Buffer) (t : List ℕ) → s.command ≡ r.command → FitsBuffer r b t → FitsBuffer s b t
-fits_alike r s b t same f = record {
+fits_left : (r s : Record) (b : Buffer) (t : List ℕ) → IsLeft r s → FitsBuffer r b t → FitsBuffer s b t
+fits_left r s b t left f = record {
   opcode = f.opcode;
-  unit = subst (λ (c : Command). IsUnitIn c.unit t) (sym same) f.unit;
-  code = λ plain. subst (λ (c : Command). IsCodeFor (endcode c.order) t) (sym same) (f.code plain);
+  unit = subst (λ (c : Command). IsUnitIn c.unit t) (sym left.command) f.unit;
+  code = λ plain. subst (λ (c : Command). IsCodeFor (endcode c.order) t) (sym left.command) (f.code plain);
   no_about = λ other is.
-      f.no_about other (ap (λ (c : Command). about_in (refused_body (endcode c.order))) (sym same) ∙ is);
+      f.no_about other (ap (λ (c : Command). about_in (refused_body (endcode c.order))) (sym left.command) ∙ is);
+  of = of_left r s t left f.of;
 }
 
 -- where no command of the number waits, none is kept
@@ -118,9 +123,8 @@ module _ (k : Block) (d : Drive) (aw : List (List ℕ)) (rs : List Record) (es :
                 let x = (kept n).own w.own t w.sole f in (
                   x.0,
                   left ∙ x.1,
-                  fits_alike w.own r x.0 t
-                      (ap (λ (y : Record). y.command) (one_of n (waiting_after k d rs place) r s.0 e s.1)
-                      ∙ s.2.command) x.2,
+                  fits_left w.own r x.0 t (subst (λ y. IsLeft w.own y)
+                      (sym (one_of n (waiting_after k d rs place) r s.0 e s.1)) (left_alike w.own s.0 s.2)) x.2,
                 );
           }
 
@@ -142,9 +146,10 @@ module _ (k : Block) (d : Drive) (aw : List (List ℕ)) (rs : List Record) (es :
                 let x = (kept n).own w.own t w.sole f in (
                   x.0,
                   x.1,
-                  fits_alike w.own r x.0 t
-                      (ap (λ (y : Record). y.command) (one_of n (waiting_after k d rs place) r (advanced r0) e goes)
-                      ∙ ap (λ (y : Record). y.command) (served_itself n k d rs place inside w.own w.sole is)) x.2,
+                  fits_left w.own r x.0 t (subst (λ y. IsLeft w.own y)
+                      (sym (one_of n (waiting_after k d rs place) r (advanced r0) e goes))
+                      (subst (λ y. IsLeft y (advanced r0)) (served_itself n k d rs place inside w.own w.sole is)
+                      (left_advanced r0))) x.2,
                 );
           }
       by (Some e) given = nothing_kept aw (waiting_after k d rs place) (kept_after r0.connection (Some e) bs) n
@@ -203,6 +208,15 @@ abort_kept aw rs es bs m at kept n = by (nat_eq m n) refl (find (is_numbered m) 
 
 -- ---- messages
 
+-- what is kept has the number and the opcode of its message
+pub number_kept : (b : List ℕ) (changes : ℕ) → 12 ≤ length b → (buffer_in b changes).reference ≡ num b 0 4
+number_kept b changes long = ap (λ t. cond t 0 (num b 0 4)) {x = nat_lt (length b) 4} {y = false}
+    (search (arith, long))
+
+pub opcode_kept : (b : List ℕ) (changes : ℕ) → 12 ≤ length b → (buffer_in b changes).opcode ≡ slice_index b 8
+opcode_kept b changes long = ap (λ t. cond t 0 (slice_index b 8)) {x = nat_lt (length b) 9} {y = false}
+    (search (arith, long))
+
 -- one whose command waits
 pub queued_kept : (aw : List (List ℕ)) (rs : List Record) (bs : List Buffer) (t : List ℕ) (r : Record) (b : Buffer)
     → filter (has_number (num t 0 4)) aw ≡ [] → filter (is_numbered (num t 0 4)) rs ≡ []
@@ -253,6 +267,15 @@ answered_kept aw rs bs t none kept n = by (nat_eq (num t 0 4) n) refl
         subst (λ m. filter (is_numbered m) rs ≡ []) (eqb-true (num t 0 4) n d) none in
         nothing_kept (aw ++ t ∷ []) rs bs n here ((kept n).none here)
     by false d = kept_as aw (aw ++ t ∷ []) rs rs bs bs n (none_beside (has_number n) aw t d) refl refl (kept n)
+
+-- and may abort another
+pub answer_kept : (aw : List (List ℕ)) (rs : List Record) (es : List End) (bs : List Buffer) (t : List ℕ)
+    (order : Order) → filter (is_numbered (num t 0 4)) rs ≡ [] → AtEach aw rs es → IsKeptEach aw rs bs
+    → IsKeptEach (aw ++ t ∷ []) (unaborted First rs order) (without_aborted (reference_aborted First rs order) bs)
+answer_kept aw rs es bs t (orders.Abort m) none at kept = answered_kept aw (without (name_on First m) rs)
+    (without_aborted (option_map (λ r. r.command.reference) (find (is_numbered m) rs)) bs) t
+    (none_stays (is_numbered (num t 0 4)) (λ r. not (is_numbered m r)) rs none) (abort_kept aw rs es bs m at kept)
+answer_kept aw rs es bs t order none at kept = answered_kept aw rs bs t none kept
 
 -- the end of one is taken
 pub taken_kept : (aw : List (List ℕ)) (rs : List Record) (bs : List Buffer) (m : ℕ) → IsKeptEach aw rs bs

@@ -10,9 +10,11 @@ use Rattle.mscp_drive.specs.declared.connection.Connection.TheVariants.{First}
 use Rattle.mscp_packet.specs.Number.{num}
 use Rattle.mscp_port.specs.Buffers.{is_of}
 use Rattle.mscp_port.specs.Calls.{IsMadeOf}
-use Rattle.mscp_port.specs.Histories.{Answered, Call, LookAgain, Next, Picking, Protect, PutAside, ReadIp, Tick, VolumeCame, VolumeWent, WasRead, Went, WriteIp, WriteSa}
+use Rattle.mscp_port.specs.Histories.{Answered, Call, Next, Picking, WasRead, Went, WriteIp}
 use Rattle.mscp_port.specs.declared.hardware.Hardware.{Hardware}
+use Rattle.mscp_port.specs.declared.action.Outcome.{Outcome}
 use Rattle.mscp_port.specs.declared.port.Port.{Port}
+use Rattle.mscp_port.specs.declared.verdict.Verdict.{Verdict}
 use Rattle.mscp_ported.proofs.Awaiting.{IsNoReset, Kept}
 use Rattle.mscp_ported.proofs.Coming.{ends_of, few_ends}
 use Rattle.mscp_ported.proofs.Dealing.{passive_taken}
@@ -21,24 +23,37 @@ use Rattle.mscp_ported.proofs.Ended.{kept, no_ends, nothing_two, shaped}
 use Rattle.mscp_ported.proofs.Ending.{zipped}
 use Rattle.mscp_ported.proofs.Fitted.{Fitting, nothing_fits, stays}
 use Rattle.mscp_ported.proofs.Fitting.{FitsIn}
+use Rattle.mscp_ported.proofs.Followed.{AreFollowed}
 use Rattle.mscp_ported.proofs.Heeding.{read_fits}
-use Rattle.mscp_ported.specs.Fitting.{Fits}
 use Rattle.mscp_ported.proofs.Numbered.{some_none}
-use Rattle.mscp_ported.proofs.Opcodes.{next_fits, said_fits, went_fits}
+use Rattle.mscp_ported.proofs.Opcodes.{IsSaid, next_fits, said_is, went_fits}
 use Rattle.mscp_ported.proofs.Promised.{knows}
 use Rattle.mscp_ported.proofs.Staying.{IsPassive, passive_stays}
+use Rattle.mscp_ported.proofs.Transferring.{IsHow}
 use Rattle.mscp_ported.specs.Awaited.{ReadsBytes, awaited, has_number}
 use Rattle.mscp_ported.specs.Ends.{ends_said_by}
-use Rattle.std.proofs.Common.{ℕ, All, List, [], ap, arith, filter, length, refl, subst, sym, ◌<◌, ◌∙◌, ◌∷◌, ◌≡◌}
+use Rattle.std.proofs.Common.{ℕ, All, List, Some, [], ap, arith, filter, length, refl, subst, sym, ◌<◌, ◌∙◌, ◌∷◌, ◌≡◌}
+use Rattle.mscp_queue.specs.Records.{Record, has_name}
+use Rattle.mscp_queue.specs.declared.name.Name.{Name}
 use Rattle.std.specs.List.{AllByRecursion}
-use Rattle.std.specs.Prelude.{Err, Ok}
+use Rattle.std.specs.Prelude.{Ok, find}
+
+reads_before : (call : Call) (calls : List Call) → ReadsBytes (call ∷ calls) → ReadsBytes calls
+reads_before (WasRead bytes result) calls reads = reads.1
+reads_before call calls reads = reads
 
 module _ {K : Type 0} (picks : Picking K) (c : Settings) (picker : K)
     (keeps : ControllersKeepThePromise (picks picker) picker) (valid : IsValid c)
     (sizes : All (λ unit. 0 < unit.size) c.units) (before : List Made)
     (hardware : Hardware) (credits : ℕ) (controller : Holdings K) (start : Port K)
     (was : AnsweredCalls (picks picker) (fresh c picker) before controller)
-    (made : IsMadeOf hardware credits controller start) (quiet : outstanding_of First controller ≡ []) where
+    (made : IsMadeOf hardware credits controller start) (quiet : outstanding_of First controller ≡ [])
+    (Told : Verdict → Record → Type 0) (Fine : List Call → Type 0)
+    (fine_before : (call : Call) (calls : List Call) → Fine (call ∷ calls) → Fine calls)
+    (told : (p : Port K) (outcome : Outcome) (done : Unit) (calls : List Call) → Fine (Went outcome (Ok done) ∷ calls)
+    → (a : Answered picks start (Went outcome (Ok done) ∷ calls) p) → (verdict : Verdict)
+    → IsHow a.0 outcome verdict → (name : Name) → a.0.controller.begun ≡ Some name → (r : Record)
+    → find (has_name name) a.0.controller.waiting ≡ Some r → Told verdict r) where
   promised : (p : Port K) (calls : List Call) (a : Answered picks start calls p)
       → (ms : List Made) × KeepsPromise (picks picker) c ms p.controller
   promised p calls a =
@@ -50,8 +65,8 @@ module _ {K : Type 0} (picks : Picking K) (c : Settings) (picker : K)
   numbers_kept = kept picks c picker keeps valid before hardware credits controller start was made quiet
 
   passive_fits : (p : Port K) (call : Call) (calls : List Call) (a : Answered picks start (call ∷ calls) p)
-      → IsPassive call → Fitting a.0 (awaited picks start a.0 calls a.1)
-      → Fitting p (awaited picks start p (call ∷ calls) a)
+      → IsPassive call → Fitting c Told a.0 (awaited picks start a.0 calls a.1)
+      → Fitting c Told p (awaited picks start p (call ∷ calls) a)
   passive_fits p call calls a is f = stays call a.0 p (awaited picks start a.0 calls a.1) f (calm call is)
       (passive_said call a.0 p is) (passive_taken call a.0 is) (passive_stays picks call a.0 p a.2 is)
       (passive_buffers picks call a.0 p a.2 is)
@@ -60,9 +75,9 @@ module _ {K : Type 0} (picks : Picking K) (c : Settings) (picker : K)
       calm WriteIp is = absurd is
       calm call is = record { texts = λ s xs ys. refl }
 
-  pub fitting : (p : Port K) (calls : List Call) → ReadsBytes calls → (a : Answered picks start calls p)
-      → Fitting p (awaited picks start p calls a)
-  fitting p [] reads a =
+  pub fitting : (p : Port K) (calls : List Call) → ReadsBytes calls → Fine calls → (a : Answered picks start calls p)
+      → Fitting c Told p (awaited picks start p calls a)
+  fitting p [] reads fine a =
       let same : p.controller ≡ controller = ap (λ (q : Port K). q.controller) a ∙ made.over in
       let k = numbers_kept p [] reads a in
       let no_end : ends_of p.controller ≡ [] = ap (λ h. ends_of h) same ∙ no_ends (of First controller.untaken)
@@ -76,45 +91,40 @@ module _ {K : Type 0} (picks : Picking K) (c : Settings) (picker : K)
           none = λ e. ap (filter (is_of First n)) no_buffer;
           own = λ r t e f. absurd (some_none t [] (sym f));
         };
-        fits = subst (λ es. AllByRecursion (FitsIn []) (zipped es p.decided.items)) (sym no_end) tt;
+        fits = subst (λ es. AllByRecursion (FitsIn c Told []) (zipped es p.decided.items)) (sym no_end) tt;
+        followed = subst (λ es. AreFollowed Told [] es) (sym no_end) tt;
       }
-  fitting p (WriteIp ∷ calls) reads a =
-      nothing_fits p [] (ap (λ (h : Holdings K). h.waiting) a.2.controller) (ap (λ h. ends_of h) a.2.controller)
-      a.2.decided a.2.buffers
-  fitting p (Next blocks action bytes ∷ calls) reads a =
-      next_fits blocks action bytes a.0 p (awaited picks start a.0 calls a.1) (numbers_kept a.0 calls reads a.1)
-      (fitting a.0 calls reads a.1) (picks a.0.controller.picker) a.2.0
-  fitting p (WasRead bytes (Ok done) ∷ calls) reads a =
-      read_fits bytes done a.0 p (awaited picks start a.0 calls a.1) (numbers_kept a.0 calls reads.1 a.1)
-      (fitting a.0 calls reads.1 a.1) a.2 reads.0 c valid sizes (promised a.0 calls a.1).1.settings
-      (λ n. small_figure (picks picker) c (promised a.0 calls a.1).0 a.0.controller (promised a.0 calls a.1).1 n valid)
-  fitting p (WasRead bytes (Err unasked) ∷ calls) reads a =
-      passive_fits p (WasRead bytes (Err unasked)) calls a tt (fitting a.0 calls reads.1 a.1)
-  fitting p (Went outcome (Ok done) ∷ calls) reads a =
-      let m = promised p (Went outcome (Ok done) ∷ calls) a in
-      went_fits (picks a.0.controller.picker) outcome done a.0 p (awaited picks start a.0 calls a.1)
-      (numbers_kept a.0 calls reads a.1) (fitting a.0 calls reads a.1) a.2
-      (few_ends (picks picker) c m.0 p.controller valid m.1)
-  fitting p (Went outcome (Err unasked) ∷ calls) reads a =
-      passive_fits p (Went outcome (Err unasked)) calls a tt (fitting a.0 calls reads a.1)
-  fitting p (ReadIp ∷ calls) reads a = passive_fits p ReadIp calls a tt (fitting a.0 calls reads a.1)
-  fitting p (WriteSa word ∷ calls) reads a = passive_fits p (WriteSa word) calls a tt (fitting a.0 calls reads a.1)
-  fitting p (PutAside ∷ calls) reads a = passive_fits p PutAside calls a tt (fitting a.0 calls reads a.1)
-  fitting p (LookAgain ∷ calls) reads a = passive_fits p LookAgain calls a tt (fitting a.0 calls reads a.1)
-  fitting p (Tick ∷ calls) reads a = passive_fits p Tick calls a tt (fitting a.0 calls reads a.1)
-  fitting p (VolumeCame m unit result ∷ calls) reads a =
-      passive_fits p (VolumeCame m unit result) calls a tt (fitting a.0 calls reads a.1)
-  fitting p (VolumeWent unit result ∷ calls) reads a =
-      passive_fits p (VolumeWent unit result) calls a tt (fitting a.0 calls reads a.1)
-  fitting p (Protect protected unit result ∷ calls) reads a =
-      passive_fits p (Protect protected unit result) calls a tt (fitting a.0 calls reads a.1)
+  fitting p (call ∷ calls) reads fine a = by call a reads fine
+      (fitting a.0 calls (reads_before call calls reads) (fine_before call calls fine) a.1)
+    where
+      by : (call : Call) (a : Answered picks start (call ∷ calls) p) → ReadsBytes (call ∷ calls) → Fine (call ∷ calls)
+          → Fitting c Told a.0 (awaited picks start a.0 calls a.1)
+          → Fitting c Told p (awaited picks start p (call ∷ calls) a)
+      by WriteIp a reads fine f =
+          nothing_fits p [] (ap (λ (h : Holdings K). h.waiting) a.2.controller) (ap (λ h. ends_of h) a.2.controller)
+          a.2.decided a.2.buffers
+      by (Next blocks action bytes) a reads fine f =
+          next_fits blocks action bytes a.0 p (awaited picks start a.0 calls a.1) (numbers_kept a.0 calls reads a.1) f
+          (picks a.0.controller.picker) a.2.0
+      by (WasRead bytes (Ok done)) a reads fine f =
+          let m = promised a.0 calls a.1 in
+          read_fits bytes done a.0 p (awaited picks start a.0 calls a.1) (numbers_kept a.0 calls reads.1 a.1) f a.2
+          reads.0 valid sizes m.1.settings (λ n. small_figure (picks picker) c m.0 a.0.controller m.1 n valid)
+      by (Went outcome (Ok done)) a reads fine f =
+          let m = promised p (Went outcome (Ok done) ∷ calls) a in
+          went_fits (picks a.0.controller.picker) outcome done a.0 p (awaited picks start a.0 calls a.1)
+          (numbers_kept a.0 calls reads a.1) f a.2 (few_ends (picks picker) c m.0 p.controller valid m.1)
+          (told p outcome done calls fine a)
+      by call a reads fine f = passive_fits p call calls a tt f
 
-  pub ends_fit : (p : Port K) (call : Call) (calls : List Call) (text message : List ℕ) → ReadsBytes (call ∷ calls)
-      → (a : Answered picks start (call ∷ calls) p) → ends_said_by call a.0 p ≡ text ∷ []
-      → filter (has_number (num text 0 4)) (awaited picks start a.0 calls a.1) ≡ message ∷ [] → Fits text message
-  ends_fit p (Next blocks action bytes) calls text message reads a said only =
-      said_fits blocks action bytes a.0 p (awaited picks start a.0 calls a.1) (numbers_kept a.0 calls reads a.1)
-      (fitting a.0 calls reads a.1) (picks a.0.controller.picker) a.2.0
+  pub ends_said : (p : Port K) (call : Call) (calls : List Call) (text message : List ℕ) → ReadsBytes (call ∷ calls)
+      → Fine (call ∷ calls) → (a : Answered picks start (call ∷ calls) p) → ends_said_by call a.0 p ≡ text ∷ []
+      → filter (has_number (num text 0 4)) (awaited picks start a.0 calls a.1) ≡ message ∷ []
+      → IsSaid c Told a.0 (awaited picks start a.0 calls a.1) text message
+  ends_said p (Next blocks action bytes) calls text message reads fine a said only =
+      said_is blocks action bytes a.0 p (awaited picks start a.0 calls a.1) (numbers_kept a.0 calls reads a.1)
+      (fitting a.0 calls reads (fine_before (Next blocks action bytes) calls fine) a.1)
+      (picks a.0.controller.picker) a.2.0
       (shaped picks c picker keeps valid before hardware credits controller start was made quiet a.0 calls a.1)
       text message said only
-  ends_fit p call calls text message reads a said only = absurd (search (arith, said))
+  ends_said p call calls text message reads fine a said only = absurd (search (arith, said))

@@ -1,8 +1,10 @@
 -- Each end that waits fits the message whose end it is, after each call of a port.
+use Rattle.mscp_port.specs.declared.verdict.Verdict.{Verdict}
 use Rattle.std.proofs.Common.{◌≡◌, ◌⊎◌, ◌∙◌, ◌++◌, ◌∷◌, [], ℕ, Bool, true, false, cond, filter, length, map, List, inl, inr, refl, ap, sym, subst, arith}
 use Rattle.std.specs.List.{AllByRecursion}
 use Rattle.std.proofs.lemmas.List.{append-nil, length-append}
 use Rattle.mscp_controller.specs.Holdings.{Holdings}
+use Rattle.mscp_drive.specs.Settings.{Settings}
 use Rattle.mscp_drive.specs.declared.connection.Connection.TheVariants.{First}
 use Rattle.mscp_packet.specs.declared.end.End.{End}
 use Rattle.mscp_port.proofs.Kept.{is_numbered}
@@ -17,6 +19,7 @@ use Rattle.mscp_ported.proofs.Buffered.{IsKeptEach}
 use Rattle.mscp_ported.proofs.Coming.{ends_of}
 use Rattle.mscp_ported.proofs.Ending.{Grows, left_with, zip_map, zip_more, zipped}
 use Rattle.mscp_ported.proofs.Fitting.{FitsIn}
+use Rattle.mscp_ported.proofs.Followed.{AreFollowed, followed_forgotten}
 use Rattle.mscp_ported.proofs.Numbered.{some_none}
 use Rattle.mscp_ported.proofs.Staying.{Stays}
 use Rattle.mscp_ported.specs.Awaited.{taken_by, without_ends}
@@ -28,50 +31,58 @@ use Rattle.std.proofs.lemmas.List.{length-map}
 
 -- ---- what is kept
 
-pub record Fitting {K : Type 0} (p : Port K) (aw : List (List ℕ)) : Type 0 where
+pub record Fitting (c : Settings) (Told : Verdict → Record → Type 0) {K : Type 0} (p : Port K)
+    (aw : List (List ℕ)) : Type 0 where
   pub long : length (ends_of p.controller) ≡ length p.decided.items
   pub kept : IsKeptEach aw p.controller.waiting p.buffers.items
-  pub fits : AllByRecursion (FitsIn aw) (zipped (ends_of p.controller) p.decided.items)
+  pub fits : AllByRecursion (FitsIn c Told aw) (zipped (ends_of p.controller) p.decided.items)
+  pub followed : AreFollowed Told aw (ends_of p.controller)
 
 -- all was forgotten
-pub nothing_fits : {K : Type 0} (p : Port K) (aw : List (List ℕ)) → p.controller.waiting ≡ []
-    → ends_of p.controller ≡ [] → p.decided.items ≡ [] → p.buffers.items ≡ [] → Fitting p aw
-nothing_fits p aw none no_end nothing no_buffer = record {
+pub nothing_fits : {c : Settings} {Told : Verdict → Record → Type 0} {K : Type 0} (p : Port K) (aw : List (List ℕ))
+    → p.controller.waiting ≡ []
+    → ends_of p.controller ≡ [] → p.decided.items ≡ [] → p.buffers.items ≡ [] → Fitting c Told p aw
+nothing_fits {c} {Told} p aw none no_end nothing no_buffer = record {
   long = ap length no_end ∙ sym (ap length nothing);
   kept = λ n. record {
     none = λ e. ap (filter (is_of First n)) no_buffer;
     own = λ r t e f. absurd (some_none r [] (sym e ∙ ap (filter (is_numbered n)) none));
   };
-  fits = subst (λ es. AllByRecursion (FitsIn aw) (zipped es p.decided.items)) (sym no_end) tt;
+  fits = subst (λ es. AllByRecursion (FitsIn c Told aw) (zipped es p.decided.items)) (sym no_end) tt;
+  followed = subst (λ es. AreFollowed Told aw es) (sym no_end) tt;
 }
 
 -- no message is awaited any more
 forget_each : (aw : List (List ℕ)) (rs : List Record) (bs : List Buffer) → IsKeptEach aw rs bs → IsKeptEach [] rs bs
 forget_each aw rs bs kept n = record { none = (kept n).none; own = λ r t e f. absurd (search (arith, f)) }
 
-forget_ends : (ls : List Leaving) → AllByRecursion (FitsIn []) ls
-forget_ends [] = tt
-forget_ends (l ∷ ls) = ((λ t e. absurd (search (arith, e))), forget_ends ls)
+forget_ends : (c : Settings) (Told : Verdict → Record → Type 0) (ls : List Leaving) → AllByRecursion
+    (FitsIn c Told []) ls
+forget_ends c Told [] = tt
+forget_ends c Told (l ∷ ls) = ((λ t e. absurd (search (arith, e))), forget_ends c Told ls)
 
-module _ {K : Type 0} (call : Call) (old new : Port K) (aw : List (List ℕ)) (k : Fitting old aw)
+module _ {c : Settings} {Told : Verdict → Record → Type 0} {K : Type 0} (call : Call) (old new : Port K)
+    (aw : List (List ℕ)) (k : Fitting c Told old aw)
     (calm : IsNoReset call) where
   abbrev So : Type 0
-  So = Fitting new (since new.stage call (without_ends (ends_said_by call old new) aw) (taken_by call old))
+  So = Fitting c Told new (since new.stage call (without_ends (ends_said_by call old new) aw) (taken_by call old))
 
   pub became : (xs : List (List ℕ)) → without_ends (ends_said_by call old new) aw ++ taken_by call old ≡ xs
-      → Fitting new xs → So
-  became xs e x = subst (λ z. Fitting new z) (sym (calm.texts new.stage _ _)) (by (is_dead new.stage))
+      → Fitting c Told new xs → So
+  became xs e x = subst (λ z. Fitting c Told new z) (sym (calm.texts new.stage _ _)) (by (is_dead new.stage))
     where
-      by : (b : Bool) → Fitting new (cond b [] (without_ends (ends_said_by call old new) aw ++ taken_by call old))
+      by : (b : Bool) → Fitting c Told new
+          (cond b [] (without_ends (ends_said_by call old new) aw ++ taken_by call old))
       by true = record {
         long = x.long;
         kept = forget_each xs new.controller.waiting new.buffers.items x.kept;
-        fits = forget_ends (zipped (ends_of new.controller) new.decided.items);
+        fits = forget_ends c Told (zipped (ends_of new.controller) new.decided.items);
+        followed = followed_forgotten Told xs (ends_of new.controller) x.followed;
       }
-      by false = subst (λ z. Fitting new z) (sym e) x
+      by false = subst (λ z. Fitting c Told new z) (sym e) x
 
   pub died : Dies old new → So
-  died d = subst (λ z. Fitting new z) (sym (calm.texts new.stage _ _)) (nothing_fits new _
+  died d = subst (λ z. Fitting c Told new z) (sym (calm.texts new.stage _ _)) (nothing_fits new _
       (ap (λ (h : Holdings K). h.waiting) d.1.controller) (ap (λ (h : Holdings K). ends_of h) d.1.controller)
       d.1.decided d.1.buffers)
 
@@ -84,8 +95,9 @@ module _ {K : Type 0} (call : Call) (old new : Port K) (aw : List (List ℕ)) (k
         long = ap length ends ∙ k.long ∙ sym (ap length decided);
         kept = subst (λ rs. IsKeptEach aw rs new.buffers.items) (sym waiting)
             (subst (λ bs. IsKeptEach aw old.controller.waiting bs) (sym buffers) k.kept);
-        fits = subst (λ es. AllByRecursion (FitsIn aw) (zipped es new.decided.items)) (sym ends)
-            (subst (λ ds. AllByRecursion (FitsIn aw) (zipped (ends_of old.controller) ds)) (sym decided) k.fits);
+        fits = subst (λ es. AllByRecursion (FitsIn c Told aw) (zipped es new.decided.items)) (sym ends)
+            (subst (λ ds. AllByRecursion (FitsIn c Told aw) (zipped (ends_of old.controller) ds)) (sym decided) k.fits);
+        followed = subst (λ es. AreFollowed Told aw es) (sym ends) k.followed;
       })
 
   pub stays : ends_said_by call old new ≡ [] → taken_by call old ≡ [] → Stays old new
@@ -101,7 +113,8 @@ module _ {K : Type 0} (call : Call) (old new : Port K) (aw : List (List ℕ)) (k
 
 -- ---- ends come, with what is decided of each
 
-module _ {K : Type 0} (old new : Port K) (f : End → Decided) (g : Grows old new f)
+module _ (c : Settings) (Told : Verdict → Record → Type 0) {K : Type 0} (old new : Port K) (f : End → Decided)
+    (g : Grows old new f)
     (long : length (ends_of old.controller) ≡ length old.decided.items) where
   pub grown_long : length (ends_of new.controller) ≡ length new.decided.items
   grown_long = search (
@@ -114,18 +127,19 @@ module _ {K : Type 0} (old new : Port K) (f : End → Decided) (g : Grows old ne
     long,
   )
 
-  pub grown_fits : (aw : List (List ℕ)) → AllByRecursion (FitsIn aw) (zipped (ends_of old.controller) old.decided.items)
-      → AllByRecursion (λ e. FitsIn aw (left_with e (f e))) g.brought
-      → AllByRecursion (FitsIn aw) (zipped (ends_of new.controller) new.decided.items)
-  grown_fits aw before behind = subst (λ ls. AllByRecursion (FitsIn aw) ls)
+  pub grown_fits : (aw : List (List ℕ)) → AllByRecursion
+      (FitsIn c Told aw) (zipped (ends_of old.controller) old.decided.items)
+      → AllByRecursion (λ e. FitsIn c Told aw (left_with e (f e))) g.brought
+      → AllByRecursion (FitsIn c Told aw) (zipped (ends_of new.controller) new.decided.items)
+  grown_fits aw before behind = subst (λ ls. AllByRecursion (FitsIn c Told aw) ls)
       (sym (ap (λ es. zipped es new.decided.items) g.ends ∙ ap (zipped (ends_of old.controller ++ g.brought)) g.decided
       ∙ zip_more (ends_of old.controller) g.brought old.decided.items (map f g.brought) long
       ∙ ap (λ ls. zipped (ends_of old.controller) old.decided.items ++ ls) (zip_map f (λ e. left_with e (f e)) g.brought
       (λ e. refl))))
-      (every_append (FitsIn aw) (zipped (ends_of old.controller) old.decided.items)
+      (every_append (FitsIn c Told aw) (zipped (ends_of old.controller) old.decided.items)
       (map (λ e. left_with e (f e)) g.brought) before (mapped g.brought behind))
     where
-      mapped : (es : List End) → AllByRecursion (λ e. FitsIn aw (left_with e (f e))) es
-          → AllByRecursion (FitsIn aw) (map (λ e. left_with e (f e)) es)
+      mapped : (es : List End) → AllByRecursion (λ e. FitsIn c Told aw (left_with e (f e))) es
+          → AllByRecursion (FitsIn c Told aw) (map (λ e. left_with e (f e)) es)
       mapped [] all = tt
       mapped (e ∷ es) all = (all.0, mapped es all.1)

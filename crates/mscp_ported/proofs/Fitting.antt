@@ -1,4 +1,5 @@
 -- Each end that waits fits the message whose end it is.
+use Rattle.mscp_port.specs.declared.verdict.Verdict.{Verdict}
 use Rattle.std.proofs.Common.{◌≡◌, ◌∙◌, ◌+◌, ◌^◌, ◌<◌, ◌≤◌, ◌++◌, ◌∷◌, [], ℕ, Bool, true, false, cond, filter, length, nat_eq, not, List, Option, None, Some, inl, inr, refl, ap, sym, subst, arith}
 use Rattle.std.specs.Prelude.{find, position, slice_get}
 use Rattle.std.specs.List.{AllByRecursion}
@@ -9,6 +10,7 @@ use Rattle.mscp_packet.specs.declared.command.Order.{Order}
 use Rattle.mscp_packet.specs.declared.command.Order.TheVariants as orders
 use Rattle.mscp_packet.specs.declared.end.End.{End}
 use Rattle.mscp_packet.specs.declared.end.EndBody.TheVariants as bodies
+use Rattle.mscp_drive.specs.Settings.{Settings}
 use Rattle.mscp_drive.specs.Shape.{Shape}
 use Rattle.mscp_drive.specs.declared.block.Block.{Block}
 use Rattle.mscp_drive.specs.declared.connection.Connection.TheVariants.{First}
@@ -22,7 +24,7 @@ use Rattle.mscp_port.specs.declared.buffers.Buffer.{Buffer}
 use Rattle.mscp_port.specs.declared.decided.Decided.{Decided}
 use Rattle.mscp_port.specs.Blocks.{kept_at, kept_of}
 use Rattle.mscp_port.specs.Buffers.{is_of}
-use Rattle.mscp_port.specs.Decided.{end_decided, status_told}
+use Rattle.mscp_port.specs.Decided.{controller_decided, end_decided, found_decided, status_told}
 use Rattle.mscp_port.specs.declared.verdict.Verdict.TheVariants as verdicts
 use Rattle.mscp_drive.specs.declared.block.Block.TheVariants as blocks
 use Rattle.mscp_port.specs.Formalities.{code_told, ends_formality, is_formality}
@@ -36,12 +38,16 @@ use Rattle.mscp_ported.proofs.Codes.{IsAboutCode, about_in}
 use Rattle.mscp_ported.proofs.Buffered.{FitsBuffer}
 use Rattle.mscp_ported.proofs.Ending.{left_with, zipped}
 use Rattle.mscp_ported.proofs.Numbered.{ends_numbered, none_beside, none_of_it, other_number, some_none}
+use Rattle.mscp_ported.proofs.Origins.{IsMade, IsToldSo, formal_code, told_same}
 use Rattle.mscp_ported.proofs.Sole.{found_sole, sole_left}
+use Rattle.mscp_ported.proofs.Tables.{answer_by, decided_by}
+use Rattle.mscp_port.specs.Volumes.{volume_found}
+use Rattle.mscp_port.specs.declared.port.Port.{Port}
 
 -- ---- what is said of an end
 
 -- an end, with what was decided of it, fits this message
-pub record FitsEnd (l : Leaving) (t : List ℕ) : Type 0 where
+pub record FitsEnd (c : Settings) (Told : Verdict → Record → Type 0) (l : Leaving) (t : List ℕ) : Type 0 where
   pub unit : IsUnitIn l.end.unit t
   pub code : IsCodeFor (cond (ends_formality l.fields.code) l.fields.code l.end.code) t
   pub about : 16 ≤ length t → (other : ℕ) → about_in l.end.body ≡ Some other
@@ -49,45 +55,61 @@ pub record FitsEnd (l : Leaving) (t : List ℕ) : Type 0 where
   -- a poll's end leaves with its own code, and its figure fits its bytes
   pub polled : (other figure : ℕ) → l.end.body ≡ bodies.Status other figure
       → (l.fields.code ≡ l.end.code) × (figure < 2 ^ 32)
+  pub same : ends_formality l.fields.code ≡ false → l.fields.code ≡ l.end.code
+  pub made : IsMade c Told l t
 
 -- and so it does the awaited message of its number
-abbrev pub FitsIn : List (List ℕ) → Leaving → Type 0
-FitsIn aw l = (t : List ℕ) → filter (has_number l.end.reference) aw ≡ t ∷ [] → FitsEnd l t
+abbrev pub FitsIn : Settings → (Verdict → Record → Type 0) → List (List ℕ) → Leaving → Type 0
+FitsIn c Told aw l = (t : List ℕ) → filter (has_number l.end.reference) aw ≡ t ∷ [] → FitsEnd c Told l t
 
 -- ---- codes
 
-pub decided_code : (code status : ℕ) (e : End) (units : List Shape) (flags : ℕ) (v : Volume)
-    → (end_decided code status e units flags v).code ≡ code
-decided_code code status e units flags v = by (nat_eq e.code 0x84)
-    (Rattle.mscp_drive.specs.UnitList.unit_found units e.unit)
+decided_both : (code status : ℕ) (e : End) (units : List Shape) (flags : ℕ) (v : Volume)
+    → ((end_decided code status e units flags v).code ≡ code)
+    × ((end_decided code status e units flags v).status ≡ status)
+decided_both code status e units flags v = by (nat_eq e.code 0x84) (unit_found units e.unit)
   where
     by : (c : Bool) (o : Option Shape)
-        → (cond c (Rattle.mscp_port.specs.Decided.controller_decided code status flags)
-        (Rattle.mscp_port.specs.Decided.found_decided code status o v)).code ≡ code
-    by true o = refl
-    by false None = refl
-    by false (Some unit) = refl
+        → ((cond c (controller_decided code status flags) (found_decided code status o v)).code ≡ code)
+        × ((cond c (controller_decided code status flags) (found_decided code status o v)).status ≡ status)
+    by true o = (refl, refl)
+    by false None = (refl, refl)
+    by false (Some unit) = (refl, refl)
+
+pub decided_code : (code status : ℕ) (e : End) (units : List Shape) (flags : ℕ) (v : Volume)
+    → (end_decided code status e units flags v).code ≡ code
+decided_code code status e units flags v = (decided_both code status e units flags v).0
 
 pub decided_status : (code status : ℕ) (e : End) (units : List Shape) (flags : ℕ) (v : Volume)
     → (end_decided code status e units flags v).status ≡ status
-decided_status code status e units flags v = by (nat_eq e.code 0x84)
-    (Rattle.mscp_drive.specs.UnitList.unit_found units e.unit)
-  where
-    by : (c : Bool) (o : Option Shape)
-        → (cond c (Rattle.mscp_port.specs.Decided.controller_decided code status flags)
-        (Rattle.mscp_port.specs.Decided.found_decided code status o v)).status ≡ status
-    by true o = refl
-    by false None = refl
-    by false (Some unit) = refl
+decided_status code status e units flags v = (decided_both code status e units flags v).1
+
+-- so is the status of an answer, and that of a step's end
+pub answer_told : {K : Type 0} (old new : Port K) (e : End)
+    → IsToldSo (verdicts.Served blocks.Good) (left_with e (answer_by old new e))
+answer_told old new e =
+    let v = volume_found new.controller.settings.units new.volumes e.unit in (
+      v,
+      decided_status _ _ e new.controller.settings.units new.flags v
+          ∙ ap (λ n. status_told (verdicts.Served blocks.Good) n e.status v)
+          (sym (decided_code _ _ e new.controller.settings.units new.flags v)),
+    )
+
+pub step_told : {K : Type 0} (verdict : Verdict) (old new : Port K) (e : End)
+    → IsToldSo verdict (left_with e (decided_by verdict old new e))
+step_told verdict old new e =
+    let v = volume_found old.controller.settings.units old.volumes e.unit in (
+      v,
+      decided_status _ _ e new.controller.settings.units new.flags _
+          ∙ ap (λ n. status_told verdict n e.status v)
+          (sym (decided_code _ _ e new.controller.settings.units new.flags _)),
+    )
 
 -- the Success of an ABORT or a poll is told as such
 pub success_told : (code : ℕ) (v : Volume) → IsAboutCode code
     → status_told (verdicts.Served blocks.Good) code 0 v ≡ 0
 success_told code v (inl e) = ap (λ n. status_told (verdicts.Served blocks.Good) n 0 v) e
 success_told code v (inr e) = ap (λ n. status_told (verdicts.Served blocks.Good) n 0 v) e
-
-formal_code : (n : ℕ) → is_formality n ≡ true → ends_formality (n + 0x80) ≡ true
-formal_code n e = grind (arith, e)
 
 at_place : (front : List Buffer) (b : Buffer) (back : List Buffer)
     → slice_get (front ++ b ∷ back) (length front) ≡ Some b
@@ -192,61 +214,69 @@ aborted_plain r = record {
 }
 
 -- with what is decided of it, it fits
-pub plain_fits : (bs : List Buffer) (r : Record) (b : Buffer) (e : End) (d : Decided) (t : List ℕ)
+pub plain_fits : {c : Settings} {Told : Verdict → Record → Type 0} (bs : List Buffer) (r : Record) (b : Buffer)
+    (e : End) (d : Decided) (t : List ℕ)
     → IsPlainEnd r e → filter (is_of First e.reference) bs ≡ b ∷ [] → FitsBuffer r b t
-    → d.code ≡ code_told (kept_of First e.reference bs) e.code → FitsEnd (left_with e d) t
-plain_fits bs r b e d t plain one f same = record {
+    → d.code ≡ code_told (kept_of First e.reference bs) e.code → IsMade c Told (left_with e d) t
+    → FitsEnd c Told (left_with e d) t
+plain_fits bs r b e d t plain one f same made = record {
   unit = subst (λ n. IsUnitIn n t) (sym plain.unit) f.unit;
   code = subst (λ c. IsCodeFor (cond (ends_formality c) c e.code) t) (sym same)
       (kept_coded bs e t r b one f plain.code);
   about = λ long other is. absurd (plain.no_about f.no_about other is);
   polled = λ other figure is. absurd (plain.no_about f.no_about other (ap about_in is));
+  same = λ none. same ∙ told_same (kept_of First e.reference bs) e.code (sym (ap ends_formality same) ∙ none);
+  made = made;
 }
 
 -- ---- messages and ends beside each other
 
--- another end is taken, or another message comes
-pub fits_beside : (aw aw' : List (List ℕ)) (l : Leaving)
-    → filter (has_number l.end.reference) aw' ≡ filter (has_number l.end.reference) aw → FitsIn aw l → FitsIn aw' l
-fits_beside aw aw' l same fits t e = fits t (sym same ∙ e)
+module _ (c : Settings) (Told : Verdict → Record → Type 0) where
+  -- another end is taken, or another message comes
+  pub fits_beside : (aw aw' : List (List ℕ)) (l : Leaving)
+      → filter (has_number l.end.reference) aw' ≡ filter (has_number l.end.reference) aw → FitsIn c Told aw l
+      → FitsIn c Told aw' l
+  fits_beside aw aw' l same fits t e = fits t (sym same ∙ e)
 
-pub fits_left : (aw : List (List ℕ)) (m : ℕ) (l : Leaving) → FitsIn aw l
-    → FitsIn (filter (λ t. not (has_number m t)) aw) l
-fits_left aw m l fits t e = by (nat_eq m l.end.reference) refl
-  where
-    left : List (List ℕ)
-    left = filter (λ t. not (has_number m t)) aw
+  pub fits_left : (aw : List (List ℕ)) (m : ℕ) (l : Leaving) → FitsIn c Told aw l
+      → FitsIn c Told (filter (λ t. not (has_number m t)) aw) l
+  fits_left aw m l fits t e = by (nat_eq m l.end.reference) refl
+    where
+      left : List (List ℕ)
+      left = filter (λ t. not (has_number m t)) aw
 
-    by : (c : Bool) → nat_eq m l.end.reference ≡ c → FitsEnd l t
-    by true d = absurd (some_none t [] (sym e ∙ subst (λ k. filter (has_number k) left ≡ [])
-        (eqb-true m l.end.reference d) (none_of_it (has_number m) aw)))
-    by false d = fits t (sym (sole_left (has_number l.end.reference) (λ t. not (has_number m t)) aw
-        (λ t is. other_number l.end.reference m d (num t 0 4) is)) ∙ e)
+      by : (b : Bool) → nat_eq m l.end.reference ≡ b → FitsEnd c Told l t
+      by true d = absurd (some_none t [] (sym e ∙ subst (λ k. filter (has_number k) left ≡ [])
+          (eqb-true m l.end.reference d) (none_of_it (has_number m) aw)))
+      by false d = fits t (sym (sole_left (has_number l.end.reference) (λ t. not (has_number m t)) aw
+          (λ t is. other_number l.end.reference m d (num t 0 4) is)) ∙ e)
 
-pub every_left : (aw : List (List ℕ)) (m : ℕ) (ls : List Leaving) → AllByRecursion (FitsIn aw) ls
-    → AllByRecursion (FitsIn (filter (λ t. not (has_number m t)) aw)) ls
-every_left aw m [] all = tt
-every_left aw m (l ∷ ls) all = (fits_left aw m l all.0, every_left aw m ls all.1)
+  pub every_left : (aw : List (List ℕ)) (m : ℕ) (ls : List Leaving)
+      → AllByRecursion (FitsIn c Told aw) ls
+      → AllByRecursion (FitsIn c Told (filter (λ t. not (has_number m t)) aw)) ls
+  every_left aw m [] all = tt
+  every_left aw m (l ∷ ls) all = (fits_left aw m l all.0, every_left aw m ls all.1)
 
-pub every_beside : (aw : List (List ℕ)) (t : List ℕ) (es : List End) (ds : List Decided)
-    → filter (ends_numbered (num t 0 4)) es ≡ [] → AllByRecursion (FitsIn aw) (zipped es ds)
-    → AllByRecursion (FitsIn (aw ++ t ∷ [])) (zipped es ds)
-every_beside aw t [] ds none all = tt
-every_beside aw t (e ∷ es) [] none all = tt
-every_beside aw t (e ∷ es) (d ∷ ds) none all = by (nat_eq e.reference (num t 0 4)) refl none
-    (λ h. every_beside aw t es ds h all.1)
-  where
-    by : (c : Bool) → nat_eq e.reference (num t 0 4) ≡ c
-        → cond c (e ∷ filter (ends_numbered (num t 0 4)) es) (filter (ends_numbered (num t 0 4)) es) ≡ []
-        → (filter (ends_numbered (num t 0 4)) es ≡ [] → AllByRecursion (FitsIn (aw ++ t ∷ [])) (zipped es ds))
-        → AllByRecursion (FitsIn (aw ++ t ∷ [])) (zipped (e ∷ es) (d ∷ ds))
-    by true is h rest = absurd (some_none e (filter (ends_numbered (num t 0 4)) es) h)
-    by false is h rest = (
-      fits_beside aw (aw ++ t ∷ []) (left_with e d)
-          (none_beside (has_number e.reference) aw t (apart (nat_eq (num t 0 4) e.reference) refl)) all.0,
-      rest h,
-    )
-      where
-        apart : (c : Bool) → nat_eq (num t 0 4) e.reference ≡ c → c ≡ false
-        apart true x = search (arith, is, eq-eqb e.reference (num t 0 4) (sym (eqb-true (num t 0 4) e.reference x)))
-        apart false x = refl
+  pub every_beside : (aw : List (List ℕ)) (t : List ℕ) (es : List End)
+      (ds : List Decided)
+      → filter (ends_numbered (num t 0 4)) es ≡ [] → AllByRecursion (FitsIn c Told aw) (zipped es ds)
+      → AllByRecursion (FitsIn c Told (aw ++ t ∷ [])) (zipped es ds)
+  every_beside aw t [] ds none all = tt
+  every_beside aw t (e ∷ es) [] none all = tt
+  every_beside aw t (e ∷ es) (d ∷ ds) none all = by (nat_eq e.reference (num t 0 4)) refl none
+      (λ h. every_beside aw t es ds h all.1)
+    where
+      by : (b : Bool) → nat_eq e.reference (num t 0 4) ≡ b
+          → cond b (e ∷ filter (ends_numbered (num t 0 4)) es) (filter (ends_numbered (num t 0 4)) es) ≡ []
+          → (filter (ends_numbered (num t 0 4)) es ≡ [] → AllByRecursion (FitsIn c Told (aw ++ t ∷ [])) (zipped es ds))
+          → AllByRecursion (FitsIn c Told (aw ++ t ∷ [])) (zipped (e ∷ es) (d ∷ ds))
+      by true is h rest = absurd (some_none e (filter (ends_numbered (num t 0 4)) es) h)
+      by false is h rest = (
+        fits_beside aw (aw ++ t ∷ []) (left_with e d)
+            (none_beside (has_number e.reference) aw t (apart (nat_eq (num t 0 4) e.reference) refl)) all.0,
+        rest h,
+      )
+        where
+          apart : (b : Bool) → nat_eq (num t 0 4) e.reference ≡ b → b ≡ false
+          apart true x = search (arith, is, eq-eqb e.reference (num t 0 4) (sym (eqb-true (num t 0 4) e.reference x)))
+          apart false x = refl

@@ -1,6 +1,6 @@
 -- Behind a message that a port read each end that waits fits its message still.
+use Rattle.mscp_port.specs.declared.verdict.Verdict.{Verdict}
 use Rattle.mscp_ported.proofs.Refusals.{num_small, own_figure, some_balance}
-use Rattle.mscp_controller.specs.Holdings.{figure_polled}
 use Rattle.mscp_ported.specs.Figures.{figure_on}
 use Rattle.mscp_ported.specs.Passing.{figure_in}
 use Rattle.mscp_ported.proofs.Untouched.{read_keeps}
@@ -8,7 +8,7 @@ use Rattle.mscp_controller.specs.declared.entry.Sent.TheVariants as sents
 use Rattle.mscp_port.specs.declared.task.Task.TheVariants as tasks
 use Rattle.mscp_packet.specs.declared.command.Order.TheVariants as orders
 use Rattle.mscp_controller.specs.Arrival.{fault_of, is_queued, refusal}
-use Rattle.mscp_controller.specs.Holdings.{Holdings, aborting, answered_end, arrives, balance_of, held_unless, outstanding_of, queued, record_aborted, reference_aborted, sent_unless, taken_as, unaborted, waiting_on, with_end}
+use Rattle.mscp_controller.specs.Holdings.{Holdings, aborting, answered_end, arrives, balance_of, figure_polled, held_unless, outstanding_of, queued, record_aborted, reference_aborted, sent_unless, taken_as, unaborted, waiting_on, with_end}
 use Rattle.mscp_controller.specs.declared.entry.SendFault.{SendFault}
 use Rattle.mscp_drive.specs.Settings.{IsValid, Settings}
 use Rattle.mscp_drive.specs.declared.connection.Connection.TheVariants.{First}
@@ -20,7 +20,7 @@ use Rattle.mscp_packet.specs.declared.end.End.{End}
 use Rattle.mscp_port.proofs.Common.{eq-eqb, eqb-true}
 use Rattle.mscp_port.proofs.Kept.{is_numbered}
 use Rattle.mscp_port.proofs.Said.{none_or_some}
-use Rattle.mscp_port.specs.Buffers.{buffer_in, is_of, without_aborted}
+use Rattle.mscp_port.specs.Buffers.{buffer_in, is_of}
 use Rattle.mscp_port.specs.Calls.{Hears}
 use Rattle.mscp_port.specs.Formalities.{ends_formality, is_formality}
 use Rattle.mscp_port.specs.Histories.{WasRead}
@@ -34,23 +34,24 @@ use Rattle.mscp_port.specs.declared.task.Task.{Task}
 use Rattle.mscp_ported.proofs.Answering.{none_so, own_so}
 use Rattle.mscp_ported.proofs.Awaiting.{IsLikeIt, IsNoReset, IsSmall, Kept, handed_like, is_it, nothing_there, others, own_number}
 use Rattle.mscp_ported.proofs.Awaits.{none_taken, taken_is}
-use Rattle.mscp_ported.proofs.Buffered.{FitsBuffer, IsKeptEach, abort_kept, answered_kept, few_kept, queued_kept}
+use Rattle.mscp_ported.proofs.Buffered.{FitsBuffer, IsKeptEach, answer_kept, few_kept, number_kept, opcode_kept, queued_kept}
 use Rattle.mscp_ported.proofs.Codes.{answered_about, answered_code, answered_unit, under_64, handed_coded, queued_no_about}
 use Rattle.mscp_ported.proofs.Coming.{come_so, ends_of}
 use Rattle.mscp_ported.proofs.Decided.{read_stays}
 use Rattle.mscp_ported.proofs.Ended.{bytes_small}
 use Rattle.mscp_ported.proofs.Ending.{Grows, left_with, zipped}
 use Rattle.mscp_ported.proofs.Fitted.{Fitting, became, grown_fits, grown_long, stays, unchanged}
-use Rattle.mscp_ported.proofs.Fitting.{FitsEnd, FitsIn, aborted_plain, bare_coded, bare_same, decided_code, decided_status, success_told, every_beside, plain_fits}
+use Rattle.mscp_ported.proofs.Fitting.{FitsEnd, FitsIn, aborted_plain, answer_told, bare_coded, bare_same, decided_code, success_told, every_beside, plain_fits}
+use Rattle.mscp_ported.proofs.Followed.{AreFollowed, answers_follow, followed_beside, followed_more}
 use Rattle.mscp_ported.proofs.Formal.{formal_queued}
 use Rattle.mscp_ported.proofs.Leaving.{text_grows}
-use Rattle.mscp_ported.proofs.Numbered.{At, IsNothing, first_of_one, none_beside, none_found, none_stays, some_none}
+use Rattle.mscp_ported.proofs.Numbered.{At, IsNothing, first_of_one, none_beside, none_found, some_none}
+use Rattle.mscp_ported.proofs.Origins.{IsOf, IsText, aborted_of, answer_of, queued_of}
 use Rattle.mscp_ported.proofs.Owning.{and_false, number_of}
 use Rattle.mscp_ported.proofs.Sole.{found_sole, sole_comes}
 use Rattle.mscp_port.specs.Decided.{status_told}
 use Rattle.mscp_port.specs.declared.verdict.Verdict.TheVariants as verdicts
 use Rattle.mscp_drive.specs.declared.block.Block.TheVariants as blocks
-use Rattle.mscp_port.specs.Volumes.{volume_found}
 use Rattle.mscp_ported.proofs.Tables.{answer_by}
 use Rattle.mscp_ported.specs.Answers.{own_answer, volume_named}
 use Rattle.mscp_ported.specs.Awaited.{has_number, is_taken_text, taken_by}
@@ -58,24 +59,30 @@ use Rattle.mscp_ported.specs.Fitting.{IsCodeFor}
 use Rattle.mscp_ported.proofs.Units.{IsUnitIn, handed_unit}
 use Rattle.mscp_ported.specs.Talk.{since}
 use Rattle.mscp_queue.proofs.Lists.{every_append}
-use Rattle.mscp_queue.proofs.Named.{is_same}
 use Rattle.mscp_queue.proofs.Placed.{found_is}
-use Rattle.mscp_queue.specs.Names.{name_on}
-use Rattle.mscp_queue.specs.Records.{Record, aborted_record, fresh_record, name_of, without}
-use Rattle.std.proofs.Common.{ℕ, All, Bool, List, None, Option, Some, [], ap, append_assoc, arith, cond, false, filter, inl, inr, length, nat_eq, nat_lt, not, refl, subst, sym, true, ◌&&◌, ◌++◌, ◌+◌, ◌-◌, ◌<◌, ◌^◌, ◌∙◌, ◌∷◌, ◌≡◌, ◌≢◌, ◌≤◌}
+use Rattle.mscp_queue.specs.Records.{Record, aborted_record, fresh_record}
+use Rattle.std.proofs.Common.{ℕ, All, Bool, List, None, Option, Some, [], ap, append_assoc, arith, cond, false, filter, inl, inr, length, nat_eq, refl, subst, sym, true, ◌&&◌, ◌++◌, ◌+◌, ◌-◌, ◌<◌, ◌^◌, ◌∙◌, ◌∷◌, ◌≡◌, ◌≢◌, ◌≤◌}
 use Rattle.std.proofs.lemmas.Option.{none-some, same_Some}
 use Rattle.std.specs.List.{AllByRecursion}
 use Rattle.std.specs.Prelude.{Ok, find, is_none, is_ok, option_map, option_to_list, slice_index}
 
-module _ {K : Type 0} (bytes : List ℕ) (done : Unit) (old new : Port K) (aw : List (List ℕ)) (k : Kept old aw)
-    (f : Fitting old aw) (r : Hears bytes old (Ok done) new) (small : (i : ℕ) → slice_index bytes i < 2 ^ 8)
-    (c : Settings) (valid : IsValid c) (sizes : All (λ unit. 0 < unit.size) c.units)
+module _ {c : Settings} {Told : Verdict → Record → Type 0} {K : Type 0} (bytes : List ℕ) (done : Unit)
+    (old new : Port K) (aw : List (List ℕ)) (k : Kept old aw)
+    (f : Fitting c Told old aw) (r : Hears bytes old (Ok done) new) (small : (i : ℕ) → slice_index bytes i < 2 ^ 8)
+    (valid : IsValid c) (sizes : All (λ unit. 0 < unit.size) c.units)
     (settings : old.controller.settings ≡ c) (low : (n : ℕ) → figure_on old n < 2 ^ 32) where
   abbrev After : Type 0
-  After = Fitting new (since new.stage (WasRead bytes (Ok done)) aw (taken_by (WasRead bytes (Ok done)) old))
+  After = Fitting c Told new (since new.stage (WasRead bytes (Ok done)) aw (taken_by (WasRead bytes (Ok done)) old))
 
   calm : IsNoReset (WasRead bytes (Ok done))
   calm = record { texts = λ s xs ys. refl }
+
+  abbrev Fits : Type 0
+  Fits = Fitting c Told new (aw ++ bytes ∷ [])
+
+  -- of an end that comes by it
+  abbrev FitsNow : End → Type 0
+  FitsNow e = FitsIn c Told (aw ++ bytes ∷ []) (left_with e (answer_by old new e))
 
   few : IsSmall bytes
   few = bytes_small bytes small
@@ -148,6 +155,9 @@ module _ {K : Type 0} (bytes : List ℕ) (done : Unit) (old new : Port K) (aw : 
       like : IsLikeIt sent bytes
       like = handed_like old.controller.settings.units bytes sees.long
 
+      is_text : IsText bytes
+      is_text = record { long = sees.long; small = small }
+
       named : command.reference ≡ n
       unfolding command_of
       named = like.number
@@ -167,11 +177,11 @@ module _ {K : Type 0} (bytes : List ℕ) (done : Unit) (old new : Port K) (aw : 
 
       -- it is queued
       queued_fits : is_queued h.settings command ≡ true → new.controller ≡ queued First h command
-          → (reference : ℕ) → answered_to old bytes ≡ Ok (sents.Queued reference) → Fitting new (aw ++ bytes ∷ [])
+          → (reference : ℕ) → answered_to old bytes ≡ Ok (sents.Queued reference) → Fits
       queued_fits q is reference ok =
           let s = sees.sent (sents.Queued reference) none ok in
-          let b = buffer_in bytes
-          (changes_at old.volumes (place_in old.controller.settings.units (num bytes 4 2))) in
+          let changes = changes_at old.volumes (place_in old.controller.settings.units (num bytes 4 2)) in
+          let b = buffer_in bytes changes in
           let beside : new.buffers.items ≡ old.buffers.items ++ b ∷ [] = s.kept
           ∙ ap (λ x. cond x (old.buffers.items ++ b ∷ []) old.buffers.items)
           (under_64 (length old.buffers.items) room) in
@@ -184,28 +194,22 @@ module _ {K : Type 0} (bytes : List ℕ) (done : Unit) (old new : Port K) (aw : 
                 (queued_kept aw h.waiting old.buffers.items bytes (fresh_record First command) b nothing.0 nothing.1
                 (is_it h aw bytes sent sees.long like new_is k.each (fresh_record First command) refl named)
                 (others h aw bytes sent sees.long like new_is k.each (fresh_record First command) named)
-                (number_kept bytes (changes_at old.volumes
-                (place_in old.controller.settings.units (num bytes 4 2))) sees.long)
+                (number_kept bytes changes sees.long)
                 (record {
-                  opcode = opcode_kept bytes (changes_at old.volumes
-                      (place_in old.controller.settings.units (num bytes 4 2))) sees.long;
+                  opcode = opcode_kept bytes changes sees.long;
                   unit = handed_unit old.controller.settings.units bytes sees.long small;
                   code = λ plain. handed_coded old.controller.settings.units bytes sees.long plain;
                   no_about = queued_no_about h.settings command q;
+                  of = queued_of h.settings bytes is_text q;
                 }) f.kept));
-            fits = subst (λ es. AllByRecursion (FitsIn (aw ++ bytes ∷ [])) (zipped es new.decided.items))
+            fits = subst (λ es. AllByRecursion (FitsIn c Told (aw ++ bytes ∷ [])) (zipped es new.decided.items))
                 (sym (ap (λ (x : Holdings K). ends_of x) is))
-                (subst (λ ds. AllByRecursion (FitsIn (aw ++ bytes ∷ [])) (zipped (ends_of h) ds)) (sym s.decided)
-                (every_beside aw bytes (ends_of h) old.decided.items nothing.2 f.fits));
+                (subst (λ ds. AllByRecursion (FitsIn c Told (aw ++ bytes ∷ [])) (zipped (ends_of h) ds)) (sym s.decided)
+                (every_beside c Told aw bytes (ends_of h) old.decided.items nothing.2 f.fits));
+            followed = subst (λ es. AreFollowed Told (aw ++ bytes ∷ []) es)
+                (sym (ap (λ (x : Holdings K). ends_of x) is))
+                (followed_beside Told aw bytes (ends_of h) nothing.2 f.followed);
           }
-        where
-          number_kept : (b : List ℕ) (changes : ℕ) → 12 ≤ length b → (buffer_in b changes).reference ≡ num b 0 4
-          number_kept b changes long = ap (λ t. cond t 0 (num b 0 4)) {x = nat_lt (length b) 4} {y = false}
-              (search (arith, long))
-
-          opcode_kept : (b : List ℕ) (changes : ℕ) → 12 ≤ length b → (buffer_in b changes).opcode ≡ slice_index b 8
-          opcode_kept b changes long = ap (λ t. cond t 0 (slice_index b 8)) {x = nat_lt (length b) 9} {y = false}
-              (search (arith, long))
 
       -- or it is answered at once
       module _ (immediate : is_queued h.settings command ≡ false)
@@ -224,40 +228,47 @@ module _ {K : Type 0} (bytes : List ℕ) (done : Unit) (old new : Port K) (aw : 
         own_named : own.reference ≡ n
         own_named = own_number h.settings _ _ command (fault_of h.settings command) ∙ named
 
+        bare : filter (is_of First own.reference) old.buffers.items ≡ []
+        bare = ap (λ m. filter (is_of First m) old.buffers.items) own_named ∙ (f.kept n).none nothing.1
+
+        -- it is told with its own code
+        own_code : (answer_by old new own).code ≡ own.code
+        own_code = decided_code _ _ own new.controller.settings.units new.flags _
+            ∙ bare_same old.buffers.items own bytes bare
+
         -- its own end
-        own_fits : FitsIn (aw ++ bytes ∷ []) (left_with own (answer_by old new own))
-        own_fits t only = subst (λ x. FitsEnd (left_with own (answer_by old new own)) x) same (record {
+        own_fits : FitsNow own
+        own_fits t only = subst (λ x. FitsEnd c Told (left_with own (answer_by old new own)) x) same (record {
           unit = subst (λ x. IsUnitIn x bytes)
               (sym (answered_unit h.settings _ _ command (fault_of h.settings command)))
               (handed_unit old.controller.settings.units bytes sees.long small);
           code = subst (λ x. IsCodeFor (cond (ends_formality x) x own.code) bytes)
               (sym (decided_code _ _ own new.controller.settings.units new.flags _))
-              (bare_coded old.buffers.items own bytes
-              (ap (λ m. filter (is_of First m) old.buffers.items) own_named ∙ (f.kept n).none nothing.1)
+              (bare_coded old.buffers.items own bytes bare
               (subst (λ x. IsCodeFor x bytes) (sym (answered_code h.settings _ _ command (fault_of h.settings command)))
               (handed_coded old.controller.settings.units bytes sees.long plain)));
           about = λ long other is.
-              let a = answered_about h.settings _ _ old.controller.settings.units bytes long other is in (
+              let a = answered_about h.settings _ _ old.controller.settings.units bytes long other is in
+              let told = answer_told old new own in (
                 a.0,
                 subst (λ x. x < 2 ^ 32) (sym a.0) (num_small bytes small),
-                decided_status _ _ own new.controller.settings.units new.flags _
-                    ∙ ap (λ c. status_told (verdicts.Served blocks.Good) c own.status
-                    (volume_found new.controller.settings.units new.volumes own.unit))
-                    (bare_same old.buffers.items own bytes
-                    (ap (λ m. filter (is_of First m) old.buffers.items) own_named ∙ (f.kept n).none nothing.1))
-                    ∙ ap (λ x. status_told (verdicts.Served blocks.Good) own.code x
-                    (volume_found new.controller.settings.units new.volumes own.unit)) a.1
-                    ∙ success_told own.code (volume_found new.controller.settings.units new.volumes own.unit) a.2,
+                told.1 ∙ ap (λ c. status_told (verdicts.Served blocks.Good) c own.status told.0) own_code
+                    ∙ ap (λ x. status_told (verdicts.Served blocks.Good) own.code x told.0) a.1
+                    ∙ success_told own.code told.0 a.2,
               );
           polled = λ other figure is. (
-            decided_code _ _ own new.controller.settings.units new.flags _
-                ∙ bare_same old.buffers.items own bytes
-                (ap (λ m. filter (is_of First m) old.buffers.items) own_named ∙ (f.kept n).none nothing.1),
-            under figure (figure_polled h.settings First h.waiting command.order)
-                (subst (λ b. figure_in b ≤ figure_polled h.settings First h.waiting command.order) is
-                (own_figure h.settings _ (figure_polled h.settings First h.waiting command.order) command
-                (fault_of h.settings command))) (polled_low command.order),
+            own_code,
+            omega (
+              arith,
+              subst (λ b. figure_in b ≤ figure_polled h.settings First h.waiting command.order) is
+                  (own_figure h.settings _ (figure_polled h.settings First h.waiting command.order) command
+                  (fault_of h.settings command)),
+              polled_low command.order,
+            ),
           );
+          same = λ none. own_code;
+          made = inl (answer_of h bytes c settings is_text immediate (polled_low command.order)
+              (left_with own (answer_by old new own)) refl (answer_told old new own));
         })
           where
             same : bytes ≡ t
@@ -278,25 +289,16 @@ module _ {K : Type 0} (bytes : List ℕ) (done : Unit) (old new : Port K) (aw : 
                       (place_in s.units (num bytes 4 2))) bytes ≡ None) settings none) e),
                 )
 
-            under : (a b : ℕ) → a ≤ b → b < 2 ^ 32 → a < 2 ^ 32
-            under a b h k = omega (arith, h, k)
-
             polled_low : (order : Order) → figure_polled h.settings First h.waiting order < 2 ^ 32
             polled_low (orders.Status other) = low other
             polled_low order = omega arith
 
         -- and that of the command that it aborts
-        one_aborted : (m : ℕ) (x : Record) → find (is_numbered m) h.waiting ≡ Some x
-            → FitsIn (aw ++ bytes ∷ []) (left_with (aborted_record x) (answer_by old new (aborted_record x)))
+        one_aborted : (m : ℕ) (x : Record) → find (is_numbered m) h.waiting ≡ Some x → FitsNow (aborted_record x)
         one_aborted m x found t only = by (k.each x.command.reference)
           where
             e : End
             e = aborted_record x
-
-            mine : is_numbered x.command.reference x ≡ true
-            mine = is_same (name_of x) (name_on First x.command.reference)
-                (ap (λ via. name_on via x.command.reference)
-                (number_of m x (found_is (is_numbered m) h.waiting x found)).0)
 
             number : x.command.reference ≡ m
             number = (number_of m x (found_is (is_numbered m) h.waiting x found)).1
@@ -305,7 +307,7 @@ module _ {K : Type 0} (bytes : List ℕ) (done : Unit) (old new : Port K) (aw : 
             here = subst (λ j. find (is_numbered j) h.waiting ≡ Some x) (sym number) found
 
             by : At aw h.waiting (ends_of h) x.command.reference
-                → FitsEnd (left_with e (answer_by old new e)) t
+                → FitsEnd c Told (left_with e (answer_by old new e)) t
             by (inl z) = absurd (none-some x (sym (none_found (is_numbered x.command.reference) h.waiting z.1) ∙ here))
             by (inr (inr z)) =
                 absurd (none-some x (sym (none_found (is_numbered x.command.reference) h.waiting z.none) ∙ here))
@@ -319,6 +321,7 @@ module _ {K : Type 0} (bytes : List ℕ) (done : Unit) (old new : Port K) (aw : 
                 plain_fits old.buffers.items x y.0 e (answer_by old new e) t (aborted_plain x) y.1
                 (subst (λ z. FitsBuffer z y.0 t) own_is y.2)
                 (decided_code _ _ e new.controller.settings.units new.flags _)
+                (inr (inl (aborted_of x t (subst (λ z. IsOf z t) own_is y.2.of) _ refl (answer_told old new e))))
               where
                 apart : (c : Bool) → nat_eq n x.command.reference ≡ c → (z : Record)
                     → filter (is_numbered x.command.reference) h.waiting ≡ z ∷ [] → c ≡ false
@@ -326,43 +329,39 @@ module _ {K : Type 0} (bytes : List ℕ) (done : Unit) (old new : Port K) (aw : 
                 apart true d z sole = absurd (some_none z [] (sym sole
                     ∙ ap (λ j. filter (is_numbered j) h.waiting) (sym (eqb-true n x.command.reference d)) ∙ nothing.1))
 
-        aborted_fits : (order : Order) → AllByRecursion (λ e. FitsIn (aw ++ bytes ∷ []) (left_with e
-            (answer_by old new e)))
+        aborted_fits : (order : Order) → AllByRecursion FitsNow
             (option_to_list (option_map aborted_record (record_aborted First h.waiting order)))
         aborted_fits (orders.Abort m) = by (find (is_numbered m) h.waiting) refl
           where
             by : (o : Option Record) → find (is_numbered m) h.waiting ≡ o
-                → AllByRecursion (λ e. FitsIn (aw ++ bytes ∷ []) (left_with e (answer_by old new e)))
-                (option_to_list (option_map aborted_record o))
+                → AllByRecursion FitsNow (option_to_list (option_map aborted_record o))
             by None found = tt
             by (Some x) found = (one_aborted m x found, tt)
         aborted_fits order = tt
 
-        kept_so : (order : Order) → IsKeptEach (aw ++ bytes ∷ []) (unaborted First h.waiting order)
-            (without_aborted (reference_aborted First h.waiting order) old.buffers.items)
-        kept_so (orders.Abort m) = answered_kept aw (without (name_on First m) h.waiting)
-            (without_aborted (option_map (λ r. r.command.reference) (find (is_numbered m) h.waiting)) old.buffers.items)
-            bytes (none_stays (is_numbered n) (λ r. not (is_numbered m r)) h.waiting nothing.1)
-            (abort_kept aw h.waiting (ends_of h) old.buffers.items m k.each f.kept)
-        kept_so order = answered_kept aw h.waiting old.buffers.items bytes nothing.1 f.kept
+        ends_now : ends_of new.controller ≡ ends_of h ++ (aborted ++ own ∷ [])
+        ends_now = ap (λ (x : Holdings K). ends_of x) is ∙ append_assoc (ends_of h) aborted (own ∷ [])
 
-        answered_fits : Fitting new (aw ++ bytes ∷ [])
+        answered_fits : Fits
         answered_fits = record {
-          long = grown_long old new (answer_by old new) g f.long;
+          long = grown_long c Told old new (answer_by old new) g f.long;
           kept = subst (λ rs. IsKeptEach (aw ++ bytes ∷ []) rs new.buffers.items)
               (sym (ap (λ (x : Holdings K). x.waiting) is))
               (subst (λ bs. IsKeptEach (aw ++ bytes ∷ []) (unaborted First h.waiting command.order) bs) (sym s.kept)
-              (kept_so command.order));
-          fits = grown_fits old new (answer_by old new) g f.long (aw ++ bytes ∷ [])
-              (every_beside aw bytes (ends_of h) old.decided.items nothing.2 f.fits)
-              (subst (λ es. AllByRecursion (λ e. FitsIn (aw ++ bytes ∷ []) (left_with e (answer_by old new e))) es)
-              (sym (come_so old new (aborted ++ own ∷ []) (ap (λ (x : Holdings K). ends_of x) is
-              ∙ append_assoc (ends_of h) aborted (own ∷ []))) ∙ come_so old new g.brought g.ends)
-              (every_append (λ e. FitsIn (aw ++ bytes ∷ []) (left_with e (answer_by old new e))) aborted (own ∷ [])
+              (answer_kept aw h.waiting (ends_of h) old.buffers.items bytes command.order nothing.1 k.each f.kept));
+          fits = grown_fits c Told old new (answer_by old new) g f.long (aw ++ bytes ∷ [])
+              (every_beside c Told aw bytes (ends_of h) old.decided.items nothing.2 f.fits)
+              (subst (λ es. AllByRecursion FitsNow es)
+              (sym (come_so old new (aborted ++ own ∷ []) ends_now) ∙ come_so old new g.brought g.ends)
+              (every_append FitsNow aborted (own ∷ [])
               (aborted_fits command.order) (own_fits, tt)));
+          followed = subst (λ es. AreFollowed Told (aw ++ bytes ∷ []) es) (sym ends_now)
+              (followed_more Told (aw ++ bytes ∷ []) (ends_of h) (aborted ++ own ∷ [])
+              (followed_beside Told aw bytes (ends_of h) nothing.2 f.followed)
+              (answers_follow Told h aw bytes sees.long immediate own_named nothing.1));
         }
 
-      taken : (q : Bool) → is_queued h.settings command ≡ q → Fitting new (aw ++ bytes ∷ [])
+      taken : (q : Bool) → is_queued h.settings command ≡ q → Fits
       taken true e = queued_fits e (gets ∙ ap (λ b. cond b (queued First h command)
           (with_end First (aborting First h command.order) (answered_end First h command))) e) command.reference
           (answer ∙ ap (λ b. Ok (cond b (sents.Queued command.reference) (sents.Answered command.reference

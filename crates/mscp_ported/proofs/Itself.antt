@@ -1,13 +1,14 @@
 -- An answer of the port's own has the number of its message, and is whole.
 use Rattle.byteorder.specs.Endian.{little_bytes}
 use Rattle.std.specs.Prelude.{replicate}
-use Rattle.std.proofs.Common.{◌≡◌, ◌≢◌, ◌∙◌, ◌+◌, ◌^◌, ◌<◌, ◌≤◌, ◌++◌, ◌∷◌, [], ℕ, Bool, true, false, cond, length, List, Option, None, Some, refl, ap, sym, subst, arith}
-use Rattle.std.specs.Prelude.{◌==◌, ◌&&◌, ◌||◌, is_none, nat_le, option_map, slice_index}
+use Rattle.std.proofs.Common.{◌≡◌, ◌≢◌, ◌⊎◌, ◌∙◌, ◌+◌, ◌^◌, ◌<◌, ◌≤◌, ◌++◌, ◌∷◌, [], ℕ, Bool, true, false, cond, length, List, Option, None, Some, inl, inr, refl, ap, sym, subst, arith}
+use Rattle.std.specs.Prelude.{◌==◌, ◌&&◌, ◌||◌, is_none, nat_le, nat_lt, option_map, slice_index}
 use Rattle.std.proofs.lemmas.Option.{none-some, same_Some}
 use Rattle.mscp_packet.proofs.Numbers.{four}
 use Rattle.mscp_packet.specs.Number.{num}
 use Rattle.mscp_packet.specs.Ends.{end_length, kind_of_code}
 use Rattle.mscp_packet.specs.declared.end.BodyKind.{BodyKind}
+use Rattle.mscp_drive.specs.Extent.{blocks}
 use Rattle.mscp_port.specs.declared.stage.Stage.{Stage}
 use Rattle.mscp_port.specs.declared.volumes.Volume.{Volume}
 use Rattle.mscp_port.specs.Histories.{Call, WriteIp}
@@ -51,136 +52,78 @@ low_body : (k : BodyKind) (opcode : ℕ) → moves_opcode opcode ≡ true → ki
     → end_length k ≤ 32
 low_body k opcode e h = grind (arith, e, h)
 
-pub own_whole : (v : Option Volume) (b : List ℕ) (own : Own) → own_answer false v b ≡ Some own
-    → IsWhole (own_text b own)
-own_whole v b own h = by (is_none v && asks_nothing (slice_index b 8)) refl h
-  where
-    refused : (o : Option Volume) → option_map (λ status. record {
-      code = slice_index b 8 + 0x80;
-      status = status;
-      tells_bytes = true;
-    }) (own_refusal b o) ≡ Some own → IsWhole (own_text b own)
-    refused None h = absurd (none-some own h)
-    refused (Some x) h = cases (x.is_there) (moves_data b) refl h
-      where
-        got : (o : Option ℕ) → moves_data b ≡ true → option_map (λ status. record {
-          code = slice_index b 8 + 0x80;
-          status = status;
-          tells_bytes = true;
-        }) o ≡ Some own → IsWhole (own_text b own)
-        got None moves h = absurd (none-some own h)
-        got (Some status) moves h = subst (λ y. IsWhole (own_text b y)) (same_Some (record {
-          code = slice_index b 8 + 0x80;
-          status = status;
-          tells_bytes = true;
-        }) own h) (record {
-          long = omega arith;
-          short = omega arith;
-          top = high (slice_index b 8);
-          body = λ k is. low_body k (slice_index b 8) (and_parts
-              (moves_opcode (slice_index b 8)) (nat_le 32 (length b)) moves).0 is;
-        })
+-- of the past of a volume
+abbrev pub IsPast : ℕ → Type 0
+IsPast status = (status ≡ 0x1C01) ⊎ (status ≡ 0x0C01)
 
-        cases : (there moves : Bool) → moves_data b ≡ moves → option_map (λ status. record {
-          code = slice_index b 8 + 0x80;
-          status = status;
-          tells_bytes = true;
-        }) (cond (there && moves) (past_end x.size (num b 28 4) (num b 12 4)) None)
-            ≡ Some own → IsWhole (own_text b own)
-        cases true true is h = got (past_end x.size (num b 28 4) (num b 12 4)) is h
+-- the answer to one that asks nothing, and that to a transfer which isn't on its volume
+abbrev pub own_formal : List ℕ → Own
+own_formal b = record { code = slice_index b 8 + 0x80; status = 0; tells_bytes = false }
+
+abbrev pub own_refused : List ℕ → ℕ → Own
+own_refused b status = record { code = slice_index b 8 + 0x80; status = status; tells_bytes = true }
+
+-- it answers just these
+pub own_cases : (v : Option Volume) (b : List ℕ) (P : Own → Type 0)
+    → (asks_nothing (slice_index b 8) ≡ true → P (own_formal b))
+    → ((status : ℕ) → moves_data b ≡ true → IsPast status → P (own_refused b status)) → (own : Own)
+    → own_answer false v b ≡ Some own → P own
+own_cases v b P formal refused own h = by (is_none v && asks_nothing (slice_index b 8)) refl h
+  where
+    past : (x y : Bool) → moves_data b ≡ true
+        → option_map (own_refused b) (cond x (Some 0x1C01) (cond y (Some 0x0C01) None)) ≡ Some own → P own
+    past true y moves h = subst P (same_Some (own_refused b 0x1C01) own h) (refused 0x1C01 moves (inl refl))
+    past false true moves h = subst P (same_Some (own_refused b 0x0C01) own h) (refused 0x0C01 moves (inr refl))
+    past false false moves h = absurd (none-some own h)
+
+    on : (o : Option Volume) → option_map (own_refused b) (own_refusal b o) ≡ Some own → P own
+    on None h = absurd (none-some own h)
+    on (Some x) h = cases x.is_there (moves_data b) refl h
+      where
+        cases : (there moves : Bool) → moves_data b ≡ moves → option_map (own_refused b)
+            (cond (there && moves) (past_end x.size (num b 28 4) (num b 12 4)) None) ≡ Some own → P own
+        cases true true is h =
+            past (nat_le x.size (num b 28 4)) (nat_lt x.size (num b 28 4 + blocks (num b 12 4))) is h
         cases true false is h = absurd (none-some own h)
         cases false m is h = absurd (none-some own h)
 
-    by : (c : Bool) → (is_none v && asks_nothing (slice_index b 8)) ≡ c → cond c (Some (record {
-      code = slice_index b 8 + 0x80;
-      status = 0;
-      tells_bytes = false;
-    })) (option_map (λ status. record {
-      code = slice_index b 8 + 0x80;
-      status = status;
-      tells_bytes = true;
-    }) (own_refusal b v)) ≡ Some own → IsWhole (own_text b own)
-    by true is h = subst (λ y. IsWhole (own_text b y)) (same_Some (record {
-      code = slice_index b 8 + 0x80;
-      status = 0;
-      tells_bytes = false;
-    }) own h) (record {
-      long = omega arith;
-      short = omega arith;
-      top = high (slice_index b 8);
-      body = λ k e. absurd (formal_none (slice_index b 8) k (and_parts (is_none v)
-          (asks_nothing (slice_index b 8)) is).1 e);
-    })
-    by false is h = refused v h
+    by : (c : Bool) → (is_none v && asks_nothing (slice_index b 8)) ≡ c
+        → cond c (Some (own_formal b)) (option_map (own_refused b) (own_refusal b v)) ≡ Some own → P own
+    by true is h = subst P (same_Some (own_formal b) own h)
+        (formal (and_parts (is_none v) (asks_nothing (slice_index b 8)) is).1)
+    by false is h = on v h
+
+pub own_whole : (v : Option Volume) (b : List ℕ) (own : Own) → own_answer false v b ≡ Some own
+    → IsWhole (own_text b own)
+own_whole v b = own_cases v b (λ own. IsWhole (own_text b own)) (λ asks. record {
+  long = omega arith;
+  short = omega arith;
+  top = high (slice_index b 8);
+  body = λ k e. absurd (formal_none (slice_index b 8) k asks e);
+}) (λ status moves past. record {
+  long = omega arith;
+  short = omega arith;
+  top = high (slice_index b 8);
+  body = λ k is. low_body k (slice_index b 8)
+      (and_parts (moves_opcode (slice_index b 8)) (nat_le 32 (length b)) moves).0 is;
+})
 
 -- what the port answers has the code of the message's opcode, and answers neither a poll nor an ABORT
 pub own_coded : (v : Option Volume) (b : List ℕ) (own : Own) → own_answer false v b ≡ Some own
     → (own.code ≡ slice_index b 8 + 0x80) × (own.code ≢ 0x82) × (own.code ≢ 0x81)
-own_coded v b own h = by (is_none v && asks_nothing (slice_index b 8)) refl h
+own_coded v b = own_cases v b (λ own. (own.code ≡ slice_index b 8 + 0x80) × (own.code ≢ 0x82) × (own.code ≢ 0x81))
+    (λ asks. (refl, λ e. formal (slice_index b 8) asks (inl e), λ e. formal (slice_index b 8) asks (inr e)))
+    (λ status moves past. (
+      refl,
+      λ e. moved (slice_index b 8) (nat_le 32 (length b)) moves (inl e),
+      λ e. moved (slice_index b 8) (nat_le 32 (length b)) moves (inr e),
+    ))
   where
-    not_formal : (opcode : ℕ) → asks_nothing opcode ≡ true → opcode + 0x80 ≢ 0x82
-    not_formal opcode is e = grind (arith, is, e)
+    formal : (n : ℕ) → asks_nothing n ≡ true → (n + 0x80 ≡ 0x82) ⊎ (n + 0x80 ≡ 0x81) → ⊥
+    formal n is e = grind (arith, is, e)
 
-    no_abort : (opcode : ℕ) → asks_nothing opcode ≡ true → opcode + 0x80 ≢ 0x81
-    no_abort opcode is e = grind (arith, is, e)
-
-    not_moved : (opcode : ℕ) (c : Bool) → (moves_opcode opcode && c) ≡ true → opcode + 0x80 ≢ 0x82
-    not_moved opcode c is e = grind (arith, is, e)
-
-    moves_no_abort : (opcode : ℕ) (c : Bool) → (moves_opcode opcode && c) ≡ true → opcode + 0x80 ≢ 0x81
-    moves_no_abort opcode c is e = grind (arith, is, e)
-
-    got : (o : Option ℕ) → moves_data b ≡ true → option_map (λ status. record {
-      code = slice_index b 8 + 0x80;
-      status = status;
-      tells_bytes = true;
-    }) o ≡ Some own → (own.code ≡ slice_index b 8 + 0x80) × (own.code ≢ 0x82) × (own.code ≢ 0x81)
-    got None moves h = absurd (none-some own h)
-    got (Some status) moves h =
-        let same = same_Some (record { code = slice_index b 8 + 0x80; status = status; tells_bytes = true }) own h in
-        let code : own.code ≡ slice_index b 8 + 0x80 = ap (λ (x : Own). x.code) (sym same) in (
-          code,
-          λ e. not_moved (slice_index b 8) (nat_le 32 (length b)) moves (sym code ∙ e),
-          λ e. moves_no_abort (slice_index b 8) (nat_le 32 (length b)) moves (sym code ∙ e),
-        )
-
-    refused : (o : Option Volume) → option_map (λ status. record {
-      code = slice_index b 8 + 0x80;
-      status = status;
-      tells_bytes = true;
-    }) (own_refusal b o) ≡ Some own → (own.code ≡ slice_index b 8 + 0x80) × (own.code ≢ 0x82) × (own.code ≢ 0x81)
-    refused None h = absurd (none-some own h)
-    refused (Some x) h = cases x.is_there (moves_data b) refl h
-      where
-        cases : (there moves : Bool) → moves_data b ≡ moves → option_map (λ status. record {
-          code = slice_index b 8 + 0x80;
-          status = status;
-          tells_bytes = true;
-        }) (cond (there && moves) (past_end x.size (num b 28 4) (num b 12 4)) None) ≡ Some own
-            → (own.code ≡ slice_index b 8 + 0x80) × (own.code ≢ 0x82) × (own.code ≢ 0x81)
-        cases true true is h = got (past_end x.size (num b 28 4) (num b 12 4)) is h
-        cases true false is h = absurd (none-some own h)
-        cases false m is h = absurd (none-some own h)
-
-    by : (c : Bool) → (is_none v && asks_nothing (slice_index b 8)) ≡ c → cond c (Some (record {
-      code = slice_index b 8 + 0x80;
-      status = 0;
-      tells_bytes = false;
-    })) (option_map (λ status. record {
-      code = slice_index b 8 + 0x80;
-      status = status;
-      tells_bytes = true;
-    }) (own_refusal b v)) ≡ Some own → (own.code ≡ slice_index b 8 + 0x80) × (own.code ≢ 0x82) × (own.code ≢ 0x81)
-    by true is h =
-        let same = same_Some (record { code = slice_index b 8 + 0x80; status = 0; tells_bytes = false }) own h in
-        let code : own.code ≡ slice_index b 8 + 0x80 = ap (λ (x : Own). x.code) (sym same) in (
-          code,
-          λ e. not_formal (slice_index b 8) (and_parts (is_none v) (asks_nothing (slice_index b 8)) is).1
-              (sym code ∙ e),
-          λ e. no_abort (slice_index b 8) (and_parts (is_none v) (asks_nothing (slice_index b 8)) is).1
-              (sym code ∙ e),
-        )
-    by false is h = refused v h
+    moved : (n : ℕ) (c : Bool) → (moves_opcode n && c) ≡ true → (n + 0x80 ≡ 0x82) ⊎ (n + 0x80 ≡ 0x81) → ⊥
+    moved n c is e = grind (arith, is, e)
 
 -- ---- a call
 

@@ -52,6 +52,9 @@ pub mod Dealing
 pub mod Ended
 pub mod Falling
 pub mod Codes
+pub mod Origins
+pub mod Behind
+pub mod Followed
 pub mod Buffered
 pub mod Fitting
 pub mod Saying

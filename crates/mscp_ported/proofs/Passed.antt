@@ -149,8 +149,10 @@ module _ {K : Type 0} (picks : Picking K) (c : Settings) (picker : K)
   passes_on p WriteIp calls a asks reads never lives = absurd (never refl)
   passes_on p (Next blocks action bytes) calls a asks reads never lives =
       next_passes blocks action bytes a.0 p (awaited picks start a.0 calls a.1) (numbers_kept a.0 calls reads a.1)
-      (fitting picks c picker keeps valid sizes before hardware credits controller start was made quiet a.0 calls reads
-      a.1) (picks a.0.controller.picker) a.2.0
+      (fitting picks c picker keeps valid sizes before hardware credits controller start was made quiet
+      (λ verdict r. Unit {0}) (λ calls. Unit {0}) (λ call calls fine. tt)
+      (λ p outcome done calls fine a verdict how name was r found. tt)
+      a.0 calls reads tt a.1) (picks a.0.controller.picker) a.2.0
       (shaped picks c picker keeps valid before hardware credits controller start was made quiet a.0 calls a.1)
   passes_on p (WasRead bytes (Ok done)) calls a asks reads never lives = read_passes p calls bytes done a asks reads
       lives

@@ -1,4 +1,5 @@
 -- Ends pass on to a host in the order in which they came.
+use Rattle.mscp_drive.specs.Settings.{Settings}
 use Rattle.mscp_ported.proofs.Growing.{Grown, begun_one, silent, grown_none, grown_passes}
 use Rattle.mscp_port.specs.declared.port.OutgoingKind.TheVariants as kinds
 use Rattle.mscp_packet.specs.declared.command.Order.TheVariants as orders
@@ -71,8 +72,9 @@ use Rattle.std.specs.Prelude.{Err, Ok, Result, find, flat_map, is_none, is_ok, o
 
 -- ---- an end is taken
 
-module _ {K : Type 0} (blocks : Bool) (action : Action) (bytes : List ℕ) (old new : Port K) (aw : List (List ℕ))
-    (k : Kept old aw) (f : Fitting old aw) (picks : List _ → ℕ → Type 0) (r : Wants picks blocks old action new)
+module _ {c : Settings} {Told : Verdict → Record → Type 0} {K : Type 0} (blocks : Bool) (action : Action)
+    (bytes : List ℕ) (old new : Port K) (aw : List (List ℕ))
+    (k : Kept old aw) (f : Fitting c Told old aw) (picks : List _ → ℕ → Type 0) (r : Wants picks blocks old action new)
     (shaped : (e : End) → slice_get (ends_of old.controller) 0 ≡ Some e → IsOfKind e) where
   abbrev Passes : Type 0
   Passes = PassesOn (Next blocks action bytes) old new

@@ -1,4 +1,6 @@
 -- The bytes with which an end leaves say what it says.
+use Rattle.mscp_port.specs.declared.verdict.Verdict.{Verdict}
+use Rattle.mscp_queue.specs.Records.{Record}
 use Rattle.std.proofs.Common.{◌≡◌, ◌⊎◌, ◌∙◌, ◌≤◌, ◌∷◌, [], ℕ, Bool, true, false, cond, length, nat_eq, List, Option, Some, inl, inr, refl, ap, sym, arith}
 use Rattle.std.specs.Prelude.{find, option_map, slice_get, slice_index}
 use Rattle.std.specs.List.{AllByRecursion}
@@ -11,6 +13,7 @@ use Rattle.mscp_drive.specs.UnitList.{unit_found}
 use Rattle.mscp_packet.specs.declared.end.End.{End}
 use Rattle.mscp_packet.specs.declared.end.EndBody.{EndBody}
 use Rattle.mscp_packet.specs.declared.end.EndBody.TheVariants as bodies
+use Rattle.mscp_drive.specs.Settings.{Settings}
 use Rattle.mscp_drive.specs.Shape.{Shape}
 use Rattle.mscp_port.specs.declared.decided.Decided.{Decided}
 use Rattle.mscp_port.specs.Formalities.{ends_formality}
@@ -44,8 +47,9 @@ about_kind : (code : ℕ) (kind : BodyKind) → kind_of_code code ≡ Some kind 
 about_kind code kind shaped (inl x) = inl (same_Some kind kinds_of.Abort (sym shaped ∙ ap kind_of_code x))
 about_kind code kind shaped (inr x) = inr (same_Some kind kinds_of.Status (sym shaped ∙ ap kind_of_code x))
 
-pub told_about : {K : Type 0} (p : Port K) (e : End) (d : Decided) → slice_get p.decided.items 0 ≡ Some d
-    → (t : List ℕ) → IsOfKind e → FitsEnd (left_with e d) t
+pub told_about : {c : Settings} {Told : Verdict → Record → Type 0} {K : Type 0} (p : Port K) (e : End) (d : Decided)
+    → slice_get p.decided.items 0 ≡ Some d
+    → (t : List ℕ) → IsOfKind e → FitsEnd c Told (left_with e d) t
     → (slice_index (told_end p e) 8 ≡ 0x81) ⊎ (slice_index (told_end p e) 8 ≡ 0x82) → 16 ≤ length t
     → num (told_end p e) 12 4 ≡ num t 12 4
 told_about p e d some t shaped fits is long =
@@ -76,8 +80,9 @@ told_about p e d some t shaped fits is long =
     by false formal code = plain e.body refl shaped code
 
 -- and it succeeds
-pub told_success : {K : Type 0} (p : Port K) (e : End) (d : Decided) → slice_get p.decided.items 0 ≡ Some d
-    → (t : List ℕ) → IsOfKind e → FitsEnd (left_with e d) t
+pub told_success : {c : Settings} {Told : Verdict → Record → Type 0} {K : Type 0} (p : Port K) (e : End) (d : Decided)
+    → slice_get p.decided.items 0 ≡ Some d
+    → (t : List ℕ) → IsOfKind e → FitsEnd c Told (left_with e d) t
     → (slice_index (told_end p e) 8 ≡ 0x81) ⊎ (slice_index (told_end p e) 8 ≡ 0x82) → 16 ≤ length t
     → num (told_end p e) 10 2 ≡ 0
 told_success p e d some t shaped fits is long =
@@ -125,8 +130,9 @@ status_code code e = found endcodes rows e
         by false is h rest = rest h
 
 -- what is told of the figure
-pub told_figure : {K : Type 0} (p : Port K) (e : End) (d : Decided) → slice_get p.decided.items 0 ≡ Some d
-    → (t : List ℕ) → IsOfKind e → FitsEnd (left_with e d) t
+pub told_figure : {c : Settings} {Told : Verdict → Record → Type 0} {K : Type 0} (p : Port K) (e : End) (d : Decided)
+    → slice_get p.decided.items 0 ≡ Some d
+    → (t : List ℕ) → IsOfKind e → FitsEnd c Told (left_with e d) t
     → cond (nat_eq (slice_index (told_end p e) 8) 0x82) (num (told_end p e) 16 4) 0 ≡ figure_in e.body
 told_figure p e d some t shaped fits = by e.body refl
   where

@@ -103,7 +103,7 @@ online_fit : (s : Shape) (success : Bool)
 online_fit s true = tt
 online_fit s false = tt
 
-outcome_fit : (s : Shape) (status : ℕ) (o : Order) (good : ℕ) → IsSmallOrder o → IsBodyFit
+pub outcome_fit : (s : Shape) (status : ℕ) (o : Order) (good : ℕ) → IsSmallOrder o → IsBodyFit
     (outcome_body s status o good)
 outcome_fit s status orders.Online good h = online_fit s (is_success status)
 outcome_fit s status orders.SetUnit good h = online_fit s (is_success status)
@@ -141,7 +141,7 @@ fault_small c unit status (orders.SetController version) s h = version_small sta
 answered_small : (online : Bool) (o : Order) → answer_status online o < 2 ^ 16
 answered_small online o = grind arith
 
-ended_small : (online : Bool) (o : Order) (k : Block) → IsFault k → outcome_status online o k < 2 ^ 16
+pub ended_small : (online : Bool) (o : Order) (k : Block) → IsFault k → outcome_status online o k < 2 ^ 16
 ended_small online o k h = grind arith
 
 -- ---- ends

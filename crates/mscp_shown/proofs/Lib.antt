@@ -7,16 +7,16 @@ mod Messages
 mod Small
 mod Kept
 mod Moments
-mod Saying
-mod Identity
+pub mod Saying
+pub mod Identity
 mod Telling
-mod Reading
-mod Suited
-mod Keeping
-mod Suiting
+pub mod Reading
+pub mod Suited
+pub mod Keeping
+pub mod Suiting
 mod Owners
 mod Owning
-mod Fitting
+pub mod Fitting
 mod Making
 mod Aborted
 mod Pairing

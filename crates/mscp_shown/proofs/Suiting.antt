@@ -238,7 +238,7 @@ module _ (shape : Shape) (good done : ℕ) (same : good ≡ done) where
   move_ends kind count block false (Bad status) fault last =
       ((may_move kind).1, min count (512 * (good + 0)), refl, omega arith, λ z. absurd (omega (arith, z)))
 
-  outcome_suits : (online : Bool) (o : Order) (k : Block) → IsFault k → is_immediate o ≡ false
+  pub outcome_suits : (online : Bool) (o : Order) (k : Block) → IsFault k → is_immediate o ≡ false
       → ((byte why : ℕ) → o ≢ orders.Invalid byte why)
       → goes_on online o k (order_weight o - done) ≡ false
       → Suits o (outcome_status online o k)
@@ -264,7 +264,7 @@ bad_fine status n h = ((λ z. absurd (omega (arith, h, z))), λ z. absurd (omega
 bad_apart : (status : ℕ) → 5 ≤ status % 32 → (status % 32 ≡ 0 → status ≡ 0) × (status % 32 ≢ 1)
 bad_apart status h = ((λ z. absurd (omega (arith, h, z))), λ z. omega (arith, h, z))
 
-outcome_fine : (online : Bool) (o : Order) (k : Block) → IsFault k → is_immediate o ≡ false
+pub outcome_fine : (online : Bool) (o : Order) (k : Block) → IsFault k → is_immediate o ≡ false
     → ((byte why : ℕ) → o ≢ orders.Invalid byte why) → IsFine o (outcome_status online o k)
 outcome_fine true (orders.Move kind count block) Good fault h n = ((λ z. refl), λ z. absurd (omega (arith, z)))
 outcome_fine false (orders.Move kind count block) Good fault h n =

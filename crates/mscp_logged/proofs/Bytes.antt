@@ -1,0 +1,123 @@
+-- A message as it is handed over says what it says itself, but for its unit.
+use Rattle.std.proofs.Common.{◌≡◌, ◌<◌, ◌≤◌, ◌++◌, ◌∷◌, ◌%◌, ◌/◌, ℕ, zero, suc, Bool, true, false, cond, drop, length, take, List, inl, inr, refl, sym, subst, arith}
+use Rattle.std.specs.Prelude.{slice_index}
+use Rattle.byteorder.specs.Endian.{little_bytes}
+unfoldable use Rattle.mscp_packet.specs.Commands.{command_of}
+use Rattle.mscp_packet.specs.Number.{num}
+use Rattle.mscp_packet.specs.declared.command.Order.{Order}
+use Rattle.mscp_packet.specs.declared.command.Order.TheVariants as orders
+use Rattle.mscp_drive.specs.Shape.{Shape}
+use Rattle.mscp_drive.specs.declared.connection.Connection.TheVariants.{First}
+use Rattle.mscp_queue.specs.Orders.{endcode}
+use Rattle.mscp_port.specs.Formalities.{is_formality, stand_in}
+use Rattle.mscp_port.specs.Messages.{asks_for_next, handed, next_unit}
+use Rattle.mscp_ported.proofs.Origins.{IsText}
+use Rattle.mscp_wire.specs.Wire.{sent_by}
+use Rattle.mscp_wire.specs.declared.sent.Sent.{Sent}
+use Rattle.mscp_shown.specs.Keeping.{AreBytes}
+use Rattle.mscp_shown.proofs.Saying.{IsLong, Says, sent_long, sent_says}
+
+-- the command of a message, of which this is the unit
+abbrev pub of_unit : List ℕ → ℕ → Sent
+of_unit t unit = record (sent_by First t) { unit = unit }
+
+-- ---- the unit doesn't matter
+
+says_any : (o : Order) (t : List ℕ) (one other : ℕ) → Says o (of_unit t one) → Says o (of_unit t other)
+says_any (orders.Abort n) t one other h = h
+says_any (orders.Status n) t one other h = h
+says_any orders.UnitStatus t one other h = h
+says_any (orders.SetController version) t one other h = h
+says_any orders.Available t one other h = h
+says_any orders.Online t one other h = h
+says_any orders.SetUnit t one other h = h
+says_any (orders.Move kind count block) t one other h = h
+says_any (orders.Invalid byte status) t one other (inl e) = inl e
+says_any (orders.Invalid byte status) t one other (inr s) = inr (
+  s.0,
+  record { why = s.1.why; byte = s.1.byte; opcode = s.1.opcode; about = s.1.about; short = s.1.short },
+)
+
+long_any : (o : Order) (t : List ℕ) (one other : ℕ) → IsLong o (of_unit t one) → IsLong o (of_unit t other)
+long_any (orders.Abort n) t one other h = h
+long_any (orders.Status n) t one other h = h
+long_any orders.UnitStatus t one other h = h
+long_any (orders.SetController version) t one other h = h
+long_any orders.Available t one other h = h
+long_any orders.Online t one other h = h
+long_any orders.SetUnit t one other h = h
+long_any (orders.Move kind count block) t one other h = h
+long_any (orders.Invalid byte status) t one other h = h
+
+-- ---- another unit is named
+
+abbrev renamed : List ℕ → ℕ → List ℕ
+renamed t n = take 4 t ++ little_bytes 2 n ++ drop 6 t
+
+renamed_same : (t : List ℕ) (n : ℕ) → 12 ≤ length t
+    → sent_by First (renamed t n) ≡ of_unit t (num (renamed t n) 4 2)
+renamed_same (a ∷ b ∷ c ∷ d ∷ e ∷ f ∷ g ∷ h ∷ i ∷ j ∷ k ∷ l ∷ rest) n long = refl
+renamed_same t n long = absurd (search (arith, long))
+
+low_byte : (n : ℕ) → n % 256 < 256
+low_byte n = omega arith
+
+renamed_byte : (a b c d e f n : ℕ) (rest : List ℕ)
+    → ((i : ℕ) → slice_index (a ∷ b ∷ c ∷ d ∷ e ∷ f ∷ rest) i < 256)
+    → (i : ℕ) → slice_index (a ∷ b ∷ c ∷ d ∷ n % 256 ∷ n / 256 % 256 ∷ rest) i < 256
+renamed_byte a b c d e f n rest h zero = h 0
+renamed_byte a b c d e f n rest h (suc zero) = h 1
+renamed_byte a b c d e f n rest h (suc (suc zero)) = h 2
+renamed_byte a b c d e f n rest h (suc (suc (suc zero))) = h 3
+renamed_byte a b c d e f n rest h (suc (suc (suc (suc zero)))) = low_byte n
+renamed_byte a b c d e f n rest h (suc (suc (suc (suc (suc zero))))) = low_byte (n / 256)
+renamed_byte a b c d e f n rest h (suc (suc (suc (suc (suc (suc i)))))) = h (suc (suc (suc (suc (suc (suc i))))))
+
+renamed_bytes : (t : List ℕ) (n : ℕ) → 12 ≤ length t → ((i : ℕ) → slice_index t i < 256) → (i : ℕ)
+    → slice_index (renamed t n) i < 256
+renamed_bytes (a ∷ b ∷ c ∷ d ∷ e ∷ f ∷ rest) n long h i = renamed_byte a b c d e f n rest h i
+renamed_bytes t n long h i = absurd (search (arith, long))
+
+-- ---- what is handed over
+
+module _ (units : List Shape) (t : List ℕ) (is : IsText t) (plain : is_formality (slice_index t 8) ≡ false) where
+  abbrev b : List ℕ
+  b = handed units t
+
+  handed_same : sent_by First b ≡ of_unit t (num b 4 2)
+  handed_same = subst (λ c. sent_by First (cond c (stand_in t) (cond (asks_for_next t)
+      (renamed t (next_unit units (num t 4 2))) t))
+      ≡ of_unit t (num (cond c (stand_in t) (cond (asks_for_next t) (renamed t (next_unit units (num t 4 2))) t)) 4 2))
+      (sym plain) (by (asks_for_next t))
+    where
+      by : (c : Bool) → sent_by First (cond c (renamed t (next_unit units (num t 4 2))) t)
+          ≡ of_unit t (num (cond c (renamed t (next_unit units (num t 4 2))) t) 4 2)
+      by true = renamed_same t (next_unit units (num t 4 2)) is.long
+      by false = refl
+
+  pub handed_bytes : AreBytes b
+  handed_bytes = subst (λ c. AreBytes (cond c (stand_in t) (cond (asks_for_next t)
+      (renamed t (next_unit units (num t 4 2))) t))) (sym plain) (by (asks_for_next t))
+    where
+      by : (c : Bool) → AreBytes (cond c (renamed t (next_unit units (num t 4 2))) t)
+      by true i low = renamed_bytes t (next_unit units (num t 4 2)) is.long is.small i
+      by false i low = is.small i
+
+  pub handed_says : (unit : ℕ) → Says (command_of b).order (of_unit t unit)
+  handed_says unit = says_any (command_of b).order t (num b 4 2) unit
+      (subst (λ s. Says (command_of b).order s) handed_same (sent_says First b))
+
+  pub handed_long : (unit : ℕ) → IsLong (command_of b).order (of_unit t unit)
+  handed_long unit = long_any (command_of b).order t (num b 4 2) unit
+      (subst (λ s. IsLong (command_of b).order s) handed_same (sent_long First b))
+
+-- what stands in for a formality has the endcode of an ACCESS
+pub stood_code : (units : List Shape) (t : List ℕ) → 12 ≤ length t → is_formality (slice_index t 8) ≡ true
+    → endcode (command_of (handed units t)).order ≡ 0x90
+unfolding command_of
+stood_code units t long formal = subst (λ c. endcode (command_of (cond c (stand_in t)
+    (cond (asks_for_next t) (renamed t (next_unit units (num t 4 2))) t))).order ≡ 0x90) (sym formal) (by t long)
+  where
+    by : (t : List ℕ) → 12 ≤ length t → endcode (command_of (stand_in t)).order ≡ 0x90
+    by (a ∷ b ∷ c ∷ d ∷ e ∷ f ∷ g ∷ h ∷ rest) long = refl
+    by t long = absurd (search (arith, long))

@@ -1,0 +1,125 @@
+-- Which rules of the wire a port keeps, if its host is right.
+use Rattle.std.proofs.Common.{◌≡◌, ◌∙◌, ◌+◌, ◌<◌, ◌∷◌, [], ℕ, zero, suc, Bool, nat_eq, not, true, false, drop, length, take, List, Option, None, Some, inl, inr, refl, ap, sym, subst, arith}
+use Rattle.std.specs.List.{AllByRecursion, list_any}
+use Rattle.std.specs.Prelude.{◌||◌, fold, is_some}
+use Rattle.mscp_drive.specs.Settings.{Settings}
+use Rattle.mscp_drive.specs.declared.connection.Connection.TheVariants.{First}
+use Rattle.mscp_port.proofs.Common.{eq-eqb, eqb-true, false≢true}
+use Rattle.mscp_ported.specs.Told.{Said}
+use Rattle.mscp_wire.specs.Wire.{History, aborts, answer_by, command_at, controller, controller_after, controller_in, count_of, fits, has_abort, has_count, has_status, later_of, moment_at, outstanding, status_code}
+use Rattle.mscp_wire.specs.declared.answer.Answer.{Answer}
+use Rattle.mscp_wire.specs.declared.moment.Moment.{Moment}
+use Rattle.mscp_wire.specs.declared.moment.Moment.TheVariants as moments
+use Rattle.mscp_wire.specs.declared.rule.Rule.{Rule}
+use Rattle.mscp_wire.specs.declared.rule.Rule.TheVariants as rules
+use Rattle.mscp_wire.specs.declared.sent.Sent.{Sent}
+use Rattle.mscp_wire.specs.declared.told.Seen.{Seen}
+use Rattle.mscp_logged.specs.Rules.{HostIsRight, Keeps, is_left_open, is_of_drives}
+use Rattle.mscp_logged.proofs.About.{about_right, success_right}
+use Rattle.mscp_logged.proofs.Breaking.{command_holds, end_holds, placed_holds}
+use Rattle.mscp_logged.proofs.Coded.{endcode_right, unit_right}
+use Rattle.mscp_logged.proofs.Long.{whole_long}
+use Rattle.mscp_logged.proofs.Placed.{keeps_rule}
+use Rattle.mscp_logged.proofs.Stated.{IsSeen, IsTied, Stated}
+use Rattle.mscp_logged.proofs.Suited.{IsKnown, identifier}
+use Rattle.mscp_logged.proofs.Tied.{IsEndOf}
+
+-- ---- what is told of the controller
+
+later_known : (c : Settings) (new old : Option ℕ) → IsKnown c new → IsKnown c old
+    → IsKnown c (later_of new old)
+later_known c None old new was = was
+later_known c (Some n) old new was = new
+
+abbrev IsKnownBy : Settings → Moment → Type 0
+IsKnownBy c (moments.End via b) = IsKnown c (controller_in b.items)
+IsKnownBy c m = Unit {0}
+
+after_known : (c : Settings) (told : Option ℕ) (m : Moment) → IsKnownBy c m → IsKnown c told
+    → IsKnown c (controller_after told m)
+after_known c told (moments.End via b) new was = later_known c (controller_in b.items) told new was
+after_known c told moments.Reset new was = inl refl
+after_known c told m new was = was
+
+all_known : (c : Settings) (h : History) (told : Option ℕ) → AllByRecursion (IsKnownBy c) h → IsKnown c told
+    → IsKnown c (fold controller_after told h)
+all_known c [] told all was = was
+all_known c (m ∷ h) told all was =
+    all_known c h (controller_after told m) all.1 (after_known c told m all.0 was)
+
+-- so many of the first moments
+first_of : (P : Moment → Type 0) (h : History) → ((i : ℕ) → i < length h → P (moment_at h i)) → (n : ℕ)
+    → AllByRecursion P (take n h)
+first_of P h each zero = tt
+first_of P [] each (suc n) = tt
+first_of P (m ∷ h) each (suc n) =
+    (each 0 (search arith), first_of P h (λ i low. each (suc i) (search (arith, low))) n)
+
+fits_known : (c : Settings) (one other : Option ℕ) → IsKnown c one → IsKnown c other → fits one other ≡ true
+fits_known c one other (inl e) k = subst (λ o. fits o other ≡ true) (sym e) refl
+fits_known c one other (inr e) (inl k) = subst (λ o. fits one o ≡ true) (sym k) (none one)
+  where
+    none : (o : Option ℕ) → fits o None ≡ true
+    none None = refl
+    none (Some n) = refl
+fits_known c one other (inr e) (inr k) = subst (λ o. fits o other ≡ true) (sym e)
+    (subst (λ o. fits (Some (identifier c)) o ≡ true) (sym k) (eq-eqb (identifier c) (identifier c) refl))
+
+-- ---- the end of a command
+
+module _ (c : Settings) (F : Type 0) (xs : List Sent) (unit : Seen) (known : IsKnown c unit.controller) (b : List ℕ)
+    (tied : IsTied (IsEndOf c F) F xs b) where
+  abbrev y : Sent
+  y = command_at xs tied.place
+
+  abbrev e : Answer
+  e = answer_by First b
+
+  command_right : (x : Rule) → is_left_open x ≡ false → (is_of_drives x ≡ true → F)
+      → command_holds (take tied.place xs) (drop (tied.place + 1) xs) y unit e x ≡ true
+  command_right rules.Unit asked f = unit_right y e tied.message tied.command tied.tie.fits.unit
+  command_right rules.Endcode asked f =
+      endcode_right y e tied.message (ap (λ (s : Sent). s.opcode) tied.command) tied.tie.fits.code
+  command_right rules.Status asked f =
+      subst (λ s. has_status s e ≡ true) (sym tied.command) (tied.tie.suited (f refl)).status
+  command_right rules.Aborted asked f = aborted_right (nat_eq (status_code e) 2) refl
+    where
+      aborted_right : (b : Bool) → nat_eq (status_code e) 2 ≡ b → has_abort (drop (tied.place + 1) xs) y e ≡ true
+      aborted_right true is = ap (λ b. not b || list_any (aborts y) (drop (tied.place + 1) xs)) is
+          ∙ tied.abort (f refl) (eqb-true (status_code e) 2 is)
+      aborted_right false is = ap (λ b. not b || list_any (aborts y) (drop (tied.place + 1) xs)) is
+  command_right rules.Success asked f =
+      success_right y b tied.message tied.command tied.tie.fits tied.tie.whole
+  command_right rules.About asked f = about_right y b tied.message tied.command tied.tie.fits tied.tie.whole
+  command_right rules.Count asked f =
+      subst (λ s. has_count e (count_of s e) ≡ true) (sym tied.command) (tied.tie.suited (f refl)).count
+  command_right rules.Controller asked f =
+      fits_known c unit.controller (controller_in b) known tied.tie.known
+  command_right rules.Message asked f = refl
+  command_right rules.Number asked f = refl
+  command_right rules.Credits asked f = refl
+  command_right rules.Length asked f = refl
+  command_right rules.Outstanding asked f = refl
+  command_right x asked f = absurd (false≢true (sym asked))
+
+  end_right : (x : Rule) → is_left_open x ≡ false → (is_of_drives x ≡ true → F) → end_holds xs unit First b x ≡ true
+  end_right rules.Length asked f = whole_long b tied.tie.whole
+  end_right rules.Outstanding asked f = ap is_some tied.at
+  end_right x asked f = ap (λ o. placed_holds xs unit e o x) tied.at ∙ command_right x asked f
+
+-- ---- all of them
+
+pub keeps_rules : (c : Settings) (F : Type 0) (limit : Option ℕ) (x : Rule) (h : History) (aw : List (List ℕ))
+    (held : List Said) → Stated (IsEndOf c F) F h aw held → HostIsRight limit h → is_left_open x ≡ false
+    → (is_of_drives x ≡ true → F) → Keeps x limit h
+keeps_rules c F limit x h aw held s host asked f = keeps_rule (IsEndOf c F) F limit x h aw held s
+    (λ i unit b low is tied. end_right c F (outstanding (take i h)) unit
+    (subst (λ o. IsKnown c o) (sym is) (told i)) b tied x asked f) host
+  where
+    known : (prefix : History) (m : Moment) → IsSeen (IsEndOf c F) F prefix m → IsKnownBy c m
+    known prefix (moments.End via b) is = is.1.tie.known
+    known prefix m is = tt
+
+    told : (i : ℕ) → IsKnown c (controller (take i h))
+    told i = all_known c (take i h) None
+        (first_of (IsKnownBy c) h (λ j low. known (take j h) (moment_at h j) (s.each j low)) i) (inl refl)

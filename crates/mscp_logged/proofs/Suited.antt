@@ -1,0 +1,371 @@
+-- An end of the controller's as it goes out keeps the rules of statuses and of bytes, and tells no other identifier of
+-- the controller than its own.
+use Rattle.byteorder.specs.Endian.{little_bytes}
+use Rattle.std.proofs.Common.{◌≡◌, ◌⊎◌, ◌∙◌, ◌+◌, ◌<◌, ◌≤◌, ◌^◌, ℕ, Bool, true, false, cond, length, nat_eq, not, List, Option, None, Some, inl, inr, refl, ap, sym, subst, arith}
+use Rattle.std.specs.Prelude.{◌%◌, ◌*◌, ◌/◌, ◌&&◌, ◌||◌, nat_le, nat_lt, slice_index}
+use Rattle.std.proofs.lemmas.Option.{same_Some}
+use Rattle.mscp_packet.proofs.Numbers.{four, two}
+use Rattle.mscp_packet.specs.Commands.{command_of}
+use Rattle.mscp_packet.specs.Ends.{end_bytes, kind_of_body, kind_of_code}
+use Rattle.mscp_packet.specs.Number.{num}
+use Rattle.mscp_packet.specs.declared.end.BodyKind.TheVariants as kinds
+use Rattle.mscp_packet.specs.declared.end.End.{End}
+use Rattle.mscp_packet.specs.declared.end.EndBody.{EndBody}
+use Rattle.mscp_packet.specs.declared.end.EndBody.TheVariants as bodies
+use Rattle.mscp_drive.specs.Settings.{Settings}
+use Rattle.mscp_drive.specs.Shape.{Shape}
+use Rattle.mscp_drive.specs.UnitList.{unit_found}
+use Rattle.mscp_drive.specs.declared.block.Block.TheVariants as blocks
+use Rattle.mscp_drive.specs.declared.connection.Connection.TheVariants.{First}
+use Rattle.mscp_queue.specs.Records.{Record}
+use Rattle.mscp_port.specs.Blocks.{block_told}
+use Rattle.mscp_port.specs.Decided.{status_after, status_told, unit_state}
+use Rattle.mscp_port.specs.Formalities.{ends_formality, formal_status, is_formality}
+use Rattle.mscp_port.specs.Leaving.{controller_end, end_left, end_with_body, head}
+use Rattle.mscp_port.specs.Messages.{handed}
+use Rattle.mscp_port.specs.declared.decided.Decided.{Decided}
+use Rattle.mscp_port.specs.declared.hardware.Hardware.{Hardware}
+use Rattle.mscp_port.specs.declared.port.Port.{Port}
+use Rattle.mscp_port.specs.declared.verdict.Verdict.{Verdict}
+use Rattle.mscp_port.specs.declared.verdict.Verdict.TheVariants as verdicts
+use Rattle.mscp_port.specs.declared.volumes.Volume.{Volume}
+use Rattle.mscp_port.proofs.Common.{eqb-true, false≢true}
+use Rattle.mscp_ported.specs.Ends.{Leaving}
+use Rattle.mscp_ported.specs.Fitting.{IsCodeFor}
+use Rattle.mscp_ported.proofs.Ending.{left_with}
+use Rattle.mscp_ported.proofs.Opcodes.{IsSaid}
+use Rattle.mscp_ported.proofs.Origins.{IsMade, IsToldSo}
+use Rattle.mscp_ported.proofs.Whole.{code_of}
+use Rattle.mscp_wire.specs.Wire.{answer_by, controller_in, count_of, has_code, has_count, has_status, is_plain, points_into, sent_by, status_code}
+use Rattle.mscp_wire.specs.declared.answer.Answer.{Answer}
+use Rattle.mscp_shown.proofs.Keeping.{keeps}
+use Rattle.mscp_shown.proofs.Reading.{BodyReads, IsBodyFit}
+use Rattle.mscp_shown.proofs.Suited.{Keeps}
+use Rattle.mscp_logged.proofs.Bytes.{handed_long, handed_says, of_unit, stood_code}
+use Rattle.mscp_logged.proofs.Faults.{IsToldOf}
+use Rattle.mscp_logged.proofs.Made.{answer_controls, answer_kept, given_is, made_code, made_formal, made_kept, of_code}
+
+-- the identifier that a controller is set to, as it is told
+abbrev pub identifier : Settings → ℕ
+identifier c = num (little_bytes 8 c.id) 0 8
+
+-- it is told, or none is
+abbrev pub IsKnown : Settings → Option ℕ → Type 0
+IsKnown c told = (told ≡ None) ⊎ (told ≡ Some (identifier c))
+
+-- it has a status that its command may have, and counts the bytes that were moved
+pub record IsSuited (text message : List ℕ) : Type 0 where
+  pub status : has_status (sent_by First message) (answer_by First text) ≡ true
+  pub count : has_count (answer_by First text) (count_of (sent_by First message) (answer_by First text)) ≡ true
+
+-- ---- a formality's
+
+pub formal_opcode : (P : ℕ → Type 0) → P 11 → P 17 → P 19 → (n : ℕ) → is_formality n ≡ true → P n
+formal_opcode P a b c n e = by (nat_eq n 11) refl (nat_eq n 17) refl (nat_eq n 19) refl e
+  where
+    by : (x : Bool) → nat_eq n 11 ≡ x → (y : Bool) → nat_eq n 17 ≡ y → (z : Bool) → nat_eq n 19 ≡ z
+        → (x || y || z) ≡ true → P n
+    by true h y k z l e = subst P (sym (eqb-true n 11 h)) a
+    by false h true k z l e = subst P (sym (eqb-true n 17 k)) b
+    by false h false k true l e = subst P (sym (eqb-true n 19 l)) c
+    by false h false k false l e = absurd (false≢true e)
+
+module _ (t : List ℕ) (long : 12 ≤ length t) (reference unit : ℕ) where
+  abbrev text_of : ℕ → ℕ → List ℕ
+  text_of opcode status = head reference unit (opcode + 0x80) status
+
+  abbrev HasStatus : ℕ → ℕ → Type 0
+  HasStatus status opcode =
+      has_status (record (sent_by First t) { opcode = opcode }) (answer_by First (text_of opcode status)) ≡ true
+
+  abbrev HasCount : ℕ → ℕ → Type 0
+  HasCount status opcode = has_count (answer_by First (text_of opcode status))
+      (count_of (record (sent_by First t) { opcode = opcode }) (answer_by First (text_of opcode status))) ≡ true
+
+  enough : nat_lt (length t) 12 ≡ false
+  enough = search (arith, long)
+
+  -- where this is whether it is shorter than its opcode asks
+  abbrev status_if : ℕ → ℕ → Bool → Bool
+  status_if status opcode short =
+      let y = record (sent_by First t) { opcode = opcode } in
+      let e = answer_by First (text_of opcode status) in
+      has_code y e && (not short || not (nat_eq (status_code e) 0)) && is_plain y e && points_into y e
+
+  good_status : (opcode : ℕ) → is_formality opcode ≡ true → HasStatus 0 opcode
+  good_status opcode e = formal_opcode (HasStatus 0) (ap (status_if 0 11) enough) (ap (status_if 0 17) enough)
+      (ap (status_if 0 19) enough) opcode e
+
+  aborted_status : (opcode : ℕ) → is_formality opcode ≡ true → HasStatus 2 opcode
+  aborted_status opcode e = formal_opcode (HasStatus 2) (ap (status_if 2 11) enough) (ap (status_if 2 17) enough)
+      (ap (status_if 2 19) enough) opcode e
+
+  pub formal_suited : (code status : ℕ) → is_formality (slice_index t 8) ≡ true → code ≡ slice_index t 8 + 0x80
+      → (status ≡ 0) ⊎ (status ≡ 2) → IsSuited (head reference unit code status) t
+  formal_suited code status formal is either = subst (λ n. IsSuited (head reference unit n status) t) (sym is)
+      (elim either [
+        | inl e ↦ subst (λ n. IsSuited (head reference unit (slice_index t 8 + 0x80) n) t) (sym e) (record {
+          status = good_status (slice_index t 8) formal;
+          count = formal_opcode (HasCount 0) refl refl refl (slice_index t 8) formal;
+        })
+        | inr e ↦ subst (λ n. IsSuited (head reference unit (slice_index t 8 + 0x80) n) t) (sym e) (record {
+          status = aborted_status (slice_index t 8) formal;
+          count = formal_opcode (HasCount 2) refl refl refl (slice_index t 8) formal;
+        })
+      ])
+
+-- ---- the bytes of another
+
+body_status : (body : EndBody) (e : End) (d : Decided) (o : Option Shape) (h : Hardware) → d.status < 2 ^ 16
+    → num (end_with_body body e d o h) 10 2 ≡ d.status
+body_status body e d o h small = grind (arith, two d.status small)
+
+body_reads : (body : EndBody) (e : End) (d : Decided) (o : Option Shape) (h : Hardware) → e.body ≡ body
+    → IsBodyFit body → BodyReads body (answer_by First (end_with_body body e d o h))
+body_reads body e d o h same fit = by body same fit
+  where
+    by : (body : EndBody) → e.body ≡ body → IsBodyFit body
+        → BodyReads body (answer_by First (end_with_body body e d o h))
+    by (bodies.Abort other) same fit =
+        subst (λ b. BodyReads (bodies.Abort other)
+        (answer_by First (end_bytes (record e { status = d.status; body = b })))) (sym same) (ap Some (four other fit))
+    by (bodies.Status other figure) same fit =
+        subst (λ b. BodyReads (bodies.Status other figure)
+        (answer_by First (end_bytes (record e { status = d.status; body = b })))) (sym same) (
+          ap Some (four other fit.0),
+          ap Some (four figure fit.1),
+        )
+    by (bodies.Moved count) same fit =
+        subst (λ b. BodyReads (bodies.Moved count)
+        (answer_by First (end_bytes (record e { status = d.status; body = b })))) (sym same) (ap Some (four count fit))
+    by body same fit = tt
+
+-- ---- codes
+
+formality_of : (n : ℕ) → ends_formality (n + 0x80) ≡ true → is_formality n ≡ true
+formality_of n e = grind (arith, e)
+
+no_formality : (n : ℕ) → is_formality n ≡ true → n + 0x80 ≡ 0x90 → ⊥
+no_formality n e h = grind (arith, e, h)
+
+formal_high : (code : ℕ) → code ≡ 0x80 → ends_formality code ≡ true → ⊥
+formal_high code e h = search (arith, sym h ∙ ap ends_formality e)
+
+-- ---- statuses
+
+low_bits : (x : ℕ) → num (little_bytes 2 x) 0 2 % 32 ≡ x % 32
+low_bits x = low x
+  where
+    low : (x : ℕ) → (0 + x % 256 * 1 + x / 256 % 256 * 256) % 32 ≡ x % 32
+    low x = omega arith
+
+body_bits : (body : EndBody) (e : End) (d : Decided) (o : Option Shape) (h : Hardware)
+    → num (end_with_body body e d o h) 10 2 ≡ num (little_bytes 2 d.status) 0 2
+body_bits body e d o h = grind arith
+
+-- an end is told that its command was aborted just if the controller made it so
+told_two : (verdict : Verdict) (code status : ℕ) (v : Volume) → status_told verdict code status v % 32 ≡ 2
+    → status % 32 ≡ 2
+told_two verdict code status v h = by (ends_formality code) h
+  where
+    formal : (b : Bool) → nat_eq status 2 ≡ b → cond b 2 0 % 32 ≡ 2 → status % 32 ≡ 2
+    formal true is e = ap (λ n. n % 32) (eqb-true status 2 is)
+    formal false is e = search (arith, e)
+
+    state : (a b : Bool) → cond (not a) 0x23 (cond (not b) 4 0) % 32 ≡ 2 → status % 32 ≡ 2
+    state false b e = search (arith, e)
+    state true false e = search (arith, e)
+    state true true e = search (arith, e)
+
+    served : (x y m : Bool) → cond x (unit_state v) (cond y (cond m 0x0100 0) status) % 32 ≡ 2 → status % 32 ≡ 2
+    served true y m e = state v.is_there v.is_mounted e
+    served false true true e = search (arith, e)
+    served false true false e = search (arith, e)
+    served false false m e = e
+
+    after : (w : Verdict) → status_after w code status v % 32 ≡ 2 → status % 32 ≡ 2
+    after verdicts.NoVolume e = search (arith, e)
+    after verdicts.NotOnline e = search (arith, e)
+    after (verdicts.Served block) e = served _ _ v.is_mounted e
+
+    by : (b : Bool) → cond b (formal_status status) (status_after verdict code status v) % 32 ≡ 2 → status % 32 ≡ 2
+    by true e = formal (nat_eq status 2) refl e
+    by false e = after verdict e
+
+module _ {K : Type 0} (c : Settings) (Told : Verdict → Record → Type 0) (old : Port K) (aw : List (List ℕ))
+    (text t : List ℕ) (s : IsSaid c Told old aw text t) where
+  abbrev e : End
+  e = s.end
+
+  abbrev d : Decided
+  d = s.decided
+
+  abbrev l : Leaving
+  l = left_with e d
+
+  abbrev o : Option Shape
+  o = unit_found old.controller.settings.units e.unit
+
+  text_is : (b : Bool) → ends_formality d.code ≡ b
+      → cond b (head e.reference e.unit d.code d.status) (end_with_body e.body e d o old.hardware) ≡ text
+  text_is b is = ap (λ x. cond x (head e.reference e.unit d.code d.status) (end_with_body e.body e d o old.hardware))
+      (sym is) ∙ sym (ap (λ x. end_left e x o old.hardware) s.first) ∙ s.is
+
+  code_for : (b : Bool) → ends_formality d.code ≡ b → IsCodeFor (cond b d.code e.code) t
+  code_for b is = subst (λ x. IsCodeFor (cond x d.code e.code) t) is s.fits.code
+
+  -- the end of a formality
+  formal_code : ends_formality d.code ≡ true → d.code ≡ slice_index t 8 + 0x80
+  formal_code is = by (code_for true is)
+    where
+      by : IsCodeFor d.code t → d.code ≡ slice_index t 8 + 0x80
+      by (inl h) = absurd (formal_high d.code h.0 is)
+      by (inr h) = h
+
+  formal_so : ends_formality d.code ≡ true → IsSuited text t
+  formal_so is = subst (λ x. IsSuited x t) (text_is true is)
+      (formal_suited t (made_code c Told l t s.fits.made).message.long e.reference e.unit d.code d.status
+      (formality_of (slice_index t 8) (subst (λ n. ends_formality n ≡ true) (formal_code is) is)) (formal_code is)
+      (made_formal c Told l t s.fits.made is))
+
+  -- any other is that of no formality
+  plain : ends_formality d.code ≡ false → is_formality (slice_index t 8) ≡ false
+  plain is = by (is_formality (slice_index t 8)) refl
+    where
+      stood : is_formality (slice_index t 8) ≡ true → e.code ≡ 0x90
+      stood formal =
+          let m = made_code c Told l t s.fits.made in m.is ∙ stood_code m.units t m.message.long formal
+
+      never : is_formality (slice_index t 8) ≡ true → IsCodeFor e.code t → ⊥
+      never formal (inl h) = search (arith, sym h.0 ∙ stood formal)
+      never formal (inr h) = no_formality (slice_index t 8) formal (sym h ∙ stood formal)
+
+      by : (b : Bool) → is_formality (slice_index t 8) ≡ b → b ≡ false
+      by false h = refl
+      by true h = absurd (never h (code_for false is))
+
+  -- ---- what it tells of the controller
+
+  tells_none : ends_formality d.code ≡ true → slice_index text 8 ≡ 0x84 → ⊥
+  tells_none is code = search (
+    arith,
+    sym is
+        ∙ ap ends_formality (ap (λ x. slice_index x 8) (text_is true is) ∙ code),
+  )
+
+  tells_own : ends_formality d.code ≡ false → e.code ≡ 0x84 → num text 10 2 % 32 ≡ 0
+      → num text 20 8 ≡ identifier c
+  tells_own is code good = by e.body refl
+    where
+      answered : (timeout id : ℕ) → e.body ≡ bodies.Controller timeout id → id ≡ c.id
+      answered timeout id body = from s.fits.made
+        where
+          from : IsMade c Told l t → id ≡ c.id
+          from (inl x) =
+              let kept = answer_kept c l t (plain is) is (s.fits.same is) x in
+              answer_controls c l t (plain is) is (s.fits.same is) x timeout id body s.shaped
+              (ap (λ n. n % 32) (sym (body_status e.body e d o old.hardware kept.apt.small)
+              ∙ ap (λ x. num x 10 2) (text_is false is)) ∙ good)
+          from (inr (inl x)) = absurd (of_code x.own t x.of
+              (sym (ap (λ (y : End). y.code) x.end) ∙ code))
+          from (inr (inr x)) = absurd (of_code x.own t x.of
+              (ap (λ (y : End). y.code) (given_is (block_told x.verdict) x.drive x.own e x.end).end ∙ code))
+
+      told_id : (b : Bool) (timeout id : ℕ) → e.body ≡ bodies.Controller timeout id
+          → num (cond b (controller_end e d old.hardware timeout id) (end_bytes (record e { status = d.status }))) 20 8
+          ≡ num (little_bytes 8 id) 0 8
+      told_id true timeout id body = refl
+      told_id false timeout id body =
+          ap (λ b. num (end_bytes (record e { status = d.status; body = b })) 20 8) body
+
+      other : (body : EndBody) → e.body ≡ body → (kind_of_body body ≡ kinds.Controller → ⊥) → num text 20 8
+          ≡ identifier c
+      other body same never = absurd (never (same_Some (kind_of_body body) kinds.Controller
+          (sym (s.shaped ∙ ap (λ b. Some (kind_of_body b)) same) ∙ ap kind_of_code code)))
+
+      by : (body : EndBody) → e.body ≡ body → num text 20 8 ≡ identifier c
+      by (bodies.Controller timeout id) same = ap (λ x. num x 20 8) (sym (text_is false is))
+          ∙ ap (λ b. num (end_with_body b e d o old.hardware) 20 8) same
+          ∙ told_id (nat_eq d.status 0) timeout id same ∙ ap (λ n. num (little_bytes 8 n) 0 8)
+          (answered timeout id same)
+      by (bodies.Moved count) same = other (bodies.Moved count) same (λ k. search (arith, k))
+      by bodies.Bare same = other bodies.Bare same (λ k. search (arith, k))
+      by (bodies.Abort n) same = other (bodies.Abort n) same (λ k. search (arith, k))
+      by (bodies.Status n figure) same = other (bodies.Status n figure) same (λ k. search (arith, k))
+      by (bodies.UnitStatus x y z v w) same = other (bodies.UnitStatus x y z v w) same (λ k. search (arith, k))
+      by (bodies.Online x y z v) same = other (bodies.Online x y z v) same (λ k. search (arith, k))
+
+  pub tells_known : IsKnown c (controller_in text)
+  tells_known = by (nat_eq (slice_index text 8) 0x84) refl (nat_eq (num text 10 2 % 32) 0) refl
+      (nat_le 28 (length text)) refl
+    where
+      in_it : (x y z : Bool) → nat_eq (slice_index text 8) 0x84 ≡ x → nat_eq (num text 10 2 % 32) 0 ≡ y
+          → nat_le 28 (length text) ≡ z → controller_in text ≡ cond (x && y && z) (Some (num text 20 8)) None
+      in_it x y z h k m =
+          ap (λ a. cond (a && nat_eq (num text 10 2 % 32) 0 && nat_le 28 (length text)) (Some (num text 20 8)) None) h
+          ∙ ap (λ a. cond (x && a && nat_le 28 (length text)) (Some (num text 20 8)) None) k
+          ∙ ap (λ a. cond (x && y && a) (Some (num text 20 8)) None) m
+
+      formal : (b : Bool) → ends_formality d.code ≡ b → slice_index text 8 ≡ 0x84 → num text 10 2 % 32 ≡ 0
+          → num text 20 8 ≡ identifier c
+      formal true is code good = absurd (tells_none is code)
+      formal false is code good = tells_own is (sym (code_of e.body e d o old.hardware)
+          ∙ ap (λ x. slice_index x 8) (text_is false is) ∙ code) good
+
+      by : (x : Bool) → nat_eq (slice_index text 8) 0x84 ≡ x → (y : Bool) → nat_eq (num text 10 2 % 32) 0 ≡ y
+          → (z : Bool) → nat_le 28 (length text) ≡ z → IsKnown c (controller_in text)
+      by false h y k z m = inl (in_it false y z h k m)
+      by true h false k z m = inl (in_it true false z h k m)
+      by true h true k false m = inl (in_it true true false h k m)
+      by true h true k true m = inr (in_it true true true h k m ∙ ap Some (formal (ends_formality d.code) refl
+          (eqb-true (slice_index text 8) 0x84 h) (eqb-true (num text 10 2 % 32) 0 k)))
+
+  -- ---- whether it says that its command was aborted
+
+  status_low : num text 10 2 % 32 ≡ 2 → d.status % 32 ≡ 2
+  status_low h = by (ends_formality d.code) refl
+    where
+      by : (b : Bool) → ends_formality d.code ≡ b → d.status % 32 ≡ 2
+      by true is = sym (low_bits d.status) ∙ ap (λ x. num x 10 2 % 32) (text_is true is) ∙ h
+      by false is = sym (low_bits d.status)
+          ∙ ap (λ n. n % 32) (sym (body_bits e.body e d o old.hardware))
+          ∙ ap (λ x. num x 10 2 % 32) (text_is false is) ∙ h
+
+  pub says_aborted : num text 10 2 % 32 ≡ 2 → e.status % 32 ≡ 2
+  says_aborted h = by s.fits.made
+    where
+      so : (verdict : Verdict) → IsToldSo verdict l → e.status % 32 ≡ 2
+      so verdict x = told_two verdict d.code e.status x.0 (ap (λ n. n % 32) (sym x.1) ∙ status_low h)
+
+      by : IsMade c Told l t → e.status % 32 ≡ 2
+      by (inl x) = so (verdicts.Served blocks.Good) x.told
+      by (inr (inl x)) = so (verdicts.Served blocks.Good) x.told
+      by (inr (inr x)) = so x.verdict x.told
+
+-- ---- its status, and the bytes that it counts
+
+module _ {K : Type 0} (c : Settings) (old : Port K) (aw : List (List ℕ)) (text t : List ℕ)
+    (s : IsSaid c IsToldOf old aw text t) where
+  abbrev answer : Answer
+  answer = answer_by First text
+
+  plain_keeps : ends_formality s.decided.code ≡ false → Keeps (of_unit t answer.unit) answer
+  plain_keeps is =
+      let none = plain c IsToldOf old aw text t s is in
+      let k = made_kept c (left_with s.end s.decided) t none is (s.fits.same is) s.fits.made in
+      let o = unit_found old.controller.settings.units s.end.unit in
+      let same = text_is c IsToldOf old aw text t s false is in
+      keeps (of_unit t answer.unit) answer (command_of (handed k.units t)).order s.decided.status s.end.body
+      (handed_says k.units t k.message none answer.unit) (handed_long k.units t k.message none answer.unit)
+      k.apt.suits k.apt.fine refl
+      (ap (λ x. slice_index x 8) (sym same) ∙ code_of s.end.body s.end s.decided o old.hardware ∙ k.code)
+      (ap (λ x. num x 10 2) (sym same) ∙ body_status s.end.body s.end s.decided o old.hardware k.apt.small)
+      (subst (λ x. BodyReads s.end.body (answer_by First x)) same
+      (body_reads s.end.body s.end s.decided o old.hardware refl k.fit))
+
+  pub said_suited : IsSuited text t
+  said_suited = by (ends_formality s.decided.code) refl
+    where
+      by : (b : Bool) → ends_formality s.decided.code ≡ b → IsSuited text t
+      by true is = formal_so c IsToldOf old aw text t s is
+      by false is = let k = plain_keeps is in record { status = k.status; count = k.count }

@@ -1,0 +1,244 @@
+-- What ties each end of a port's log to the command that it answers.
+use Rattle.std.proofs.Common.{◌≡◌, ◌∙◌, ◌∷◌, ◌<◌, ◌^◌, [], ℕ, All, Bool, true, drop, List, None, Option, Some, inl, inr, refl, ap, arith, sym, subst}
+use Rattle.std.specs.Prelude.{◌%◌, Ok, find, slice_index}
+use Rattle.mscp_drive.specs.Settings.{IsValid, Settings}
+use Rattle.mscp_drive.specs.declared.connection.Connection.TheVariants.{First}
+use Rattle.mscp_queue.specs.Records.{Record, has_name}
+use Rattle.mscp_queue.specs.declared.name.Name.{Name}
+use Rattle.mscp_controller.specs.Calls.{AnsweredCalls, Call as Made}
+use Rattle.mscp_controller.specs.Controllers.{ControllersKeepThePromise}
+use Rattle.mscp_controller.specs.Holdings.{Holdings, fresh, outstanding_of}
+use Rattle.mscp_port.specs.Calls.{IsMadeOf}
+use Rattle.mscp_port.specs.Histories.{Answered, Call, Picking, Went}
+use Rattle.mscp_port.specs.declared.action.Outcome.{Outcome}
+use Rattle.mscp_port.specs.declared.hardware.Hardware.{Hardware}
+use Rattle.mscp_port.specs.declared.port.Outgoing.{Outgoing}
+use Rattle.mscp_port.specs.declared.port.OutgoingKind.TheVariants as kinds
+use Rattle.mscp_port.specs.declared.port.Port.{Port}
+use Rattle.mscp_port.specs.declared.verdict.Verdict.{Verdict}
+use Rattle.mscp_ported.specs.Answers.{own_answer, volume_named}
+use Rattle.mscp_ported.specs.Awaited.{IsEnding, IsWhole, ReadsBytes, awaited}
+use Rattle.mscp_packet.specs.Commands.{command_of}
+use Rattle.mscp_packet.specs.Number.{num}
+use Rattle.mscp_packet.specs.declared.command.Order.{Order}
+use Rattle.mscp_packet.specs.declared.end.End.{End}
+use Rattle.mscp_drive.specs.declared.block.Block.{Block}
+use Rattle.mscp_queue.specs.Outcomes.{outcome_status}
+use Rattle.mscp_controller.specs.Arrival.{fault_of}
+use Rattle.mscp_controller.specs.Outcomes.{answer_status, own_end_with}
+use Rattle.mscp_port.specs.Blocks.{block_told}
+use Rattle.mscp_ported.specs.Answers.{own_text}
+use Rattle.mscp_ported.proofs.Behind.{aborts_behind}
+use Rattle.mscp_ported.proofs.Coming.{ends_of}
+use Rattle.mscp_ported.proofs.Followed.{IsFollowed, IsReply, IsStepped}
+use Rattle.mscp_ported.proofs.Itself.{IsPast, own_cases, own_refused}
+use Rattle.mscp_wire.specs.Wire.{sent_by}
+use Rattle.mscp_shown.proofs.Saying.{sent_says}
+use Rattle.mscp_shown.proofs.Suiting.{IsFault, refused_apart}
+use Rattle.mscp_logged.proofs.Made.{given_is}
+use Rattle.mscp_ported.specs.Fitting.{Fits}
+use Rattle.mscp_ported.specs.Talk.{AsksAlways}
+use Rattle.mscp_ported.proofs.ByOpcode.{ends_said}
+use Rattle.mscp_ported.proofs.Ending.{left_with}
+use Rattle.mscp_ported.proofs.Following.{asked_before}
+use Rattle.mscp_ported.proofs.Moving.{steps}
+use Rattle.mscp_ported.proofs.Opcodes.{IsSaid, said_fits}
+use Rattle.mscp_ported.proofs.Origins.{IsMade}
+use Rattle.mscp_ported.proofs.Transferring.{IsHow}
+use Rattle.mscp_wire.specs.Wire.{controller_in}
+use Rattle.mscp_logged.specs.Rules.{TellsFaults}
+use Rattle.mscp_logged.proofs.Answered.{own_suited}
+use Rattle.mscp_logged.proofs.Coded.{own_fits}
+use Rattle.mscp_logged.proofs.Faults.{IsToldOf, told_fine}
+use Rattle.mscp_logged.proofs.Own.{IsOwn, of_disk, own_is_whole}
+use Rattle.mscp_logged.proofs.Suited.{IsKnown, IsSuited, said_suited, says_aborted, tells_known}
+
+-- an end is whole, and fits its message; if drives tell what they may (F), by its status and its bytes too
+pub record IsEndOf (c : Settings) (F : Type 0) (text message : List ℕ) : Type 0 where
+  pub fits : Fits text message
+  pub whole : IsWhole text
+  pub known : IsKnown c (controller_in text)
+  pub suited : F → IsSuited text message
+
+-- ---- an end of the controller's
+
+abbrev ToldIf : Type 0 → Verdict → Record → Type 0
+ToldIf F verdict r = F → IsToldOf verdict r
+
+-- ---- whether a command was aborted
+
+no_two : (online : Bool) (o : Order) → answer_status online o % 32 ≡ 2 → ⊥
+no_two online o e = grind (arith, e)
+
+reply_two : (e : End) → IsReply e → e.status % 32 ≡ 2 → ⊥
+reply_two e x two = by (fault_of x.settings (command_of x.text)) refl
+    (ap (λ (y : End). y.status % 32) (sym x.is) ∙ two)
+  where
+    by : (o : Option ℕ) → fault_of x.settings (command_of x.text) ≡ o
+        → (own_end_with x.settings x.online x.figure (command_of x.text) o).status % 32 ≡ 2 → ⊥
+    by None is h = no_two x.online (command_of x.text).order h
+    by (Some status) is h = elim (refused_apart x.settings (command_of x.text).unit status (command_of x.text).order
+        (sent_by First x.text) (sent_says First x.text) is) [
+          | inl k ↦ search (arith, sym k ∙ h)
+          | inr k ↦ search (arith, sym k ∙ h)
+        ]
+
+given_two : (online : Bool) (o : Order) (k : Block) → IsFault k → outcome_status online o k % 32 ≡ 2 → ⊥
+given_two online o k fault e = grind (arith, fault, e)
+
+stepped_two : (e : End) → IsStepped IsToldOf e → e.status % 32 ≡ 2 → ⊥
+stepped_two e x two =
+    let g = given_is (block_told x.verdict) x.drive x.own e x.is in
+    given_two x.drive.online x.own.command.order (block_told x.verdict) x.told.0
+    (ap (λ (y : End). y.status % 32) g.end ∙ two)
+
+-- drives tell what they may
+said_as : {K : Type 0} (c : Settings) (F : Type 0) (old : Port K) (aw : List (List ℕ)) (text t : List ℕ) → F
+    → IsSaid c (ToldIf F) old aw text t → IsSaid c IsToldOf old aw text t
+said_as c F old aw text t f s = record {
+  end = s.end;
+  decided = s.decided;
+  first = s.first;
+  shaped = s.shaped;
+  fits = record {
+    unit = s.fits.unit;
+    code = s.fits.code;
+    about = s.fits.about;
+    polled = s.fits.polled;
+    same = s.fits.same;
+    made = by s.fits.made;
+  };
+  is = s.is;
+  named = s.named;
+  only = s.only;
+  followed = followed s.followed;
+}
+  where
+    followed : {e : End} {es : List End} → IsFollowed (ToldIf F) aw e es → IsFollowed IsToldOf aw e es
+    followed (inl x) = inl x
+    followed (inr (inl x)) = inr (inl (record {
+      own = x.own;
+      drive = x.drive;
+      verdict = x.verdict;
+      told = x.told f;
+      is = x.is;
+    }))
+    followed (inr (inr x)) = inr (inr x)
+
+    by : IsMade c (ToldIf F) (left_with s.end s.decided) t → IsMade c IsToldOf (left_with s.end s.decided) t
+    by (inl x) = inl x
+    by (inr (inl x)) = inr (inl x)
+    by (inr (inr x)) = inr (inr (record {
+      own = x.own;
+      of = x.of;
+      drive = x.drive;
+      verdict = x.verdict;
+      is = x.is f;
+      end = x.end;
+      told = x.told;
+    }))
+
+faults_before : (call : Call) (calls : List Call) → TellsFaults (call ∷ calls) → TellsFaults calls
+faults_before (Went outcome result) calls h = h.1
+faults_before call calls h = h
+
+-- what is asked of calls
+abbrev pub IsFineUntil : Type 0 → List Call → Type 0
+IsFineUntil F calls = AsksAlways calls × (F → TellsFaults calls)
+
+pub fine_before : (F : Type 0) (call : Call) (calls : List Call) → IsFineUntil F (call ∷ calls) → IsFineUntil F calls
+fine_before F call calls fine = (asked_before call calls fine.0, λ f. faults_before call calls (fine.1 f))
+
+module _ {K : Type 0} (picks : Picking K) (c : Settings) (picker : K)
+    (keeps : ControllersKeepThePromise (picks picker) picker) (valid : IsValid c)
+    (sizes : All (λ unit. 0 < unit.size) c.units) (before : List Made)
+    (hardware : Hardware) (credits : ℕ) (controller : Holdings K) (start : Port K)
+    (was : AnsweredCalls (picks picker) (fresh c picker) before controller)
+    (made : IsMadeOf hardware credits controller start) (quiet : outstanding_of First controller ≡ []) (F : Type 0)
+  where
+    told_so : (p : Port K) (outcome : Outcome) (done : Unit) (calls : List Call)
+        → IsFineUntil F (Went outcome (Ok done) ∷ calls)
+        → (a : Answered picks start (Went outcome (Ok done) ∷ calls) p) → (verdict : Verdict)
+        → IsHow a.0 outcome verdict → (name : Name) → a.0.controller.begun ≡ Some name → (r : Record)
+        → find (has_name name) a.0.controller.waiting ≡ Some r → ToldIf F verdict r
+    told_so p outcome done calls fine a verdict how name was r found f =
+        told_fine a.0 outcome (fine.1 f).0
+        (steps picks hardware credits controller start made a.0 calls
+        (asked_before (Went outcome (Ok done)) calls fine.0) a.1).begun name was r found verdict how
+
+    said_of : (p : Port K) (call : Call) (calls : List Call) → ReadsBytes (call ∷ calls)
+        → IsFineUntil F (call ∷ calls) → (a : Answered picks start (call ∷ calls) p)
+        → (q : IsEnding (awaited picks start a.0 calls a.1) call a.0 p)
+        → IsSaid c (ToldIf F) a.0 (awaited picks start a.0 calls a.1) q.out.bytes.items q.message
+    said_of p call calls reads fine a q =
+        ends_said picks c picker keeps valid sizes before hardware credits controller start was made quiet
+        (ToldIf F) (IsFineUntil F) (fine_before F) told_so p call calls q.out.bytes.items q.message reads fine a q.ended
+        q.only
+
+    pub end_of : (p : Port K) (call : Call) (calls : List Call) → ReadsBytes (call ∷ calls)
+        → IsFineUntil F (call ∷ calls) → (a : Answered picks start (call ∷ calls) p)
+        → (q : IsEnding (awaited picks start a.0 calls a.1) call a.0 p) → IsEndOf c F q.out.bytes.items q.message
+    end_of p call calls reads fine a q =
+        let aw = awaited picks start a.0 calls a.1 in
+        let text = q.out.bytes.items in
+        let s = said_of p call calls reads fine a q in
+        record {
+          fits = said_fits a.0 aw text q.message s;
+          whole = q.whole;
+          known = tells_known c (ToldIf F) a.0 aw text q.message s;
+          suited = λ f. said_suited c a.0 aw text q.message (said_as c F a.0 aw text q.message f s);
+        }
+
+    -- if it says that its command was aborted, the message of an ABORT stands behind that of the command
+    pub late_of : (p : Port K) (call : Call) (calls : List Call) → ReadsBytes (call ∷ calls)
+        → IsFineUntil F (call ∷ calls) → (a : Answered picks start (call ∷ calls) p)
+        → (q : IsEnding (awaited picks start a.0 calls a.1) call a.0 p) → F → num q.out.bytes.items 10 2 % 32 ≡ 2
+        → (k : ℕ) × (aborts_behind (num q.out.bytes.items 0 4) k (awaited picks start a.0 calls a.1) ≡ true)
+    late_of p call calls reads fine a q f aborted = by s.followed
+      where
+        aw : List (List ℕ)
+        aw = awaited picks start a.0 calls a.1
+
+        s : IsSaid c IsToldOf a.0 (awaited picks start a.0 calls a.1) q.out.bytes.items q.message
+        s = said_as c F a.0 (awaited picks start a.0 calls a.1) q.out.bytes.items q.message f
+            (said_of p call calls reads fine a q)
+
+        two : s.end.status % 32 ≡ 2
+        two = says_aborted c IsToldOf a.0 (awaited picks start a.0 calls a.1) q.out.bytes.items q.message s aborted
+
+        by : IsFollowed IsToldOf (awaited picks start a.0 calls a.1) s.end (drop 1 (ends_of a.0.controller))
+            → (k : ℕ) × (aborts_behind (num q.out.bytes.items 0 4) k (awaited picks start a.0 calls a.1) ≡ true)
+        by (inl x) = absurd (reply_two s.end x two)
+        by (inr (inl x)) = absurd (stepped_two s.end x two)
+        by (inr (inr behind)) = let b = behind q.message s.only in (
+          b.number,
+          ap (λ n. aborts_behind n b.number (awaited picks start a.0 calls a.1)) s.named ∙ b.message,
+        )
+
+-- ---- one of the port's own
+
+pub own_end_of : {K : Type 0} (c : Settings) (F : Type 0) (old : Port K) (text : List ℕ) (o : Outgoing)
+    → ((i : ℕ) → slice_index text i < 2 ^ 8) → IsOwn old text o → o.kind ≡ kinds.End → IsEndOf c F o.bytes.items text
+own_end_of c F old text o small own kind =
+    let x = own_suited c (volume_named old text) text own.long own.own.0
+    (ap (λ f. own_answer f (volume_named old text) text) (sym (of_disk old text o own kind)) ∙ own.own.1) in
+    record {
+      fits = own_fits old text o small own kind;
+      whole = own_is_whole old text o own kind;
+      known = subst (λ b. IsKnown c (controller_in b)) (sym own.own.2) x.1;
+      suited = λ f. subst (λ b. IsSuited b text) (sym own.own.2) x.0;
+    }
+
+-- which says of no command that it was aborted
+pub never_aborted : {K : Type 0} (c : Settings) (old : Port K) (text : List ℕ) (o : Outgoing) → IsOwn old text o
+    → o.kind ≡ kinds.End → num o.bytes.items 10 2 % 32 ≡ 2 → ⊥
+never_aborted c old text o own kind two = own_cases (volume_named old text) text
+    (λ x. num (own_text text x) 10 2 % 32 ≡ 2 → ⊥) (λ asks e. search (arith, e)) (λ status moves past. by status past)
+    own.own.0 (ap (λ f. own_answer f (volume_named old text) text) (sym (of_disk old text o own kind)) ∙ own.own.1)
+    (ap (λ b. num b 10 2 % 32) (sym own.own.2) ∙ two)
+  where
+    by : (status : ℕ) → IsPast status → num (own_text text (own_refused text status)) 10 2 % 32 ≡ 2 → ⊥
+    by status (inl e) = subst (λ n. num (own_text text (own_refused text n)) 10 2 % 32 ≡ 2 → ⊥) (sym e)
+        (λ h. search (arith, h))
+    by status (inr e) = subst (λ n. num (own_text text (own_refused text n)) 10 2 % 32 ≡ 2 → ⊥) (sym e)
+        (λ h. search (arith, h))

@@ -1,0 +1,231 @@
+-- Behind the end of a command that was aborted waits that of its ABORT, whose message came later.
+use Rattle.std.proofs.Common.{◌≡◌, ◌⊎◌, ◌∙◌, ◌++◌, ◌∷◌, [], ℕ, Bool, true, false, cond, filter, length, nat_eq, not, List, Option, None, Some, inl, inr, refl, ap, sym, subst, arith}
+use Rattle.std.specs.Prelude.{◌≤◌, ◌||◌, find, option_map, option_to_list}
+use Rattle.std.specs.List.{list_any}
+use Rattle.std.proofs.lemmas.Option.{none-some}
+unfoldable use Rattle.mscp_packet.specs.Commands.{command_of}
+use Rattle.mscp_packet.specs.Number.{num}
+use Rattle.mscp_packet.specs.declared.command.Command.{Command}
+use Rattle.mscp_packet.specs.declared.command.Order.{Order}
+use Rattle.mscp_packet.specs.declared.command.Order.TheVariants as orders
+use Rattle.mscp_packet.specs.declared.end.End.{End}
+use Rattle.mscp_drive.specs.Settings.{Settings}
+use Rattle.mscp_queue.proofs.Placed.{found_is}
+use Rattle.mscp_queue.specs.Records.{Record, aborted_record}
+use Rattle.mscp_queue.specs.Serving.{end_given}
+use Rattle.mscp_queue.specs.declared.drive.Drive.{Drive}
+use Rattle.mscp_controller.specs.Arrival.{is_queued}
+use Rattle.mscp_controller.specs.Holdings.{Holdings, answered_end, figure_polled, record_aborted}
+use Rattle.mscp_controller.specs.Outcomes.{own_end}
+use Rattle.mscp_drive.specs.declared.connection.Connection.TheVariants.{First}
+use Rattle.mscp_port.proofs.Kept.{is_numbered}
+use Rattle.mscp_queue.specs.Drives.{drive_of}
+use Rattle.mscp_port.specs.Blocks.{block_told}
+use Rattle.mscp_port.specs.Messages.{handed}
+use Rattle.mscp_port.specs.declared.verdict.Verdict.{Verdict}
+use Rattle.mscp_port.proofs.Common.{eq-eqb, eqb-true, false≢true}
+use Rattle.mscp_ported.specs.Awaited.{has_number}
+use Rattle.mscp_ported.proofs.Behind.{aborts_behind, aborts_come, aborts_left, aborts_more, any_more, any_none, handed_abort, is_abort, is_abort_of}
+use Rattle.mscp_ported.proofs.Numbered.{At, AtEach, ends_numbered, first_of_one, none_beside, none_found, other_number, some_none}
+use Rattle.mscp_ported.proofs.Owning.{number_of}
+use Rattle.mscp_ported.proofs.Sole.{sole_left}
+
+-- ---- the ends
+
+-- an end is a reply to its message
+pub record IsReply (e : End) : Type 0 where
+  pub settings : Settings
+  pub online : Bool
+  pub figure : ℕ
+  pub text : List ℕ
+  pub immediate : is_queued settings (command_of text) ≡ false
+  pub is : e ≡ own_end settings online figure (command_of text)
+
+-- or came by a step
+pub record IsStepped (Told : Verdict → Record → Type 0) (e : End) : Type 0 where
+  pub own : Record
+  pub drive : Drive
+  pub verdict : Verdict
+  pub told : Told verdict own
+  pub is : end_given (block_told verdict) drive own ≡ Some e
+
+-- or that of its ABORT waits behind it
+pub record IsBehind (aw : List (List ℕ)) (e : End) (es : List End) : Type 0 where
+  pub number : ℕ
+  pub end : list_any (ends_numbered number) es ≡ true
+  pub message : aborts_behind e.reference number aw ≡ true
+
+abbrev pub IsFollowed : (Verdict → Record → Type 0) → List (List ℕ) → End → List End → Type 0
+IsFollowed Told aw e es = IsReply e ⊎ IsStepped Told e
+    ⊎ ((t : List ℕ) → filter (has_number e.reference) aw ≡ t ∷ [] → IsBehind aw e es)
+
+abbrev pub AreFollowed : (Verdict → Record → Type 0) → List (List ℕ) → List End → Type 0
+AreFollowed Told aw [] = Unit {0}
+AreFollowed Told aw (e ∷ es) = IsFollowed Told aw e es × AreFollowed Told aw es
+
+module _ (Told : Verdict → Record → Type 0) (aw : List (List ℕ)) where
+  pub followed_forgotten : (es : List End) → AreFollowed Told aw es → AreFollowed Told [] es
+  followed_forgotten [] all = tt
+  followed_forgotten (e ∷ es) all = (one all.0, followed_forgotten es all.1)
+    where
+      one : IsFollowed Told aw e es → IsFollowed Told [] e es
+      one (inl x) = inl x
+      one (inr (inl x)) = inr (inl x)
+      one (inr (inr f)) = inr (inr (λ t none. absurd (some_none t [] (sym none))))
+
+  pub followed_more : (es fs : List End) → AreFollowed Told aw es → AreFollowed Told aw fs
+      → AreFollowed Told aw (es ++ fs)
+  followed_more [] fs all behind = behind
+  followed_more (e ∷ es) fs all behind = (one all.0, followed_more es fs all.1 behind)
+    where
+      one : IsFollowed Told aw e es → IsFollowed Told aw e (es ++ fs)
+      one (inl x) = inl x
+      one (inr (inl x)) = inr (inl x)
+      one (inr (inr f)) = inr (inr (λ t only. let b = f t only in record {
+        number = b.number;
+        end = any_more (ends_numbered b.number) es fs b.end;
+        message = b.message;
+      }))
+
+  -- a message comes
+  pub followed_beside : (t : List ℕ) (es : List End) → filter (ends_numbered (num t 0 4)) es ≡ []
+      → AreFollowed Told aw es → AreFollowed Told (aw ++ t ∷ []) es
+  followed_beside t [] none all = tt
+  followed_beside t (e ∷ es) none all = by (nat_eq e.reference (num t 0 4)) refl none all.0
+      (λ h. followed_beside t es h all.1)
+    where
+      by : (b : Bool) → nat_eq e.reference (num t 0 4) ≡ b
+          → cond b (e ∷ filter (ends_numbered (num t 0 4)) es) (filter (ends_numbered (num t 0 4)) es) ≡ []
+          → IsFollowed Told aw e es
+          → (filter (ends_numbered (num t 0 4)) es ≡ [] → AreFollowed Told (aw ++ t ∷ []) es)
+          → AreFollowed Told (aw ++ t ∷ []) (e ∷ es)
+      by true is h x rest = absurd (some_none e (filter (ends_numbered (num t 0 4)) es) h)
+      by false is h x rest = (one x, rest h)
+        where
+          apart : (b : Bool) → nat_eq (num t 0 4) e.reference ≡ b → b ≡ false
+          apart true x =
+              search (arith, is, eq-eqb e.reference (num t 0 4) (sym (eqb-true (num t 0 4) e.reference x)))
+          apart false x = refl
+
+          one : IsFollowed Told aw e es → IsFollowed Told (aw ++ t ∷ []) e es
+          one (inl x) = inl x
+          one (inr (inl x)) = inr (inl x)
+          one (inr (inr f)) = inr (inr (λ u only.
+              let b = f u (sym (none_beside (has_number e.reference) aw t
+              (apart (nat_eq (num t 0 4) e.reference) refl)) ∙ only) in
+              record {
+                number = b.number;
+                end = b.end;
+                message = aborts_more e.reference b.number aw (t ∷ []) b.message;
+              }))
+
+  -- the end of a number is taken, of which no other is
+  pub followed_left : (k : ℕ) (es : List End) → filter (ends_numbered k) es ≡ [] → AreFollowed Told aw es
+      → AreFollowed Told (filter (λ t. not (has_number k t)) aw) es
+  followed_left k [] none all = tt
+  followed_left k (e ∷ es) none all = by (nat_eq e.reference k) refl none all.0
+      (λ h. followed_left k es h all.1)
+    where
+      by : (b : Bool) → nat_eq e.reference k ≡ b
+          → cond b (e ∷ filter (ends_numbered k) es) (filter (ends_numbered k) es) ≡ []
+          → IsFollowed Told aw e es
+          → (filter (ends_numbered k) es ≡ [] → AreFollowed Told (filter (λ t. not (has_number k t)) aw) es)
+          → AreFollowed Told (filter (λ t. not (has_number k t)) aw) (e ∷ es)
+      by true is h x rest = absurd (some_none e (filter (ends_numbered k) es) h)
+      by false is h x rest = (one x, rest h)
+        where
+          turned : (a : ℕ) (b : Bool) → nat_eq k a ≡ b → (nat_eq a k ≡ true → ⊥) → b ≡ false
+          turned a true x never = absurd (never (eq-eqb a k (sym (eqb-true k a x))))
+          turned a false x never = refl
+
+          apart : nat_eq k e.reference ≡ false
+          apart = turned e.reference (nat_eq k e.reference) refl (λ x. false≢true (sym is ∙ x))
+
+          one : IsFollowed Told aw e es → IsFollowed Told (filter (λ t. not (has_number k t)) aw) e es
+          one (inl x) = inl x
+          one (inr (inl x)) = inr (inl x)
+          one (inr (inr f)) = inr (inr (λ u only.
+              let b = f u (sym (sole_left (has_number e.reference) (λ t. not (has_number k t)) aw
+              (λ t. other_number e.reference k apart (num t 0 4))) ∙ only) in
+              let other : nat_eq k b.number ≡ false =
+              turned b.number (nat_eq k b.number) refl (λ x. any_none (ends_numbered k) es h
+              (subst (λ j. list_any (ends_numbered j) es ≡ true) (eqb-true b.number k x) b.end)) in
+              record {
+                number = b.number;
+                end = b.end;
+                message = aborts_left e.reference b.number k apart other aw b.message;
+              }))
+
+-- ---- what comes as a message is answered
+
+-- no other end has the number of one that waits
+pub none_else : (aw : List (List ℕ)) (rs : List Record) (e : End) (es : List End) → AtEach aw rs (e ∷ es)
+    → filter (ends_numbered e.reference) es ≡ []
+none_else aw rs e es at = by (at e.reference)
+  where
+    here : filter (ends_numbered e.reference) (e ∷ es) ≡ e ∷ filter (ends_numbered e.reference) es
+    here = ap (λ b. cond b (e ∷ filter (ends_numbered e.reference) es) (filter (ends_numbered e.reference) es))
+        (eq-eqb e.reference e.reference refl)
+
+    by : At aw rs (e ∷ es) e.reference → filter (ends_numbered e.reference) es ≡ []
+    by (inl none) = absurd (some_none e (filter (ends_numbered e.reference) es) (sym here ∙ none.2))
+    by (inr (inl w)) = absurd (some_none e (filter (ends_numbered e.reference) es) (sym here ∙ w.no_end))
+    by (inr (inr x)) = (first_of_one e x.end (filter (ends_numbered e.reference) es) (sym here ∙ x.sole)).1
+
+module _ (Told : Verdict → Record → Type 0) {K : Type 0} (h : Holdings K) (aw : List (List ℕ)) (bytes : List ℕ)
+    (long : 12 ≤ length bytes) (immediate : is_queued h.settings (command_of (handed h.settings.units bytes)) ≡ false)
+    (named : (answered_end First h (command_of (handed h.settings.units bytes))).reference ≡ num bytes 0 4)
+    (none : filter (is_numbered (num bytes 0 4)) h.waiting ≡ []) where
+  abbrev command : Command
+  command = command_of (handed h.settings.units bytes)
+
+  abbrev own : End
+  own = answered_end First h command
+
+  reply : IsFollowed Told (aw ++ bytes ∷ []) own []
+  reply = inl (record {
+    settings = h.settings;
+    online = (drive_of h.drives command.unit).online;
+    figure = figure_polled h.settings First h.waiting command.order;
+    text = handed h.settings.units bytes;
+    immediate = immediate;
+    is = refl;
+  })
+
+  behind : (m : ℕ) (x : Record) → command.order ≡ orders.Abort m → find (is_numbered m) h.waiting ≡ Some x
+      → IsFollowed Told (aw ++ bytes ∷ []) (aborted_record x) (own ∷ [])
+  behind m x order found = inr (inr (λ t only. record {
+    number = own.reference;
+    end = ap (λ b. b || false) (eq-eqb own.reference own.reference refl);
+    message = subst (λ j. aborts_behind x.command.reference j (aw ++ bytes ∷ []) ≡ true) (sym named)
+        (aborts_come x.command.reference (num bytes 0 4) aw t bytes
+        (sym (none_beside (has_number x.command.reference) aw bytes apart) ∙ only)
+        (subst (λ j. is_abort j (num bytes 0 4) bytes ≡ true) (sym number)
+        (is_abort_of m bytes (handed_abort h.settings.units bytes m long order))));
+  }))
+    where
+      number : x.command.reference ≡ m
+      number = (number_of m x (found_is (is_numbered m) h.waiting x found)).1
+
+      apart : nat_eq (num bytes 0 4) x.command.reference ≡ false
+      apart = by (nat_eq (num bytes 0 4) x.command.reference) refl
+        where
+          by : (b : Bool) → nat_eq (num bytes 0 4) x.command.reference ≡ b → b ≡ false
+          by false e = refl
+          by true e = absurd (none-some x (sym (none_found (is_numbered (num bytes 0 4)) h.waiting none)
+              ∙ subst (λ j. find (is_numbered j) h.waiting ≡ Some x)
+              (sym (eqb-true (num bytes 0 4) x.command.reference e ∙ number)) found))
+
+  pub answers_follow : AreFollowed Told (aw ++ bytes ∷ [])
+      (option_to_list (option_map aborted_record (record_aborted First h.waiting command.order)) ++ own ∷ [])
+  answers_follow = by command.order refl
+    where
+      found_or : (m : ℕ) → command.order ≡ orders.Abort m → (o : Option Record) → find (is_numbered m) h.waiting ≡ o
+          → AreFollowed Told (aw ++ bytes ∷ []) (option_to_list (option_map aborted_record o) ++ own ∷ [])
+      found_or m order None found = (reply, tt)
+      found_or m order (Some x) found = (behind m x order found, (reply, tt))
+
+      by : (order : Order) → command.order ≡ order → AreFollowed Told (aw ++ bytes ∷ [])
+          (option_to_list (option_map aborted_record (record_aborted First h.waiting order)) ++ own ∷ [])
+      by (orders.Abort m) order = found_or m order (find (is_numbered m) h.waiting) refl
+      by other order = (reply, tt)
