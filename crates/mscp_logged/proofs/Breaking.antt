@@ -117,7 +117,7 @@ module _ (xs : List Sent) (unit : Seen) where
 
 -- what was told of a moment's unit and of the controller before it
 abbrev pub seen_at : History → Moment → Seen
-seen_at h m = seen_of (told h) (controller h) m
+seen_at h m = seen_of (outstanding h) (told h) (controller h) m
 
 -- a history keeps a rule which holds at each of its moments
 pub keeps_so : (limit : Option ℕ) (h : History) (x : Rule)

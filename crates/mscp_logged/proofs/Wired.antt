@@ -24,7 +24,7 @@ outstanding_more h m = ap (λ s. s.commands) (fold_push standing_after standing_
 
 -- what a message alone says of its command
 abbrev pub stem : Sent → Sent
-stem s = record s { time = None; told = None; polled = None; asked = Nothing }
+stem s = record s { time = None; told = None; polled = None; asked = Nothing; beside = false }
 
 abbrev pub named : ℕ → Sent → Bool
 named n s = is_named First n s

@@ -21,7 +21,8 @@ pub record Came {A : Type 0} (verdict : Verdict A) (log : List ℕ) : Type 0 whe
 pub came_of : {A : Type 0} (verdict : Verdict A) (log : List ℕ) → Judges (Ok verdict) log → Came verdict log
 came_of (verdicts.Right totals doubts commands) log j =
     let text = ap (λ t. counted_text log t ++ doubts_text doubts ++ flat_map outstanding_text commands.items) j.2
-    ∙ ap (λ d. counted_text log (totals_of j.0.moments) ++ doubts_text d ++ flat_map outstanding_text commands.items) j.3
+    ∙ ap (λ d. counted_text log (totals_of j.0.moments) ++ doubts_text d ++ flat_map outstanding_text commands.items)
+    j.3
     ∙ ap (λ xs. counted_text log (totals_of j.0.moments) ++ doubts_text (doubts_of j.0) ++ flat_map outstanding_text xs)
     j.4 in
     record { came = Ok j.0; comes = j.1; outcome = refl; text = text; all = ap Ok text }

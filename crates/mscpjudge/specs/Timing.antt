@@ -133,7 +133,8 @@ after_said number time t said = t
 unfoldable pub after_lines : ℕ → Timed → List (List ℕ) → Timed
 after_lines before t [] = t
 after_lines before t (line ∷ rest) =
-    after_lines (before + 1) (after_said (before + 1) (line_time (before + 1) line) t (line_says (before + 1) line)) rest
+    after_lines (before + 1)
+    (after_said (before + 1) (line_time (before + 1) line) t (line_says (before + 1) line)) rest
 
 -- ---- what is written
 

@@ -128,8 +128,8 @@ TellsBy ported extent (Ok told) bytes = SaysBy ported extent bytes told.outcome 
 TellsBy ported extent (Err (reads.Script fault)) bytes = FailsBy ported extent bytes fault
 TellsBy ported extent (Err reads.OutOfMemory) bytes = Unit {0}
 
--- what is written is what is said of the log that the reader gave. Nothing is written on a fault, and a fault of the log
--- is that of what the reader gave; nothing is said where the write failed
+-- what is written is what is said of the log that the reader gave. Nothing is written on a fault, and a fault of the
+-- log is that of what the reader gave; nothing is said where the write failed
 abbrev pub TellsWire : Extent → Result Outcome Fault → Option (List ℕ) → Option (List ℕ) → Option (List ℕ) → Type 0
 TellsWire extent (Ok outcome) known old new =
     IsGiven known (λ log. (text : List ℕ) × SaysAll extent log outcome text × Appends old new text)

@@ -14,6 +14,7 @@ mod lengths;
 mod places;
 mod ports;
 mod showing;
+mod spans;
 mod telling;
 mod time;
 mod times;

@@ -10,12 +10,11 @@ ghost use Rattle.mscp_reader.specs.declared.fault.Cause.{Cause};
 ghost use Rattle.mscp_wire.specs.Wire.{is_hasty, key, later_of};
 ghost use Rattle.mscpjudge.specs.Timing as timings;
 
-use crate::time::{line_time, put_seconds};
-use crate::wire::put_command;
+use crate::spans::put_spans;
+use crate::time::line_time;
 use mscp_controller::Connection;
 use mscp_packet::fields::four_at;
 use mscp_reader::{Lines, ScriptFault, lines_of};
-use mscp_text::{put, put_field};
 use mscp_wire::{Answer, Moment, Said, Sent, line_says};
 use std::alloc::{AllocError, Allocator, Global};
 use std::collections::BTreeMap;
@@ -362,67 +361,6 @@ fn timing_of(alloc: Global, lines: &mut Lines<'_>) -> Result<Timing, AllocError>
         hear_said(&mut timing, alloc, lines.number, time, &said)?;
     }
     Ok(timing)
-}
-
-/// Appends from which line to which.
-#[tactic(auto, unfolding(crate::specs::Timing::lines_text))]
-fn put_lines<A: Allocator>(text: &mut Vec<u8, A>, span: &Span) -> Result<(), AllocError>
-    ensures { OnOk result (text.new.items ≡ text.old.items ++ timings.lines_text span.now) }
-{
-    put_field(text, ", from line ", span.first)?;
-    put_field(text, " to line ", span.last)?;
-    put(text, ": ")
-}
-
-/// Appends a time behind a word, from which line to which, and of which command.
-fn put_told<A: Allocator>(text: &mut Vec<u8, A>, word: &str, span: &Span) -> Result<(), AllocError>
-    ensures { OnOk result (text.new.items ≡ text.old.items ++ timings.told_text word.now span.now) }
-{
-    put(text, word)?;
-    put_seconds(text, span.time)?;
-    put_lines(text, span)?;
-    put_command(text, &span.command)
-}
-
-/// The same, if there is one.
-#[tactic(auto, unfolding(crate::specs::Timing::span_text))]
-fn put_span<A: Allocator>(
-    text: &mut Vec<u8, A>,
-    word: &str,
-    span: &Option<Span>,
-) -> Result<(), AllocError>
-    ensures { OnOk result (text.new.items ≡ text.old.items ++ timings.span_text word.now span.now) }
-{
-    match span {
-        Some(span) => put_told(text, word, span),
-        None => Ok(()),
-    }
-}
-
-/// Appends how many polls were hasty, if some were.
-fn put_hasty<A: Allocator>(text: &mut Vec<u8, A>, count: u32) -> Result<(), AllocError>
-    ensures { OnOk result (text.new.items ≡ text.old.items ++ timings.hasty_text count) }
-{
-    if count == 0 {
-        return Ok(());
-    }
-    put_field(text, "hasty polls: ", count)?;
-    put(text, "\n")
-}
-
-/// Appends the lines of what was timed.
-#[tactic(auto, unfolding(crate::specs::Timing::spans_text))]
-fn put_spans<A: Allocator>(
-    text: &mut Vec<u8, A>,
-    longest: &Option<Span>,
-    poll: &Option<Span>,
-    hasty: u32,
-) -> Result<(), AllocError>
-    ensures { OnOk result (text.new.items ≡ text.old.items ++ timings.spans_text longest.now poll.now hasty) }
-{
-    put_span(text, "longest: ", longest)?;
-    put_span(text, "longest poll: ", poll)?;
-    put_hasty(text, hasty)
 }
 
 /// Appends the lines of the times of a log that isn't too large.

@@ -69,9 +69,10 @@ pub returns-in_err-finding : goal.returns-in_err-finding
 returns-in_err-finding c =
     let i = c.loop-line.invariant in
     let p = err_from_is_err_and c.from_residual.result c.from_residual.ensures.1 in
-    subst (λ r. Tells (λ text. text.items) r (lines_found (time_of c.args.times.now.lines) (lines c.args.lines.now.rest.now)))
+    let times = time_of c.args.times.now.lines in
+    subst (λ r. Tells (λ text. text.items) r (lines_found times (lines c.args.lines.now.rest.now)))
     (sym (p.1 ∙ ap (λ f. Err f) p.2))
-    (subst (λ r. Fails c.in_err-finding.field-0.0 (r >>= λ (f : Findings). Ok (found_text (time_of c.args.times.now.lines) f.found)))
+    (subst (λ r. Fails c.in_err-finding.field-0.0 (r >>= λ (f : Findings). Ok (found_text times f.found)))
     (sym (i.read ∙ ap (findings_in c.loop-line.lines.number i.findings) c.in-Some.ensures.line))
     (fails_on c.in_err-finding.field-0.0 _ (λ (f : Findings). Ok (found_text (time_of c.args.times.now.lines) f.found))
     (found_fails c.loop-line.lines.number c.cut.new.self.number i.findings c.in-Some.line.now

@@ -18,7 +18,8 @@ loop-line-preserved g c =
     let kind = c.line_kind-kind.result in
     record {
       log =
-          log_more c.args.port n place at line rest (flat_map with_end (lines_of c.args.port 0 0 (lines c.args.log.now)))
+          log_more c.args.port n place at line rest
+          (flat_map with_end (lines_of c.args.port 0 0 (lines c.args.log.now)))
           c.loop-line.own.items c.put_line.new.log.items kind c.in-Some.ensures.counted c.line_kind-kind.ensures
           (i.log ∙ ap (λ xs. c.loop-line.own.items ++ flat_map with_end (lines_of c.args.port n at xs))
           c.in-Some.ensures.line)

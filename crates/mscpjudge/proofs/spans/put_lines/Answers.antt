@@ -1,6 +1,6 @@
 use Rattle.mscpjudge.specs.Timing.{lines_text}
 use Rattle.mscpjudge.proofs.Counted.{joined}
-use Rattle.mscpjudge.proofs.timing.put_lines.Goals as goal
+use Rattle.mscpjudge.proofs.spans.put_lines.Goals as goal
 
 pub returns : goal.returns
 unfolding lines_text
