@@ -41,7 +41,7 @@ pub struct Answer {
 }
 
 /// The fewest bytes of an end with this endcode (manual, "End Messages").
-fn least_length(code: u8) -> usize
+pub fn least_length(code: u8) -> usize
     ensures { result ≡ wire.least_length code }
 {
     match code {

@@ -44,8 +44,8 @@ fn power_of_ten(power: usize) -> u64
     }
 }
 
-/// Whether a word is a time.
-fn is_time(word: &[u8]) -> bool
+/// Whether a word of a line is a time: it begins with '@'.
+pub fn is_time(word: &[u8]) -> bool
     ensures { result ≡ log.is_time word.now }
 {
     matches!(word, [b'@', ..])
@@ -92,8 +92,8 @@ fn point_in(digits: &[u8]) -> Option<usize>
     digits.iter().position(|byte| *byte == b'.')
 }
 
-/// The time in nanoseconds that digits tell: of seconds, and of a fraction behind a point.
-fn time_of(digits: &[u8]) -> Option<u64>
+/// The time in nanoseconds that digits tell: of seconds, and of a fraction behind a point, of at most nine digits.
+pub fn time_of(digits: &[u8]) -> Option<u64>
     ensures { result ≡ log.time_of digits.now }
 {
     match point_in(digits) {

@@ -29,8 +29,8 @@ pub struct Mentions<A: Allocator> {
     pub lines: BTreeMap<u64, Mention, A>,
 }
 
-/// The number for a reference number of a connection.
-fn key(connection: Connection, reference: u32) -> u64
+/// The number for a reference number of a connection: no two have one.
+pub fn key(connection: Connection, reference: u32) -> u64
     ensures { result ≡ key connection reference }
 {
     match connection {

@@ -47,7 +47,7 @@ fn is_oldest(commands: &[Option<Sent>], command: &Sent) -> bool
 
 /// Whether a poll of this time comes sooner than a controller timeout of so many seconds after one of that time. It
 /// isn't known if a time isn't, or if no timeout was told.
-fn is_hasty(timeout: Option<u16>, last: Option<u64>, time: Option<u64>) -> bool
+pub fn is_hasty(timeout: Option<u16>, last: Option<u64>, time: Option<u64>) -> bool
     ensures { result ≡ wire.is_hasty timeout last time }
 {
     match (timeout, last, time) {

@@ -1,26 +1,11 @@
 // How long an end should be that is too short.
 
 ghost use Rattle.std.specs.Prelude.{◌≡◌, ◌++◌, OnOk};
-ghost use Rattle.mscp_wire.specs.Wire.{least_length};
 ghost use Rattle.mscpjudge.specs.Lengths.{least_bytes, length_text, lengths_text};
 
 use mscp_text::{put, put_field};
+use mscp_wire::least_length;
 use std::alloc::{AllocError, Allocator};
-
-/// The fewest bytes of an end of this endcode (manual, "End Messages").
-fn least_length(code: u8) -> usize
-    ensures { result ≡ least_length code }
-{
-    match code {
-        0x81 => 16,
-        0x82 => 20,
-        0x83 => 48,
-        0x84 => 28,
-        0x89 | 0x8a => 44,
-        0x90 | 0x92 | 0xa0 | 0xa1 | 0xa2 => 32,
-        _ => 12,
-    }
-}
 
 /// The fewest bytes that an end may have.
 #[tactic(auto, unfolding(crate::specs::Lengths::least_bytes))]

@@ -7,8 +7,8 @@ ghost use Rattle.mscp_reader.specs.Grammar.{only_number};
 ghost use Rattle.mscp_wire.specs.Log.{without_time};
 ghost use Rattle.mscpjudge.specs.Ports as ports;
 
-use crate::time::is_time;
 use mscp_reader::{Cause, Lines, ScriptFault, Words, lines_of, wide, words_of};
+use mscp_wire::is_time;
 use std::alloc::{AllocError, Allocator};
 
 /// What a line of a log is for the ports.

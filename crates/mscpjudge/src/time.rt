@@ -1,90 +1,14 @@
 // When something happened: the time that a line of a log tells, and how it is written.
 
-ghost use Rattle.std.specs.Prelude.{◌≡◌, ◌≤◌, ◌<◌, ◌^◌, ◌*◌, ◌++◌, IfSome, length, position, OnOk};
+ghost use Rattle.std.specs.Prelude.{◌≡◌, ◌≤◌, ◌++◌, OnOk};
 ghost use Rattle.mscp_reader.specs.Lexical as lexical;
 ghost use Rattle.mscp_wire.specs.Log as log;
 ghost use Rattle.mscpjudge.specs.Times as times;
 
-use mscp_reader::{Cause, Words, wide, words_of};
+use mscp_reader::{Words, words_of};
 use mscp_text::{put, put_field};
+use mscp_wire::{is_time, time_of};
 use std::alloc::{AllocError, Allocator};
-
-/// Ten to the power of at most nine.
-fn power_of_ten(power: usize) -> u64
-    requires { power ≤ 9 }
-    ensures { result ≡ 10 ^ power }
-{
-    match power {
-        0 => 1,
-        1 => 10,
-        2 => 100,
-        3 => 1_000,
-        4 => 10_000,
-        5 => 100_000,
-        6 => 1_000_000,
-        7 => 10_000_000,
-        8 => 100_000_000,
-        _ => 1_000_000_000,
-    }
-}
-
-/// The number of a fraction's digits in the last of nine places.
-fn scaled(places: usize, number: Result<u32, Cause>) -> Option<u64>
-    requires { places ≤ 9 }
-    ensures { result ≡ log.scaled places number }
-{
-    match number {
-        Ok(number) => Some(u64::from(number) * power_of_ten(places)),
-        Err(_) => None,
-    }
-}
-
-/// A fraction of a second, in nanoseconds, by its 1 to 9 digits.
-fn fraction_of(digits: &[u8]) -> Option<u64>
-    ensures value { result ≡ log.fraction_of digits.now }
-    ensures bound { IfSome result (λ n. n < 2 ^ 62) }
-{
-    if digits.len() > 9 {
-        return None;
-    }
-    scaled(9 - digits.len(), wide(digits))
-}
-
-/// Whole seconds and a fraction, in nanoseconds.
-fn seconds_of(seconds: Result<u32, Cause>, fraction: Option<u64>) -> Option<u64>
-    requires { IfSome fraction (λ n. n < 2 ^ 62) }
-    ensures { result ≡ log.seconds_of seconds fraction }
-{
-    match (seconds, fraction) {
-        (Ok(seconds), Some(fraction)) => Some(u64::from(seconds) * 1_000_000_000 + fraction),
-        _ => None,
-    }
-}
-
-/// Where a point stands in digits, if one does.
-fn point_in(digits: &[u8]) -> Option<usize>
-    ensures place { result ≡ position log.is_point digits.now }
-    ensures bound { IfSome result (λ i. i < length digits.now) }
-{
-    digits.iter().position(|byte| *byte == b'.')
-}
-
-/// The time in nanoseconds that digits tell: of seconds, and of a fraction behind a point.
-fn time_of(digits: &[u8]) -> Option<u64>
-    ensures { result ≡ log.time_of digits.now }
-{
-    match point_in(digits) {
-        Some(place) => seconds_of(wide(&digits[..place]), fraction_of(&digits[place + 1..])),
-        None => seconds_of(wide(digits), Some(0)),
-    }
-}
-
-/// Whether a word is a time.
-pub fn is_time(word: &[u8]) -> bool
-    ensures { result ≡ log.is_time word.now }
-{
-    matches!(word, [b'@', ..])
-}
 
 /// The time that words tell, if the first is one.
 #[tactic(auto, unfolding(mscp_wire::specs::Log::time_in))]

@@ -15,7 +15,7 @@ use crate::time::line_time;
 use mscp_controller::Connection;
 use mscp_packet::fields::four_at;
 use mscp_reader::{Lines, ScriptFault, lines_of};
-use mscp_wire::{Answer, Moment, Said, Sent, line_says};
+use mscp_wire::{Answer, Moment, Said, Sent, is_hasty, key, line_says};
 use std::alloc::{AllocError, Allocator, Global};
 use std::collections::BTreeMap;
 
@@ -51,28 +51,6 @@ fn has_times(log: &[u8]) -> bool
     ensures { result ≡ list_any timings.is_at log.now }
 {
     log.iter().any(|byte| *byte == b'@')
-}
-
-/// The number for a reference number of a connection.
-fn key(connection: Connection, reference: u32) -> u64
-    ensures { result ≡ key connection reference }
-{
-    match connection {
-        Connection::First => 2 * u64::from(reference),
-        Connection::Second => 2 * u64::from(reference) + 1,
-    }
-}
-
-/// Whether a poll of this time comes sooner than the controller timeout after one of that time.
-fn is_hasty(timeout: Option<u16>, last: Option<u64>, time: Option<u64>) -> bool
-    ensures { result ≡ is_hasty timeout last time }
-{
-    match (timeout, last, time) {
-        (Some(timeout), Some(last), Some(time)) => {
-            time.saturating_sub(last) < u64::from(timeout) * 1_000_000_000
-        }
-        _ => false,
-    }
 }
 
 /// Whether a poll of this time comes so soon after the last one of a command that waits.
