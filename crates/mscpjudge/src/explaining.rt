@@ -30,12 +30,14 @@ pub fn limit_of(cause: Cause) -> &'static str {
 pub fn limit_on_wire(cause: Cause) -> &'static str {
     match cause {
         Cause::Word =>
-            "a line begins with send, end, second, reset, credits or port, or with a time and one of these; credits stands before all others of its port",
+            "a line begins with send, end, from, to, second, reset, credits or port, or with a time and one of these; credits stands before all others of its port",
         Cause::Count =>
-            "behind credits and port stands one number, behind send and end all digits of a packet, without spaces between them",
+            "behind credits and port stands one number, behind send, end, from and to all digits of a packet, without spaces between them",
         Cause::Byte =>
             "a line has spaces and printed ASCII characters alone: no tab, and no byte order mark",
-        Cause::Hex => "a packet has two hexadecimal digits for each of 1 to 64 bytes",
+        Cause::Hex => {
+            "a packet has two hexadecimal digits for each of 1 to 64 bytes; behind from and to stand the four of its envelope first"
+        }
         Cause::Number =>
             "a number has 1 to 10 digits: 0 to 7 of a port, 0 to 4294967295 of credits",
         _ => limit_of(cause),
