@@ -742,6 +742,22 @@ unit_states_meanwhile() {
         wire_breaks 'controller: state' 'GET UNIT STATUS 3 of unit 2' reset "${gone[@]}" "$(unit_status 3 2 1)" "$there"
 }
 
+# An end that says that the unit went away by itself may pass others, which were right before that. It proves nothing if
+# something else of its host is outstanding; an AVAILABLE that succeeds does, and so does one beside the other host's.
+units_that_go_away() {
+    local up=("$(online 1 5)" "$(tells_online 1 0 3 4 800)") read=("$(reading 9 5)" "$(moved 9 0 1024 5)") went there away
+    local asks=$(unit_status 3 5 0) set="send $(packet 36 2 5 10 0)" gone=("$(available 4 5)" "end $(packet 12 4 5 136 0)")
+    there=$(tells_status 3 0 3 4 0) away=$(tells_status 3 4 0 0 0)
+    for went in 3 35 4; do
+        wire_is_right '7 3 0 3 1' '' reset "${up[@]}" "$asks" "${read[0]}" "$(moved 9 $went 0 5)" "$there" &&
+            wire_is_right '7 3 0 3 1' '' reset "${up[@]}" "$asks" "$set" "$(tells_set 2 $went 0 0 0)" "$there" &&
+            wire_is_right '7 3 0 3 1' '' reset "${up[@]}" "${read[0]}" "$(reading 8 5)" "$(moved 8 $went 0 5)" "${read[1]}" || return
+    done
+    wire_is_right '7 3 0 3 1' '' reset "${up[@]}" "${read[0]}" "$asks" "$away" "${read[1]}" &&
+        wire_breaks 'controller: state' 'READ 9 of unit 5' "${up[@]}" "second $(reading 7 6)" "$(reading 8 5)" "$(moved 8 3 0 5)" "${read[@]}" &&
+        wire_breaks 'controller: state' 'READ 9 of unit 5' "${up[@]}" "$(reading 7 6)" "${gone[@]}" "${read[@]}"
+}
+
 # If the other host brings the unit online, its end may be told late.
 units_of_two_hosts() {
     local read=("second $(reading 9 5)" "second $(moved 9 0 1024 5)")

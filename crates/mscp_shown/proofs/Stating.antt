@@ -58,7 +58,7 @@ pub stated_change : (unit : ℕ) (old new : Bool) (s : State) (es : List End) �
 stated_change unit old new s [] f h = λ e. f (h e)
 stated_change unit old new s (e ∷ es) f h = (h.0, stated_change unit old new (state_then unit s e) es f h.1)
 
--- of a GET UNIT STATUS (0x83) that isn't settled nothing is told: what is asked then is no more
+-- by an end that isn't settled, and brings nothing online, nothing is told: what is asked then is no more
 opened : (unit : ℕ) (online : Bool) (es : List End) → Stated unit online Away es → Stated unit online Open es
 opened unit online [] h = λ e. cc
 opened unit online (e ∷ es) h = (
@@ -76,11 +76,10 @@ opened unit online (e ∷ es) h = (
     by_bools true false true f k = k
     by_bools true false false f k = f k
 
-pub stated_unsettled : (unit : ℕ) (online : Bool) (s : State) (e : End) (es : List End) → nat_eq e.code 0x83 ≡ true
-    → Stated unit online (state_then unit s e) es → Stated unit online s es
-stated_unsettled unit online s e es code h =
-    by_bools (nat_eq e.unit unit) (away_of e.code e.status) (brings_of e.code e.status)
-    (ap (λ n. brings_of n e.status) (eqb-true e.code 0x83 code)) s h
+pub stated_unsettled : (unit : ℕ) (online : Bool) (s : State) (e : End) (es : List End)
+    → brings_of e.code e.status ≡ false → Stated unit online (state_then unit s e) es → Stated unit online s es
+stated_unsettled unit online s e es none h =
+    by_bools (nat_eq e.unit unit) (away_of e.code e.status) (brings_of e.code e.status) none s h
   where
     by_bools : (here away on : Bool) → on ≡ false → (s : State)
         → Stated unit online

@@ -1,5 +1,5 @@
 -- So does an answer, and what a host takes.
-use Rattle.mscp_controller.proofs.Basics.{◌≡◌, ℕ, Option, arith, ◌&&◌, ◌||◌, Bool, true, false, not, nat_eq, true≢false, List, [], ◌∷◌, ◌++◌, map, refl, ap, sym, ◌∙◌, subst, append-nil, Some, None, IsOfKind, AllByRecursion, false≢true, eq-eqb, ArrayVec, Connection, End, Event, Settings, Trace, Moment, moment, sent_bytes, command, command_of, unit, waiting, untaken, answer, aborted_end, good, own_end, end_bytes, every_append, every_weaker, same_connection, one_side, own_side, is_queued, each_push, aborted, untaken_more, drop}
+use Rattle.mscp_controller.proofs.Basics.{◌≡◌, ℕ, Option, arith, eqb-true, ◌&&◌, ◌||◌, Bool, true, false, not, nat_eq, true≢false, List, [], ◌∷◌, ◌++◌, map, refl, ap, sym, ◌∙◌, subst, append-nil, Some, None, IsOfKind, AllByRecursion, false≢true, eq-eqb, ArrayVec, Connection, End, Event, Settings, Trace, Moment, moment, sent_bytes, command, command_of, unit, waiting, untaken, answer, aborted_end, good, own_end, end_bytes, every_append, every_weaker, same_connection, one_side, own_side, is_queued, each_push, aborted, untaken_more, drop}
 use Rattle.std.proofs.lemmas.List.Sums.{fold_push}
 use Rattle.mscp_controller.proofs.Promise.Known.{Known}
 use Rattle.mscp_controller.proofs.Promise.States.{is_online_kept}
@@ -8,7 +8,7 @@ use Rattle.mscp_controller.specs.Units.{is_online}
 use Rattle.mscp_controller.specs.declared.entry.Entry.{Entry}
 use Rattle.mscp_packet.specs.Number.{num}
 use Rattle.mscp_wire.specs.Wire as wire
-use Rattle.mscp_wire.specs.Wire.{answer_by, is_settled_at, outstanding, place_of, sent_by, settles, suits_state, told, told_after_end, controller as controller_of, controller_after}
+use Rattle.mscp_wire.specs.Wire.{answer_by, brings, command_at, is_late, is_settled_at, outstanding, place_of, sent_by, says_away, settles, status_code, suits_state, told, went, told_after_end, controller as controller_of, controller_after}
 use Rattle.mscp_wire.specs.declared.answer.Answer.{Answer}
 use Rattle.mscp_wire.specs.declared.sent.Sent.{Sent}
 use Rattle.mscp_wire.proofs.Passing.{told_push}
@@ -16,7 +16,7 @@ use Rattle.mscp_wire.specs.declared.moment.Moment.{Moment as Wired}
 use Rattle.mscp_wire.specs.declared.moment.Moment.TheVariants as moments
 use Rattle.mscp_wire.specs.declared.told.Told.{Told}
 use Rattle.mscp_shown.specs.Shown.{shown}
-use Rattle.mscp_shown.proofs.Effects.{Effects, aborted_effects, own_effects}
+use Rattle.mscp_shown.proofs.Effects.{Effects, aborted_effects, brings_of, own_effects}
 use Rattle.mscp_shown.proofs.Identity.{controller_read, fits_controller, later_controller, own_identifier}
 use Rattle.mscp_shown.proofs.Owed.{untaken_took}
 use Rattle.mscp_shown.proofs.Reading.{IsFit, reads}
@@ -56,19 +56,39 @@ module _ (c : Settings) (own : Connection) (t : Trace) (b : List ℕ) (h : Stand
       )
 
 -- ---- a take
--- an end that isn't settled is one of GET UNIT STATUS
-unsettled_code : (xs : List Sent) (a : Answer) → settles xs a ≡ false → nat_eq a.code 0x83 ≡ true
-unsettled_code xs a h = by_place (place_of xs a) h
-  where
-    either : (x y : Bool) → (not x || not y) ≡ false → x ≡ true
-    either x y k = grind arith
-
-    by_place : (o : Option ℕ) → is_settled_at xs a o ≡ false → nat_eq a.code 0x83 ≡ true
-    by_place None k = absurd (true≢false k)
-    by_place (Some i) k = either (nat_eq a.code 0x83) _ k
-
 never : (b : Bool) → (b && false) ≡ false
 never b = grind arith
+
+-- an end that isn't settled brings nothing online
+unsettled_brings : (xs : List Sent) (a : Answer) → settles xs a ≡ false → brings a ≡ false
+unsettled_brings xs a h = by_place (place_of xs a) h
+  where
+    apart : (n : ℕ) → n ≡ 0x83 → nat_eq n 0x89 ≡ false
+    apart n e = ap (λ m. nat_eq m 0x89) e
+
+    by_tests : (late gone zero other : Bool) (x y : Bool) → (late ≡ true → x ≡ false) → gone ≡ (other && not zero)
+        → y ≡ zero → (z : Bool) → (not late && (not gone || z)) ≡ false → (x && y) ≡ false
+    by_tests true gone zero other x y f g e z k = ap (λ b. b && y) (f refl)
+    by_tests false false zero other x y f g e true k = absurd (true≢false k)
+    by_tests false false zero other x y f g e false k = absurd (true≢false k)
+    by_tests false true zero true x y f g e z k = ap (λ b. x && b) (e ∙ sym (not_zero zero g)) ∙ never x
+      where
+        not_zero : (b : Bool) → true ≡ (true && not b) → false ≡ b
+        not_zero true q = absurd (true≢false q)
+        not_zero false q = refl
+    by_tests false true zero false x y f g e z k = absurd (true≢false g)
+
+    late_code : (y : Sent) → is_late xs y a ≡ true → nat_eq a.code 0x89 ≡ false
+    late_code y q = apart a.code (eqb-true a.code 0x83 (first (nat_eq a.code 0x83) _ q))
+      where
+        first : (b c : Bool) → (b && c) ≡ true → b ≡ true
+        first b c r = grind arith
+
+    by_place : (o : Option ℕ) → is_settled_at xs a o ≡ false → brings a ≡ false
+    by_place None k = absurd (true≢false k)
+    by_place (Some i) k =
+        by_tests (is_late xs (command_at xs i) a) (went a) (nat_eq (status_code a) 0) (says_away a)
+        (nat_eq a.code 0x89) (nat_eq (status_code a) 0) (late_code (command_at xs i)) refl refl _ k
 
 module _ (c : Settings) (t : Trace) (own : Connection) (b : ArrayVec ℕ) (known : Known c t) (h : Stands c t)
     (e : End) (rest : List End) (us : untaken c own t ≡ e ∷ rest) (bytes : b.items ≡ end_bytes e)
@@ -154,8 +174,9 @@ module _ (c : Settings) (t : Trace) (own : Connection) (b : ArrayVec ℕ) (known
           (sym (state_other c own e fit own unit false (told (shown t) own unit)
           (never (wire.same_connection own own))))
           (stated_unsettled unit (is_online t unit) (told (shown t) own unit).state e rest
-          (sym (ap (λ n. nat_eq n 0x83) (reads c own e fit).code)
-          ∙ unsettled_code (outstanding (shown t)) (answer_by own (end_bytes e)) q)
+          (sym (ap (λ k. brings_of k (answer_by own (end_bytes e)).status) (reads c own e fit).code
+          ∙ ap (brings_of e.code) (reads c own e fit).status)
+          ∙ unsettled_brings (outstanding (shown t)) (answer_by own (end_bytes e)) q)
           (subst (Stated unit (is_online t unit) (told (shown t) own unit).state) us (h.stated own unit)).1)
 
       by_side : (via : Connection) (unit : ℕ) (here : Bool) → same_connection own via ≡ here

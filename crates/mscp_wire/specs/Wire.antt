@@ -32,8 +32,7 @@
 --                                 says that its unit was online, only if the unit is online   suits_state
 --                    Controller   the identifier of the controller stays as it is             fits
 --
--- An end of GET UNIT STATUS is asked for Identity and State only if it is settled: no AVAILABLE and no ONLINE of its
--- unit was outstanding between its message and itself.
+-- An end is asked for Identity and State, and proves how its unit is, only if it is settled (is_settled).
 use Rattle.std.specs.Prelude.{◌≡◌, ℕ, ◌+◌, ◌/◌, ◌<◌, Bool, true, false, not, ◌&&◌, ◌||◌, nat_eq, nat_le, nat_lt, if◌then◌else◌, List, [], ◌∷◌, ◌++◌, length, map, take, drop, find, position, count_by, fold, min, slice_index, slice_index_or, Option, Some, None, is_some}
 use Rattle.std.specs.List.{list_any}
 use Rattle.mscp_drive.specs.declared.connection.Connection.{Connection}
@@ -240,11 +239,18 @@ passed_of xs moments.Reset = None
 abbrev pub is_turning : Connection → ℕ → Sent → Bool
 is_turning via unit s = turns s.opcode && same_connection s.connection via && nat_eq s.unit unit
 
--- the end of a GET UNIT STATUS (0x83) may tell what was at any moment between its message and itself. So it is settled
--- only if no AVAILABLE or ONLINE of its unit was outstanding between: none ended beside y, and none still is
+-- the end of a GET UNIT STATUS (0x83) may tell what was at any moment between its message and itself. So it is late if
+-- an AVAILABLE or an ONLINE of its unit was outstanding between: one ended beside y, or one still is
+abbrev pub is_late : List Sent → Sent → Answer → Bool
+is_late xs y e = nat_eq e.code 0x83 && (y.beside || list_any (is_turning e.connection e.unit) xs)
+
+-- an end says that its unit went away by itself: with Unit-Available or Unit-Offline. It may have passed ends of before
+abbrev pub went : Answer → Bool
+went e = says_away e && not (nat_eq (status_code e) 0)
+
+-- an end of y is settled: it isn't late, and if it says that the unit went away nothing else of its host is outstanding
 abbrev pub is_settled : List Sent → Sent → Answer → Bool
-is_settled xs y e =
-    not (nat_eq e.code 0x83) || not (y.beside || list_any (is_turning e.connection e.unit) xs)
+is_settled xs y e = not (is_late xs y e) && (not (went e) || nat_le (count_on e.connection xs) 1)
 
 abbrev pub is_settled_at : List Sent → Answer → Option ℕ → Bool
 is_settled_at xs e None = true

@@ -365,6 +365,13 @@ impl Answer {
             || (self.status_code() == 3 && self.is_of_unit())
     }
 
+    /// Whether it says that its unit went away by itself.
+    pub fn went(&self) -> bool
+        ensures { result ≡ wire.went self.now }
+    {
+        self.says_away() && self.status_code() != 0
+    }
+
     /// Whether nothing is known after it of what its unit is.
     pub fn leaves(&self) -> bool
         ensures { result ≡ wire.leaves self.now }
