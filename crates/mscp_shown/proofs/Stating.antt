@@ -1,5 +1,5 @@
 -- What hosts are told of the states of units suits what the ends that they haven't taken yet say.
-use Rattle.mscp_controller.proofs.Basics.{◌≡◌, ◌||◌, ◌&&◌, ◌⊎◌, inl, ⊎_elim, ℕ, Bool, true, false, not, List, [], ◌∷◌, ◌++◌, refl, ap, sym, ◌∙◌, subst, append-nil, append_assoc, arith, if◌then◌else◌, nat_eq, None, AllByRecursion, eqb-true, true≢false, false≢true, Connection, End, Settings, unit, end_bytes, own_side}
+use Rattle.mscp_controller.proofs.Basics.{◌≡◌, ◌||◌, ◌&&◌, ◌⊎◌, inl, ⊎_elim, ℕ, Bool, true, false, not, List, [], ◌∷◌, ◌++◌, refl, ap, sym, ◌∙◌, subst, append-nil, append_assoc, arith, if◌then◌else◌, nat_eq, None, AllByRecursion, true≢false, false≢true, Connection, End, Settings, unit, end_bytes, own_side}
 use Rattle.std.proofs.Common.{inr}
 use Rattle.mscp_wire.specs.Wire as wire
 use Rattle.mscp_wire.specs.Wire.{History, after_own, after_other, answer_by, brings, says_away, says_online, sent_by, shares, suits_state, told, told_after, told_after_end, told_after_message, told_nothing, turned}
