@@ -24,7 +24,7 @@ use Rattle.mscp_shown.proofs.Linking.{Alone, AsksOf, IsLow, Linked, asks_at, bel
 use Rattle.mscp_shown.proofs.Pairing.{pairs_out}
 use Rattle.mscp_shown.proofs.Shown.{placed}
 use Rattle.mscp_shown.proofs.Strict as strict
-use Rattle.mscp_shown.proofs.Strict.{IsRightMessage, hears, may_tell, seen_of}
+use Rattle.mscp_shown.proofs.Strict.{IsRightMessage, hears, may_tell, told_at}
 
 -- ---- lists
 every_none : (q : Sent → Bool) (xs : List Sent) → list_any q xs ≡ false → AllByRecursion (λ x. q x ≡ false) xs
@@ -311,8 +311,8 @@ module _ (xs ys : List Sent) (h : State xs ys) (u : Seen) (b : List ℕ) (e : An
 
 -- ---- a moment
 step : (credits timeout : Option ℕ) (xs ys : List Sent) (units : Connection → ℕ → Told) (known : Option ℕ) (m : Moment)
-    → State xs ys → strict.IsRightAfter credits xs (seen_of units known m) m
-    → strict.IsStated (seen_of units known m) m
+    → State xs ys → strict.IsRightAfter credits xs (told_at units known m) m
+    → strict.IsStated (told_at units known m) m
     → (wire.broken credits ys (wire.seen_of ys units known m) m ≡ None)
     × State (strict.after xs m) (wire.after timeout ys m)
 step credits timeout xs ys units known (moments.Message via b time) h r stated = (
@@ -321,7 +321,7 @@ step credits timeout xs ys units known (moments.Message via b time) h r stated =
 )
 step credits timeout xs ys units known (moments.End via b) h r stated =
     let e = answer_by via b.items in
-    let u = seen_of units known (moments.End via b) in
+    let u = told_at units known (moments.End via b) in
     let found = place_same xs ys h u b.items e r.0 r.1 in (
       end_right xs ys h u b.items e r.0 r.1 (wire.settles ys e) stated.0 stated.1,
       subst (λ o. State (strict.after_end xs e o) (wire.after_end ys e (place_of ys e))) (sym r.1.outstanding)

@@ -23,7 +23,7 @@ use Rattle.mscp_shown.proofs.Saying.{Says, sent_says}
 use Rattle.mscp_shown.proofs.Shown.{shown_more}
 use Rattle.mscp_shown.proofs.Stating.{IsShared, Stated, message_state, shared_message, shared_stated, stated_append}
 use Rattle.mscp_wire.proofs.Passing.{told_push}
-use Rattle.mscp_shown.proofs.Strict.{AreStated, IsStated, seen_of}
+use Rattle.mscp_shown.proofs.Strict.{AreStated, IsStated, told_at}
 
 -- the command of a moment is no ONLINE, or its unit is shared to the other host
 abbrev pub Shares : History → Moment → Type 0
@@ -142,7 +142,7 @@ module _ (c : Settings) (t : Trace) (m : Moment) (known : Known c t) (h : Stands
         controller = λ n e. h.controller n
             (sym (fold_push controller_after None (shown t) w) ∙ (sym (ap controller_of is) ∙ e));
         are = subst AreStated (sym is)
-            (each_push moments.Reset (λ h w. IsStated (seen_of (told h) (controller_of h) w) w) (shown t) w h.are tt);
+            (each_push moments.Reset (λ h w. IsStated (told_at (told h) (controller_of h) w) w) (shown t) w h.are tt);
       }
     where
       brings_there : (via : Connection) → same_connection own via ≡ false → Says orders.Online (sent_by own b.items)

@@ -68,10 +68,10 @@ pub record IsRightEnd (xs : List Sent) (was : Seen) (b : List ℕ) (e : Answer) 
   pub identity : wire.is_same_unit was.unit e ≡ true
 
 -- what was told of the unit that a moment's end names, whether it is settled or not, and of the controller
-abbrev pub seen_of : (Connection → ℕ → Told) → Option ℕ → Moment → Seen
-seen_of units known (moments.End via b) =
+abbrev pub told_at : (Connection → ℕ → Told) → Option ℕ → Moment → Seen
+told_at units known (moments.End via b) =
     record { unit = units via (answer_by via b.items).unit; controller = known }
-seen_of units known m = wire.seen_nothing
+told_at units known m = wire.seen_nothing
 
 -- a moment is right, before which these are outstanding and this was told of its unit
 abbrev pub IsRightAfter : Option ℕ → List Sent → Seen → Moment → Type 0
@@ -80,7 +80,7 @@ IsRightAfter credits xs unit (moments.End via b) = (i : ℕ) × IsRightEnd xs un
 IsRightAfter credits xs unit moments.Reset = Unit {0}
 
 abbrev pub IsRight : Option ℕ → History → Moment → Type 0
-IsRight credits h m = IsRightAfter credits (outstanding h) (seen_of (wire.told h) (wire.controller h) m) m
+IsRight credits h m = IsRightAfter credits (outstanding h) (told_at (wire.told h) (wire.controller h) m) m
 
 abbrev pub AreRight : Option ℕ → History → Type 0
 AreRight credits h = (i : ℕ) → i < length h → IsRight credits (take i h) (wire.moment_at h i)
@@ -95,5 +95,5 @@ IsStated seen m = Unit {0}
 abbrev pub AreStated : History → Type 0
 AreStated h =
     (i : ℕ) → i < length h
-    → IsStated (seen_of (wire.told (take i h)) (wire.controller (take i h)) (wire.moment_at h i))
+    → IsStated (told_at (wire.told (take i h)) (wire.controller (take i h)) (wire.moment_at h i))
     (wire.moment_at h i)

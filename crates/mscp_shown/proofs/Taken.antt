@@ -24,7 +24,7 @@ use Rattle.mscp_shown.proofs.Saying.{sent_says}
 use Rattle.mscp_shown.proofs.Shown.{shown_more}
 use Rattle.mscp_shown.proofs.Kept.{same_sides}
 use Rattle.mscp_shown.proofs.Stating.{Stated, fits_read, shared_end, state_other, state_read, stated_unsettled}
-use Rattle.mscp_shown.proofs.Strict.{AreStated, IsStated, seen_of}
+use Rattle.mscp_shown.proofs.Strict.{AreStated, IsStated, told_at}
 use Rattle.mscp_shown.proofs.Suiting.{own_ends}
 use Rattle.mscp_shown.proofs.Standing.{Shares, Stands, waits_more}
 
@@ -154,7 +154,7 @@ module _ (c : Settings) (t : Trace) (own : Connection) (b : ArrayVec ℕ) (known
             later_controller c (answer_by own b.items).controller (controller_of (shown t)) controller_told h.controller
             n (sym (fold_push controller_after None (shown t) w) ∙ (sym (ap controller_of is) ∙ q));
         are = subst AreStated (sym is)
-            (each_push moments.Reset (λ h w. IsStated (seen_of (told h) (controller_of h) w) w) (shown t) w h.are (
+            (each_push moments.Reset (λ h w. IsStated (told_at (told h) (controller_of h) w) w) (shown t) w h.are (
               head_fits,
               fits_controller c (controller_of (shown t)) (answer_by own b.items).controller h.controller
                   controller_told,
