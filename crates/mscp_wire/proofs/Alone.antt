@@ -1,5 +1,5 @@
 -- Which questions about the commands that are outstanding have their answer in one count.
-use Rattle.std.proofs.Common.{◌≡◌, ℕ, zero, suc, ◌+◌, ◌≤◌, ◌<◌, if◌then◌else◌, Bool, true, false, cond, ◌&&◌, ◌||◌, List, [], ◌∷◌, length, get_or, set, take, drop, map, refl, ap, sym, ◌∙◌, arith, take-append-drop, ◌%◌, Option, Some, None}
+use Rattle.std.proofs.Common.{◌≡◌, ℕ, zero, suc, ◌+◌, ◌≤◌, ◌<◌, if◌then◌else◌, Bool, true, false, cond, ◌&&◌, ◌||◌, List, [], ◌∷◌, length, get_or, set, take, drop, map, refl, ap, sym, ◌∙◌, arith, take-append-drop, Option, Some, None}
 use Rattle.std.specs.Prelude.{count_by, nat_eq}
 use Rattle.std.specs.List.{list_any, position}
 use Rattle.std.proofs.lemmas.Bool.{eqb-true}
@@ -8,7 +8,7 @@ use Rattle.std.proofs.lemmas.List.{drop_more}
 use Rattle.std.proofs.lemmas.List.Sums.{sum_by-append, sum_by-cons}
 use Rattle.mscp_drive.specs.declared.connection.Connection.{Connection}
 use Rattle.mscp_drive.specs.declared.connection.Connection.TheVariants.{First}
-use Rattle.mscp_wire.specs.Kept.{IsTally, by_asked, by_fence, by_line, by_name, heard, leaves, slot_if, slot_of, tells, with_figure}
+use Rattle.mscp_wire.specs.Kept.{IsTally, by_asked, by_fence, by_line, by_name, heard, leaves, slot_if, slot, slot_of, tells, with_figure}
 use Rattle.mscp_wire.specs.Wire.{asks_oldest, command_at, is_it, is_polled, polled_by, is_named, is_ordered, is_sequential, keeps_back, left, polls, same_connection, sent_by}
 use Rattle.mscp_wire.specs.declared.answer.Answer.{Answer}
 use Rattle.mscp_wire.specs.declared.sent.Sent.{Sent}
@@ -62,7 +62,7 @@ alone p q h xs i l one at = none_counted p q h (take i xs) (around q xs i l one 
 named_slot : (via : Connection) (n : ℕ) (s : Sent) → is_named via n s ≡ true
     → is_it (by_name s) (slot_of via n) ≡ true
 named_slot via n s h =
-    ap (λ k. nat_eq (k % 131072) (slot_of via n)) (eqb-true _ _ (same_key s.connection via s.reference n ∙ h))
+    ap (λ k. nat_eq (slot k) (slot_of via n)) (eqb-true _ _ (same_key s.connection via s.reference n ∙ h))
     ∙ same (slot_of via n)
   where
     same : (k : ℕ) → nat_eq k k ≡ true
@@ -106,7 +106,7 @@ kept_by_none a b c d e f h k = grind arith
 unit_slot : (y s : Sent) → (same_connection s.connection y.connection && nat_eq s.unit y.unit) ≡ true
     → is_it (Some (slot_of s.connection s.unit)) (slot_of y.connection y.unit) ≡ true
 unit_slot y s h =
-    ap (λ k. nat_eq (k % 131072) (slot_of y.connection y.unit))
+    ap (λ k. nat_eq (slot k) (slot_of y.connection y.unit))
     (eqb-true _ _ (same_key s.connection y.connection s.unit y.unit ∙ h)) ∙ same (slot_of y.connection y.unit)
   where
     same : (k : ℕ) → nat_eq k k ≡ true
@@ -241,7 +241,7 @@ asked_slot y s h =
         → is_it (slot_if s.connection o) (slot_of y.connection y.reference) ≡ true
     named None a b = b
     named (Some n) a b =
-        ap (λ k. nat_eq (k % 131072) (slot_of y.connection y.reference))
+        ap (λ k. nat_eq (slot k) (slot_of y.connection y.reference))
         (eqb-true _ _ (same_key s.connection y.connection n y.reference
         ∙ ap (λ x. x && nat_eq n y.reference) a ∙ b))
         ∙ same (slot_of y.connection y.reference)

@@ -1,6 +1,6 @@
 pub mod Counting
 pub mod Keys
-mod Cells
+mod Placed
 pub mod Hearing
 pub mod Passing
 pub mod Doubting
@@ -9,6 +9,7 @@ pub mod Once
 mod Names
 mod Alone
 mod Marking
+mod Tagged
 mod Tables
 mod Contradicted
 pub mod Going

@@ -1,5 +1,5 @@
 -- What is counted stays so when a GET UNIT STATUS hears that its unit may have another state, and which ones hear it.
-use Rattle.std.proofs.Common.{◌≡◌, ℕ, suc, ◌+◌, ◌<◌, if◌then◌else◌, Bool, true, false, cond, not, ◌&&◌, ◌||◌, List, [], ◌∷◌, ◌++◌, length, get_or, set, take, drop, map, refl, ap, sym, ◌∙◌, arith, ◌%◌, Option, Some, None}
+use Rattle.std.proofs.Common.{◌≡◌, ℕ, suc, ◌+◌, ◌<◌, if◌then◌else◌, Bool, true, false, cond, not, ◌&&◌, ◌||◌, List, [], ◌∷◌, ◌++◌, length, get_or, set, take, drop, map, refl, ap, sym, ◌∙◌, arith, Option, Some, None}
 use Rattle.std.specs.Prelude.{count_by, nat_eq}
 use Rattle.std.specs.List.{list_any, remove}
 use Rattle.std.proofs.lemmas.Bool.{eqb-true}
@@ -7,7 +7,7 @@ use Rattle.std.proofs.lemmas.Bool.Decides.{nat_tests}
 use Rattle.std.proofs.lemmas.List.Sums.{sum_by-remove, sum_by-set}
 use Rattle.mscp_drive.specs.declared.connection.Connection.{Connection}
 use Rattle.mscp_drive.specs.declared.connection.Connection.TheVariants.{First, Second}
-use Rattle.mscp_wire.specs.Kept.{IsKept, IsTally, besides, by_asked, by_fence, by_line, by_name, by_next, by_status, fewer, heard, is_on, slot_of}
+use Rattle.mscp_wire.specs.Kept.{IsKept, IsTally, besides, by_asked, by_fence, by_line, by_name, by_next, by_status, fewer, heard, is_on, slot, slot_of}
 use Rattle.mscp_wire.specs.Wire.{command_at, hears, is_it, is_sequential, is_turning, same_connection, sent_by, turns, turns_beside}
 use Rattle.mscp_wire.specs.declared.answer.Answer.{Answer}
 use Rattle.mscp_wire.specs.declared.sent.Sent.{Sent}
@@ -108,7 +108,7 @@ same_slot k = grind (arith, nat_tests)
 slot_like : (c v : Connection) (m n : ℕ) → (same_connection c v && nat_eq m n) ≡ true
     → is_it (Some (slot_of c m)) (slot_of v n) ≡ true
 slot_like c v m n h =
-    ap (λ k. nat_eq (k % 131072) (slot_of v n)) (eqb-true _ _ (same_key c v m n ∙ h)) ∙ same_slot (slot_of v n)
+    ap (λ k. nat_eq (slot k) (slot_of v n)) (eqb-true _ _ (same_key c v m n ∙ h)) ∙ same_slot (slot_of v n)
 
 -- one that isn't counted
 uncounted : (y s : Sent) → is_it (by_status s) (slot_of y.connection y.unit) ≡ false

@@ -1,9 +1,9 @@
 -- What is kept beside the commands that are outstanding, so that each is found soon.
-use Rattle.std.specs.Prelude.{◌≡◌, ℕ, ◌+◌, ◌-◌, ◌%◌, ◌<◌, ◌≤◌, ◌^◌, cond, nat_le, length, take, Bool, true, false, not, ◌&&◌, ◌||◌, nat_eq, if◌then◌else◌, List, get_or, count_by, Option, Some, None}
+use Rattle.std.specs.Prelude.{◌≡◌, ℕ, ◌+◌, ◌-◌, ◌*◌, ◌/◌, ◌%◌, ◌<◌, ◌≤◌, ◌^◌, cond, nat_le, length, take, Bool, true, false, not, ◌&&◌, ◌||◌, nat_eq, if◌then◌else◌, List, get_or, count_by, Option, Some, None}
 use Rattle.std.specs.List.{filter_map}
 use Rattle.mscp_drive.specs.declared.connection.Connection.{Connection}
 use Rattle.mscp_drive.specs.declared.connection.Connection.TheVariants.{First, Second}
-use Rattle.mscp_wire.specs.Messages.{is_named, is_ordered, is_sequential, same_connection}
+use Rattle.mscp_wire.specs.Messages.{is_immediate, is_named, is_ordered, is_sequential, same_connection}
 use Rattle.mscp_wire.specs.Polls.{is_it, left, polls, turns_beside}
 use Rattle.mscp_wire.specs.Polls.{tells as told_by}
 use Rattle.mscp_wire.specs.declared.answer.Answer.{Answer}
@@ -37,11 +37,54 @@ abbrev pub place_if : List (Option Sent) → Option ℕ → Option ℕ
 place_if cells None = None
 place_if cells (Some at) = Some (place cells at)
 
+-- ---- by which tag they are sought
+
+-- the tag for a number of a connection, of commands that are answered when they arrive or of others
+abbrev pub tag : Connection → ℕ → Bool → ℕ
+tag via number immediate = 2 * key via number + cond immediate 1 0
+
+-- a command has its place in the line of its unit: it is sequential, or has its place beside such
+abbrev pub is_lined : Sent → Bool
+is_lined s = is_sequential s.opcode || is_ordered s.opcode
+
+-- the number of one that is about another
+abbrev pub about : Option ℕ → ℕ
+about None = 65537
+about (Some other) = 65538 + other
+
+-- the number of one that has no place there: of an ABORT (1) and a GET COMMAND STATUS (2) by what it is about, of a GET
+-- UNIT STATUS (3) its unit, but of those of the next unit and of all others 65536
+abbrev pub aside : Sent → ℕ
+aside s =
+    if nat_eq s.opcode 1 || nat_eq s.opcode 2 then about s.parameter
+    else if nat_eq s.opcode 3 && not s.next then s.unit else 65536
+
+abbrev pub tag_of : Sent → ℕ
+tag_of s =
+    if is_lined s then tag s.connection s.unit false else tag s.connection (aside s) (is_immediate s.opcode)
+
+-- it is the tag of a GET UNIT STATUS of y's unit, or of whichever is next
+abbrev pub is_beside : Sent → ℕ → Bool
+is_beside y found = nat_eq found (tag y.connection y.unit true) || nat_eq found (tag y.connection 65536 true)
+
+abbrev pub tag_if : Option Sent → ℕ
+tag_if None = 18446744073709551615
+tag_if (Some s) = tag_of s
+
+-- each command stands beside its tag
+pub record AreTagged (cells : List (Option Sent)) (tags : List ℕ) : Type 0 where
+  pub many : length cells ≤ length tags
+  pub each : (at : ℕ) (s : Sent) → cell cells at ≡ Some s → get_or tags at 0 ≡ tag_of s
+
 -- ---- what is counted
 
--- the small number for a number of a connection
+-- the small number for a key, by all of its digits
+abbrev pub slot : ℕ → ℕ
+slot n = (n + n / 131072) % 131072
+
+-- and for a number of a connection
 abbrev pub slot_of : Connection → ℕ → ℕ
-slot_of via number = key via number % 131072
+slot_of via number = slot (key via number)
 
 -- commands are counted by their names,
 abbrev pub by_name : Sent → Option ℕ

@@ -13,9 +13,8 @@ ghost use Rattle.mscp_wire.specs.Sought.{is_sought};
 mod marking;
 
 use crate::answer::Answer;
-use crate::held::{
-    Sought, cell_of, command_if, command_in, has, list_of, note, note_all, put_in, stands,
-};
+use crate::cells::Cells;
+use crate::held::{Sought, command_if, command_in, list_of, note, note_all, stands};
 use crate::outstanding::is_apart;
 use crate::polls::{asks_oldest, leave_all, leaves, tell_all, tells};
 use crate::sent::{Sent, is_ordered, is_sequential};
@@ -25,13 +24,13 @@ use mscp_drive::{Connection, OutOfMemory};
 use std::alloc::{AllocError, Allocator};
 use std::marker::Model;
 
-/// So many cells may be empty, beside as many as aren't.
+/// So many cells may be empty, beside half as many as aren't.
 const EMPTY: usize = 64;
 
 /// The commands that are outstanding, oldest first.
 #[derive(Drop)]
 pub struct Commands<A: Allocator> {
-    cells: Vec<Option<Sent>, A>,
+    cells: Cells<A>,
     /// Of each number of names the cell in which the last one may stand that has it, and the last poll of it.
     last: Vec<u32, A>,
     last_asked: Vec<u32, A>,
@@ -46,9 +45,9 @@ impl<A: Allocator> Model for Commands<A> {
 
     ghost Value = { List (Option Sent) };
 
-    ghost view = { λ c. c.cells.items };
+    ghost view = { λ c. c.cells };
 
-    ghost invariant = { λ c. IsKept (sents c.cells.items) c.tallies };
+    ghost invariant = { λ c. IsKept (sents c.cells) c.tallies };
 }
 
 impl<A: Allocator + Copy> Commands<A> {
@@ -57,18 +56,21 @@ impl<A: Allocator + Copy> Commands<A> {
         ensures { result ≡ [] }
     {
         Commands {
-            cells: Vec::new(alloc),
+            cells: Cells::new(alloc),
             last: Vec::new(alloc),
             last_asked: Vec::new(alloc),
             tallies: Tallies::none(alloc),
         }
     }
 
-    /// How many.
+    /// How many. There are no more than cells, so it is small.
     pub fn len(&self) -> usize
         ensures { result ≡ length (sents self.now) }
     {
-        self.tallies.first + self.tallies.second
+        self.tallies
+            .first
+            .saturating_add(self.tallies.second)
+            .min(self.cells.len())
     }
 
     /// The one in a cell.
@@ -87,27 +89,54 @@ impl<A: Allocator + Copy> Commands<A> {
         command_if(self.cells.as_slice(), at)
     }
 
-    /// Those that came before the one in a cell.
-    pub fn before(&self, at: usize) -> &[Option<Sent>]
-        requires { IsSome (cell self.now at) }
-        ensures { sents result.now ≡ take (place self.now at) (sents self.now) }
-    {
-        &self.cells[..at]
-    }
-
     /// Those that came after the one in a cell.
     pub fn behind(&self, at: usize) -> &[Option<Sent>]
         requires { IsSome (cell self.now at) }
         ensures { sents result.now ≡ drop (place self.now at + 1) (sents self.now) }
     {
-        &self.cells[at + 1..]
+        &self.cells.as_slice()[at + 1..]
     }
 
-    /// All.
-    pub fn all(&self) -> &[Option<Sent>]
-        ensures { result.now ≡ self.now }
+    /// The cell in which the first stands that is sought, if one does.
+    fn first(&self, sought: &Sought) -> Option<usize>
+        ensures place { place_if self.now result ≡ position (is_sought sought.now) (sents self.now) }
+        ensures there { IfSome result (λ i. IsSome (cell self.now i)) }
     {
-        self.cells.as_slice()
+        self.cells.first(self.cells.len(), sought)
+    }
+
+    /// Whether one is.
+    fn has(&self, sought: &Sought) -> bool
+        ensures { result ≡ list_any (is_sought sought.now) (sents self.now) }
+    {
+        self.first(sought).is_some()
+    }
+
+    /// The first that is, of those that came before the one in a cell.
+    pub fn first_before(&self, at: usize, sought: &Sought) -> Option<Sent>
+        requires { IsSome (cell self.now at) }
+        ensures { result ≡ find (is_sought sought.now) (take (place self.now at) (sents self.now)) }
+    {
+        command_if(
+            &self.cells.as_slice()[..at],
+            self.cells.first(at, sought),
+        )
+    }
+
+    /// Whether one is that came before it.
+    fn has_before(&self, at: usize, sought: &Sought) -> bool
+        requires { IsSome (cell self.now at) }
+        ensures { result ≡ list_any (is_sought sought.now) (take (place self.now at) (sents self.now)) }
+    {
+        self.first_before(at, sought).is_some()
+    }
+
+    /// The oldest for which the host of a connection waits, if there is one.
+    #[tactic(auto, using(crate::proofs::Names::found_at))]
+    pub fn oldest_on(&self, connection: Connection) -> Option<Sent>
+        ensures { result ≡ find (wire.waits_on connection) (sents self.now) }
+    {
+        self.command_if(self.first(&Sought::WaitedFor(connection)))
     }
 
     /// How many are of a connection.
@@ -115,10 +144,11 @@ impl<A: Allocator + Copy> Commands<A> {
         ensures count { result ≡ wire.count_on connection (sents self.now) }
         ensures bound { result < 2 ^ 63 }
     {
-        match connection {
+        let count = match connection {
             Connection::First => self.tallies.first,
             Connection::Second => self.tallies.second,
-        }
+        };
+        count.min(self.cells.len())
     }
 
     /// Whether one of them has this reference number on this connection.
@@ -128,7 +158,7 @@ impl<A: Allocator + Copy> Commands<A> {
         if self.tallies.names.at(slot_of(connection, reference)) == 0 {
             return false;
         }
-        has(self.cells.as_slice(), &Sought::Named(connection, reference))
+        self.has(&Sought::Named(connection, reference))
     }
 
     /// A cell, if the command that is sought stands there.
@@ -138,7 +168,8 @@ impl<A: Allocator + Copy> Commands<A> {
             (wire.command_at (sents self.now) (place self.now i)) ≡ true) }
     {
         let at = at? as usize;
-        if at < self.cells.len() && stands(&self.cells[at], sought) {
+        let cells = self.cells.as_slice();
+        if at < cells.len() && stands(&cells[at], sought) {
             Some(at)
         } else {
             None
@@ -161,7 +192,7 @@ impl<A: Allocator + Copy> Commands<A> {
                 return Some(at);
             }
         }
-        cell_of(self.cells.as_slice(), &Sought::Named(connection, reference))
+        self.first(&Sought::Named(connection, reference))
     }
 
     /// The cell in which the command that an end answers stands, if it does.
@@ -204,7 +235,7 @@ impl<A: Allocator + Copy> Commands<A> {
     {
         is_apart(answer.status_code())
             || self.stands_free(at, command)
-            || !has(self.before(at), &Sought::Keeping(*command))
+            || !self.has_before(at, &Sought::Keeping(*command))
     }
 
     /// Whether an AVAILABLE or an ONLINE of a unit is outstanding.
@@ -214,7 +245,7 @@ impl<A: Allocator + Copy> Commands<A> {
         if self.tallies.fences.at(slot_of(connection, u32::from(unit))) == 0 {
             return false;
         }
-        has(self.cells.as_slice(), &Sought::Turning(connection, unit))
+        self.has(&Sought::Turning(connection, unit))
     }
 
     /// Begins to count, if no command is outstanding and nothing was counted so far.
@@ -234,15 +265,19 @@ impl<A: Allocator + Copy> Commands<A> {
     fn close_up(&mut self)
         ensures { sents self.new ≡ sents self.old }
     {
-        self.cells.retain(|cell| cell.is_some());
-        note_all(&self.cells, &mut self.last, &mut self.last_asked);
+        self.cells.close_up();
+        note_all(
+            self.cells.as_slice(),
+            &mut self.last,
+            &mut self.last_asked,
+        );
     }
 
     /// Few cells are empty.
     fn make_room(&mut self)
         ensures { sents self.new ≡ sents self.old }
     {
-        if self.cells.len() / 2 > self.len().saturating_add(EMPTY) {
+        if self.cells.len() / 3 > self.len().saturating_add(EMPTY) / 2 {
             self.close_up();
         }
     }
@@ -254,7 +289,7 @@ impl<A: Allocator + Copy> Commands<A> {
         self.begin()?;
         self.make_room();
         let at = self.cells.len();
-        self.cells.push(Some(command))?;
+        self.cells.push(command)?;
         self.tallies.add(&command);
         note(&mut self.last, &mut self.last_asked, &command, at);
         Ok(())
@@ -269,7 +304,7 @@ impl<A: Allocator + Copy> Commands<A> {
         ensures empty { cell self.new at ≡ None }
     {
         let sent = self.at(at);
-        self.cells[at] = None;
+        self.cells.put(at, None);
         self.tallies.subtract(&sent);
         sent
     }
@@ -280,7 +315,7 @@ impl<A: Allocator + Copy> Commands<A> {
         ensures cells { length self.new ≡ length self.old }
         ensures empty { cell self.new at ≡ None }
     {
-        if self.cells[at].is_some() {
+        if self.cells.as_slice()[at].is_some() {
             self.remove(at);
         }
     }
@@ -324,7 +359,8 @@ impl<A: Allocator + Copy> Commands<A> {
             let sought = Sought::Named(name.0, name.1);
             if let Some(at) = self.guessed(self.last.get(slot).copied(), &sought) {
                 let command = self.at(at);
-                put_in(&mut self.cells, at, tells(name, figure, time, &command));
+                self.cells
+                    .put(at, Some(tells(name, figure, time, &command)));
                 return;
             }
         }
@@ -346,7 +382,7 @@ impl<A: Allocator + Copy> Commands<A> {
                 &Sought::PollOf(*ended),
             ) {
                 let other = self.at(at);
-                put_in(&mut self.cells, at, leaves(ended, &other));
+                self.cells.put(at, Some(leaves(ended, &other)));
                 return;
             }
         }

@@ -244,16 +244,19 @@ impl<A: Allocator + Copy> Judge<A> {
         })
     }
 
-    /// An end came that breaks no rule: the command at its place isn't outstanding any more, and what it tells is
+    /// An end came, which is settled or not: the command at its place isn't outstanding any more, and what it tells is
     /// known.
-    pub fn ended(&mut self, answer: &Answer, at: Option<usize>) -> Result<(), OutOfMemory>
+    pub fn ended(
+        &mut self,
+        answer: &Answer,
+        at: Option<usize>,
+        settled: bool,
+    ) -> Result<(), OutOfMemory>
         requires { IfSome at (λ i. IsSome (cell self.old.commands i)) }
         ensures after { OnOk result (sents self.new.commands
             ≡ wire.after_end (sents self.old.commands) answer.now (place_if self.old.commands at)) }
         ensures units { OnOk result ((via : connections.Connection) (unit : ℕ) → wire.kept self.new.units via unit
-            ≡ wire.told_after_end via unit
-            (wire.is_settled_at (sents self.old.commands) answer.now (place_if self.old.commands at))
-            (wire.kept self.old.units via unit) answer.now) }
+            ≡ wire.told_after_end via unit settled (wire.kept self.old.units via unit) answer.now) }
         ensures called { OnOk result ((identifier : ℕ) → wire.kept_called self.new.units identifier
             ≡ wire.called_after_end identifier (wire.kept_called self.old.units identifier) answer.now) }
         ensures controller { OnOk result (self.new.controller
@@ -261,8 +264,7 @@ impl<A: Allocator + Copy> Judge<A> {
         ensures timeout { OnOk result (self.new.timeout ≡ wire.later_of answer.now.timeout self.old.timeout) }
         ensures credits { self.new.credits ≡ self.old.credits }
     {
-        self.units
-            .hear_end(answer, self.commands.settles(at, answer))?;
+        self.units.hear_end(answer, settled)?;
         self.controller = later_of(answer.controller, self.controller);
         self.timeout = later_time(answer.timeout, self.timeout);
         if let Some(at) = at {
@@ -315,12 +317,13 @@ impl<A: Allocator + Copy> Judge<A> {
         let answer = Answer::of(connection, bytes);
         let at = self.commands.cell_of(&answer);
         let command = self.commands.command_if(at);
-        let seen = self.seen_by(&answer, self.commands.settles(at, &answer));
+        let settled = self.commands.settles(at, &answer);
+        let seen = self.seen_by(&answer, settled);
         let rule = broken_answer(&self.commands, &seen, &answer, at);
         let fall = fall_found(&answer, command);
         let doubtful = doubtful_found(&self.units, &answer, command);
         if rule.is_none() {
-            self.ended(&answer, at)?;
+            self.ended(&answer, at, settled)?;
         }
         Ok(Stepped {
             rule,

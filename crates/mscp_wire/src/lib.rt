@@ -4,6 +4,7 @@
 mod against;
 mod answer;
 mod besides;
+mod cells;
 mod commands;
 mod course;
 mod doubtful;
@@ -26,6 +27,7 @@ mod row;
 mod rule;
 mod sent;
 mod table;
+mod tags;
 mod tallies;
 mod tally;
 mod told;

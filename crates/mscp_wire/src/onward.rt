@@ -91,7 +91,8 @@ impl<A: Allocator + Copy> Judge<A> {
             Moment::End(connection, message) => {
                 let answer = Answer::of(*connection, message.as_slice());
                 let at = self.commands.cell_of(&answer);
-                self.ended(&answer, at)
+                let settled = self.commands.settles(at, &answer);
+                self.ended(&answer, at, settled)
             }
             Moment::Reset => {
                 self.reset();

@@ -6,21 +6,19 @@ ghost use Rattle.mscp_wire.specs.Kept.{cell, place, place_if, sents};
 
 use crate::answer::Answer;
 use crate::commands::Commands;
-use crate::held::{Sought, cell_of, command_if};
+use crate::held::Sought;
 use crate::sent::Sent;
 use std::alloc::Allocator;
 
 impl<A: Allocator + Copy> Commands<A> {
     /// The first that keeps the one in a cell back, if one does.
-    #[tactic(auto, using(crate::proofs::Names::found_at))]
     fn keeper_of(&self, at: usize) -> Option<Sent>
         requires { IsSome (cell self.now at) }
         ensures { result ≡ find (wire.keeps_back (wire.command_at (sents self.now) (place self.now at)))
             (take (place self.now at) (sents self.now)) }
     {
-        let command = self.at(at);
-        let earlier = self.before(at);
-        command_if(earlier, cell_of(earlier, &Sought::Keeping(command)))
+        let sought = Sought::Keeping(self.at(at));
+        self.first_before(at, &sought)
     }
 
     /// The same, if there is a cell.

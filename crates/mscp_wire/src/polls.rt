@@ -6,8 +6,9 @@ ghost use Rattle.mscp_wire.specs.Wire as wire;
 ghost use Rattle.mscp_wire.specs.Kept as kept;
 
 use crate::answer::{Answer, STATUS, is_it};
+use crate::cells::Cells;
 use crate::commands::Commands;
-use crate::held::{Sought, cell_of, command_if, has};
+use crate::held::{Sought, has};
 use crate::sent::{Asked, Sent, is_immediate};
 use mscp_drive::Connection;
 use std::alloc::Allocator;
@@ -17,14 +18,6 @@ pub fn waits_on(connection: Connection, command: &Sent) -> bool
     ensures { result ≡ wire.waits_on connection command.now }
 {
     command.connection == connection && !is_immediate(command.opcode)
-}
-
-/// The oldest of those that the host of a connection waits for.
-fn oldest_on(commands: &[Option<Sent>], connection: Connection) -> Option<Sent>
-    ensures { result ≡ find (wire.waits_on connection) (kept.sents commands.now) }
-{
-    let at = cell_of(commands, &Sought::WaitedFor(connection));
-    command_if(commands, at)
 }
 
 /// Whether it has this reference number, if it is there.
@@ -38,11 +31,11 @@ fn has_number(command: Option<Sent>, reference: u32) -> bool
 }
 
 /// Whether a command is the oldest that its host waits for.
-fn is_oldest(commands: &[Option<Sent>], command: &Sent) -> bool
+fn is_oldest<A: Allocator + Copy>(commands: &Commands<A>, command: &Sent) -> bool
     ensures { result ≡ wire.is_oldest (kept.sents commands.now) command.now }
 {
     !is_immediate(command.opcode)
-        && has_number(oldest_on(commands, command.connection), command.reference)
+        && has_number(commands.oldest_on(command.connection), command.reference)
 }
 
 /// Whether a poll of this time comes sooner than a controller timeout of so many seconds after one of that time. It
@@ -59,7 +52,12 @@ pub fn is_hasty(timeout: Option<u16>, last: Option<u64>, time: Option<u64>) -> b
 }
 
 /// Whether a poll of a command may ask it for its figure.
-fn may_ask(timeout: Option<u16>, commands: &[Option<Sent>], poll: &Sent, command: &Sent) -> bool
+fn may_ask<A: Allocator + Copy>(
+    timeout: Option<u16>,
+    commands: &Commands<A>,
+    poll: &Sent,
+    command: &Sent,
+) -> bool
     ensures { result ≡ wire.may_ask timeout (kept.sents commands.now) poll.now command.now }
 {
     command.unit == poll.unit
@@ -68,9 +66,9 @@ fn may_ask(timeout: Option<u16>, commands: &[Option<Sent>], poll: &Sent, command
 }
 
 /// What a poll asks of the command that has the number which it names, if there is one.
-fn asked_about(
+fn asked_about<A: Allocator + Copy>(
     timeout: Option<u16>,
-    commands: &[Option<Sent>],
+    commands: &Commands<A>,
     poll: &Sent,
     named: Option<Sent>,
 ) -> Asked
@@ -100,7 +98,7 @@ fn asked_by<A: Allocator + Copy>(
     match named {
         Some(other) if other != poll.reference => {
             let command = commands.find_named(poll.connection, other);
-            asked_about(timeout, commands.all(), poll, command)
+            asked_about(timeout, commands, poll, command)
         }
         _ => Asked::Nothing,
     }
@@ -216,25 +214,26 @@ pub fn leaves(ended: &Sent, other: &Sent) -> Sent
 }
 
 /// What stands in a cell, once one ended.
-fn leave_in<A: Allocator>(cells: &mut Vec<Option<Sent>, A>, at: usize, ended: &Sent)
-    requires { at < length cells.old.items }
-    ensures cells { cells.new.items ≡ set cells.old.items at
-        (option_map (kept.leaves ended.now) (kept.cell cells.old.items at)) }
-    ensures many { length cells.new.items ≡ length cells.old.items }
+fn leave_in<A: Allocator + Copy>(cells: &mut Cells<A>, at: usize, ended: &Sent)
+    requires { at < length cells.old }
+    ensures { cells.new ≡ set cells.old at (option_map (kept.leaves ended.now) (kept.cell cells.old at)) }
 {
-    if let Some(other) = cells[at] {
+    if let Some(other) = cells.as_slice()[at] {
         if polls(ended, &other) {
-            cells[at] = Some(leaves(ended, &other));
+            cells.put(at, Some(leaves(ended, &other)));
         }
     }
 }
 
 /// What stands in all of them, once one ended.
-pub fn leave_all<A: Allocator>(cells: &mut Vec<Option<Sent>, A>, ended: &Sent)
-    ensures { kept.sents cells.new.items ≡ map (kept.leaves ended.now) (kept.sents cells.old.items) }
+pub fn leave_all<A: Allocator + Copy>(cells: &mut Cells<A>, ended: &Sent)
+    ensures { kept.sents cells.new ≡ map (kept.leaves ended.now) (kept.sents cells.old) }
 {
+    let sought = Sought::PollOf(*ended);
     for at in 0..cells.len() {
-        leave_in(cells, at, ended);
+        if cells.may_hold(at, &sought) {
+            leave_in(cells, at, ended);
+        }
     }
 }
 
@@ -259,31 +258,30 @@ pub fn tells(
 }
 
 /// What stands in a cell, once such a poll told it.
-fn tell_in<A: Allocator>(
-    cells: &mut Vec<Option<Sent>, A>,
+fn tell_in<A: Allocator + Copy>(
+    cells: &mut Cells<A>,
     at: usize,
     name: (Connection, u32),
     figure: Option<u32>,
     time: Option<u64>,
 )
-    requires { at < length cells.old.items }
-    ensures cells { cells.new.items ≡ set cells.old.items at
-        (option_map (kept.tells name.0 name.1 figure time) (kept.cell cells.old.items at)) }
-    ensures many { length cells.new.items ≡ length cells.old.items }
+    requires { at < length cells.old }
+    ensures { cells.new ≡ set cells.old at
+        (option_map (kept.tells name.0 name.1 figure time) (kept.cell cells.old at)) }
 {
-    if let Some(command) = cells[at] {
-        cells[at] = Some(tells(name, figure, time, &command));
+    if let Some(command) = cells.as_slice()[at] {
+        cells.put(at, Some(tells(name, figure, time, &command)));
     }
 }
 
 /// What stands in all of them, once such a poll told it.
-pub fn tell_all<A: Allocator>(
-    cells: &mut Vec<Option<Sent>, A>,
+pub fn tell_all<A: Allocator + Copy>(
+    cells: &mut Cells<A>,
     name: (Connection, u32),
     figure: Option<u32>,
     time: Option<u64>,
 )
-    ensures { kept.sents cells.new.items ≡ map (kept.tells name.0 name.1 figure time) (kept.sents cells.old.items) }
+    ensures { kept.sents cells.new ≡ map (kept.tells name.0 name.1 figure time) (kept.sents cells.old) }
 {
     for at in 0..cells.len() {
         tell_in(cells, at, name, figure, time);

@@ -21,7 +21,8 @@ pub struct Tally<A: Allocator> {
     pub counts: Vec<u8, A>,
 }
 
-/// The number for a number of a connection. Two may have the same.
+/// The number for a number of a connection. Two may have the same, but no two small ones, and not all those that end in
+/// the same digits.
 pub fn slot_of(connection: Connection, number: u32) -> usize
     ensures { result ≡ slot_of connection number }
 {
@@ -29,7 +30,7 @@ pub fn slot_of(connection: Connection, number: u32) -> usize
         Connection::First => 2 * u64::from(number),
         Connection::Second => 2 * u64::from(number) + 1,
     };
-    (key % SLOTS as u64) as usize
+    ((key + key / SLOTS as u64) % SLOTS as u64) as usize
 }
 
 /// A count, once one more is counted.

@@ -7,6 +7,7 @@ ghost use Rattle.mscp_wire.specs.Kept.{cell, sents};
 
 use crate::besides::{marked, turns, turns_beside};
 use crate::commands::Commands;
+use crate::held::Sought;
 use crate::sent::Sent;
 use std::alloc::Allocator;
 
@@ -16,10 +17,10 @@ impl<A: Allocator + Copy> Commands<A> {
         requires { at < length self.old }
         ensures { self.new ≡ set self.old at (option_map (kept.besides ended.now) (cell self.old at)) }
     {
-        if let Some(other) = self.cells[at] {
+        if let Some(other) = self.cells.as_slice()[at] {
             if !other.beside && turns_beside(ended, &other) {
                 self.tallies.mark(&other);
-                self.cells[at] = Some(marked(ended, &other));
+                self.cells.put(at, Some(marked(ended, &other)));
             }
         }
     }
@@ -28,8 +29,11 @@ impl<A: Allocator + Copy> Commands<A> {
     fn mark_all(&mut self, ended: &Sent)
         ensures { sents self.new ≡ map (kept.besides ended.now) (sents self.old) }
     {
+        let sought = Sought::Beside(*ended);
         for at in 0..self.cells.len() {
-            self.mark_in(at, ended);
+            if self.cells.may_hold(at, &sought) {
+                self.mark_in(at, ended);
+            }
         }
     }
 

@@ -2,7 +2,7 @@ use Rattle.std.proofs.Common.{arith, ap, sym, ◌∙◌, take_all}
 use Rattle.std.specs.List.{list_any}
 use Rattle.mscp_wire.specs.Kept.{sents}
 use Rattle.mscp_wire.specs.Sought.{is_sought}
-use Rattle.mscp_wire.proofs.Cells.{first_in, none_more}
+use Rattle.mscp_wire.proofs.Placed.{first_in, none_more}
 use Rattle.mscp_wire.proofs.Names.{place_none}
 use Rattle.mscp_wire.proofs.held.cell_of.Goals as goal
 

@@ -2,7 +2,7 @@ use Rattle.std.proofs.Common.{ap, sym, subst, ◌∙◌}
 use Rattle.std.specs.Prelude.{IfSome, IsSome}
 use Rattle.mscp_wire.specs.Kept.{cell, place_if, sents}
 use Rattle.mscp_wire.specs.Wire.{command_at_place}
-use Rattle.mscp_wire.proofs.Cells.{cell_is}
+use Rattle.mscp_wire.proofs.Placed.{cell_is}
 use Rattle.mscp_wire.proofs.held.command_if.Goals as goal
 
 pub returns-in-Some : goal.returns-in-Some

@@ -2,7 +2,7 @@ use Rattle.std.proofs.Common.{ap, ◌∙◌}
 use Rattle.std.specs.Prelude.{is_some}
 use Rattle.mscp_wire.specs.Kept.{sents}
 use Rattle.mscp_wire.specs.Sought.{is_sought}
-use Rattle.mscp_wire.proofs.Cells.{some_place_if}
+use Rattle.mscp_wire.proofs.Placed.{some_place_if}
 use Rattle.mscp_wire.proofs.Names.{some_place}
 use Rattle.mscp_wire.proofs.held.has.Goals as goal
 

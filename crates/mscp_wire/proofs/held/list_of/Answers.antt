@@ -1,6 +1,6 @@
 use Rattle.std.proofs.Common.{ap, sym, take, [], ◌∷◌, ◌++◌, ◌∙◌}
 use Rattle.mscp_wire.specs.Kept.{sents}
-use Rattle.mscp_wire.proofs.Cells.{one_taken}
+use Rattle.mscp_wire.proofs.Placed.{one_taken}
 use Rattle.mscp_wire.proofs.held.list_of.Goals as goal
 
 pub loop-at-preserved : goal.loop-at-preserved

@@ -1,24 +1,41 @@
-use Rattle.std.proofs.Common.{arith, ap, ◌∙◌}
+use Rattle.std.proofs.Common.{◌≡◌, arith, ap, length, refl, set, sym, ◌∙◌, if◌then◌else◌, false}
 use Rattle.std.specs.Prelude.{option_map}
-use Rattle.mscp_wire.specs.Kept.{leaves, sents}
-use Rattle.mscp_wire.proofs.Cells.{over_all, over_more, sents_map}
+use Rattle.std.proofs.lemmas.List.{length-set}
+use Rattle.mscp_wire.specs.Kept.{cell, leaves, sents}
+use Rattle.mscp_wire.specs.Wire.{left, polls}
+use Rattle.mscp_wire.specs.declared.sent.Sent.{Sent}
+use Rattle.mscp_wire.proofs.Placed.{over_all, over_more, same_in, sents_map, unsought}
+use Rattle.mscp_wire.proofs.polls.leave_all.Goals.{then-may_hold, else-may_hold}
 use Rattle.mscp_wire.proofs.polls.leave_all.Goals as goal
+
+-- one that is no poll of it stays as it is
+stays : (y s : Sent) → polls y s ≡ false → leaves y s ≡ s
+stays y s h = ap (λ b. if b then record s { asked = left s.asked } else s) h
 
 pub loop-at-preserved : goal.loop-at-preserved
 loop-at-preserved g c =
-    let xs = c.args.cells.now.items in
-    let ys = c.loop-at.cells.items in
+    let y = c.args.ended.now in
+    let f = option_map (leaves y) in
+    let xs = c.args.cells.now in
+    let ys = c.loop-at.cells in
+    let at = c.loop-at.at in
+    let put : c.if-may_hold.cells ≡ set ys at (f (cell ys at)) =
+    elim c.if-may_hold.branch [
+      | then-may_hold w ↦ w.cells-is ∙ w.leave_in.ensures
+      | else-may_hold w ↦
+          w.cells-is ∙ same_in f ys at (unsought (leaves y) (polls y) (stays y) (cell ys at)
+          (c.may_hold.ensures w.if-may_hold.false))
+    ] in
     record {
-      many = c.leave_in.ensures.many ∙ c.loop-at.invariant.many;
+      many = ap length put ∙ (length-set ys at _ ∙ c.loop-at.invariant.many);
       cells =
-          over_more (option_map (leaves c.args.ended.now)) xs ys _ c.loop-at.at
-          (omega (arith, c.loop-at-test.true, c.len-at-end.ensures)) c.loop-at.invariant.many
-          c.loop-at.invariant.cells c.leave_in.ensures.cells;
+          over_more f xs ys _ at (omega (arith, c.loop-at-test.true, c.len-at-end.ensures.count))
+          c.loop-at.invariant.many c.loop-at.invariant.cells put;
     }
 
 pub returns : goal.returns
 returns g c =
-    let xs = c.args.cells.now.items in
+    let xs = c.args.cells.now in
     let f = leaves c.args.ended.now in
     ap sents (c.loop-at.invariant.cells ∙ over_all (option_map f) xs c.loop-at.at
-    (omega (arith, c.loop-at-test.false, c.len-at-end.ensures))) ∙ sents_map f xs
+    (omega (arith, c.loop-at-test.false, c.len-at-end.ensures.count))) ∙ sents_map f xs

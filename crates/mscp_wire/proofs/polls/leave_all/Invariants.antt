@@ -5,7 +5,7 @@ use Rattle.mscp_wire.proofs.polls.leave_all.Given as goal
 
 abbrev pub invariant-loop-at : goal.invariant-loop-at
 invariant-loop-at g l = record {
-  many : length l.cells.items ≡ length l.initial.cells.items;
-  cells : l.cells.items ≡ map (option_map (leaves l.ended)) (take l.at l.initial.cells.items)
-      ++ drop l.at l.initial.cells.items;
+  many : length l.cells ≡ length l.initial.cells;
+  cells : l.cells ≡ map (option_map (leaves l.ended)) (take l.at l.initial.cells)
+      ++ drop l.at l.initial.cells;
 }

@@ -1,9 +1,7 @@
-use Rattle.std.proofs.Common.{◌≡◌, ap, arith, sym, true, ◌∙◌}
-use Rattle.std.specs.Prelude.{None}
-use Rattle.std.proofs.lemmas.List.{get_or_default}
+use Rattle.std.proofs.Common.{◌≡◌, ap, sym, true, ◌∙◌}
 use Rattle.mscp_wire.specs.Kept.{cell, stands}
 use Rattle.mscp_wire.specs.Sought.{is_sought}
-use Rattle.mscp_wire.proofs.Cells.{is_full, stands_at}
+use Rattle.mscp_wire.proofs.Placed.{is_full, stands_at}
 use Rattle.mscp_wire.proofs.commands.Commands.guessed.Goals as goal
 
 abbrev stands_there : (g : _) (c : goal.Then-stands g)
@@ -11,10 +9,7 @@ abbrev stands_there : (g : _) (c : goal.Then-stands g)
 stands_there g c =
     let at = c.in_ok-at.field-0 in
     let p = is_sought c.args.sought.now in
-    sym (ap (stands p) (c.index.ensures
-    ∙ get_or_default c.self.inside.cells.items at c.index.result.now None
-    (omega (arith, c.if-at-len.true, c.len.ensures))
-    ∙ ap (λ xs. cell xs at) c.self.view_is))
+    sym (ap (λ xs. stands p (cell xs at)) (c.as_slice-cells.ensures ∙ c.self.view_is))
     ∙ (sym c.stands.ensures ∙ c.if-stands.true)
 
 pub returns-then-stands-clause-there : goal.returns-then-stands-clause-there

@@ -1,7 +1,8 @@
 use Rattle.std.proofs.Common.{ap, map, set, subst, sym, ◌∙◌}
-use Rattle.mscp_wire.specs.Kept.{IsKept, leaves, place, sents}
+use Rattle.std.specs.Prelude.{IsSome}
+use Rattle.mscp_wire.specs.Kept.{IsKept, cell, leaves, place, sents}
 use Rattle.mscp_wire.proofs.Alone.{left_alone, left_none}
-use Rattle.mscp_wire.proofs.Cells.{place_less}
+use Rattle.mscp_wire.proofs.Placed.{place_less, sents_put}
 use Rattle.mscp_wire.proofs.Names.{kept_leaves}
 use Rattle.mscp_wire.proofs.commands.Commands.leave.Goals as goal
 
@@ -19,8 +20,10 @@ returns-in-Some g c =
     c.slot_of-slot.ensures
     c.self.invariant.asked c.at-count.ensures c.if-count-eq1.true
     (place_less c.args.self.now c.in-Some.at c.in-Some.ensures.there)
-    c.in-Some.ensures.sought c.at-other.ensures c.leaves.ensures (c.put_in.ensures
-    ∙ ap (λ xs. set (sents c.self.inside.cells.items) (place xs c.in-Some.at) c.leaves.result) c.self.view_is)
+    c.in-Some.ensures.sought c.at-other.ensures c.leaves.ensures (ap sents c.put.ensures
+    ∙ (sents_put c.self.inside.cells c.in-Some.at c.leaves.result
+    (subst (λ xs. IsSome (cell xs c.in-Some.at)) (sym c.self.view_is) c.in-Some.ensures.there)
+    ∙ ap (λ xs. set (sents c.self.inside.cells) (place xs c.in-Some.at) c.leaves.result) c.self.view_is))
 
 pub invariant_of-self : goal.invariant_of-self
 invariant_of-self g c =

@@ -3,7 +3,7 @@ use Rattle.std.specs.Prelude.{IsSome, option_map}
 use Rattle.std.proofs.lemmas.List.{get_or_default}
 use Rattle.mscp_wire.specs.Kept.{IsKept, besides, cell, place, sents}
 use Rattle.mscp_wire.specs.Wire.{turns_beside}
-use Rattle.mscp_wire.proofs.Cells.{command_of, place_less, same_in, sents_put}
+use Rattle.mscp_wire.proofs.Placed.{command_of, place_less, same_in, sents_put}
 use Rattle.mscp_wire.proofs.Marking.{never_turned, unmarked}
 use Rattle.mscp_wire.proofs.commands.Commands.mark_in.Goals.{else-not-other-via-then-not-other+else-turns_beside, else-not-other-via-else-not-other}
 use Rattle.mscp_wire.proofs.commands.Commands.mark_in.Goals as goal
@@ -14,10 +14,7 @@ returns-else-not-other g c =
     let s = c.in-Some.other in
     let f = option_map (besides y) in
     let here : cell c.args.self.now c.args.at ≡ Some s =
-    sym (c.index.ensures
-    ∙ get_or_default c.self.inside.cells.items c.args.at c.index.result.now None
-    (omega (arith, c.requires, ap length c.self.view_is))
-    ∙ ap (λ xs. cell xs c.args.at) c.self.view_is) ∙ c.in-Some.is in
+    sym (ap (λ xs. cell xs c.args.at) (c.as_slice.ensures ∙ c.self.view_is)) ∙ c.in-Some.is in
     let none : (not s.beside && turns_beside y s) ≡ false =
     elim c.else-not-other.branch [
       | else-not-other-via-then-not-other+else-turns_beside w ↦
@@ -29,16 +26,14 @@ returns-else-not-other g c =
 
 pub invariant_of-self : goal.invariant_of-self
 invariant_of-self g c =
-    let xs = c.self.inside.cells.items in
+    let xs = c.self.inside.cells in
     let y = c.args.ended.now in
     let s = c.in-Some.other in
     let there : cell xs c.args.at ≡ Some s =
-    sym (c.index.ensures
-    ∙ get_or_default xs c.args.at c.index.result.now None (omega (arith, c.requires, ap length c.self.view_is)))
-    ∙ c.in-Some.is in
+    sym (ap (λ ys. cell ys c.args.at) c.as_slice.ensures) ∙ c.in-Some.is in
     let full : IsSome (cell xs c.args.at) = subst IsSome (sym there) refl in
     subst (λ ys. IsKept ys c.mark.new.self)
-    (sym (sents_put xs c.args.at c.marked.result full
+    (sym (ap sents c.put.ensures ∙ sents_put xs c.args.at c.marked.result full
     ∙ ap (set (sents xs) (place xs c.args.at)) (c.marked.ensures
     ∙ ap (λ b. if b then record s { beside = true } else s)
     (sym c.turns_beside.ensures ∙ c.if-turns_beside.true))))

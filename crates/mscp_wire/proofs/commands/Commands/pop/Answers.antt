@@ -1,14 +1,14 @@
 use Rattle.std.proofs.Common.{◌-◌, ap, arith, length, subst, sym, ◌∙◌}
 use Rattle.mscp_wire.specs.Kept.{IsKept, cell, sents}
-use Rattle.mscp_wire.proofs.Cells.{none_taken}
+use Rattle.mscp_wire.proofs.Placed.{none_taken}
 use Rattle.mscp_wire.proofs.commands.Commands.pop.Goals as goal
 
 pub invariant_of-self : goal.invariant_of-self
 invariant_of-self g c =
-    let xs = c.self-2.inside.cells.items in
+    let xs = c.self-2.inside.cells in
     let last = c.len-last.result - 1 in
     subst (λ ys. IsKept ys c.self-2.inside.tallies)
-    (sym (ap sents c.truncate.ensures.items ∙ none_taken xs last
+    (sym (ap sents c.truncate.ensures ∙ none_taken xs last
     (omega (
       arith,
       c.len-last.ensures,

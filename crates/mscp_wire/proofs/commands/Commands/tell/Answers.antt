@@ -1,7 +1,8 @@
 use Rattle.std.proofs.Common.{ap, map, set, subst, sym, ◌∙◌}
-use Rattle.mscp_wire.specs.Kept.{IsKept, place, sents, tells}
+use Rattle.std.specs.Prelude.{IsSome}
+use Rattle.mscp_wire.specs.Kept.{IsKept, cell, place, sents, tells}
 use Rattle.mscp_wire.proofs.Alone.{told_alone, told_none}
-use Rattle.mscp_wire.proofs.Cells.{place_less}
+use Rattle.mscp_wire.proofs.Placed.{place_less, sents_put}
 use Rattle.mscp_wire.proofs.Names.{kept_tells}
 use Rattle.mscp_wire.proofs.commands.Commands.tell.Goals as goal
 
@@ -20,8 +21,10 @@ returns-in-Some g c =
     (ap sents c.self.view_is) c.slot_of-slot.ensures c.self.invariant.names c.at-count.ensures
     c.if-count-eq1.true (place_less c.args.self.now c.in-Some.at c.in-Some.ensures.there)
     c.in-Some.ensures.sought c.at-command.ensures c.tells.ensures
-    (c.put_in.ensures
-    ∙ ap (λ xs. set (sents c.self.inside.cells.items) (place xs c.in-Some.at) c.tells.result) c.self.view_is)
+    (ap sents c.put.ensures
+    ∙ (sents_put c.self.inside.cells c.in-Some.at c.tells.result
+    (subst (λ xs. IsSome (cell xs c.in-Some.at)) (sym c.self.view_is) c.in-Some.ensures.there)
+    ∙ ap (λ xs. set (sents c.self.inside.cells) (place xs c.in-Some.at) c.tells.result) c.self.view_is))
 
 pub invariant_of-self-2 : goal.invariant_of-self-2
 invariant_of-self-2 g c =

@@ -7,23 +7,25 @@ use Rattle.mscp_wire.proofs.judge.Judge.end.Goals as goal
 pub returns-in_ok-ended-clause-rule : goal.returns-in_ok-ended-clause-rule
 returns-in_ok-ended-clause-rule g c =
     ended_rule c.args.bytes.now (sents c.args.self.now.commands) _ (kept c.args.self.now.units)
-    c.args.self.now.controller c.args.connection _ c.settles.result _ _ _
+    c.args.self.now.controller c.args.connection _ c.settles-settled.result _ _ _
     (sym c.is_long.ensures ∙ c.if-not-is_long.false) c.of-answer.ensures
-    (c.settles.ensures ∙ ap (is_settled_at (sents c.args.self.now.commands) c.of-answer.result) refl)
+    (c.settles-settled.ensures ∙ ap (is_settled_at (sents c.args.self.now.commands) c.of-answer.result) refl)
     c.seen_by-seen.ensures refl
     c.cell_of-at.ensures.place c.broken_answer-rule.ensures
 
 pub returns-in_ok-ended-clause-units : goal.returns-in_ok-ended-clause-units
 returns-in_ok-ended-clause-units g c = λ none via unit.
     c.in_ok-ended.ensures.units via unit
+    ∙ (ap (λ b. told_after_end via unit b (kept c.args.self.now.units via unit) c.of-answer.result)
+    c.settles-settled.ensures
     ∙ (ap (λ q. told_after_end via unit (is_settled_at (sents c.args.self.now.commands) c.of-answer.result q)
     (kept c.args.self.now.units via unit) c.of-answer.result) c.cell_of-at.ensures.place
     ∙ ap (λ a. told_after_end via unit (settles (sents c.args.self.now.commands) a)
-    (kept c.args.self.now.units via unit) a) c.of-answer.ensures)
+    (kept c.args.self.now.units via unit) a) c.of-answer.ensures))
 
 pub returns-else-is_none-clause-rule : goal.returns-else-is_none-clause-rule
 returns-else-is_none-clause-rule g c =
     ended_rule c.args.bytes.now (sents c.args.self.now.commands) _ (kept c.args.self.now.units)
-    c.args.self.now.controller c.args.connection _ c.settles.result _ _ _
-    (sym c.is_long.ensures ∙ c.if-not-is_long.false) c.of-answer.ensures c.settles.ensures c.seen_by-seen.ensures refl
+    c.args.self.now.controller c.args.connection _ c.settles-settled.result _ _ _
+    (sym c.is_long.ensures ∙ c.if-not-is_long.false) c.of-answer.ensures c.settles-settled.ensures c.seen_by-seen.ensures refl
     c.cell_of-at.ensures.place c.broken_answer-rule.ensures

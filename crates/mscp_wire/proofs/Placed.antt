@@ -1,6 +1,6 @@
 -- Where commands stand: those in cells are a list, in which each has its place.
 use Rattle.std.proofs.Common.{◌≡◌, ℕ, zero, suc, ◌+◌, ◌<◌, ◌≤◌, Bool, true, false, cond, ◌||◌, List, [], ◌∷◌, ◌++◌, length, set, take, drop, map, take_all, refl, ap, sym, ◌∙◌, arith, Option, Some, None}
-use Rattle.std.specs.Prelude.{IsSome, count_by, is_some, option_map}
+use Rattle.std.specs.Prelude.{IsSome, count_by, find, is_some, option_map}
 use Rattle.std.proofs.lemmas.Bool.{or_parts}
 use Rattle.std.specs.List.{filter, list_any, position, remove}
 use Rattle.std.proofs.lemmas.List.{get_or_default, set-get_or}
@@ -162,6 +162,22 @@ pub first_in : (p : Sent → Bool) (xs : List (Option Sent)) (i : ℕ) → list_
 first_in p xs i h k =
     sym (place_at p (sents xs) (place xs i) (place_less xs i (is_full p (cell xs i) k))
     (ap (list_any p) (sym (sents_take i xs)) ∙ h) (stands_at p xs i k))
+
+-- one that isn't sought isn't changed
+pub unsought : (f : Sent → Sent) (p : Sent → Bool) → ((s : Sent) → p s ≡ false → f s ≡ s) → (c : Option Sent)
+    → stands p c ≡ false → option_map f c ≡ c
+unsought f p h None e = refl
+unsought f p h (Some s) e = ap (λ t. Some t) (h s e)
+
+-- one is found if there is one
+pub some_found : (p : Sent → Bool) (xs : List Sent) → is_some (find p xs) ≡ list_any p xs
+some_found p [] = refl
+some_found p (x ∷ xs) = by_bool (p x) (some_found p xs)
+  where
+    by_bool : (b : Bool) → is_some (find p xs) ≡ list_any p xs
+        → is_some (cond b (Some x) (find p xs)) ≡ (b || list_any p xs)
+    by_bool true h = refl
+    by_bool false h = h
 
 -- a cell is there if its place is
 pub some_place_if : (xs : List (Option Sent)) (at : Option ℕ) → is_some at ≡ is_some (place_if xs at)

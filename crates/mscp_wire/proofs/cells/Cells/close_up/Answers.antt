@@ -1,0 +1,10 @@
+use Rattle.std.proofs.Common.{ap, rules, sym, ◌∙◌}
+use Rattle.std.proofs.lemmas.Fn.{filter_same}
+use Rattle.std.specs.Prelude.{is_some}
+use Rattle.std.specs.List.{filter}
+use Rattle.mscp_wire.proofs.cells.Cells.close_up.Goals as goal
+
+pub returns : goal.returns
+returns g c =
+    filter_same _ is_some _ (λ x b f' k. search rules) _ _ c.retain.ensures.filtered
+    ∙ ap (filter is_some) c.self.view_is

@@ -1,0 +1,31 @@
+use Rattle.std.proofs.Common.{[], ◌∷◌, ◌++◌, ap, arith, length, length-take-le, subst, sym, take, ◌∙◌}
+use Rattle.std.specs.Prelude.{Some}
+use Rattle.mscp_wire.specs.Kept.{AreTagged}
+use Rattle.mscp_wire.proofs.Tagged.{cut, padded, pushed}
+use Rattle.mscp_wire.proofs.cells.Cells.push.Goals as goal
+
+pub invariant_of-self-in_err-push-2 : goal.invariant_of-self-in_err-push-2
+invariant_of-self-in_err-push-2 g c =
+    let cells = c.self.inside.cells.items in
+    let tags = c.self.inside.tags.items in
+    subst (λ xs. AreTagged xs c.push.new.self.items) (sym c.in_err-push-2.ensures.items)
+    (subst (AreTagged cells) (sym (c.in_ok-push.ensures.items
+    ∙ ap (λ ts. ts ++ c.tag_if.result ∷ []) c.truncate.ensures.items))
+    (padded cells (take c.len.result tags) (c.tag_if.result ∷ [])
+    (cut cells tags c.len.result (omega (arith, c.len.ensures, c.self.inside.cells.ok)) c.self.invariant)))
+
+pub invariant_of-self-2 : goal.invariant_of-self-2
+invariant_of-self-2 g c =
+    let cells = c.self.inside.cells.items in
+    let tags = c.self.inside.tags.items in
+    subst (λ xs. AreTagged xs c.push.new.self.items) (sym c.in_ok-push-2.ensures.items)
+    (subst (AreTagged (cells ++ Some c.args.command ∷ [])) (sym (c.in_ok-push.ensures.items
+    ∙ ap (λ ts. ts ++ c.tag_if.result ∷ []) c.truncate.ensures.items))
+    (pushed cells (take c.len.result tags) c.args.command c.tag_if.result
+    (omega (
+      arith,
+      c.len.ensures,
+      c.self.inside.cells.ok,
+      length-take-le c.len.result tags (omega (arith, c.len.ensures, c.self.inside.cells.ok, c.self.invariant.many)),
+    ))
+    (cut cells tags c.len.result (omega (arith, c.len.ensures, c.self.inside.cells.ok)) c.self.invariant) c.tag_if.ensures))
