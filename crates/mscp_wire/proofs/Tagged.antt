@@ -1,5 +1,5 @@
 -- A command that is sought has the tag by which it is sought.
-use Rattle.std.proofs.Common.{◌≡◌, ⊎_elim, ◌⊎◌, ℕ, zero, suc, ◌+◌, ◌*◌, ◌%◌, ◌<◌, ◌≤◌, if◌then◌else◌, Bool, true, false, cond, not, ◌&&◌, ◌||◌, List, [], ◌∷◌, ◌++◌, length, get_or, set, refl, ap, sym, ◌∙◌, arith, length-append, length-take-le, Option, Some, None}
+use Rattle.std.proofs.Common.{◌≡◌, ⊎_elim, ◌⊎◌, ℕ, zero, suc, ◌+◌, ◌%◌, ◌<◌, ◌≤◌, if◌then◌else◌, Bool, true, false, cond, not, ◌&&◌, ◌||◌, List, [], ◌∷◌, ◌++◌, length, get_or, set, refl, ap, sym, ◌∙◌, arith, length-append, length-take-le, Option, Some, None}
 use Rattle.std.specs.Prelude.{is_some, nat_eq, take}
 use Rattle.std.proofs.lemmas.Bool.{cases_lt}
 use Rattle.std.proofs.lemmas.List.{get_or-set_other, get_or-take, length-set, length-take}
@@ -9,8 +9,7 @@ use Rattle.std.proofs.lemmas.Bool.{eqb-true}
 use Rattle.std.proofs.lemmas.Bool.Decides.{nat_tests}
 use Rattle.mscp_drive.specs.declared.connection.Connection.{Connection}
 use Rattle.mscp_drive.specs.declared.connection.Connection.TheVariants.{First, Second}
-use Rattle.mscp_wire.specs.Kept.{AreTagged, about, aside, cell, is_beside, is_lined, stands, tag, tag_if, tag_of}
-use Rattle.mscp_wire.specs.Units.{key}
+use Rattle.mscp_wire.specs.Kept.{AreTagged, about, aside, cell, is_lined, is_tagged, stands, tag, tag_if, tag_of}
 use Rattle.mscp_wire.specs.Wire.{aborts, is_immediate, is_it, is_ordered, is_sequential, is_turning, keeps_back, polls, same_connection, turns, turns_beside, waits_on}
 use Rattle.mscp_wire.specs.declared.sent.Sent.{Sent}
 use Rattle.mscp_wire.proofs.Placed.{cell_less}
@@ -92,13 +91,14 @@ aborting y s h =
     parts a b c q = (grind arith, (grind arith, grind arith))
 
 -- a GET UNIT STATUS
-pub beside : (y s : Sent) (t : ℕ) → t ≡ tag_of s → turns_beside y s ≡ true → is_beside y t ≡ true
-beside y s t is h =
+pub beside : (y s : Sent) → turns_beside y s ≡ true
+    → is_tagged (tag y.connection y.unit true) (tag y.connection 65536 true) s ≡ true
+beside y s h =
     let p = parts (turns y.opcode) (nat_eq s.opcode 3) (same_connection s.connection y.connection)
     (s.next || nat_eq s.unit y.unit) h in
-    let e : t ≡ tag y.connection (if not s.next then s.unit else 65536) true =
-    is ∙ (ap (λ o. tagged s.connection o s.parameter s.next s.unit) (eqb-true s.opcode 3 p.0)
-    ∙ ap (λ v. tag v (if not s.next then s.unit else 65536) true) (same_side s.connection y.connection p.1.0)) in
+    let e : tag_of s ≡ tag y.connection (if not s.next then s.unit else 65536) true =
+    ap (λ o. tagged s.connection o s.parameter s.next s.unit) (eqb-true s.opcode 3 p.0)
+    ∙ ap (λ v. tag v (if not s.next then s.unit else 65536) true) (same_side s.connection y.connection p.1.0) in
     by_next s.next e p.1.1
   where
     parts : (a b c d : Bool) → (a && b && c && d) ≡ true → (b ≡ true) × ((c ≡ true) × (d ≡ true))
@@ -110,11 +110,12 @@ beside y s t is h =
     other : (a b c : ℕ) → a ≡ c → (nat_eq a b || nat_eq a c) ≡ true
     other a b c q = grind (arith, nat_tests, q)
 
-    by_next : (n : Bool) → t ≡ tag y.connection (if not n then s.unit else 65536) true
-        → (n || nat_eq s.unit y.unit) ≡ true → is_beside y t ≡ true
-    by_next true e q = other t _ _ e
+    by_next : (n : Bool) → tag_of s ≡ tag y.connection (if not n then s.unit else 65536) true
+        → (n || nat_eq s.unit y.unit) ≡ true
+        → is_tagged (tag y.connection y.unit true) (tag y.connection 65536 true) s ≡ true
+    by_next true e q = other (tag_of s) _ _ e
     by_next false e q =
-        either t _ _ (e ∙ ap (λ n. tag y.connection n true) (eqb-true s.unit y.unit q))
+        either (tag_of s) _ _ (e ∙ ap (λ n. tag y.connection n true) (eqb-true s.unit y.unit q))
 
 -- ---- one that its host waits for
 waiting_side : (via : Connection) (n : ℕ) → tag via n false % 4 ≡ tag via 0 false
@@ -137,22 +138,51 @@ waiting via s h =
         ap (λ b. tag s.connection (aside s) b % 4) e ∙ waiting_side s.connection (aside s)
 
 -- ---- what holds of tags
-pub equal : (a b : ℕ) → a ≡ b → nat_eq a b ≡ true
-equal a b q = grind (arith, nat_tests, q)
-
--- in a cell whose tag says that none that is sought stands there none does
-pub untagged : (p : Sent → Bool) (cells : List (Option Sent)) (tags : List ℕ) (at : ℕ) (b : Bool) → AreTagged cells tags
-    → ((s : Sent) → get_or tags at 0 ≡ tag_of s → p s ≡ true → b ≡ true) → b ≡ false
-    → stands p (cell cells at) ≡ false
-untagged p cells tags at b tagged may none = by_cell (cell cells at) refl
+-- one that has a tag has one of two
+pub has_one : (s : Sent) (t : ℕ) → tag_of s ≡ t → is_tagged t t s ≡ true
+has_one s t e = one (tag_of s) t e
   where
-    never : (s : Sent) (q : Bool) → p s ≡ q → get_or tags at 0 ≡ tag_of s → p s ≡ false
-    never s true e t = absurd (omega (arith, ap {B = ℕ} (λ x. cond x 1 0) (sym (may s t e) ∙ none)))
-    never s false e t = e
+    one : (a b : ℕ) → a ≡ b → (nat_eq a b || nat_eq a b) ≡ true
+    one a b q = grind (arith, nat_tests, q)
 
-    by_cell : (c : Option Sent) → cell cells at ≡ c → stands p c ≡ false
+-- in a cell with another tag none stands that has it
+pub untagged : (cells : List (Option Sent)) (tags : List ℕ) (at t one other : ℕ) → AreTagged cells tags
+    → t ≡ get_or tags at 0 → (t ≡ one → ⊥) → nat_eq t other ≡ false
+    → stands (is_tagged one other) (cell cells at) ≡ false
+untagged cells tags at t one other h is first second = by_cell (cell cells at) refl
+  where
+    unequal : (b : Bool) → nat_eq t one ≡ b → nat_eq t one ≡ false
+    unequal true e = absurd (first (eqb-true t one e))
+    unequal false e = e
+
+    by_cell : (c : Option Sent) → cell cells at ≡ c → stands (is_tagged one other) c ≡ false
     by_cell None e = refl
-    by_cell (Some s) e = never s (p s) refl (tagged.each at s e)
+    by_cell (Some s) e =
+        ap (λ n. nat_eq n one || nat_eq n other) (sym (h.each at s e) ∙ sym is)
+        ∙ (ap (λ b. b || nat_eq t other) (unequal (nat_eq t one) refl) ∙ second)
+
+-- one without a tag that all have that are sought isn't
+pub other_tag : (p : Sent → Bool) (one other : ℕ) → ((s : Sent) → p s ≡ true → is_tagged one other s ≡ true)
+    → (c : Option Sent) → stands (is_tagged one other) c ≡ false → stands p c ≡ false
+other_tag p one other h None e = refl
+other_tag p one other h (Some s) e = never (p s) refl
+  where
+    never : (b : Bool) → p s ≡ b → p s ≡ false
+    never true q = absurd (omega (arith, ap {B = ℕ} (λ x. cond x 1 0) (sym (h s q) ∙ e)))
+    never false q = q
+
+-- the same of what is left over of tags
+pub not_waiting : (via : Connection) (cells : List (Option Sent)) (tags : List ℕ) (at : ℕ) → AreTagged cells tags
+    → (get_or tags at 0 % 4 ≡ tag via 0 false → ⊥) → stands (waits_on via) (cell cells at) ≡ false
+not_waiting via cells tags at h none = by_cell (cell cells at) refl
+  where
+    never : (s : Sent) (b : Bool) → waits_on via s ≡ b → get_or tags at 0 ≡ tag_of s → waits_on via s ≡ false
+    never s true q t = absurd (none (ap (λ n. n % 4) t ∙ waiting via s q))
+    never s false q t = q
+
+    by_cell : (c : Option Sent) → cell cells at ≡ c → stands (waits_on via) c ≡ false
+    by_cell None e = refl
+    by_cell (Some s) e = never s (waits_on via s) refl (h.each at s e)
 
 -- ---- tags beside cells
 -- those behind the cells may go

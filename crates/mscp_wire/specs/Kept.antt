@@ -63,9 +63,9 @@ abbrev pub tag_of : Sent → ℕ
 tag_of s =
     if is_lined s then tag s.connection s.unit false else tag s.connection (aside s) (is_immediate s.opcode)
 
--- it is the tag of a GET UNIT STATUS of y's unit, or of whichever is next
-abbrev pub is_beside : Sent → ℕ → Bool
-is_beside y found = nat_eq found (tag y.connection y.unit true) || nat_eq found (tag y.connection 65536 true)
+-- it has one of two tags
+abbrev pub is_tagged : ℕ → ℕ → Sent → Bool
+is_tagged one other s = nat_eq (tag_of s) one || nat_eq (tag_of s) other
 
 abbrev pub tag_if : Option Sent → ℕ
 tag_if None = 18446744073709551615
@@ -80,7 +80,7 @@ pub record AreTagged (cells : List (Option Sent)) (tags : List ℕ) : Type 0 whe
 
 -- the small number for a key, by all of its digits
 abbrev pub slot : ℕ → ℕ
-slot n = (n + n / 131072) % 131072
+slot n = (n + n / 131072 * 2) % 131072
 
 -- and for a number of a connection
 abbrev pub slot_of : Connection → ℕ → ℕ

@@ -4,14 +4,17 @@
 // Whoever seeks a command may have to look at a thousand others, and each of those is some lines of memory. So beside each
 // cell stands a tag, a number made of what commands are sought by: one with another tag isn't looked at.
 
-ghost use Rattle.std.specs.Prelude.{◌≡◌, ◌++◌, ◌∷◌, ◌<◌, ◌≤◌, ◌^◌, [], is_some, length, position, set, take, IfSome, IsSome, OnErr, OnOk, Some, false};
+ghost use Rattle.std.specs.Prelude.{◌≡◌, ◌++◌, ◌∷◌, ◌<◌, ◌≤◌, ◌^◌, [], is_some, length, position, set, take, IfSome, IsSome, OnErr, OnOk, Some, false, true};
 ghost use Rattle.std.specs.List.{filter};
-ghost use Rattle.mscp_wire.specs.Kept.{cell, place_if, sents, stands};
+ghost use Rattle.mscp_wire.specs.Kept.{cell, is_tagged, place_if, sents, stands};
+ghost use Rattle.mscp_wire.specs.Wire as wire;
+ghost use Rattle.mscp_wire.specs.declared.sent.Sent as sent;
 ghost use Rattle.mscp_wire.specs.Sought.{is_sought};
 
-use crate::held::{Sought, stands};
+use crate::held::{Sought, cell_of, stands};
 use crate::sent::Sent;
-use crate::tags::{may_be, tag_all, tag_if};
+use crate::tags::{tag_about, tag_all, tag_if, tag_lined, tag_waiting};
+use mscp_drive::Connection;
 use std::alloc::{AllocError, Allocator};
 use std::marker::Model;
 
@@ -96,13 +99,45 @@ impl<A: Allocator + Copy> Cells<A> {
         tag_all(&mut self.tags, self.cells.as_slice());
     }
 
-    /// Whether a command that is sought may stand in a cell.
+    /// Whether the tag of a cell is one of two. If it isn't, no command stands there that has one of them.
     #[inline(always)]
-    pub fn may_hold(&self, at: usize, sought: &Sought) -> bool
+    pub fn has_tag(&self, at: usize, one: u64, other: u64) -> bool
         requires { at < length self.now }
-        ensures { result ≡ false → stands (is_sought sought.now) (cell self.now at) ≡ false }
+        ensures { result ≡ false → stands (is_tagged one other) (cell self.now at) ≡ false }
     {
-        may_be(sought, self.tags[at])
+        let tag = self.tags[at];
+        tag == one || tag == other
+    }
+
+    /// The cell in which the first stands that is sought, of so many, if all that are sought have one of two tags.
+    fn first_tagged(&self, len: usize, one: u64, other: u64, sought: &Sought) -> Option<usize>
+        requires few { len ≤ length self.now }
+        requires tagged { (s : sent.Sent) → is_sought sought.now s ≡ true → is_tagged one other s ≡ true }
+        ensures place { place_if (take len self.now) result ≡ position (is_sought sought.now) (sents (take len self.now)) }
+        ensures there { IfSome result (λ i. IsSome (cell (take len self.now) i)) }
+    {
+        for at in 0..len {
+            if self.has_tag(at, one, other) && stands(&self.cells[at], sought) {
+                return Some(at);
+            }
+        }
+        None
+    }
+
+    /// The same of those for which the host of a connection waits.
+    fn first_waiting(&self, len: usize, connection: Connection) -> Option<usize>
+        requires { len ≤ length self.now }
+        ensures place { place_if (take len self.now) result ≡ position (wire.waits_on connection) (sents (take len self.now)) }
+        ensures there { IfSome result (λ i. IsSome (cell (take len self.now) i)) }
+    {
+        let waiting = tag_waiting(connection);
+        let sought = Sought::WaitedFor(connection);
+        for at in 0..len {
+            if self.tags[at] % 4 == waiting && stands(&self.cells[at], &sought) {
+                return Some(at);
+            }
+        }
+        None
     }
 
     /// The cell in which the first stands that is sought, of so many, if one does.
@@ -111,11 +146,25 @@ impl<A: Allocator + Copy> Cells<A> {
         ensures place { place_if (take len self.now) result ≡ position (is_sought sought.now) (sents (take len self.now)) }
         ensures there { IfSome result (λ i. IsSome (cell (take len self.now) i)) }
     {
-        for at in 0..len {
-            if self.may_hold(at, sought) && stands(&self.cells[at], sought) {
-                return Some(at);
+        match sought {
+            Sought::Named(_, _) => cell_of(&self.cells[..len], sought),
+            Sought::AbortOf(other) => {
+                let tag = tag_about(other);
+                self.first_tagged(len, tag, tag, sought)
             }
+            Sought::PollOf(other) => {
+                let tag = tag_about(other);
+                self.first_tagged(len, tag, tag, sought)
+            }
+            Sought::Keeping(other) => {
+                let tag = tag_lined(other.connection, other.unit);
+                self.first_tagged(len, tag, tag, sought)
+            }
+            Sought::Turning(connection, unit) => {
+                let tag = tag_lined(*connection, *unit);
+                self.first_tagged(len, tag, tag, sought)
+            }
+            Sought::WaitedFor(connection) => self.first_waiting(len, *connection),
         }
-        None
     }
 }

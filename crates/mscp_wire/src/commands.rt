@@ -117,10 +117,7 @@ impl<A: Allocator + Copy> Commands<A> {
         requires { IsSome (cell self.now at) }
         ensures { result ≡ find (is_sought sought.now) (take (place self.now at) (sents self.now)) }
     {
-        command_if(
-            &self.cells.as_slice()[..at],
-            self.cells.first(at, sought),
-        )
+        command_if(&self.cells.as_slice()[..at], self.cells.first(at, sought))
     }
 
     /// Whether one is that came before it.
@@ -266,11 +263,7 @@ impl<A: Allocator + Copy> Commands<A> {
         ensures { sents self.new ≡ sents self.old }
     {
         self.cells.close_up();
-        note_all(
-            self.cells.as_slice(),
-            &mut self.last,
-            &mut self.last_asked,
-        );
+        note_all(self.cells.as_slice(), &mut self.last, &mut self.last_asked);
     }
 
     /// Few cells are empty.

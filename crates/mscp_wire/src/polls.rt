@@ -10,6 +10,7 @@ use crate::cells::Cells;
 use crate::commands::Commands;
 use crate::held::{Sought, has};
 use crate::sent::{Asked, Sent, is_immediate};
+use crate::tags::tag_about;
 use mscp_drive::Connection;
 use std::alloc::Allocator;
 
@@ -229,9 +230,9 @@ fn leave_in<A: Allocator + Copy>(cells: &mut Cells<A>, at: usize, ended: &Sent)
 pub fn leave_all<A: Allocator + Copy>(cells: &mut Cells<A>, ended: &Sent)
     ensures { kept.sents cells.new ≡ map (kept.leaves ended.now) (kept.sents cells.old) }
 {
-    let sought = Sought::PollOf(*ended);
+    let tag = tag_about(ended);
     for at in 0..cells.len() {
-        if cells.may_hold(at, &sought) {
+        if cells.has_tag(at, tag, tag) {
             leave_in(cells, at, ended);
         }
     }

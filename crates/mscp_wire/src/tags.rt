@@ -2,11 +2,8 @@
 
 ghost use Rattle.std.specs.Prelude.{◌≡◌, ◌<◌, ◌≤◌, ◌^◌, length, Some, false, true};
 ghost use Rattle.mscp_wire.specs.Kept as kept;
-ghost use Rattle.mscp_wire.specs.Sought.{is_sought};
-ghost use Rattle.mscp_wire.specs.declared.sent.Sent as sents;
 
 use crate::answer::{ABORT, STATUS};
-use crate::held::Sought;
 use crate::sent::{Sent, is_immediate, is_ordered, is_sequential};
 use mscp_drive::Connection;
 use std::alloc::Allocator;
@@ -84,42 +81,33 @@ pub fn tag_all<A: Allocator>(tags: &mut Vec<u64, A>, cells: &[Option<Sent>])
 }
 
 /// The tag of commands that are about this one.
-#[inline(always)]
-fn tag_about(command: &Sent) -> u64
+pub fn tag_about(command: &Sent) -> u64
     ensures { result ≡ kept.tag command.now.connection (kept.about (Some command.now.reference)) true }
 {
     tag(command.connection, about(Some(command.reference)), true)
 }
 
 /// The tag of those in the line of a unit.
-#[inline(always)]
-fn tag_lined(connection: Connection, unit: u16) -> u64
+pub fn tag_lined(connection: Connection, unit: u16) -> u64
     ensures { result ≡ kept.tag connection unit false }
 {
     tag(connection, u64::from(unit), false)
 }
 
-/// Whether it is the tag of a GET UNIT STATUS of this one's unit, or of the next one.
-#[inline(always)]
-fn is_beside(command: &Sent, found: u64) -> bool
-    ensures { result ≡ kept.is_beside command.now found }
+/// The tags of GET UNIT STATUS of this one's unit, and of the next one.
+pub fn tags_beside(command: &Sent) -> (u64, u64)
+    ensures unit { result.0 ≡ kept.tag command.now.connection command.now.unit true }
+    ensures next { result.1 ≡ kept.tag command.now.connection 65536 true }
 {
-    found == tag(command.connection, u64::from(command.unit), true)
-        || found == tag(command.connection, 65_536, true)
+    (
+        tag(command.connection, u64::from(command.unit), true),
+        tag(command.connection, 65_536, true),
+    )
 }
 
-/// Whether a command that has this tag may be one that is sought.
-#[inline(always)]
-pub fn may_be(sought: &Sought, found: u64) -> bool
-    ensures { (s : sents.Sent) → found ≡ kept.tag_of s → is_sought sought.now s ≡ true → result ≡ true }
+/// What is left over of the tag of each command for which the host of a connection waits, if it is divided by 4.
+pub fn tag_waiting(connection: Connection) -> u64
+    ensures { result ≡ kept.tag connection 0 false }
 {
-    match sought {
-        Sought::Named(_, _) => true,
-        Sought::AbortOf(other) => found == tag_about(other),
-        Sought::Keeping(other) => found == tag_lined(other.connection, other.unit),
-        Sought::PollOf(other) => found == tag_about(other),
-        Sought::WaitedFor(connection) => found % 4 == tag(*connection, 0, false),
-        Sought::Turning(connection, unit) => found == tag_lined(*connection, *unit),
-        Sought::Beside(other) => is_beside(other, found),
-    }
+    tag(connection, 0, false)
 }

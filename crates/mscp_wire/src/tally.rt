@@ -30,7 +30,7 @@ pub fn slot_of(connection: Connection, number: u32) -> usize
         Connection::First => 2 * u64::from(number),
         Connection::Second => 2 * u64::from(number) + 1,
     };
-    ((key + key / SLOTS as u64) % SLOTS as u64) as usize
+    ((key + key / SLOTS as u64 * 2) % SLOTS as u64) as usize
 }
 
 /// A count, once one more is counted.

@@ -7,8 +7,8 @@ ghost use Rattle.mscp_wire.specs.Kept.{cell, sents};
 
 use crate::besides::{marked, turns, turns_beside};
 use crate::commands::Commands;
-use crate::held::Sought;
 use crate::sent::Sent;
+use crate::tags::tags_beside;
 use std::alloc::Allocator;
 
 impl<A: Allocator + Copy> Commands<A> {
@@ -29,9 +29,9 @@ impl<A: Allocator + Copy> Commands<A> {
     fn mark_all(&mut self, ended: &Sent)
         ensures { sents self.new ≡ map (kept.besides ended.now) (sents self.old) }
     {
-        let sought = Sought::Beside(*ended);
+        let (unit, next) = tags_beside(ended);
         for at in 0..self.cells.len() {
-            if self.cells.may_hold(at, &sought) {
+            if self.cells.has_tag(at, unit, next) {
                 self.mark_in(at, ended);
             }
         }

@@ -1,11 +1,12 @@
-use Rattle.std.proofs.Common.{◌≡◌, arith, ap, length, refl, set, sym, ◌∙◌, if◌then◌else◌, false}
+use Rattle.std.proofs.Common.{◌≡◌, arith, ap, length, set, sym, ◌∙◌, if◌then◌else◌, false}
 use Rattle.std.specs.Prelude.{option_map}
 use Rattle.std.proofs.lemmas.List.{length-set}
 use Rattle.mscp_wire.specs.Kept.{cell, leaves, sents}
 use Rattle.mscp_wire.specs.Wire.{left, polls}
 use Rattle.mscp_wire.specs.declared.sent.Sent.{Sent}
 use Rattle.mscp_wire.proofs.Placed.{over_all, over_more, same_in, sents_map, unsought}
-use Rattle.mscp_wire.proofs.polls.leave_all.Goals.{then-may_hold, else-may_hold}
+use Rattle.mscp_wire.proofs.polls.leave_all.Goals.{then-has_tag, else-has_tag}
+use Rattle.mscp_wire.proofs.Tagged.{has_one, other_tag, polling}
 use Rattle.mscp_wire.proofs.polls.leave_all.Goals as goal
 
 -- one that is no poll of it stays as it is
@@ -19,12 +20,13 @@ loop-at-preserved g c =
     let xs = c.args.cells.now in
     let ys = c.loop-at.cells in
     let at = c.loop-at.at in
-    let put : c.if-may_hold.cells ≡ set ys at (f (cell ys at)) =
-    elim c.if-may_hold.branch [
-      | then-may_hold w ↦ w.cells-is ∙ w.leave_in.ensures
-      | else-may_hold w ↦
+    let put : c.if-has_tag.cells ≡ set ys at (f (cell ys at)) =
+    elim c.if-has_tag.branch [
+      | then-has_tag w ↦ w.cells-is ∙ w.leave_in.ensures
+      | else-has_tag w ↦
           w.cells-is ∙ same_in f ys at (unsought (leaves y) (polls y) (stays y) (cell ys at)
-          (c.may_hold.ensures w.if-may_hold.false))
+          (other_tag (polls y) _ _ (λ s q. has_one s _ (polling y s q ∙ sym c.tag_about-tag.ensures)) _
+          (c.has_tag.ensures w.if-has_tag.false)))
     ] in
     record {
       many = ap length put ∙ (length-set ys at _ ∙ c.loop-at.invariant.many);

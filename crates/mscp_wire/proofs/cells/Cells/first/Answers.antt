@@ -1,52 +1,9 @@
-use Rattle.std.proofs.Common.{◌≡◌, ◌<◌, arith, ap, false, length, length-take-le, sym, take, take_all, true, ◌∙◌}
-use Rattle.std.specs.Prelude.{None}
-use Rattle.std.specs.List.{list_any}
-use Rattle.std.proofs.lemmas.List.{get_or-take, get_or_default}
-use Rattle.mscp_wire.specs.Kept.{cell, sents, stands}
+use Rattle.std.proofs.Common.{ap, sym, ◌∙◌}
 use Rattle.mscp_wire.specs.Sought.{is_sought}
-use Rattle.mscp_wire.proofs.Placed.{first_in, none_more}
-use Rattle.mscp_wire.proofs.Names.{place_none}
-use Rattle.mscp_wire.proofs.cells.Cells.first.Goals.{else-may_hold-via-then-may_hold+else-stands, else-may_hold-via-else-may_hold}
+use Rattle.mscp_wire.proofs.Tagged.{has_one, keeping}
 use Rattle.mscp_wire.proofs.cells.Cells.first.Goals as goal
 
-pub returns-then-stands-clause-place : goal.returns-then-stands-clause-place
-returns-then-stands-clause-place g c =
-    let p = is_sought c.args.sought.now in
-    let at = c.loop-at.at in
-    first_in p (take c.args.len c.args.self.now) at c.loop-at.invariant
-    (ap (stands p) (get_or-take c.args.len c.args.self.now at None (omega (arith, c.loop-at-test.true))
-    ∙ sym (c.index.ensures
-    ∙ get_or_default c.self.inside.cells.items at c.index.result.now None
-    (omega (arith, c.loop-at-test.true, c.requires, ap length c.self.view_is))
-    ∙ ap (λ xs. cell xs at) c.self.view_is))
-    ∙ (sym c.stands.ensures ∙ c.if-stands.true))
-
-pub loop-at-preserved : goal.loop-at-preserved
-loop-at-preserved g c =
-    let p = is_sought c.args.sought.now in
-    let at = c.loop-at.at in
-    let none : stands p (cell c.args.self.now at) ≡ false =
-    elim c.else-may_hold.branch [
-      | else-may_hold-via-then-may_hold+else-stands w ↦
-          sym (ap (stands p) (w.index.ensures
-          ∙ get_or_default c.self.inside.cells.items at w.index.result.now None
-          (omega (arith, c.loop-at-test.true, c.requires, ap length c.self.view_is))
-          ∙ ap (λ xs. cell xs at) c.self.view_is))
-          ∙ (sym w.stands.ensures ∙ w.if-stands.false)
-      | else-may_hold-via-else-may_hold w ↦ c.may_hold.ensures w.if-may_hold.false
-    ] in
-    none_more p (take c.args.len c.args.self.now) at c.loop-at.invariant
-    (ap (stands p) (get_or-take c.args.len c.args.self.now at None (omega (arith, c.loop-at-test.true))) ∙ none)
-
-pub returns-clause-place : goal.returns-clause-place
-returns-clause-place g c =
-    let p = is_sought c.args.sought.now in
-    let xs = take c.args.len c.args.self.now in
-    sym (place_none p (sents xs)
-    (ap (λ ys. list_any p (sents ys)) (sym (take_all c.loop-at.at xs (omega (
-      arith,
-      c.loop-at-test.false,
-      c.requires,
-      length-take-le c.args.len c.args.self.now c.requires,
-    ))))
-    ∙ c.loop-at.invariant))
+pub first_tagged-requires-in-Keeping-clause-tagged : goal.first_tagged-requires-in-Keeping-clause-tagged
+first_tagged-requires-in-Keeping-clause-tagged g c = λ s q.
+    has_one s _ (keeping c.in-Keeping.other s (sym (ap (λ o. is_sought o s) c.in-Keeping.is) ∙ q)
+    ∙ sym c.tag_lined-tag.ensures)

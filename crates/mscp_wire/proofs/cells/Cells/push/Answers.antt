@@ -1,4 +1,4 @@
-use Rattle.std.proofs.Common.{[], ◌∷◌, ◌++◌, ap, arith, length, length-take-le, subst, sym, take, ◌∙◌}
+use Rattle.std.proofs.Common.{[], ◌∷◌, ◌++◌, ap, arith, length-take-le, subst, sym, take, ◌∙◌}
 use Rattle.std.specs.Prelude.{Some}
 use Rattle.mscp_wire.specs.Kept.{AreTagged}
 use Rattle.mscp_wire.proofs.Tagged.{cut, padded, pushed}

@@ -1,6 +1,5 @@
-use Rattle.std.proofs.Common.{◌≡◌, ap, arith, length, not, refl, set, subst, sym, ◌&&◌, ◌∙◌, if◌then◌else◌, Some, None, false, true}
+use Rattle.std.proofs.Common.{◌≡◌, ap, not, refl, set, subst, sym, ◌&&◌, ◌∙◌, if◌then◌else◌, Some, false, true}
 use Rattle.std.specs.Prelude.{IsSome, option_map}
-use Rattle.std.proofs.lemmas.List.{get_or_default}
 use Rattle.mscp_wire.specs.Kept.{IsKept, besides, cell, place, sents}
 use Rattle.mscp_wire.specs.Wire.{turns_beside}
 use Rattle.mscp_wire.proofs.Placed.{command_of, place_less, same_in, sents_put}
