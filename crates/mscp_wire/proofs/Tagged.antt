@@ -228,7 +228,8 @@ pushed cells tags s t l h e = record {
         c
 
 -- as many cells as are said
-pub shorter : (cells : List (Option Sent)) (tags : List ℕ) (n : ℕ) → AreTagged cells tags → AreTagged (take n cells) tags
+pub shorter : (cells : List (Option Sent)) (tags : List ℕ) (n : ℕ) → AreTagged cells tags
+    → AreTagged (take n cells) tags
 shorter cells tags n h = record {
   many = omega (arith, h.many, length-take n cells);
   each = λ at s is. h.each at s (there cells n at s is);

@@ -1,7 +1,7 @@
 // The commands that are outstanding, oldest first, and what is kept beside them so that each is found soon.
 //
-// Each stands in a cell. A command that leaves moves no other: its cell stays, empty, until most cells are. Then the others
-// move together. So each end moves a command or two, whichever it is of.
+// Each stands in a cell. A command that leaves moves no other: its cell stays, empty, until a third of them are. Then the
+// others move together. So each end moves a command or two, whichever it is of.
 
 ghost use Rattle.std.specs.Prelude.{◌≡◌, ◌+◌, ◌-◌, ◌<◌, ◌^◌, ◌++◌, ◌∷◌, [], find, length, map, take, drop, position, false, true, Some, None, OnOk, IfOk, IfSome, IsSome};
 ghost use Rattle.std.specs.List.{list_any, remove};
@@ -11,6 +11,7 @@ ghost use Rattle.mscp_wire.specs.Kept.{cell, place, place_if, sents};
 ghost use Rattle.mscp_wire.specs.Sought.{is_sought};
 
 mod marking;
+mod seeking;
 
 use crate::answer::Answer;
 use crate::cells::Cells;
@@ -95,45 +96,6 @@ impl<A: Allocator + Copy> Commands<A> {
         ensures { sents result.now ≡ drop (place self.now at + 1) (sents self.now) }
     {
         &self.cells.as_slice()[at + 1..]
-    }
-
-    /// The cell in which the first stands that is sought, if one does.
-    fn first(&self, sought: &Sought) -> Option<usize>
-        ensures place { place_if self.now result ≡ position (is_sought sought.now) (sents self.now) }
-        ensures there { IfSome result (λ i. IsSome (cell self.now i)) }
-    {
-        self.cells.first(self.cells.len(), sought)
-    }
-
-    /// Whether one is.
-    fn has(&self, sought: &Sought) -> bool
-        ensures { result ≡ list_any (is_sought sought.now) (sents self.now) }
-    {
-        self.first(sought).is_some()
-    }
-
-    /// The first that is, of those that came before the one in a cell.
-    pub fn first_before(&self, at: usize, sought: &Sought) -> Option<Sent>
-        requires { IsSome (cell self.now at) }
-        ensures { result ≡ find (is_sought sought.now) (take (place self.now at) (sents self.now)) }
-    {
-        command_if(&self.cells.as_slice()[..at], self.cells.first(at, sought))
-    }
-
-    /// Whether one is that came before it.
-    fn has_before(&self, at: usize, sought: &Sought) -> bool
-        requires { IsSome (cell self.now at) }
-        ensures { result ≡ list_any (is_sought sought.now) (take (place self.now at) (sents self.now)) }
-    {
-        self.first_before(at, sought).is_some()
-    }
-
-    /// The oldest for which the host of a connection waits, if there is one.
-    #[tactic(auto, using(crate::proofs::Names::found_at))]
-    pub fn oldest_on(&self, connection: Connection) -> Option<Sent>
-        ensures { result ≡ find (wire.waits_on connection) (sents self.now) }
-    {
-        self.command_if(self.first(&Sought::WaitedFor(connection)))
     }
 
     /// How many are of a connection.

@@ -28,4 +28,5 @@ invariant_of-self-2 g c =
       c.self.inside.cells.ok,
       length-take-le c.len.result tags (omega (arith, c.len.ensures, c.self.inside.cells.ok, c.self.invariant.many)),
     ))
-    (cut cells tags c.len.result (omega (arith, c.len.ensures, c.self.inside.cells.ok)) c.self.invariant) c.tag_if.ensures))
+    (cut cells tags c.len.result (omega (arith, c.len.ensures, c.self.inside.cells.ok)) c.self.invariant)
+    c.tag_if.ensures))

@@ -28,7 +28,8 @@ loop-at-preserved g c =
           (ap (λ l. stands (turns_beside y) (cell l at)) (sym c.self-in-loop-at.view_is)
           ∙ other_tag (turns_beside y) _ _ (λ s q.
           ap (λ t. is_tagged t c.tags_beside-unit.result.1 s) c.tags_beside-unit.ensures.unit
-          ∙ (ap (λ t. is_tagged (tag y.connection y.unit true) t s) c.tags_beside-unit.ensures.next ∙ beside y s q)) _ (c.has_tag.ensures w.if-has_tag.false)))
+          ∙ (ap (λ t. is_tagged (tag y.connection y.unit true) t s) c.tags_beside-unit.ensures.next
+          ∙ beside y s q)) _ (c.has_tag.ensures w.if-has_tag.false)))
     ] in
     record {
       many = ap length put ∙ (length-set ys at _ ∙ c.loop-at.invariant.many);

@@ -28,4 +28,6 @@ pub returns-clause-others : goal.returns-clause-others
 returns-clause-others g c =
     let xs = c.self.inside.cells in
     let h : IsSome (cell xs c.args.at) = subst (λ ys. IsSome (cell ys c.args.at)) (sym c.self.view_is) c.requires in
-    ap sents c.put.ensures ∙ sents_remove xs c.args.at h ∙ ap (λ ys. remove (sents ys) (place ys c.args.at)) c.self.view_is
+    ap sents c.put.ensures
+    ∙ sents_remove xs c.args.at h
+    ∙ ap (λ ys. remove (sents ys) (place ys c.args.at)) c.self.view_is

@@ -27,5 +27,6 @@ pub returns-else-is_none-clause-rule : goal.returns-else-is_none-clause-rule
 returns-else-is_none-clause-rule g c =
     ended_rule c.args.bytes.now (sents c.args.self.now.commands) _ (kept c.args.self.now.units)
     c.args.self.now.controller c.args.connection _ c.settles-settled.result _ _ _
-    (sym c.is_long.ensures ∙ c.if-not-is_long.false) c.of-answer.ensures c.settles-settled.ensures c.seen_by-seen.ensures refl
+    (sym c.is_long.ensures ∙ c.if-not-is_long.false) c.of-answer.ensures c.settles-settled.ensures
+    c.seen_by-seen.ensures refl
     c.cell_of-at.ensures.place c.broken_answer-rule.ensures
