@@ -822,7 +822,7 @@ whole_packets_say_the_same() {
             read -r word digits <<<"${line#"$time"}"
             case $word in
                 send) whole "${time}from" $((${#digits} / 2)) 0 0 0 "$digits" ;;
-                end) whole "${time}to" $((${#digits} / 2)) 0 1 0 "$digits" ;;
+                end) whole "${time}to" $((${#digits} / 2)) 0 15 0 "$digits" ;;
                 *) printf '%s\n' "$line" ;;
             esac
         done <"$log" >"$room/whole"
