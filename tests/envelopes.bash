@@ -70,8 +70,8 @@ all_credits() {
         "$(to "$(onlined 1 0)" 0)" "$(to "$(onlined 1 0)" 0)" "$(from "$(online 2)")" &&
         wire_finds $'3 reference number\n4 credits\nwrong: 1 reference number\nwrong: 1 credits' reset "$(from "$(greeting)")" \
             "$(from "$(reading 1)")" "$(from "$(reading 2)")" &&
-        wire_finds $'2 credits\n3 message\nwrong: 1 message\nwrong: 1 credits' reset "$(from "$(online 1)")" \
-            "$(whole from 4 0 0 0 02000000)" "$(from "$(greeting 3)")"
+        wire_finds $'2 message\n4 credits\nwrong: 1 message\nwrong: 1 credits' reset "$(whole from 4 0 0 0 02000000)" \
+            "$(from "$(greeting)")" "$(from "$(greeting 3)")"
 }
 
 credits_of_each_port() {
