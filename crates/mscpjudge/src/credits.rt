@@ -1,5 +1,5 @@
-// The credits of hosts, where a log has whole packets: an account of what the controller gave and what a host spent, and
-// the messages for which a host had none.
+// The credits of hosts, where a log has whole packets: an account of what the controller gave and what a host spent,
+// and the messages for which a host had none.
 
 ghost use Rattle.std.specs.Prelude.{◌≡◌, ◌≤◌, ℕ, Result};
 ghost use Rattle.std.specs.List.{list_any};
