@@ -5,10 +5,11 @@ use Rattle.mscp_reader.specs.declared.fault.ReadFault.{ReadFault}
 use Rattle.mscp_reader.specs.declared.fault.ReadFault.TheVariants as reads
 use Rattle.mscp_reader.specs.declared.fault.ScriptFault.{ScriptFault}
 use Rattle.mscp_wire.specs.Log.{Log}
-use Rattle.mscp_wire.specs.Right.{Comes, Judges, Says}
+use Rattle.mscp_wire.specs.Right.{Says}
 use Rattle.mscp_wire.specs.declared.log.Verdict.{Verdict}
 use Rattle.mscp_wire.specs.declared.log.Verdict.TheVariants as verdicts
 use Rattle.mscp_wire.specs.declared.wrong.Wrong.{Wrong}
+use Rattle.mscpjudge.specs.Credited.{ComesOf, JudgesAll}
 use Rattle.mscpjudge.proofs.Coming.{Came, came_of}
 use Rattle.mscpjudge.specs.Told.{IsFault, TellsOne, extent_text, verdict_by}
 use Rattle.mscpjudge.specs.Wired.{wire_outcome}
@@ -40,7 +41,7 @@ no_fault (verdicts.Right totals doubts commands) fault s = let e = s.1 in cc
 no_fault (verdicts.Wrong wrong) fault s = cc
 
 pub fault_of : {A : Type 0} (extent : Extent) (verdict : Verdict A) (log : List ℕ)
-    → ((came : Result (Result Log Wrong) ScriptFault) → Comes log came → Says (Ok verdict) came)
+    → ((came : Result (Result Log Wrong) ScriptFault) → ComesOf log came → Says (Ok verdict) came)
     → (fault : ScriptFault) → IsFault extent log fault → verdict_by extent log verdict ≡ Err fault
 fault_of extent verdict log only fault (inl comes) = absurd (no_fault verdict fault (only (Err fault) comes))
 fault_of extent verdict log only fault (inr (came, comes, h)) =
@@ -48,8 +49,8 @@ fault_of extent verdict log only fault (inr (came, comes, h)) =
 
 -- it is told
 pub one_told : {A : Type 0} (extent : Extent) (verdict : Verdict A) (log : List ℕ) (told : Told)
-    → Judges (Ok verdict) log
-    → ((came : Result (Result Log Wrong) ScriptFault) → Comes log came → Says (Ok verdict) came)
+    → JudgesAll (Ok verdict) log
+    → ((came : Result (Result Log Wrong) ScriptFault) → ComesOf log came → Says (Ok verdict) came)
     → verdict_by extent log verdict ≡ Ok told.text.items → told.outcome ≡ wire_outcome verdict
     → TellsOne extent (Ok told) log
 one_told extent verdict log told judges only text outcome =
@@ -60,8 +61,8 @@ one_told extent verdict log told judges only text outcome =
 
 -- it is at fault behind the first moment that isn't right
 pub one_fails : {A : Type 0} (extent : Extent) (verdict : Verdict A) (log : List ℕ) (fault : ReadFault)
-    → Judges (Ok verdict) log
-    → ((came : Result (Result Log Wrong) ScriptFault) → Comes log came → Says (Ok verdict) came)
+    → JudgesAll (Ok verdict) log
+    → ((came : Result (Result Log Wrong) ScriptFault) → ComesOf log came → Says (Ok verdict) came)
     → Fails fault (verdict_by extent log verdict) → TellsOne extent (Err fault) log
 one_fails extent verdict log (reads.Script fault) judges only h =
     let k = came_of verdict log judges in (
@@ -72,14 +73,14 @@ one_fails extent verdict log reads.OutOfMemory judges only h = tt
 
 -- or before it
 pub other_is : {A : Type 0} (alloc : A) (extent : Extent) (log : List ℕ) (fault : ScriptFault)
-    → ((came : Result (Result Log Wrong) ScriptFault) → Comes log came → Says {A = A} (Err (reads.Script fault)) came)
+    → ((came : Result (Result Log Wrong) ScriptFault) → ComesOf log came → Says {A = A} (Err (reads.Script fault)) came)
     → (other : ScriptFault) → IsFault extent log other → other ≡ fault
 other_is alloc extent log fault only other (inl comes) = let e = only (Err other) comes in cc
 other_is alloc extent log fault only other (inr (came, comes, h)) = let e = only (Ok came) comes in cc
 
 pub one_refused : {A : Type 0} (alloc : A) (extent : Extent) (log : List ℕ) (fault : ReadFault)
-    → Judges {A = A} (Err fault) log
-    → ((came : Result (Result Log Wrong) ScriptFault) → Comes log came → Says {A = A} (Err fault) came)
+    → JudgesAll {A = A} (Err fault) log
+    → ((came : Result (Result Log Wrong) ScriptFault) → ComesOf log came → Says {A = A} (Err fault) came)
     → TellsOne extent (Err fault) log
 one_refused alloc extent log (reads.Script fault) judges only =
     (inl judges, λ other h. other_is alloc extent log fault only other h)

@@ -2,23 +2,23 @@
 use Rattle.std.proofs.Common.{◌≡◌, ℕ, List, ◌++◌, ap, ◌∙◌, refl, Result, Ok, Err}
 use Rattle.std.specs.List.{flat_map}
 use Rattle.mscp_wire.specs.Log.{Log}
-use Rattle.mscp_wire.specs.Right.{Comes, Judges}
 use Rattle.mscp_wire.specs.Totals.{totals_of}
 use Rattle.mscp_wire.specs.Doubts.{doubts_of}
 use Rattle.mscp_wire.specs.declared.log.Verdict.{Verdict}
 use Rattle.mscp_wire.specs.declared.log.Verdict.TheVariants as verdicts
 use Rattle.mscp_wire.specs.declared.wrong.Wrong.{Wrong}
+use Rattle.mscpjudge.specs.Credited.{ComesOf, JudgesAll}
 use Rattle.mscpjudge.specs.Wired.{came_outcome, came_text, counted_text, doubts_text, outstanding_text, wire_outcome, wire_text}
 use Rattle.mscpjudge.specs.Found.{all_text, verdict_found}
 
 pub record Came {A : Type 0} (verdict : Verdict A) (log : List ℕ) : Type 0 where
   pub came : Result Log Wrong
-  pub comes : Comes log (Ok came)
+  pub comes : ComesOf log (Ok came)
   pub outcome : wire_outcome verdict ≡ came_outcome came
   pub text : wire_text log verdict ≡ came_text log came
   pub all : verdict_found log verdict ≡ all_text log came
 
-pub came_of : {A : Type 0} (verdict : Verdict A) (log : List ℕ) → Judges (Ok verdict) log → Came verdict log
+pub came_of : {A : Type 0} (verdict : Verdict A) (log : List ℕ) → JudgesAll (Ok verdict) log → Came verdict log
 came_of (verdicts.Right totals doubts commands) log j =
     let text = ap (λ t. counted_text log t ++ doubts_text doubts ++ flat_map outstanding_text commands.items) j.2
     ∙ ap (λ d. counted_text log (totals_of j.0.moments) ++ doubts_text d ++ flat_map outstanding_text commands.items)

@@ -1,34 +1,40 @@
 -- What comes of the lines of a log of which all is found that is wrong.
-use Rattle.std.proofs.Common.{◌≡◌, ℕ, ◌+◌, List, [], ◌∷◌, refl, sym, ap, subst, ◌∙◌, Result, Ok, Err}
+use Rattle.std.proofs.Common.{◌≡◌, ℕ, ◌+◌, List, [], ◌∷◌, ◌++◌, refl, sym, ap, subst, ◌∙◌, Option, Some, None, Result, Ok, Err}
 use Rattle.mscp_packet.specs.Steps.{◌>>=◌}
 use Rattle.mscp_reader.specs.Outcome.{Fails, in_line}
 use Rattle.mscp_reader.specs.declared.fault.ReadFault.{ReadFault}
 use Rattle.mscp_reader.specs.declared.fault.ReadFault.TheVariants as reads
 use Rattle.mscp_reader.specs.declared.fault.ScriptFault.{ScriptFault}
-use Rattle.mscp_wire.specs.Course.{Findings, GoesOn, findings_in, findings_with}
+use Rattle.mscp_wire.specs.Course.{Findings, GoesOn, findings_with, listed}
 use Rattle.mscp_wire.specs.Log.{line_says}
 use Rattle.mscp_wire.specs.declared.course.Course.{Course}
+use Rattle.mscp_wire.specs.declared.course.Finding.{Finding}
+use Rattle.mscp_wire.specs.declared.wrong.Wrong.{Wrong}
+use Rattle.mscpjudge.specs.Credits.{line_breach}
+use Rattle.mscpjudge.specs.Found.{Gathered, found_beside, gathered_after, gathered_in, newest}
 
 -- a line more
-pub found_more : (n number : ℕ) (f next : Findings) (line : List ℕ) (rest : List (List ℕ)) → number ≡ n + 1
-    → (line_says number line >>= findings_with number f) ≡ Ok next
-    → findings_in n f (line ∷ rest) ≡ findings_in number next rest
-unfolding findings_in
-found_more n number f next line rest e h =
-    subst (λ k. (in_line k (line_says k line >>= findings_with k f) >>= λ x. findings_in k x rest)
-    ≡ findings_in number next rest) e
-    (ap (λ r. in_line number r >>= λ x. findings_in number x rest) h)
+pub found_more : (n number : ℕ) (g : Gathered) (next : Findings) (line : List ℕ) (rest : List (List ℕ))
+    → number ≡ n + 1 → (line_says number line >>= findings_with number g.told) ≡ Ok next
+    → gathered_in n g (line ∷ rest) ≡ gathered_in number (gathered_after number g line next) rest
+unfolding gathered_in
+found_more n number g next line rest e h =
+    subst (λ k. (in_line k (line_says k line >>= findings_with k g.told)
+    >>= λ x. gathered_in k (gathered_after k g line x) rest)
+    ≡ gathered_in number (gathered_after number g line next) rest) e
+    (ap (λ r. in_line number r >>= λ x. gathered_in number (gathered_after number g line x) rest) h)
 
 -- one that is at fault
-pub found_fails : {A : Type 0} (n number : ℕ) (f : Findings) (line : List ℕ) (rest : List (List ℕ))
+pub found_fails : {A : Type 0} (n number : ℕ) (g : Gathered) (line : List ℕ) (rest : List (List ℕ))
     (fault : ReadFault) (course : Course A) → number ≡ n + 1
-    → GoesOn number f (line_says number line) (Err fault) course → Fails fault (findings_in n f (line ∷ rest))
-unfolding findings_in
-found_fails n number f line rest (reads.Script fault) course e h =
-    subst (λ k. (in_line k (line_says k line >>= findings_with k f) >>= λ x. findings_in k x rest) ≡ Err fault) e
-    (ap (λ r. in_line number r >>= λ x. findings_in number x rest) h.1
+    → GoesOn number g.told (line_says number line) (Err fault) course → Fails fault (gathered_in n g (line ∷ rest))
+unfolding gathered_in
+found_fails n number g line rest (reads.Script fault) course e h =
+    subst (λ k. (in_line k (line_says k line >>= findings_with k g.told)
+    >>= λ x. gathered_in k (gathered_after k g line x) rest) ≡ Err fault) e
+    (ap (λ r. in_line number r >>= λ x. gathered_in number (gathered_after number g line x) rest) h.1
     ∙ ap (λ l. Err (record { line = l; cause = fault.cause })) (sym h.0))
-found_fails n number f line rest reads.OutOfMemory course e h = tt
+found_fails n number g line rest reads.OutOfMemory course e h = tt
 
 -- what fails fails behind it, too
 pub fails_on : {X Y : Type 0} (fault : ReadFault) (read : Result X ScriptFault) (on : X → Result Y ScriptFault)
@@ -37,6 +43,20 @@ fails_on (reads.Script fault) read on h = ap (λ r. r >>= on) h
 fails_on reads.OutOfMemory read on h = tt
 
 -- no line
-pub found_none : (n : ℕ) (f : Findings) → findings_in n f [] ≡ Ok f
-unfolding findings_in
-found_none n f = refl
+pub found_none : (n : ℕ) (g : Gathered) → gathered_in n g [] ≡ Ok g
+unfolding gathered_in
+found_none n g = refl
+
+-- what is found in a line
+pub newest_listed : (found : Option Finding) → newest (listed found) ≡ found
+newest_listed None = refl
+newest_listed (Some finding) = refl
+
+pub beside_is : (number : ℕ) (g : Gathered) (line : List ℕ) (next : Findings) (found : Option Finding)
+    (breach : Option Wrong) → g.told.found ≡ [] → next.found ≡ g.told.found ++ listed found
+    → breach ≡ line_breach number g.account line
+    → found_beside found breach ≡ found_beside (newest next.found) (line_breach number g.account line)
+beside_is number g line next found breach fresh h b =
+    ap (λ x. found_beside x breach)
+    (sym (ap newest (h ∙ ap (λ xs. xs ++ listed found) fresh) ∙ newest_listed found))
+    ∙ ap (found_beside (newest next.found)) b

@@ -1,3 +1,5 @@
+pub mod Limited
+pub mod Spending
 pub mod Coming
 pub mod Shown
 pub mod Counted

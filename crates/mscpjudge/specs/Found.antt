@@ -1,5 +1,5 @@
 -- What is written of all that is wrong in a log of the wire: each moment, and how many break each rule.
-use Rattle.std.specs.Prelude.{ℕ, zero, suc, Bool, nat_lt, if◌then◌else◌, List, [], ◌∷◌, ◌++◌, codes, length, map, count_by, Option, Result, Ok, Err}
+use Rattle.std.specs.Prelude.{ℕ, zero, suc, ◌+◌, Bool, nat_lt, if◌then◌else◌, List, [], ◌∷◌, ◌++◌, codes, length, map, count_by, Option, Some, None, Result, Ok, Err}
 use Rattle.std.specs.List.{flat_map}
 use Rattle.std.specs.Fmt.{decimal}
 use Rattle.std.specs.Str.{bytes_eq}
@@ -7,16 +7,19 @@ use Rattle.mscp_packet.specs.Steps.{◌>>=◌}
 use Rattle.mscp_reader.specs.Lexical.{lines}
 use Rattle.mscp_reader.specs.declared.fault.Cause.TheVariants as causes
 use Rattle.mscp_reader.specs.declared.fault.ScriptFault.{ScriptFault}
-use Rattle.mscp_wire.specs.Course.{findings_in, no_findings}
-use Rattle.mscp_wire.specs.Log.{Log}
+use Rattle.mscp_reader.specs.Outcome.{in_line}
+use Rattle.mscp_wire.specs.Course.{Findings, findings_with, listed, no_findings, nowhere}
+use Rattle.mscp_wire.specs.Log.{Log, line_says}
 use Rattle.mscp_wire.specs.declared.course.Finding.{Finding}
 use Rattle.mscp_wire.specs.declared.log.Verdict.{Verdict}
 use Rattle.mscp_wire.specs.declared.log.Verdict.TheVariants as verdicts
 use Rattle.mscp_wire.specs.declared.rule.Rule.{Rule}
 use Rattle.mscp_wire.specs.declared.rule.Rule.TheVariants as rules
 use Rattle.mscp_wire.specs.declared.wrong.Wrong.{Wrong}
+use Rattle.mscpjudge.specs.Credits.{after_line, line_breach, unknown}
 use Rattle.mscpjudge.specs.Times.{log_time}
 use Rattle.mscpjudge.specs.Wired.{breach_text, came_text, rule_name, wire_text}
+use Rattle.mscpjudge.specs.declared.credits.Account.{Account}
 
 -- the lines of what is found, where lines tell these times
 unfoldable pub finding_text : (ℕ → Option ℕ) → Finding → List ℕ
@@ -49,13 +52,52 @@ rule_text broken rule = count_text rule (count_by (breaks (rule_name rule)) brok
 abbrev pub broken_rules_text : List Rule → List ℕ
 broken_rules_text broken = flat_map (rule_text broken) rules_in_order
 
+-- ---- line by line
+
+-- what counts as told so far, the credits of hosts, and all that is wrong
+pub record Gathered : Type 0 where
+  pub told : Findings
+  pub account : Account
+  pub all : List Finding
+
+abbrev pub nothing_gathered : Gathered
+nothing_gathered = record { told = no_findings; account = unknown; all = [] }
+
+-- what the judge of the wire found in a line, if it found something
+abbrev pub newest : List Finding → Option Finding
+newest [] = None
+newest (finding ∷ found) = Some finding
+
+-- or else a message without a credit
+abbrev pub found_beside : Option Finding → Option Wrong → Option Finding
+found_beside (Some finding) breach = Some finding
+found_beside None None = None
+found_beside None (Some wrong) = Some (record { wrong = wrong; places = nowhere })
+
+-- once the line of this number was read, where the wire has this to tell
+abbrev pub gathered_after : ℕ → Gathered → List ℕ → Findings → Gathered
+gathered_after number g line next = record {
+  told = record next { found = [] };
+  account = after_line number g.account line;
+  all = g.all ++ listed (found_beside (newest next.found) (line_breach number g.account line));
+}
+
+-- the same of lines that so many stand before, or the first fault
+unfoldable pub gathered_in : ℕ → Gathered → List (List ℕ) → Result Gathered ScriptFault
+gathered_in before g [] = Ok g
+gathered_in before g (line ∷ rest) =
+    in_line (before + 1) (line_says (before + 1) line >>= findings_with (before + 1) g.told)
+    >>= λ next. gathered_in (before + 1) (gathered_after (before + 1) g line next) rest
+
+-- ---- all
+
 -- all that is found
 abbrev pub found_text : (ℕ → Option ℕ) → List Finding → List ℕ
 found_text time found = flat_map (finding_text time) found ++ broken_rules_text (map broken_of found)
 
 -- what is found in lines, or their first fault
 abbrev pub lines_found : (ℕ → Option ℕ) → List (List ℕ) → Result (List ℕ) ScriptFault
-lines_found time all = findings_in 0 no_findings all >>= λ f. Ok (found_text time f.found)
+lines_found time lines = gathered_in 0 nothing_gathered lines >>= λ g. Ok (found_text time g.all)
 
 -- the same of a log
 abbrev pub log_found : List ℕ → Result (List ℕ) ScriptFault

@@ -1,6 +1,8 @@
 pub mod Said
 pub mod Ports
 pub mod Times
+pub mod Credits
+pub mod Credited
 pub mod Chosen
 pub mod Endings
 pub mod Heard

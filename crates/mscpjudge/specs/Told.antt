@@ -7,9 +7,9 @@ use Rattle.mscp_reader.specs.declared.fault.ReadFault.TheVariants as reads
 use Rattle.mscp_reader.specs.declared.fault.ScriptFault.{ScriptFault}
 use Rattle.mscp_script.specs.Simulated.{IsGiven}
 use Rattle.mscp_wire.specs.Log.{Log}
-use Rattle.mscp_wire.specs.Right.{Comes}
 use Rattle.mscp_wire.specs.declared.log.Verdict.{Verdict}
 use Rattle.mscp_wire.specs.declared.wrong.Wrong.{Wrong}
+use Rattle.mscpjudge.specs.Credited.{ComesOf}
 use Rattle.mscpjudge.specs.Found.{all_text, verdict_found}
 use Rattle.mscpjudge.specs.Ports.{has_ports, occurs, port_fault, port_log}
 use Rattle.mscpjudge.specs.Wired.{came_outcome, came_text, wire_text}
@@ -37,14 +37,14 @@ verdict_by extents.All log verdict = verdict_found log verdict
 -- a log is judged so, and these lines say it
 abbrev pub Answers : Extent → List ℕ → Outcome → List ℕ → Type 0
 Answers extent log outcome text =
-    (came : Result Log Wrong) × Comes log (Ok came) × (outcome ≡ came_outcome came)
+    (came : Result Log Wrong) × ComesOf log (Ok came) × (outcome ≡ came_outcome came)
     × (extent_text extent log came ≡ Ok text)
 
 -- or it has this fault: the first, unless a moment before it isn't right, or one behind such a moment
 abbrev pub IsFault : Extent → List ℕ → ScriptFault → Type 0
 IsFault extent log fault =
-    Comes log (Err fault)
-    ⊎ ((came : Result Log Wrong) × Comes log (Ok came) × (extent_text extent log came ≡ Err fault))
+    ComesOf log (Err fault)
+    ⊎ ((came : Result Log Wrong) × ComesOf log (Ok came) × (extent_text extent log came ≡ Err fault))
 
 -- what was returned of a log is what is said of it, unless memory ran out, and nothing else is
 abbrev pub TellsOne : Extent → Result Told ReadFault → List ℕ → Type 0

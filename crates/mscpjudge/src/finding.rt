@@ -5,14 +5,16 @@ ghost use Rattle.mscp_reader.specs.Lexical as lexical;
 ghost use Rattle.mscp_reader.specs.Outcome.{Tells};
 ghost use Rattle.mscpjudge.specs.Common.{breaks, broken_of, broken_rules_text, finding_text, lines_found, log_found};
 ghost use Rattle.mscpjudge.specs.Found as found;
+ghost use Rattle.mscpjudge.specs.Found.{found_beside};
 ghost use Rattle.mscpjudge.specs.Times.{time_of};
 
+use crate::credits::Account;
 use crate::times::{Times, times_in};
 use crate::wire::{put_wrong, rule_name, text_of};
 use mscp_controller::OutOfMemory;
 use mscp_reader::{Lines, ReadFault, lines_of};
 use mscp_text::{put, put_field};
-use mscp_wire::{Course, Finding, Rule, Verdict};
+use mscp_wire::{Course, Finding, Places, Rule, Verdict, Wrong};
 use std::alloc::{AllocError, Allocator, Global};
 
 /// All rules, in the order in which they are asked.
@@ -99,6 +101,24 @@ fn put_finding(
     Ok(())
 }
 
+/// What is found in a line: what the judge of the wire found, or else a message without a credit.
+fn found_beside(found: Option<Finding>, breach: Option<Wrong>) -> Option<Finding>
+    ensures { result ≡ found_beside found breach }
+{
+    match (found, breach) {
+        (Some(finding), _) => Some(finding),
+        (None, Some(wrong)) => Some(Finding {
+            wrong,
+            places: Places {
+                sent: None,
+                passed: None,
+                asked: None,
+            },
+        }),
+        (None, None) => None,
+    }
+}
+
 /// What is found in lines.
 fn find_lines(alloc: Global, lines: &mut Lines<'_>, times: &Times) -> Result<Vec<u8>, ReadFault>
     requires { lines.old.number ≡ 0 }
@@ -106,10 +126,13 @@ fn find_lines(alloc: Global, lines: &mut Lines<'_>, times: &Times) -> Result<Vec
         (lexical.lines lines.old.rest.now)) }
 {
     let mut course = Course::new(alloc);
+    let mut account = Account::unknown();
     let mut text = Vec::new(alloc);
     let mut broken = Vec::new(alloc);
     while let Some(line) = lines.cut() {
-        if let Some(finding) = course.line(lines.number, line)? {
+        let breach = account.line(lines.number, line);
+        let found = course.line(lines.number, line)?;
+        if let Some(finding) = found_beside(found, breach) {
             put_finding(&mut text, &mut broken, &finding, times)?;
         }
     }

@@ -3,8 +3,11 @@
 #![tactic(auto)]
 
 mod choosing;
+mod credited;
+mod credits;
 mod doubts;
 mod ending;
+mod envelopes;
 mod explaining;
 mod fault;
 mod finding;

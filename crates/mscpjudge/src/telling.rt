@@ -6,6 +6,7 @@ ghost use Rattle.mscpjudge.specs.Common.{WritesOnce};
 ghost use Rattle.mscpjudge.specs.Ports as ports;
 ghost use Rattle.mscpjudge.specs.Told as tells;
 
+use crate::credited::judge_credited;
 use crate::fault::Fault;
 use crate::finding::all_of;
 use crate::judging::Outcome;
@@ -15,7 +16,7 @@ use mscp_controller::OutOfMemory;
 use mscp_reader::{ReadFault, ScriptFault};
 use mscp_script::{Sink, Source, read_all};
 use mscp_text::{put, put_field};
-use mscp_wire::{Verdict, judge_wire};
+use mscp_wire::Verdict;
 use std::alloc::{AllocError, Global};
 
 /// How much of what isn't right is told.
@@ -60,7 +61,7 @@ fn text_by(
 fn tell_one(alloc: Global, extent: Extent, log: &[u8]) -> Result<Told, ReadFault>
     ensures { tells.TellsOne extent result log.now }
 {
-    let verdict = judge_wire(alloc, log)?;
+    let verdict = judge_credited(alloc, log)?;
     let text = text_by(alloc, extent, log, &verdict)?;
     let outcome = wire_outcome(&verdict);
     Ok(Told { outcome, text })

@@ -1,4 +1,4 @@
-use Rattle.std.proofs.Common.{◌++◌, ◌∷◌, [], sym, ap, subst, map, ◌∙◌, Ok, Err}
+use Rattle.std.proofs.Common.{◌++◌, ◌∷◌, [], refl, sym, ap, subst, map, ◌∙◌, Ok, Err}
 use Rattle.std.specs.List.{flat_map}
 use Rattle.std.proofs.lemmas.Grind.{flat_map-append}
 use Rattle.std.proofs.lemmas.List.{append-nil, map-append}
@@ -6,86 +6,98 @@ use Rattle.std.proofs.lemmas.Result.{err_from_is_err_and}
 use Rattle.mscp_packet.specs.Steps.{◌>>=◌}
 use Rattle.mscp_reader.specs.Lexical.{lines}
 use Rattle.mscp_reader.specs.Outcome.{Fails, Tells}
-use Rattle.mscp_wire.specs.Course.{Findings, GoesOn, findings_in, no_findings}
-use Rattle.mscp_wire.specs.Log.{line_says}
-use Rattle.mscpjudge.specs.Found.{broken_of, broken_rules_text, finding_text, found_text, lines_found}
+use Rattle.mscp_wire.specs.Course.{listed}
+use Rattle.mscpjudge.specs.Credits.{after_line, line_breach}
+use Rattle.mscpjudge.specs.Found.{Gathered, broken_of, broken_rules_text, finding_text, found_text, gathered_after, gathered_in, lines_found, nothing_gathered}
 use Rattle.mscpjudge.specs.Times.{time_of}
-use Rattle.mscpjudge.proofs.Going.{fails_on, found_fails, found_more, found_none}
+use Rattle.mscpjudge.proofs.Going.{beside_is, fails_on, found_fails, found_more, found_none}
 use Rattle.mscpjudge.proofs.finding.find_lines.Goals as goal
 
 pub loop-line-init : goal.loop-line-init
 loop-line-init c = record {
-  findings = no_findings;
+  gathered = nothing_gathered;
   on = c.new-course.ensures;
+  fresh = refl;
+  account = c.unknown-account.ensures;
   text = c.new-text.ensures.items;
   broken = c.new-broken.ensures.items;
-  read = ap (λ n. findings_in n no_findings (lines c.args.lines.now.rest.now)) (sym c.requires);
+  read = ap (λ n. gathered_in n nothing_gathered (lines c.args.lines.now.rest.now)) (sym c.requires);
 }
 
-pub loop-line-preserved-in-Continue-branch-3 : goal.loop-line-preserved-in-Continue-branch-3
-loop-line-preserved-in-Continue-branch-3 c =
+pub loop-line-preserved-in-Continue-branch-2 : goal.loop-line-preserved-in-Continue-branch-2
+loop-line-preserved-in-Continue-branch-2 c =
     let i = c.loop-line.invariant in
-    let x = c.in-Some-2.finding in
-    let goes = subst (λ o. GoesOn c.cut.new.self.number i.findings
-    (line_says c.cut.new.self.number c.in-Some.line.now) (Ok o) c.line.new.self) c.in-Some-2.is
-    (c.in_ok-finding.ensures i.findings i.on) in
+    let x = c.in-Some-found_beside.finding in
+    let place = c.cut.new.self.number in
+    let line = c.in-Some.line.now in
+    let goes = c.in_ok-found.ensures i.gathered.told i.on in
+    let breach = c.line-breach.ensures.breach ∙ ap (λ a. line_breach place a line) i.account in
+    let more = ap listed (sym (beside_is place i.gathered line goes.0 c.in_ok-found.found c.line-breach.result
+    i.fresh goes.3 breach) ∙ sym c.found_beside.ensures ∙ c.in-Some-found_beside.is) in
+    let texts = flat_map (finding_text (time_of c.args.times.now.lines)) in
     record {
-      findings = goes.0;
+      gathered = gathered_after place i.gathered line goes.0;
       on = goes.2;
+      fresh = refl;
+      account = c.line-breach.ensures.after ∙ ap (λ a. after_line place a line) i.account;
       text =
           c.in_ok-put_finding.ensures.text ∙ ap (λ t. t ++ finding_text (time_of c.args.times.now.lines) x) i.text
-          ∙ sym (ap (flat_map (finding_text (time_of c.args.times.now.lines))) goes.3
-          ∙ flat_map-append (finding_text (time_of c.args.times.now.lines)) i.findings.found (x ∷ [])
-          ∙ ap (λ t. flat_map (finding_text (time_of c.args.times.now.lines)) i.findings.found ++ t)
-          (append-nil (finding_text (time_of c.args.times.now.lines) x)));
+          ∙ sym (ap (λ xs. texts (i.gathered.all ++ xs)) more
+          ∙ flat_map-append (finding_text (time_of c.args.times.now.lines)) i.gathered.all (x ∷ [])
+          ∙ ap (λ t. texts i.gathered.all ++ t) (append-nil (finding_text (time_of c.args.times.now.lines) x)));
       broken =
           c.in_ok-put_finding.ensures.broken ∙ ap (λ t. t ++ broken_of x ∷ []) i.broken
-          ∙ sym (ap (map broken_of) goes.3 ∙ map-append broken_of i.findings.found (x ∷ []));
+          ∙ sym (ap (λ xs. map broken_of (i.gathered.all ++ xs)) more ∙ map-append broken_of i.gathered.all (x ∷ []));
       read =
-          i.read ∙ ap (findings_in c.loop-line.lines.number i.findings) c.in-Some.ensures.line
-          ∙ found_more c.loop-line.lines.number c.cut.new.self.number i.findings goes.0 c.in-Some.line.now
+          i.read ∙ ap (gathered_in c.loop-line.lines.number i.gathered) c.in-Some.ensures.line
+          ∙ found_more c.loop-line.lines.number place i.gathered goes.0 line
           (lines c.cut.new.self.rest.now) c.in-Some.ensures.counted goes.1;
     }
 
 pub loop-line-preserved : goal.loop-line-preserved
 loop-line-preserved c =
     let i = c.loop-line.invariant in
-    let goes = subst (λ o. GoesOn c.cut.new.self.number i.findings
-    (line_says c.cut.new.self.number c.in-Some.line.now) (Ok o) c.line.new.self) c.in_default-2.is
-    (c.in_ok-finding.ensures i.findings i.on) in
-    let same = goes.3 ∙ append-nil i.findings.found in
+    let place = c.cut.new.self.number in
+    let line = c.in-Some.line.now in
+    let goes = c.in_ok-found.ensures i.gathered.told i.on in
+    let breach = c.line-breach.ensures.breach ∙ ap (λ a. line_breach place a line) i.account in
+    let more = ap listed (sym (beside_is place i.gathered line goes.0 c.in_ok-found.found c.line-breach.result
+    i.fresh goes.3 breach) ∙ sym c.found_beside.ensures ∙ c.in_default-found_beside.is) in
+    let same = ap (λ xs. i.gathered.all ++ xs) more ∙ append-nil i.gathered.all in
     record {
-      findings = goes.0;
+      gathered = gathered_after place i.gathered line goes.0;
       on = goes.2;
+      fresh = refl;
+      account = c.line-breach.ensures.after ∙ ap (λ a. after_line place a line) i.account;
       text = i.text ∙ sym (ap (flat_map (finding_text (time_of c.args.times.now.lines))) same);
       broken = i.broken ∙ sym (ap (map broken_of) same);
       read =
-          i.read ∙ ap (findings_in c.loop-line.lines.number i.findings) c.in-Some.ensures.line
-          ∙ found_more c.loop-line.lines.number c.cut.new.self.number i.findings goes.0 c.in-Some.line.now
+          i.read ∙ ap (gathered_in c.loop-line.lines.number i.gathered) c.in-Some.ensures.line
+          ∙ found_more c.loop-line.lines.number place i.gathered goes.0 line
           (lines c.cut.new.self.rest.now) c.in-Some.ensures.counted goes.1;
     }
 
-pub returns-in_err-finding : goal.returns-in_err-finding
-returns-in_err-finding c =
+pub returns-in_err-found : goal.returns-in_err-found
+returns-in_err-found c =
     let i = c.loop-line.invariant in
     let p = err_from_is_err_and c.from_residual.result c.from_residual.ensures.1 in
     let times = time_of c.args.times.now.lines in
     subst (λ r. Tells (λ text. text.items) r (lines_found times (lines c.args.lines.now.rest.now)))
     (sym (p.1 ∙ ap (λ f. Err f) p.2))
-    (subst (λ r. Fails c.in_err-finding.field-0.0 (r >>= λ (f : Findings). Ok (found_text times f.found)))
-    (sym (i.read ∙ ap (findings_in c.loop-line.lines.number i.findings) c.in-Some.ensures.line))
-    (fails_on c.in_err-finding.field-0.0 _ (λ (f : Findings). Ok (found_text (time_of c.args.times.now.lines) f.found))
-    (found_fails c.loop-line.lines.number c.cut.new.self.number i.findings c.in-Some.line.now
-    (lines c.cut.new.self.rest.now) c.in_err-finding.field-0.0 c.line.new.self c.in-Some.ensures.counted
-    (c.in_err-finding.ensures i.findings i.on))))
+    (subst (λ r. Fails c.in_err-found.field-0.0 (r >>= λ (g : Gathered). Ok (found_text times g.all)))
+    (sym (i.read ∙ ap (gathered_in c.loop-line.lines.number i.gathered) c.in-Some.ensures.line))
+    (fails_on c.in_err-found.field-0.0 _ (λ (g : Gathered). Ok (found_text (time_of c.args.times.now.lines) g.all))
+    (found_fails c.loop-line.lines.number c.cut.new.self.number i.gathered c.in-Some.line.now
+    (lines c.cut.new.self.rest.now) c.in_err-found.field-0.0 c.line.new.self c.in-Some.ensures.counted
+    (c.in_err-found.ensures i.gathered.told i.on))))
 
 pub returns : goal.returns
 returns c =
     let i = c.loop-line.invariant in
-    ap (λ r. r >>= λ (f : Findings). Ok (found_text (time_of c.args.times.now.lines) f.found))
-    (i.read ∙ ap (findings_in c.loop-line.lines.number i.findings) c.in_default.ensures.line
-    ∙ found_none c.loop-line.lines.number i.findings)
+    ap (λ r. r >>= λ (g : Gathered). Ok (found_text (time_of c.args.times.now.lines) g.all))
+    (i.read ∙ ap (gathered_in c.loop-line.lines.number i.gathered) c.in_default.ensures.line
+    ∙ found_none c.loop-line.lines.number i.gathered)
     ∙ ap Ok (sym (c.in_ok-put_counts.ensures
     ∙ ap (λ t. t ++ broken_rules_text c.as_slice.result.now) i.text
-    ∙ ap (λ b. flat_map (finding_text (time_of c.args.times.now.lines)) i.findings.found
+    ∙ ap (λ b. flat_map (finding_text (time_of c.args.times.now.lines)) i.gathered.all
     ++ broken_rules_text b) (c.as_slice.ensures.value ∙ i.broken)))

@@ -1,19 +1,21 @@
-use Rattle.std.proofs.Common.{◌≡◌, length, map}
+use Rattle.std.proofs.Common.{◌≡◌, [], length, map}
 use Rattle.std.specs.List.{flat_map}
 use Rattle.mscp_reader.specs.Lexical.{lines}
-use Rattle.mscp_wire.specs.Course.{Findings, IsOn, findings_in, no_findings}
-use Rattle.mscpjudge.specs.Found.{broken_of, finding_text}
+use Rattle.mscp_wire.specs.Course.{IsOn}
+use Rattle.mscpjudge.specs.Found.{Gathered, broken_of, finding_text, gathered_in, nothing_gathered}
 use Rattle.mscpjudge.specs.Times.{time_of}
 use Rattle.mscpjudge.proofs.finding.find_lines.Given as goal
 
 abbrev pub invariant-loop-line : goal.invariant-loop-line
 invariant-loop-line l = record {
-  findings : Findings;
-  on : IsOn findings.log findings.mentions l.course;
-  text : l.text.items ≡ flat_map (finding_text (time_of l.times.lines)) findings.found;
-  broken : l.broken.items ≡ map broken_of findings.found;
-  read : findings_in 0 no_findings (lines l.fn.lines.rest.now)
-      ≡ findings_in l.lines.number findings (lines l.lines.rest.now);
+  gathered : Gathered;
+  on : IsOn gathered.told.log gathered.told.mentions l.course;
+  fresh : gathered.told.found ≡ [];
+  account : l.account ≡ gathered.account;
+  text : l.text.items ≡ flat_map (finding_text (time_of l.times.lines)) gathered.all;
+  broken : l.broken.items ≡ map broken_of gathered.all;
+  read : gathered_in 0 nothing_gathered (lines l.fn.lines.rest.now)
+      ≡ gathered_in l.lines.number gathered (lines l.lines.rest.now);
 }
 
 abbrev pub decreases-loop-line : goal.decreases-loop-line
