@@ -68,7 +68,7 @@ fits_known c one other (inr e) (inr k) = subst (λ o. fits o other ≡ true) (sy
 -- ---- the end of a command
 
 module _ (c : Settings) (F : Type 0) (xs : List Sent) (unit : Seen) (known : IsKnown c unit.controller) (b : List ℕ)
-    (tied : IsTied (IsEndOf c F) F xs b) where
+    (tied : IsTied (IsEndOf c F) F (Unit {0}) xs b) where
   abbrev y : Sent
   y = command_at xs tied.place
 
@@ -88,6 +88,7 @@ module _ (c : Settings) (F : Type 0) (xs : List Sent) (unit : Seen) (known : IsK
       aborted_right true is = ap (λ b. not b || list_any (aborts y) (drop (tied.place + 1) xs)) is
           ∙ tied.abort (f refl) (eqb-true (status_code e) 2 is)
       aborted_right false is = ap (λ b. not b || list_any (aborts y) (drop (tied.place + 1) xs)) is
+  command_right rules.Order asked f = tied.order tt
   command_right rules.Success asked f =
       success_right y b tied.message tied.command tied.tie.fits tied.tie.whole
   command_right rules.About asked f = about_right y b tied.message tied.command tied.tie.fits tied.tie.whole
@@ -110,13 +111,13 @@ module _ (c : Settings) (F : Type 0) (xs : List Sent) (unit : Seen) (known : IsK
 -- ---- all of them
 
 pub keeps_rules : (c : Settings) (F : Type 0) (limit : Option ℕ) (x : Rule) (h : History) (aw : List (List ℕ))
-    (held : List Said) → Stated (IsEndOf c F) F h aw held → HostIsRight limit h → is_left_open x ≡ false
+    (held : List Said) → Stated (IsEndOf c F) F (Unit {0}) h aw held → HostIsRight limit h → is_left_open x ≡ false
     → (is_of_drives x ≡ true → F) → Keeps x limit h
-keeps_rules c F limit x h aw held s host asked f = keeps_rule (IsEndOf c F) F limit x h aw held s
+keeps_rules c F limit x h aw held s host asked f = keeps_rule (IsEndOf c F) F (Unit {0}) limit x h aw held s
     (λ i unit b low is tied. end_right c F (outstanding (take i h)) unit
     (subst (λ o. IsKnown c o) (sym is) (told i)) b tied x asked f) host
   where
-    known : (prefix : History) (m : Moment) → IsSeen (IsEndOf c F) F prefix m → IsKnownBy c m
+    known : (prefix : History) (m : Moment) → IsSeen (IsEndOf c F) F (Unit {0}) prefix m → IsKnownBy c m
     known prefix (moments.End via b) is = is.1.tie.known
     known prefix m is = tt
 

@@ -13,14 +13,14 @@ use Rattle.mscp_logged.proofs.Breaking.{end_holds, moment_fails, none_never, see
 use Rattle.mscp_logged.proofs.Stated.{IsSeen, IsTied, Stated}
 
 -- where the host's messages are right, a rule is kept that holds of each end with such a tie
-pub keeps_rule : (Tie : List ℕ → List ℕ → Type 0) (G : Type 0) (limit : Option ℕ) (x : Rule) (h : History)
-    (aw : List (List ℕ)) (held : List Said) → Stated Tie G h aw held
+pub keeps_rule : (Tie : List ℕ → List ℕ → Type 0) (G O : Type 0) (limit : Option ℕ) (x : Rule) (h : History)
+    (aw : List (List ℕ)) (held : List Said) → Stated Tie G O h aw held
     → ((i : ℕ) (unit : Seen) (b : List ℕ) → i < length h → unit.controller ≡ controller (take i h)
-    → IsTied Tie G (outstanding (take i h)) b → end_holds (outstanding (take i h)) unit First b x ≡ true)
+    → IsTied Tie G O (outstanding (take i h)) b → end_holds (outstanding (take i h)) unit First b x ≡ true)
     → HostIsRight limit h → Keeps x limit h
-keeps_rule Tie G limit x h aw held s ends host i low = by (moment_at h i) (s.each i low) (host i low)
+keeps_rule Tie G O limit x h aw held s ends host i low = by (moment_at h i) (s.each i low) (host i low)
   where
-    by : (m : Moment) → IsSeen Tie G (take i h) m → (is_message m ≡ true → broken_by limit (take i h) m ≡ None)
+    by : (m : Moment) → IsSeen Tie G O (take i h) m → (is_message m ≡ true → broken_by limit (take i h) m ≡ None)
         → broken_by limit (take i h) m ≡ Some x → ⊥
     by (moments.Message via b time) is right e = none_never x (sym (right refl) ∙ e)
     by (moments.End via b) is right e =

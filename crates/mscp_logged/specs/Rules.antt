@@ -66,9 +66,8 @@ abbrev pub PortsAnswerWhatIsOutstanding : {K : Type 0} → Picking K → K → T
 PortsAnswerWhatIsOutstanding picks picker =
     OfLogs picks picker (λ c calls h. (limit : Option ℕ) → HostIsRight limit h → Keeps rules.Outstanding limit h)
 
--- a rule of which nothing is said here: of order and figures, and of what is told of units
+-- a rule of which nothing is said here: of figures, and of what is told of units
 abbrev pub is_left_open : Rule → Bool
-is_left_open rules.Order = true
 is_left_open rules.Figure = true
 is_left_open rules.Identity = true
 is_left_open rules.State = true
@@ -83,7 +82,7 @@ is_of_drives rule = false
 
 -- the law of the other rules: while the host's messages are right, and if no unit is without a block, no moment breaks
 -- one of them; for those that hang on drives, if what is told of blocks that failed is what these may tell
-abbrev pub PortsKeepThirteenRules : {K : Type 0} → Picking K → K → Type 0
-PortsKeepThirteenRules picks picker = OfLogs picks picker (λ c calls h. (limit : Option ℕ) (rule : Rule)
+abbrev pub PortsKeepFourteenRules : {K : Type 0} → Picking K → K → Type 0
+PortsKeepFourteenRules picks picker = OfLogs picks picker (λ c calls h. (limit : Option ℕ) (rule : Rule)
     → All (λ unit. 0 < unit.size) c.units → HostIsRight limit h → is_left_open rule ≡ false
     → (is_of_drives rule ≡ true → TellsFaults calls) → Keeps rule limit h)

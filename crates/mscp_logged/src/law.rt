@@ -1,6 +1,6 @@
 // What is true of all that a port's log shows.
 
-ghost use Rattle.mscp_logged.specs.Rules.{PortsAnswerWhatIsOutstanding, PortsKeepThirteenRules, PortsSendLongEnds};
+ghost use Rattle.mscp_logged.specs.Rules.{PortsAnswerWhatIsOutstanding, PortsKeepFourteenRules, PortsSendLongEnds};
 
 use mscp_controller::controllers_keep_the_promise;
 use mscp_ported::{ports_end_what_they_took, ports_tell_in_order};
@@ -26,10 +26,10 @@ pub fn ports_answer_what_is_outstanding<K: Picker>(picker: &K)
 }
 
 /// Of such a port, whose units have blocks: while its host's messages are right, no moment of the log breaks a rule of
-/// `mscp_wire`, but for the four of which nothing is said here: `Order`, `Figure`, `Identity` and `State`. `Status`, `Aborted` and
+/// `mscp_wire`, but for the three of which nothing is said here: `Figure`, `Identity` and `State`. `Status`, `Aborted` and
 /// `Count` are kept if what the port is told of blocks that failed has a code from 5 to 11, as what a drive or a medium has.
-pub fn ports_keep_thirteen_rules<K: Picker>(picker: &K)
-    ensures { PortsKeepThirteenRules K.picks picker.now }
+pub fn ports_keep_fourteen_rules<K: Picker>(picker: &K)
+    ensures { PortsKeepFourteenRules K.picks picker.now }
 {
     controllers_keep_the_promise(picker);
     ports_end_what_they_took(picker);
