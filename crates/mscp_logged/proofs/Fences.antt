@@ -1,7 +1,7 @@
 -- Where a message keeps a later one back, no step serves the later one's command before that of the first ended; and a
 -- message that is answered at once waits for none, or ends with a status that may come at once.
 use Rattle.std.proofs.Common.{◌≡◌, ◌≢◌, ◌⊎◌, ◌∙◌, ◌+◌, ◌&&◌, ◌++◌, ◌∷◌, [], ℕ, Bool, true, false, cond, filter, nat_eq, not, List, Option, None, Some, inl, inr, refl, ap, sym, subst, arith}
-use Rattle.std.specs.Prelude.{◌%◌, ◌≤◌, ◌==◌, ◌||◌, slice_index}
+use Rattle.std.specs.Prelude.{◌%◌, ◌==◌, ◌||◌, is_none, slice_index}
 use Rattle.std.specs.List.{AllByRecursion, list_all, list_any}
 use Rattle.mscp_packet.specs.Commands.{command_of}
 use Rattle.mscp_packet.specs.Number.{num}
@@ -23,7 +23,7 @@ use Rattle.mscp_port.specs.Formalities.{ends_formality, formal_status, is_formal
 use Rattle.mscp_port.specs.Messages.{handed}
 use Rattle.mscp_port.specs.declared.verdict.Verdict.TheVariants as verdicts
 use Rattle.mscp_port.specs.declared.volumes.Volume.{Volume}
-use Rattle.mscp_port.proofs.Common.{and_parts, eq-eqb, eqb-true, false≢true}
+use Rattle.mscp_port.proofs.Common.{and_parts, eq-eqb, eqb-true, false≢true, or_right}
 use Rattle.mscp_port.proofs.Kept.{is_numbered}
 use Rattle.mscp_ported.specs.Answers.{asks_next}
 use Rattle.mscp_ported.specs.Awaited.{has_number}
@@ -143,16 +143,12 @@ kept_fences r z t u unit of other_unit other e =
     (wire.is_ordered (slice_index t 8)) (wire.is_ordered (slice_index u 8))
     (and_parts (nat_eq (num u 4 2) (num t 4 2)) _ e).1)
   where
-    right : (a b : Bool) → b ≡ true → (a || b) ≡ true
-    right true b h = refl
-    right false b h = h
-
     by : (a : Bool) → wire.is_sequential (slice_index u 8) ≡ a → (b : Bool)
         → wire.is_sequential (slice_index t 8) ≡ b → (a || b) ≡ true
         → (queue.is_sequential z.command.order || queue.is_sequential r.command.order) ≡ true
     by true is b h either = ap (λ x. x || queue.is_sequential r.command.order) (of_sequential z u other is)
     by false is true h either =
-        right (queue.is_sequential z.command.order) (queue.is_sequential r.command.order) (of_sequential r t of h)
+        or_right (queue.is_sequential z.command.order) (queue.is_sequential r.command.order) (of_sequential r t of h)
     by false is false h either = absurd (false≢true either)
 
 -- ---- the command that a step serves
@@ -292,10 +288,10 @@ reply_clear c online figure t message plain quick code formal v =
     at_once none = now (is_immediate (command_of (handed c.units t)).order) refl quick
       where
         now : (b : Bool) → is_immediate (command_of (handed c.units t)).order ≡ b
-            → cond b false (Rattle.std.specs.Prelude.is_none (fault_of c (command_of (handed c.units t)))) ≡ false
+            → cond b false (is_none (fault_of c (command_of (handed c.units t)))) ≡ false
             → is_immediate (command_of (handed c.units t)).order ≡ true
         now true is h = is
-        now false is h = absurd (false≢true (sym h ∙ ap (λ x. Rattle.std.specs.Prelude.is_none x) none))
+        now false is h = absurd (false≢true (sym h ∙ ap (λ x. is_none x) none))
 
     by : (f : Option ℕ) → fault_of c (command_of (handed c.units t)) ≡ f
         → (is_apart (status_told (verdicts.Served blocks.Good) code

@@ -1,7 +1,7 @@
 -- Behind a message that a port read no end that waits has passed a command that it had to wait for.
 use Rattle.std.proofs.Common.{◌≡◌, ◌≢◌, ◌⊎◌, ◌∙◌, ◌<◌, ◌^◌, ◌&&◌, ◌++◌, ◌∷◌, [], ℕ, All, Bool, true, false, cond, filter, map, nat_eq, not, List, Option, None, Some, inl, inr, refl, ap, sym, subst, arith, append_assoc}
 use Rattle.std.specs.Prelude.{◌%◌, ◌||◌, Ok, is_none, is_ok, is_some, option_map, option_to_list, slice_index}
-use Rattle.std.specs.List.{list_any}
+use Rattle.std.specs.List.{AllByRecursion}
 use Rattle.std.proofs.lemmas.Option.{none-some}
 use Rattle.mscp_packet.specs.Number.{num}
 unfoldable use Rattle.mscp_packet.specs.Commands.{command_of}
@@ -37,7 +37,7 @@ use Rattle.mscp_port.specs.declared.task.Task.{Task}
 use Rattle.mscp_port.specs.declared.task.Task.TheVariants as tasks
 use Rattle.mscp_port.specs.declared.verdict.Verdict.{Verdict}
 use Rattle.mscp_port.specs.declared.verdict.Verdict.TheVariants as verdicts
-use Rattle.mscp_port.proofs.Common.{eq-eqb, eqb-true, false≢true}
+use Rattle.mscp_port.proofs.Common.{eq-eqb, eqb-true, false≢true, or_right}
 use Rattle.mscp_port.proofs.Kept.{is_numbered}
 use Rattle.mscp_port.proofs.Said.{none_or_some}
 use Rattle.mscp_ported.specs.Answers.{own_answer, volume_named}
@@ -267,8 +267,8 @@ module _ {c : Settings} {Told : Verdict → Record → Type 0} {K : Type 0} (byt
 
         -- it waits for none, or says what may be said at once
         own_clear : (ts : List (List ℕ) → List (List ℕ))
-            → ((P : List ℕ → Type 0) → Rattle.std.specs.List.AllByRecursion P (aw ++ bytes ∷ [])
-            → Rattle.std.specs.List.AllByRecursion P (ts (aw ++ bytes ∷ [])))
+            → ((P : List ℕ → Type 0) → AllByRecursion P (aw ++ bytes ∷ [])
+            → AllByRecursion P (ts (aw ++ bytes ∷ [])))
             → IsClear (ts (aw ++ bytes ∷ [])) own (made own)
         own_clear ts all = by (reply_clear h.settings (drive_of h.drives command.unit).online
             (figure_polled h.settings First h.waiting command.order) bytes is_text plain immediate own.code informal
@@ -310,16 +310,8 @@ module _ {c : Settings} {Told : Verdict → Record → Type 0} {K : Type 0} (byt
 
         own_ended : (xs ys : List End) → is_ended (xs ++ (ys ++ own ∷ [])) bytes ≡ true
         own_ended [] [] = ap (λ b. b || false) (eq-eqb n own.reference (sym own_named))
-        own_ended [] (y ∷ ys) = right (has_number y.reference bytes) (own_ended [] ys)
-          where
-            right : (a : Bool) {b : Bool} → b ≡ true → (a || b) ≡ true
-            right true e = refl
-            right false e = e
-        own_ended (x ∷ xs) ys = right (has_number x.reference bytes) (own_ended xs ys)
-          where
-            right : (a : Bool) {b : Bool} → b ≡ true → (a || b) ≡ true
-            right true e = refl
-            right false e = e
+        own_ended [] (y ∷ ys) = or_right (has_number y.reference bytes) _ (own_ended [] ys)
+        own_ended (x ∷ xs) ys = or_right (has_number x.reference bytes) _ (own_ended xs ys)
 
         answered_so : Fits
         answered_so =
