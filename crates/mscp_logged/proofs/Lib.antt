@@ -27,3 +27,8 @@ pub mod Fences
 pub mod Ordering
 pub mod Hearing
 pub mod Orderly
+pub mod Polled
+pub mod Heard
+pub mod Figuring
+pub mod Figures
+pub mod Figured

@@ -38,7 +38,7 @@ use Rattle.mscp_logged.proofs.Turns.{IsApartOr}
 use Rattle.mscp_logged.proofs.Wired.{nothing_wired}
 
 -- a message that the controller takes is for the disks
-taken_disk : {K : Type 0} (call : Call) (old : Port K) (t : List ℕ) → taken_by call old ≡ t ∷ []
+pub taken_disk : {K : Type 0} (call : Call) (old : Port K) (t : List ℕ) → taken_by call old ≡ t ∷ []
     → is_foreign old.task ≡ false
 taken_disk (WasRead bytes (Ok done)) old t e = by old.task refl
   where
@@ -57,7 +57,7 @@ taken_disk (WasRead bytes (Ok done)) old t e = by old.task refl
     by task at = ap is_foreign at
 taken_disk call old t e = absurd (search (arith, e))
 
-small_of : (call : Call) (calls : List Call) (t : List ℕ) (done : Unit) → ReadsBytes (call ∷ calls)
+pub small_of : (call : Call) (calls : List Call) (t : List ℕ) (done : Unit) → ReadsBytes (call ∷ calls)
     → call ≡ WasRead t (Ok done) → (i : ℕ) → slice_index t i < 2 ^ 8
 small_of call calls t done reads is = (subst (λ x. ReadsBytes (x ∷ calls)) is reads).0
 

@@ -97,7 +97,7 @@ order_left rs g (u ∷ us) all = by (g u) (order_left rs g us all.1)
     by true rest = ((λ b any. all.0 b (any_of_fewer (has_number b) g us any)), rest)
     by false rest = rest
 
-flipped : (n m : ℕ) → nat_eq n m ≡ false → nat_eq m n ≡ false
+pub flipped : (n m : ℕ) → nat_eq n m ≡ false → nat_eq m n ≡ false
 flipped n m e = by (nat_eq m n) refl
   where
     by : (c : Bool) → nat_eq m n ≡ c → c ≡ false

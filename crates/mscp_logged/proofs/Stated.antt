@@ -61,7 +61,7 @@ right_new credits h t e = by (Rattle.mscp_wire.specs.Wire.is_message t) e
     by true x = new (is_new (outstanding h) (sent_by First t)) _ x
     by false x = search (arith, x)
 
-new_none : (xs : List Sent) (t : List ℕ) → is_new xs (sent_by First t) ≡ true
+pub new_none : (xs : List Sent) (t : List ℕ) → is_new xs (sent_by First t) ≡ true
     → filter (named (num t 0 4)) xs ≡ []
 new_none xs t e = none_any (named (num t 0 4)) xs (isnt _ e)
   where
