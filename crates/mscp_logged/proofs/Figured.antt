@@ -56,7 +56,8 @@ module _ {K : Type 0} (Tie : List ℕ → List ℕ → Type 0) (G O : Type 0) (c
     (quiet : outstanding_of First controller ≡ []) (made : IsMadeOf hardware credits controller start)
     (limit : Option ℕ) where
   abbrev pub Known : (p : Port K) (calls : List Call) → Answered picks start calls p → Type 0
-  Known p calls a = Figured (logged picks start p calls a) (coming p) (figure_on p) (IsServedSince picks start p calls a)
+  Known p calls a =
+      Figured (logged picks start p calls a) (coming p) (figure_on p) (IsServedSince picks start p calls a)
 
   nothing_known : (p : Port K) (calls : List Call) → AsksAlways calls → (a : Answered picks start calls p)
       → logged picks start p calls a ≡ [] → Known p calls a
@@ -181,7 +182,8 @@ module _ {K : Type 0} (Tie : List ℕ → List ℕ → Type 0) (G O : Type 0) (c
             (append-nil (h ++ ms))
             (ap (λ os. flat_map pending_in (map said_in os) ++ pending_held p) (sym none) ∙ b
             ∙ ap (λ z. (out_of z ++ pending_held a.0) ++ passing.more) (sym was_out)) mid)
-        by None (Some x) was_out is_out b none s1 mid = absurd (begun_none a.0.outgoing p.outgoing x was_out is_out none)
+        by None (Some x) was_out is_out b none s1 mid =
+            absurd (begun_none a.0.outgoing p.outgoing x was_out is_out none)
         by (Some o) (Some x) was_out is_out b none s1 mid = to_log (Some o) (Some x) was_out is_out
             (figured_as (h ++ ms) ((h ++ ms) ++ []) (coming a.0 ++ passing.more) (out_of (Some x) ++ pending_held p)
             (figure_on p) S' (append-nil (h ++ ms))

@@ -45,8 +45,9 @@ pub figured_as : (h h' : History) (P P' : List Pending) (F : ℕ → ℕ) (S : �
 figured_as h h' P P' F S e f x = subst (λ z. Figured z P' F S) (sym e) (subst (λ z. Figured h z F S) (sym f) x)
 
 -- a message comes
-pub message_comes : (h : History) (t : List ℕ) (P P' : List Pending) (F F' : ℕ → ℕ) (S S' : ℕ → Type 0) → Figured h P F S
-    → AreFigured (outstanding (h ++ message_of t ∷ [])) P' F' S' → Figured (h ++ message_of t ∷ []) P' F' S'
+pub message_comes : (h : History) (t : List ℕ) (P P' : List Pending) (F F' : ℕ → ℕ) (S S' : ℕ → Type 0)
+    → Figured h P F S → AreFigured (outstanding (h ++ message_of t ∷ [])) P' F' S'
+    → Figured (h ++ message_of t ∷ []) P' F' S'
 message_comes h t P P' F F' S S' f now =
     record { each = each_push moments.Reset IsShownAt h (message_of t) f.each tt; now = now }
 
@@ -109,7 +110,8 @@ pub no_step : {K : Type 0} (old : Port K) (call : Call) (t : List ℕ) (done : U
     → TellsStep call old → ⊥
 no_step old call t done is s = subst (λ x. TellsStep x old) is s
 
-pub apart_from : (xs : List Sent) (m n : ℕ) → filter (named m) xs ≡ [] → list_any (named n) xs ≡ true → nat_eq m n ≡ false
+pub apart_from : (xs : List Sent) (m n : ℕ) → filter (named m) xs ≡ [] → list_any (named n) xs ≡ true
+    → nat_eq m n ≡ false
 apart_from xs m n none any = by (nat_eq m n) refl
   where
     by : (b : Bool) → nat_eq m n ≡ b → b ≡ false

@@ -205,7 +205,8 @@ module _ {K : Type 0} (Tie : List ℕ → List ℕ → Type 0) (call : Call) (ol
     others = figured_still F S F' S' xs xs' (coming old) passing.more lowers
         (λ n is. any_more (named n) xs (x ∷ []) is) all
 
-    pub plain_figured : (slice_index t 8 ≡ 2 → ⊥) → AllByRecursion (IsFigured xs' (coming old ++ passing.more) F' S') xs'
+    pub plain_figured : (slice_index t 8 ≡ 2 → ⊥)
+        → AllByRecursion (IsFigured xs' (coming old ++ passing.more) F' S') xs'
     plain_figured never = every_append (IsFigured xs' (coming old ++ passing.more) F' S') xs (x ∷ []) others (
       record { via = refl; told = λ l e. absurd (none-some l e); poll = λ code other e. absurd (never code) },
       tt,

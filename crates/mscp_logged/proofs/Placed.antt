@@ -24,7 +24,8 @@ pub keeps_rule : (Tie : List ℕ → List ℕ → Type 0) (G O : Type 0) (limit 
 keeps_rule Tie G O limit x h aw held s More more ends host i low =
     by (moment_at h i) (s.each i low) (more i low) (host i low)
   where
-    by : (m : Moment) → IsSeen Tie G O (take i h) m → More (take i h) m → (is_message m ≡ true → broken_by limit (take i h) m ≡ None)
+    by : (m : Moment) → IsSeen Tie G O (take i h) m → More (take i h) m
+        → (is_message m ≡ true → broken_by limit (take i h) m ≡ None)
         → broken_by limit (take i h) m ≡ Some x → ⊥
     by (moments.Message via b time) is m right e = none_never x (sym (right refl) ∙ e)
     by (moments.End via b) is m right e =
