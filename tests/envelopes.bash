@@ -8,19 +8,20 @@ to() { whole "${3-}to" $(((${#1} - 4) / 2)) 0 "$2" 0 "${1#end }"; }
 greeting() { echo "send $(packet 18 "${1-1}" 0 4 0)"; }
 greeted() { echo "end $(packet 28 "${1-1}" 0 132 0)"; }
 
-# Each message takes one of those that were given. At first there is one, and the last one is for immediate commands.
+# Each message takes one of those that were given. At first there is one, which any command may take.
 credits_of_envelopes() {
     wire_is_right '8 5 2 2 1' $'outstanding: READ 3 of unit 0\noutstanding: GET COMMAND STATUS 4 of unit 0\noutstanding: GET COMMAND STATUS 5 of unit 0' \
         reset "$(from "$(greeting)")" "$(to "$(greeted)" 3)" "$(from "$(online 2)")" "$(to "$(onlined 2 0)" 1)" \
         "$(from "$(reading 3)")" "$(from "$(poll 4 3)")" "$(from "$(poll 5 3)")" &&
-        wire_breaks 'host: credits' 'ONLINE 1 of unit 0' reset "$(from "$(online 1)")" &&
+        wire_is_right '2 1 0 0 1' 'outstanding: ONLINE 1 of unit 0' reset "$(from "$(online 1)")" &&
         wire_breaks 'host: credits' 'SET CONTROLLER CHARACTERISTICS 2 of unit 0' reset "$(from "$(greeting)")" "$(from "$(greeting 2)")" &&
-        wire_breaks 'host: credits' 'ONLINE 2 of unit 0' reset "$(from "$(greeting)")" "$(to "$(greeted)" 1)" "$(from "$(online 2)")" &&
-        wire_breaks 'host: credits' 'READ 3 of unit 0' reset "$(from "$(greeting)")" "$(to "$(greeted)" 2)" "$(from "$(online 2)")" \
+        wire_breaks 'host: credits' 'ONLINE 2 of unit 0' reset "$(from "$(greeting)")" "$(to "$(greeted)" 0)" "$(from "$(online 2)")" &&
+        wire_breaks 'host: credits' 'READ 3 of unit 0' reset "$(from "$(greeting)")" "$(to "$(greeted)" 1)" "$(from "$(online 2)")" \
             "$(from "$(reading 3)")" &&
         wire_breaks 'host: credits' 'GET COMMAND STATUS 4 of unit 0' reset "$(from "$(greeting)")" "$(to "$(greeted)" 2)" \
             "$(from "$(online 2)")" "$(from "$(poll 3 2)")" "$(from "$(poll 4 2)")" &&
-        wire_breaks 'host: credits' 'ONLINE 2 of unit 0' reset "$(from "$(greeting)")" "$(to "$(greeted)" 9)" reset "$(from "$(online 2)")"
+        wire_breaks 'host: credits' 'READ 3 of unit 0' reset "$(from "$(greeting)")" "$(to "$(greeted)" 9)" reset "$(from "$(online 2)")" \
+            "$(from "$(reading 3)")"
 }
 
 # Each packet of the disk's connection gives what its envelope says, an attention message, a datagram and a credit notification
@@ -42,10 +43,11 @@ credits_that_are_not_known() {
             reset "$(greeting)" "$(from "$(online 2)")" &&
         wire_is_right '4 2 0 1 1' 'outstanding: ONLINE 2 of unit 0' reset "$(from "$(greeting)")" "$(greeted)" "$(from "$(online 2)")" &&
         wire_is_right '4 2 0 1 1' 'outstanding: ONLINE 2 of unit 0' reset "$(from "$(greeting)")" "$(greeted)" "$(online 2)" &&
-        wire_breaks 'host: credits' 'ONLINE 2 of unit 0' "$(greeting)" reset "$(from "$(online 2)")" &&
-        wire_breaks 'host: credits' 'second ONLINE 2 of unit 0' reset "$(from "$(greeting)")" "$(to "$(greeted)" 9)" \
-            "$(from "$(online 2)" 'second ')" &&
-        wire_breaks 'host: credits' 'second ONLINE 2 of unit 0' reset "$(greeting)" "$(from "$(online 2)" 'second ')" &&
+        wire_breaks 'host: credits' 'READ 3 of unit 0' "$(greeting)" reset "$(from "$(online 2)")" "$(from "$(reading 3)")" &&
+        wire_breaks 'host: credits' 'second READ 3 of unit 0' reset "$(from "$(greeting)")" "$(to "$(greeted)" 9)" \
+            "$(from "$(online 2)" 'second ')" "$(from "$(reading 3)" 'second ')" &&
+        wire_breaks 'host: credits' 'second READ 3 of unit 0' reset "$(greeting)" "$(from "$(online 2)" 'second ')" \
+            "$(from "$(reading 3)" 'second ')" &&
         wire_is_right '4 2 0 1 1' 'outstanding: second ONLINE 2 of unit 0' reset "$(from "$(greeting)" 'second ')" \
             "$(to "$(greeted)" 2 'second ')" "$(from "$(online 2)" 'second ')"
 }
@@ -66,7 +68,7 @@ manual: a host needs a credit for each command, and keeps the last one for immed
 
 # What comes behind a message without a credit is judged. It takes none.
 all_credits() {
-    wire_finds $'2 credits\n4 outstanding\n5 credits\nwrong: 2 credits\nwrong: 1 outstanding' reset "$(from "$(online 1)")" \
+    wire_finds $'4 outstanding\n5 credits\nwrong: 1 credits\nwrong: 1 outstanding' reset "$(from "$(online 1)")" \
         "$(to "$(onlined 1 0)" 0)" "$(to "$(onlined 1 0)" 0)" "$(from "$(online 2)")" &&
         wire_finds $'3 reference number\n4 credits\nwrong: 1 reference number\nwrong: 1 credits' reset "$(from "$(greeting)")" \
             "$(from "$(reading 1)")" "$(from "$(reading 2)")" &&
@@ -76,12 +78,12 @@ all_credits() {
 
 credits_of_each_port() {
     wire_says 'port 0
-line 5: not right
+line 6: not right
 rule of the host: credits
-command: ONLINE 1 of unit 0
+command: ONLINE 2 of unit 0
 message: opcode 0x09, 12 bytes
 manual: a host needs a credit for each command, and keeps the last one for immediate commands
 port 1
 right
-moments 1 messages 0 polls 0 ends 0 resets 1 queue 0' 1 'port 1' reset 'port 0' reset "$(from "$(online 1)")"
+moments 1 messages 0 polls 0 ends 0 resets 1 queue 0' 1 'port 1' reset 'port 0' reset "$(from "$(online 1)")" "$(from "$(online 2)")"
 }

@@ -812,23 +812,22 @@ whole_packets() {
         wire_refuses 'line 1: count' "$(whole to 12 0 0 0 "$online") 00" && wire_refuses 'line 1: word' "From ${online}"
 }
 
-# So a log says the same as that of its packets. The first message after a reset stays without its envelope, so that nothing is
-# known of credits: a PDP-11 boots by an ONLINE, for which it has only the last one.
+# So a log says the same as that of its packets. The first end after a reset gives fourteen credits, as SIMH's does, and each
+# other one its own back.
 whole_packets_say_the_same() {
-    local log line time word digits last
+    local log line time word digits more
     for log in examples/*.wire; do
-        last=
+        more=14
         while IFS= read -r line; do
             time=
             [[ $line != @* ]] || time="${line%% *} "
             read -r word digits <<<"${line#"$time"}"
-            case $last$word in
-                resetsend) printf '%s\n' "$line" ;;
-                *send) whole "${time}from" $((${#digits} / 2)) 0 0 0 "$digits" ;;
-                *end) whole "${time}to" $((${#digits} / 2)) 0 1 0 "$digits" ;;
+            case $word in
+                send) whole "${time}from" $((${#digits} / 2)) 0 0 0 "$digits" ;;
+                end) whole "${time}to" $((${#digits} / 2)) 0 "$more" 0 "$digits" && more=1 ;;
                 *) printf '%s\n' "$line" ;;
             esac
-            last=$word
+            [ "$word" != reset ] || more=14
         done <"$log" >"$room/whole"
         "$program" wire "$log" >"$room/out"
         "$program" wire "$room/whole" | cmp -- - "$room/out" || return

@@ -14,10 +14,12 @@ use Rattle.mscp_wire.specs.declared.rule.Rule.{Rule}
 use Rattle.mscp_wire.specs.declared.rule.Rule.TheVariants as rules
 use Rattle.mscp_wire.specs.declared.sent.Sent.{Sent}
 use Rattle.mscp_wire.specs.declared.told.Seen.{Seen}
-use Rattle.mscp_logged.specs.Rules.{HostIsRight, Keeps, is_left_open, is_of_drives}
+use Rattle.mscp_logged.specs.Rules.{HostIsRight, Keeps, is_left_open, is_of_drives, is_of_polls}
 use Rattle.mscp_logged.proofs.About.{about_right, success_right}
 use Rattle.mscp_logged.proofs.Breaking.{command_holds, end_holds, placed_holds}
 use Rattle.mscp_logged.proofs.Coded.{endcode_right, unit_right}
+use Rattle.mscp_logged.proofs.Figures.{IsShownAt, coded_so}
+use Rattle.mscp_logged.proofs.Heard.{IsShown, figure_right}
 use Rattle.mscp_logged.proofs.Long.{whole_long}
 use Rattle.mscp_logged.proofs.Placed.{keeps_rule}
 use Rattle.mscp_logged.proofs.Stated.{IsSeen, IsTied, Stated}
@@ -68,7 +70,7 @@ fits_known c one other (inr e) (inr k) = subst (λ o. fits o other ≡ true) (sy
 -- ---- the end of a command
 
 module _ (c : Settings) (F : Type 0) (xs : List Sent) (unit : Seen) (known : IsKnown c unit.controller) (b : List ℕ)
-    (tied : IsTied (IsEndOf c F) F xs b) where
+    (tied : IsTied (IsEndOf c F) F (Unit {0}) xs b) where
   abbrev y : Sent
   y = command_at xs tied.place
 
@@ -76,47 +78,56 @@ module _ (c : Settings) (F : Type 0) (xs : List Sent) (unit : Seen) (known : IsK
   e = answer_by First b
 
   command_right : (x : Rule) → is_left_open x ≡ false → (is_of_drives x ≡ true → F)
+      → (is_of_polls x ≡ true → IsShown xs b)
       → command_holds (take tied.place xs) (drop (tied.place + 1) xs) y unit e x ≡ true
-  command_right rules.Unit asked f = unit_right y e tied.message tied.command tied.tie.fits.unit
-  command_right rules.Endcode asked f =
+  command_right rules.Unit asked f polls = unit_right y e tied.message tied.command tied.tie.fits.unit
+  command_right rules.Endcode asked f polls =
       endcode_right y e tied.message (ap (λ (s : Sent). s.opcode) tied.command) tied.tie.fits.code
-  command_right rules.Status asked f =
+  command_right rules.Status asked f polls =
       subst (λ s. has_status s e ≡ true) (sym tied.command) (tied.tie.suited (f refl)).status
-  command_right rules.Aborted asked f = aborted_right (nat_eq (status_code e) 2) refl
+  command_right rules.Aborted asked f polls = aborted_right (nat_eq (status_code e) 2) refl
     where
       aborted_right : (b : Bool) → nat_eq (status_code e) 2 ≡ b → has_abort (drop (tied.place + 1) xs) y e ≡ true
       aborted_right true is = ap (λ b. not b || list_any (aborts y) (drop (tied.place + 1) xs)) is
           ∙ tied.abort (f refl) (eqb-true (status_code e) 2 is)
       aborted_right false is = ap (λ b. not b || list_any (aborts y) (drop (tied.place + 1) xs)) is
-  command_right rules.Success asked f =
+  command_right rules.Order asked f polls = tied.order tt
+  command_right rules.Figure asked f polls =
+      figure_right (drop (tied.place + 1) xs) y b (whole_long b tied.tie.whole)
+      (coded_so y e (endcode_right y e tied.message (ap (λ (s : Sent). s.opcode) tied.command) tied.tie.fits.code))
+      (polls refl tied.place tied.at)
+  command_right rules.Success asked f polls =
       success_right y b tied.message tied.command tied.tie.fits tied.tie.whole
-  command_right rules.About asked f = about_right y b tied.message tied.command tied.tie.fits tied.tie.whole
-  command_right rules.Count asked f =
+  command_right rules.About asked f polls = about_right y b tied.message tied.command tied.tie.fits tied.tie.whole
+  command_right rules.Count asked f polls =
       subst (λ s. has_count e (count_of s e) ≡ true) (sym tied.command) (tied.tie.suited (f refl)).count
-  command_right rules.Controller asked f =
+  command_right rules.Controller asked f polls =
       fits_known c unit.controller (controller_in b) known tied.tie.known
-  command_right rules.Message asked f = refl
-  command_right rules.Number asked f = refl
-  command_right rules.Credits asked f = refl
-  command_right rules.Length asked f = refl
-  command_right rules.Outstanding asked f = refl
-  command_right x asked f = absurd (false≢true (sym asked))
+  command_right rules.Message asked f polls = refl
+  command_right rules.Number asked f polls = refl
+  command_right rules.Credits asked f polls = refl
+  command_right rules.Length asked f polls = refl
+  command_right rules.Outstanding asked f polls = refl
+  command_right x asked f polls = absurd (false≢true (sym asked))
 
-  end_right : (x : Rule) → is_left_open x ≡ false → (is_of_drives x ≡ true → F) → end_holds xs unit First b x ≡ true
-  end_right rules.Length asked f = whole_long b tied.tie.whole
-  end_right rules.Outstanding asked f = ap is_some tied.at
-  end_right x asked f = ap (λ o. placed_holds xs unit e o x) tied.at ∙ command_right x asked f
+  end_right : (x : Rule) → is_left_open x ≡ false → (is_of_drives x ≡ true → F)
+      → (is_of_polls x ≡ true → IsShown xs b) → end_holds xs unit First b x ≡ true
+  end_right rules.Length asked f polls = whole_long b tied.tie.whole
+  end_right rules.Outstanding asked f polls = ap is_some tied.at
+  end_right x asked f polls = ap (λ o. placed_holds xs unit e o x) tied.at ∙ command_right x asked f polls
 
 -- ---- all of them
 
 pub keeps_rules : (c : Settings) (F : Type 0) (limit : Option ℕ) (x : Rule) (h : History) (aw : List (List ℕ))
-    (held : List Said) → Stated (IsEndOf c F) F h aw held → HostIsRight limit h → is_left_open x ≡ false
-    → (is_of_drives x ≡ true → F) → Keeps x limit h
-keeps_rules c F limit x h aw held s host asked f = keeps_rule (IsEndOf c F) F limit x h aw held s
-    (λ i unit b low is tied. end_right c F (outstanding (take i h)) unit
-    (subst (λ o. IsKnown c o) (sym is) (told i)) b tied x asked f) host
+    (held : List Said) → Stated (IsEndOf c F) F (Unit {0}) h aw held → HostIsRight limit h → is_left_open x ≡ false
+    → (is_of_drives x ≡ true → F)
+    → (is_of_polls x ≡ true → (i : ℕ) → i < length h → IsShownAt (take i h) (moment_at h i)) → Keeps x limit h
+keeps_rules c F limit x h aw held s host asked f shown = keeps_rule (IsEndOf c F) F (Unit {0}) limit x h aw held s
+    (λ h m. is_of_polls x ≡ true → IsShownAt h m) (λ i low polls. shown polls i low)
+    (λ i unit b low is tied more. end_right c F (outstanding (take i h)) unit
+    (subst (λ o. IsKnown c o) (sym is) (told i)) b.items tied x asked f more) host
   where
-    known : (prefix : History) (m : Moment) → IsSeen (IsEndOf c F) F prefix m → IsKnownBy c m
+    known : (prefix : History) (m : Moment) → IsSeen (IsEndOf c F) F (Unit {0}) prefix m → IsKnownBy c m
     known prefix (moments.End via b) is = is.1.tie.known
     known prefix m is = tt
 

@@ -12,7 +12,8 @@ use Rattle.mscp_ported.specs.Told.{Said}
 use Rattle.mscp_ported.proofs.Numbered.{some_none}
 use Rattle.mscp_ported.proofs.Owning.{and_false}
 use Rattle.mscp_logged.proofs.Lined.{all_left, behind, behind_aborts}
-use Rattle.mscp_wire.specs.Wire.{aborts, after_end, answer_by, command_at, hears, place_of, same_connection, sent_by}
+use Rattle.mscp_logged.proofs.Passes.{passes, passes_found}
+use Rattle.mscp_wire.specs.Wire.{aborts, after_end, answer_by, command_at, hears, keeps_back, place_of, same_connection, sent_by}
 use Rattle.mscp_wire.specs.declared.answer.Answer.{Answer}
 use Rattle.mscp_wire.specs.declared.sent.Sent.{Sent}
 use Rattle.mscp_logged.proofs.Wired.{At, IsOwed, Wired, back_of, filter_map, front_of, named, none_front, same_or, stem}
@@ -43,6 +44,8 @@ module _ (Tie : List ℕ → List ℕ → Type 0) (xs : List Sent) (aw : List (L
     pub without : filter (λ x. not (named n x)) xs ≡ others
     pub after : after_end xs answer (Some place) ≡ map (hears (command_at xs place) answer) others
     pub aborted : (m : ℕ) → behind n m xs ≡ true → list_any (aborts (command_at xs place)) (drop (place + 1) xs) ≡ true
+    pub turned : passes (named n) keeps_back xs ≡ false
+        → list_any (keeps_back (command_at xs place)) (take place xs) ≡ false
 
   module _ (front : List Sent) (x : Sent) (back : List Sent) (f : Found (named n) xs front x back) where
     abbrev hear : Sent → Sent
@@ -141,6 +144,12 @@ module _ (Tie : List ℕ → List ℕ → Type 0) (xs : List Sent) (aw : List (L
           ∙ at_front front x back (sent_by First []))
           ∙ behind_aborts n m front x back f.before f.passed
           (ap (behind n m) (sym f.is) ∙ late);
+      turned = λ h. ap (λ zs. list_any (keeps_back (command_at xs (length front))) zs)
+          (ap (take (length front)) f.is ∙ front_of front x back)
+          ∙ ap (λ (y : Sent). list_any (keeps_back y) front) (ap (λ zs. command_at zs (length front)) f.is
+          ∙ at_front front x back (sent_by First []))
+          ∙ passes_found (named n) keeps_back front x back f.before f.passed
+          (ap (passes (named n) keeps_back) (sym f.is) ∙ h);
     }
 
   pub end_leaves : IsAnswered

@@ -19,3 +19,16 @@ pub mod Answered
 pub mod Tied
 pub mod Kept
 pub mod Rows
+pub mod Passes
+pub mod Turns
+pub mod Queueing
+pub mod Clear
+pub mod Fences
+pub mod Ordering
+pub mod Hearing
+pub mod Orderly
+pub mod Polled
+pub mod Heard
+pub mod Figuring
+pub mod Figures
+pub mod Figured

@@ -1,6 +1,7 @@
 -- What is known of a port's log, over a whole list of calls.
 use Rattle.std.proofs.Common.{◌≡◌, ◌≢◌, ◌∙◌, ◌<◌, ◌^◌, ◌&&◌, ◌++◌, ◌∷◌, [], ℕ, Bool, true, false, cond, filter, map, not, List, Option, None, Some, inl, inr, refl, ap, append_assoc, sym, subst, arith}
 use Rattle.std.specs.Prelude.{◌%◌, Ok, flat_map, is_none, is_ok, option_to_list, slice_index}
+use Rattle.std.specs.List.{AllByRecursion}
 use Rattle.std.proofs.lemmas.List.{append-nil}
 use Rattle.mscp_packet.specs.Number.{num}
 use Rattle.mscp_drive.specs.Settings.{IsValid, Settings}
@@ -30,12 +31,14 @@ use Rattle.mscp_wire.specs.declared.moment.Moment.TheVariants as moments
 use Rattle.mscp_logged.specs.Logged.{ends_in, is_foreign, logged, message_of, messages_by, seen_by}
 use Rattle.mscp_logged.specs.Rules.{HostIsRight, is_message}
 use Rattle.mscp_logged.proofs.Own.{IsOwn, answers_so, own_named}
+use Rattle.mscp_logged.proofs.Passes.{keeps, overtakes}
 use Rattle.mscp_logged.proofs.Seen.{is_reset, last_is, no_message, none_held, reads_before, since_dead, since_reset}
 use Rattle.mscp_logged.proofs.Stated.{Stated, answers, as_it_is, begins_end, begins_other, each_at, each_front, left, nothing_stated, right_new, takes}
+use Rattle.mscp_logged.proofs.Turns.{IsApartOr}
 use Rattle.mscp_logged.proofs.Wired.{nothing_wired}
 
 -- a message that the controller takes is for the disks
-taken_disk : {K : Type 0} (call : Call) (old : Port K) (t : List ℕ) → taken_by call old ≡ t ∷ []
+pub taken_disk : {K : Type 0} (call : Call) (old : Port K) (t : List ℕ) → taken_by call old ≡ t ∷ []
     → is_foreign old.task ≡ false
 taken_disk (WasRead bytes (Ok done)) old t e = by old.task refl
   where
@@ -54,11 +57,11 @@ taken_disk (WasRead bytes (Ok done)) old t e = by old.task refl
     by task at = ap is_foreign at
 taken_disk call old t e = absurd (search (arith, e))
 
-small_of : (call : Call) (calls : List Call) (t : List ℕ) (done : Unit) → ReadsBytes (call ∷ calls)
+pub small_of : (call : Call) (calls : List Call) (t : List ℕ) (done : Unit) → ReadsBytes (call ∷ calls)
     → call ≡ WasRead t (Ok done) → (i : ℕ) → slice_index t i < 2 ^ 8
 small_of call calls t done reads is = (subst (λ x. ReadsBytes (x ∷ calls)) is reads).0
 
-module _ {K : Type 0} (Tie : List ℕ → List ℕ → Type 0) (G : Type 0) (picks : Picking K) (c : Settings) (picker : K)
+module _ {K : Type 0} (Tie : List ℕ → List ℕ → Type 0) (G O : Type 0) (picks : Picking K) (c : Settings) (picker : K)
     (ends : PortsEndWhatTheyTook picks picker) (tell : PortsTellInOrder picks) (before : List Made)
     (controller : Holdings K) (hardware : Hardware) (credits : ℕ) (start : Port K) (valid : IsValid c)
     (was : AnsweredCalls (picks picker) (fresh c picker) before controller)
@@ -73,10 +76,18 @@ module _ {K : Type 0} (Tie : List ℕ → List ℕ → Type 0) (G : Type 0) (pic
     → (k : ℕ) × (aborts_behind (num q.out.bytes.items 0 4) k (awaited picks start a.0 calls a.1) ≡ true))
     (late_own : (old : Port K) (text : List ℕ) (o : Outgoing) → IsOwn old text o → o.kind ≡ kinds.End → G
     → num o.bytes.items 10 2 % 32 ≡ 2 → ⊥)
+    (turn_end : (p : Port K) (call : Call) (calls : List Call) → ReadsBytes (call ∷ calls) → Fine (call ∷ calls)
+    → (a : Answered picks start (call ∷ calls) p) → (q : IsEnding (awaited picks start a.0 calls a.1) call a.0 p)
+    → O → IsApartOr q.out.bytes.items
+    (overtakes (num q.out.bytes.items 0 4) (awaited picks start a.0 calls a.1) ≡ false))
+    (turn_own : (p : Port K) (call : Call) (calls : List Call) → ReadsBytes (call ∷ calls) → Fine (call ∷ calls)
+    → (a : Answered picks start (call ∷ calls) p) → (q : IsAnswering call a.0 p) → IsOwn a.0 q.message q.out
+    → q.out.kind ≡ kinds.End → O → IsApartOr q.out.bytes.items
+    (AllByRecursion (λ u. keeps q.message u ≡ false) (awaited picks start a.0 calls a.1)))
     (tie_own : (old : Port K) (text : List ℕ) (o : Outgoing) → ((i : ℕ) → slice_index text i < 2 ^ 8)
     → IsOwn old text o → o.kind ≡ kinds.End → Tie o.bytes.items text) (limit : Option ℕ) where
   abbrev pub State : (p : Port K) (calls : List Call) → Answered picks start calls p → Type 0
-  State p calls a = Stated Tie G (logged picks start p calls a) (awaited picks start p calls a) (held p)
+  State p calls a = Stated Tie G O (logged picks start p calls a) (awaited picks start p calls a) (held p)
 
   -- nothing is held where nothing was said
   nothing_held : (p : Port K) (calls : List Call) → AsksAlways calls → (a : Answered picks start calls p)
@@ -88,8 +99,9 @@ module _ {K : Type 0} (Tie : List ℕ → List ℕ → Type 0) (G : Type 0) (pic
       → said picks start p calls a ≡ [] → logged picks start p calls a ≡ [] → awaited picks start p calls a ≡ []
       → State p calls a
   forgotten p calls asks a none no_moment no_text =
-      as_it_is Tie G [] [] (logged picks start p calls a) (awaited picks start p calls a) [] (held p) no_moment no_text
-      (nothing_held p calls asks a none) (nothing_stated Tie G (nothing_wired Tie [] [] refl refl))
+      as_it_is Tie G O [] [] (logged picks start p calls a) (awaited picks start p calls a) [] (held p) no_moment
+      no_text
+      (nothing_held p calls asks a none) (nothing_stated Tie G O (nothing_wired Tie [] [] refl refl))
 
   module _ (p : Port K) (call : Call) (calls : List Call) (asks : AsksAlways (call ∷ calls))
       (reads : ReadsBytes (call ∷ calls)) (fine : Fine (call ∷ calls)) (a : Answered picks start (call ∷ calls) p)
@@ -136,25 +148,26 @@ module _ {K : Type 0} (Tie : List ℕ → List ℕ → Type 0) (G : Type 0) (pic
 
     -- nothing begins to go out
     calm : (ms : History) (xs : List (List ℕ)) → messages_by call a.0 ≡ ms → begins a.0.outgoing p.outgoing ≡ []
-        → awaited picks start p (call ∷ calls) a ≡ xs → Stated Tie G (h ++ ms) xs (held a.0) → State p (call ∷ calls) a
-    calm ms xs e none f x = as_it_is Tie G ((h ++ ms) ++ gone) xs (logged picks start p (call ∷ calls) a)
+        → awaited picks start p (call ∷ calls) a ≡ xs → Stated Tie G O (h ++ ms) xs (held a.0)
+        → State p (call ∷ calls) a
+    calm ms xs e none f x = as_it_is Tie G O ((h ++ ms) ++ gone) xs (logged picks start p (call ∷ calls) a)
         (awaited picks start p (call ∷ calls) a) (held p) (held p) (log_is ms e) f refl
-        (left Tie G (h ++ ms) xs a.0.outgoing p.outgoing x none (same_held none))
+        (left Tie G O (h ++ ms) xs a.0.outgoing p.outgoing x none (same_held none))
 
     -- or something does
     begun : (ms : History) (xs : List (List ℕ)) (o : Outgoing) → messages_by call a.0 ≡ ms → a.0.outgoing ≡ None
         → p.outgoing ≡ Some o → awaited picks start p (call ∷ calls) a ≡ xs
-        → Stated Tie G (h ++ ms) xs (said_in o ∷ []) → State p (call ∷ calls) a
-    begun ms xs o e nothing some f x = as_it_is Tie G (h ++ ms) xs (logged picks start p (call ∷ calls) a)
+        → Stated Tie G O (h ++ ms) xs (said_in o ∷ []) → State p (call ∷ calls) a
+    begun ms xs o e nothing some f x = as_it_is Tie G O (h ++ ms) xs (logged picks start p (call ∷ calls) a)
         (awaited picks start p (call ∷ calls) a) (said_in o ∷ []) (held p)
         (log_is ms e ∙ ap (λ z. (h ++ ms) ++ flat_map ends_in (leaves z p.outgoing)) nothing ∙ append-nil (h ++ ms)) f
         (ap (λ z. map said_in (option_to_list z)) some) x
 
-    with_none : (xs : List (List ℕ)) (us : List Said) → Stated Tie G h xs us → Stated Tie G (h ++ []) xs us
-    with_none xs us x = as_it_is Tie G h xs (h ++ []) xs us us (append-nil h) refl refl x
+    with_none : (xs : List (List ℕ)) (us : List Said) → Stated Tie G O h xs us → Stated Tie G O (h ++ []) xs us
+    with_none xs us x = as_it_is Tie G O h xs (h ++ []) xs us us (append-nil h) refl refl x
 
-    none_out : a.0.outgoing ≡ None → Stated Tie G h aw []
-    none_out nothing = as_it_is Tie G h aw h aw (held a.0) [] refl refl
+    none_out : a.0.outgoing ≡ None → Stated Tie G O h aw []
+    none_out nothing = as_it_is Tie G O h aw h aw (held a.0) [] refl refl
         (sym (ap (λ z. map said_in (option_to_list z)) nothing)) s
 
     none_by : accepted_by call a.0 ≡ [] → messages_by call a.0 ≡ []
@@ -163,8 +176,9 @@ module _ {K : Type 0} (Tie : List ℕ → List ℕ → Type 0) (G : Type 0) (pic
     ending : IsEnding aw call a.0 p → State p (call ∷ calls) a
     ending q = begun [] (filter (λ t. not (has_number (num q.out.bytes.items 0 4) t)) aw) q.out (none_by q.accepted)
         q.nothing q.begun (awaited_is (q.out.bytes.items ∷ []) [] q.ended q.taken ∙ append-nil _)
-        (with_none _ (said_in q.out ∷ []) (begins_end Tie G h aw (said_in q.out) q.message (none_out q.nothing) q.only
-        (tie_end p call calls reads fine a q) q.kind (late_end p call calls reads fine a q)))
+        (with_none _ (said_in q.out ∷ []) (begins_end Tie G O h aw (said_in q.out) q.message (none_out q.nothing) q.only
+        (tie_end p call calls reads fine a q) q.kind (late_end p call calls reads fine a q)
+        (turn_end p call calls reads fine a q)))
 
     taking : IsTaking call a.0 p → State p (call ∷ calls) a
     taking q =
@@ -173,7 +187,7 @@ module _ {K : Type 0} (Tie : List ℕ → List ℕ → Type 0) (G : Type 0) (pic
         ap (λ b. cond b [] (map message_of (accepted_by call a.0))) disk ∙ ap (map message_of) q.accepted in
         calm (message_of q.message ∷ []) (aw ++ q.message ∷ []) shown q.begun
         (awaited_is [] (q.message ∷ []) q.ended q.taken)
-        (takes Tie G h aw (held a.0) q.message s (is_new_now q.message shown))
+        (takes Tie G O h aw (held a.0) q.message s (is_new_now q.message shown))
 
     answering : (q : IsAnswering call a.0 p) → State p (call ∷ calls) a
     answering q = by own.foreign own.task own.kind
@@ -190,21 +204,21 @@ module _ {K : Type 0} (Tie : List ℕ → List ℕ → Type 0) (G : Type 0) (pic
         by : (foreign : Bool) → is_foreign a.0.task ≡ foreign → q.out.kind ≡ end_kind foreign → State p (call ∷ calls) a
         by true task kind = begun [] aw q.out (ap (λ b. cond b [] (map message_of (accepted_by call a.0))) task)
             q.nothing q.begun still (with_none aw (said_in q.out ∷ [])
-            (begins_other Tie G h aw (said_in q.out) (none_out q.nothing) (λ e. search (arith, sym kind ∙ e))))
+            (begins_other Tie G O h aw (said_in q.out) (none_out q.nothing) (λ e. search (arith, sym kind ∙ e))))
         by false task kind =
             let shown : messages_by call a.0 ≡ message_of q.message ∷ [] =
             ap (λ b. cond b [] (map message_of (accepted_by call a.0))) task ∙ ap (map message_of) q.accepted in
             begun (message_of q.message ∷ []) aw q.out shown q.nothing q.begun still
-            (answers Tie G h aw (said_in q.out) q.message (none_out q.nothing) (is_new_now q.message shown)
+            (answers Tie G O h aw (said_in q.out) q.message (none_out q.nothing) (is_new_now q.message shown)
             (own_named a.0 q.message q.out own small) (tie_own a.0 q.message q.out small own kind) kind
-            (late_own a.0 q.message q.out own kind))
+            (late_own a.0 q.message q.out own kind) (turn_own p call calls reads fine a q own kind))
 
     pub deals_so : Deals aw call a.0 p → State p (call ∷ calls) a
     deals_so (inl q) = calm [] aw (none_by q.accepted) q.begun (awaited_is [] [] q.ended q.taken ∙ append-nil aw)
         (with_none aw (held a.0) s)
     deals_so (inr (inl q)) = begun [] aw q.out (none_by q.accepted) q.nothing q.begun
         (awaited_is [] [] q.ended q.taken ∙ append-nil aw) (with_none aw (said_in q.out ∷ [])
-        (begins_other Tie G h aw (said_in q.out) (none_out q.nothing) (λ e. search (arith, sym q.kind ∙ e))))
+        (begins_other Tie G O h aw (said_in q.out) (none_out q.nothing) (λ e. search (arith, sym q.kind ∙ e))))
     deals_so (inr (inr (inl q))) = ending q
     deals_so (inr (inr (inr (inl q)))) = taking q
     deals_so (inr (inr (inr (inr q)))) = answering q

@@ -1,5 +1,5 @@
 -- What begins to go out as a port answers a message itself.
-use Rattle.std.proofs.Common.{◌≡◌, ◌≤◌, ◌∙◌, ℕ, Bool, true, false, length, List, Option, None, Some, IsSomeAnd, inl, inr, refl, ap, sym, subst, arith}
+use Rattle.std.proofs.Common.{◌≡◌, ◌≤◌, ◌∙◌, ◌∷◌, [], ℕ, Bool, true, false, length, List, Option, None, Some, IsSomeAnd, inl, inr, refl, ap, sym, subst, arith}
 use Rattle.std.specs.Prelude.{Ok, slice_index, ◌<◌, ◌^◌}
 use Rattle.std.proofs.lemmas.Option.{none-some}
 use Rattle.mscp_packet.specs.Ends.{end_bytes}
@@ -10,15 +10,19 @@ use Rattle.mscp_port.specs.declared.port.OutgoingKind.TheVariants as kinds
 use Rattle.mscp_port.specs.declared.port.Port.{Port}
 use Rattle.mscp_port.specs.declared.slot.Descriptor.{Descriptor}
 use Rattle.mscp_port.specs.declared.task.Task.TheVariants as tasks
-use Rattle.mscp_port.specs.Calls.{Hears}
-use Rattle.mscp_port.specs.Histories.{Becomes, Call, Picking, WasRead}
+use Rattle.mscp_controller.specs.Holdings.{Holdings}
+use Rattle.mscp_port.specs.Calls.{Hears, IsMadeOf}
+use Rattle.mscp_port.specs.declared.hardware.Hardware.{Hardware}
+use Rattle.mscp_port.specs.Histories.{Answered, Becomes, Call, Picking, WasRead}
 use Rattle.mscp_port.specs.Messages.{own_end_of}
 use Rattle.mscp_port.specs.Outgoings.{AnswersItself}
 use Rattle.mscp_port.specs.Packets.{end_kind}
 use Rattle.mscp_ported.specs.Answers.{Own, own_answer, own_text, volume_named}
 use Rattle.mscp_ported.specs.Awaited.{IsAnswering, IsWhole}
 use Rattle.mscp_ported.proofs.Answering.{own_so}
+use Rattle.mscp_ported.proofs.Coming.{ends_of}
 use Rattle.mscp_ported.proofs.Ended.{bytes_small}
+use Rattle.mscp_ported.proofs.Silent.{none_waits}
 use Rattle.mscp_ported.proofs.Itself.{own_number, own_whole}
 use Rattle.mscp_logged.specs.Logged.{is_foreign}
 
@@ -74,6 +78,19 @@ answers_so picks (WasRead bytes (Ok done)) old new r d =
     bytes_read : (b m : List ℕ) (u : Unit) → WasRead bytes (Ok done) ≡ WasRead m (Ok u) → bytes ≡ m
     bytes_read b m u e = ap text_of e
 answers_so picks call old new r d = absurd (search (arith, d.read.1))
+
+-- while it is made no end of the controller's waits
+pub none_left : {K : Type 0} (picks : Picking K) (hardware : Hardware) (credits : ℕ) (controller : Holdings K)
+    (start : Port K) → IsMadeOf hardware credits controller start → (p : Port K) (call : Call) (calls : List Call)
+    → (a : Answered picks start (call ∷ calls) p) → IsAnswering call a.0 p → ends_of a.0.controller ≡ []
+none_left picks hardware credits controller start made p (WasRead bytes (Ok done)) calls a d = elim a.2.out [
+  | inl same ↦ absurd (none-some d.out (sym (same ∙ d.nothing) ∙ d.begun))
+  | inr more ↦ elim more [
+    | inl t ↦ none_waits picks hardware credits controller start made a.0 calls a.1 t.0 t.1 t.2 t.3 d.nothing
+    | inr dead ↦ absurd (none-some d.out (sym dead.1.outgoing ∙ d.begun))
+  ]
+]
+none_left picks hardware credits controller start made p call calls a d = absurd (search (arith, d.read.1))
 
 module _ {K : Type 0} (old : Port K) (text : List ℕ) (o : Outgoing) (is : IsOwn old text o) where
   pub own_named : ((i : ℕ) → slice_index text i < 2 ^ 8) → num o.bytes.items 0 4 ≡ num text 0 4

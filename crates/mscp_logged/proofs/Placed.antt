@@ -1,5 +1,6 @@
 -- Which rules all ends of a port's log keep, by the command that each answers and its tie to that.
 use Rattle.std.proofs.Common.{◌≡◌, ◌∙◌, ◌<◌, ℕ, true, length, take, List, Option, None, Some, refl, sym, subst}
+use Rattle.arrayvec.specs.ArrayVec.{ArrayVec}
 use Rattle.mscp_drive.specs.declared.connection.Connection.TheVariants.{First}
 use Rattle.mscp_port.proofs.Common.{false≢true}
 use Rattle.mscp_ported.specs.Told.{Said}
@@ -13,22 +14,26 @@ use Rattle.mscp_logged.proofs.Breaking.{end_holds, moment_fails, none_never, see
 use Rattle.mscp_logged.proofs.Stated.{IsSeen, IsTied, Stated}
 
 -- where the host's messages are right, a rule is kept that holds of each end with such a tie
-pub keeps_rule : (Tie : List ℕ → List ℕ → Type 0) (G : Type 0) (limit : Option ℕ) (x : Rule) (h : History)
-    (aw : List (List ℕ)) (held : List Said) → Stated Tie G h aw held
-    → ((i : ℕ) (unit : Seen) (b : List ℕ) → i < length h → unit.controller ≡ controller (take i h)
-    → IsTied Tie G (outstanding (take i h)) b → end_holds (outstanding (take i h)) unit First b x ≡ true)
+pub keeps_rule : (Tie : List ℕ → List ℕ → Type 0) (G O : Type 0) (limit : Option ℕ) (x : Rule) (h : History)
+    (aw : List (List ℕ)) (held : List Said) → Stated Tie G O h aw held
+    → (More : History → Moment → Type 0) → ((i : ℕ) → i < length h → More (take i h) (moment_at h i))
+    → ((i : ℕ) (unit : Seen) (b : ArrayVec ℕ) → i < length h → unit.controller ≡ controller (take i h)
+    → IsTied Tie G O (outstanding (take i h)) b.items → More (take i h) (moments.End First b)
+    → end_holds (outstanding (take i h)) unit First b.items x ≡ true)
     → HostIsRight limit h → Keeps x limit h
-keeps_rule Tie G limit x h aw held s ends host i low = by (moment_at h i) (s.each i low) (host i low)
+keeps_rule Tie G O limit x h aw held s More more ends host i low =
+    by (moment_at h i) (s.each i low) (more i low) (host i low)
   where
-    by : (m : Moment) → IsSeen Tie G (take i h) m → (is_message m ≡ true → broken_by limit (take i h) m ≡ None)
+    by : (m : Moment) → IsSeen Tie G O (take i h) m → More (take i h) m
+        → (is_message m ≡ true → broken_by limit (take i h) m ≡ None)
         → broken_by limit (take i h) m ≡ Some x → ⊥
-    by (moments.Message via b time) is right e = none_never x (sym (right refl) ∙ e)
-    by (moments.End via b) is right e =
+    by (moments.Message via b time) is m right e = none_never x (sym (right refl) ∙ e)
+    by (moments.End via b) is m right e =
         let unit = seen_at (take i h) (moments.End via b) in
         false≢true (sym (moment_fails (outstanding (take i h)) unit limit (moments.End via b) x e)
         ∙ subst (λ v. end_holds (outstanding (take i h)) unit v b.items x ≡ true) (sym is.0)
-        (ends i unit b.items low refl is.1))
-    by m is right e = none_never x e
+        (ends i unit b low refl is.1 (subst (λ v. More (take i h) (moments.End v b)) is.0 m)))
+    by m is y right e = none_never x e
 
 abbrev pub Any : List ℕ → List ℕ → Type 0
 Any text message = Unit {0}

@@ -15,9 +15,9 @@ use Rattle.mscp_ported.specs.Told.{Said, said_in}
 use Rattle.mscp_ported.proofs.Behind.{aborts_behind}
 use Rattle.mscp_ported.proofs.Numbered.{some_none}
 use Rattle.mscp_port.proofs.Common.{eq-eqb, eqb-true}
-use Rattle.std.specs.List.{list_any}
+use Rattle.std.specs.List.{AllByRecursion, list_any}
 use Rattle.std.proofs.lemmas.List.Elements.{filter-append}
-use Rattle.mscp_wire.specs.Wire.{aborts, History, IsRight, answer_by, broken_message, command_at, controller, is_new, moment_at, outstanding, place_of, seen_of, sent_by, told, unless}
+use Rattle.mscp_wire.specs.Wire.{aborts, History, IsRight, answer_by, broken_message, command_at, controller, is_new, moment_at, outstanding, passes_none, place_of, seen_of, sent_by, told, unless}
 use Rattle.mscp_wire.specs.declared.moment.Moment.{Moment}
 use Rattle.mscp_wire.specs.declared.moment.Moment.TheVariants as moments
 use Rattle.mscp_wire.specs.declared.rule.Rule.{Rule}
@@ -26,7 +26,9 @@ use Rattle.mscp_wire.specs.declared.sent.Sent.{Sent}
 use Rattle.mscp_logged.specs.Logged.{end_of, ends_in, message_of}
 use Rattle.mscp_logged.proofs.Left.{at_front, end_leaves}
 use Rattle.mscp_logged.proofs.Lined.{AreLate, AreLined, all_left, late_more, left_by, lined_behind, lined_left, lined_map, lined_more, without_held}
+use Rattle.mscp_logged.proofs.Passes.{keeps, overtakes}
 use Rattle.mscp_logged.proofs.Seen.{begun_none}
+use Rattle.mscp_logged.proofs.Turns.{AreTurned, IsApartOr, turn_lined, turn_more, turn_new, turn_passes}
 use Rattle.mscp_logged.proofs.Wired.{AreOwed, Wired, end_begins, front_of, message_answered, message_taken, named, none_any, outstanding_more, stem}
 
 -- ---- each moment behind those before it
@@ -59,7 +61,7 @@ right_new credits h t e = by (Rattle.mscp_wire.specs.Wire.is_message t) e
     by true x = new (is_new (outstanding h) (sent_by First t)) _ x
     by false x = search (arith, x)
 
-new_none : (xs : List Sent) (t : List ℕ) → is_new xs (sent_by First t) ≡ true
+pub new_none : (xs : List Sent) (t : List ℕ) → is_new xs (sent_by First t) ≡ true
     → filter (named (num t 0 4)) xs ≡ []
 new_none xs t e = none_any (named (num t 0 4)) xs (isnt _ e)
   where
@@ -72,7 +74,7 @@ none_left_by kinds.Attention n xs never = refl
 none_left_by kinds.UtilitiesEnd n xs never = refl
 none_left_by kinds.End n xs never = absurd (never refl)
 
-module _ (Tie : List ℕ → List ℕ → Type 0) (G : Type 0) where
+module _ (Tie : List ℕ → List ℕ → Type 0) (G O : Type 0) where
   -- an end answers the command of a message at a place, and has its tie to that
   pub record IsTied (xs : List Sent) (text : List ℕ) : Type 0 where
     pub place : ℕ
@@ -81,6 +83,7 @@ module _ (Tie : List ℕ → List ℕ → Type 0) (G : Type 0) where
     pub command : stem (command_at xs place) ≡ sent_by First message
     pub tie : Tie text message
     pub abort : G → num text 10 2 % 32 ≡ 2 → list_any (aborts (command_at xs place)) (drop (place + 1) xs) ≡ true
+    pub order : O → passes_none (take place xs) (command_at xs place) (answer_by First text) ≡ true
 
   abbrev pub IsSeen : History → Moment → Type 0
   IsSeen h (moments.Message via b time) = Unit {0}
@@ -92,9 +95,11 @@ module _ (Tie : List ℕ → List ℕ → Type 0) (G : Type 0) where
     pub wired : Wired Tie (outstanding h) aw held
     pub lined : AreLined (without_held held (outstanding h)) aw
     pub late : AreLate G (outstanding h) held
+    pub turned : AreTurned O (outstanding h) held
 
   pub nothing_stated : Wired Tie [] [] [] → Stated [] [] []
-  nothing_stated w = record { each = λ i low. search (arith, low); wired = w; lined = tt; late = tt }
+  nothing_stated w =
+      record { each = λ i low. search (arith, low); wired = w; lined = tt; late = tt; turned = tt }
 
   module _ (h : History) (aw : List (List ℕ)) where
     pub as_it_is : (h' : History) (aw' : List (List ℕ)) (held held' : List Said) → h' ≡ h → aw' ≡ aw → held' ≡ held
@@ -113,6 +118,8 @@ module _ (Tie : List ℕ → List ℕ → Type 0) (G : Type 0) where
           (by held s.wired.owed s.lined _ refl);
       late = subst (λ xs. AreLate G xs held) (sym (outstanding_more h (message_of t)))
           (late_more G (outstanding h) _ held s.late);
+      turned = subst (λ xs. AreTurned O xs held) (sym (outstanding_more h (message_of t)))
+          (turned_by held s.wired.owed s.turned _ refl);
     }
       where
         xs : List Sent
@@ -140,16 +147,28 @@ module _ (Tie : List ℕ → List ℕ → Type 0) (G : Type 0) where
         by (o ∷ held) owed all x is = beside o.kind (num o.text 0 4) (λ kind. let own = owed.0 kind in
             apart (num o.text 0 4) own.own own.sole (nat_eq (num t 0 4) (num o.text 0 4)) refl) x is all
 
+        turned_by : (held : List Said) → AreOwed Tie xs aw held → AreTurned O xs held → (x : Sent)
+            → stem x ≡ sent_by First t → AreTurned O (xs ++ x ∷ []) held
+        turned_by [] owed all x is = tt
+        turned_by (o ∷ held) owed all x is = (
+          (λ kind g. let own = owed.0 kind in turn_more xs o.text x (ap (named (num o.text 0 4)) is
+              ∙ apart (num o.text 0 4) own.own own.sole (nat_eq (num t 0 4) (num o.text 0 4)) refl) (all.0 kind g)),
+          turned_by held owed.1 all.1 x is,
+        )
+
     pub answers : (o : Said) (t : List ℕ) → Stated h aw [] → is_new (outstanding h) (sent_by First t) ≡ true
         → num o.text 0 4 ≡ num t 0 4 → Tie o.text t → o.kind ≡ kinds.End → (G → num o.text 10 2 % 32 ≡ 2 → ⊥)
+        → (O → IsApartOr o.text (AllByRecursion (λ u. keeps t u ≡ false) aw))
         → Stated (h ++ message_of t ∷ []) aw (o ∷ [])
-    answers o t s new same tie kind never = record {
+    answers o t s new same tie kind never free = record {
       each = each_push moments.Reset IsSeen h (message_of t) s.each tt;
       wired = subst (λ xs. Wired Tie xs aw (o ∷ [])) (sym (outstanding_more h (message_of t)))
           (message_answered Tie (outstanding h) aw t _ refl (new_none (outstanding h) t new) o s.wired same tie);
       lined = subst (λ xs. AreLined (left_by o.kind (num o.text 0 4) xs) aw) (sym (outstanding_more h (message_of t)))
           (here _ refl);
       late = ((λ kind g aborted. absurd (never g aborted)), tt);
+      turned = subst (λ xs. AreTurned O xs (o ∷ [])) (sym (outstanding_more h (message_of t)))
+          ((λ kind g. turn_new (outstanding h) aw o.text t _ refl none s.lined (free g)), tt);
     }
       where
         xs : List Sent
@@ -175,8 +194,9 @@ module _ (Tie : List ℕ → List ℕ → Type 0) (G : Type 0) where
     pub begins_end : (o : Said) (m : List ℕ) → Stated h aw [] → filter (has_number (num o.text 0 4)) aw ≡ m ∷ []
         → Tie o.text m → o.kind ≡ kinds.End
         → (G → num o.text 10 2 % 32 ≡ 2 → (k : ℕ) × (aborts_behind (num o.text 0 4) k aw ≡ true))
+        → (O → IsApartOr o.text (overtakes (num o.text 0 4) aw ≡ false))
         → Stated h (filter (λ t. not (has_number (num o.text 0 4) t)) aw) (o ∷ [])
-    begins_end o m s only tie kind late = record {
+    begins_end o m s only tie kind late turn = record {
       each = s.each;
       wired = end_begins Tie (outstanding h) aw o m s.wired only tie;
       lined = subst (λ k. AreLined (left_by k (num o.text 0 4) (outstanding h))
@@ -187,6 +207,7 @@ module _ (Tie : List ℕ → List ℕ → Type 0) (G : Type 0) where
             (z.0, lined_behind (num o.text 0 4) z.0 (outstanding h) aw s.lined z.1)),
         tt,
       );
+      turned = ((λ kind g. turn_lined (outstanding h) aw o.text s.lined (turn g)), tt);
     }
 
     pub begins_other : (o : Said) → Stated h aw [] → (o.kind ≡ kinds.End → ⊥) → Stated h aw (o ∷ [])
@@ -195,6 +216,7 @@ module _ (Tie : List ℕ → List ℕ → Type 0) (G : Type 0) where
       wired = record { each = s.wired.each; owed = ((λ kind. absurd (never kind)), tt) };
       lined = subst (λ xs. AreLined xs aw) (sym (none_left_by o.kind (num o.text 0 4) (outstanding h) never)) s.lined;
       late = ((λ kind. absurd (never kind)), tt);
+      turned = ((λ kind. absurd (never kind)), tt);
     }
 
     -- an end leaves
@@ -212,6 +234,7 @@ module _ (Tie : List ℕ → List ℕ → Type 0) (G : Type 0) where
               command = x.command;
               tie = owed.tie;
               abort = λ g aborted. let z = s.late.0 kind g aborted in x.aborted z.0 z.1;
+              order = λ g. turn_passes (outstanding h) x.place o.text x.turned (s.turned.0 kind g);
             },
           );
           wired = subst (λ xs. Wired Tie xs aw []) (sym (outstanding_more h (end_of o.text)
@@ -221,6 +244,7 @@ module _ (Tie : List ℕ → List ℕ → Type 0) (G : Type 0) where
               (lined_map _ (λ y. refl) x.others aw (subst (λ zs. AreLined zs aw) x.without
               (subst (λ k. AreLined (left_by k (num o.text 0 4) (outstanding h)) aw) kind s.lined)));
           late = tt;
+          turned = tt;
         }
 
     pub leaves_other : (o : Said) → Stated h aw (o ∷ []) → (o.kind ≡ kinds.End → ⊥) → Stated h aw []
@@ -229,6 +253,7 @@ module _ (Tie : List ℕ → List ℕ → Type 0) (G : Type 0) where
       wired = record { each = s.wired.each; owed = tt };
       lined = subst (λ xs. AreLined xs aw) (none_left_by o.kind (num o.text 0 4) (outstanding h) never) s.lined;
       late = tt;
+      turned = tt;
     }
 
     -- what goes out stays so, or leaves

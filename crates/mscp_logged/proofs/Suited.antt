@@ -322,20 +322,20 @@ module _ {K : Type 0} (c : Settings) (Told : Verdict → Record → Type 0) (old
 
   -- ---- whether it says that its command was aborted
 
-  status_low : num text 10 2 % 32 ≡ 2 → d.status % 32 ≡ 2
-  status_low h = by (ends_formality d.code) refl
+  pub status_bits : d.status % 32 ≡ num text 10 2 % 32
+  status_bits = by (ends_formality d.code) refl
     where
-      by : (b : Bool) → ends_formality d.code ≡ b → d.status % 32 ≡ 2
-      by true is = sym (low_bits d.status) ∙ ap (λ x. num x 10 2 % 32) (text_is true is) ∙ h
+      by : (b : Bool) → ends_formality d.code ≡ b → d.status % 32 ≡ num text 10 2 % 32
+      by true is = sym (low_bits d.status) ∙ ap (λ x. num x 10 2 % 32) (text_is true is)
       by false is = sym (low_bits d.status)
           ∙ ap (λ n. n % 32) (sym (body_bits e.body e d o old.hardware))
-          ∙ ap (λ x. num x 10 2 % 32) (text_is false is) ∙ h
+          ∙ ap (λ x. num x 10 2 % 32) (text_is false is)
 
   pub says_aborted : num text 10 2 % 32 ≡ 2 → e.status % 32 ≡ 2
   says_aborted h = by s.fits.made
     where
       so : (verdict : Verdict) → IsToldSo verdict l → e.status % 32 ≡ 2
-      so verdict x = told_two verdict d.code e.status x.0 (ap (λ n. n % 32) (sym x.1) ∙ status_low h)
+      so verdict x = told_two verdict d.code e.status x.0 (ap (λ n. n % 32) (sym x.1) ∙ status_bits ∙ h)
 
       by : IsMade c Told l t → e.status % 32 ≡ 2
       by (inl x) = so (verdicts.Served blocks.Good) x.told

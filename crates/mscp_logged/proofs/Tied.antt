@@ -1,6 +1,7 @@
 -- What ties each end of a port's log to the command that it answers.
-use Rattle.std.proofs.Common.{◌≡◌, ◌∙◌, ◌∷◌, ◌<◌, ◌^◌, [], ℕ, All, Bool, true, drop, List, None, Option, Some, inl, inr, refl, ap, arith, sym, subst}
+use Rattle.std.proofs.Common.{◌≡◌, ◌⊎◌, ◌∙◌, ◌∷◌, ◌<◌, ◌^◌, [], ℕ, All, Bool, true, false, drop, List, None, Option, Some, inl, inr, refl, ap, arith, sym, subst}
 use Rattle.std.specs.Prelude.{◌%◌, Ok, find, slice_index}
+use Rattle.std.specs.List.{AllByRecursion}
 use Rattle.mscp_drive.specs.Settings.{IsValid, Settings}
 use Rattle.mscp_drive.specs.declared.connection.Connection.TheVariants.{First}
 use Rattle.mscp_queue.specs.Records.{Record, has_name}
@@ -17,7 +18,7 @@ use Rattle.mscp_port.specs.declared.port.OutgoingKind.TheVariants as kinds
 use Rattle.mscp_port.specs.declared.port.Port.{Port}
 use Rattle.mscp_port.specs.declared.verdict.Verdict.{Verdict}
 use Rattle.mscp_ported.specs.Answers.{own_answer, volume_named}
-use Rattle.mscp_ported.specs.Awaited.{IsEnding, IsWhole, ReadsBytes, awaited}
+use Rattle.mscp_ported.specs.Awaited.{IsAnswering, IsEnding, IsWhole, ReadsBytes, awaited}
 use Rattle.mscp_packet.specs.Commands.{command_of}
 use Rattle.mscp_packet.specs.Number.{num}
 use Rattle.mscp_packet.specs.declared.command.Order.{Order}
@@ -32,7 +33,7 @@ use Rattle.mscp_ported.proofs.Behind.{aborts_behind}
 use Rattle.mscp_ported.proofs.Coming.{ends_of}
 use Rattle.mscp_ported.proofs.Followed.{IsFollowed, IsReply, IsStepped}
 use Rattle.mscp_ported.proofs.Itself.{IsPast, own_cases, own_refused}
-use Rattle.mscp_wire.specs.Wire.{sent_by}
+use Rattle.mscp_wire.specs.Wire.{is_apart, sent_by}
 use Rattle.mscp_shown.proofs.Saying.{sent_says}
 use Rattle.mscp_shown.proofs.Suiting.{IsFault, refused_apart}
 use Rattle.mscp_logged.proofs.Made.{given_is}
@@ -50,8 +51,12 @@ use Rattle.mscp_logged.specs.Rules.{TellsFaults}
 use Rattle.mscp_logged.proofs.Answered.{own_suited}
 use Rattle.mscp_logged.proofs.Coded.{own_fits}
 use Rattle.mscp_logged.proofs.Faults.{IsToldOf, told_fine}
-use Rattle.mscp_logged.proofs.Own.{IsOwn, of_disk, own_is_whole}
-use Rattle.mscp_logged.proofs.Suited.{IsKnown, IsSuited, said_suited, says_aborted, tells_known}
+use Rattle.mscp_logged.proofs.Orderly.{ends_clear, own_clear}
+use Rattle.mscp_logged.proofs.Own.{IsOwn, none_left, of_disk, own_is_whole}
+use Rattle.mscp_logged.proofs.Passes.{keeps as keeps_waiting, overtakes}
+use Rattle.mscp_logged.proofs.Seen.{reads_before}
+use Rattle.mscp_logged.proofs.Suited.{IsKnown, IsSuited, said_suited, says_aborted, status_bits, tells_known}
+use Rattle.mscp_logged.proofs.Turns.{IsApartOr}
 
 -- an end is whole, and fits its message; if drives tell what they may (F), by its status and its bytes too
 pub record IsEndOf (c : Settings) (F : Type 0) (text message : List ℕ) : Type 0 where
@@ -214,6 +219,38 @@ module _ {K : Type 0} (picks : Picking K) (c : Settings) (picker : K)
           b.number,
           ap (λ n. aborts_behind n b.number (awaited picks start a.0 calls a.1)) s.named ∙ b.message,
         )
+
+    -- it passes no message that it has to wait for, if it may not come at once
+    pub turn_of : (p : Port K) (call : Call) (calls : List Call) → ReadsBytes (call ∷ calls)
+        → IsFineUntil F (call ∷ calls) → (a : Answered picks start (call ∷ calls) p)
+        → (q : IsEnding (awaited picks start a.0 calls a.1) call a.0 p) → Unit {0} → IsApartOr q.out.bytes.items
+        (overtakes (num q.out.bytes.items 0 4) (awaited picks start a.0 calls a.1) ≡ false)
+    turn_of p call calls reads fine a q g = by (ends_clear picks c picker keeps valid sizes before hardware credits
+        controller start was made quiet p call calls q.out.bytes.items reads a q.ended s.decided s.first)
+      where
+        s : IsSaid c (ToldIf F) a.0 (awaited picks start a.0 calls a.1) q.out.bytes.items q.message
+        s = said_of p call calls reads fine a q
+
+        by : (is_apart (s.decided.status % 32) ≡ true)
+            ⊎ (overtakes (num q.out.bytes.items 0 4) (awaited picks start a.0 calls a.1) ≡ false)
+            → IsApartOr q.out.bytes.items
+            (overtakes (num q.out.bytes.items 0 4) (awaited picks start a.0 calls a.1) ≡ false)
+        by (inl apart) = inl (subst (λ n. is_apart n ≡ true) (status_bits c (ToldIf F) a.0
+            (awaited picks start a.0 calls a.1) q.out.bytes.items q.message s) apart)
+        by (inr free) = inr free
+
+    -- nor does one of the port's own
+    pub own_turn : (p : Port K) (call : Call) (calls : List Call) → ReadsBytes (call ∷ calls)
+        → IsFineUntil F (call ∷ calls) → (a : Answered picks start (call ∷ calls) p) → (q : IsAnswering call a.0 p)
+        → IsOwn a.0 q.message q.out → q.out.kind ≡ kinds.End → Unit {0} → IsApartOr q.out.bytes.items
+        (AllByRecursion (λ u. keeps_waiting q.message u ≡ false) (awaited picks start a.0 calls a.1))
+    own_turn p call calls reads fine a q own kind g = subst (λ b. IsApartOr b
+        (AllByRecursion (λ u. keeps_waiting q.message u ≡ false) (awaited picks start a.0 calls a.1))) (sym own.own.2)
+        (own_clear picks c picker keeps valid sizes before hardware credits controller start was made quiet a.0 calls
+        (reads_before call calls reads) a.1 (none_left picks hardware credits controller start made p call calls a q)
+        q.message own.own.0
+        (ap (λ f. own_answer f (volume_named a.0 q.message) q.message) (sym (of_disk a.0 q.message q.out own kind))
+        ∙ own.own.1))
 
 -- ---- one of the port's own
 

@@ -10,6 +10,7 @@ use Rattle.mscp_port.specs.declared.hardware.Hardware.{Hardware}
 use Rattle.mscp_port.specs.declared.port.Port.{Port}
 use Rattle.mscp_port.specs.Calls.{IsMadeOf}
 use Rattle.mscp_port.specs.Histories.{Answered, Call, Picking, Went}
+use Rattle.mscp_ported.specs.Asking.{AsksForBlocks}
 use Rattle.mscp_ported.specs.Awaited.{ReadsBytes}
 use Rattle.mscp_ported.specs.Talk.{AsksAlways}
 use Rattle.mscp_wire.specs.Wire.{History, IsRight, broken_by, moment_at}
@@ -66,10 +67,8 @@ abbrev pub PortsAnswerWhatIsOutstanding : {K : Type 0} → Picking K → K → T
 PortsAnswerWhatIsOutstanding picks picker =
     OfLogs picks picker (λ c calls h. (limit : Option ℕ) → HostIsRight limit h → Keeps rules.Outstanding limit h)
 
--- a rule of which nothing is said here: of order and figures, and of what is told of units
+-- a rule of which nothing is said here: of what is told of units
 abbrev pub is_left_open : Rule → Bool
-is_left_open rules.Order = true
-is_left_open rules.Figure = true
 is_left_open rules.Identity = true
 is_left_open rules.State = true
 is_left_open rule = false
@@ -81,9 +80,16 @@ is_of_drives rules.Aborted = true
 is_of_drives rules.Count = true
 is_of_drives rule = false
 
+-- and one that hangs on steps: a figure falls by them alone
+abbrev pub is_of_polls : Rule → Bool
+is_of_polls rules.Figure = true
+is_of_polls rule = false
+
 -- the law of the other rules: while the host's messages are right, and if no unit is without a block, no moment breaks
--- one of them; for those that hang on drives, if what is told of blocks that failed is what these may tell
-abbrev pub PortsKeepThirteenRules : {K : Type 0} → Picking K → K → Type 0
-PortsKeepThirteenRules picks picker = OfLogs picks picker (λ c calls h. (limit : Option ℕ) (rule : Rule)
+-- one of them; for those that hang on drives, if what is told of blocks that failed is what these may tell; and for the
+-- one that hangs on steps, if blocks are asked for each time that it is asked what is wanted
+abbrev pub PortsKeepFifteenRules : {K : Type 0} → Picking K → K → Type 0
+PortsKeepFifteenRules picks picker = OfLogs picks picker (λ c calls h. (limit : Option ℕ) (rule : Rule)
     → All (λ unit. 0 < unit.size) c.units → HostIsRight limit h → is_left_open rule ≡ false
-    → (is_of_drives rule ≡ true → TellsFaults calls) → Keeps rule limit h)
+    → (is_of_drives rule ≡ true → TellsFaults calls) → (is_of_polls rule ≡ true → AsksForBlocks calls)
+    → Keeps rule limit h)

@@ -1,9 +1,12 @@
 // What is true of all that a port's log shows.
 
-ghost use Rattle.mscp_logged.specs.Rules.{PortsAnswerWhatIsOutstanding, PortsKeepThirteenRules, PortsSendLongEnds};
+ghost use Rattle.mscp_logged.specs.Rules.{PortsAnswerWhatIsOutstanding, PortsKeepFifteenRules, PortsSendLongEnds};
 
 use mscp_controller::controllers_keep_the_promise;
-use mscp_ported::{ports_end_what_they_took, ports_tell_in_order};
+use mscp_ported::{
+    ports_end_what_they_took, ports_hold_what_is_awaited, ports_lower_figures, ports_pass_ends_on,
+    ports_serve_who_asks_for_blocks, ports_tell_in_order,
+};
 use mscp_queue::Picker;
 
 /// A port was made over a controller that had nothing of its host's. Whoever calls the port tells of actions only after they were
@@ -26,12 +29,17 @@ pub fn ports_answer_what_is_outstanding<K: Picker>(picker: &K)
 }
 
 /// Of such a port, whose units have blocks: while its host's messages are right, no moment of the log breaks a rule of
-/// `mscp_wire`, but for the four of which nothing is said here: `Order`, `Figure`, `Identity` and `State`. `Status`, `Aborted` and
-/// `Count` are kept if what the port is told of blocks that failed has a code from 5 to 11, as what a drive or a medium has.
-pub fn ports_keep_thirteen_rules<K: Picker>(picker: &K)
-    ensures { PortsKeepThirteenRules K.picks picker.now }
+/// `mscp_wire`, but for the two of which nothing is said here: `Identity` and `State`. `Status`, `Aborted` and `Count` are kept if
+/// what the port is told of blocks that failed has a code from 5 to 11, as what a drive or a medium has; and `Figure` if whoever calls
+/// the port asks for blocks each time that it asks what is wanted.
+pub fn ports_keep_fifteen_rules<K: Picker>(picker: &K)
+    ensures { PortsKeepFifteenRules K.picks picker.now }
 {
     controllers_keep_the_promise(picker);
     ports_end_what_they_took(picker);
     ports_tell_in_order(picker);
+    ports_hold_what_is_awaited(picker);
+    ports_pass_ends_on(picker);
+    ports_lower_figures(picker);
+    ports_serve_who_asks_for_blocks(picker);
 }

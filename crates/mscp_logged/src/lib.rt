@@ -4,5 +4,5 @@
 mod law;
 
 pub use crate::law::{
-    ports_answer_what_is_outstanding, ports_keep_thirteen_rules, ports_send_long_ends,
+    ports_answer_what_is_outstanding, ports_keep_fifteen_rules, ports_send_long_ends,
 };

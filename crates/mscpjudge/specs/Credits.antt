@@ -9,7 +9,7 @@ use Rattle.mscp_reader.specs.Lexical.{lines}
 use Rattle.mscp_reader.specs.Requests.{bytes_in, one}
 use Rattle.mscp_reader.specs.declared.fault.Cause.{Cause}
 use Rattle.mscp_wire.specs.Log.{line_says, without_time}
-use Rattle.mscp_wire.specs.Wire.{is_immediate, is_message, seen_nothing, sent_by}
+use Rattle.mscp_wire.specs.Wire.{is_message, seen_nothing, sent_by}
 use Rattle.mscp_wire.specs.declared.line.Said.{Said}
 use Rattle.mscp_wire.specs.declared.line.Said.TheVariants as says
 use Rattle.mscp_wire.specs.declared.moment.Moment.{Moment}
@@ -113,15 +113,11 @@ after_line number account line = account_after account (line_tells number line) 
 
 -- ---- a message without a credit
 
--- how many credits a host needs for a command: the last one is for a command that is answered when it arrives (manual,
--- "Flow Control")
-abbrev pub needed : ℕ → ℕ
-needed opcode = if is_immediate opcode then 1 else 2
-
--- it is known that it has fewer
-abbrev pub lacks : Option ℕ → ℕ → Bool
-lacks None opcode = false
-lacks (Some n) opcode = nat_lt n (needed opcode)
+-- it is known that a host has no credit (manual, "Flow Control"). The last one it may take for any command: whoever boots
+-- does so
+abbrev pub has_none : Option ℕ → Bool
+has_none None = false
+has_none (Some n) = nat_eq n 0
 
 -- a message breaks the rule on credits, in the line of this number
 abbrev pub breach_of : ℕ → Moment → Sent → Wrong
@@ -138,7 +134,7 @@ breach_of number m s = record {
 abbrev pub breach_by : ℕ → Account → Moment → Option Wrong
 breach_by number account (moments.Message via b time) =
     if is_message b.items then (
-    if lacks (credits_of account via) (sent_by via b.items).opcode
+    if has_none (credits_of account via)
     then Some (breach_of number (moments.Message via b time) (sent_by via b.items)) else None)
     else None
 breach_by number account m = None

@@ -11,7 +11,6 @@ ghost use Rattle.mscpjudge.specs.Credits as told;
 
 use crate::envelopes::{Tells, line_tells};
 use mscp_controller::Connection;
-use mscp_packet::class_of;
 use mscp_reader::{Lines, ScriptFault, lines_of};
 use mscp_wire::{Moment, Rule, Said, Seen, Sent, Wrong, line_says};
 
@@ -36,23 +35,12 @@ fn spent(known: Option<u16>) -> Option<u16>
     Some(known?.saturating_sub(1))
 }
 
-/// How many a host needs for a command of this opcode.
-fn needed(opcode: u8) -> u16
-    ensures { result ≡ told.needed opcode }
-{
-    if class_of(opcode).is_immediate() {
-        1
-    } else {
-        2
-    }
-}
-
-/// Whether it is known to have fewer.
-fn lacks(known: Option<u16>, opcode: u8) -> bool
-    ensures { result ≡ told.lacks known opcode }
+/// Whether a host is known to have none.
+fn has_none(known: Option<u16>) -> bool
+    ensures { result ≡ told.has_none known }
 {
     match known {
-        Some(credits) => credits < needed(opcode),
+        Some(credits) => credits == 0,
         None => false,
     }
 }
@@ -152,7 +140,7 @@ impl Account {
             }
             _ => return None,
         };
-        if !lacks(self.of(command.connection), command.opcode) {
+        if !has_none(self.of(command.connection)) {
             return None;
         }
         Some(Wrong {

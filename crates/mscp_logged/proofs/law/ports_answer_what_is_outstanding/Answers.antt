@@ -7,10 +7,11 @@ use Rattle.mscp_logged.proofs.law.ports_answer_what_is_outstanding.Goals as goal
 
 pub returns : goal.returns
 returns g c = λ s before controller hardware credits start p calls valid was quiet made asks reads a limit host.
-    keeps_rule Any ⊥ limit rules.Outstanding _ _ _
-    (stated Any ⊥ g.K.Picker.picks s c.args.picker.now c.ports_end_what_they_took.ensures
+    keeps_rule Any ⊥ ⊥ limit rules.Outstanding _ _ _
+    (stated Any ⊥ ⊥ g.K.Picker.picks s c.args.picker.now c.ports_end_what_they_took.ensures
     c.ports_tell_in_order.ensures before controller hardware credits start valid was quiet made (λ calls. Unit {0})
     (λ call calls fine. tt) (λ p call calls reads fine a q. tt)
     (λ p call calls reads fine a q never. absurd never) (λ old text o own kind never. absurd never)
+    (λ p call calls reads fine a q never. absurd never) (λ p call calls reads fine a q own kind never. absurd never)
     (λ old text o small own kind. tt) limit p calls asks
-    reads tt a host) (λ i unit b low is tied. ap is_some tied.at) host
+    reads tt a host) (λ h m. Unit {0}) (λ i low. tt) (λ i unit b low is tied more. ap is_some tied.at) host

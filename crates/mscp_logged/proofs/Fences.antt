@@ -1,0 +1,308 @@
+-- Where a message keeps a later one back, no step serves the later one's command before that of the first ended; and a
+-- message that is answered at once waits for none, or ends with a status that may come at once.
+use Rattle.std.proofs.Common.{◌≡◌, ◌≢◌, ◌⊎◌, ◌∙◌, ◌+◌, ◌&&◌, ◌++◌, ◌∷◌, [], ℕ, Bool, true, false, cond, filter, nat_eq, not, List, Option, None, Some, inl, inr, refl, ap, sym, subst, arith}
+use Rattle.std.specs.Prelude.{◌%◌, ◌==◌, ◌||◌, is_none, slice_index}
+use Rattle.std.specs.List.{AllByRecursion, list_all, list_any}
+use Rattle.mscp_packet.specs.Commands.{command_of}
+use Rattle.mscp_packet.specs.Number.{num}
+use Rattle.mscp_packet.specs.Opcodes.{move_byte}
+use Rattle.mscp_packet.specs.declared.command.MoveKind.{MoveKind}
+use Rattle.mscp_packet.specs.declared.command.Order.{Order}
+use Rattle.mscp_packet.specs.declared.command.Order.TheVariants as orders
+use Rattle.mscp_drive.specs.Settings.{Settings}
+use Rattle.mscp_drive.specs.declared.block.Block.{Block}
+use Rattle.mscp_drive.specs.declared.block.Block.TheVariants as blocks
+use Rattle.mscp_queue.specs.Orders as queue
+use Rattle.mscp_queue.specs.Records.{Record}
+use Rattle.mscp_queue.specs.Views.{fences}
+use Rattle.mscp_controller.specs.Arrival.{fault_of, is_immediate, is_queued}
+use Rattle.mscp_controller.specs.Outcomes.{own_end, own_end_with}
+use Rattle.mscp_controller.proofs.Basics.{queued_open}
+use Rattle.mscp_port.specs.Decided.{status_after, status_told, unit_state}
+use Rattle.mscp_port.specs.Formalities.{ends_formality, formal_status, is_formality}
+use Rattle.mscp_port.specs.Messages.{handed}
+use Rattle.mscp_port.specs.declared.verdict.Verdict.TheVariants as verdicts
+use Rattle.mscp_port.specs.declared.volumes.Volume.{Volume}
+use Rattle.mscp_port.proofs.Common.{and_parts, eq-eqb, eqb-true, false≢true, or_right}
+use Rattle.mscp_port.proofs.Kept.{is_numbered}
+use Rattle.mscp_ported.specs.Answers.{asks_next}
+use Rattle.mscp_ported.specs.Awaited.{has_number}
+use Rattle.mscp_ported.specs.Fitting.{IsCodeFor}
+use Rattle.mscp_ported.proofs.Numbered.{first_of_one, some_none}
+use Rattle.mscp_ported.proofs.Origins.{IsOf, IsText}
+use Rattle.mscp_ported.proofs.Owning.{number_of}
+use Rattle.mscp_ported.proofs.Sole.{other_one, this_one}
+use Rattle.mscp_ported.proofs.Units.{IsUnitIn}
+use Rattle.mscp_wire.specs.Wire as wire
+use Rattle.mscp_wire.specs.Wire.{is_apart, sent_by}
+use Rattle.mscp_wire.specs.declared.sent.Sent.{Sent}
+use Rattle.mscp_shown.proofs.Saying.{Says}
+use Rattle.mscp_shown.proofs.Suiting.{refused_apart, valid_order}
+use Rattle.mscp_logged.proofs.Bytes.{handed_says, of_unit}
+use Rattle.mscp_logged.proofs.Lined.{any_as}
+use Rattle.mscp_logged.proofs.Passes.{any_all, both_none, keeps, overtakes}
+use Rattle.mscp_logged.proofs.Queueing.{InOrder, NoneBehind, behind_is}
+use Rattle.mscp_logged.proofs.Suited.{formal_opcode}
+
+-- ---- orders and opcodes
+
+moves_free : (kind : MoveKind) → wire.is_sequential (move_byte kind) ≡ false
+moves_free kind = grind arith
+
+says_sequential : (o : Order) (s : Sent) → Says o s → ((byte why : ℕ) → o ≢ orders.Invalid byte why)
+    → wire.is_sequential s.opcode ≡ true → queue.is_sequential o ≡ true
+says_sequential orders.Available s says valid e = refl
+says_sequential orders.Online s says valid e = refl
+says_sequential orders.SetUnit s says valid e = refl
+says_sequential (orders.Abort other) s says valid e = absurd (false≢true (sym (ap wire.is_sequential says.0) ∙ e))
+says_sequential (orders.Status other) s says valid e = absurd (false≢true (sym (ap wire.is_sequential says.0) ∙ e))
+says_sequential orders.UnitStatus s says valid e = absurd (false≢true (sym (ap wire.is_sequential says) ∙ e))
+says_sequential (orders.SetController version) s says valid e =
+    absurd (false≢true (sym (ap wire.is_sequential says) ∙ e))
+says_sequential (orders.Move kind count block) s says valid e =
+    absurd (false≢true (sym (ap wire.is_sequential says.0 ∙ moves_free kind) ∙ e))
+says_sequential (orders.Invalid byte why) s says valid e = absurd (valid byte why refl)
+
+says_immediate : (o : Order) (s : Sent) → Says o s → is_immediate o ≡ true
+    → (wire.is_sequential s.opcode ≡ false) × (wire.is_ordered s.opcode ≡ false)
+says_immediate (orders.Abort other) s says h = (ap wire.is_sequential says.0, ap wire.is_ordered says.0)
+says_immediate (orders.Status other) s says h = (ap wire.is_sequential says.0, ap wire.is_ordered says.0)
+says_immediate orders.UnitStatus s says h = (ap wire.is_sequential says, ap wire.is_ordered says)
+says_immediate (orders.SetController version) s says h = (ap wire.is_sequential says, ap wire.is_ordered says)
+says_immediate o s says h = search (arith, h)
+
+formal_free : (n : ℕ) → is_formality n ≡ true → wire.is_sequential n ≡ false
+formal_free n e = formal_opcode (λ n. wire.is_sequential n ≡ false) refl refl refl n e
+
+-- a command that waits is sequential, if its message is
+of_sequential : (r : Record) (t : List ℕ) → IsOf r t → wire.is_sequential (slice_index t 8) ≡ true
+    → queue.is_sequential r.command.order ≡ true
+of_sequential r t of e = by (is_formality (slice_index t 8)) refl
+  where
+    by : (b : Bool) → is_formality (slice_index t 8) ≡ b → queue.is_sequential r.command.order ≡ true
+    by true formal = absurd (false≢true (sym (formal_free (slice_index t 8) formal) ∙ e))
+    by false plain = subst (λ k. queue.is_sequential k.order ≡ true) (sym of.command)
+        (says_sequential (command_of (handed of.settings.units t)).order (of_unit t 0)
+        (handed_says of.settings.units t of.message plain 0)
+        (subst (λ k. (byte why : ℕ) → k.order ≢ orders.Invalid byte why) of.command
+        (valid_order of.settings r.command.unit r.command.order
+        (queued_open of.settings r.command of.queued).sound)) e)
+
+-- ---- who keeps whom back
+
+fence_of : (a b c d : Bool) → ((a && (b || c)) || (d && b)) ≡ true → (a || b) ≡ true
+fence_of a b c d h = grind (arith, false≢true)
+
+none_back : (b seq ord y z : Bool) → y ≡ false → z ≡ false → (b && ((seq && (y || z)) || (ord && y))) ≡ false
+none_back b seq ord y z p q = grind arith
+
+none_keeps : (b seq ord y z : Bool) → seq ≡ false → ord ≡ false → (b && ((seq && (y || z)) || (ord && y))) ≡ false
+none_keeps b seq ord y z p q = grind arith
+
+-- a message that is no transfer's, nor a sequential command's, waits for none
+pub unplaced : (t : List ℕ) → wire.is_sequential (slice_index t 8) ≡ false → wire.is_ordered (slice_index t 8) ≡ false
+    → (u : List ℕ) → keeps t u ≡ false
+unplaced t p q u = none_back (nat_eq (num u 4 2) (num t 4 2)) (wire.is_sequential (slice_index u 8))
+    (wire.is_ordered (slice_index u 8)) (wire.is_sequential (slice_index t 8)) (wire.is_ordered (slice_index t 8)) p q
+
+asks_third : (t : List ℕ) → asks_next t ≡ true → slice_index t 8 ≡ 3
+asks_third t e = eqb-true (slice_index t 8) 3 (and_parts (slice_index t 8 == 3) (num t 10 2 % 2 == 1) e).0
+
+-- of which unit a command is that keeps another back, or is kept
+pub same_unit : (t u : List ℕ) → keeps t u ≡ true → num u 4 2 ≡ num t 4 2
+same_unit t u e = eqb-true (num u 4 2) (num t 4 2) (and_parts (nat_eq (num u 4 2) (num t 4 2)) _ e).0
+
+pub unit_later : (unit : ℕ) (t u : List ℕ) → keeps t u ≡ true → IsUnitIn unit t → unit ≡ num t 4 2
+unit_later unit t u e (inl same) = same.0
+unit_later unit t u e (inr next) = absurd (false≢true (sym (unplaced t (ap wire.is_sequential (asks_third t next))
+    (ap wire.is_ordered (asks_third t next)) u) ∙ e))
+
+pub unit_earlier : (unit : ℕ) (t u : List ℕ) → keeps t u ≡ true → IsUnitIn unit u → unit ≡ num u 4 2
+unit_earlier unit t u e (inl same) = same.0
+unit_earlier unit t u e (inr next) = absurd (false≢true (sym (none_keeps (nat_eq (num u 4 2) (num t 4 2))
+    (wire.is_sequential (slice_index u 8)) (wire.is_ordered (slice_index u 8)) (wire.is_sequential (slice_index t 8))
+    (wire.is_ordered (slice_index t 8)) (ap wire.is_sequential (asks_third u next))
+    (ap wire.is_ordered (asks_third u next))) ∙ e))
+
+-- the command of this message waits
+pub record IsWaiting (rs : List Record) (t : List ℕ) : Type 0 where
+  pub own : Record
+  pub sole : filter (is_numbered (num t 0 4)) rs ≡ own ∷ []
+  pub unit : IsUnitIn own.command.unit t
+  pub of : IsOf own t
+
+kept_fences : (r z : Record) (t u : List ℕ) → IsUnitIn r.command.unit t → IsOf r t → IsUnitIn z.command.unit u
+    → IsOf z u → keeps t u ≡ true → fences r z ≡ true
+kept_fences r z t u unit of other_unit other e =
+    let units : z.command.unit ≡ r.command.unit = unit_earlier z.command.unit t u e other_unit
+    ∙ same_unit t u e ∙ sym (unit_later r.command.unit t u e unit) in
+    ap (λ b. b && (queue.is_sequential z.command.order || queue.is_sequential r.command.order))
+    (eq-eqb z.command.unit r.command.unit units)
+    ∙ by (wire.is_sequential (slice_index u 8)) refl (wire.is_sequential (slice_index t 8)) refl
+    (fence_of (wire.is_sequential (slice_index u 8)) (wire.is_sequential (slice_index t 8))
+    (wire.is_ordered (slice_index t 8)) (wire.is_ordered (slice_index u 8))
+    (and_parts (nat_eq (num u 4 2) (num t 4 2)) _ e).1)
+  where
+    by : (a : Bool) → wire.is_sequential (slice_index u 8) ≡ a → (b : Bool)
+        → wire.is_sequential (slice_index t 8) ≡ b → (a || b) ≡ true
+        → (queue.is_sequential z.command.order || queue.is_sequential r.command.order) ≡ true
+    by true is b h either = ap (λ x. x || queue.is_sequential r.command.order) (of_sequential z u other is)
+    by false is true h either =
+        or_right (queue.is_sequential z.command.order) (queue.is_sequential r.command.order) (of_sequential r t of h)
+    by false is false h either = absurd (false≢true either)
+
+-- ---- the command that a step serves
+
+all_sole : {X : Type 0} (g f : X → Bool) (xs : List X) (x : X) → list_all g xs ≡ true → filter f xs ≡ x ∷ []
+    → g x ≡ true
+all_sole g f [] x all sole = absurd (some_none x [] (sym sole))
+all_sole g f (y ∷ ys) x all sole = by (f y) sole (and_parts (g y) (list_all g ys) all)
+    (λ h k. all_sole g f ys x h k)
+  where
+    by : (b : Bool) → cond b (y ∷ filter f ys) (filter f ys) ≡ x ∷ [] → (g y ≡ true) × (list_all g ys ≡ true)
+        → (list_all g ys ≡ true → filter f ys ≡ x ∷ [] → g x ≡ true) → g x ≡ true
+    by true h p rest = subst (λ z. g z ≡ true) (first_of_one y x (filter f ys) h).0 p.0
+    by false h p rest = rest p.1 h
+
+module _ (rs xs : List Record) (r0 : Record) (ys : List Record) (whole : rs ≡ xs ++ r0 ∷ ys) (n : ℕ)
+    (mine : is_numbered n r0 ≡ true) (free : list_all (λ z. not (fences r0 z)) xs ≡ true) where
+  -- the one message doesn't keep the other back
+  one_free : (t u : List ℕ) → IsWaiting rs t → IsWaiting rs u → NoneBehind (num u 0 4) n rs → has_number n t ≡ true
+      → has_number n u ≡ false → keeps t u ≡ false
+  one_free t u later earlier behind is other = by (keeps t u) refl
+    where
+      a : ℕ
+      a = num u 0 4
+
+      is_later : r0 ≡ later.own
+      is_later = (this_one (is_numbered n) xs ys r0 later.own (ap (filter (is_numbered n)) (sym whole)
+          ∙ subst (λ m. filter (is_numbered m) rs ≡ later.own ∷ []) (eqb-true (num t 0 4) n is) later.sole) mine).1
+
+      apart : (b : Bool) → is_numbered a r0 ≡ b → b ≡ false
+      apart false e = refl
+      apart true e = absurd (false≢true (sym other
+          ∙ eq-eqb (num u 0 4) n (sym (number_of a r0 e).1 ∙ (number_of n r0 mine).1)))
+
+      in_front : filter (is_numbered a) xs ≡ earlier.own ∷ []
+      in_front = elim (other_one (is_numbered a) xs ys r0 earlier.own
+          (ap (filter (is_numbered a)) (sym whole) ∙ earlier.sole) (apart (is_numbered a r0) refl)) [
+            | inl h ↦ h.0
+            | inr h ↦ absurd (some_none earlier.own [] (sym h.1
+                ∙ behind_is a n xs r0 ys (subst (λ zs. NoneBehind a n zs) whole behind) mine))
+          ]
+
+      by : (b : Bool) → keeps t u ≡ b → keeps t u ≡ false
+      by false e = e
+      by true e = absurd (false≢true (sym (ap not (kept_fences r0 earlier.own t u
+          (subst (λ z. IsUnitIn z.command.unit t) (sym is_later) later.unit)
+          (subst (λ z. IsOf z t) (sym is_later) later.of) earlier.unit earlier.of e))
+          ∙ all_sole (λ z. not (fences r0 z)) (is_numbered a) xs earlier.own free in_front))
+
+  pub serves_free : (ts : List (List ℕ)) → InOrder ts rs → AllByRecursion (IsWaiting rs) ts → overtakes n ts ≡ false
+  serves_free [] order all = refl
+  serves_free (u ∷ us) order all = both_none
+      (cond (has_number n u) false (list_any (λ t. has_number n t && keeps t u) us)) (overtakes n us)
+      (by (has_number n u) refl) (serves_free us order.1 all.1)
+    where
+      none : has_number n u ≡ false → (b : Bool) → list_any (λ t. has_number n t && keeps t u) us ≡ b → b ≡ false
+      none other false e = refl
+      none other true e =
+          let x = any_all (IsWaiting rs) (λ t. has_number n t && keeps t u) us e all.1 in
+          let p = and_parts (has_number n x.0) (keeps x.0 u) x.2 in
+          absurd (false≢true (sym (one_free x.0 u x.1 all.0 (order.0 n
+          (any_as (λ t. has_number n t && keeps t u) (has_number n)
+          (λ t h. (and_parts (has_number n t) (keeps t u) h).0) us e)) p.0 other) ∙ p.1))
+
+      by : (b : Bool) → has_number n u ≡ b → cond b false (list_any (λ t. has_number n t && keeps t u) us) ≡ false
+      by true is = refl
+      by false is = none is (list_any (λ t. has_number n t && keeps t u) us) refl
+
+-- ---- what is answered at once
+
+is_not : (status n : ℕ) → is_apart (n % 32) ≡ false → is_apart (status % 32) ≡ true → (b : Bool)
+    → nat_eq status n ≡ b → b ≡ false
+is_not status n apart is false e = refl
+is_not status n apart is true e =
+    absurd (false≢true (sym apart ∙ ap (λ x. is_apart (x % 32)) (sym (eqb-true status n e)) ∙ is))
+
+pick : (a b x y : Bool) (u v n : ℕ) → x ≡ false → y ≡ false → cond (a && x) u (cond (b && y) v n) ≡ n
+pick a b true y u v n p q = absurd (false≢true (sym p))
+pick a b false true u v n p q = absurd (false≢true (sym q))
+pick true true false false u v n p q = refl
+pick true false false false u v n p q = refl
+pick false true false false u v n p q = refl
+pick false false false false u v n p q = refl
+
+after_apart : (block : Block) (code status : ℕ) (v : Volume) → is_apart (status % 32) ≡ true
+    → status_after (verdicts.Served block) code status v ≡ status
+after_apart block code status v is = pick (code == 0x83) (code == 0x89) (status == 0 || status == 4)
+    (status == 0 || status == 0x0100) (unit_state v) (cond v.is_mounted 0x0100 0) status
+    (both_none (status == 0) (status == 4) (is_not status 0 refl is (status == 0) refl)
+    (is_not status 4 refl is (status == 4) refl))
+    (both_none (status == 0) (status == 0x0100) (is_not status 0 refl is (status == 0) refl)
+    (is_not status 0x0100 refl is (status == 0x0100) refl))
+
+-- one that was aborted is told so
+pub aborted_apart : (code : ℕ) (v : Volume)
+    → is_apart (status_told (verdicts.Served blocks.Good) code 2 v % 32) ≡ true
+aborted_apart code v = by (ends_formality code)
+  where
+    by : (b : Bool)
+        → is_apart (cond b (formal_status 2) (status_after (verdicts.Served blocks.Good) code 2 v) % 32) ≡ true
+    by true = refl
+    by false = ap (λ n. is_apart (n % 32)) (after_apart blocks.Good code 2 v refl)
+
+-- the code of a message that is no formality is that of none
+pub plain_code : (code : ℕ) (t : List ℕ) → is_formality (slice_index t 8) ≡ false → IsCodeFor code t
+    → ends_formality code ≡ false
+plain_code code t plain (inl e) = ap ends_formality e.0
+plain_code code t plain (inr e) = ap ends_formality e ∙ by (ends_formality (slice_index t 8 + 0x80)) refl
+  where
+    formal : (n : ℕ) → ends_formality (n + 0x80) ≡ true → is_formality n ≡ true
+    formal n e = grind (arith, e)
+
+    by : (b : Bool) → ends_formality (slice_index t 8 + 0x80) ≡ b → b ≡ false
+    by false h = refl
+    by true h = absurd (false≢true (sym plain ∙ formal (slice_index t 8) h))
+
+apart_of : (status : ℕ) → (status % 32 ≡ 1) ⊎ (status % 32 ≡ 3) → is_apart (status % 32) ≡ true
+apart_of status (inl e) = ap is_apart e
+apart_of status (inr e) = ap is_apart e
+
+pub reply_clear : (c : Settings) (online : Bool) (figure : ℕ) (t : List ℕ) → IsText t
+    → is_formality (slice_index t 8) ≡ false → is_queued c (command_of (handed c.units t)) ≡ false → (code : ℕ)
+    → ends_formality code ≡ false → (v : Volume) → (is_apart (status_told (verdicts.Served blocks.Good) code
+    (own_end c online figure (command_of (handed c.units t))).status v % 32) ≡ true)
+    ⊎ ((u : List ℕ) → keeps t u ≡ false)
+reply_clear c online figure t message plain quick code formal v =
+    by (fault_of c (command_of (handed c.units t))) refl
+  where
+    o : Order
+    o = (command_of (handed c.units t)).order
+
+    says : Says (command_of (handed c.units t)).order (of_unit t 0)
+    says = handed_says c.units t message plain 0
+
+    at_once : fault_of c (command_of (handed c.units t)) ≡ None
+        → is_immediate (command_of (handed c.units t)).order ≡ true
+    at_once none = now (is_immediate (command_of (handed c.units t)).order) refl quick
+      where
+        now : (b : Bool) → is_immediate (command_of (handed c.units t)).order ≡ b
+            → cond b false (is_none (fault_of c (command_of (handed c.units t)))) ≡ false
+            → is_immediate (command_of (handed c.units t)).order ≡ true
+        now true is h = is
+        now false is h = absurd (false≢true (sym h ∙ ap (λ x. is_none x) none))
+
+    by : (f : Option ℕ) → fault_of c (command_of (handed c.units t)) ≡ f
+        → (is_apart (status_told (verdicts.Served blocks.Good) code
+        (own_end_with c online figure (command_of (handed c.units t)) f).status v % 32) ≡ true)
+        ⊎ ((u : List ℕ) → keeps t u ≡ false)
+    by None is =
+        let free = says_immediate (command_of (handed c.units t)).order (of_unit t 0) says (at_once is) in
+        inr (unplaced t free.0 free.1)
+    by (Some status) is =
+        let apart = apart_of status (refused_apart c (command_of (handed c.units t)).unit status
+        (command_of (handed c.units t)).order (of_unit t 0) says is) in
+        inl (ap (λ b. is_apart (cond b (formal_status status)
+        (status_after (verdicts.Served blocks.Good) code status v) % 32)) formal
+        ∙ ap (λ n. is_apart (n % 32)) (after_apart blocks.Good code status v apart) ∙ apart)

@@ -1,0 +1,364 @@
+-- What is known of the figures of a port's log, over a whole list of calls.
+use Rattle.std.proofs.Common.{◌≡◌, ◌≢◌, ◌⊎◌, ◌∙◌, ◌<◌, ◌≤◌, ◌++◌, ◌∷◌, [], ℕ, All, Bool, true, false, cond, filter, map, nat_eq, List, Option, None, Some, inl, inr, refl, ap, append_assoc, sym, subst, arith}
+use Rattle.std.specs.Prelude.{flat_map, option_to_list, slice_index}
+use Rattle.std.specs.List.{AllByRecursion, list_any}
+use Rattle.std.proofs.lemmas.List.{append-nil}
+use Rattle.mscp_packet.specs.Number.{num}
+use Rattle.mscp_drive.specs.Settings.{IsValid, Settings}
+use Rattle.mscp_drive.specs.declared.connection.Connection.TheVariants.{First}
+use Rattle.mscp_controller.specs.Calls.{AnsweredCalls, Call as Made}
+use Rattle.mscp_controller.specs.Holdings.{Holdings, fresh, outstanding_of}
+use Rattle.mscp_port.specs.declared.hardware.Hardware.{Hardware}
+use Rattle.mscp_port.specs.declared.port.Outgoing.{Outgoing}
+use Rattle.mscp_port.specs.declared.port.OutgoingKind.{OutgoingKind}
+use Rattle.mscp_port.specs.declared.port.OutgoingKind.TheVariants as kinds
+use Rattle.mscp_port.specs.declared.port.Port.{Port}
+use Rattle.mscp_port.specs.Calls.{IsMadeOf}
+use Rattle.mscp_port.specs.Departures.{begins, leaves}
+use Rattle.mscp_port.specs.Fair.{TellsStep}
+use Rattle.mscp_port.specs.Histories.{Answered, Call, Picking, WriteIp}
+use Rattle.mscp_port.specs.Packets.{end_kind}
+use Rattle.mscp_ported.specs.Answers.{own_answer, volume_named}
+use Rattle.mscp_ported.specs.Awaited.{Deals, IsAnswering, IsTaking, PortsEndWhatTheyTook, ReadsBytes, awaited, has_number, taken_by, without_ends}
+use Rattle.mscp_ported.specs.Ends.{end_said, ends_said_by}
+use Rattle.mscp_ported.specs.Fitting.{IsCodeFor}
+use Rattle.mscp_ported.specs.Figures.{PortsLowerFigures, figure_on}
+use Rattle.mscp_ported.specs.Passing.{HoldsAwaited, IsServedSince, PassesOn, PortsHoldWhatIsAwaited, PortsPassEndsOn, ServesBetweenPolls, TakesPoll, pending_held, pending_in, pending_said}
+use Rattle.mscp_ported.specs.Talk.{AsksAlways, is_dead}
+use Rattle.mscp_ported.specs.Told.{PortsTellInOrder, accepted_by, held, said, said_in}
+use Rattle.mscp_ported.proofs.Following.{asked_before}
+use Rattle.mscp_ported.proofs.Growing.{begun_one}
+use Rattle.mscp_ported.proofs.Itself.{since_alive}
+use Rattle.mscp_ported.proofs.Numbered.{none_beside}
+use Rattle.mscp_wire.specs.Wire.{History, IsRight, asking, four_in, is_new, outstanding, sent_by, timed, timeout}
+use Rattle.mscp_wire.specs.declared.moment.Moment.TheVariants as moments
+use Rattle.mscp_wire.specs.declared.sent.Sent.{Sent}
+use Rattle.mscp_logged.specs.Logged.{end_of, ends_in, is_foreign, logged, message_of, messages_by, seen_by}
+use Rattle.mscp_logged.specs.Rules.{HostIsRight, is_message}
+use Rattle.mscp_logged.proofs.Figuring.{coming, ending_lowers, lowers_by, not_poll, plain_figured, poll_figured, quiet_lowers, same_figured}
+use Rattle.mscp_logged.proofs.Figures.{Figured, apart_from, begun_of, end_figured, figured_as, four_is, goes_on, message_comes, no_step, out_of, takes_poll}
+use Rattle.mscp_logged.proofs.Logging.{small_of, taken_disk}
+use Rattle.mscp_logged.proofs.Own.{IsOwn, answers_so, of_disk, own_named}
+use Rattle.mscp_logged.proofs.Polled.{AreFigured, IsFigured, Lowers, figure_of}
+use Rattle.mscp_logged.proofs.Seen.{begun_none, is_reset, last_is, no_message, reads_before, since_dead, since_reset}
+use Rattle.mscp_logged.proofs.Stated.{Stated, as_it_is, takes, each_at, each_front, new_none, right_new}
+use Rattle.mscp_logged.proofs.Wired.{named, outstanding_more}
+
+-- ---- calls
+
+module _ {K : Type 0} (Tie : List ℕ → List ℕ → Type 0) (G O : Type 0) (code_of : (text message : List ℕ)
+    → Tie text message → IsCodeFor (slice_index text 8) message) (picks : Picking K) (c : Settings) (picker : K)
+    (ends : PortsEndWhatTheyTook picks picker) (tell : PortsTellInOrder picks)
+    (holds : PortsHoldWhatIsAwaited picks picker) (passes : PortsPassEndsOn picks picker)
+    (lowers : PortsLowerFigures picks picker) (sizes : All (λ unit. 0 < unit.size) c.units) (before : List Made)
+    (controller : Holdings K) (hardware : Hardware) (credits : ℕ) (start : Port K) (valid : IsValid c)
+    (was : AnsweredCalls (picks picker) (fresh c picker) before controller)
+    (quiet : outstanding_of First controller ≡ []) (made : IsMadeOf hardware credits controller start)
+    (limit : Option ℕ) where
+  abbrev pub Known : (p : Port K) (calls : List Call) → Answered picks start calls p → Type 0
+  Known p calls a =
+      Figured (logged picks start p calls a) (coming p) (figure_on p) (IsServedSince picks start p calls a)
+
+  nothing_known : (p : Port K) (calls : List Call) → AsksAlways calls → (a : Answered picks start calls p)
+      → logged picks start p calls a ≡ [] → Known p calls a
+  nothing_known p calls asks a none = figured_as [] (logged picks start p calls a) (coming p) (coming p) (figure_on p)
+      (IsServedSince picks start p calls a) none refl (record { each = λ i low. search (arith, low); now = tt })
+
+  served_or : (p : Port K) (call : Call) (calls : List Call) (a : Answered picks start (call ∷ calls) p) (n : ℕ)
+      → call ≢ WriteIp → IsServedSince picks start p (call ∷ calls) a n
+      → TellsStep call a.0 ⊎ ((TakesPoll n call a.0 → ⊥) × IsServedSince picks start a.0 calls a.1 n)
+  served_or p WriteIp calls a n never s = absurd (never refl)
+  served_or p call calls a n never s = s
+
+  module _ (p : Port K) (call : Call) (calls : List Call) (asks : AsksAlways (call ∷ calls))
+      (reads : ReadsBytes (call ∷ calls)) (a : Answered picks start (call ∷ calls) p) (never : call ≢ WriteIp)
+      (lives : is_dead p.stage ≡ false) (s : Stated Tie G O (logged picks start a.0 calls a.1)
+      (awaited picks start a.0 calls a.1) (held a.0)) (host : HostIsRight limit (logged picks start p (call ∷ calls) a))
+      (serves : (n : ℕ) → TakesPoll n call a.0 → 1 ≤ figure_on a.0 n → IsServedSince picks start a.0 calls a.1 n)
+      (f : Known a.0 calls a.1) where
+    abbrev h : History
+    h = logged picks start a.0 calls a.1
+
+    abbrev xs : List Sent
+    xs = outstanding (logged picks start a.0 calls a.1)
+
+    abbrev aw : List (List ℕ)
+    aw = awaited picks start a.0 calls a.1
+
+    abbrev aw' : List (List ℕ)
+    aw' = awaited picks start p (call ∷ calls) a
+
+    abbrev S : ℕ → Type 0
+    S = IsServedSince picks start a.0 calls a.1
+
+    abbrev S' : ℕ → Type 0
+    S' = IsServedSince picks start p (call ∷ calls) a
+
+    abbrev gone : History
+    gone = flat_map ends_in (leaves a.0.outgoing p.outgoing)
+
+    passing : PassesOn call a.0 p
+    passing = passes c before controller hardware credits start p call calls valid sizes was quiet made asks reads a
+        never lives
+
+    was_held : (n : ℕ) → HoldsAwaited a.0 aw n
+    was_held n = holds c before controller hardware credits start a.0 calls valid was quiet made
+        (reads_before call calls reads) a.1 n
+
+    is_held : (n : ℕ) → HoldsAwaited p aw' n
+    is_held n = holds c before controller hardware credits start p (call ∷ calls) valid was quiet made reads a n
+
+    falls : (n : ℕ) → 1 ≤ figure_on a.0 n → (figure_on p n ≤ figure_on a.0 n)
+        × (S' n → S n ⊎ (figure_on p n < figure_on a.0 n))
+    falls n some =
+        let low = lowers c before controller hardware credits start p call calls valid was made asks a n in (
+          low.never_rises some,
+          λ x. elim (served_or p call calls a n never x) [
+            | inl step ↦ inr (low.falls some step)
+            | inr y ↦ inl y.1
+          ],
+        )
+
+    log_is : (ms : History) → messages_by call a.0 ≡ ms → logged picks start p (call ∷ calls) a ≡ (h ++ ms) ++ gone
+    log_is ms e = since_alive p.stage call h (seen_by call a.0 p) never lives ∙ ap (λ x. h ++ (x ++ gone)) e
+        ∙ sym (append_assoc h ms gone)
+
+    awaited_is : (us vs : List (List ℕ)) → ends_said_by call a.0 p ≡ us → taken_by call a.0 ≡ vs
+        → aw' ≡ without_ends us aw ++ vs
+    awaited_is us vs e g = since_alive p.stage call _ _ never lives
+        ∙ ap (λ x. without_ends x aw ++ taken_by call a.0) e ∙ ap (λ y. without_ends us aw ++ y) g
+
+    same_held : begins a.0.outgoing p.outgoing ≡ [] → (o x : Outgoing) → a.0.outgoing ≡ Some o → p.outgoing ≡ Some x
+        → said_in o ≡ said_in x
+    same_held none o x was_out is_out =
+        let old = (tell hardware credits controller start a.0 calls made (asked_before call calls asks) a.1).0 in
+        let now = (tell hardware credits controller start p (call ∷ calls) made asks a).0 in
+        last_is old.0 now.0 (said_in o) (said_in x)
+        (ap (λ z. old.0 ++ map said_in (option_to_list z)) (sym was_out) ∙ old.1
+        ∙ sym (now.1 ∙ since_alive p.stage call _ _ never lives
+        ∙ ap (λ os. said picks start a.0 calls a.1 ++ map said_in os) none
+        ∙ append-nil (said picks start a.0 calls a.1))
+        ∙ ap (λ z. now.0 ++ map said_in (option_to_list z)) is_out)
+
+    is_new_now : (t : List ℕ) → messages_by call a.0 ≡ message_of t ∷ [] → is_new xs (sent_by First t) ≡ true
+    is_new_now t e = right_new limit h t (each_at (λ x m. is_message m ≡ true → IsRight limit x m) moments.Reset h
+        (message_of t) gone (subst (λ x. HostIsRight limit x) (log_is (message_of t ∷ []) e
+        ∙ append_assoc h (message_of t ∷ []) gone) host) refl)
+
+    abbrev Mid : History → Type 0
+    Mid ms = Figured (h ++ ms) (coming a.0 ++ passing.more) (figure_on p) S'
+
+    -- nothing begins to go out, or something does
+    calm : (ms : History) (ts : List (List ℕ)) → messages_by call a.0 ≡ ms → begins a.0.outgoing p.outgoing ≡ []
+        → Stated Tie G O (h ++ ms) ts (held a.0) → Mid ms → Known p (call ∷ calls) a
+    calm ms ts e none s1 mid = by a.0.outgoing p.outgoing refl refl passing.behind none s1 mid
+      where
+        to_log : (x y : Option Outgoing) → a.0.outgoing ≡ x → p.outgoing ≡ y
+            → Figured ((h ++ ms) ++ flat_map ends_in (leaves x y)) (out_of y ++ pending_held p) (figure_on p) S'
+            → Known p (call ∷ calls) a
+        to_log x y was_out is_out g = figured_as ((h ++ ms) ++ flat_map ends_in (leaves x y))
+            (logged picks start p (call ∷ calls) a) (out_of y ++ pending_held p) (coming p) (figure_on p) S'
+            (log_is ms e ∙ ap (λ z. (h ++ ms) ++ flat_map ends_in (leaves z p.outgoing)) was_out
+            ∙ ap (λ z. (h ++ ms) ++ flat_map ends_in (leaves x z)) is_out)
+            (ap (λ z. out_of z ++ pending_held p) is_out) g
+
+        leaving : (o : Outgoing) (k : OutgoingKind) → o.kind ≡ k
+            → Stated Tie G O (h ++ ms) ts (map said_in (option_to_list (Some o)))
+            → Figured (h ++ ms) ((pending_said k o.bytes.items ++ []) ++ pending_held p) (figure_on p) S'
+            → Figured ((h ++ ms) ++ (map end_of (end_said k o.bytes.items) ++ [])) (pending_held p) (figure_on p) S'
+        leaving o kinds.Attention is s1 g = figured_as (h ++ ms) ((h ++ ms) ++ []) (pending_held p) (pending_held p)
+            (figure_on p) S' (append-nil (h ++ ms)) refl g
+        leaving o kinds.UtilitiesEnd is s1 g = figured_as (h ++ ms) ((h ++ ms) ++ []) (pending_held p) (pending_held p)
+            (figure_on p) S' (append-nil (h ++ ms)) refl g
+        leaving o kinds.End is s1 g = end_figured Tie code_of (h ++ ms) ts (figure_on p) S' (pending_held p) (said_in o)
+            is s1.wired g
+
+        by : (x y : Option Outgoing) → a.0.outgoing ≡ x → p.outgoing ≡ y
+            → begun_of a.0.outgoing p.outgoing ++ pending_held p ≡ pending_held a.0 ++ passing.more
+            → begins a.0.outgoing p.outgoing ≡ [] → Stated Tie G O (h ++ ms) ts (held a.0) → Mid ms
+            → Known p (call ∷ calls) a
+        by None None was_out is_out b none s1 mid = to_log None None was_out is_out
+            (figured_as (h ++ ms) ((h ++ ms) ++ []) (coming a.0 ++ passing.more) (pending_held p) (figure_on p) S'
+            (append-nil (h ++ ms))
+            (ap (λ os. flat_map pending_in (map said_in os) ++ pending_held p) (sym none) ∙ b
+            ∙ ap (λ z. (out_of z ++ pending_held a.0) ++ passing.more) (sym was_out)) mid)
+        by None (Some x) was_out is_out b none s1 mid =
+            absurd (begun_none a.0.outgoing p.outgoing x was_out is_out none)
+        by (Some o) (Some x) was_out is_out b none s1 mid = to_log (Some o) (Some x) was_out is_out
+            (figured_as (h ++ ms) ((h ++ ms) ++ []) (coming a.0 ++ passing.more) (out_of (Some x) ++ pending_held p)
+            (figure_on p) S' (append-nil (h ++ ms))
+            (goes_on (said_in o) (said_in x) (pending_held a.0) (pending_held p) passing.more
+            (same_held none o x was_out is_out)
+            (ap (λ os. flat_map pending_in (map said_in os) ++ pending_held p) (sym none) ∙ b)
+            ∙ ap (λ z. (out_of z ++ pending_held a.0) ++ passing.more) (sym was_out)) mid)
+        by (Some o) None was_out is_out b none s1 mid = to_log (Some o) None was_out is_out
+            (leaving o o.kind refl
+            (subst (λ z. Stated Tie G O (h ++ ms) ts (map said_in (option_to_list z))) was_out s1)
+            (figured_as (h ++ ms) (h ++ ms) (coming a.0 ++ passing.more) (out_of (Some o) ++ pending_held p)
+            (figure_on p) S' refl (ap (λ k. out_of (Some o) ++ k)
+            (ap (λ os. flat_map pending_in (map said_in os) ++ pending_held p) (sym none) ∙ b)
+            ∙ sym (append_assoc (out_of (Some o)) (pending_held a.0) passing.more)
+            ∙ ap (λ z. (out_of z ++ pending_held a.0) ++ passing.more) (sym was_out)) mid))
+
+    begun : (ms : History) (o : Outgoing) → messages_by call a.0 ≡ ms → a.0.outgoing ≡ None → p.outgoing ≡ Some o
+        → Mid ms → Known p (call ∷ calls) a
+    begun ms o e nothing some mid = figured_as (h ++ ms) (logged picks start p (call ∷ calls) a)
+        (coming a.0 ++ passing.more) (coming p) (figure_on p) S'
+        (log_is ms e ∙ ap (λ z. (h ++ ms) ++ flat_map ends_in (leaves z p.outgoing)) nothing ∙ append-nil (h ++ ms))
+        (ap (λ z. out_of z ++ pending_held p) some
+        ∙ ap (λ os. flat_map pending_in (map said_in os) ++ pending_held p)
+        (sym (begun_one a.0.outgoing p.outgoing o nothing some)) ∙ passing.behind
+        ∙ ap (λ z. (out_of z ++ pending_held a.0) ++ passing.more) (sym nothing)) mid
+
+    -- ---- what it deals with
+
+    none_by : accepted_by call a.0 ≡ [] → messages_by call a.0 ≡ []
+    none_by e = no_message call a.0 (accepted_by call a.0) e
+
+    mid_none : ((n : ℕ) → Lowers (figure_on a.0) S (figure_on p) S' n) → Mid []
+    mid_none low = figured_as h (h ++ []) (coming a.0 ++ passing.more) (coming a.0 ++ passing.more) (figure_on p) S'
+        (append-nil h) refl (record {
+          each = f.each;
+          now = same_figured Tie call a.0 p xs aw aw' s.wired S S' was_held is_held passing falls f.now low;
+        })
+
+    quiet_low : begun_of a.0.outgoing p.outgoing ≡ [] → (n : ℕ)
+        → filter (has_number n) aw' ≡ filter (has_number n) aw → Lowers (figure_on a.0) S (figure_on p) S' n
+    quiet_low = quiet_lowers Tie call a.0 p xs aw aw' s.wired S S' was_held is_held passing falls f.now
+
+    same_awaited : ends_said_by call a.0 p ≡ [] → taken_by call a.0 ≡ [] → (n : ℕ)
+        → filter (has_number n) aw' ≡ filter (has_number n) aw
+    same_awaited ended took n = ap (filter (has_number n)) (awaited_is [] [] ended took ∙ append-nil aw)
+
+    begun_is : (o : Outgoing) → a.0.outgoing ≡ None → p.outgoing ≡ Some o → (k : OutgoingKind) → o.kind ≡ k
+        → begun_of a.0.outgoing p.outgoing ≡ pending_said k o.bytes.items ++ []
+    begun_is o nothing some k kind = ap (λ os. flat_map pending_in (map said_in os))
+        (begun_one a.0.outgoing p.outgoing o nothing some) ∙ ap (λ x. pending_said x o.bytes.items ++ []) kind
+
+    come_in : (t : List ℕ) → AllByRecursion (IsFigured (xs ++ asking (timeout h) xs (timed None (sent_by First t)) ∷ [])
+        (coming a.0 ++ passing.more) (figure_on p) S')
+        (xs ++ asking (timeout h) xs (timed None (sent_by First t)) ∷ []) → Mid (message_of t ∷ [])
+    come_in t now = message_comes h t (coming a.0) (coming a.0 ++ passing.more) (figure_on a.0) (figure_on p) S S' f
+        (subst (λ zs. AreFigured zs (coming a.0 ++ passing.more) (figure_on p) S')
+        (sym (outstanding_more h (message_of t))) now)
+
+    taking : IsTaking call a.0 p → Known p (call ∷ calls) a
+    taking q = calm (message_of q.message ∷ []) (aw ++ q.message ∷ []) shown q.begun
+        (takes Tie G O h aw (held a.0) q.message s (is_new_now q.message shown))
+        (come_in q.message (poll_figured Tie call a.0 p xs aw aw' s.wired S S' was_held is_held passing falls f.now
+        (timeout h) q.message fresh low polls))
+      where
+        shown : messages_by call a.0 ≡ message_of q.message ∷ []
+        shown = ap (λ b. cond b [] (map message_of (accepted_by call a.0))) (taken_disk call a.0 q.message q.taken)
+            ∙ ap (map message_of) q.accepted
+
+        fresh : filter (named (num q.message 0 4)) xs ≡ []
+        fresh = new_none xs q.message (is_new_now q.message shown)
+
+        low : (n : ℕ) → list_any (named n) xs ≡ true → Lowers (figure_on a.0) S (figure_on p) S' n
+        low n any = quiet_low (ap (λ os. flat_map pending_in (map said_in os)) q.begun) n
+            (ap (filter (has_number n)) (awaited_is [] (q.message ∷ []) q.ended q.taken)
+            ∙ none_beside (has_number n) aw q.message (apart_from xs (num q.message 0 4) n fresh any))
+
+        polls : (other : ℕ) → slice_index q.message 8 ≡ 2 → four_in q.message 12 ≡ Some other
+            → (passing.more ≡ record { number = num q.message 0 4; figure = figure_on a.0 other } ∷ [])
+            × (1 ≤ figure_on a.0 other → S other) × (S' other → ⊥)
+        polls other code parameter =
+            let x = four_is q.message other parameter in
+            let takes = takes_poll a.0 call q.message q.read.0 q.read.1 q.taken code x.0 in
+            subst (λ k. (passing.more ≡ record { number = num q.message 0 4; figure = figure_on a.0 k } ∷ [])
+            × (1 ≤ figure_on a.0 k → S k) × (S' k → ⊥)) x.1 (
+              passing.poll q.message q.read.0 q.read.1 takes,
+              serves (num q.message 12 4) takes,
+              λ z. elim (served_or p call calls a (num q.message 12 4) never z) [
+                | inl step ↦ no_step a.0 call q.message q.read.0 q.read.1 step
+                | inr y ↦ y.0 takes
+              ],
+            )
+
+    answering : IsAnswering call a.0 p → Known p (call ∷ calls) a
+    answering q = by own.foreign own.task own.kind
+      where
+        own : IsOwn a.0 q.message q.out
+        own = answers_so picks call a.0 p a.2 q
+
+        by : (foreign : Bool) → is_foreign a.0.task ≡ foreign → q.out.kind ≡ end_kind foreign → Known p (call ∷ calls) a
+        by true task kind = begun [] q.out (ap (λ b. cond b [] (map message_of (accepted_by call a.0))) task) q.nothing
+            q.begun (mid_none (λ n. quiet_low (begun_is q.out q.nothing q.begun kinds.UtilitiesEnd kind) n
+            (same_awaited q.ended q.taken n)))
+        by false task kind = begun (message_of q.message ∷ []) q.out shown q.nothing q.begun
+            (come_in q.message (plain_figured Tie call a.0 p xs aw aw' s.wired S S' was_held is_held passing falls f.now
+            (timeout h) q.message fresh low (not_poll (volume_named a.0 q.message) q.message own.own.0
+            (ap (λ x. own_answer x (volume_named a.0 q.message) q.message)
+            (sym (of_disk a.0 q.message q.out own kind)) ∙ own.own.1))))
+          where
+            shown : messages_by call a.0 ≡ message_of q.message ∷ []
+            shown = ap (λ b. cond b [] (map message_of (accepted_by call a.0))) task ∙ ap (map message_of) q.accepted
+
+            fresh : filter (named (num q.message 0 4)) xs ≡ []
+            fresh = new_none xs q.message (is_new_now q.message shown)
+
+            low : (n : ℕ) → list_any (named n) xs ≡ true → Lowers (figure_on a.0) S (figure_on p) S' n
+            low n any = lowers_by Tie call a.0 p xs aw aw' s.wired S S' was_held is_held passing falls f.now n
+                (same_awaited q.ended q.taken n) (λ g e. sym (ap (λ b. cond b
+                (Some (cond (nat_eq (slice_index q.out.bytes.items 8) 0x82) (num q.out.bytes.items 16 4) 0))
+                (figure_of n (pending_held p))) (ap (λ k. nat_eq k n) (own_named a.0 q.message q.out own
+                (small_of call calls q.message q.read.0 reads q.read.1))
+                ∙ apart_from xs (num q.message 0 4) n fresh any))
+                ∙ ap (λ es. figure_of n (es ++ pending_held p))
+                (sym (begun_is q.out q.nothing q.begun kinds.End kind)) ∙ e)
+
+    deals_so : Deals aw call a.0 p → Known p (call ∷ calls) a
+    deals_so (inl q) = calm [] aw (none_by q.accepted) q.begun
+        (as_it_is Tie G O h aw (h ++ []) aw (held a.0) (held a.0) (append-nil h) refl refl s)
+        (mid_none (λ n. quiet_low (ap (λ os. flat_map pending_in (map said_in os)) q.begun) n
+        (same_awaited q.ended q.taken n)))
+    deals_so (inr (inl q)) = begun [] q.out (none_by q.accepted) q.nothing q.begun (mid_none (λ n. quiet_low
+        (begun_is q.out q.nothing q.begun kinds.Attention q.kind) n (same_awaited q.ended q.taken n)))
+    deals_so (inr (inr (inl q))) = begun [] q.out (none_by q.accepted) q.nothing q.begun (mid_none (λ n.
+        ending_lowers Tie call a.0 p xs aw aw' s.wired S S' was_held is_held passing falls f.now
+        (num q.out.bytes.items 0 4) (record {
+          number = num q.out.bytes.items 0 4;
+          figure = cond (nat_eq (slice_index q.out.bytes.items 8) 0x82) (num q.out.bytes.items 16 4) 0;
+        }) (begun_is q.out q.nothing q.begun kinds.End q.kind) refl
+        (awaited_is (q.out.bytes.items ∷ []) [] q.ended q.taken ∙ append-nil _) n))
+    deals_so (inr (inr (inr (inl q)))) = taking q
+    deals_so (inr (inr (inr (inr q)))) = answering q
+
+  -- ---- all of them
+
+  module _ (Fine : List Call → Type 0) (fine_before : (call : Call) (calls : List Call) → Fine (call ∷ calls)
+      → Fine calls) (state : (p : Port K) (calls : List Call) → AsksAlways calls → ReadsBytes calls → Fine calls
+      → (a : Answered picks start calls p) → HostIsRight limit (logged picks start p calls a)
+      → Stated Tie G O (logged picks start p calls a) (awaited picks start p calls a) (held p)) where
+    pub known : (p : Port K) (calls : List Call) → AsksAlways calls → ReadsBytes calls → Fine calls
+        → (a : Answered picks start calls p) → HostIsRight limit (logged picks start p calls a)
+        → ServesBetweenPolls picks start p calls a → Known p calls a
+    known p [] asks reads fine a host serves = nothing_known p [] asks a refl
+    known p (call ∷ calls) asks reads fine a host serves = elim (is_reset call) [
+      | inl reset ↦ nothing_known p (call ∷ calls) asks a (since_reset p.stage call _ _ reset)
+      | inr never ↦ by call a asks reads fine host serves (λ x y. known a.0 calls (asked_before call calls asks)
+          (reads_before call calls reads) (fine_before call calls fine) a.1 x y) never (is_dead p.stage) refl
+    ]
+      where
+        serves_before : (call : Call) (a : Answered picks start (call ∷ calls) p)
+            → ServesBetweenPolls picks start p (call ∷ calls) a → ServesBetweenPolls picks start a.0 calls a.1
+        serves_before call a serves = serves.1
+
+        by : (call : Call) (a : Answered picks start (call ∷ calls) p) → AsksAlways (call ∷ calls)
+            → ReadsBytes (call ∷ calls) → Fine (call ∷ calls)
+            → HostIsRight limit (logged picks start p (call ∷ calls) a)
+            → ServesBetweenPolls picks start p (call ∷ calls) a
+            → (HostIsRight limit (logged picks start a.0 calls a.1) → ServesBetweenPolls picks start a.0 calls a.1
+            → Known a.0 calls a.1) → call ≢ WriteIp → (b : Bool) → is_dead p.stage ≡ b → Known p (call ∷ calls) a
+        by call a asks reads fine host serves so_far never true dead =
+            nothing_known p (call ∷ calls) asks a (since_dead p.stage call _ _ dead)
+        by call a asks reads fine host serves so_far never false lives =
+            let d = ends c before controller hardware credits start p call calls valid was quiet made reads a never
+            lives in
+            let old_host = each_front (λ x m. is_message m ≡ true → IsRight limit x m) moments.Reset
+            (logged picks start a.0 calls a.1) (seen_by call a.0 p)
+            (subst (λ x. HostIsRight limit x) (since_alive p.stage call _ _ never lives) host) in
+            deals_so p call calls asks reads a never lives (state a.0 calls (asked_before call calls asks)
+            (reads_before call calls reads) (fine_before call calls fine) a.1 old_host) host serves.0
+            (so_far old_host (serves_before call a serves)) d.1

@@ -1,0 +1,389 @@
+-- After each call of a port no end that waits has passed a command that it had to wait for.
+use Rattle.std.proofs.Common.{◌≡◌, ◌⊎◌, ◌∙◌, ◌+◌, ◌≤◌, ◌++◌, ◌∷◌, [], ℕ, Bool, true, false, cond, drop, filter, length, map, nat_eq, nat_lt, not, take, List, MatchOption, Option, None, Some, inl, inr, refl, ap, sym, subst, arith, append_assoc}
+use Rattle.std.specs.Prelude.{Ok, Err, Result, is_some}
+use Rattle.std.specs.List.{AllByRecursion, list_all}
+use Rattle.std.proofs.lemmas.List.{append-nil}
+use Rattle.std.proofs.lemmas.List.Elements.{filter-append}
+use Rattle.std.proofs.lemmas.Option.{none-some}
+use Rattle.mscp_packet.specs.Number.{num}
+use Rattle.mscp_packet.specs.declared.command.Command.{Command}
+use Rattle.mscp_packet.specs.declared.end.End.{End}
+use Rattle.mscp_drive.specs.Settings.{Settings}
+use Rattle.mscp_drive.specs.UnitList.{unit_found}
+use Rattle.mscp_drive.specs.declared.block.Block.{Block}
+use Rattle.mscp_drive.specs.declared.connection.Connection.{Connection}
+use Rattle.mscp_drive.specs.declared.connection.Connection.TheVariants.{First, Second}
+use Rattle.mscp_queue.proofs.Named.{is_same}
+use Rattle.mscp_queue.specs.Names.{name_on}
+use Rattle.mscp_queue.specs.Records.{Record, advanced, drive_at, is_in_service, name_of, no_record, record_at, step_charge}
+use Rattle.mscp_queue.specs.Serving.{IsServable, end_given, waiting_after}
+use Rattle.mscp_queue.specs.Views.{fences, is_affordable}
+use Rattle.mscp_queue.specs.declared.drive.Drive.{Drive}
+use Rattle.mscp_queue.specs.declared.name.Name.{Name}
+use Rattle.mscp_queue.specs.declared.report.Report.{Report}
+use Rattle.mscp_queue.specs.declared.report.Report.TheVariants as reports
+use Rattle.mscp_controller.specs.Holdings.{Finishes, Holdings}
+use Rattle.mscp_controller.specs.declared.entry.NotBegun.{NotBegun}
+use Rattle.mscp_port.specs.Blocks.{block_told}
+use Rattle.mscp_port.specs.Calls.{Dies, Goes, Wants}
+use Rattle.mscp_port.specs.Histories.{Call, Next, Went}
+use Rattle.mscp_port.specs.Leaving.{told_end}
+use Rattle.mscp_port.specs.Moved.{HeedsStep, TakesBegun, TakesBlock, block_begun, block_served, end_brought}
+use Rattle.mscp_port.specs.Outgoings.{MayBegin, TakesEnd, news_place}
+use Rattle.mscp_port.specs.declared.action.Action.{Action}
+use Rattle.mscp_port.specs.declared.action.Outcome.{Outcome}
+use Rattle.mscp_port.specs.declared.decided.Decided.{Decided}
+use Rattle.mscp_port.specs.declared.port.Port.{Port}
+use Rattle.mscp_port.specs.declared.task.Task.{Task}
+use Rattle.mscp_port.specs.declared.task.Task.TheVariants as tasks
+use Rattle.mscp_port.specs.declared.verdict.Verdict.{Verdict}
+use Rattle.mscp_port.proofs.Common.{and_parts, drop_more, eq-eqb, false≢true, take-append-drop}
+use Rattle.mscp_port.proofs.Kept.{is_numbered}
+use Rattle.mscp_port.proofs.Loads.{looks_or_not}
+use Rattle.mscp_port.proofs.Said.{served_name}
+use Rattle.mscp_ported.specs.Awaited.{has_number, taken_by, without_ends}
+use Rattle.mscp_ported.specs.Ends.{ends_begun, ends_said_by}
+use Rattle.mscp_ported.specs.Talk.{is_dead, since}
+use Rattle.mscp_ported.proofs.Awaiting.{IsNoReset, Kept}
+use Rattle.mscp_ported.proofs.Coming.{brought_for, come_so, ends_of, steps_bring}
+use Rattle.mscp_ported.proofs.Dealing.{begun, begun_same, named, news_none, whole}
+use Rattle.mscp_ported.proofs.Ended.{nothing_two}
+use Rattle.mscp_ported.proofs.Ending.{Grows}
+use Rattle.mscp_ported.proofs.Fitted.{Fitting}
+use Rattle.mscp_ported.proofs.Keeping.{end_number}
+use Rattle.mscp_ported.proofs.Leaving.{step_grows}
+use Rattle.mscp_ported.proofs.Numbered.{At, first_of_one, some_none}
+use Rattle.mscp_ported.proofs.Numbering.{ended_none, served_waits, still_none}
+use Rattle.mscp_ported.proofs.Origins.{IsOf}
+use Rattle.mscp_ported.proofs.Sole.{served_goes_on, served_itself, served_other, this_one}
+use Rattle.mscp_ported.proofs.Staying.{Stays, went_stays}
+use Rattle.mscp_ported.proofs.Tables.{decided_by}
+use Rattle.mscp_ported.proofs.Units.{IsUnitIn}
+use Rattle.mscp_ported.proofs.Wanting.{alive_or_dead}
+use Rattle.mscp_logged.proofs.Clear.{AreClear, IsGood, Ordered, is_ended, nothing_ordered, ordered_as, ordered_forgotten, ordered_stepped, ordered_taken, some_ended, unended}
+use Rattle.mscp_logged.proofs.Fences.{IsWaiting, serves_free}
+use Rattle.mscp_logged.proofs.Passes.{overtakes}
+use Rattle.mscp_logged.proofs.Queueing.{NoneBehind, behind_served}
+
+abbrev pub OrderedIn : Settings → {K : Type 0} → Port K → List (List ℕ) → Type 0
+OrderedIn c p aw = Ordered c aw p.controller.waiting (ends_of p.controller) p.decided.items
+
+-- ---- the messages
+
+module _ {c : Settings} {Told : Verdict → Record → Type 0} {K : Type 0} (p : Port K) (aw : List (List ℕ))
+    (k : Kept p aw) (f : Fitting c Told p aw) where
+  abbrev rs : List Record
+  rs = p.controller.waiting
+
+  abbrev es : List End
+  es = ends_of p.controller
+
+  abbrev IsHere : List ℕ → Type 0
+  IsHere t = IsWaiting rs t ⊎ (is_ended es t ≡ true)
+
+  here_or : (front : List (List ℕ)) (t : List ℕ) (back : List (List ℕ)) → aw ≡ front ++ t ∷ back
+      → At aw rs es (num t 0 4) → IsHere t
+  here_or front t back e at = by at
+    where
+      n : ℕ
+      n = num t 0 4
+
+      mine : has_number n t ≡ true
+      mine = eq-eqb (num t 0 4) (num t 0 4) refl
+
+      by : At aw rs es n → IsHere t
+      by (inl none) = absurd (some_none t (filter (has_number n) back)
+          (sym (ap (λ b. cond b (t ∷ filter (has_number n) back) (filter (has_number n) back)) mine)
+          ∙ (nothing_two (filter (has_number n) front) (filter (has_number n) (t ∷ back))
+          (sym (filter-append (has_number n) front (t ∷ back)) ∙ ap (filter (has_number n)) (sym e) ∙ none.0)).1))
+      by (inr (inl w)) =
+          let same = (this_one (has_number n) front back t w.text (ap (filter (has_number n)) (sym e) ∙ w.message)
+          mine).1 in
+          let x = (f.kept n).own w.own w.text w.sole w.message in
+          inl (record {
+            own = w.own;
+            sole = w.sole;
+            unit = subst (λ z. IsUnitIn w.own.command.unit z) (sym same) x.2.unit;
+            of = subst (λ z. IsOf w.own z) (sym same) x.2.of;
+          })
+      by (inr (inr x)) = inr (some_ended t es x.end x.sole)
+
+  each_here : (front back : List (List ℕ)) → aw ≡ front ++ back → AllByRecursion IsHere back
+  each_here front [] e = tt
+  each_here front (t ∷ back) e = (
+    here_or front t back e (k.each (num t 0 4)),
+    each_here (front ++ t ∷ []) back (e ∙ sym (append_assoc front (t ∷ []) back)),
+  )
+
+  pub all_waiting : AllByRecursion (IsWaiting rs) (unended es aw)
+  all_waiting = left aw (each_here [] aw refl)
+    where
+      left : (ts : List (List ℕ)) → AllByRecursion IsHere ts → AllByRecursion (IsWaiting rs) (unended es ts)
+      left [] all = tt
+      left (t ∷ ts) all = by (is_ended es t) refl all.0 (left ts all.1)
+        where
+          by : (b : Bool) → is_ended es t ≡ b → IsHere t → AllByRecursion (IsWaiting rs) (unended es ts)
+              → AllByRecursion (IsWaiting rs) (cond (not b) (t ∷ unended es ts) (unended es ts))
+          by true is h rest = rest
+          by false is (inl w) rest = (w, rest)
+          by false is (inr e) rest = absurd (false≢true (sym is ∙ e))
+
+-- ---- calls
+
+module _ {c : Settings} {K : Type 0} (call : Call) (old new : Port K) (aw : List (List ℕ)) (o : OrderedIn c old aw)
+    (calm : IsNoReset call) where
+  abbrev So : Type 0
+  So = OrderedIn c new (since new.stage call (without_ends (ends_said_by call old new) aw) (taken_by call old))
+
+  pub became : (xs : List (List ℕ)) → without_ends (ends_said_by call old new) aw ++ taken_by call old ≡ xs
+      → OrderedIn c new xs → So
+  became xs e x = subst (λ z. OrderedIn c new z) (sym (calm.texts new.stage _ _)) (by (is_dead new.stage))
+    where
+      by : (b : Bool) → OrderedIn c new (cond b [] (without_ends (ends_said_by call old new) aw ++ taken_by call old))
+      by true = ordered_forgotten c xs new.controller.waiting (ends_of new.controller) new.decided.items x
+      by false = subst (λ z. OrderedIn c new z) (sym e) x
+
+  died : Dies old new → So
+  died d = ordered_as c _ [] new.controller.waiting [] (ends_of new.controller) new.decided.items new.decided.items
+      (ap (λ (h : Holdings K). h.waiting) d.1.controller) (ap (λ (h : Holdings K). ends_of h) d.1.controller) refl
+      (nothing_ordered c _ new.decided.items)
+
+  pub unchanged : ends_said_by call old new ≡ [] → taken_by call old ≡ []
+      → new.controller.waiting ≡ old.controller.waiting → ends_of new.controller ≡ ends_of old.controller
+      → new.decided.items ≡ old.decided.items → So
+  unchanged said taken waiting ends decided = became aw
+      (ap (λ xs. without_ends xs aw ++ taken_by call old) said ∙ ap (λ xs. aw ++ xs) taken ∙ append-nil aw)
+      (ordered_as c aw old.controller.waiting new.controller.waiting (ends_of old.controller) (ends_of new.controller)
+      old.decided.items new.decided.items waiting ends decided o)
+
+  pub stays : ends_said_by call old new ≡ [] → taken_by call old ≡ [] → Stays old new → So
+  stays said taken either = elim either [
+    | inr d ↦ died d
+    | inl s ↦ unchanged said taken (ap (λ (h : Holdings K). h.waiting) s.0) (ap (λ (h : Holdings K). ends_of h) s.0)
+        (ap (λ d. d.items) s.1)
+  ]
+
+-- ---- an end is taken
+
+module _ {c : Settings} {Told : Verdict → Record → Type 0} {K : Type 0} (blocks : Bool) (action : Action)
+    (bytes : List ℕ) (old new : Port K) (aw : List (List ℕ))
+    (k : Kept old aw) (f : Fitting c Told old aw) (o : OrderedIn c old aw) (picks : List _ → ℕ → Type 0)
+    (r : Wants picks blocks old action new) where
+  abbrev Then : Type 0
+  Then = OrderedIn c new (since new.stage (Next blocks action bytes)
+      (without_ends (ends_begun old.outgoing new.outgoing) aw) [])
+
+  calm : IsNoReset (Next blocks action bytes)
+  calm = record { texts = λ s xs ys. refl }
+
+  still : ends_begun old.outgoing new.outgoing ≡ [] → MayBegin old.controller new.controller
+      → new.decided ≡ old.decided → Then
+  still none may decided = unchanged (Next blocks action bytes) old new aw o calm none refl
+      (ap (λ (h : Holdings K). h.waiting) may) (ap (λ (h : Holdings K). ends_of h) may) (ap (λ d. d.items) decided)
+
+  taken : TakesEnd old new → Then
+  taken t =
+      let e = t.out.0 in
+      let es = drop 1 (ends_of old.controller) in
+      let is : ends_of old.controller ≡ e ∷ es = whole blocks action bytes old new aw k picks r t in
+      became (Next blocks action bytes) old new aw o calm (filter (λ x. not (has_number e.reference x)) aw)
+      (ap (λ xs. without_ends xs aw ++ []) (begun blocks action bytes old new aw k picks r t)
+      ∙ append-nil (filter (λ x. not (has_number (num (told_end old e) 0 4) x)) aw)
+      ∙ ap (λ n. filter (λ x. not (has_number n x)) aw) (named blocks action bytes old new aw k picks r t))
+      (ordered_as c (filter (λ x. not (has_number e.reference x)) aw) old.controller.waiting new.controller.waiting es
+      (ends_of new.controller) (drop 1 old.decided.items) new.decided.items
+      (ap (λ (h : Holdings K). h.waiting) t.controller) (ap (λ (h : Holdings K). ends_of h) t.controller) t.decided
+      (ordered_taken c aw old.controller.waiting e es old.decided.items (sym (ap length is) ∙ f.long)
+      (subst (λ xs. Ordered c aw old.controller.waiting xs old.decided.items) is o)))
+
+  pub next_ordered : Then
+  next_ordered = elim (alive_or_dead old old.stage refl) [
+    | inr d ↦
+        let e = (r.dead d.0 d.1).1 in
+        still (ap (ends_begun old.outgoing) (ap (λ (q : Port K). q.outgoing) e)
+        ∙ begun_same blocks action bytes old new aw k picks r old.outgoing)
+        (ap (λ (q : Port K). q.controller) e
+        ∙ ap (λ b. record old.controller { begun = b }) (sym (ap (λ (q : Port K). q.controller.begun) e)))
+        (ap (λ (q : Port K). q.decided) e)
+    | inl alive ↦ elim (looks_or_not old) [
+      | inl looks ↦ elim (r.says.looks looks) [
+        | inl t ↦ taken t
+        | inr n ↦ still (ap (λ o. ends_begun o new.outgoing) n.nothing
+            ∙ news_none blocks action bytes old new aw k picks r new.volumes old.volumes old.controller.settings.units
+            (news_place old) new.outgoing n.out) n.controller n.decided
+      ]
+      | inr never ↦
+          let q = r.says.keeps never in
+          still (ap (ends_begun old.outgoing) q.outgoing
+          ∙ begun_same blocks action bytes old new aw k picks r old.outgoing) q.controller q.decided
+    ]
+  ]
+
+-- ---- a step
+
+module _ {c : Settings} {Told : Verdict → Record → Type 0} {K : Type 0} (old : Port K) (aw : List (List ℕ))
+    (k : Kept old aw) (f : Fitting c Told old aw) (o : OrderedIn c old aw) (b : Block) (d : Drive) (budget : ℕ)
+    (place : ℕ) (can : IsServable budget old.controller.waiting place) where
+  abbrev waiting : List Record
+  waiting = old.controller.waiting
+
+  abbrev r0 : Record
+  r0 = record_at old.controller.waiting place
+
+  abbrev left : List (List ℕ)
+  left = unended (ends_of old.controller) aw
+
+  parts : take place waiting ++ r0 ∷ drop (place + 1) waiting ≡ waiting
+  parts = ap (λ zs. take place old.controller.waiting ++ zs)
+      (sym (drop_more old.controller.waiting place no_record can.inside))
+      ∙ take-append-drop place old.controller.waiting
+
+  sole_of : (n : ℕ) → is_numbered n r0 ≡ true → filter (is_numbered n) waiting ≡ r0 ∷ []
+  sole_of n mine = by (k.each n)
+    where
+      by : At aw old.controller.waiting (ends_of old.controller) n
+          → filter (is_numbered n) old.controller.waiting ≡ r0 ∷ []
+      by (inl none) = absurd (served_waits n b d old.controller.waiting place can.inside mine none.1)
+      by (inr (inr x)) = absurd (served_waits n b d old.controller.waiting place can.inside mine x.none)
+      by (inr (inl w)) = w.sole ∙ ap (λ z. z ∷ [])
+          (sym (served_itself n b d old.controller.waiting place can.inside w.own w.sole mine))
+
+  -- what is served passes none
+  serves : (n : ℕ) → is_numbered n r0 ≡ true → overtakes n left ≡ false
+  serves n mine = by (is_in_service r0) refl
+    where
+      fresh : (x : ℕ) → nat_lt 0 x ≡ false → nat_eq x 0 ≡ true
+      fresh x e = search (arith, e)
+
+      by : (s : Bool) → is_in_service r0 ≡ s → overtakes n left ≡ false
+      by true s = (o.own n r0 (sole_of n mine)).served s
+      by false s = serves_free waiting (take place waiting) r0 (drop (place + 1) waiting) (sym parts) n mine
+          (and_parts (list_all (λ z. not (fences r0 z)) (take place waiting))
+          (is_affordable budget r0 (take place waiting)) (can.opens (fresh r0.done s))).0 left o.lined
+          (all_waiting old aw k f)
+
+  still_good : (n : ℕ) (r : Record) → filter (is_numbered n) (waiting_after b d waiting place) ≡ r ∷ []
+      → IsGood c left n r
+  still_good n r e = by (is_numbered n r0) refl (k.each n)
+    where
+      none : filter (is_numbered n) waiting ≡ [] → IsGood c left n r
+      none h = absurd (some_none r [] (sym e ∙ still_none n b d waiting place can.inside h))
+
+      ended : is_numbered n r0 ≡ true → (x : Option End) → end_given b d r0 ≡ x → IsGood c left n r
+      ended mine None given =
+          let same : advanced r0 ≡ r = (first_of_one (advanced r0) r [] (sym (served_goes_on n b d waiting place
+          can.inside r0 (sole_of n mine) mine given) ∙ e)).0 in
+          subst (λ z. IsGood c left n z) same
+          (record { known = (o.own n r0 (sole_of n mine)).known; served = λ s. serves n mine })
+      ended mine (Some x) given = absurd (some_none r []
+          (sym e ∙ ended_none n b d waiting place can.inside r0 x (sole_of n mine) mine given))
+
+      by : (m : Bool) → is_numbered n r0 ≡ m → At aw waiting (ends_of old.controller) n → IsGood c left n r
+      by true mine at = ended mine (end_given b d r0) refl
+      by false other (inl z) = none z.1
+      by false other (inr (inr x)) = none x.none
+      by false other (inr (inl w)) =
+          let s = served_other n b d waiting place can.inside w.own w.sole other in
+          let same : s.0 ≡ r = (first_of_one s.0 r [] (sym s.1 ∙ e)).0 in
+          let good = o.own n w.own w.sole in
+          subst (λ z. IsGood c left n z) same (record {
+            known = subst (λ (x : Command). is_some (unit_found c.units x.unit) ≡ true) (sym s.2.command) good.known;
+            served = λ h. good.served (subst (λ x. nat_lt 0 x ≡ true) s.2.done h);
+          })
+
+  pub step_ordered : (made : End → Decided) → Ordered c aw (waiting_after b d waiting place)
+      (ends_of old.controller ++ brought_for r0.connection (end_given b d r0))
+      (old.decided.items ++ map made (brought_for r0.connection (end_given b d r0)))
+  step_ordered made = ordered_stepped c aw waiting (ends_of old.controller) old.decided.items o
+      (waiting_after b d waiting place) (brought_for r0.connection (end_given b d r0))
+      (map made (brought_for r0.connection (end_given b d r0))) f.long
+      (λ x y h. behind_served x y (step_charge r0) (take place waiting) r0 (drop (place + 1) waiting)
+      (end_given b d r0) (subst (λ zs. NoneBehind x y zs) (sym parts) h)) still_good
+      (by r0.connection (end_given b d r0) refl refl)
+    where
+      mine : (e : End) → r0.connection ≡ First → end_given b d r0 ≡ Some e → is_numbered e.reference r0 ≡ true
+      mine e via given = subst (λ n. is_numbered n r0 ≡ true) (sym (end_number b d r0 e given))
+          (is_same (name_of r0) (name_on First r0.command.reference) (ap (λ y. name_on y r0.command.reference) via))
+
+      by : (via : Connection) (x : Option End) → r0.connection ≡ via → end_given b d r0 ≡ x
+          → AreClear left (brought_for via x) (map made (brought_for via x))
+      by First None at given = tt
+      by First (Some e) at given = (inr (serves e.reference (mine e at given)), tt)
+      by Second x at given = tt
+
+module _ {c : Settings} {Told : Verdict → Record → Type 0} {K : Type 0} (picks : List _ → ℕ → Type 0)
+    (outcome : Outcome) (done : Unit) (old new : Port K)
+    (aw : List (List ℕ)) (k : Kept old aw) (f : Fitting c Told old aw) (o : OrderedIn c old aw)
+    (r : Goes picks outcome old (Ok done) new) (few : length (ends_of new.controller) ≤ 64) where
+  abbrev Behind : Type 0
+  Behind = OrderedIn c new (since new.stage (Went outcome (Ok done)) aw [])
+
+  calm_went : IsNoReset (Went outcome (Ok done))
+  calm_went = record { texts = λ s xs ys. refl }
+
+  taken_step : (verdict : Verdict) → TakesBegun picks verdict old new → Behind
+  taken_step verdict takes = by old.controller.begun refl takes
+    where
+      g : Grows old new (decided_by verdict old new)
+      g = step_grows picks verdict old new takes f.long few
+
+      took : (name : Name) → old.controller.begun ≡ Some name → (result : Result Report NotBegun)
+          → Finishes picks (name_on name.connection name.reference) (block_told verdict) old.controller result
+          new.controller → HeedsStep name.connection verdict (end_brought result) old new → Behind
+      took name was (Err not_begun) x h = unchanged (Went outcome (Ok done)) old new aw o calm_went refl refl
+          (ap (λ (h : Holdings K). h.waiting) x.1) (ap (λ (h : Holdings K). ends_of h) x.1) h.decided
+      took name was (Ok reports.Idle) x h = absurd (none-some name (sym x.1.serves.1 ∙ was))
+      took name was (Ok (reports.Served other number unit lbn started seek ended)) x h =
+          became (Went outcome (Ok done)) old new aw o calm_went aw (append-nil aw)
+          (ordered_as c aw (waiting_after b d rs0 place) new.controller.waiting
+          (ends_of old.controller ++ brought_for r1.connection (end_given b d r1)) (ends_of new.controller)
+          (old.decided.items ++ map (decided_by verdict old new) (brought_for r1.connection (end_given b d r1)))
+          new.decided.items (ap (λ l. l.waiting) x.1.serves.1.left)
+          (ends ∙ ap (λ xs. ends_of old.controller ++ xs) brought)
+          (g.decided ∙ ap (λ xs. old.decided.items ++ map (decided_by verdict old new) xs)
+          (sym (come_so old new g.brought g.ends)
+          ∙ come_so old new (brought_for name.connection ended) ends ∙ brought))
+          (step_ordered old aw k f o b d old.controller.settings.budget place x.1.serves.1.next.servable
+          (decided_by verdict old new)))
+        where
+          place : ℕ
+          place = x.1.serves.0
+
+          rs0 : List Record
+          rs0 = old.controller.waiting
+
+          r1 : Record
+          r1 = record_at rs0 place
+
+          b : Block
+          b = block_told verdict
+
+          d : Drive
+          d = drive_at old.controller.drives rs0 place
+
+          is : name_of r1 ≡ name_on name.connection name.reference
+          is = served_name old.controller.begun (name_on name.connection name.reference) r1 x.0 x.1.serves.1.next.same
+
+          ends : ends_of new.controller ≡ ends_of old.controller ++ brought_for name.connection ended
+          ends = steps_bring picks name.connection name.reference b old.controller new.controller
+              (Ok (reports.Served other number unit lbn started seek ended)) x
+
+          brought : brought_for name.connection ended ≡ brought_for r1.connection (end_given b d r1)
+          brought = ap (λ y. brought_for name.connection (end_brought (Ok y))) x.1.serves.1.told
+              ∙ ap (λ (n : Name). brought_for n.connection (end_given b d r1)) (sym is)
+
+      by : (x : Option Name) → old.controller.begun ≡ x → MatchOption x (new ≡ record old { task = tasks.Free })
+          (λ name. TakesBlock picks name.connection name.reference verdict old new) → Behind
+      by None e h = unchanged (Went outcome (Ok done)) old new aw o calm_went refl refl
+          (ap (λ (q : Port K). q.controller.waiting) h) (ap (λ (q : Port K). ends_of q.controller) h)
+          (ap (λ (q : Port K). q.decided.items) h)
+      by (Some name) e h = took name e h.finished.0 h.finished.1 h.finished.2
+
+  pub went_ordered : Behind
+  went_ordered = by old.task refl
+    where
+      by : (t : Task) → old.task ≡ t → Behind
+      by (tasks.Step verdict) at = taken_step verdict ((r.moves refl).step verdict at)
+      by tasks.Transfer at = taken_step (block_served old outcome (block_begun old)) ((r.moves refl).transfer at)
+      by t at = stays (Went outcome (Ok done)) old new aw o calm_went refl refl
+          (went_stays picks outcome old new t done at r refl)

@@ -1,0 +1,248 @@
+-- No end of a port's passes a command that it has to wait for, over a whole list of calls.
+use Rattle.std.proofs.Common.{◌≡◌, ◌⊎◌, ◌∙◌, ◌+◌, ◌<◌, ◌&&◌, ◌∷◌, [], ℕ, All, Bool, true, false, cond, drop, filter, nat_eq, List, Option, None, Some, inl, inr, refl, ap, sym, subst, arith}
+use Rattle.std.specs.Prelude.{◌%◌, Ok, is_some, nat_le, nat_lt, option_map, slice_get}
+use Rattle.std.specs.List.{AllByRecursion, position}
+use Rattle.std.proofs.lemmas.Option.{none-some, same_Some}
+use Rattle.mscp_packet.specs.Number.{num}
+use Rattle.mscp_packet.specs.declared.end.End.{End}
+use Rattle.mscp_drive.specs.Settings.{IsValid, Settings}
+use Rattle.mscp_drive.specs.Shape.{Shape}
+use Rattle.mscp_drive.specs.UnitList.{unit_found}
+use Rattle.mscp_drive.specs.Extent.{blocks}
+use Rattle.mscp_drive.specs.declared.connection.Connection.TheVariants.{First}
+use Rattle.mscp_queue.proofs.Placed.{find_cases, find_none, position_first}
+use Rattle.mscp_queue.specs.Records.{Record}
+use Rattle.mscp_controller.specs.Calls.{AnsweredCalls, Call as Made}
+use Rattle.mscp_controller.specs.Controllers.{ControllersKeepThePromise, KeepsPromise}
+use Rattle.mscp_controller.specs.Holdings.{Holdings, fresh, outstanding_of}
+use Rattle.mscp_port.specs.Calls.{IsMadeOf, Wants}
+use Rattle.mscp_port.specs.Histories.{Answered, Call, Next, Picking, WasRead, Went, WriteIp}
+use Rattle.mscp_port.specs.Leaving.{told_end}
+use Rattle.mscp_port.specs.Outgoings.{TakesEnd, news_place}
+use Rattle.mscp_port.specs.Volumes.{place_in, volume_at}
+use Rattle.mscp_port.specs.declared.action.Action.{Action}
+use Rattle.mscp_port.specs.declared.decided.Decided.{Decided}
+use Rattle.mscp_port.specs.declared.hardware.Hardware.{Hardware}
+use Rattle.mscp_port.specs.declared.port.Port.{Port}
+use Rattle.mscp_port.specs.declared.verdict.Verdict.{Verdict}
+use Rattle.mscp_port.specs.declared.volumes.Volume.{Volume}
+use Rattle.mscp_port.proofs.Common.{false≢true}
+use Rattle.mscp_port.proofs.Kept.{is_numbered}
+use Rattle.mscp_port.proofs.Loads.{looks_or_not}
+use Rattle.mscp_ported.specs.Answers.{Own, moves_data, own_answer, own_refusal, own_text, volume_named}
+use Rattle.mscp_ported.specs.Awaited.{ReadsBytes, awaited}
+use Rattle.mscp_ported.specs.Ends.{ends_begun, ends_said_by}
+use Rattle.mscp_ported.proofs.Awaiting.{IsNoReset, Kept}
+use Rattle.mscp_ported.proofs.ByOpcode.{fitting}
+use Rattle.mscp_ported.proofs.Coming.{ends_of, few_ends}
+use Rattle.mscp_ported.proofs.Dealing.{begun, begun_same, named, news_none, passive_taken, whole}
+use Rattle.mscp_ported.proofs.Decided.{passive_said}
+use Rattle.mscp_ported.proofs.Ended.{kept}
+use Rattle.mscp_ported.proofs.Fitted.{Fitting}
+use Rattle.mscp_ported.proofs.Itself.{own_refused}
+use Rattle.mscp_ported.proofs.Numbered.{At, first_of_one, some_none}
+use Rattle.mscp_ported.proofs.Promised.{knows}
+use Rattle.mscp_ported.proofs.Staying.{IsPassive, passive_stays}
+use Rattle.mscp_wire.specs.Wire.{is_apart}
+use Rattle.mscp_logged.proofs.Clear.{IsClear, Ordered, clear_forgotten, ordered_as, nothing_ordered, unended, unended_none}
+use Rattle.mscp_logged.proofs.Fences.{IsWaiting, same_unit, unit_earlier}
+use Rattle.mscp_logged.proofs.Hearing.{read_ordered}
+use Rattle.mscp_logged.proofs.Ordering.{OrderedIn, all_waiting, next_ordered, stays, went_ordered}
+use Rattle.mscp_logged.proofs.Passes.{keeps, overtakes}
+use Rattle.mscp_logged.proofs.Seen.{reads_before}
+use Rattle.mscp_logged.proofs.Turns.{IsApartOr}
+
+-- ---- an end begins to go out
+
+-- the oldest, with what was decided of it
+first_clear : (c : Settings) (aw : List (List ℕ)) (rs : List Record) (e : End) (es : List End) (ds : List Decided)
+    (d : Decided) → slice_get ds 0 ≡ Some d → Ordered c aw rs (e ∷ es) ds → IsClear aw e d
+first_clear c aw rs e es [] d some o = absurd (none-some d some)
+first_clear c aw rs e es (x ∷ ds) d some o = subst (λ y. IsClear aw e y) (same_Some x d some) o.clear.0
+
+module _ {c : Settings} {K : Type 0} (blocks : Bool) (action : Action) (bytes : List ℕ) (old new : Port K)
+    (aw : List (List ℕ)) (k : Kept old aw) (o : OrderedIn c old aw) (picks : List _ → ℕ → Type 0)
+    (r : Wants picks blocks old action new) (d : Decided) (some : slice_get old.decided.items 0 ≡ Some d) where
+  clear_of : (text : List ℕ) → TakesEnd old new → ends_begun old.outgoing new.outgoing ≡ text ∷ []
+      → (is_apart (d.status % 32) ≡ true) ⊎ (overtakes (num text 0 4) aw ≡ false)
+  clear_of text t said =
+      let is = whole blocks action bytes old new aw k picks r t in
+      let same : told_end old t.out.0 ≡ text =
+      (first_of_one (told_end old t.out.0) text [] (sym (begun blocks action bytes old new aw k picks r t) ∙ said)).0 in
+      by (sym (ap (λ x. num x 0 4) same) ∙ named blocks action bytes old new aw k picks r t)
+      (first_clear c aw old.controller.waiting t.out.0 (drop 1 (ends_of old.controller)) old.decided.items d some
+      (subst (λ xs. Ordered c aw old.controller.waiting xs old.decided.items) is o))
+    where
+      by : {n : ℕ} → num text 0 4 ≡ n → (is_apart (d.status % 32) ≡ true) ⊎ (overtakes n aw ≡ false)
+          → (is_apart (d.status % 32) ≡ true) ⊎ (overtakes (num text 0 4) aw ≡ false)
+      by number (inl a) = inl a
+      by number (inr h) = inr (subst (λ m. overtakes m aw ≡ false) (sym number) h)
+
+  pub said_clear : (text : List ℕ) → ends_begun old.outgoing new.outgoing ≡ text ∷ []
+      → (is_apart (d.status % 32) ≡ true) ⊎ (overtakes (num text 0 4) aw ≡ false)
+  said_clear text said = elim (looks_or_not old) [
+    | inl looks ↦ elim (r.says.looks looks) [
+      | inl t ↦ clear_of text t said
+      | inr n ↦ absurd (none_said (sym (ap (λ o. ends_begun o new.outgoing) n.nothing
+          ∙ news_none blocks action bytes old new aw k picks r new.volumes old.volumes old.controller.settings.units
+          (news_place old) new.outgoing n.out) ∙ said))
+    ]
+    | inr never ↦ absurd (none_said (sym (ap (ends_begun old.outgoing) (r.says.keeps never).outgoing
+        ∙ begun_same blocks action bytes old new aw k picks r old.outgoing) ∙ said))
+  ]
+    where
+      none_said : [] ≡ text ∷ [] → ⊥
+      none_said e = search (arith, e)
+
+-- ---- the port's own
+
+past_is : (a x y : Bool) (status : ℕ)
+    → cond a (cond x (Some 0x1C01) (cond y (Some 0x0C01) None)) None ≡ Some status
+    → (status ≡ 0x1C01) ⊎ (status ≡ 0x0C01)
+past_is true true y status e = inl (sym (same_Some 0x1C01 status e))
+past_is true false true status e = inr (sym (same_Some 0x0C01 status e))
+past_is true false false status e = absurd (none-some status e)
+past_is false x y status e = absurd (none-some status e)
+
+-- it is of a unit that isn't there, or is refused
+own_or : (v : Option Volume) (b : List ℕ) (own : Own) → own_answer false v b ≡ Some own
+    → (v ≡ None) ⊎ (is_apart (num (own_text b own) 10 2 % 32) ≡ true)
+own_or None b own h = inl refl
+own_or (Some v) b own h = inr (by (own_refusal b (Some v)) refl h)
+  where
+    refused : (status : ℕ) → (status ≡ 0x1C01) ⊎ (status ≡ 0x0C01)
+        → is_apart (num (own_text b (own_refused b status)) 10 2 % 32) ≡ true
+    refused status (inl e) =
+        subst (λ n. is_apart (num (own_text b (own_refused b n)) 10 2 % 32) ≡ true) (sym e) refl
+    refused status (inr e) =
+        subst (λ n. is_apart (num (own_text b (own_refused b n)) 10 2 % 32) ≡ true) (sym e) refl
+
+    by : (o : Option ℕ) → own_refusal b (Some v) ≡ o → option_map (own_refused b) o ≡ Some own
+        → is_apart (num (own_text b own) 10 2 % 32) ≡ true
+    by None is e = absurd (none-some own e)
+    by (Some status) is e = subst (λ x. is_apart (num (own_text b x) 10 2 % 32) ≡ true)
+        (same_Some (own_refused b status) own e) (refused status (past_is (v.is_there && moves_data b)
+        (nat_le v.size (num b 28 4)) (nat_lt v.size (num b 28 4 + blocks (num b 12 4))) status is))
+
+-- a unit that has no place isn't there
+no_unit : (units : List Shape) (n : ℕ) → place_in units n ≡ None → unit_found units n ≡ None
+no_unit units n none = elim (find_cases (λ u. nat_eq u.number n) units) [
+  | inl all ↦ find_none (λ u. nat_eq u.number n) units all
+  | inr some ↦ absurd (none-some _ (sym none ∙ (ap (position (λ u. nat_eq u.number n)) some.3.is
+      ∙ position_first (λ u. nat_eq u.number n) some.0 some.1 some.2 some.3.before some.3.passed)))
+]
+
+no_place : (f : ℕ → Volume) (o : Option ℕ) → option_map f o ≡ None → o ≡ None
+no_place f None e = refl
+no_place f (Some place) e = absurd (none-some (f place) (sym e))
+
+-- ---- calls
+
+module _ {K : Type 0} (picks : Picking K) (c : Settings) (picker : K)
+    (keep : ControllersKeepThePromise (picks picker) picker) (valid : IsValid c)
+    (sizes : All (λ unit. 0 < unit.size) c.units) (before : List Made)
+    (hardware : Hardware) (credits : ℕ) (controller : Holdings K) (start : Port K)
+    (was : AnsweredCalls (picks picker) (fresh c picker) before controller)
+    (made : IsMadeOf hardware credits controller start) (quiet : outstanding_of First controller ≡ []) where
+  promised : (p : Port K) (calls : List Call) (a : Answered picks start calls p)
+      → (ms : List Made) × KeepsPromise (picks picker) c ms p.controller
+  promised p calls a =
+      let x = knows picks c picker keep valid before hardware credits controller start was made p calls a in
+      (x.made, keep c x.made p.controller valid x.answered)
+
+  pub numbers_kept : (p : Port K) (calls : List Call) → ReadsBytes calls → (a : Answered picks start calls p)
+      → Kept p (awaited picks start p calls a)
+  numbers_kept = kept picks c picker keep valid before hardware credits controller start was made quiet
+
+  abbrev Any : Verdict → Record → Type 0
+  Any verdict r = Unit {0}
+
+  fits : (p : Port K) (calls : List Call) → ReadsBytes calls → (a : Answered picks start calls p)
+      → Fitting c Any p (awaited picks start p calls a)
+  fits p calls reads a = fitting picks c picker keep valid sizes before hardware credits controller start was made quiet
+      Any (λ calls. Unit {0}) (λ call calls fine. tt)
+      (λ p outcome done calls fine a verdict how name was r found. tt) p calls reads tt a
+
+  passive_ordered : (p : Port K) (call : Call) (calls : List Call) (a : Answered picks start (call ∷ calls) p)
+      → IsPassive call → OrderedIn c a.0 (awaited picks start a.0 calls a.1)
+      → OrderedIn c p (awaited picks start p (call ∷ calls) a)
+  passive_ordered p call calls a is o = stays call a.0 p (awaited picks start a.0 calls a.1) o (calm call is)
+      (passive_said call a.0 p is) (passive_taken call a.0 is) (passive_stays picks call a.0 p a.2 is)
+    where
+      calm : (call : Call) → IsPassive call → IsNoReset call
+      calm WriteIp is = absurd is
+      calm call is = record { texts = λ s xs ys. refl }
+
+  pub ordering : (p : Port K) (calls : List Call) → ReadsBytes calls → (a : Answered picks start calls p)
+      → OrderedIn c p (awaited picks start p calls a)
+  ordering p [] reads a = record {
+    lined = tt;
+    own = λ n r e. absurd (none n r e ((numbers_kept p [] reads a).each n));
+    clear = clear_forgotten (ends_of p.controller) p.decided.items;
+  }
+    where
+      none : (n : ℕ) (r : Record) → filter (is_numbered n) p.controller.waiting ≡ r ∷ []
+          → At [] p.controller.waiting (ends_of p.controller) n → ⊥
+      none n r e (inl z) = some_none r [] (sym e ∙ z.1)
+      none n r e (inr (inl w)) = some_none w.text [] (sym w.message)
+      none n r e (inr (inr x)) = some_none x.text [] (sym x.message)
+  ordering p (call ∷ calls) reads a = by call a reads (ordering a.0 calls (reads_before call calls reads) a.1)
+    where
+      by : (call : Call) (a : Answered picks start (call ∷ calls) p) → ReadsBytes (call ∷ calls)
+          → OrderedIn c a.0 (awaited picks start a.0 calls a.1)
+          → OrderedIn c p (awaited picks start p (call ∷ calls) a)
+      by WriteIp a reads o = ordered_as c [] [] p.controller.waiting [] (ends_of p.controller) p.decided.items
+          p.decided.items (ap (λ (h : Holdings K). h.waiting) a.2.controller) (ap (λ h. ends_of h) a.2.controller) refl
+          (nothing_ordered c [] p.decided.items)
+      by (Next blocks action bytes) a reads o =
+          next_ordered blocks action bytes a.0 p (awaited picks start a.0 calls a.1) (numbers_kept a.0 calls reads a.1)
+          (fits a.0 calls reads a.1) o (picks a.0.controller.picker) a.2.0
+      by (WasRead bytes (Ok done)) a reads o =
+          read_ordered bytes done a.0 p (awaited picks start a.0 calls a.1) (numbers_kept a.0 calls reads.1 a.1)
+          (fits a.0 calls reads.1 a.1) o a.2 reads.0 valid sizes (promised a.0 calls a.1).1.settings
+      by (Went outcome (Ok done)) a reads o =
+          let m = promised p (Went outcome (Ok done) ∷ calls) a in
+          went_ordered (picks a.0.controller.picker) outcome done a.0 p (awaited picks start a.0 calls a.1)
+          (numbers_kept a.0 calls reads a.1) (fits a.0 calls reads a.1) o a.2
+          (few_ends (picks picker) c m.0 p.controller valid m.1)
+      by call a reads o = passive_ordered p call calls a tt o
+
+  -- an end of the controller's that begins to go out
+  pub ends_clear : (p : Port K) (call : Call) (calls : List Call) (text : List ℕ) → ReadsBytes (call ∷ calls)
+      → (a : Answered picks start (call ∷ calls) p) → ends_said_by call a.0 p ≡ text ∷ [] → (d : Decided)
+      → slice_get a.0.decided.items 0 ≡ Some d
+      → (is_apart (d.status % 32) ≡ true) ⊎ (overtakes (num text 0 4) (awaited picks start a.0 calls a.1) ≡ false)
+  ends_clear p (Next blocks action bytes) calls text reads a said d some =
+      said_clear blocks action bytes a.0 p (awaited picks start a.0 calls a.1) (numbers_kept a.0 calls reads a.1)
+      (ordering a.0 calls reads a.1) (picks a.0.controller.picker) a.2.0 d some text said
+  ends_clear p call calls text reads a said d some = absurd (search (arith, said))
+
+  -- and one of the port's own, while no end of the controller's waits
+  pub own_clear : (p : Port K) (calls : List Call) → ReadsBytes calls → (a : Answered picks start calls p)
+      → ends_of p.controller ≡ [] → (text : List ℕ) (own : Own)
+      → own_answer false (volume_named p text) text ≡ Some own → IsApartOr (own_text text own)
+      (AllByRecursion (λ u. keeps text u ≡ false) (awaited picks start p calls a))
+  own_clear p calls reads a none text own answer = elim (own_or (volume_named p text) text own answer) [
+    | inr apart ↦ inl apart
+    | inl absent ↦ inr (all_free (awaited picks start p calls a) (missing absent)
+        (subst (λ ts. AllByRecursion (IsWaiting p.controller.waiting) ts)
+        (ap (λ es. unended es (awaited picks start p calls a)) none ∙ unended_none (awaited picks start p calls a))
+        (all_waiting p (awaited picks start p calls a) (numbers_kept p calls reads a) (fits p calls reads a))))
+  ]
+    where
+      missing : volume_named p text ≡ None → unit_found c.units (num text 4 2) ≡ None
+      missing absent = subst (λ s. unit_found s.units (num text 4 2) ≡ None) (promised p calls a).1.settings
+          (no_unit p.controller.settings.units (num text 4 2) (no_place (volume_at p.volumes)
+          (place_in p.controller.settings.units (num text 4 2)) absent))
+
+      free : unit_found c.units (num text 4 2) ≡ None → (u : List ℕ) → IsWaiting p.controller.waiting u → (b : Bool)
+          → keeps text u ≡ b → b ≡ false
+      free gone u w false e = refl
+      free gone u w true e = absurd (false≢true (sym (ap is_some
+          (ap (unit_found c.units) (unit_earlier w.own.command.unit text u e w.unit ∙ same_unit text u e) ∙ gone))
+          ∙ ((ordering p calls reads a).own (num u 0 4) w.own w.sole).known))
+
+      all_free : (ts : List (List ℕ)) → unit_found c.units (num text 4 2) ≡ None
+          → AllByRecursion (IsWaiting p.controller.waiting) ts → AllByRecursion (λ u. keeps text u ≡ false) ts
+      all_free [] gone all = tt
+      all_free (u ∷ ts) gone all = (free gone u all.0 (keeps text u) refl, all_free ts gone all.1)
