@@ -154,9 +154,11 @@ by_tag p f h cells tags at k none = by_cell (cell cells at) refl
 
 -- the same of cells from one on
 pub by_tags : (p : Sent → Bool) (f : ℕ → Bool) → ((s : Sent) → p s ≡ true → f (tag_of s) ≡ true)
-    → (cells xs : List (Option Sent)) (tags all : List ℕ) (from end : ℕ) → AreTagged cells tags → cells ≡ xs → all ≡ tags
+    → (cells xs : List (Option Sent)) (tags all : List ℕ) (from end : ℕ) → AreTagged cells tags → cells ≡ xs
+    → all ≡ tags
     → end ≤ length xs
-    → ((i : ℕ) → i < length (take (end - from) (drop from all)) → f (get_or (take (end - from) (drop from all)) i 0) ≡ false)
+    → ((i : ℕ) → i < length (take (end - from) (drop from all))
+    → f (get_or (take (end - from) (drop from all)) i 0) ≡ false)
     → NoneIn p xs from end
 by_tags p f h cells xs tags all from end k is same l none i low high =
     let j : ℕ = i - from in

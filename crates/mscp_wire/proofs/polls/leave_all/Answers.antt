@@ -35,4 +35,5 @@ returns g c =
     let k = c.loop-at.invariant in
     ap sents (passed f (polls c.args.ended.now) (stays c.args.ended.now) xs c.loop-at.cells c.loop-at.from (length xs)
     k.low (omega arith) k.many k.cells
-    (λ i l h. c.in_default.ensures i l (omega (arith, h, c.len.ensures.count, k.many))) ∙ over_all (option_map f) xs (length xs) (omega arith)) ∙ sents_map f xs
+    (λ i l h. c.in_default.ensures i l (omega (arith, h, c.len.ensures.count, k.many)))
+    ∙ over_all (option_map f) xs (length xs) (omega arith)) ∙ sents_map f xs

@@ -19,13 +19,15 @@ loop-at-preserved g c =
     let at = c.in-Some.at in
     let k = c.loop-at.invariant in
     let here = passed (besides y) (turns_beside y) (stays y) xs ys c.loop-at.from at c.in-Some.ensures.low
-    (omega (arith, c.in-Some.ensures.high, c.len.ensures.count, k.many, ap length c.self.view_is)) k.many k.cells (λ i l h. ap (λ l. stands (turns_beside y) (cell l i)) (sym c.self.view_is) ∙ c.in-Some.ensures.none i l h) in
+    (omega (arith, c.in-Some.ensures.high, c.len.ensures.count, k.many, ap length c.self.view_is)) k.many k.cells
+    (λ i l h. ap (λ l. stands (turns_beside y) (cell l i)) (sym c.self.view_is) ∙ c.in-Some.ensures.none i l h) in
     record {
       low = omega (arith, c.in-Some.ensures.high, c.len.ensures.count, k.many, ap length c.self.view_is);
       many = ap length c.mark_in.ensures ∙ (length-set ys at _ ∙ k.many);
       cells =
           over_more (option_map (besides y)) xs ys _ at
-          (omega (arith, c.in-Some.ensures.high, c.len.ensures.count, k.many, ap length c.self.view_is)) k.many here c.mark_in.ensures;
+          (omega (arith, c.in-Some.ensures.high, c.len.ensures.count, k.many, ap length c.self.view_is))
+          k.many here c.mark_in.ensures;
     }
 
 pub returns : goal.returns
@@ -33,7 +35,9 @@ returns g c =
     let xs = c.args.self.now in
     let f = besides c.args.ended.now in
     let k = c.loop-at.invariant in
-    ap sents (passed f (turns_beside c.args.ended.now) (stays c.args.ended.now) xs c.loop-at.self c.loop-at.from (length xs)
+    ap sents (passed f (turns_beside c.args.ended.now) (stays c.args.ended.now) xs c.loop-at.self c.loop-at.from
+    (length xs)
     k.low (omega arith) k.many k.cells
     (λ i l h. ap (λ l. stands (turns_beside c.args.ended.now) (cell l i)) (sym c.self.view_is)
-    ∙ c.in_default.ensures i l (omega (arith, h, c.len.ensures.count, k.many, ap length c.self.view_is))) ∙ over_all (option_map f) xs (length xs) (omega arith)) ∙ sents_map f xs
+    ∙ c.in_default.ensures i l (omega (arith, h, c.len.ensures.count, k.many, ap length c.self.view_is)))
+    ∙ over_all (option_map f) xs (length xs) (omega arith)) ∙ sents_map f xs
