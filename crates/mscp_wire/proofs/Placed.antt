@@ -1,17 +1,17 @@
 -- Where commands stand: those in cells are a list, in which each has its place.
-use Rattle.std.proofs.Common.{◌≡◌, ℕ, zero, suc, ◌+◌, ◌<◌, ◌≤◌, Bool, true, false, cond, ◌||◌, List, [], ◌∷◌, ◌++◌, length, set, take, drop, map, take_all, refl, ap, sym, ◌∙◌, arith, Option, Some, None}
-use Rattle.std.specs.Prelude.{IsSome, count_by, find, is_some, option_map}
+use Rattle.std.proofs.Common.{◌≡◌, ℕ, zero, suc, ◌+◌, ◌<◌, ◌≤◌, Bool, true, false, cond, ◌||◌, List, [], ◌∷◌, ◌++◌, length, set, take, drop, map, take_all, refl, ap, sym, ◌∙◌, arith, rules, ◌-◌, Option, Some, None}
+use Rattle.std.specs.Prelude.{IfSome, IsSome, count_by, find, is_some, option_map}
 use Rattle.std.proofs.lemmas.Bool.{or_parts}
 use Rattle.std.specs.List.{filter, list_any, position, remove}
-use Rattle.std.proofs.lemmas.List.{get_or_default, set-get_or}
+use Rattle.std.proofs.lemmas.List.{get_or-take, get_or_default, set-get_or}
 use Rattle.std.proofs.lemmas.List.Edits.{map_over_more}
 use Rattle.std.proofs.lemmas.List.Sums.{sum_by-cons}
 use Rattle.mscp_drive.specs.declared.connection.Connection.{Connection}
 use Rattle.mscp_drive.specs.declared.connection.Connection.TheVariants.{First, Second}
-use Rattle.mscp_wire.specs.Kept.{IsKept, cell, is_on, place, place_if, sents, stands}
+use Rattle.mscp_wire.specs.Kept.{IsKept, IsNext, NoneIn, cell, is_on, place, place_if, sents, stands}
 use Rattle.mscp_wire.specs.Messages.{same_connection}
 use Rattle.mscp_wire.specs.Wire.{command_at}
-use Rattle.mscp_wire.proofs.Names.{place_at}
+use Rattle.mscp_wire.proofs.Names.{place_at, place_none}
 use Rattle.mscp_wire.specs.declared.sent.Sent.{Sent}
 use Rattle.mscp_wire.specs.declared.tallies.Tallies.{Tallies}
 
@@ -223,3 +223,52 @@ both_counted (x ∷ xs) =
 pub both_few : {A : Type 0} (xs : List (Option Sent)) (kinds : Tallies A) → IsKept (sents xs) kinds
     → (kinds.first + kinds.second ≡ length (sents xs)) × (length (sents xs) ≤ length xs)
 both_few xs kinds k = (omega (arith, k.first, k.second, both_counted (sents xs)), few_sents xs)
+
+-- ---- the next cell
+-- none stands in so many
+none_taken_from : (p : Sent → Bool) (xs : List (Option Sent)) (n : ℕ) → NoneIn p xs 0 n
+    → list_any p (sents (take n xs)) ≡ false
+none_taken_from p xs zero h = refl
+none_taken_from p xs (suc n) h =
+    ap (λ k. list_any p (sents (take k xs))) (sym (one_more n))
+    ∙ none_more p xs n (none_taken_from p xs n (λ i l k. h i l (omega (arith, k)))) (h n (omega arith) (omega arith))
+
+-- the first of so many has its place among those
+abbrev pub IsPlaced : (Sent → Bool) → List (Option Sent) → Option ℕ → Type 0
+IsPlaced p xs at = (place_if xs at ≡ position p (sents xs)) × IfSome at (λ i. IsSome (cell xs i))
+
+pub first_of : (p : Sent → Bool) (xs : List (Option Sent)) (n : ℕ) (at : Option ℕ) → n ≤ length xs
+    → IsNext p xs 0 n at → IsPlaced p (take n xs) at
+first_of p xs n None l h = (sym (place_none p (sents (take n xs)) (none_taken_from p xs n h)), search rules)
+first_of p xs n (Some at) l h =
+    let there : stands p (cell (take n xs) at) ≡ true = ap (stands p) (get_or-take n xs at None h.high) ∙ h.there in (
+      first_in p (take n xs) at
+          (none_taken_from p (take n xs) at
+          (λ i low high. ap (stands p) (get_or-take n xs i None (omega (arith, high, h.high))) ∙ h.none i low high))
+          there,
+      is_full p (cell (take n xs) at) there,
+    )
+
+-- those that aren't sought stay, up to the next one
+pub skipped : (f : Sent → Sent) (p : Sent → Bool) → ((s : Sent) → p s ≡ false → f s ≡ s)
+    → (xs ys : List (Option Sent)) (from k : ℕ) → from + k ≤ length xs → length ys ≡ length xs
+    → ys ≡ map (option_map f) (take from xs) ++ drop from xs → NoneIn p ys from (from + k)
+    → ys ≡ map (option_map f) (take (from + k) xs) ++ drop (from + k) xs
+skipped f p h xs ys from zero l same is none =
+    is ∙ ap (λ n. map (option_map f) (take n xs) ++ drop n xs) (omega arith)
+skipped f p h xs ys from (suc k) l same is none =
+    let i : ℕ = from + k in
+    over_more (option_map f) xs ys ys i (omega (arith, l)) same
+    (skipped f p h xs ys from k (omega (arith, l)) same is (λ j a b. none j a (omega (arith, b))))
+    (same_in (option_map f) ys i (unsought f p h (cell ys i) (none i (omega arith) (omega arith))))
+    ∙ ap (λ n. map (option_map f) (take n xs) ++ drop n xs) (omega arith)
+
+pub passed : (f : Sent → Sent) (p : Sent → Bool) → ((s : Sent) → p s ≡ false → f s ≡ s)
+    → (xs ys : List (Option Sent)) (from to : ℕ) → from ≤ to → to ≤ length xs → length ys ≡ length xs
+    → ys ≡ map (option_map f) (take from xs) ++ drop from xs → NoneIn p ys from to
+    → ys ≡ map (option_map f) (take to xs) ++ drop to xs
+passed f p h xs ys from to low high same is none =
+    let e : from + (to - from) ≡ to = omega (arith, low) in
+    skipped f p h xs ys from (to - from) (omega (arith, low, high)) same is
+    (λ i l k. none i l (omega (arith, k, low)))
+    ∙ ap (λ n. map (option_map f) (take n xs) ++ drop n xs) e

@@ -1,15 +1,15 @@
 -- A command that is sought has the tag by which it is sought.
-use Rattle.std.proofs.Common.{◌≡◌, ⊎_elim, ◌⊎◌, ℕ, zero, suc, ◌+◌, ◌%◌, ◌<◌, ◌≤◌, if◌then◌else◌, Bool, true, false, cond, not, ◌&&◌, ◌||◌, List, [], ◌∷◌, ◌++◌, length, get_or, set, refl, ap, sym, ◌∙◌, arith, length-append, length-take-le, Option, Some, None}
+use Rattle.std.proofs.Common.{◌≡◌, ⊎_elim, ◌⊎◌, ℕ, zero, suc, ◌+◌, ◌-◌, ◌%◌, ◌<◌, ◌≤◌, if◌then◌else◌, Bool, true, false, cond, not, ◌&&◌, ◌||◌, List, [], ◌∷◌, ◌++◌, length, drop, get_or, set, refl, ap, sym, ◌∙◌, arith, length-append, length-take-le, Option, Some, None}
 use Rattle.std.specs.Prelude.{is_some, nat_eq, take}
 use Rattle.std.proofs.lemmas.Bool.{cases_lt}
-use Rattle.std.proofs.lemmas.List.{get_or-set_other, get_or-take, length-set, length-take}
+use Rattle.std.proofs.lemmas.List.{get_or-drop, get_or-set_other, get_or-take, length-drop, length-set, length-take}
 use Rattle.std.proofs.Math.ListN.{get_or-append}
 use Rattle.std.proofs.lemmas.Grind.{get_or-set_at}
 use Rattle.std.proofs.lemmas.Bool.{eqb-true}
 use Rattle.std.proofs.lemmas.Bool.Decides.{nat_tests}
 use Rattle.mscp_drive.specs.declared.connection.Connection.{Connection}
 use Rattle.mscp_drive.specs.declared.connection.Connection.TheVariants.{First, Second}
-use Rattle.mscp_wire.specs.Kept.{AreTagged, about, aside, cell, is_lined, is_tagged, stands, tag, tag_if, tag_of}
+use Rattle.mscp_wire.specs.Kept.{AreTagged, IsFound, NoneIn, about, aside, cell, is_lined, stands, tag, tag_if, tag_of}
 use Rattle.mscp_wire.specs.Wire.{aborts, is_immediate, is_it, is_ordered, is_sequential, is_turning, keeps_back, polls, same_connection, turns, turns_beside, waits_on}
 use Rattle.mscp_wire.specs.declared.sent.Sent.{Sent}
 use Rattle.mscp_wire.proofs.Placed.{cell_less}
@@ -92,7 +92,7 @@ aborting y s h =
 
 -- a GET UNIT STATUS
 pub beside : (y s : Sent) → turns_beside y s ≡ true
-    → is_tagged (tag y.connection y.unit true) (tag y.connection 65536 true) s ≡ true
+    → (nat_eq (tag_of s) (tag y.connection y.unit true) || nat_eq (tag_of s) (tag y.connection 65536 true)) ≡ true
 beside y s h =
     let p = parts (turns y.opcode) (nat_eq s.opcode 3) (same_connection s.connection y.connection)
     (s.next || nat_eq s.unit y.unit) h in
@@ -112,7 +112,7 @@ beside y s h =
 
     by_next : (n : Bool) → tag_of s ≡ tag y.connection (if not n then s.unit else 65536) true
         → (n || nat_eq s.unit y.unit) ≡ true
-        → is_tagged (tag y.connection y.unit true) (tag y.connection 65536 true) s ≡ true
+        → (nat_eq (tag_of s) (tag y.connection y.unit true) || nat_eq (tag_of s) (tag y.connection 65536 true)) ≡ true
     by_next true e q = other (tag_of s) _ _ e
     by_next false e q =
         either (tag_of s) _ _ (e ∙ ap (λ n. tag y.connection n true) (eqb-true s.unit y.unit q))
@@ -137,52 +137,65 @@ waiting via s h =
     by_lined false i e =
         ap (λ b. tag s.connection (aside s) b % 4) e ∙ waiting_side s.connection (aside s)
 
--- ---- what holds of tags
--- one that has a tag has one of two
-pub has_one : (s : Sent) (t : ℕ) → tag_of s ≡ t → is_tagged t t s ≡ true
-has_one s t e = one (tag_of s) t e
+-- ---- what tags say
+-- none is sought in a cell if its tag says so
+pub by_tag : (p : Sent → Bool) (f : ℕ → Bool) → ((s : Sent) → p s ≡ true → f (tag_of s) ≡ true)
+    → (cells : List (Option Sent)) (tags : List ℕ) (at : ℕ) → AreTagged cells tags → f (get_or tags at 0) ≡ false
+    → stands p (cell cells at) ≡ false
+by_tag p f h cells tags at k none = by_cell (cell cells at) refl
   where
-    one : (a b : ℕ) → a ≡ b → (nat_eq a b || nat_eq a b) ≡ true
-    one a b q = grind (arith, nat_tests, q)
+    never : (s : Sent) (b : Bool) → p s ≡ b → f (tag_of s) ≡ false → p s ≡ false
+    never s true q e = absurd (omega (arith, ap {B = ℕ} (λ x. cond x 1 0) (sym (h s q) ∙ e)))
+    never s false q e = q
 
--- in a cell with another tag none stands that has it
-pub untagged : (cells : List (Option Sent)) (tags : List ℕ) (at t one other : ℕ) → AreTagged cells tags
-    → t ≡ get_or tags at 0 → (t ≡ one → ⊥) → nat_eq t other ≡ false
-    → stands (is_tagged one other) (cell cells at) ≡ false
-untagged cells tags at t one other h is first second = by_cell (cell cells at) refl
-  where
-    unequal : (b : Bool) → nat_eq t one ≡ b → nat_eq t one ≡ false
-    unequal true e = absurd (first (eqb-true t one e))
-    unequal false e = e
-
-    by_cell : (c : Option Sent) → cell cells at ≡ c → stands (is_tagged one other) c ≡ false
+    by_cell : (c : Option Sent) → cell cells at ≡ c → stands p c ≡ false
     by_cell None e = refl
-    by_cell (Some s) e =
-        ap (λ n. nat_eq n one || nat_eq n other) (sym (h.each at s e) ∙ sym is)
-        ∙ (ap (λ b. b || nat_eq t other) (unequal (nat_eq t one) refl) ∙ second)
+    by_cell (Some s) e = never s (p s) refl (ap f (sym (k.each at s e)) ∙ none)
 
--- one without a tag that all have that are sought isn't
-pub other_tag : (p : Sent → Bool) (one other : ℕ) → ((s : Sent) → p s ≡ true → is_tagged one other s ≡ true)
-    → (c : Option Sent) → stands (is_tagged one other) c ≡ false → stands p c ≡ false
-other_tag p one other h None e = refl
-other_tag p one other h (Some s) e = never (p s) refl
-  where
-    never : (b : Bool) → p s ≡ b → p s ≡ false
-    never true q = absurd (omega (arith, ap {B = ℕ} (λ x. cond x 1 0) (sym (h s q) ∙ e)))
-    never false q = q
+-- the same of cells from one on
+pub by_tags : (p : Sent → Bool) (f : ℕ → Bool) → ((s : Sent) → p s ≡ true → f (tag_of s) ≡ true)
+    → (cells xs : List (Option Sent)) (tags all : List ℕ) (from end : ℕ) → AreTagged cells tags → cells ≡ xs
+    → all ≡ tags
+    → end ≤ length xs
+    → ((i : ℕ) → i < length (take (end - from) (drop from all))
+    → f (get_or (take (end - from) (drop from all)) i 0) ≡ false)
+    → NoneIn p xs from end
+by_tags p f h cells xs tags all from end k is same l none i low high =
+    let j : ℕ = i - from in
+    let few : j < end - from = omega (arith, low, high) in
+    let many : j < length (drop from all) =
+    omega (arith, length-drop from all, low, high, l, k.many, ap length same, ap length is) in
+    let e : get_or (take (end - from) (drop from all)) j 0 ≡ get_or tags i 0 =
+    get_or-take (end - from) (drop from all) j 0 few
+    ∙ (get_or-drop from all j 0 ∙ (ap (λ n. get_or all n 0) (omega (arith, low)) ∙ ap (λ ts. get_or ts i 0) same)) in
+    ap (λ cs. stands p (cell cs i)) (sym is)
+    ∙ by_tag p f h cells tags i k
+    (ap f (sym e) ∙ none j (omega (arith, few, many, length-take (end - from) (drop from all))))
 
--- the same of what is left over of tags
-pub not_waiting : (via : Connection) (cells : List (Option Sent)) (tags : List ℕ) (at : ℕ) → AreTagged cells tags
-    → (get_or tags at 0 % 4 ≡ tag via 0 false → ⊥) → stands (waits_on via) (cell cells at) ≡ false
-not_waiting via cells tags at h none = by_cell (cell cells at) refl
-  where
-    never : (s : Sent) (b : Bool) → waits_on via s ≡ b → get_or tags at 0 ≡ tag_of s → waits_on via s ≡ false
-    never s true q t = absurd (none (ap (λ n. n % 4) t ∙ waiting via s q))
-    never s false q t = q
+-- one that has a tag has one of two that are this
+pub has_two : (t n a b : ℕ) → t ≡ n → a ≡ n → b ≡ n → (nat_eq t a || nat_eq t b) ≡ true
+has_two t n a b e f g = grind (arith, nat_tests, e, f, g)
 
-    by_cell : (c : Option Sent) → cell cells at ≡ c → stands (waits_on via) c ≡ false
-    by_cell None e = refl
-    by_cell (Some s) e = never s (waits_on via s) refl (h.each at s e)
+pub equal : (a b : ℕ) → a ≡ b → nat_eq a b ≡ true
+equal a b e = grind (arith, nat_tests, e)
+
+-- ---- the next cell
+-- none in more cells
+pub none_further : (p : Sent → Bool) (cells : List (Option Sent)) (from at end : ℕ) → NoneIn p cells from at
+    → NoneIn p cells at end → NoneIn p cells from end
+none_further p cells from at end h k i low high = ⊎_elim
+    (λ below. h i low below)
+    (λ above. k i above high)
+    (cases_lt i at)
+
+pub found_further : (p : Sent → Bool) (cells : List (Option Sent)) (from at end last n : ℕ) → NoneIn p cells from at
+    → from ≤ at → end ≤ last → IsFound p cells at end n → IsFound p cells from last n
+found_further p cells from at end last n h l m k = record {
+  low = omega (arith, l, k.low);
+  high = omega (arith, m, k.high);
+  there = k.there;
+  none = none_further p cells from at n h k.none;
+}
 
 -- ---- tags beside cells
 -- those behind the cells may go

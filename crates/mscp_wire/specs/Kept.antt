@@ -63,10 +63,6 @@ abbrev pub tag_of : Sent → ℕ
 tag_of s =
     if is_lined s then tag s.connection s.unit false else tag s.connection (aside s) (is_immediate s.opcode)
 
--- it has one of two tags
-abbrev pub is_tagged : ℕ → ℕ → Sent → Bool
-is_tagged one other s = nat_eq (tag_of s) one || nat_eq (tag_of s) other
-
 abbrev pub tag_if : Option Sent → ℕ
 tag_if None = 18446744073709551615
 tag_if (Some s) = tag_of s
@@ -75,6 +71,24 @@ tag_if (Some s) = tag_of s
 pub record AreTagged (cells : List (Option Sent)) (tags : List ℕ) : Type 0 where
   pub many : length cells ≤ length tags
   pub each : (at : ℕ) (s : Sent) → cell cells at ≡ Some s → get_or tags at 0 ≡ tag_of s
+
+-- ---- which cell is next
+
+-- none of which this is true stands from a cell on and before another
+abbrev pub NoneIn : (Sent → Bool) → List (Option Sent) → ℕ → ℕ → Type 0
+NoneIn p cells from end = (i : ℕ) → from ≤ i → i < end → stands p (cell cells i) ≡ false
+
+-- one stands in this cell, and it is the first of those
+pub record IsFound (p : Sent → Bool) (cells : List (Option Sent)) (from end at : ℕ) : Type 0 where
+  pub low : from ≤ at
+  pub high : at < end
+  pub there : stands p (cell cells at) ≡ true
+  pub none : NoneIn p cells from at
+
+-- the next cell of those in which one stands, if one does
+abbrev pub IsNext : (Sent → Bool) → List (Option Sent) → ℕ → ℕ → Option ℕ → Type 0
+IsNext p cells from end None = NoneIn p cells from end
+IsNext p cells from end (Some at) = IsFound p cells from end at
 
 -- ---- what is counted
 

@@ -6,17 +6,17 @@
 
 ghost use Rattle.std.specs.Prelude.{◌≡◌, ◌++◌, ◌∷◌, ◌<◌, ◌≤◌, ◌^◌, [], is_some, length, position, set, take, IfSome, IsSome, OnErr, OnOk, Some, false, true};
 ghost use Rattle.std.specs.List.{filter};
-ghost use Rattle.mscp_wire.specs.Kept.{cell, is_tagged, place_if, sents, stands};
-ghost use Rattle.mscp_wire.specs.Wire as wire;
-ghost use Rattle.mscp_wire.specs.declared.sent.Sent as sent;
+ghost use Rattle.mscp_wire.specs.Kept.{IsNext, NoneIn, cell, place_if, sents};
 ghost use Rattle.mscp_wire.specs.Sought.{is_sought};
 
-use crate::held::{Sought, cell_of, stands};
+use crate::held::{Sought, stands};
 use crate::sent::Sent;
-use crate::tags::{tag_about, tag_all, tag_if, tag_lined, tag_waiting};
-use mscp_drive::Connection;
+use crate::tags::{have, have_left, tag_all, tag_if, tag_waiting, tags_of};
 use std::alloc::{AllocError, Allocator};
 use std::marker::Model;
+
+/// So many tags are looked at together.
+const FEW: usize = 64;
 
 /// Cells, and the tag of each.
 #[derive(Drop)]
@@ -99,43 +99,50 @@ impl<A: Allocator + Copy> Cells<A> {
         tag_all(&mut self.tags, self.cells.as_slice());
     }
 
-    /// Whether the tag of a cell is one of two. If it isn't, no command stands there that has one of them.
-    #[inline(always)]
-    pub fn has_tag(&self, at: usize, one: u64, other: u64) -> bool
-        requires { at < length self.now }
-        ensures { result ≡ false → stands (is_tagged one other) (cell self.now at) ≡ false }
+    /// Whether one that is sought may stand from a cell on and before another, by their tags.
+    fn may_stand(&self, from: usize, end: usize, sought: &Sought) -> bool
+        requires order { from ≤ end }
+        requires few { end ≤ length self.now }
+        ensures { result ≡ false → NoneIn (is_sought sought.now) self.now from end }
     {
-        let tag = self.tags[at];
-        tag == one || tag == other
+        let tags = &self.tags[from..end];
+        if let Sought::WaitedFor(connection) = sought {
+            return have_left(tags, tag_waiting(*connection));
+        }
+        match tags_of(sought) {
+            Some((one, other)) => have(tags, one, other),
+            None => true,
+        }
     }
 
-    /// The cell in which the first stands that is sought, of so many, if all that are sought have one of two tags.
-    fn first_tagged(&self, len: usize, one: u64, other: u64, sought: &Sought) -> Option<usize>
-        requires few { len ≤ length self.now }
-        requires tagged { (s : sent.Sent) → is_sought sought.now s ≡ true → is_tagged one other s ≡ true }
-        ensures place { place_if (take len self.now) result ≡ position (is_sought sought.now) (sents (take len self.now)) }
-        ensures there { IfSome result (λ i. IsSome (cell (take len self.now) i)) }
+    /// The next cell in which one that is sought stands, from one on and before another: each is looked at.
+    fn next_of_few(&self, from: usize, end: usize, sought: &Sought) -> Option<usize>
+        requires order { from ≤ end }
+        requires few { end ≤ length self.now }
+        ensures { IsNext (is_sought sought.now) self.now from end result }
     {
-        for at in 0..len {
-            if self.has_tag(at, one, other) && stands(&self.cells[at], sought) {
+        for at in from..end {
+            if stands(&self.cells[at], sought) {
                 return Some(at);
             }
         }
         None
     }
 
-    /// The same of those for which the host of a connection waits.
-    fn first_waiting(&self, len: usize, connection: Connection) -> Option<usize>
-        requires { len ≤ length self.now }
-        ensures place { place_if (take len self.now) result ≡ position (wire.waits_on connection) (sents (take len self.now)) }
-        ensures there { IfSome result (λ i. IsSome (cell (take len self.now) i)) }
+    /// The same: cells whose tags say that none stands there aren't looked at.
+    pub fn next(&self, from: usize, end: usize, sought: &Sought) -> Option<usize>
+        requires { end ≤ length self.now }
+        ensures { IsNext (is_sought sought.now) self.now from end result }
     {
-        let waiting = tag_waiting(connection);
-        let sought = Sought::WaitedFor(connection);
-        for at in 0..len {
-            if self.tags[at] % 4 == waiting && stands(&self.cells[at], &sought) {
-                return Some(at);
+        let mut at = from;
+        while at < end {
+            let to = at.saturating_add(FEW).min(end);
+            if self.may_stand(at, to, sought) {
+                if let Some(found) = self.next_of_few(at, to, sought) {
+                    return Some(found);
+                }
             }
+            at = to;
         }
         None
     }
@@ -146,25 +153,6 @@ impl<A: Allocator + Copy> Cells<A> {
         ensures place { place_if (take len self.now) result ≡ position (is_sought sought.now) (sents (take len self.now)) }
         ensures there { IfSome result (λ i. IsSome (cell (take len self.now) i)) }
     {
-        match sought {
-            Sought::Named(_, _) => cell_of(&self.cells[..len], sought),
-            Sought::AbortOf(other) => {
-                let tag = tag_about(other);
-                self.first_tagged(len, tag, tag, sought)
-            }
-            Sought::PollOf(other) => {
-                let tag = tag_about(other);
-                self.first_tagged(len, tag, tag, sought)
-            }
-            Sought::Keeping(other) => {
-                let tag = tag_lined(other.connection, other.unit);
-                self.first_tagged(len, tag, tag, sought)
-            }
-            Sought::Turning(connection, unit) => {
-                let tag = tag_lined(*connection, *unit);
-                self.first_tagged(len, tag, tag, sought)
-            }
-            Sought::WaitedFor(connection) => self.first_waiting(len, *connection),
-        }
+        self.next(0, len, sought)
     }
 }

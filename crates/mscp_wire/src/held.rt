@@ -7,7 +7,7 @@ ghost use Rattle.mscp_wire.specs.Wire as wire;
 ghost use Rattle.mscp_wire.specs.Sought.{is_sought};
 ghost use Rattle.mscp_wire.specs.Kept.{cell, place, place_if, sents, stands};
 
-use crate::besides::is_turning;
+use crate::besides::{is_turning, turns_beside};
 use crate::outstanding::{aborts, keeps_back};
 use crate::polls::{polls, waits_on};
 use crate::sent::Sent;
@@ -49,6 +49,8 @@ pub enum Sought {
     WaitedFor(Connection),
     /// One that changes the state of this unit of a connection.
     Turning(Connection, u16),
+    /// A GET UNIT STATUS beside which this one changes the state of its unit.
+    Beside(Sent),
 }
 
 /// Whether a command is one that is sought.
@@ -63,6 +65,7 @@ pub fn is_sought(sought: &Sought, command: &Sent) -> bool
         Sought::PollOf(other) => polls(other, command),
         Sought::WaitedFor(connection) => waits_on(*connection, command),
         Sought::Turning(connection, unit) => is_turning(*connection, *unit, command),
+        Sought::Beside(other) => turns_beside(other, command),
     }
 }
 

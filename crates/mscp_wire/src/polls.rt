@@ -10,7 +10,6 @@ use crate::cells::Cells;
 use crate::commands::Commands;
 use crate::held::{Sought, has};
 use crate::sent::{Asked, Sent, is_immediate};
-use crate::tags::tag_about;
 use mscp_drive::Connection;
 use std::alloc::Allocator;
 
@@ -230,11 +229,11 @@ fn leave_in<A: Allocator + Copy>(cells: &mut Cells<A>, at: usize, ended: &Sent)
 pub fn leave_all<A: Allocator + Copy>(cells: &mut Cells<A>, ended: &Sent)
     ensures { kept.sents cells.new ≡ map (kept.leaves ended.now) (kept.sents cells.old) }
 {
-    let tag = tag_about(ended);
-    for at in 0..cells.len() {
-        if cells.has_tag(at, tag, tag) {
-            leave_in(cells, at, ended);
-        }
+    let sought = Sought::PollOf(*ended);
+    let mut from = 0;
+    while let Some(at) = cells.next(from, cells.len(), &sought) {
+        leave_in(cells, at, ended);
+        from = at + 1;
     }
 }
 

@@ -1,9 +1,12 @@
 // The tags of commands. Two that may be sought together have the same tag: so one whose tag is another isn't sought.
 
-ghost use Rattle.std.specs.Prelude.{◌≡◌, ◌<◌, ◌≤◌, ◌^◌, length, Some, false, true};
+ghost use Rattle.std.specs.Prelude.{◌≡◌, ℕ, ◌<◌, ◌≤◌, ◌^◌, ◌%◌, ◌||◌, get_or, length, nat_eq, IfSome, Some, false, true};
 ghost use Rattle.mscp_wire.specs.Kept as kept;
+ghost use Rattle.mscp_wire.specs.Sought.{is_sought};
+ghost use Rattle.mscp_wire.specs.declared.sent.Sent as sents;
 
 use crate::answer::{ABORT, STATUS};
+use crate::held::Sought;
 use crate::sent::{Sent, is_immediate, is_ordered, is_sequential};
 use mscp_drive::Connection;
 use std::alloc::Allocator;
@@ -81,21 +84,21 @@ pub fn tag_all<A: Allocator>(tags: &mut Vec<u64, A>, cells: &[Option<Sent>])
 }
 
 /// The tag of commands that are about this one.
-pub fn tag_about(command: &Sent) -> u64
+fn tag_about(command: &Sent) -> u64
     ensures { result ≡ kept.tag command.now.connection (kept.about (Some command.now.reference)) true }
 {
     tag(command.connection, about(Some(command.reference)), true)
 }
 
 /// The tag of those in the line of a unit.
-pub fn tag_lined(connection: Connection, unit: u16) -> u64
+fn tag_lined(connection: Connection, unit: u16) -> u64
     ensures { result ≡ kept.tag connection unit false }
 {
     tag(connection, u64::from(unit), false)
 }
 
 /// The tags of GET UNIT STATUS of this one's unit, and of the next one.
-pub fn tags_beside(command: &Sent) -> (u64, u64)
+fn tags_beside(command: &Sent) -> (u64, u64)
     ensures unit { result.0 ≡ kept.tag command.now.connection command.now.unit true }
     ensures next { result.1 ≡ kept.tag command.now.connection 65536 true }
 {
@@ -105,9 +108,58 @@ pub fn tags_beside(command: &Sent) -> (u64, u64)
     )
 }
 
+/// Two tags of which each has one that is sought, if there are such.
+pub fn tags_of(sought: &Sought) -> Option<(u64, u64)>
+    ensures { IfSome result (λ tags. (s : sents.Sent) → is_sought sought.now s ≡ true
+        → (nat_eq (kept.tag_of s) tags.0 || nat_eq (kept.tag_of s) tags.1) ≡ true) }
+{
+    match sought {
+        Sought::AbortOf(other) => Some((tag_about(other), tag_about(other))),
+        Sought::PollOf(other) => Some((tag_about(other), tag_about(other))),
+        Sought::Keeping(other) => {
+            let tag = tag_lined(other.connection, other.unit);
+            Some((tag, tag))
+        }
+        Sought::Turning(connection, unit) => {
+            let tag = tag_lined(*connection, *unit);
+            Some((tag, tag))
+        }
+        Sought::Beside(other) => Some(tags_beside(other)),
+        Sought::Named(_, _) | Sought::WaitedFor(_) => None,
+    }
+}
+
 /// What is left over of the tag of each command for which the host of a connection waits, if it is divided by 4.
 pub fn tag_waiting(connection: Connection) -> u64
     ensures { result ≡ kept.tag connection 0 false }
 {
     tag(connection, 0, false)
+}
+
+/// Whether one of these tags is one of two. It looks at all: so a machine looks at some at once.
+pub fn have(tags: &[u64], one: u64, other: u64) -> bool
+    ensures { result ≡ false → (i : ℕ) → i < length tags.now
+        → (nat_eq (get_or tags.now i 0) one || nat_eq (get_or tags.now i 0) other) ≡ false }
+{
+    let mut found = false;
+    for at in 0..tags.len() {
+        if tags[at] == one || tags[at] == other {
+            found = true;
+        }
+    }
+    found
+}
+
+/// Whether this is left over of one of them, if it is divided by 4.
+pub fn have_left(tags: &[u64], left: u64) -> bool
+    ensures { result ≡ false → (i : ℕ) → i < length tags.now
+        → nat_eq (get_or tags.now i 0 % 4) left ≡ false }
+{
+    let mut found = false;
+    for at in 0..tags.len() {
+        if tags[at] % 4 == left {
+            found = true;
+        }
+    }
+    found
 }

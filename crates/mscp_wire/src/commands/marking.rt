@@ -7,8 +7,8 @@ ghost use Rattle.mscp_wire.specs.Kept.{cell, sents};
 
 use crate::besides::{marked, turns, turns_beside};
 use crate::commands::Commands;
+use crate::held::Sought;
 use crate::sent::Sent;
-use crate::tags::tags_beside;
 use std::alloc::Allocator;
 
 impl<A: Allocator + Copy> Commands<A> {
@@ -29,11 +29,11 @@ impl<A: Allocator + Copy> Commands<A> {
     fn mark_all(&mut self, ended: &Sent)
         ensures { sents self.new ≡ map (kept.besides ended.now) (sents self.old) }
     {
-        let (unit, next) = tags_beside(ended);
-        for at in 0..self.cells.len() {
-            if self.cells.has_tag(at, unit, next) {
-                self.mark_in(at, ended);
-            }
+        let sought = Sought::Beside(*ended);
+        let mut from = 0;
+        while let Some(at) = self.cells.next(from, self.cells.len(), &sought) {
+            self.mark_in(at, ended);
+            from = at + 1;
         }
     }
 

@@ -1,9 +1,11 @@
-use Rattle.std.proofs.Common.{ap, sym, ◌∙◌}
 use Rattle.mscp_wire.specs.Sought.{is_sought}
-use Rattle.mscp_wire.proofs.Tagged.{has_one, keeping}
+use Rattle.mscp_wire.proofs.Placed.{first_of}
 use Rattle.mscp_wire.proofs.cells.Cells.first.Goals as goal
 
-pub first_tagged-requires-in-Keeping-clause-tagged : goal.first_tagged-requires-in-Keeping-clause-tagged
-first_tagged-requires-in-Keeping-clause-tagged g c = λ s q.
-    has_one s _ (keeping c.in-Keeping.other s (sym (ap (λ o. is_sought o s) c.in-Keeping.is) ∙ q)
-    ∙ sym c.tag_lined-tag.ensures)
+pub returns-clause-place : goal.returns-clause-place
+returns-clause-place g c =
+    (first_of (is_sought c.args.sought.now) c.args.self.now c.args.len c.next.result c.requires c.next.ensures).0
+
+pub returns-clause-there : goal.returns-clause-there
+returns-clause-there g c =
+    (first_of (is_sought c.args.sought.now) c.args.self.now c.args.len c.next.result c.requires c.next.ensures).1

@@ -1,12 +1,10 @@
-use Rattle.std.proofs.Common.{◌≡◌, arith, ap, length, set, sym, ◌∙◌, if◌then◌else◌, false, true}
+use Rattle.std.proofs.Common.{◌≡◌, arith, ap, false, length, sym, true, ◌∙◌, if◌then◌else◌}
 use Rattle.std.specs.Prelude.{option_map}
 use Rattle.std.proofs.lemmas.List.{length-set}
-use Rattle.mscp_wire.specs.Kept.{besides, cell, is_tagged, sents, stands, tag}
+use Rattle.mscp_wire.specs.Kept.{besides, cell, sents, stands}
 use Rattle.mscp_wire.specs.Wire.{turns_beside}
 use Rattle.mscp_wire.specs.declared.sent.Sent.{Sent}
-use Rattle.mscp_wire.proofs.Placed.{over_all, over_more, same_in, sents_map, unsought}
-use Rattle.mscp_wire.proofs.commands.Commands.mark_all.Goals.{then-has_tag, else-has_tag}
-use Rattle.mscp_wire.proofs.Tagged.{beside, other_tag}
+use Rattle.mscp_wire.proofs.Placed.{over_all, over_more, passed, sents_map}
 use Rattle.mscp_wire.proofs.commands.Commands.mark_all.Goals as goal
 
 -- one beside which its unit wasn't changed stays as it is
@@ -16,32 +14,30 @@ stays y s h = ap (λ b. if b then record s { beside = true } else s) h
 pub loop-at-preserved : goal.loop-at-preserved
 loop-at-preserved g c =
     let y = c.args.ended.now in
-    let f = option_map (besides y) in
     let xs = c.args.self.now in
     let ys = c.loop-at.self in
-    let at = c.loop-at.at in
-    let put : c.if-has_tag.self ≡ set ys at (f (cell ys at)) =
-    elim c.if-has_tag.branch [
-      | then-has_tag w ↦ w.self-is ∙ w.mark_in.ensures
-      | else-has_tag w ↦
-          w.self-is ∙ same_in f ys at (unsought (besides y) (turns_beside y) (stays y) (cell ys at)
-          (ap (λ l. stands (turns_beside y) (cell l at)) (sym c.self-in-loop-at.view_is)
-          ∙ other_tag (turns_beside y) _ _ (λ s q.
-          ap (λ t. is_tagged t c.tags_beside-unit.result.1 s) c.tags_beside-unit.ensures.unit
-          ∙ (ap (λ t. is_tagged (tag y.connection y.unit true) t s) c.tags_beside-unit.ensures.next
-          ∙ beside y s q)) _ (c.has_tag.ensures w.if-has_tag.false)))
-    ] in
+    let at = c.in-Some.at in
+    let k = c.loop-at.invariant in
+    let here = passed (besides y) (turns_beside y) (stays y) xs ys c.loop-at.from at c.in-Some.ensures.low
+    (omega (arith, c.in-Some.ensures.high, c.len.ensures.count, k.many, ap length c.self.view_is)) k.many k.cells
+    (λ i l h. ap (λ l. stands (turns_beside y) (cell l i)) (sym c.self.view_is) ∙ c.in-Some.ensures.none i l h) in
     record {
-      many = ap length put ∙ (length-set ys at _ ∙ c.loop-at.invariant.many);
+      low = omega (arith, c.in-Some.ensures.high, c.len.ensures.count, k.many, ap length c.self.view_is);
+      many = ap length c.mark_in.ensures ∙ (length-set ys at _ ∙ k.many);
       cells =
-          over_more f xs ys _ at
-          (omega (arith, c.loop-at-test.true, c.len-at-end.ensures.count, ap length c.self.view_is))
-          c.loop-at.invariant.many c.loop-at.invariant.cells put;
+          over_more (option_map (besides y)) xs ys _ at
+          (omega (arith, c.in-Some.ensures.high, c.len.ensures.count, k.many, ap length c.self.view_is))
+          k.many here c.mark_in.ensures;
     }
 
 pub returns : goal.returns
 returns g c =
     let xs = c.args.self.now in
     let f = besides c.args.ended.now in
-    ap sents (c.loop-at.invariant.cells ∙ over_all (option_map f) xs c.loop-at.at
-    (omega (arith, c.loop-at-test.false, c.len-at-end.ensures.count, ap length c.self.view_is))) ∙ sents_map f xs
+    let k = c.loop-at.invariant in
+    ap sents (passed f (turns_beside c.args.ended.now) (stays c.args.ended.now) xs c.loop-at.self c.loop-at.from
+    (length xs)
+    k.low (omega arith) k.many k.cells
+    (λ i l h. ap (λ l. stands (turns_beside c.args.ended.now) (cell l i)) (sym c.self.view_is)
+    ∙ c.in_default.ensures i l (omega (arith, h, c.len.ensures.count, k.many, ap length c.self.view_is)))
+    ∙ over_all (option_map f) xs (length xs) (omega arith)) ∙ sents_map f xs

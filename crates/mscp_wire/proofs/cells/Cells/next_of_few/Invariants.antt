@@ -1,0 +1,7 @@
+use Rattle.std.proofs.Common.{◌≤◌}
+use Rattle.mscp_wire.specs.Kept.{NoneIn}
+use Rattle.mscp_wire.specs.Sought.{is_sought}
+use Rattle.mscp_wire.proofs.cells.Cells.next_of_few.Given as goal
+
+abbrev pub invariant-loop-at : goal.invariant-loop-at
+invariant-loop-at g l = (l.from ≤ l.at) × NoneIn (is_sought l.sought) l.self l.from l.at
