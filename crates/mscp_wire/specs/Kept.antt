@@ -41,7 +41,7 @@ place_if cells (Some at) = Some (place cells at)
 
 -- the tag for a number of a connection, of commands that are answered when they arrive or of others
 abbrev pub tag : Connection → ℕ → Bool → ℕ
-tag via number immediate = 2 * key via number + cond immediate 1 0
+tag via number immediate = (2 * key via number + cond immediate 1 0) % 4294967296
 
 -- a command has its place in the line of its unit: it is sequential, or has its place beside such
 abbrev pub is_lined : Sent → Bool
@@ -64,7 +64,7 @@ tag_of s =
     if is_lined s then tag s.connection s.unit false else tag s.connection (aside s) (is_immediate s.opcode)
 
 abbrev pub tag_if : Option Sent → ℕ
-tag_if None = 18446744073709551615
+tag_if None = 4294967295
 tag_if (Some s) = tag_of s
 
 -- each command stands beside its tag

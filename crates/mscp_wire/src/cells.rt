@@ -22,7 +22,7 @@ const FEW: usize = 64;
 #[derive(Drop)]
 pub struct Cells<A: Allocator> {
     cells: Vec<Option<Sent>, A>,
-    tags: Vec<u64, A>,
+    tags: Vec<u32, A>,
 }
 
 // A clause sees what stands in them.
