@@ -11,7 +11,7 @@ ghost use Rattle.mscp_wire.specs.Sought.{is_sought};
 
 use crate::held::{Sought, stands};
 use crate::sent::Sent;
-use crate::tags::{have, have_left, tag_all, tag_if, tag_waiting, tags_of};
+use crate::tags::{have_either, have_left, tag_all, tag_if, tag_waiting, tags_of};
 use std::alloc::{AllocError, Allocator};
 use std::marker::Model;
 
@@ -110,7 +110,7 @@ impl<A: Allocator + Copy> Cells<A> {
             return have_left(tags, tag_waiting(*connection));
         }
         match tags_of(sought) {
-            Some((one, other)) => have(tags, one, other),
+            Some((one, other)) => have_either(tags, one, other),
             None => true,
         }
     }

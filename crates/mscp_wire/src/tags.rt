@@ -138,18 +138,28 @@ pub fn tag_waiting(connection: Connection) -> u32
     tag(connection, 0, false)
 }
 
-/// Whether one of these tags is one of two. It looks at all: so a machine looks at some at once.
-pub fn have(tags: &[u32], one: u32, other: u32) -> bool
-    ensures { result ≡ false → (i : ℕ) → i < length tags.now
-        → (nat_eq (get_or tags.now i 0) one || nat_eq (get_or tags.now i 0) other) ≡ false }
+/// Whether this is one of these tags. It looks at all: so a machine looks at some at once.
+fn have(tags: &[u32], tag: u32) -> bool
+    ensures { result ≡ false → (i : ℕ) → i < length tags.now → nat_eq (get_or tags.now i 0) tag ≡ false }
 {
     let mut found = false;
     for at in 0..tags.len() {
-        if tags[at] == one || tags[at] == other {
+        if tags[at] == tag {
             found = true;
         }
     }
     found
+}
+
+/// Whether one of two is.
+pub fn have_either(tags: &[u32], one: u32, other: u32) -> bool
+    ensures { result ≡ false → (i : ℕ) → i < length tags.now
+        → (nat_eq (get_or tags.now i 0) one || nat_eq (get_or tags.now i 0) other) ≡ false }
+{
+    if one == other {
+        return have(tags, one);
+    }
+    have(tags, one) || have(tags, other)
 }
 
 /// Whether this is left over of one of them, if it is divided by 4.

@@ -1,8 +1,6 @@
-use Rattle.std.proofs.Common.{◌≡◌, ℕ, ◌<◌, ◌||◌, false, get_or}
+use Rattle.std.proofs.Common.{◌≡◌, ℕ, ◌<◌, false, get_or}
 use Rattle.std.specs.Prelude.{nat_eq}
 use Rattle.mscp_wire.proofs.tags.have.Given as goal
 
 abbrev pub invariant-loop-at : goal.invariant-loop-at
-invariant-loop-at l =
-    l.found ≡ false → (i : ℕ) → i < l.at
-    → (nat_eq (get_or l.tags i 0) l.one || nat_eq (get_or l.tags i 0) l.other) ≡ false
+invariant-loop-at l = l.found ≡ false → (i : ℕ) → i < l.at → nat_eq (get_or l.tags i 0) l.tag ≡ false

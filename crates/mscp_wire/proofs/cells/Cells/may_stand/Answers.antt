@@ -17,4 +17,4 @@ returns-in-Some g c = λ none.
     by_tags (is_sought c.args.sought.now) (λ t. nat_eq t c.in-Some.one || nat_eq t c.in-Some.other)
     c.in-Some.ensures
     c.self.inside.cells.items c.args.self.now c.self.inside.tags.items c.deref.result.now c.args.from c.args.end
-    c.self.invariant c.self.view_is c.deref.ensures.value c.requires.few (c.have.ensures none)
+    c.self.invariant c.self.view_is c.deref.ensures.value c.requires.few (c.have_either.ensures none)
