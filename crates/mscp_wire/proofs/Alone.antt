@@ -69,7 +69,7 @@ named_slot via n s h =
     same k = grind (arith, nat_tests)
 
 pub named_none : (via : Connection) (n : ℕ) (cs : List ℕ) (xs ys : List Sent) (slot k : ℕ) → ys ≡ xs
-    → slot ≡ slot_of via n → IsTally by_name cs ys → k ≡ get_or cs slot 255 → k ≡ 0
+    → slot ≡ slot_of via n → IsTally by_name cs ys → k ≡ get_or cs slot 65535 → k ≡ 0
     → list_any (is_named via n) xs ≡ false
 named_none via n cs xs ys slot k same at h e none =
     none_counted (is_named via n) (λ s. is_it (by_name s) slot)
@@ -77,7 +77,7 @@ named_none via n cs xs ys slot k same at h e none =
     (ap (count_by (λ s. is_it (by_name s) slot)) (sym same) ∙ sym (h slot (omega (arith, e, none))) ∙ sym e ∙ none)
 
 pub named_alone : (via : Connection) (n : ℕ) (cs : List ℕ) (xs ys : List Sent) (slot k i : ℕ) → ys ≡ xs
-    → slot ≡ slot_of via n → IsTally by_name cs ys → k ≡ get_or cs slot 255 → k ≡ 1 → i < length xs
+    → slot ≡ slot_of via n → IsTally by_name cs ys → k ≡ get_or cs slot 65535 → k ≡ 1 → i < length xs
     → is_named via n (command_at xs i) ≡ true → Some i ≡ position (is_named via n) xs
 named_alone via n cs xs ys slot k i same at h e one b named =
     let counts = λ (s : Sent) (q : is_named via n s ≡ true). ap (is_it (by_name s)) at ∙ named_slot via n s q in
@@ -138,7 +138,7 @@ own_slot y h =
 
 -- a sequential command that is alone in its line
 pub alone_in_line : (y : Sent) (cs : List ℕ) (xs ys : List Sent) (slot k i : ℕ) → ys ≡ xs
-    → slot ≡ slot_of y.connection y.unit → IsTally by_line cs ys → k ≡ get_or cs slot 255
+    → slot ≡ slot_of y.connection y.unit → IsTally by_line cs ys → k ≡ get_or cs slot 65535
     → is_sequential y.opcode ≡ true → i < length xs → y ≡ command_at xs i → k ≡ 1
     → list_any (keeps_back y) (take i xs) ≡ false
 alone_in_line y cs xs ys slot k i same at h e seq b is one =
@@ -148,7 +148,7 @@ alone_in_line y cs xs ys slot k i same at h e seq b is one =
 
 -- one that isn't, where none in its line is sequential
 pub none_in_line : (y : Sent) (cs : List ℕ) (xs ys : List Sent) (slot k i : ℕ) → ys ≡ xs
-    → slot ≡ slot_of y.connection y.unit → IsTally by_fence cs ys → k ≡ get_or cs slot 255
+    → slot ≡ slot_of y.connection y.unit → IsTally by_fence cs ys → k ≡ get_or cs slot 65535
     → is_sequential y.opcode ≡ false → k ≡ 0 → list_any (keeps_back y) (take i xs) ≡ false
 none_in_line y cs xs ys slot k i same at h e seq empty =
     let q = λ (s : Sent). is_it (by_fence s) slot in
@@ -207,7 +207,7 @@ untold via n slot figure time at s h =
     (λ s q. ap (is_it (by_name s)) at ∙ named_slot via n s q) s h)
 
 pub told_none : (via : Connection) (n : ℕ) (figure time : Option ℕ) (cs : List ℕ) (xs ys : List Sent) (slot k : ℕ)
-    → ys ≡ xs → slot ≡ slot_of via n → IsTally by_name cs ys → k ≡ get_or cs slot 255 → k ≡ 0
+    → ys ≡ xs → slot ≡ slot_of via n → IsTally by_name cs ys → k ≡ get_or cs slot 65535 → k ≡ 0
     → xs ≡ map (tells via n figure time) xs
 told_none via n figure time cs xs ys slot k same at h e none =
     sym (map_none (λ s. is_it (by_name s) slot) (tells via n figure time) (untold via n slot figure time at) xs
@@ -215,7 +215,7 @@ told_none via n figure time cs xs ys slot k same at h e none =
 
 pub told_alone : (via : Connection) (n : ℕ) (figure time : Option ℕ) (cs : List ℕ) (xs ys zs : List Sent)
     (slot k i : ℕ) (x y : Sent) → ys ≡ xs → slot ≡ slot_of via n → IsTally by_name cs ys
-    → k ≡ get_or cs slot 255 → k ≡ 1 → i < length xs → is_named via n (command_at xs i) ≡ true → x ≡ command_at xs i
+    → k ≡ get_or cs slot 65535 → k ≡ 1 → i < length xs → is_named via n (command_at xs i) ≡ true → x ≡ command_at xs i
     → y ≡ tells via n figure time x → zs ≡ set ys i y → zs ≡ map (tells via n figure time) xs
 told_alone via n figure time cs xs ys zs slot k i x y same at h e one b named is put new =
     new ∙ ap (λ q. set q i y) same ∙ ap (set xs i) (put ∙ ap (tells via n figure time) is)
@@ -254,7 +254,7 @@ unleft y slot at s h =
     (without (polls y) (λ s. is_it (by_asked s) slot) (λ s q. ap (is_it (by_asked s)) at ∙ asked_slot y s q) s h)
 
 pub left_none : (y : Sent) (cs : List ℕ) (xs ys : List Sent) (slot k : ℕ) → ys ≡ xs
-    → slot ≡ slot_of y.connection y.reference → IsTally by_asked cs ys → k ≡ get_or cs slot 255 → k ≡ 0
+    → slot ≡ slot_of y.connection y.reference → IsTally by_asked cs ys → k ≡ get_or cs slot 65535 → k ≡ 0
     → xs ≡ map (leaves y) xs
 left_none y cs xs ys slot k same at h e empty =
     sym (map_none (λ s. is_it (by_asked s) slot) (leaves y) (unleft y slot at) xs
@@ -262,7 +262,7 @@ left_none y cs xs ys slot k same at h e empty =
     ∙ empty))
 
 pub left_alone : (y : Sent) (cs : List ℕ) (xs ys zs : List Sent) (slot k i : ℕ) (s t : Sent) → ys ≡ xs
-    → slot ≡ slot_of y.connection y.reference → IsTally by_asked cs ys → k ≡ get_or cs slot 255 → k ≡ 1
+    → slot ≡ slot_of y.connection y.reference → IsTally by_asked cs ys → k ≡ get_or cs slot 65535 → k ≡ 1
     → i < length xs → polls y (command_at xs i) ≡ true → s ≡ command_at xs i → t ≡ leaves y s → zs ≡ set ys i t
     → zs ≡ map (leaves y) xs
 left_alone y cs xs ys zs slot k i s t same at h e one b polled is put new =

@@ -36,7 +36,7 @@ tally_same by cs xs i s t l is same h j n =
 -- one that isn't counted any more
 tally_gone : (by : Sent → Option ℕ) (cs ds : List ℕ) (xs : List Sent) (i : ℕ) (s t : Sent) (o : Option ℕ) → o ≡ by s
     → by t ≡ None → IsTally by cs xs → i < length xs → s ≡ command_at xs i
-    → ((j : ℕ) → get_or ds j 255 ≡ (if is_it o j then fewer (get_or cs j 255) else get_or cs j 255))
+    → ((j : ℕ) → get_or ds j 65535 ≡ (if is_it o j then fewer (get_or cs j 65535) else get_or cs j 65535))
     → IsTally by ds (set xs i t)
 tally_gone by cs ds xs i s t o e none h l is k j n =
     let f : Sent → ℕ = λ x. cond (is_it (by x) j) 1 0 in
@@ -54,10 +54,10 @@ never a b n = grind arith
 
 pub kept_marked : {A : Type 0} (xs : List Sent) (i : ℕ) (s : Sent) (old new : Tallies A) (o p : Option ℕ)
     → i < length xs → s ≡ command_at xs i → o ≡ by_status s → p ≡ by_next s
-    → ((j : ℕ) → get_or new.statuses.counts.items j 255
-    ≡ (if is_it o j then fewer (get_or old.statuses.counts.items j 255) else get_or old.statuses.counts.items j 255))
-    → ((j : ℕ) → get_or new.nexts.counts.items j 255
-    ≡ (if is_it p j then fewer (get_or old.nexts.counts.items j 255) else get_or old.nexts.counts.items j 255))
+    → ((j : ℕ) → get_or new.statuses.counts.items j 65535
+    ≡ (if is_it o j then fewer (get_or old.statuses.counts.items j 65535) else get_or old.statuses.counts.items j 65535))
+    → ((j : ℕ) → get_or new.nexts.counts.items j 65535
+    ≡ (if is_it p j then fewer (get_or old.nexts.counts.items j 65535) else get_or old.nexts.counts.items j 65535))
     → new.names ≡ old.names → new.fences ≡ old.fences → new.lines ≡ old.lines → new.asked ≡ old.asked
     → new.first ≡ old.first → new.second ≡ old.second
     → IsKept xs old → IsKept (set xs i (record s { beside = true })) new
@@ -153,13 +153,13 @@ map_neither q r f h (x ∷ xs) e k =
 
 pub none_marked : (y : Sent) (cs ds : List ℕ) (xs ys : List Sent) → ys ≡ xs → IsTally by_status cs ys
     → IsTally by_next ds ys
-    → (nat_eq (get_or cs (slot_of y.connection y.unit) 255) 0 && nat_eq (get_or ds (slot_of y.connection 0) 255) 0)
+    → (nat_eq (get_or cs (slot_of y.connection y.unit) 65535) 0 && nat_eq (get_or ds (slot_of y.connection 0) 65535) 0)
     ≡ true → xs ≡ map (besides y) xs
 none_marked y cs ds xs ys same h k none =
-    let p = both (nat_eq (get_or cs (slot_of y.connection y.unit) 255) 0)
-    (nat_eq (get_or ds (slot_of y.connection 0) 255) 0) none in
-    let m = eqb-true (get_or cs (slot_of y.connection y.unit) 255) 0 p.0 in
-    let n = eqb-true (get_or ds (slot_of y.connection 0) 255) 0 p.1 in
+    let p = both (nat_eq (get_or cs (slot_of y.connection y.unit) 65535) 0)
+    (nat_eq (get_or ds (slot_of y.connection 0) 65535) 0) none in
+    let m = eqb-true (get_or cs (slot_of y.connection y.unit) 65535) 0 p.0 in
+    let n = eqb-true (get_or ds (slot_of y.connection 0) 65535) 0 p.1 in
     map_neither (λ s. is_it (by_status s) (slot_of y.connection y.unit))
     (λ s. is_it (by_next s) (slot_of y.connection 0))
     (besides y) (uncounted y) xs
@@ -203,7 +203,7 @@ turning_slot via unit s h =
         by_bool false e r = ap is_sequential (eqb-true opcode 9 r)
 
 pub none_turning : (via : Connection) (unit : ℕ) (cs : List ℕ) (xs ys : List Sent) (slot k : ℕ) → ys ≡ xs
-    → slot ≡ slot_of via unit → IsTally by_fence cs ys → k ≡ get_or cs slot 255 → k ≡ 0
+    → slot ≡ slot_of via unit → IsTally by_fence cs ys → k ≡ get_or cs slot 65535 → k ≡ 0
     → list_any (is_turning via unit) xs ≡ false
 none_turning via unit cs xs ys slot k same at h e none =
     none_counted (is_turning via unit) (λ s. is_it (by_fence s) slot)

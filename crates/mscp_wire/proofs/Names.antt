@@ -49,58 +49,58 @@ count_map p f h (x ∷ xs) =
     ∙ (ap (λ n. cond (p x) 1 0 + n) (count_map p f h xs) ∙ sym (sum_by-cons (λ s. cond (p s) 1 0) x xs)))
 
 -- the same of tallies
-less : (n : ℕ) → nat_le 255 n ≡ false → n < 255
+less : (n : ℕ) → nat_le 65535 n ≡ false → n < 65535
 less n h = grind (arith, nat_tests)
 
 pub tally_push : (by : Sent → Option ℕ) (cs ds : List ℕ) (xs : List Sent) (s : Sent) (o : Option ℕ) → o ≡ by s
     → IsTally by cs xs
-    → ((i : ℕ) → get_or ds i 255 ≡ (if is_it o i then more (get_or cs i 255) else get_or cs i 255))
+    → ((i : ℕ) → get_or ds i 65535 ≡ (if is_it o i then more (get_or cs i 65535) else get_or cs i 65535))
     → IsTally by ds (xs ++ s ∷ [])
 tally_push by cs ds xs s o e h k i m =
     let count = sum_by_push (λ x. cond (is_it (by x) i) 1 0) xs s in
     by_bool (is_it o i) (k i) (ap (λ q. is_it q i) (sym e)) count
   where
-    by_bool : (b : Bool) → get_or ds i 255 ≡ (if b then more (get_or cs i 255) else get_or cs i 255)
+    by_bool : (b : Bool) → get_or ds i 65535 ≡ (if b then more (get_or cs i 65535) else get_or cs i 65535)
         → is_it (by s) i ≡ b
         → count_by (λ x. is_it (by x) i) (xs ++ s ∷ []) ≡ count_by (λ x. is_it (by x) i) xs + cond (is_it (by s) i) 1 0
-        → get_or ds i 255 ≡ count_by (λ x. is_it (by x) i) (xs ++ s ∷ [])
-    by_bool true q at count = by_many (nat_le 255 (get_or cs i 255)) refl q
+        → get_or ds i 65535 ≡ count_by (λ x. is_it (by x) i) (xs ++ s ∷ [])
+    by_bool true q at count = by_many (nat_le 65535 (get_or cs i 65535)) refl q
       where
-        by_many : (b : Bool) → nat_le 255 (get_or cs i 255) ≡ b
-            → get_or ds i 255 ≡ (if b then 255 else get_or cs i 255 + 1)
-            → get_or ds i 255 ≡ count_by (λ x. is_it (by x) i) (xs ++ s ∷ [])
+        by_many : (b : Bool) → nat_le 65535 (get_or cs i 65535) ≡ b
+            → get_or ds i 65535 ≡ (if b then 65535 else get_or cs i 65535 + 1)
+            → get_or ds i 65535 ≡ count_by (λ x. is_it (by x) i) (xs ++ s ∷ [])
         by_many true n q = absurd (omega (arith, q, m))
         by_many false n q =
-            let old : get_or cs i 255 < 255 = omega (arith, q, m) in
+            let old : get_or cs i 65535 < 65535 = omega (arith, q, m) in
             omega (arith, q, count, h i old, ap {B = ℕ} (λ x. cond x 1 0) at)
     by_bool false q at count =
-        let old : get_or cs i 255 < 255 = omega (arith, q, m) in
+        let old : get_or cs i 65535 < 65535 = omega (arith, q, m) in
         omega (arith, q, count, h i old, ap {B = ℕ} (λ x. cond x 1 0) at)
 
 pub tally_remove : (by : Sent → Option ℕ) (cs ds : List ℕ) (xs : List Sent) (i : ℕ) (s : Sent) (o : Option ℕ)
     → o ≡ by s → IsTally by cs xs → i < length xs → s ≡ command_at xs i
-    → ((j : ℕ) → get_or ds j 255 ≡ (if is_it o j then fewer (get_or cs j 255) else get_or cs j 255))
+    → ((j : ℕ) → get_or ds j 65535 ≡ (if is_it o j then fewer (get_or cs j 65535) else get_or cs j 65535))
     → IsTally by ds (remove xs i)
 tally_remove by cs ds xs i s o e h l is k j n =
     let count = sum_by-remove (λ x. cond (is_it (by x) j) 1 0) xs i (sent_by First []) l in
     by_bool (is_it o j) (k j) (ap (λ x. is_it (by x) j) (sym is) ∙ ap (λ q. is_it q j) (sym e)) count
   where
-    by_bool : (b : Bool) → get_or ds j 255 ≡ (if b then fewer (get_or cs j 255) else get_or cs j 255)
+    by_bool : (b : Bool) → get_or ds j 65535 ≡ (if b then fewer (get_or cs j 65535) else get_or cs j 65535)
         → is_it (by (command_at xs i)) j ≡ b
         → count_by (λ x. is_it (by x) j) (remove xs i) + cond (is_it (by (command_at xs i)) j) 1 0
         ≡ count_by (λ x. is_it (by x) j) xs
-        → get_or ds j 255 ≡ count_by (λ x. is_it (by x) j) (remove xs i)
-    by_bool true q at count = by_many (nat_le 255 (get_or cs j 255)) refl q
+        → get_or ds j 65535 ≡ count_by (λ x. is_it (by x) j) (remove xs i)
+    by_bool true q at count = by_many (nat_le 65535 (get_or cs j 65535)) refl q
       where
-        by_many : (b : Bool) → nat_le 255 (get_or cs j 255) ≡ b
-            → get_or ds j 255 ≡ (if b then 255 else get_or cs j 255 - 1)
-            → get_or ds j 255 ≡ count_by (λ x. is_it (by x) j) (remove xs i)
+        by_many : (b : Bool) → nat_le 65535 (get_or cs j 65535) ≡ b
+            → get_or ds j 65535 ≡ (if b then 65535 else get_or cs j 65535 - 1)
+            → get_or ds j 65535 ≡ count_by (λ x. is_it (by x) j) (remove xs i)
         by_many true t q = absurd (omega (arith, q, n))
         by_many false t q =
-            let old : get_or cs j 255 < 255 = less (get_or cs j 255) t in
+            let old : get_or cs j 65535 < 65535 = less (get_or cs j 65535) t in
             omega (arith, q, count, h j old, ap {B = ℕ} (λ x. cond x 1 0) at)
     by_bool false q at count =
-        let old : get_or cs j 255 < 255 = omega (arith, q, n) in
+        let old : get_or cs j 65535 < 65535 = omega (arith, q, n) in
         omega (arith, q, count, h j old, ap {B = ℕ} (λ x. cond x 1 0) at)
 
 pub tally_map : (by : Sent → Option ℕ) (f : Sent → Sent) → ((s : Sent) → by (f s) ≡ by s) → (cs : List ℕ)

@@ -41,7 +41,7 @@ place_if cells (Some at) = Some (place cells at)
 
 -- the tag for a number of a connection, of commands that are answered when they arrive or of others
 abbrev pub tag : Connection → ℕ → Bool → ℕ
-tag via number immediate = (2 * key via number + cond immediate 1 0) % 4294967296
+tag via number immediate = (2 * key via number + cond immediate 1 0) % 65536
 
 -- a command has its place in the line of its unit: it is sequential, or has its place beside such
 abbrev pub is_lined : Sent → Bool
@@ -64,7 +64,7 @@ tag_of s =
     if is_lined s then tag s.connection s.unit false else tag s.connection (aside s) (is_immediate s.opcode)
 
 abbrev pub tag_if : Option Sent → ℕ
-tag_if None = 4294967295
+tag_if None = 65535
 tag_if (Some s) = tag_of s
 
 -- each command stands beside its tag
@@ -129,17 +129,17 @@ by_status s =
 abbrev pub by_next : Sent → Option ℕ
 by_next s = if nat_eq s.opcode 3 && s.next && not s.beside then Some (slot_of s.connection 0) else None
 
--- a count of 255 stays, since it isn't known how many more there were
+-- a count of 65535 stays, since it isn't known how many more there were
 abbrev pub more : ℕ → ℕ
-more count = if nat_le 255 count then 255 else count + 1
+more count = if nat_le 65535 count then 65535 else count + 1
 
 abbrev pub fewer : ℕ → ℕ
-fewer count = if nat_le 255 count then 255 else count - 1
+fewer count = if nat_le 65535 count then 65535 else count - 1
 
--- so many of the commands fall to each number, if fewer than 255 are counted. Of a number without a count nobody knows
+-- so many of the commands fall to each number, if fewer than 65535 are counted. Of a number without a count nobody knows
 abbrev pub IsTally : (Sent → Option ℕ) → List ℕ → List Sent → Type 0
 IsTally by counts xs =
-    (i : ℕ) → get_or counts i 255 < 255 → get_or counts i 255 ≡ count_by (λ s. is_it (by s) i) xs
+    (i : ℕ) → get_or counts i 65535 < 65535 → get_or counts i 65535 ≡ count_by (λ s. is_it (by s) i) xs
 
 -- a command is of a connection
 abbrev pub is_on : Connection → Sent → Bool
@@ -159,8 +159,8 @@ pub record IsKept {A : Type 0} (xs : List Sent) (kinds : Tallies A) : Type 0 whe
 -- no GET UNIT STATUS is counted of this unit or of whichever is next
 abbrev pub has_none : {A : Type 0} → Connection → ℕ → Tallies A → Bool
 has_none via unit kinds =
-    nat_eq (get_or kinds.statuses.counts.items (slot_of via unit) 255) 0
-    && nat_eq (get_or kinds.nexts.counts.items (slot_of via 0) 255) 0
+    nat_eq (get_or kinds.statuses.counts.items (slot_of via unit) 65535) 0
+    && nat_eq (get_or kinds.nexts.counts.items (slot_of via 0) 65535) 0
 
 -- the numbers of each connection's may grow
 pub record IsFew {A : Type 0} (kinds : Tallies A) : Type 0 where

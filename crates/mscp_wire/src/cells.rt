@@ -16,13 +16,13 @@ use std::alloc::{AllocError, Allocator};
 use std::marker::Model;
 
 /// So many tags are looked at together.
-const FEW: usize = 64;
+const FEW: usize = 128;
 
 /// Cells, and the tag of each.
 #[derive(Drop)]
 pub struct Cells<A: Allocator> {
     cells: Vec<Option<Sent>, A>,
-    tags: Vec<u32, A>,
+    tags: Vec<u16, A>,
 }
 
 // A clause sees what stands in them.

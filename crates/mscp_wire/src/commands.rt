@@ -1,7 +1,7 @@
 // The commands that are outstanding, oldest first, and what is kept beside them so that each is found soon.
 //
-// Each stands in a cell. A command that leaves moves no other: its cell stays, empty, until a third of them are. Then the
-// others move together. So each end moves a command or two, whichever it is of.
+// Each stands in a cell. A command that leaves moves no other: its cell stays, empty, until a fifth of them are. Then the
+// others move together. So each end moves a few commands, whichever it is of.
 
 ghost use Rattle.std.specs.Prelude.{◌≡◌, ◌+◌, ◌-◌, ◌<◌, ◌^◌, ◌++◌, ◌∷◌, [], find, length, map, take, drop, position, false, true, Some, None, OnOk, IfOk, IfSome, IsSome};
 ghost use Rattle.std.specs.List.{list_any, remove};
@@ -25,7 +25,7 @@ use mscp_drive::{Connection, OutOfMemory};
 use std::alloc::{AllocError, Allocator};
 use std::marker::Model;
 
-/// So many cells may be empty, beside half as many as aren't.
+/// So many cells may be empty, beside a quarter of those that aren't.
 const EMPTY: usize = 64;
 
 /// The commands that are outstanding, oldest first.
@@ -232,7 +232,7 @@ impl<A: Allocator + Copy> Commands<A> {
     fn make_room(&mut self)
         ensures { sents self.new ≡ sents self.old }
     {
-        if self.cells.len() / 3 > self.len().saturating_add(EMPTY) / 2 {
+        if self.cells.len() / 5 > self.len().saturating_add(EMPTY) / 4 {
             self.close_up();
         }
     }

@@ -12,17 +12,17 @@ use mscp_drive::Connection;
 use std::alloc::Allocator;
 
 /// The tag of no command.
-const NONE: u32 = u32::MAX;
+const NONE: u16 = u16::MAX;
 
-/// The tag for a number of a connection, of commands that are answered when they arrive or of others. It has 32 bits, of
+/// The tag for a number of a connection, of commands that are answered when they arrive or of others. It has 16 bits, of
 /// which a machine looks at many at once.
 #[inline(always)]
-fn tag(connection: Connection, number: u64, immediate: bool) -> u32
+fn tag(connection: Connection, number: u64, immediate: bool) -> u16
     requires { number < 2 ^ 40 }
     ensures { result ≡ kept.tag connection number immediate }
 {
     let whole = 4 * number + u64::from(connection == Connection::Second) * 2 + u64::from(immediate);
-    (whole % 4_294_967_296) as u32
+    (whole % 65_536) as u16
 }
 
 /// The number for what a command names that is about another one.
@@ -52,7 +52,7 @@ fn aside(command: &Sent) -> u64
 }
 
 /// The tag of a command.
-fn tag_of(command: &Sent) -> u32
+fn tag_of(command: &Sent) -> u16
     ensures { result ≡ kept.tag_of command.now }
 {
     if is_sequential(command.opcode) || is_ordered(command.opcode) {
@@ -66,7 +66,7 @@ fn tag_of(command: &Sent) -> u32
 }
 
 /// The tag of what stands in a cell.
-pub fn tag_if(cell: &Option<Sent>) -> u32
+pub fn tag_if(cell: &Option<Sent>) -> u16
     ensures { result ≡ kept.tag_if cell.now }
 {
     match cell {
@@ -76,7 +76,7 @@ pub fn tag_if(cell: &Option<Sent>) -> u32
 }
 
 /// Each cell has the tag of what stands in it.
-pub fn tag_all<A: Allocator>(tags: &mut Vec<u32, A>, cells: &[Option<Sent>])
+pub fn tag_all<A: Allocator>(tags: &mut Vec<u16, A>, cells: &[Option<Sent>])
     requires { length cells.now ≤ length tags.old.items }
     ensures { kept.AreTagged cells.now tags.new.items }
 {
@@ -86,21 +86,21 @@ pub fn tag_all<A: Allocator>(tags: &mut Vec<u32, A>, cells: &[Option<Sent>])
 }
 
 /// The tag of commands that are about this one.
-fn tag_about(command: &Sent) -> u32
+fn tag_about(command: &Sent) -> u16
     ensures { result ≡ kept.tag command.now.connection (kept.about (Some command.now.reference)) true }
 {
     tag(command.connection, about(Some(command.reference)), true)
 }
 
 /// The tag of those in the line of a unit.
-fn tag_lined(connection: Connection, unit: u16) -> u32
+fn tag_lined(connection: Connection, unit: u16) -> u16
     ensures { result ≡ kept.tag connection unit false }
 {
     tag(connection, u64::from(unit), false)
 }
 
 /// The tags of GET UNIT STATUS of this one's unit, and of the next one.
-fn tags_beside(command: &Sent) -> (u32, u32)
+fn tags_beside(command: &Sent) -> (u16, u16)
     ensures unit { result.0 ≡ kept.tag command.now.connection command.now.unit true }
     ensures next { result.1 ≡ kept.tag command.now.connection 65536 true }
 {
@@ -111,7 +111,7 @@ fn tags_beside(command: &Sent) -> (u32, u32)
 }
 
 /// Two tags of which each has one that is sought, if there are such.
-pub fn tags_of(sought: &Sought) -> Option<(u32, u32)>
+pub fn tags_of(sought: &Sought) -> Option<(u16, u16)>
     ensures { IfSome result (λ tags. (s : sents.Sent) → is_sought sought.now s ≡ true
         → (nat_eq (kept.tag_of s) tags.0 || nat_eq (kept.tag_of s) tags.1) ≡ true) }
 {
@@ -132,14 +132,14 @@ pub fn tags_of(sought: &Sought) -> Option<(u32, u32)>
 }
 
 /// What is left over of the tag of each command for which the host of a connection waits, if it is divided by 4.
-pub fn tag_waiting(connection: Connection) -> u32
+pub fn tag_waiting(connection: Connection) -> u16
     ensures { result ≡ kept.tag connection 0 false }
 {
     tag(connection, 0, false)
 }
 
 /// Whether this is one of these tags. It looks at all: so a machine looks at some at once.
-fn have(tags: &[u32], tag: u32) -> bool
+fn have(tags: &[u16], tag: u16) -> bool
     ensures { result ≡ false → (i : ℕ) → i < length tags.now → nat_eq (get_or tags.now i 0) tag ≡ false }
 {
     let mut found = false;
@@ -152,7 +152,7 @@ fn have(tags: &[u32], tag: u32) -> bool
 }
 
 /// Whether one of two is.
-pub fn have_either(tags: &[u32], one: u32, other: u32) -> bool
+pub fn have_either(tags: &[u16], one: u16, other: u16) -> bool
     ensures { result ≡ false → (i : ℕ) → i < length tags.now
         → (nat_eq (get_or tags.now i 0) one || nat_eq (get_or tags.now i 0) other) ≡ false }
 {
@@ -163,7 +163,7 @@ pub fn have_either(tags: &[u32], one: u32, other: u32) -> bool
 }
 
 /// Whether this is left over of one of them, if it is divided by 4.
-pub fn have_left(tags: &[u32], left: u32) -> bool
+pub fn have_left(tags: &[u16], left: u16) -> bool
     ensures { result ≡ false → (i : ℕ) → i < length tags.now
         → nat_eq (get_or tags.now i 0 % 4) left ≡ false }
 {

@@ -12,13 +12,13 @@ use std::alloc::{AllocError, Allocator};
 pub const SLOTS: usize = 131_072;
 
 /// A count that stays: so many or more, or nobody knows how many.
-const MANY: u8 = 255;
+const MANY: u16 = 65_535;
 
 /// How many commands fall to each number.
 #[derive(Drop)]
 pub struct Tally<A: Allocator> {
     /// That of each number, from 0 on. Of a number behind them nobody knows how many.
-    pub counts: Vec<u8, A>,
+    pub counts: Vec<u16, A>,
 }
 
 /// The number for a number of a connection. Two may have the same, but no two small ones, and not all those that end in
@@ -34,14 +34,14 @@ pub fn slot_of(connection: Connection, number: u32) -> usize
 }
 
 /// A count, once one more is counted.
-fn more(count: u8) -> u8
+fn more(count: u16) -> u16
     ensures { result ≡ more count }
 {
     if count >= MANY { MANY } else { count + 1 }
 }
 
 /// A count, once one fewer is.
-fn fewer(count: u8) -> u8
+fn fewer(count: u16) -> u16
     ensures { result ≡ fewer count }
 {
     if count >= MANY {
@@ -54,7 +54,7 @@ fn fewer(count: u8) -> u8
 impl<A: Allocator> Tally<A> {
     /// Nothing is known.
     pub fn unknown(alloc: A) -> Tally<A>
-        ensures { (i : ℕ) → get_or result.counts.items i 255 ≡ 255 }
+        ensures { (i : ℕ) → get_or result.counts.items i 65535 ≡ 65535 }
     {
         Tally {
             counts: Vec::new(alloc),
@@ -70,7 +70,7 @@ impl<A: Allocator> Tally<A> {
 
     /// No command falls to any number. Without memory some aren't known.
     pub fn begin(&mut self) -> Result<(), AllocError>
-        ensures { (i : ℕ) → get_or self.new.counts.items i 255 < 255 → get_or self.new.counts.items i 255 ≡ 0 }
+        ensures { (i : ℕ) → get_or self.new.counts.items i 65535 < 65535 → get_or self.new.counts.items i 65535 ≡ 0 }
     {
         self.counts.clear();
         self.counts.reserve(SLOTS)?;
@@ -80,9 +80,9 @@ impl<A: Allocator> Tally<A> {
         Ok(())
     }
 
-    /// How many fall to a number, or 255 if that isn't known.
-    pub fn at(&self, slot: usize) -> u8
-        ensures { result ≡ get_or self.now.counts.items slot 255 }
+    /// How many fall to a number, or 65,535 if that isn't known.
+    pub fn at(&self, slot: usize) -> u16
+        ensures { result ≡ get_or self.now.counts.items slot 65535 }
     {
         if slot < self.counts.len() {
             self.counts[slot]
@@ -92,7 +92,7 @@ impl<A: Allocator> Tally<A> {
     }
 
     /// So many fall to a number, if that is counted.
-    fn put(&mut self, slot: usize, count: u8)
+    fn put(&mut self, slot: usize, count: u16)
         ensures { self.new.counts.items ≡ set self.old.counts.items slot count }
     {
         if slot < self.counts.len() {
@@ -102,8 +102,8 @@ impl<A: Allocator> Tally<A> {
 
     /// One more does, if it is counted.
     pub fn add(&mut self, slot: Option<usize>)
-        ensures { (i : ℕ) → get_or self.new.counts.items i 255 ≡ (if is_it slot i
-            then more (get_or self.old.counts.items i 255) else get_or self.old.counts.items i 255) }
+        ensures { (i : ℕ) → get_or self.new.counts.items i 65535 ≡ (if is_it slot i
+            then more (get_or self.old.counts.items i 65535) else get_or self.old.counts.items i 65535) }
     {
         if let Some(slot) = slot {
             self.put(slot, more(self.at(slot)));
@@ -112,8 +112,8 @@ impl<A: Allocator> Tally<A> {
 
     /// One fewer does, if it was counted.
     pub fn subtract(&mut self, slot: Option<usize>)
-        ensures { (i : ℕ) → get_or self.new.counts.items i 255 ≡ (if is_it slot i
-            then fewer (get_or self.old.counts.items i 255) else get_or self.old.counts.items i 255) }
+        ensures { (i : ℕ) → get_or self.new.counts.items i 65535 ≡ (if is_it slot i
+            then fewer (get_or self.old.counts.items i 65535) else get_or self.old.counts.items i 65535) }
     {
         if let Some(slot) = slot {
             self.put(slot, fewer(self.at(slot)));
