@@ -55,7 +55,8 @@ never a b n = grind arith
 pub kept_marked : {A : Type 0} (xs : List Sent) (i : ℕ) (s : Sent) (old new : Tallies A) (o p : Option ℕ)
     → i < length xs → s ≡ command_at xs i → o ≡ by_status s → p ≡ by_next s
     → ((j : ℕ) → get_or new.statuses.counts.items j 65535
-    ≡ (if is_it o j then fewer (get_or old.statuses.counts.items j 65535) else get_or old.statuses.counts.items j 65535))
+    ≡ (if is_it o j then fewer (get_or old.statuses.counts.items j 65535)
+    else get_or old.statuses.counts.items j 65535))
     → ((j : ℕ) → get_or new.nexts.counts.items j 65535
     ≡ (if is_it p j then fewer (get_or old.nexts.counts.items j 65535) else get_or old.nexts.counts.items j 65535))
     → new.names ≡ old.names → new.fences ≡ old.fences → new.lines ≡ old.lines → new.asked ≡ old.asked

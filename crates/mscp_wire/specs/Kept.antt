@@ -136,7 +136,8 @@ more count = if nat_le 65535 count then 65535 else count + 1
 abbrev pub fewer : ℕ → ℕ
 fewer count = if nat_le 65535 count then 65535 else count - 1
 
--- so many of the commands fall to each number, if fewer than 65535 are counted. Of a number without a count nobody knows
+-- so many of the commands fall to each number, if fewer than 65535 are counted. Of a number without a count nobody
+-- knows
 abbrev pub IsTally : (Sent → Option ℕ) → List ℕ → List Sent → Type 0
 IsTally by counts xs =
     (i : ℕ) → get_or counts i 65535 < 65535 → get_or counts i 65535 ≡ count_by (λ s. is_it (by s) i) xs

@@ -113,8 +113,8 @@ after_line number account line = account_after account (line_tells number line) 
 
 -- ---- a message without a credit
 
--- it is known that a host has no credit (manual, "Flow Control"). The last one it may take for any command: whoever boots
--- does so
+-- it is known that a host has no credit (manual, "Flow Control"). The last one it may take for any command: whoever
+-- boots does so
 abbrev pub has_none : Option ℕ → Bool
 has_none None = false
 has_none (Some n) = nat_eq n 0
