@@ -8,9 +8,11 @@ use Rattle.std.proofs.lemmas.List.{drop_more}
 use Rattle.std.proofs.lemmas.List.Sums.{sum_by-append, sum_by-cons}
 use Rattle.mscp_drive.specs.declared.connection.Connection.{Connection}
 use Rattle.mscp_drive.specs.declared.connection.Connection.TheVariants.{First}
-use Rattle.mscp_wire.specs.Kept.{IsTally, by_asked, by_fence, by_line, by_name, heard, leaves, slot_if, slot, slot_of, tells, with_figure}
+use Rattle.mscp_wire.specs.Kept.{IsTally, asks, by_asked, by_fence, by_line, by_name, heard, leaves, slot_if, slot, slot_of, tells, with_figure}
 use Rattle.mscp_wire.specs.Wire.{asks_oldest, command_at, is_it, is_polled, polled_by, is_named, is_ordered, is_sequential, keeps_back, left, polls, same_connection, sent_by}
 use Rattle.mscp_wire.specs.declared.answer.Answer.{Answer}
+use Rattle.mscp_wire.specs.declared.sent.Asked.{Asked}
+use Rattle.mscp_wire.specs.declared.sent.Asked.TheVariants.{Gone, Nothing, Oldest}
 use Rattle.mscp_wire.specs.declared.sent.Sent.{Sent}
 use Rattle.mscp_wire.proofs.Keys.{same_key}
 use Rattle.mscp_wire.proofs.Names.{count_at, place_at}
@@ -223,13 +225,17 @@ told_alone via n figure time cs xs ys zs slot k i x y same at h e one b named is
     (ap (count_by (λ s. is_it (by_name s) slot)) (sym same) ∙ sym (h slot (omega (arith, e, one))) ∙ sym e ∙ one)
     (ap (is_it (by_name (command_at xs i))) at ∙ named_slot via n (command_at xs i) named))
 
--- a poll of a command is counted by that
-asked_slot : (y s : Sent) → polls y s ≡ true → is_it (by_asked s) (slot_of y.connection y.reference) ≡ true
-asked_slot y s h =
+-- a poll of a command that asks something is counted by that
+asked_slot : (y s : Sent) → polls y s ≡ true → asks s.asked ≡ true
+    → is_it (by_asked s) (slot_of y.connection y.reference) ≡ true
+asked_slot y s h more =
     let parts = three (same_connection s.connection y.connection) (nat_eq s.opcode 2) (is_it s.parameter y.reference) h
     in
-    ap (λ b. is_it (if b then slot_if s.connection s.parameter else None) (slot_of y.connection y.reference)) parts.1.0
-    ∙ named s.parameter parts.0 parts.1.1
+    ap (λ b. is_it (if b && asks s.asked then slot_if s.connection s.parameter else None)
+    (slot_of y.connection y.reference)) parts.1.0
+    ∙ (ap (λ b. is_it (if true && b then slot_if s.connection s.parameter else None)
+    (slot_of y.connection y.reference)) more
+    ∙ named s.parameter parts.0 parts.1.1)
   where
     three : (a b c : Bool) → (a && b && c) ≡ true → (a ≡ true) × ((b ≡ true) × (c ≡ true))
     three a b c h = (grind arith, (grind arith, grind arith))
@@ -249,9 +255,31 @@ asked_slot y s h =
 -- the others aren't left
 unleft : (y : Sent) (slot : ℕ) → slot ≡ slot_of y.connection y.reference → (s : Sent)
     → is_it (by_asked s) slot ≡ false → leaves y s ≡ s
-unleft y slot at s h =
-    ap (λ b. if b then record s { asked = left s.asked } else s)
-    (without (polls y) (λ s. is_it (by_asked s) slot) (λ s q. ap (is_it (by_asked s)) at ∙ asked_slot y s q) s h)
+unleft y slot at s h = by_asks s.asked refl
+  where
+    stays : (a : Asked) → s.asked ≡ a → left a ≡ a → leaves y s ≡ s
+    stays a e q = by_polls (polls y s)
+      where
+        by_polls : (b : Bool) → (if b then record s { asked = left s.asked } else s) ≡ s
+        by_polls true = ap (λ x. record s { asked = x }) (ap left e ∙ (q ∙ sym e))
+        by_polls false = refl
+
+    none : (b : Bool) → polls y s ≡ b → asks s.asked ≡ true → polls y s ≡ false
+    none true q more = absurd (omega (
+      arith,
+      ap {B = ℕ} (λ x. cond x 1 0) (sym (ap (is_it (by_asked s)) at ∙ asked_slot y s q more) ∙ h),
+    ))
+    none false q more = q
+
+    asking : asks s.asked ≡ true → leaves y s ≡ s
+    asking more =
+        ap (λ b. if b then record s { asked = left s.asked } else s)
+        (none (polls y s) refl more)
+
+    by_asks : (a : Asked) → s.asked ≡ a → leaves y s ≡ s
+    by_asks Nothing e = stays Nothing e refl
+    by_asks (Oldest last) e = asking (ap asks e)
+    by_asks (Gone last) e = asking (ap asks e)
 
 pub left_none : (y : Sent) (cs : List ℕ) (xs ys : List Sent) (slot k : ℕ) → ys ≡ xs
     → slot ≡ slot_of y.connection y.reference → IsTally by_asked cs ys → k ≡ get_or cs slot 65535 → k ≡ 0
@@ -260,16 +288,6 @@ left_none y cs xs ys slot k same at h e empty =
     sym (map_none (λ s. is_it (by_asked s) slot) (leaves y) (unleft y slot at) xs
     (ap (count_by (λ s. is_it (by_asked s) slot)) (sym same) ∙ sym (h slot (omega (arith, e, empty))) ∙ sym e
     ∙ empty))
-
-pub left_alone : (y : Sent) (cs : List ℕ) (xs ys zs : List Sent) (slot k i : ℕ) (s t : Sent) → ys ≡ xs
-    → slot ≡ slot_of y.connection y.reference → IsTally by_asked cs ys → k ≡ get_or cs slot 65535 → k ≡ 1
-    → i < length xs → polls y (command_at xs i) ≡ true → s ≡ command_at xs i → t ≡ leaves y s → zs ≡ set ys i t
-    → zs ≡ map (leaves y) xs
-left_alone y cs xs ys zs slot k i s t same at h e one b polled is put new =
-    new ∙ ap (λ q. set q i t) same ∙ ap (set xs i) (put ∙ ap (leaves y) is)
-    ∙ sym (map_alone (λ s. is_it (by_asked s) slot) (leaves y) (unleft y slot at) xs i b
-    (ap (count_by (λ s. is_it (by_asked s) slot)) (sym same) ∙ sym (h slot (omega (arith, e, one))) ∙ sym e ∙ one)
-    (ap (is_it (by_asked (command_at xs i))) at ∙ asked_slot y (command_at xs i) polled))
 
 -- the end of a poll of the oldest command tells its figure to those of a name, after those that polled it were left
 told_left : (y : Sent) (e : Answer) (n : ℕ) (s : Sent) → asks_oldest y.asked ≡ true → polled_by y e ≡ Some n

@@ -7,9 +7,11 @@ use Rattle.std.proofs.lemmas.Bool.Decides.{nat_tests}
 use Rattle.std.proofs.lemmas.List.Sums.{sum_by-remove, sum_by-set}
 use Rattle.mscp_drive.specs.declared.connection.Connection.{Connection}
 use Rattle.mscp_drive.specs.declared.connection.Connection.TheVariants.{First, Second}
-use Rattle.mscp_wire.specs.Kept.{IsKept, IsTally, besides, by_asked, by_fence, by_line, by_name, by_next, by_status, fewer, heard, is_on, slot, slot_of}
-use Rattle.mscp_wire.specs.Wire.{command_at, hears, is_it, is_sequential, is_turning, same_connection, sent_by, turns, turns_beside}
+use Rattle.mscp_wire.specs.Kept.{IsKept, IsTally, asks, besides, by_asked, by_fence, by_line, by_name, by_next, by_status, fewer, heard, is_on, slot, slot_if, slot_of}
+use Rattle.mscp_wire.specs.Wire.{command_at, hears, is_it, is_sequential, is_turning, left, same_connection, sent_by, turns, turns_beside}
 use Rattle.mscp_wire.specs.declared.answer.Answer.{Answer}
+use Rattle.mscp_wire.specs.declared.sent.Asked.{Asked}
+use Rattle.mscp_wire.specs.declared.sent.Asked.TheVariants.{Gone, Nothing, Oldest}
 use Rattle.mscp_wire.specs.declared.sent.Sent.{Sent}
 use Rattle.mscp_wire.specs.declared.tallies.Tallies.{Tallies}
 use Rattle.mscp_wire.proofs.Alone.{count_none, none_counted}
@@ -77,6 +79,49 @@ kept_marked xs i s old new o p l is e f more next names fences lines asked first
       first = first ∙ (k.first ∙ sym (count_same (is_on First) xs i s t l is refl));
       second = second ∙ (k.second ∙ sym (count_same (is_on Second) xs i s t l is refl));
     }
+
+-- a poll asks something else, or nothing
+never_asks : (a b : Bool) (o : Option ℕ) → b ≡ false → (if a && b then o else None) ≡ None
+never_asks a b o h = grind (arith, h)
+
+still_asks : (asked : Asked) → asks (left asked) ≡ true → asks asked ≡ true
+still_asks Nothing h = h
+still_asks (Oldest last) h = refl
+still_asks (Gone last) h = refl
+
+pub kept_left : {A : Type 0} (xs : List Sent) (i : ℕ) (s : Sent) (old new : Tallies A) → i < length xs
+    → s ≡ command_at xs i → IsTally by_asked new.asked.counts.items (set xs i (record s { asked = left s.asked }))
+    → new.names ≡ old.names → new.fences ≡ old.fences → new.lines ≡ old.lines → new.statuses ≡ old.statuses
+    → new.nexts ≡ old.nexts → new.first ≡ old.first → new.second ≡ old.second
+    → IsKept xs old → IsKept (set xs i (record s { asked = left s.asked })) new
+kept_left xs i s old new l is asked names fences lines statuses nexts first second k =
+    let t : Sent = record s { asked = left s.asked } in
+    record {
+      names = rw names (tally_same by_name _ xs i s t l is refl k.names);
+      fences = rw fences (tally_same by_fence _ xs i s t l is refl k.fences);
+      lines = rw lines (tally_same by_line _ xs i s t l is refl k.lines);
+      asked = asked;
+      statuses = rw statuses (tally_same by_status _ xs i s t l is refl k.statuses);
+      nexts = rw nexts (tally_same by_next _ xs i s t l is refl k.nexts);
+      first = first ∙ (k.first ∙ sym (count_same (is_on First) xs i s t l is refl));
+      second = second ∙ (k.second ∙ sym (count_same (is_on Second) xs i s t l is refl));
+    }
+
+pub asked_more : (cs : List ℕ) (xs : List Sent) (i : ℕ) (s : Sent) → i < length xs → s ≡ command_at xs i
+    → asks (left s.asked) ≡ true → IsTally by_asked cs xs
+    → IsTally by_asked cs (set xs i (record s { asked = left s.asked }))
+asked_more cs xs i s l is h k =
+    tally_same by_asked cs xs i s (record s { asked = left s.asked }) l is
+    (ap (λ b. if nat_eq s.opcode 2 && b then slot_if s.connection s.parameter else None)
+    (h ∙ sym (still_asks s.asked h))) k
+
+pub asked_less : (cs ds : List ℕ) (xs : List Sent) (i : ℕ) (s : Sent) (o : Option ℕ) → i < length xs
+    → s ≡ command_at xs i → o ≡ by_asked s → asks (left s.asked) ≡ false → IsTally by_asked cs xs
+    → ((j : ℕ) → get_or ds j 65535 ≡ (if is_it o j then fewer (get_or cs j 65535) else get_or cs j 65535))
+    → IsTally by_asked ds (set xs i (record s { asked = left s.asked }))
+asked_less cs ds xs i s o l is e h k less =
+    tally_gone by_asked cs ds xs i s (record s { asked = left s.asked }) o e
+    (never_asks (nat_eq s.opcode 2) (asks (left s.asked)) (slot_if s.connection s.parameter) h) k l is less
 
 -- ---- who hears it
 pub never_turned : (a b : Bool) → b ≡ false → (not a && b) ≡ false

@@ -9,8 +9,9 @@ use Rattle.mscp_drive.specs.declared.connection.Connection.{Connection}
 use Rattle.mscp_drive.specs.declared.connection.Connection.TheVariants.{First, Second}
 use Rattle.std.proofs.lemmas.Bool.Decides.{nat_tests}
 use Rattle.std.proofs.lemmas.List.Sums.{sum_by-cons, sum_by_push, sum_by-remove}
-use Rattle.mscp_wire.specs.Kept.{IsCounted, IsKept, IsTally, by_asked, by_fence, by_line, by_name, by_next, by_status, fewer, is_on, leaves, more, slot_if, slot_of, tells, with_figure}
-use Rattle.mscp_wire.specs.Wire.{command_at, command_at_place, is_it, is_named, is_ordered, is_sequential, left, polls, same_connection, sent_by}
+use Rattle.mscp_wire.specs.Kept.{IsCounted, IsKept, IsTally, asks, by_asked, by_fence, by_line, by_name, by_next, by_status, fewer, is_on, more, slot_if, slot_of, tells, with_figure}
+use Rattle.mscp_wire.specs.Wire.{command_at, command_at_place, is_it, is_named, is_ordered, is_sequential, same_connection, sent_by}
+use Rattle.mscp_wire.specs.declared.sent.Asked.{Asked}
 use Rattle.mscp_wire.specs.declared.sent.Sent.{Sent}
 use Rattle.mscp_wire.specs.declared.tallies.Tallies.{Tallies}
 
@@ -215,8 +216,8 @@ kept_counted xs kinds i s k l is = record {
 }
 
 -- what is heard changes no count
-abbrev frame : Sent → Connection × (ℕ × (ℕ × (ℕ × (Option ℕ × (Bool × Bool)))))
-frame s = (s.connection, (s.reference, (s.unit, (s.opcode, (s.parameter, (s.next, s.beside))))))
+abbrev frame : Sent → Connection × (ℕ × (ℕ × (ℕ × (Option ℕ × (Bool × (Bool × Asked))))))
+frame s = (s.connection, (s.reference, (s.unit, (s.opcode, (s.parameter, (s.next, (s.beside, s.asked)))))))
 
 kept_map : {A : Type 0} (f : Sent → Sent) → ((s : Sent) → frame (f s) ≡ frame s) → (xs : List Sent) (kinds : Tallies A)
     → IsKept xs kinds → IsKept (map f xs) kinds
@@ -228,22 +229,15 @@ kept_map f same xs kinds k = record {
       (λ s. ap (λ t. if is_sequential t.1.1.1.0 || is_ordered t.1.1.1.0 then Some (slot_of t.0 t.1.1.0) else None)
       (same s)) _ xs k.lines;
   asked = tally_map by_asked f
-      (λ s. ap (λ t. if nat_eq t.1.1.1.0 2 then slot_if t.0 t.1.1.1.1.0 else None) (same s)) _ xs k.asked;
-  statuses = tally_map by_status f (λ s. ap (λ t. if nat_eq t.1.1.1.0 3 && not t.1.1.1.1.1.0 && not t.1.1.1.1.1.1
+      (λ s. ap (λ t. if nat_eq t.1.1.1.0 2 && asks t.1.1.1.1.1.1.1 then slot_if t.0 t.1.1.1.1.0 else None) (same s))
+      _ xs k.asked;
+  statuses = tally_map by_status f (λ s. ap (λ t. if nat_eq t.1.1.1.0 3 && not t.1.1.1.1.1.0 && not t.1.1.1.1.1.1.0
       then Some (slot_of t.0 t.1.1.0) else None) (same s)) _ xs k.statuses;
-  nexts = tally_map by_next f (λ s. ap (λ t. if nat_eq t.1.1.1.0 3 && t.1.1.1.1.1.0 && not t.1.1.1.1.1.1
+  nexts = tally_map by_next f (λ s. ap (λ t. if nat_eq t.1.1.1.0 3 && t.1.1.1.1.1.0 && not t.1.1.1.1.1.1.0
       then Some (slot_of t.0 0) else None) (same s)) _ xs k.nexts;
   first = k.first ∙ sym (count_map (is_on First) f (λ s. ap (λ t. same_connection t.0 First) (same s)) xs);
   second = k.second ∙ sym (count_map (is_on Second) f (λ s. ap (λ t. same_connection t.0 Second) (same s)) xs);
 }
-
-pub kept_leaves : {A : Type 0} (y : Sent) (xs : List Sent) (kinds : Tallies A) → IsKept xs kinds
-    → IsKept (map (leaves y) xs) kinds
-kept_leaves y = kept_map (leaves y) (λ s. by_bool (polls y s) s)
-  where
-    by_bool : (b : Bool) (s : Sent) → frame (if b then record s { asked = left s.asked } else s) ≡ frame s
-    by_bool true s = refl
-    by_bool false s = refl
 
 pub kept_tells : {A : Type 0} (via : Connection) (n : ℕ) (figure time : Option ℕ) (xs : List Sent) (kinds : Tallies A)
     → IsKept xs kinds → IsKept (map (tells via n figure time) xs) kinds

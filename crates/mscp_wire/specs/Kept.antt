@@ -112,13 +112,19 @@ by_fence s = if is_sequential s.opcode then Some (slot_of s.connection s.unit) e
 abbrev pub by_line : Sent → Option ℕ
 by_line s = if is_sequential s.opcode || is_ordered s.opcode then Some (slot_of s.connection s.unit) else None
 
--- and polls by the names of the commands that they are about
+-- a poll asks something: of one of which any figure is right nothing more is heard
+abbrev pub asks : Asked → Bool
+asks Nothing = false
+asks (Oldest last) = true
+asks (Gone last) = true
+
+-- such polls by the names of the commands that they are about
 abbrev pub slot_if : Connection → Option ℕ → Option ℕ
 slot_if via None = None
 slot_if via (Some number) = Some (slot_of via number)
 
 abbrev pub by_asked : Sent → Option ℕ
-by_asked s = if nat_eq s.opcode 2 then slot_if s.connection s.parameter else None
+by_asked s = if nat_eq s.opcode 2 && asks s.asked then slot_if s.connection s.parameter else None
 
 -- a GET UNIT STATUS beside which its unit had one state so far is counted by that, or by its connection if it asks for
 -- the next unit

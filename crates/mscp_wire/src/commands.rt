@@ -10,6 +10,7 @@ ghost use Rattle.mscp_wire.specs.Kept as kept;
 ghost use Rattle.mscp_wire.specs.Kept.{cell, place, place_if, sents};
 ghost use Rattle.mscp_wire.specs.Sought.{is_sought};
 
+mod leaving;
 mod marking;
 mod seeking;
 
@@ -17,7 +18,7 @@ use crate::answer::Answer;
 use crate::cells::Cells;
 use crate::held::{Sought, command_if, command_in, list_of, note, note_all, stands};
 use crate::outstanding::is_apart;
-use crate::polls::{asks_oldest, leave_all, leaves, tell_all, tells};
+use crate::polls::{asks_oldest, tell_all, tells};
 use crate::sent::{Sent, is_ordered, is_sequential};
 use crate::tallies::Tallies;
 use crate::tally::{SLOTS, slot_of};
@@ -32,9 +33,8 @@ const EMPTY: usize = 64;
 #[derive(Drop)]
 pub struct Commands<A: Allocator> {
     cells: Cells<A>,
-    /// Of each number of names the cell in which the last one may stand that has it, and the last poll of it.
+    /// Of each number of names the cell in which the last one may stand that has it.
     last: Vec<u32, A>,
-    last_asked: Vec<u32, A>,
     tallies: Tallies<A>,
 }
 
@@ -59,7 +59,6 @@ impl<A: Allocator + Copy> Commands<A> {
         Commands {
             cells: Cells::new(alloc),
             last: Vec::new(alloc),
-            last_asked: Vec::new(alloc),
             tallies: Tallies::none(alloc),
         }
     }
@@ -216,7 +215,6 @@ impl<A: Allocator + Copy> Commands<A> {
         }
         self.tallies.begin()?;
         self.last.resize(SLOTS, 0)?;
-        self.last_asked.resize(SLOTS, 0)?;
         Ok(())
     }
 
@@ -225,7 +223,7 @@ impl<A: Allocator + Copy> Commands<A> {
         ensures { sents self.new ≡ sents self.old }
     {
         self.cells.close_up();
-        note_all(self.cells.as_slice(), &mut self.last, &mut self.last_asked);
+        note_all(self.cells.as_slice(), &mut self.last);
     }
 
     /// Few cells are empty.
@@ -246,7 +244,7 @@ impl<A: Allocator + Copy> Commands<A> {
         let at = self.cells.len();
         self.cells.push(command)?;
         self.tallies.add(&command);
-        note(&mut self.last, &mut self.last_asked, &command, at);
+        note(&mut self.last, &command, at);
         Ok(())
     }
 
@@ -320,28 +318,6 @@ impl<A: Allocator + Copy> Commands<A> {
             }
         }
         tell_all(&mut self.cells, name, figure, time);
-    }
-
-    /// Polls of a command that ended ask no more of it.
-    fn leave(&mut self, ended: &Sent)
-        ensures { sents self.new ≡ map (kept.leaves ended.now) (sents self.old) }
-    {
-        let slot = slot_of(ended.connection, ended.reference);
-        let count = self.tallies.asked.at(slot);
-        if count == 0 {
-            return;
-        }
-        if count == 1 {
-            if let Some(at) = self.guessed(
-                self.last_asked.get(slot).copied(),
-                &Sought::PollOf(*ended),
-            ) {
-                let other = self.at(at);
-                self.cells.put(at, Some(leaves(ended, &other)));
-                return;
-            }
-        }
-        leave_all(&mut self.cells, ended);
     }
 
     /// They hear of figures by the end of a command.

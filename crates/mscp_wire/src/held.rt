@@ -11,7 +11,6 @@ use crate::besides::{is_turning, turns_beside};
 use crate::outstanding::{aborts, keeps_back};
 use crate::polls::{polls, waits_on};
 use crate::sent::Sent;
-use crate::tallies::by_asked;
 use crate::tally::slot_of;
 use mscp_drive::Connection;
 use std::alloc::{AllocError, Allocator};
@@ -125,36 +124,21 @@ fn push_if<A: Allocator>(list: &mut Vec<Sent, A>, command: Option<Sent>) -> Resu
     }
 }
 
-/// Keeps of a number, if there is one, in which cell a command stands.
-fn note_at<A: Allocator>(list: &mut Vec<u32, A>, slot: Option<usize>, at: usize) {
-    if let (Some(slot), Ok(at)) = (slot, u32::try_from(at)) {
-        if slot < list.len() {
-            list[slot] = at;
+/// Keeps in which cell a command stands, by its name.
+pub fn note<A: Allocator>(last: &mut Vec<u32, A>, command: &Sent, at: usize) {
+    let slot = slot_of(command.connection, command.reference);
+    if let Ok(at) = u32::try_from(at) {
+        if slot < last.len() {
+            last[slot] = at;
         }
     }
 }
 
-/// Keeps in which cell a command stands, by its name, and by the name that it asks for if it is a poll.
-pub fn note<A: Allocator>(
-    last: &mut Vec<u32, A>,
-    last_asked: &mut Vec<u32, A>,
-    command: &Sent,
-    at: usize,
-) {
-    let slot = slot_of(command.connection, command.reference);
-    note_at(last, Some(slot), at);
-    note_at(last_asked, by_asked(command), at);
-}
-
 /// The same of each.
-pub fn note_all<A: Allocator>(
-    cells: &[Option<Sent>],
-    last: &mut Vec<u32, A>,
-    last_asked: &mut Vec<u32, A>,
-) {
+pub fn note_all<A: Allocator>(cells: &[Option<Sent>], last: &mut Vec<u32, A>) {
     for at in 0..cells.len() {
         if let Some(command) = command_in(cells, at) {
-            note(last, last_asked, &command, at);
+            note(last, &command, at);
         }
     }
 }

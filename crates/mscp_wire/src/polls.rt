@@ -190,7 +190,7 @@ pub fn polls(command: &Sent, other: &Sent) -> bool
 }
 
 /// What a poll asks once the command that it names ended.
-fn left(asked: Asked) -> Asked
+pub fn left(asked: Asked) -> Asked
     ensures { result ≡ wire.left asked }
 {
     match asked {
@@ -210,30 +210,6 @@ pub fn leaves(ended: &Sent, other: &Sent) -> Sent
         }
     } else {
         *other
-    }
-}
-
-/// What stands in a cell, once one ended.
-fn leave_in<A: Allocator + Copy>(cells: &mut Cells<A>, at: usize, ended: &Sent)
-    requires { at < length cells.old }
-    ensures { cells.new ≡ set cells.old at (option_map (kept.leaves ended.now) (kept.cell cells.old at)) }
-{
-    if let Some(other) = cells.as_slice()[at] {
-        if polls(ended, &other) {
-            cells.put(at, Some(leaves(ended, &other)));
-        }
-    }
-}
-
-/// What stands in all of them, once one ended.
-pub fn leave_all<A: Allocator + Copy>(cells: &mut Cells<A>, ended: &Sent)
-    ensures { kept.sents cells.new ≡ map (kept.leaves ended.now) (kept.sents cells.old) }
-{
-    let sought = Sought::PollOf(*ended);
-    let mut from = 0;
-    while let Some(at) = cells.next(from, cells.len(), &sought) {
-        leave_in(cells, at, ended);
-        from = at + 1;
     }
 }
 

@@ -2,12 +2,13 @@
 
 ghost use Rattle.std.specs.Prelude.{◌≡◌, ◌+◌, ◌<◌, ◌≤◌, ◌^◌, ◌++◌, ◌∷◌, ℕ, List, [], cond, length, set, true, IfSome};
 ghost use Rattle.std.specs.List.{remove};
-ghost use Rattle.mscp_wire.specs.Wire.{command_at};
+ghost use Rattle.mscp_wire.specs.Wire.{command_at, left};
 ghost use Rattle.mscp_wire.specs.Kept as kept;
 ghost use Rattle.mscp_wire.specs.declared.sent.Sent as sents;
 
 use crate::answer::STATUS;
-use crate::sent::{Sent, is_ordered, is_sequential};
+use crate::polls::left;
+use crate::sent::{Asked, Sent, is_ordered, is_sequential};
 use crate::tally::{Tally, slot_of};
 use mscp_drive::Connection;
 use std::alloc::{AllocError, Allocator};
@@ -21,7 +22,7 @@ pub struct Tallies<A: Allocator> {
     pub fences: Tally<A>,
     /// By their units, of those that are sequential or have their place beside such.
     pub lines: Tally<A>,
-    /// Polls, by the names of the commands that they are about.
+    /// Polls that ask something, by the names of the commands that they are about.
     pub asked: Tally<A>,
     /// GET UNIT STATUS by their units, but for those that ask for the next unit, and those whose unit may have had two
     /// states since they came.
@@ -62,12 +63,21 @@ fn by_line(command: &Sent) -> Option<usize>
     }
 }
 
-/// By which number the name of the command is counted that this one is about, if it is a poll.
-pub fn by_asked(command: &Sent) -> Option<usize>
+/// Whether a poll asks something.
+fn asks(asked: Asked) -> bool
+    ensures { result ≡ kept.asks asked }
+{
+    !matches!(asked, Asked::Nothing)
+}
+
+/// By which number the name of the command is counted that this one is about, if it is a poll that asks something.
+fn by_asked(command: &Sent) -> Option<usize>
     ensures { result ≡ kept.by_asked command.now }
 {
     match command.parameter {
-        Some(other) if command.opcode == STATUS => Some(slot_of(command.connection, other)),
+        Some(other) if command.opcode == STATUS && asks(command.asked) => {
+            Some(slot_of(command.connection, other))
+        }
         _ => None,
     }
 }
@@ -195,5 +205,15 @@ impl<A: Allocator + Copy> Tallies<A> {
     {
         self.statuses.subtract(by_status(command));
         self.nexts.subtract(by_next(command));
+    }
+
+    /// A poll asks something else, or nothing.
+    pub fn leave(&mut self, poll: &Sent)
+        ensures { (xs : List sents.Sent) (i : ℕ) → i < length xs → poll.now ≡ command_at xs i
+            → kept.IsKept xs self.old → kept.IsKept (set xs i (record poll.now { asked = left poll.now.asked })) self.new }
+    {
+        if !asks(left(poll.asked)) {
+            self.asked.subtract(by_asked(poll));
+        }
     }
 }

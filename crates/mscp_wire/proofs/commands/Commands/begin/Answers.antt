@@ -21,15 +21,6 @@ invariant_of-self-in_err-resize g c =
       ap (λ xs. length (sents xs)) c.self.view_is,
     )) c.self.invariant c.begin.ensures
 
-pub invariant_of-self-in_err-resize-2 : goal.invariant_of-self-in_err-resize-2
-invariant_of-self-in_err-resize-2 g c =
-    begun _ _ _ (omega (
-      arith,
-      c.if-len-gt0.false,
-      c.len.ensures,
-      ap (λ xs. length (sents xs)) c.self.view_is,
-    )) c.self.invariant c.begin.ensures
-
 pub invariant_of-self-2 : goal.invariant_of-self-2
 invariant_of-self-2 g c =
     begun _ _ _ (omega (
