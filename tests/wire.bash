@@ -457,21 +457,25 @@ tells_status() { echo "end $(packet 48 "$1" 5 131 "$2" 0 0 "$3" 7 "$4" 0 "$5")";
 identities() {
     local online=("$(online 1 5)" "$(tells_online 1 0 3 4 800)") set asks
     set="send $(packet 36 2 5 10 0)" asks=$(unit_status 2 5 0)
-    wire_breaks 'controller: identity' 'SET UNIT CHARACTERISTICS 2 of unit 5' "${online[@]}" "$set" "$(tells_set 2 0 3 4 801)" &&
-        wire_breaks 'controller: identity' 'ONLINE 2 of unit 5' "${online[@]}" "$(online 2 5)" "$(tells_online 2 256 3 5 800)" &&
+    wire_breaks 'controller: identity' 'ONLINE 2 of unit 5' "${online[@]}" "$(online 2 5)" "$(tells_online 2 256 3 5 800)" &&
         wire_breaks 'controller: identity' 'GET UNIT STATUS 2 of unit 5' "${online[@]}" "$asks" "$(tells_status 2 0 2 4 0)" &&
         wire_is_right '6 3 0 3 0' '' "${online[@]}" "$set" "$(tells_set 2 0 3 4 800)" "$asks" "$(tells_status 2 0 3 4 9)" &&
         wire_is_right '4 2 0 2 0' '' "${online[@]}" "$set" "$(tells_set 2 1 0 0 0)"
 }
 
-# A GET UNIT STATUS tells it too, but no size, and so does a SET UNIT CHARACTERISTICS to what comes behind it, unless that is
-# another one: the unit may be available.
+# A GET UNIT STATUS tells it too, but no size, and so does a SET UNIT CHARACTERISTICS to what comes behind it. Its own may be
+# another one: the unit may have become available, and have another volume. That is a doubt.
 identities_by_others() {
     local set asks told
     set="send $(packet 36 2 5 10 0)" asks=$(unit_status 3 5 0)
     told=("$(unit_status 1 5 0)" "$(tells_status 1 0 3 4 0)")
     wire_breaks 'controller: identity' 'GET UNIT STATUS 3 of unit 5' "${told[@]}" "$asks" "$(tells_status 3 0 3 5 0)" &&
-        wire_breaks 'controller: identity' 'SET UNIT CHARACTERISTICS 2 of unit 5' "${told[@]}" "$set" "$(tells_set 2 0 2 4 800)" &&
+        wire_is_right '4 2 0 2 0' 'doubt: 1 identity, first in line 4: SET UNIT CHARACTERISTICS 2 of unit 5' "${told[@]}" "$set" \
+            "$(tells_set 2 0 2 4 800)" &&
+        wire_is_right '6 3 0 3 0' 'doubt: 1 identity, first in line 4: SET UNIT CHARACTERISTICS 2 of unit 5' "$(online 1 5)" \
+            "$(tells_online 1 0 3 4 800)" "$set" "$(tells_set 2 0 3 4 801)" "$(online 4 5)" "$(tells_online 4 0 3 4 801)" &&
+        wire_breaks 'controller: identity' 'GET UNIT STATUS 3 of unit 5' "$(online 1 5)" "$(tells_online 1 0 3 4 800)" "$set" \
+            "$(tells_set 2 0 9 4 800)" "$asks" "$(tells_status 3 0 9 4 0)" &&
         wire_breaks 'controller: identity' 'ONLINE 4 of unit 5' "${told[@]}" "$(online 4 5)" "$(tells_online 4 256 2 4 800)" &&
         wire_is_right '4 2 0 2 0' '' "${told[@]}" "$set" "$(tells_set 2 0 3 4 800)" &&
         wire_is_right '4 2 0 2 0' '' "${told[@]}" "$(online 4 5)" "$(tells_online 4 0 9 9 9)" &&
@@ -979,6 +983,12 @@ random_hosts_are_right() {
 # Nine hosts, most like the drivers of known systems, each six times, which begin anew amid it. In 24 passes they
 # copy 16 groups of blocks by three commands.
 drivers_are_right() { logs_its_wire drivers && logged_is_right $((9 * 6 * 24 * 16 * 3)) $((9 * 6 * 2)); }
+
+# Hosts whose volumes are exchanged: what two SET UNIT CHARACTERISTICS tell may be a doubt.
+exchanged_volumes_are_right() {
+    logs_its_wire exchanging && "$program" wire "$room/log" </dev/null >"$room/out" 2>"$room/err" ||
+        { cat -- "$room/out" "$room/err" && return 1; }
+}
 
 # Of so many lines each is shown.
 many_lines_of_the_wire_in_words() {

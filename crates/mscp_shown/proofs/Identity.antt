@@ -316,21 +316,21 @@ pub same_right : (s : Shape) (was : Told) (a : Answer) → ((i : Identity) → w
     → (tells_unit a ≡ true → HasOf s a.identity) → is_same_unit was a ≡ true
 same_right s was a known tells = by_identity was.identity known
   where
-    by_identity : (o : Option Identity) → ((i : Identity) → o ≡ Some i → IsOf s i) → is_known_unit was o a ≡ true
+    by_identity : (o : Option Identity) → ((i : Identity) → o ≡ Some i → IsOf s i) → is_known_unit o a ≡ true
     by_identity None k = refl
     by_identity (Some j) k = by_tells (tells_unit a) tells
       where
         by_tells : (b : Bool) → (b ≡ true → HasOf s a.identity)
-            → (not b || is_unsure was a || agrees a.identity j) ≡ true
-        by_tells false f = first (is_unsure was a) (agrees a.identity j)
+            → (not b || is_unsure a || agrees a.identity j) ≡ true
+        by_tells false f = first (is_unsure a) (agrees a.identity j)
           where
             first : (x y : Bool) → (true || x || y) ≡ true
             first x y = grind arith
         by_tells true f =
             let has = f refl in
-            ap (λ o. false || is_unsure was a || agrees o j) has.1
-            ∙ (ap (λ b. false || is_unsure was a || b) (agrees_same s has.0 j has.2 (k j refl))
-            ∙ last (is_unsure was a))
+            ap (λ o. false || is_unsure a || agrees o j) has.1
+            ∙ (ap (λ b. false || is_unsure a || b) (agrees_same s has.0 j has.2 (k j refl))
+            ∙ last (is_unsure a))
           where
             last : (x : Bool) → (false || x || true) ≡ true
             last x = grind arith

@@ -1,14 +1,14 @@
 -- Where commands stand: those in cells are a list, in which each has its place.
-use Rattle.std.proofs.Common.{◌≡◌, ℕ, zero, suc, ◌+◌, ◌<◌, ◌≤◌, Bool, true, false, cond, ◌||◌, List, [], ◌∷◌, ◌++◌, length, set, take, drop, map, take_all, refl, ap, sym, ◌∙◌, arith, rules, ◌-◌, Option, Some, None}
+use Rattle.std.proofs.Common.{◌≡◌, ℕ, zero, suc, ◌+◌, ◌<◌, ◌≤◌, Bool, true, false, cond, ◌||◌, List, [], ◌∷◌, ◌++◌, length, set, take, drop, map, take_all, refl, ap, subst, sym, ◌∙◌, arith, rules, ◌-◌, Option, Some, None}
 use Rattle.std.specs.Prelude.{IfSome, IsSome, count_by, find, is_some, option_map}
 use Rattle.std.proofs.lemmas.Bool.{or_parts}
 use Rattle.std.specs.List.{filter, list_any, position, remove}
-use Rattle.std.proofs.lemmas.List.{get_or-take, get_or_default, set-get_or}
+use Rattle.std.proofs.lemmas.List.{get_or-take, get_or_default, length-set, set-get_or}
 use Rattle.std.proofs.lemmas.List.Edits.{map_over_more}
 use Rattle.std.proofs.lemmas.List.Sums.{sum_by-cons}
 use Rattle.mscp_drive.specs.declared.connection.Connection.{Connection}
 use Rattle.mscp_drive.specs.declared.connection.Connection.TheVariants.{First, Second}
-use Rattle.mscp_wire.specs.Kept.{IsKept, IsNext, NoneIn, cell, is_on, place, place_if, sents, stands}
+use Rattle.mscp_wire.specs.Kept.{IsFound, IsKept, IsNext, NoneIn, cell, is_on, place, place_if, sents, stands}
 use Rattle.mscp_wire.specs.Messages.{same_connection}
 use Rattle.mscp_wire.specs.Wire.{command_at}
 use Rattle.mscp_wire.proofs.Names.{place_at, place_none}
@@ -263,7 +263,7 @@ skipped f p h xs ys from (suc k) l same is none =
     (same_in (option_map f) ys i (unsought f p h (cell ys i) (none i (omega arith) (omega arith))))
     ∙ ap (λ n. map (option_map f) (take n xs) ++ drop n xs) (omega arith)
 
-pub passed : (f : Sent → Sent) (p : Sent → Bool) → ((s : Sent) → p s ≡ false → f s ≡ s)
+passed : (f : Sent → Sent) (p : Sent → Bool) → ((s : Sent) → p s ≡ false → f s ≡ s)
     → (xs ys : List (Option Sent)) (from to : ℕ) → from ≤ to → to ≤ length xs → length ys ≡ length xs
     → ys ≡ map (option_map f) (take from xs) ++ drop from xs → NoneIn p ys from to
     → ys ≡ map (option_map f) (take to xs) ++ drop to xs
@@ -272,3 +272,82 @@ passed f p h xs ys from to low high same is none =
     skipped f p h xs ys from (to - from) (omega (arith, low, high)) same is
     (λ i l k. none i l (omega (arith, k, low)))
     ∙ ap (λ n. map (option_map f) (take n xs) ++ drop n xs) e
+
+-- ---- those behind a cell
+-- none of them is
+none_behind : (p : Sent → Bool) (xs : List (Option Sent)) (from : ℕ) → NoneIn p xs from (length xs)
+    → list_any p (sents (drop from xs)) ≡ false
+none_behind p [] zero h = refl
+none_behind p [] (suc from) h = refl
+none_behind p (None ∷ xs) zero h = none_behind p xs zero (λ i l k. h (suc i) (omega arith) (omega (arith, k)))
+none_behind p (Some x ∷ xs) zero h =
+    ap (λ b. b || list_any p (sents xs)) (h zero (omega arith) (omega arith))
+    ∙ none_behind p xs zero (λ i l k. h (suc i) (omega arith) (omega (arith, k)))
+none_behind p (x ∷ xs) (suc from) h =
+    none_behind p xs from (λ i l k. h (suc i) (omega (arith, l)) (omega (arith, k)))
+
+-- or one is
+or_other : (a b : Bool) → b ≡ true → (a || b) ≡ true
+or_other true b h = refl
+or_other false b h = h
+
+one_behind : (p : Sent → Bool) (xs : List (Option Sent)) (from at : ℕ) → from ≤ at → stands p (cell xs at) ≡ true
+    → list_any p (sents (drop from xs)) ≡ true
+one_behind p [] from at low h = empty _ h
+one_behind p (None ∷ xs) zero zero low h = empty _ h
+one_behind p (Some x ∷ xs) zero zero low h = ap (λ b. b || list_any p (sents xs)) h
+one_behind p (None ∷ xs) zero (suc at) low h = one_behind p xs zero at (omega arith) h
+one_behind p (Some x ∷ xs) zero (suc at) low h =
+    or_other (p x) (list_any p (sents xs)) (one_behind p xs zero at (omega arith) h)
+one_behind p (x ∷ xs) (suc from) zero low h = absurd (omega (arith, low))
+one_behind p (x ∷ xs) (suc from) (suc at) low h = one_behind p xs from at (omega (arith, low)) h
+
+pub some_behind : (p : Sent → Bool) (xs : List (Option Sent)) (i : ℕ) (at : Option ℕ) → IsSome (cell xs i)
+    → IsNext p xs (i + 1) (length xs) at → is_some at ≡ list_any p (drop (place xs i + 1) (sents xs))
+some_behind p xs i at full h =
+    found (i + 1) at h ∙ (ap (list_any p) (sents_drop (i + 1) xs)
+    ∙ ap (λ n. list_any p (drop n (sents xs))) (next_place xs i full))
+  where
+    found : (from : ℕ) (at : Option ℕ) → IsNext p xs from (length xs) at
+        → is_some at ≡ list_any p (sents (drop from xs))
+    found from None h = sym (none_behind p xs from h)
+    found from (Some at) h = sym (one_behind p xs from at h.low h.there)
+
+-- ---- what becomes of all
+-- so many of them changed, and no other
+pub record AreChanged (f : Sent → Sent) (xs ys : List (Option Sent)) (from : ℕ) : Type 0 where
+  pub low : from ≤ length xs
+  pub many : length ys ≡ length xs
+  pub cells : ys ≡ map (option_map f) (take from xs) ++ drop from xs
+
+-- up to the next one that is sought, and that one: those between aren't changed
+pub changed_next : (f : Sent → Sent) (p : Sent → Bool) → ((s : Sent) → p s ≡ false → f s ≡ s)
+    → (xs ys zs : List (Option Sent)) (from at : ℕ) → AreChanged f xs ys from → IsFound p ys from (length xs) at
+    → zs ≡ set ys at (option_map f (cell ys at)) → AreChanged f xs zs (at + 1)
+changed_next f p h xs ys zs from at k found put = record {
+  low = omega (arith, found.high);
+  many = ap length put ∙ (length-set ys at _ ∙ k.many);
+  cells =
+      over_more (option_map f) xs ys zs at found.high k.many
+      (passed f p h xs ys from at found.low (omega (arith, found.high)) k.many k.cells found.none) put;
+}
+
+-- and all, if none is behind
+pub changed_all : (f : Sent → Sent) (p : Sent → Bool) → ((s : Sent) → p s ≡ false → f s ≡ s)
+    → (xs ys : List (Option Sent)) (from : ℕ) → AreChanged f xs ys from → NoneIn p ys from (length xs)
+    → sents ys ≡ map f (sents xs)
+changed_all f p h xs ys from k none =
+    ap sents (passed f p h xs ys from (length xs) k.low (omega arith) k.many k.cells none
+    ∙ over_all (option_map f) xs (length xs) (omega arith)) ∙ sents_map f xs
+
+-- ---- what is kept beside them
+-- the command in a cell becomes another
+pub kept_put : {A : Type 0} (old new : Tallies A) (xs ys : List (Option Sent)) (at : ℕ) (s t u : Sent)
+    → cell xs at ≡ Some s → t ≡ u → ys ≡ set xs at (Some t)
+    → ((zs : List Sent) (i : ℕ) → i < length zs → s ≡ command_at zs i → IsKept zs old → IsKept (set zs i u) new)
+    → IsKept (sents xs) old → IsKept (sents ys) new
+kept_put old new xs ys at s t u there is put step k =
+    let full : IsSome (cell xs at) = subst IsSome (sym there) refl in
+    subst (λ zs. IsKept zs new)
+    (sym (ap sents put ∙ (sents_put xs at t full ∙ ap (set (sents xs) (place xs at)) is)))
+    (step (sents xs) (place xs at) (place_less xs at full) (command_of xs at s there) k)

@@ -44,18 +44,18 @@ agrees None known = false
 agrees (Some told) known =
     nat_eq told.identifier known.identifier && nat_eq told.media known.media && fits told.size known.size
 
--- what is known of a unit was told by an end of SET UNIT CHARACTERISTICS alone, and so is this: the unit may not be
--- online, and another one each time
-abbrev pub is_unsure : Told → Answer → Bool
-is_unsure told e = not told.sure && nat_eq e.code 0x8A
+-- an end is one of SET UNIT CHARACTERISTICS, which succeeds of a unit that isn't online, too: it may have become
+-- available by itself, which no end says, and then be another one each time
+abbrev pub is_unsure : Answer → Bool
+is_unsure e = nat_eq e.code 0x8A
 
 -- its unit is what is known of it, if anything is (manual, "ONLINE Command")
-abbrev pub is_known_unit : Told → Option Identity → Answer → Bool
-is_known_unit told None e = true
-is_known_unit told (Some known) e = not (tells_unit e) || is_unsure told e || agrees e.identity known
+abbrev pub is_known_unit : Option Identity → Answer → Bool
+is_known_unit None e = true
+is_known_unit (Some known) e = not (tells_unit e) || is_unsure e || agrees e.identity known
 
 abbrev pub is_same_unit : Told → Answer → Bool
-is_same_unit told e = is_known_unit told told.identity e
+is_same_unit told e = is_known_unit told.identity e
 
 -- an end brings its unit online: one of ONLINE that succeeded
 abbrev pub brings : Answer → Bool

@@ -314,6 +314,13 @@ impl Answer {
             && (self.code == 0x83 || (self.code == 0x89 && self.was_online()) || self.code == 0x8A)
     }
 
+    /// Whether it is one of SET UNIT CHARACTERISTICS, which succeeds of a unit that isn't online, too.
+    pub fn is_unsure(&self) -> bool
+        ensures { result ≡ wire.is_unsure self.now }
+    {
+        self.code == 0x8A
+    }
+
     /// Whether it brings its unit online.
     pub fn brings(&self) -> bool
         ensures { result ≡ wire.brings self.now }

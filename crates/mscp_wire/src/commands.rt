@@ -89,14 +89,6 @@ impl<A: Allocator + Copy> Commands<A> {
         command_if(self.cells.as_slice(), at)
     }
 
-    /// Those that came after the one in a cell.
-    pub fn behind(&self, at: usize) -> &[Option<Sent>]
-        requires { IsSome (cell self.now at) }
-        ensures { sents result.now ≡ drop (place self.now at + 1) (sents self.now) }
-    {
-        &self.cells.as_slice()[at + 1..]
-    }
-
     /// How many are of a connection.
     pub fn count_on(&self, connection: Connection) -> usize
         ensures count { result ≡ wire.count_on connection (sents self.now) }

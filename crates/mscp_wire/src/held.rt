@@ -1,11 +1,10 @@
 // The cells in which commands that are outstanding stand, oldest first. A cell whose command left is empty, so that no
 // other moves.
 
-ghost use Rattle.std.specs.Prelude.{◌≡◌, ◌++◌, ◌∷◌, [], set, position, IfOk, IfSome, IsSome, OnOk};
-ghost use Rattle.std.specs.List.{list_any};
+ghost use Rattle.std.specs.Prelude.{◌≡◌, ◌++◌, ◌∷◌, [], IfOk, IfSome, IsSome, OnOk};
 ghost use Rattle.mscp_wire.specs.Wire as wire;
 ghost use Rattle.mscp_wire.specs.Sought.{is_sought};
-ghost use Rattle.mscp_wire.specs.Kept.{cell, place, place_if, sents, stands};
+ghost use Rattle.mscp_wire.specs.Kept.{cell, place_if, sents, stands};
 
 use crate::besides::{is_turning, turns_beside};
 use crate::outstanding::{aborts, keeps_back};
@@ -77,27 +76,6 @@ pub fn stands(cell: &Option<Sent>, sought: &Sought) -> bool
         Some(command) => is_sought(sought, command),
         None => false,
     }
-}
-
-/// The cell in which the first stands that is sought, if one does.
-#[inline(always)]
-pub fn cell_of(cells: &[Option<Sent>], sought: &Sought) -> Option<usize>
-    ensures place { place_if cells.now result ≡ position (is_sought sought.now) (sents cells.now) }
-    ensures there { IfSome result (λ i. IsSome (cell cells.now i)) }
-{
-    for at in 0..cells.len() {
-        if stands(&cells[at], sought) {
-            return Some(at);
-        }
-    }
-    None
-}
-
-/// Whether one is.
-pub fn has(cells: &[Option<Sent>], sought: &Sought) -> bool
-    ensures { result ≡ list_any (is_sought sought.now) (sents cells.now) }
-{
-    cell_of(cells, sought).is_some()
 }
 
 /// The list of those in cells.

@@ -1,6 +1,6 @@
 // What is outstanding after the moments so far, and which rule the next one breaks.
 
-ghost use Rattle.std.specs.Prelude.{◌≡◌, ℕ, ◌++◌, ◌∷◌, [], if◌then◌else◌, OnOk, IfOk, IfSome, IsSome, Some, None};
+ghost use Rattle.std.specs.Prelude.{◌≡◌, ℕ, ◌+◌, ◌++◌, ◌∷◌, [], drop, if◌then◌else◌, OnOk, IfOk, IfSome, IsSome, Some, None};
 ghost use Rattle.mscp_packet.specs.Number.{num};
 ghost use Rattle.mscp_drive.specs.declared.connection.Connection as connections;
 ghost use Rattle.mscp_wire.specs.Doubts as doubt;
@@ -66,9 +66,17 @@ fn broken_message<A: Allocator + Copy>(
     None
 }
 
-/// The first rule that the body of an end of this command breaks, after which these came.
-fn broken_body(later: &[Option<Sent>], command: &Sent, seen: &Seen, answer: &Answer) -> Option<Rule>
-    ensures { result ≡ wire.broken_body (sents later.now) command.now seen.now answer.now }
+/// The first rule that the body of an end of this command, which stands in a cell, breaks.
+fn broken_body<A: Allocator + Copy>(
+    commands: &Commands<A>,
+    at: usize,
+    command: &Sent,
+    seen: &Seen,
+    answer: &Answer,
+) -> Option<Rule>
+    requires { IsSome (cell commands.now at) }
+    ensures { result ≡ wire.broken_body (drop (place commands.now at + 1) (sents commands.now)) command.now seen.now
+        answer.now }
 {
     if !answer.succeeds(answer.other_of(command)) {
         return Some(Rule::Success);
@@ -76,7 +84,7 @@ fn broken_body(later: &[Option<Sent>], command: &Sent, seen: &Seen, answer: &Ans
     if !answer.is_about(answer.other_of(command)) {
         return Some(Rule::About);
     }
-    if !has_figure(later, command, answer, answer.polled_by(command)) {
+    if !has_figure(commands, at, command, answer, answer.polled_by(command)) {
         return Some(Rule::Figure);
     }
     if !answer.has_count(answer.count_of(command)) {
@@ -105,7 +113,6 @@ fn broken_end<A: Allocator + Copy>(
     ensures { result ≡ wire.broken_at (sents commands.now) seen.now answer.now (Some (place commands.now at)) }
 {
     let command = commands.at(at);
-    let later = commands.behind(at);
     if !answer.names_unit(&command) {
         return Some(Rule::Unit);
     }
@@ -115,13 +122,13 @@ fn broken_end<A: Allocator + Copy>(
     if !answer.has_status(&command) {
         return Some(Rule::Status);
     }
-    if !has_abort(later, &command, answer) {
+    if !has_abort(commands, at, &command, answer) {
         return Some(Rule::Aborted);
     }
     if !commands.passes_none(at, &command, answer) {
         return Some(Rule::Order);
     }
-    broken_body(later, &command, seen, answer)
+    broken_body(commands, at, &command, seen, answer)
 }
 
 /// The same, if there is one.

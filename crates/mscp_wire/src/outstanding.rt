@@ -1,12 +1,14 @@
 // What an end owes to the commands that are outstanding beside its own.
 
-ghost use Rattle.std.specs.Prelude.{◌≡◌};
+ghost use Rattle.std.specs.Prelude.{◌≡◌, ◌+◌, drop, IsSome};
 ghost use Rattle.mscp_wire.specs.Wire as wire;
-ghost use Rattle.mscp_wire.specs.Kept.{sents};
+ghost use Rattle.mscp_wire.specs.Kept.{cell, place, sents};
 
 use crate::answer::{ABORT, Answer, is_it};
-use crate::held::{Sought, has};
+use crate::commands::Commands;
+use crate::held::Sought;
 use crate::sent::{Sent, is_ordered, is_sequential};
+use std::alloc::Allocator;
 
 /// Whether a command is an ABORT of another.
 pub fn aborts(command: &Sent, abort: &Sent) -> bool
@@ -17,11 +19,17 @@ pub fn aborts(command: &Sent, abort: &Sent) -> bool
         && is_it(abort.parameter, command.reference)
 }
 
-/// Whether a command, after which these came, is aborted only while an ABORT of it is outstanding.
-pub fn has_abort(later: &[Option<Sent>], command: &Sent, answer: &Answer) -> bool
-    ensures { result ≡ wire.has_abort (sents later.now) command.now answer.now }
+/// Whether the command in a cell is aborted only while an ABORT of it is outstanding that came after it.
+pub fn has_abort<A: Allocator + Copy>(
+    commands: &Commands<A>,
+    at: usize,
+    command: &Sent,
+    answer: &Answer,
+) -> bool
+    requires { IsSome (cell commands.now at) }
+    ensures { result ≡ wire.has_abort (drop (place commands.now at + 1) (sents commands.now)) command.now answer.now }
 {
-    answer.status_code() != 2 || has(later, &Sought::AbortOf(*command))
+    answer.status_code() != 2 || commands.has_behind(at, &Sought::AbortOf(*command))
 }
 
 /// Whether an earlier command keeps another back: both are of one unit, and one of them is sequential.

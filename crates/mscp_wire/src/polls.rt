@@ -1,6 +1,6 @@
 // What polls ask of commands that are outstanding, and what those hear of them.
 
-ghost use Rattle.std.specs.Prelude.{◌≡◌, ◌<◌, length, map, set, find, option_map};
+ghost use Rattle.std.specs.Prelude.{◌≡◌, ◌+◌, ◌<◌, drop, length, map, set, find, option_map, IsSome};
 ghost use Rattle.std.specs.List.{list_any};
 ghost use Rattle.mscp_wire.specs.Wire as wire;
 ghost use Rattle.mscp_wire.specs.Kept as kept;
@@ -8,7 +8,7 @@ ghost use Rattle.mscp_wire.specs.Kept as kept;
 use crate::answer::{Answer, STATUS, is_it};
 use crate::cells::Cells;
 use crate::commands::Commands;
-use crate::held::{Sought, has};
+use crate::held::Sought;
 use crate::sent::{Asked, Sent, is_immediate};
 use mscp_drive::Connection;
 use std::alloc::Allocator;
@@ -158,15 +158,23 @@ fn asks_gone(asked: Asked) -> bool
     matches!(asked, Asked::Gone(_))
 }
 
-/// Whether the figure that an end tells is right, if its command is a poll of this other one. These came after the poll.
-pub fn has_figure(later: &[Option<Sent>], poll: &Sent, answer: &Answer, polled: Option<u32>) -> bool
-    ensures { result ≡ wire.has_figure (kept.sents later.now) poll.now answer.now polled }
+/// Whether the figure that an end tells is right, if its command, which stands in a cell, is a poll of this other one.
+pub fn has_figure<A: Allocator + Copy>(
+    commands: &Commands<A>,
+    at: usize,
+    poll: &Sent,
+    answer: &Answer,
+    polled: Option<u32>,
+) -> bool
+    requires { IsSome (kept.cell commands.now at) }
+    ensures { result ≡ wire.has_figure (drop (kept.place commands.now at + 1) (kept.sents commands.now)) poll.now
+        answer.now polled }
 {
     match polled {
         Some(other) => {
             let came = asks_gone(poll.asked)
                 && !is_it(answer.figure, 0)
-                && has(later, &Sought::Named(answer.connection, other));
+                && commands.has_behind(at, &Sought::Named(answer.connection, other));
             may_tell(poll.asked, came, answer.figure)
         }
         None => true,

@@ -21,8 +21,7 @@ pub struct Tally<A: Allocator> {
     pub counts: Vec<u16, A>,
 }
 
-/// The number for a number of a connection. Two may have the same, but no two small ones, and not all those that end in
-/// the same digits.
+/// The number for a number of a connection. Two may have the same.
 pub fn slot_of(connection: Connection, number: u32) -> usize
     ensures { result ≡ slot_of connection number }
 {
@@ -30,6 +29,7 @@ pub fn slot_of(connection: Connection, number: u32) -> usize
         Connection::First => 2 * u64::from(number),
         Connection::Second => 2 * u64::from(number) + 1,
     };
+    // By all digits, so that numbers which end in the same ones don't all fall to one.
     ((key + key / SLOTS as u64 * 2) % SLOTS as u64) as usize
 }
 

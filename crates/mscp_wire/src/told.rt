@@ -134,20 +134,13 @@ impl Told {
         }
     }
 
-    /// Whether what is known of it, and an end, are only of SET UNIT CHARACTERISTICS.
-    fn is_unsure(&self, answer: &Answer) -> bool
-        ensures { result ≡ wire.is_unsure self.now answer.now }
-    {
-        !self.sure && answer.code == 0x8A
-    }
-
     /// Whether it is to an end what is known of it.
     pub fn is_same_unit(&self, answer: &Answer) -> bool
         ensures { result ≡ wire.is_same_unit self.now answer.now }
     {
         match self.identity {
             Some(known) => {
-                !answer.tells_unit() || self.is_unsure(answer) || agrees(answer.identity, &known)
+                !answer.tells_unit() || answer.is_unsure() || agrees(answer.identity, &known)
             }
             None => true,
         }

@@ -1,6 +1,6 @@
 // Which of the commands that are outstanding is sought, and which one it is.
 
-ghost use Rattle.std.specs.Prelude.{◌≡◌, find, position, take, IfSome, IsSome};
+ghost use Rattle.std.specs.Prelude.{◌≡◌, ◌+◌, drop, find, position, take, IfSome, IsSome};
 ghost use Rattle.std.specs.List.{list_any};
 ghost use Rattle.mscp_wire.specs.Wire as wire;
 ghost use Rattle.mscp_wire.specs.Kept.{cell, place, place_if, sents};
@@ -42,6 +42,15 @@ impl<A: Allocator + Copy> Commands<A> {
         ensures { result ≡ list_any (is_sought sought.now) (take (place self.now at) (sents self.now)) }
     {
         self.first_before(at, sought).is_some()
+    }
+
+    /// Whether one is that came after it.
+    pub fn has_behind(&self, at: usize, sought: &Sought) -> bool
+        requires { IsSome (cell self.now at) }
+        ensures { result ≡ list_any (is_sought sought.now) (drop (place self.now at + 1) (sents self.now)) }
+    {
+        let len = self.cells.len();
+        self.cells.next(at + 1, len, sought).is_some()
     }
 
     /// The oldest for which the host of a connection waits, if there is one.

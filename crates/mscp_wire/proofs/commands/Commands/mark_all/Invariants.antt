@@ -1,14 +1,10 @@
-use Rattle.std.proofs.Common.{◌≡◌, ◌++◌, ◌-◌, ◌≤◌, drop, length, map, take}
-use Rattle.std.specs.Prelude.{option_map}
+use Rattle.std.proofs.Common.{◌-◌, length}
 use Rattle.mscp_wire.specs.Kept.{besides}
+use Rattle.mscp_wire.proofs.Placed.{AreChanged}
 use Rattle.mscp_wire.proofs.commands.Commands.mark_all.Given as goal
 
 abbrev pub invariant-loop-at : goal.invariant-loop-at
-invariant-loop-at g l = record {
-  low : l.from ≤ length l.initial.self;
-  many : length l.self ≡ length l.initial.self;
-  cells : l.self ≡ map (option_map (besides l.ended)) (take l.from l.initial.self) ++ drop l.from l.initial.self;
-}
+invariant-loop-at g l = AreChanged (besides l.ended) l.initial.self l.self l.from
 
 abbrev pub decreases-loop-at : goal.decreases-loop-at
 decreases-loop-at g l = length l.self - l.from

@@ -1,8 +1,8 @@
-use Rattle.std.proofs.Common.{◌≡◌, ap, not, refl, set, subst, sym, ◌&&◌, ◌∙◌, if◌then◌else◌, Some, false, true}
-use Rattle.std.specs.Prelude.{IsSome, option_map}
-use Rattle.mscp_wire.specs.Kept.{IsKept, besides, cell, place, sents}
+use Rattle.std.proofs.Common.{◌≡◌, ap, not, sym, ◌&&◌, ◌∙◌, if◌then◌else◌, Some, false, true}
+use Rattle.std.specs.Prelude.{option_map}
+use Rattle.mscp_wire.specs.Kept.{besides, cell}
 use Rattle.mscp_wire.specs.Wire.{turns_beside}
-use Rattle.mscp_wire.proofs.Placed.{command_of, place_less, same_in, sents_put}
+use Rattle.mscp_wire.proofs.Placed.{kept_put, same_in}
 use Rattle.mscp_wire.proofs.Marking.{never_turned, unmarked}
 use Rattle.mscp_wire.proofs.commands.Commands.mark_in.Goals.{else-not-other-via-then-not-other+else-turns_beside, else-not-other-via-else-not-other}
 use Rattle.mscp_wire.proofs.commands.Commands.mark_in.Goals as goal
@@ -25,16 +25,10 @@ returns-else-not-other g c =
 
 pub invariant_of-self : goal.invariant_of-self
 invariant_of-self g c =
-    let xs = c.self.inside.cells in
-    let y = c.args.ended.now in
     let s = c.in-Some.other in
-    let there : cell xs c.args.at ≡ Some s =
-    sym (ap (λ ys. cell ys c.args.at) c.as_slice.ensures) ∙ c.in-Some.is in
-    let full : IsSome (cell xs c.args.at) = subst IsSome (sym there) refl in
-    subst (λ ys. IsKept ys c.mark.new.self)
-    (sym (ap sents c.put.ensures ∙ sents_put xs c.args.at c.marked.result full
-    ∙ ap (set (sents xs) (place xs c.args.at)) (c.marked.ensures
-    ∙ ap (λ b. if b then record s { beside = true } else s)
-    (sym c.turns_beside.ensures ∙ c.if-turns_beside.true))))
-    (c.mark.ensures (sents xs) (place xs c.args.at) (place_less xs c.args.at full)
-    (command_of xs c.args.at s there) c.self.invariant)
+    kept_put c.self.inside.tallies c.mark.new.self c.self.inside.cells c.put.new.self c.args.at s c.marked.result
+    (record s { beside = true })
+    (sym (ap (λ ys. cell ys c.args.at) c.as_slice.ensures) ∙ c.in-Some.is)
+    (c.marked.ensures ∙ ap (λ b. if b then record s { beside = true } else s)
+    (sym c.turns_beside.ensures ∙ c.if-turns_beside.true))
+    c.put.ensures c.mark.ensures c.self.invariant
