@@ -13,7 +13,7 @@ use Rattle.mscp_queue.specs.Serving.{upcoming_begun, upcoming_of}
 use Rattle.mscp_queue.specs.declared.name.Name.{Name}
 use Rattle.mscp_queue.specs.declared.upcoming.Upcoming.{Upcoming}
 use Rattle.mscp_controller.specs.Holdings.{begun_step}
-use Rattle.mscp_port.specs.Blocks.{block_of, block_told, fault_with, faulted, has_changed, has_host_bytes, is_available, move_of, move_task, moved_by, part_task, part_with, refusal_of, takes_any_volume, task_of, unless_fault, writes}
+use Rattle.mscp_port.specs.Blocks.{block_of, block_told, changed_verdict, fault_with, faulted, has_changed, has_host_bytes, is_available, move_of, move_task, moved_by, part_task, part_with, refusal_of, takes_any_volume, task_of, unless_fault, writes}
 use Rattle.mscp_port.specs.Buffers.{part_of}
 use Rattle.mscp_port.specs.Moved.{begun_task, block_begun, block_served, known_task, moved_step, part_at, part_served}
 use Rattle.mscp_port.specs.Ports.{IsOfBlock}
@@ -76,6 +76,13 @@ module _ (order : Order) where
   drive_error : IsFine order (faulted 0x000B)
   drive_error = fault 0x000B (omega arith, omega arith, omega arith)
 
+  changed_fine : (v : Volume) → IsFine order (changed_verdict v)
+  changed_fine v = by v.is_mounted
+    where
+      by : (c : Bool) → IsFine order (cond c (faulted 0x000B) verdicts.NoVolume)
+      by true = drive_error
+      by false = no_volume
+
   -- why a block isn't moved
   refusal_fine : is_move order ≡ true → (kind : MoveKind) (block : ℕ) (b : Buffer) (v : Volume)
       → IsFineIf order (refusal_of kind block b v)
@@ -93,7 +100,7 @@ module _ (order : Order) where
   part_fine : is_move order ≡ true → (kind : MoveKind) (block done : ℕ) (b : Buffer) (v : Volume)
       → IsFineOr order (part_with kind block done b v)
   part_fine move kind block done b v = by (fault_with kind block b v)
-      (fine_cond (has_changed b v) (Some verdicts.NoVolume) (refusal_of kind block b v) no_volume
+      (fine_cond (has_changed b v) (Some (changed_verdict v)) (refusal_of kind block b v) (changed_fine v)
       (refusal_fine move kind block b v)) (part_of b done)
     where
       by : (o : Option Verdict) → IsFineIf order o → (part : Option (ℕ × ℕ)) → IsFineOr order (unless_fault o part)
@@ -133,7 +140,7 @@ module _ (u : Upcoming) where
   task_fine : (b : Buffer) (v : Volume) → IsFineTask order (task_of u b v)
   task_fine b v = fine_task order (is_available order) _ _ (good order)
       (fine_task order (v.is_there && takes_any_volume order) _ _ (good order)
-      (fine_task order (has_changed b v) (tasks.Step verdicts.NoVolume) _ (no_volume order)
+      (fine_task order (has_changed b v) (tasks.Step (changed_verdict v)) _ (changed_fine order v)
       (move_task_fine b v (move_of u) refl)))
 
   known_fine : (place : Option ℕ) (kept : Option Buffer) (volumes : List Volume)

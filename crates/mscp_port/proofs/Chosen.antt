@@ -1,14 +1,13 @@
 -- What is done for a step that moves a block goes by its part alone.
 use Rattle.mscp_port.proofs.Common.{◌≡◌, ◌∙◌, ℕ, Bool, true, false, List, Option, None, Some, Result, Ok, Err, arith, refl, ap, sym, Upcoming, Port, Buffer, Verdict, MoveKind, Order, begun_step, begun_task}
 use Rattle.std.specs.Prelude.{◌&&◌, if◌then◌else◌}
-use Rattle.mscp_port.specs.Blocks.{good_step, has_changed, is_available, kept_of, move_of, move_task, moved_by, part_task, part_with, refusal_of, takes_any_volume, task_of, unless_fault}
+use Rattle.mscp_port.specs.Blocks.{changed_verdict, good_step, has_changed, is_available, kept_of, move_of, move_task, moved_by, part_task, part_with, refusal_of, takes_any_volume, task_of, unless_fault}
 use Rattle.mscp_port.specs.Buffers.{part_of}
 use Rattle.mscp_port.specs.Moved.{known_task, move_wanted, part_at, part_now, part_wanted}
 use Rattle.mscp_port.specs.Volumes.{place_in, volume_at}
 use Rattle.mscp_port.specs.declared.action.Action.TheVariants as actions
 use Rattle.mscp_port.specs.declared.task.Task.{Task}
 use Rattle.mscp_port.specs.declared.task.Task.TheVariants as tasks
-use Rattle.mscp_port.specs.declared.verdict.Verdict.TheVariants as verdicts
 use Rattle.mscp_port.specs.declared.volumes.Volume.{Volume}
 
 -- only a transfer moves a block
@@ -17,12 +16,11 @@ moves_alone : (o : Order) (l : Option ℕ) (move : MoveKind × ℕ) → moved_by
 moves_alone o l move e = grind arith
 
 -- where a volume has changed that is told by the part, too
-changed_part : (changed : Bool) (r : Option Verdict) (p : Option (ℕ × ℕ))
-    → (if changed then tasks.Step verdicts.NoVolume
-    else part_task (unless_fault (if changed then Some verdicts.NoVolume else r) p))
-    ≡ part_task (unless_fault (if changed then Some verdicts.NoVolume else r) p)
-changed_part true r p = refl
-changed_part false r p = refl
+changed_part : (changed : Bool) (verdict : Verdict) (r : Option Verdict) (p : Option (ℕ × ℕ))
+    → (if changed then tasks.Step verdict else part_task (unless_fault (if changed then Some verdict else r) p))
+    ≡ part_task (unless_fault (if changed then Some verdict else r) p)
+changed_part true verdict r p = refl
+changed_part false verdict r p = refl
 
 -- what is done neither for AVAILABLE nor for a command that is about any volume
 skip : (available any changed there : Bool) (good none moved : Task) → available ≡ false → any ≡ false
@@ -35,9 +33,10 @@ in_place : (u : Upcoming) (move : MoveKind × ℕ) (b : Buffer) (v : Volume) →
 in_place u move b v e =
     let alone = moves_alone u.command.order u.lbn move e in
     skip (is_available u.command.order) (takes_any_volume u.command.order) (has_changed b v) v.is_there good_step
-    (tasks.Step verdicts.NoVolume) (move_task u (move_of u) b v) alone.0 alone.1
-    ∙ ap (λ (m : Option (MoveKind × ℕ)). if has_changed b v then tasks.Step verdicts.NoVolume else move_task u m b v) e
-    ∙ changed_part (has_changed b v) (refusal_of move.0 move.1 b v) (part_of b u.done)
+    (tasks.Step (changed_verdict v)) (move_task u (move_of u) b v) alone.0 alone.1
+    ∙ ap (λ (m : Option (MoveKind × ℕ)). if has_changed b v then tasks.Step (changed_verdict v) else move_task u m b v)
+    e
+    ∙ changed_part (has_changed b v) (changed_verdict v) (refusal_of move.0 move.1 b v) (part_of b u.done)
 
 known : (u : Upcoming) (move : MoveKind × ℕ) (place : Option ℕ) (kept : Option Buffer) (volumes : List Volume)
     → move_of u ≡ Some move

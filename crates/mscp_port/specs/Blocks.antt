@@ -68,8 +68,13 @@ refusal_of kind block b v =
 abbrev pub has_changed : Buffer → Volume → Bool
 has_changed b v = not v.is_there || not (b.changes == v.changes)
 
+-- how a command goes that waited meanwhile. If its unit has come online with another volume, its host isn't told that
+-- the unit is offline, but of a drive's error
+abbrev pub changed_verdict : Volume → Verdict
+changed_verdict v = if v.is_mounted then faulted 0x000B else verdicts.NoVolume
+
 abbrev pub fault_with : MoveKind → ℕ → Buffer → Volume → Option Verdict
-fault_with kind block b v = if has_changed b v then Some verdicts.NoVolume else refusal_of kind block b v
+fault_with kind block b v = if has_changed b v then Some (changed_verdict v) else refusal_of kind block b v
 
 -- past the end of the buffer memory isn't there
 abbrev pub unless_fault : Option Verdict → Option (ℕ × ℕ) → Result (ℕ × ℕ) Verdict
@@ -120,7 +125,7 @@ abbrev pub task_of : Upcoming → Buffer → Volume → Task
 task_of u b v =
     if is_available u.command.order then good_step
     else if v.is_there && takes_any_volume u.command.order then good_step
-    else if has_changed b v then tasks.Step verdicts.NoVolume
+    else if has_changed b v then tasks.Step (changed_verdict v)
     else move_task u (move_of u) b v
 
 -- how a block was served whose action went so: memory isn't there, has a parity error, isn't mapped; bytes differ

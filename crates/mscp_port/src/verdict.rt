@@ -34,7 +34,7 @@ pub(crate) const DRIVE_ERROR: u16 = 0x000B;
 pub(crate) enum Verdict {
     /// Its block was served so.
     Served(Block),
-    /// No volume is in its unit, or another one than when its command came.
+    /// No volume is in its unit, or another one than when its command came, with which the unit isn't online.
     NoVolume,
     /// Its unit isn't online with the volume that is in it.
     NotOnline,

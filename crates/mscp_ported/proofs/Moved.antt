@@ -32,7 +32,7 @@ use Rattle.mscp_port.specs.declared.task.Task.TheVariants as tasks
 use Rattle.mscp_port.specs.declared.verdict.Verdict.{Verdict}
 use Rattle.mscp_port.specs.declared.verdict.Verdict.TheVariants as verdicts
 use Rattle.mscp_port.specs.declared.volumes.Volume.{Volume}
-use Rattle.mscp_port.specs.Blocks.{has_changed, is_available, kept_of, move_of, move_task, moved_by, part_task, part_with, takes_any_volume, task_of}
+use Rattle.mscp_port.specs.Blocks.{changed_verdict, has_changed, is_available, kept_of, move_of, move_task, moved_by, part_task, part_with, takes_any_volume, task_of}
 use Rattle.mscp_port.specs.Buffers.{is_of, part_of}
 use Rattle.mscp_port.specs.Calls.{IsMadeOf}
 use Rattle.mscp_port.specs.Histories.{Answered, Call, Picking, Went}
@@ -49,7 +49,7 @@ use Rattle.mscp_ported.specs.Moved.{IsEmpty, WasMoved, block_moved}
 use Rattle.mscp_ported.specs.Talk.{AsksAlways, Wish, wish}
 use Rattle.mscp_ported.specs.Transfers.{is_moving}
 use Rattle.mscp_ported.proofs.Moving.{Steps, steps}
-use Rattle.mscp_ported.proofs.Parts.{has_data, no_good_part, none_left, part_is, part_left, some_left}
+use Rattle.mscp_ported.proofs.Parts.{changed_bad, has_data, no_good_part, none_left, part_is, part_left, some_left}
 use Rattle.mscp_ported.proofs.Sole.{found_all}
 
 -- ---- what the controller is told
@@ -125,12 +125,16 @@ module _ (u : Upcoming) (kind : MoveKind) (block : ℕ) (moves : block_moved u.c
         good : Task
         good = tasks.Step (verdicts.Served blocks.Good)
 
+        verdict_in : Task → Verdict
+        verdict_in (tasks.Step x) = x
+        verdict_in task = changed_verdict v
+
         by : (x y z : Bool) (q : Option (MoveKind × ℕ)) → x ≡ false → y ≡ false → q ≡ Some (kind, block)
-            → cond x good (cond y good (cond z (tasks.Step verdicts.NoVolume) (move_task u q b v))) ≡ good
+            → cond x good (cond y good (cond z (tasks.Step (changed_verdict v)) (move_task u q b v))) ≡ good
             → Low b
         by true y z q f g is h = search (arith, f)
         by false true z q f g is h = search (arith, g)
-        by false false true q f g is h = search (arith, h)
+        by false false true q f g is h = absurd (changed_bad v (ap (λ x. verdict_in x) h))
         by false false false None f g is h = absurd (none-some (kind, block) is)
         by false false false (Some at) f g is h = good_part at b v (part_with at.0 at.1 u.done b v) refl h
 
@@ -164,7 +168,7 @@ module _ (u : Upcoming) (kind : MoveKind) (block : ℕ) (moves : block_moved u.c
         good = tasks.Step (verdicts.Served blocks.Good)
 
         by : (x y z : Bool) (q : Option (MoveKind × ℕ)) → q ≡ Some (kind, block)
-            → cond x good (cond y good (cond z (tasks.Step verdicts.NoVolume) (move_task u q b v))) ≡ tasks.Transfer
+            → cond x good (cond y good (cond z (tasks.Step (changed_verdict v)) (move_task u q b v))) ≡ tasks.Transfer
             → u.done * 512 < b.count
         by true y z q is h = search (arith, h)
         by false true z q is h = search (arith, h)

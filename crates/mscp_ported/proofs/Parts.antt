@@ -8,7 +8,7 @@ use Rattle.mscp_port.specs.declared.buffers.Buffer.{Buffer}
 use Rattle.mscp_port.specs.declared.verdict.Verdict.{Verdict}
 use Rattle.mscp_port.specs.declared.verdict.Verdict.TheVariants as verdicts
 use Rattle.mscp_port.specs.declared.volumes.Volume.{Volume}
-use Rattle.mscp_port.specs.Blocks.{fault_with, part_with, refusal_of, unless_fault}
+use Rattle.mscp_port.specs.Blocks.{changed_verdict, fault_with, faulted, has_changed, part_with, refusal_of, unless_fault}
 use Rattle.mscp_port.specs.Buffers.{left_of, part_of}
 use Rattle.mscp_port.specs.Formalities.{is_formality}
 use Rattle.mscp_ported.specs.Answers.{asks_nothing}
@@ -22,8 +22,19 @@ IsNoGood verdict = verdict ≢ verdicts.Served blocks.Good
 refused : (kind : MoveKind) (block : ℕ) (b : Buffer) (v : Volume) → IfSome (refusal_of kind block b v) IsNoGood
 refused kind block b v = grind arith
 
+pub changed_bad : (v : Volume) → IsNoGood (changed_verdict v)
+changed_bad v = by v.is_mounted
+  where
+    by : (c : Bool) → IsNoGood (cond c (faulted 0x000B) verdicts.NoVolume)
+    by true e = search (arith, e)
+    by false e = search (arith, e)
+
 faulty : (kind : MoveKind) (block : ℕ) (b : Buffer) (v : Volume) → IfSome (fault_with kind block b v) IsNoGood
-faulty kind block b v = grind (arith, refused)
+faulty kind block b v = by (has_changed b v) (refusal_of kind block b v) (refused kind block b v)
+  where
+    by : (c : Bool) (o : Option Verdict) → IfSome o IsNoGood → IfSome (cond c (Some (changed_verdict v)) o) IsNoGood
+    by true o h = changed_bad v
+    by false o h = h
 
 -- this part of a buffer is left, where a step may go on
 pub part_left : (kind : MoveKind) (block at : ℕ) (b : Buffer) (v : Volume) (part : ℕ × ℕ)

@@ -38,9 +38,8 @@ use Rattle.mscp_port.specs.declared.port.Port.{Port}
 use Rattle.mscp_port.specs.declared.task.Task.{Task}
 use Rattle.mscp_port.specs.declared.task.Task.TheVariants as tasks
 use Rattle.mscp_port.specs.declared.verdict.Verdict.{Verdict}
-use Rattle.mscp_port.specs.declared.verdict.Verdict.TheVariants as verdicts
 use Rattle.mscp_port.specs.declared.volumes.Volume.{Volume}
-use Rattle.mscp_port.specs.Blocks.{block_told, good_step, has_changed, is_available, kept_of, move_of, move_task, moved_by, part_task, part_with, takes_any_volume, task_of}
+use Rattle.mscp_port.specs.Blocks.{block_told, changed_verdict, good_step, has_changed, is_available, kept_of, move_of, move_task, moved_by, part_task, part_with, takes_any_volume, task_of}
 use Rattle.mscp_port.specs.Calls.{IsMadeOf}
 use Rattle.mscp_port.specs.Histories.{Answered, Call, Picking, Went}
 use Rattle.mscp_port.specs.Moved.{IsStepping, TakesBegun, TakesBlock, begun_task, block_begun, block_served, end_brought, known_task, moved_step, part_at, part_served}
@@ -78,7 +77,7 @@ task_moves u b v e = by (is_available u.command.order) (v.is_there && takes_any_
     parted m f (Err verdict) g h = search (arith, h)
 
     by : (x y z : Bool) (q : Option (MoveKind × ℕ)) → move_of u ≡ q
-        → cond x good_step (cond y good_step (cond z (tasks.Step verdicts.NoVolume) (move_task u q b v)))
+        → cond x good_step (cond y good_step (cond z (tasks.Step (changed_verdict v)) (move_task u q b v)))
         ≡ tasks.Transfer
         → So
     by true y z q f h = search (arith, h)

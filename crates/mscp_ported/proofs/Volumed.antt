@@ -22,9 +22,8 @@ use Rattle.mscp_port.specs.declared.task.Task.{Task}
 use Rattle.mscp_port.specs.declared.task.Task.TheVariants as tasks
 use Rattle.mscp_port.specs.declared.verdict.Verdict.{Verdict}
 use Rattle.mscp_port.specs.declared.volumes.Volume.{Volume}
-use Rattle.mscp_port.specs.declared.verdict.Verdict.TheVariants as verdicts
 use Rattle.mscp_port.specs.Areas.{Rings}
-use Rattle.mscp_port.specs.Blocks.{has_changed, kept_of, move_of, part_with, refusal_of, unless_fault}
+use Rattle.mscp_port.specs.Blocks.{changed_verdict, has_changed, kept_of, move_of, part_with, refusal_of, unless_fault}
 use Rattle.mscp_port.specs.Buffers.{part_of}
 use Rattle.mscp_port.specs.Calls.{IsMadeOf}
 use Rattle.mscp_port.specs.Histories.{Answered, Call, Picking, Next, Went}
@@ -67,7 +66,7 @@ part_on kind block at b v part e = by (has_changed b v) refl (refusal_of kind bl
         is false f h = search (arith, f, h)
 
     by : (c : Bool) → has_changed b v ≡ c → (o : Option Verdict) → refusal_of kind block b v ≡ o
-        → unless_fault (cond c (Some verdicts.NoVolume) o) (part_of b at) ≡ Ok part
+        → unless_fault (cond c (Some (changed_verdict v)) o) (part_of b at) ≡ Ok part
         → (v.is_there ≡ true) × (b.changes ≡ v.changes) × (v.is_mounted ≡ true)
     by true f o g h = search (arith, h)
     by false f (Some verdict) g h = search (arith, h)

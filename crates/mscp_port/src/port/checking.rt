@@ -6,7 +6,7 @@ ghost use Rattle.mscp_port.specs.Common.{has_block, IsInBuffer, IsInSomeBuffer, 
 use crate::action::Outcome;
 use crate::buffers::{Buffer, find_buffer};
 use crate::port::Port;
-use crate::port::serving::{move_of, refusal};
+use crate::port::serving::{changed_verdict, move_of, refusal};
 use crate::verdict::{DRIVE_ERROR, MISSING, Verdict, block_of};
 use crate::volumes::Volume;
 use mscp_packet::MoveKind;
@@ -28,7 +28,7 @@ pub(crate) fn part_with(
     ensures inside { IfOk result (λ part. IsInBuffer buffer.now part.0 part.1) }
 {
     if !volume.is_there || buffer.changes != volume.changes {
-        return Err(Verdict::NoVolume);
+        return Err(changed_verdict(volume));
     }
     match refusal(kind, block, buffer, volume) {
         Some(verdict) => Err(verdict),

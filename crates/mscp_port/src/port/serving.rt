@@ -4,7 +4,7 @@ ghost use Rattle.std.specs.Prelude.{◌≡◌, ◌≢◌, ◌≤◌, ◌%◌, �
 ghost use Rattle.mscp_port.specs.Common.{ChangesByService, move_of, refusal_of, task_of, Foretells, begun_step, GoesOnWithBlock, IsMovedFor, TakesBegun, TakesBlock, begun_task, MayBegin, IsOfBlock, in_hand, MayMove};
 ghost use Rattle.mscp_port.specs.declared.action.Action.TheVariants as actions;
 ghost use Rattle.mscp_port.specs.declared.buffers.Buffer.{Buffer as Kept};
-ghost use Rattle.mscp_port.specs.Blocks.{block_of as block_after, has_host_bytes as has_bytes, writes as writes_to};
+ghost use Rattle.mscp_port.specs.Blocks.{block_of as block_after, changed_verdict, has_host_bytes as has_bytes, writes as writes_to};
 ghost use Rattle.mscp_queue.specs.declared.upcoming.Upcoming.{Upcoming as Foretold};
 ghost use Rattle.mscp_port.specs.declared.task.Task.TheVariants as tasks;
 
@@ -70,6 +70,18 @@ pub(crate) fn move_of(upcoming: &Upcoming) -> Option<(MoveKind, u32)>
     }
 }
 
+/// How a step goes of a command that waited while its volume was exchanged. If its unit has come online with another
+/// one, its host isn't told that the unit is offline.
+pub(crate) fn changed_verdict(volume: &Volume) -> Verdict
+    ensures { result ≡ changed_verdict volume.now }
+{
+    if volume.is_mounted {
+        Verdict::fault(DRIVE_ERROR)
+    } else {
+        Verdict::NoVolume
+    }
+}
+
 /// How a step goes that moves no block, of a command of whose message this is kept, and whose unit has this volume.
 fn verdict_without_block(upcoming: &Upcoming, buffer: &Buffer, volume: &Volume) -> Verdict
     ensures { move_of upcoming.now ≡ None → task_of upcoming.now buffer.now volume.now ≡ tasks.Step result }
@@ -77,7 +89,7 @@ fn verdict_without_block(upcoming: &Upcoming, buffer: &Buffer, volume: &Volume) 
     match upcoming.command.order {
         Order::Available => Verdict::Served(Block::Good),
         Order::Online | Order::SetUnit if volume.is_there => Verdict::Served(Block::Good),
-        _ if !volume.is_there || buffer.changes != volume.changes => Verdict::NoVolume,
+        _ if !volume.is_there || buffer.changes != volume.changes => changed_verdict(volume),
         _ => Verdict::Served(Block::Good),
     }
 }
