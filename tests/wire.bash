@@ -984,7 +984,7 @@ random_hosts_are_right() {
 # copy 16 groups of blocks by three commands.
 drivers_are_right() { logs_its_wire drivers && logged_is_right $((9 * 6 * 24 * 16 * 3)) $((9 * 6 * 2)); }
 
-# Hosts whose volumes are exchanged: what two SET UNIT CHARACTERISTICS tell may be a doubt.
+# Hosts whose volumes are exchanged: what a SET UNIT CHARACTERISTICS tells may be a doubt.
 exchanged_volumes_are_right() {
     logs_its_wire exchanging && "$program" wire "$room/log" </dev/null >"$room/out" 2>"$room/err" ||
         { cat -- "$room/out" "$room/err" && return 1; }

@@ -5,21 +5,13 @@
  *     exchanging [ROUNDS [SEED]]
  *
  * Prints what is wrong, and ends with 1 where something is. */
+#include "chance.h"
 #include "machine.h"
 
 enum { EXCHANGED = 2, MOST_OUTSTANDING = 12, NUMBERS = 64 };
 
 static bool is_outstanding[NUMBERS];
 static unsigned outstanding;
-static uint64_t state = 1;
-
-static uint32_t below(uint32_t bound)
-{
-    state ^= state << 13;
-    state ^= state >> 7;
-    state ^= state << 17;
-    return (uint32_t)(state >> 16) % bound;
-}
 
 static void insert_sized(uint16_t unit, uint32_t size, uint32_t media)
 {

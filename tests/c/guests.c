@@ -5,6 +5,7 @@
  * After each call SA shows what a plain model of the initialisation says, or a fatal error that has a name; each action
  * touches only memory that the guest has named; and the credits are never more than the host's. Prints what is wrong,
  * and ends with 1 where something is. */
+#include "chance.h"
 #include "machine.h"
 
 enum { FIRST_STEP, WRAPPED, SECOND_STEP, THIRD_STEP, PURGING, PROBING, CLEARING, LAST_STEP, UP, DEAD };
@@ -30,21 +31,6 @@ static bool has_volume[UNITS], is_protected[UNITS];
 static uint64_t kinds[8], fatal[32], ups, steps; /* what came */
 
 /* ---- chance */
-
-static uint64_t state = 1;
-
-static uint32_t any(void)
-{
-    state ^= state << 13;
-    state ^= state >> 7;
-    state ^= state << 17;
-    return (uint32_t)(state >> 16);
-}
-
-static uint32_t below(uint32_t bound)
-{
-    return any() % bound;
-}
 
 static bool by_chance(uint32_t in_a_thousand)
 {

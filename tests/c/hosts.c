@@ -5,6 +5,7 @@
  *     hosts [ROUNDS [SEED]]
  *
  * Prints what is wrong, and ends with 1 where something is. */
+#include "chance.h"
 #include "machine.h"
 
 enum { COMMANDS = 16, PART = 2048, BUFFERS = 0x4000 };
@@ -19,16 +20,6 @@ static struct {
     uint16_t status;
 } commands[COMMANDS];
 static uint32_t references, rounds;
-
-static uint64_t state = 1;
-
-static uint32_t below(uint32_t bound)
-{
-    state ^= state << 13;
-    state ^= state >> 7;
-    state ^= state << 17;
-    return (uint32_t)(state >> 16) % bound;
-}
 
 static void must(const char *what, bool holds)
 {
