@@ -40,3 +40,4 @@ seen_then {A = A} old new m xs units known same are told is =
         else seen_nothing) (told a.connection a.unit)
         ∙ ap (λ k. if is_long b.items then seen (unit_before xs units a) k else seen_nothing) is
     by_moment moments.Reset = refl
+    by_moment (moments.Closed via) = refl

@@ -5,9 +5,10 @@ use Rattle.std.proofs.Math.ListN.{get_or-append}
 use Rattle.std.proofs.lemmas.List.Sums.{fold_push}
 use Rattle.mscp_drive.specs.declared.connection.Connection.{Connection}
 use Rattle.mscp_drive.specs.declared.connection.Connection.TheVariants.{First, Second}
+use Rattle.mscp_wire.specs.Begun.{is_slow}
 use Rattle.mscp_wire.specs.Log.{Log, nothing, with_moment}
 use Rattle.mscp_wire.specs.Wire.{History, answer_by, answered_by, called, called_after, called_in, command_of, is_long, moment_at, outstanding, told}
-use Rattle.mscp_wire.specs.Doubts.{doubt_of, doubt_with, doubtful, doubtful_at, doubtful_end, doubtful_found, doubts_of, doubts_with, first_of, found_at, is_called_twice, is_held_by_another, is_another, is_odd, is_past, many, no_doubt, or_last, skips, writes_protected}
+use Rattle.mscp_wire.specs.Doubts.{doubt_of, doubt_with, doubtful, doubtful_at, doubtful_end, doubtful_found, doubts_at, doubts_of, doubts_with, first_of, found_at, is_called_twice, is_held_by_another, is_another, is_odd, is_past, many, no_doubt, or_last, skips, slow_at, writes_protected}
 use Rattle.mscp_wire.specs.declared.answer.Answer.{Answer}
 use Rattle.mscp_wire.specs.declared.doubts.Doubtful.{Doubtful}
 use Rattle.mscp_wire.specs.declared.doubts.Doubts.{Doubts}
@@ -41,6 +42,7 @@ module _ (units others : Connection → ℕ → Told) (callers callees : ℕ →
         protection = writes_protected t e;
         identifier = is_called_twice units callers (called_in e) e;
         next = skips (units e.connection y.unit) y e;
+        figure = false;
       }) (u e.connection e.unit)
       ∙ ap (λ t. record {
         identity = is_another (others e.connection e.unit).identity e;
@@ -49,6 +51,7 @@ module _ (units others : Connection → ℕ → Told) (callers callees : ℕ →
         protection = writes_protected (others e.connection e.unit) e;
         identifier = is_called_twice units callers (called_in e) e;
         next = skips t y e;
+        figure = false;
       }) (u e.connection y.unit)
       ∙ ap (λ b. record {
         identity = is_another (others e.connection e.unit).identity e;
@@ -57,6 +60,7 @@ module _ (units others : Connection → ℕ → Told) (callers callees : ℕ →
         protection = writes_protected (others e.connection e.unit) e;
         identifier = b;
         next = skips (others e.connection y.unit) y e;
+        figure = false;
       }) (twice_same (called_in e) e)
 
   found_same : (e : Answer) (o : Option Sent) → doubtful_found units callers e o ≡ doubtful_found others callees e o
@@ -69,6 +73,7 @@ module _ (units others : Connection → ℕ → Told) (callers callees : ℕ →
       ap (λ d. if is_long b.items then d else no_doubt) (found_same (answer_by via b.items)
       (answered_by xs (answer_by via b.items)))
   doubtful_same xs moments.Reset = refl
+  doubtful_same xs (moments.Closed via) = refl
 
 -- ---- counts and first places
 
@@ -100,22 +105,31 @@ first_below p (suc n) i h = by_last (first_of p n) (p n) refl (first_below p n i
     by_last (Some j) false e low k = let s : j ≡ i = cc in omega (arith, low (e ∙ ap (λ x. Some x) s))
 
 same_doubts : (a b : Doubts) → a.identity ≡ b.identity → a.size ≡ b.size → a.status ≡ b.status
-    → a.protection ≡ b.protection → a.identifier ≡ b.identifier → a.next ≡ b.next → a ≡ b
-same_doubts a b p q r s t u =
+    → a.protection ≡ b.protection → a.identifier ≡ b.identifier → a.next ≡ b.next → a.figure ≡ b.figure → a ≡ b
+same_doubts a b p q r s t u v =
     ap (λ x. record a { identity = x }) p
     ∙ ap (λ x. record a { identity = b.identity; size = x }) q
-    ∙ ap (λ x. record b { status = x; protection = a.protection; identifier = a.identifier; next = a.next }) r
-    ∙ ap (λ x. record b { protection = x; identifier = a.identifier; next = a.next }) s
-    ∙ ap (λ x. record b { identifier = x; next = a.next }) t
-    ∙ ap (λ x. record b { next = x }) u
+    ∙ ap (λ x. record a { identity = b.identity; size = b.size; status = x }) r
+    ∙ ap (λ x. record b { protection = x; identifier = a.identifier; next = a.next; figure = a.figure }) s
+    ∙ ap (λ x. record b { identifier = x; next = a.next; figure = a.figure }) t
+    ∙ ap (λ x. record b { next = x; figure = a.figure }) u
+    ∙ ap (λ x. record b { figure = x }) v
 
 -- of no moment
 pub doubts_none : (none : Doubts) → none.identity ≡ record { first = None; count = 0 }
     → none.size ≡ record { first = None; count = 0 } → none.status ≡ record { first = None; count = 0 }
     → none.protection ≡ record { first = None; count = 0 } → none.identifier ≡ record { first = None; count = 0 }
-    → none.next ≡ record { first = None; count = 0 } → none ≡ doubts_of nothing
+    → none.next ≡ record { first = None; count = 0 } → none.figure ≡ record { first = None; count = 0 }
+    → none ≡ doubts_of nothing
 unfolding many first_of
-doubts_none none p q r s t u = same_doubts none (doubts_of nothing) p q r s t u
+doubts_none none p q r s t u v = same_doubts none (doubts_of nothing) p q r s t u v
+
+-- and of any log without one
+pub doubts_same : (log next : Log) → log.moments ≡ [] → next.moments ≡ [] → doubts_of log ≡ doubts_of next
+unfolding many first_of
+doubts_same log next p q =
+    same_doubts (doubts_of log) (doubts_of next) (rw (p, q) refl) (rw (p, q) refl) (rw (p, q) refl) (rw (p, q) refl)
+    (rw (p, q) refl) (rw (p, q) refl) (rw (p, q) refl)
 
 -- ---- a log with one moment more
 
@@ -182,19 +196,12 @@ module _ (log : Log) (m : Moment) (number : ℕ) (lines : length log.lines ≡ l
       ap (λ f. record { first = f; count = c }) (sym (found_before i (low i refl)))
       ∙ ap (λ x. record { first = found_at (with_moment number log m) (Some i); count = x }) e
 
-  -- the doubts of one kind
-  pub doubt_more : (kind : Doubtful → Bool)
-      → doubt_with (doubt_of kind log)
-      (kind (doubtful (outstanding log.moments) (told log.moments) (called log.moments) m)) more
-      ≡ doubt_of kind (with_moment number log m)
+  -- the doubts of one kind, by their places before and now
+  places_more : (p q : ℕ → Bool) (b : Bool) → ((i : ℕ) → i < length log.moments → p i ≡ q i)
+      → b ≡ q (length log.moments) → doubt_with (doubts_at p log) b more ≡ doubts_at q (with_moment number log m)
   unfolding many first_of
-  doubt_more kind =
+  places_more p q b same last =
       let n = length log.moments in
-      let p : ℕ → Bool = λ i. kind (doubtful_at log.moments i) in
-      let q : ℕ → Bool = λ i. kind (doubtful_at (log.moments ++ m ∷ []) i) in
-      let same : (i : ℕ) → i < n → p i ≡ q i = λ i l. ap kind (sym (doubtful_before i l)) in
-      let b = kind (doubtful (outstanding log.moments) (told log.moments) (called log.moments) m) in
-      let last : b ≡ q n = ap kind (sym doubtful_last) in
       let size : length (log.moments ++ m ∷ []) ≡ suc n = omega (arith, length-append log.moments (m ∷ [])) in
       by_place (first_of p n) b (many p n) (first_below p n)
       ∙ ap (λ o. record {
@@ -211,19 +218,33 @@ module _ (log : Log) (m : Moment) (number : ℕ) (lines : length log.lines ≡ l
       }) last
       ∙ ap (λ k. record { first = found_at (with_moment number log m) (first_of q k); count = many q k }) (sym size)
 
+  -- of an end
+  doubt_more : (kind : Doubtful → Bool)
+      → doubt_with (doubt_of kind log)
+      (kind (doubtful (outstanding log.moments) (told log.moments) (called log.moments) m)) more
+      ≡ doubt_of kind (with_moment number log m)
+  doubt_more kind =
+      places_more (λ i. kind (doubtful_at log.moments i)) (λ i. kind (doubtful_at (log.moments ++ m ∷ []) i))
+      (kind (doubtful (outstanding log.moments) (told log.moments) (called log.moments) m))
+      (λ i l. ap kind (sym (doubtful_before i l))) (ap kind (sym doubtful_last))
+
+  -- of figures
+  slow_more : doubt_with (doubts_of log).figure (is_slow log.begun log.credits log.moments m) more
+      ≡ (doubts_of (with_moment number log m)).figure
+  slow_more =
+      places_more (slow_at log.begun log.credits log.moments) (slow_at log.begun log.credits (log.moments ++ m ∷ []))
+      (is_slow log.begun log.credits log.moments m)
+      (λ i l. rw (taken_same i (omega (arith, l)), moment_same i l) refl) (rw (taken_last, moment_last) refl)
+
   -- all doubts
   pub doubts_more : doubts_with (doubts_of log)
-      (doubtful (outstanding log.moments) (told log.moments) (called log.moments) m) more
+      (record (doubtful (outstanding log.moments) (told log.moments) (called log.moments) m) {
+        figure = is_slow log.begun log.credits log.moments m;
+      }) more
       ≡ doubts_of (with_moment number log m)
-  doubts_more =
-      rw (
-        doubt_more (λ d. d.identity),
-        doubt_more (λ d. d.size),
-        doubt_more (λ d. d.status),
-        doubt_more (λ d. d.protection),
-        doubt_more (λ d. d.identifier),
-        doubt_more (λ d. d.next),
-      ) refl
+  doubts_more = same_doubts _ (doubts_of (with_moment number log m))
+      (doubt_more (λ d. d.identity)) (doubt_more (λ d. d.size)) (doubt_more (λ d. d.status))
+      (doubt_more (λ d. d.protection)) (doubt_more (λ d. d.identifier)) (doubt_more (λ d. d.next)) slow_more
 
 -- as they are kept
 pub doubts_kept : (log : Log) (m : Moment) (number : ℕ) (old new : Doubts) (found : Doubtful) (command : Option Sent)
@@ -231,19 +252,38 @@ pub doubts_kept : (log : Log) (m : Moment) (number : ℕ) (old new : Doubts) (fo
     → old ≡ doubts_of log → xs ≡ outstanding log.moments
     → ((via : Connection) (unit : ℕ) → units via unit ≡ told log.moments via unit)
     → ((identifier : ℕ) → callers identifier ≡ called log.moments identifier)
-    → command ≡ command_of xs m → found ≡ doubtful xs units callers m
+    → command ≡ command_of xs m
+    → found ≡ record (doubtful xs units callers m) { figure = is_slow log.begun log.credits log.moments m }
     → new ≡ doubts_with old found (record { line = number; command = command })
     → new ≡ doubts_of (with_moment number log m)
 doubts_kept log m number old new found command xs units callers lines was here u k about is h =
     h
     ∙ ap (λ d. doubts_with d found (record { line = number; command = command })) was
     ∙ ap (λ d. doubts_with (doubts_of log) d (record { line = number; command = command }))
-    (is ∙ ap (λ ys. doubtful ys units callers m) here
-    ∙ doubtful_same units (told log.moments) callers (called log.moments) u k (outstanding log.moments) m)
+    (is ∙ ap (λ ys. slow (doubtful ys units callers m)) here
+    ∙ ap slow (doubtful_same units (told log.moments) callers (called log.moments) u k (outstanding log.moments) m))
     ∙ ap (λ c. doubts_with (doubts_of log)
-    (doubtful (outstanding log.moments) (told log.moments) (called log.moments) m)
+    (slow (doubtful (outstanding log.moments) (told log.moments) (called log.moments) m))
     (record { line = number; command = c })) (about ∙ ap (λ ys. command_of ys m) here)
     ∙ doubts_more log m number lines
+  where
+    slow : Doubtful → Doubtful
+    slow d = record d { figure = is_slow log.begun log.credits log.moments m }
+
+-- no end tells of them
+pub not_slow : (xs : List Sent) (units : Connection → ℕ → Told) (callers : ℕ → Option ℕ) (m : Moment)
+    → (doubtful xs units callers m).figure ≡ false
+not_slow xs units callers (moments.End via b) = by_long (is_long b.items)
+  where
+    by_found : (o : Option Sent) → (doubtful_found units callers (answer_by via b.items) o).figure ≡ false
+    by_found None = refl
+    by_found (Some y) = refl
+
+    by_long : (x : Bool) → (if x then doubtful_found units callers (answer_by via b.items)
+        (answered_by xs (answer_by via b.items)) else no_doubt).figure ≡ false
+    by_long true = by_found (answered_by xs (answer_by via b.items))
+    by_long false = refl
+not_slow xs units callers m = refl
 
 -- which unit was last said to have an identifier
 pub called_more : (h : History) (m : Moment) (old new : ℕ → Option ℕ)

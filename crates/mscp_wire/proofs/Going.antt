@@ -9,9 +9,11 @@ use Rattle.mscp_drive.specs.declared.connection.Connection.{Connection}
 use Rattle.mscp_packet.specs.Steps.{◌>>=◌}
 use Rattle.mscp_reader.specs.Outcome.{in_line}
 use Rattle.mscp_reader.specs.declared.fault.Cause.{Cause}
-use Rattle.mscp_wire.specs.Course.{Findings, IsOn, counts, findings_with, first_in, first_or, has_name, has_place, has_room, is_named_in, mention_after, mention_of, mentions_after, or_no_mention, tells_of, told_in, with_told}
+use Rattle.mscp_reader.specs.declared.fault.Cause.TheVariants as causes
+use Rattle.mscp_wire.specs.Course.{Findings, IsOn, counts, findings_with, first_in, first_or, has_name, has_place, has_room, is_named_in, mention_after, mention_of, mentions_after, mentions_counted, or_no_mention, tells_of, told_in, with_counted, with_told}
 use Rattle.mscp_wire.specs.Kept.{sents}
-use Rattle.mscp_wire.specs.Log.{Log, is_fresh, line_says}
+use Rattle.mscp_wire.specs.Log.{Log, is_first, is_fresh, is_stranger, line_says, with_moment}
+use Rattle.mscp_wire.specs.Middle.{IsMiddleOf}
 use Rattle.mscp_wire.specs.declared.line.Said.TheVariants as says
 use Rattle.mscp_wire.specs.Wire.{History, after, answer_by, broken, broken_at, broken_by, called_after, controller, controller_after, count_on, four_in, has_credit, is_immediate, is_long, is_message, is_new, kept, kept_called, key, limit_of, outstanding, place_of, same_connection, seen_of, sent_by, timeout_after, told, told_after, unless}
 use Rattle.mscp_wire.specs.declared.course.Course.{Course}
@@ -61,6 +63,14 @@ put_mention old new via reference k mention e h other number =
 pub credits_first : (number c : ℕ) (f : Findings) (b : Bool) → b ≡ is_fresh f.log → b ≡ true
     → findings_with number f (says.Credits c) ≡ Ok (record f { log = record f.log { credits = Some c } })
 credits_first number c f b e h = rw (sym e ∙ h) refl
+
+pub begun_first : (number : ℕ) (f : Findings) → is_first f.log ≡ true
+    → findings_with number f says.Begun ≡ Ok (record f { log = record f.log { begun = true; strangers = [] } })
+begun_first number f h = rw h refl
+
+pub begun_late : (number : ℕ) (f : Findings) → is_first f.log ≡ false
+    → findings_with number f says.Begun ≡ Err causes.Word
+begun_late number f h = rw h refl
 
 -- ---- the first moment that isn't right
 
@@ -132,6 +142,7 @@ right_counts credits xs unit (moments.End via b) h =
     by_long true e k = grind (arith, nat_tests)
     by_long false e k = cc
 right_counts credits xs unit moments.Reset h = refl
+right_counts credits xs unit (moments.Closed via) h = refl
 
 pub right_told : (log : Log) (m : Moment) → broken_by log.credits log.moments m ≡ None
     → counts (outstanding log.moments) m ≡ true
@@ -170,6 +181,7 @@ mention_same number old mentions (moments.End other b) h via reference =
     ap (λ (x : Mention). if tells_of other b.items via reference then record x { told = Some number } else (
     if has_name other b.items via reference then record x { told = None } else x)) (h via reference)
 mention_same number old mentions moments.Reset h via reference = h via reference
+mention_same number old mentions (moments.Closed other) h via reference = h via reference
 
 -- nothing may come before what counts
 stale : (n : ℕ) (credits : Option ℕ) (h : History) (m : Moment)
@@ -188,9 +200,9 @@ pub advanced : {A : Type 0} (number : ℕ) (log : Log) (mentions : Connection �
     → new.judge.timeout ≡ timeout_after old.judge.timeout m → new.fresh ≡ false
     → ((via : Connection) (reference : ℕ) → mention_of new.mentions.lines via reference
     ≡ mention_after number (mention_of old.mentions.lines) m via reference)
-    → counts (outstanding log.moments) m ≡ true
-    → IsOn (with_told number log m) (mentions_after number log mentions m) new
-advanced number log mentions m old new s credits commands units called controller timeout fresh mentioned does =
+    → IsMiddleOf (with_moment number log m) new.middle → counts (outstanding log.moments) m ≡ true
+    → IsOn (with_counted number log m) (mentions_counted number log mentions m) new
+advanced number log mentions m old new s credits commands units called controller timeout fresh mentioned middle does =
     rw does record {
       credits = credits ∙ s.credits;
       commands = pushed log.moments m _ _ _ s.timeout s.commands commands;
@@ -201,4 +213,12 @@ advanced number log mentions m old new s credits commands units called controlle
       fresh = fresh ∙ sym (stale number log.credits log.moments m);
       mentions = λ via reference. mentioned via reference
           ∙ mention_same number (mention_of old.mentions.lines) mentions m s.mentions via reference;
+      middle = middle;
     }
+
+-- one that is no stranger counts if it can
+pub counted_told : {A : Type 0} (number : ℕ) (log : Log) (mentions : Connection → ℕ → Mention) (m : Moment)
+    (new : Course A) → is_stranger log m ≡ false
+    → IsOn (with_counted number log m) (mentions_counted number log mentions m) new
+    → IsOn (with_told number log m) (mentions_after number log mentions m) new
+counted_told number log mentions m new h s = rw h s

@@ -1,49 +1,12 @@
--- What the lines of a log tell, and that what stands before a moment of a right log is right, as that moment is.
-use Rattle.std.proofs.Common.{◌≡◌, ℕ, suc, ◌+◌, Bool, true, false, List, [], ◌∷◌, ◌++◌, length, arith, refl, sym, ap, subst, ◌∙◌, length-append, ⊎_elim, inr, if◌then◌else◌, Option, Some, Result, Ok, Err}
-use Rattle.std.proofs.lemmas.Bool.{cases_lt}
-use Rattle.std.proofs.Math.Seq.{get_or-append_seam, take-append_seam}
-use Rattle.std.proofs.lemmas.Bool.Decides.{nat_tests}
-use Rattle.std.proofs.lemmas.List.{take-append-le}
-use Rattle.std.proofs.Math.ListN.{get_or-append}
+-- What the lines of a log tell, and that of a right log those before some lines are right, and those are.
+use Rattle.std.proofs.Common.{◌≡◌, ℕ, suc, ◌+◌, List, [], ◌∷◌, ◌++◌, length, arith, refl, sym, ap, subst, ◌∙◌, inr, None, Result, Ok, Err}
 use Rattle.mscp_packet.specs.Steps.{◌>>=◌}
 use Rattle.mscp_reader.specs.declared.fault.Cause.{Cause}
-use Rattle.mscp_reader.specs.declared.fault.Cause.TheVariants as causes
 use Rattle.mscp_reader.specs.declared.fault.ReadFault.{ReadFault}
 use Rattle.mscp_reader.specs.declared.fault.ReadFault.TheVariants as reads
-use Rattle.mscp_wire.specs.Wire.{AreRight, History, IsRight}
-use Rattle.mscp_wire.specs.Log.{Log, is_fresh, line_says, nothing, with_line, with_lines, with_moment, with_said}
+use Rattle.mscp_wire.specs.Log.{AreRightLines, Log, broken_said, line_says, nothing, with_line, with_lines, with_said}
 use Rattle.mscp_wire.specs.Right.{Goes, Judges, Reaches}
-use Rattle.mscp_wire.specs.declared.line.Said.{Said}
-use Rattle.mscp_wire.specs.declared.line.Said.TheVariants as says
-use Rattle.mscp_wire.specs.declared.log.Reading.{Reading}
-use Rattle.mscp_wire.specs.declared.moment.Moment.{Moment}
-use Rattle.mscp_wire.specs.declared.moment.Moment.TheVariants as moments
-
--- ---- histories
-
--- one moment more that is right
-pub right_more : (c : Option ℕ) (h : History) (m : Moment) → AreRight c h → IsRight c h m → AreRight c (h ++ m ∷ [])
-right_more c h m all last i lt = ⊎_elim
-    (λ low. rw (take-append-le i h (m ∷ []) (omega arith), get_or-append h (m ∷ []) moments.Reset i low) (all i low))
-    (λ high.
-    let e : i ≡ length h = omega (arith, length-append h (m ∷ [])) in
-    rw (e, take-append_seam h (m ∷ []), get_or-append_seam h m [] moments.Reset) last)
-    (cases_lt i (length h))
-
--- all before the last moment is right
-right_before : (c : Option ℕ) (h : History) (m : Moment) → AreRight c (h ++ m ∷ []) → AreRight c h
-right_before c h m all i lt =
-    rw (take-append-le i h (m ∷ []) (omega (arith, lt)), get_or-append h (m ∷ []) moments.Reset i lt) at
-    (all i (omega (arith, lt, length-append h (m ∷ []))))
-
--- and that is, too
-pub right_last : (c : Option ℕ) (h : History) (m : Moment) → AreRight c (h ++ m ∷ []) → IsRight c h m
-right_last c h m all =
-    rw (take-append_seam h (m ∷ []), get_or-append_seam h m [] moments.Reset) at
-    (all (length h) (omega (arith, length-append h (m ∷ []))))
-
-pub right_none : (c : Option ℕ) (h : History) → length h ≡ 0 → AreRight c h
-right_none c h e i lt = absurd (omega arith)
+use Rattle.mscp_wire.specs.declared.reading.Reading.{Reading}
 
 -- ---- lines
 
@@ -96,41 +59,53 @@ line_faults (reads.Script fault) bytes line n log reading r goes =
     })
 line_faults reads.OutOfMemory bytes line n log reading r goes = tt
 
--- ---- what stands before is right if all is
+-- ---- which lines are right
 
-said_back : (n : ℕ) (said : Said) (log next : Log) → with_said n log said ≡ Ok next → AreRight next.credits next.moments
-    → AreRight log.credits log.moments
-said_back n says.Nothing log next h r =
-    let e : log ≡ next = cc in subst (λ l. AreRight l.credits l.moments) (sym e) r
-said_back n (says.Attention via b) log next h r =
-    let e : log ≡ next = cc in subst (λ l. AreRight l.credits l.moments) (sym e) r
-said_back n (says.Credits c) log next h r = fresh_back (is_fresh log) refl h
-  where
-    fresh_back : (b : Bool) → is_fresh log ≡ b
-        → (if b then Ok (record log { credits = Some c }) else Err causes.Word) ≡ Ok next
-        → AreRight log.credits log.moments
-    fresh_back true f k = right_none log.credits log.moments (grind (arith, nat_tests))
-    fresh_back false f k = cc
-said_back n (says.Happens m) log next h r =
-    let e : with_moment n log m ≡ next = cc in
-    right_before log.credits log.moments m (subst (λ l. AreRight l.credits l.moments) (sym e) r)
+-- a line that says something is followed by the rest
+pub step_on : (n : ℕ) (read : Result Log Cause) (before : List (List ℕ)) (next : Log)
+    → (read >>= λ l. with_lines n l before) ≡ Ok next
+    → (l : Log) × (read ≡ Ok l) × (with_lines n l before ≡ Ok next)
+step_on n (Ok l) before next k = (l, refl, k)
+step_on n (Err cause) before next k = cc
 
-line_back : (n : ℕ) (said : Result Said Cause) (log next : Log) → (said >>= with_said n log) ≡ Ok next
-    → AreRight next.credits next.moments → AreRight log.credits log.moments
-line_back n (Ok said) log next h r = said_back n said log next h r
-line_back n (Err cause) log next h r = cc
+-- those behind some lines
+pub right_split : (before rest : List (List ℕ)) (n : ℕ) (log next : Log) → AreRightLines n log (before ++ rest)
+    → with_lines n log before ≡ Ok next → AreRightLines (n + length before) next rest
+unfolding with_lines AreRightLines
+right_split [] rest n log next right told =
+    let e : log ≡ next = cc in
+    let k : n ≡ n + 0 = omega arith in
+    subst (λ l. AreRightLines (n + 0) l rest) e (subst (λ j. AreRightLines j log rest) k right)
+right_split (line ∷ before) rest n log next right told =
+    let s = step_on (n + 1) (with_line (n + 1) log line) before next told in
+    let count : n + 1 + length before ≡ n + suc (length before) = omega arith in
+    subst (λ j. AreRightLines j next rest) count
+    (right_split before rest (n + 1) s.0 next (right.1 s.0 s.1) s.2)
 
-pub lines_back : (all : List (List ℕ)) (n : ℕ) (log final : Log) → with_lines n log all ≡ Ok final
-    → AreRight final.credits final.moments → AreRight log.credits log.moments
-unfolding with_lines with_line
-lines_back [] n log final h r =
-    let e : log ≡ final = cc in subst (λ l. AreRight l.credits l.moments) (sym e) r
-lines_back (line ∷ rest) n log final h r =
-    by_line (with_line (n + 1) log line) refl h (λ next k. lines_back rest (n + 1) next final k r)
-  where
-    by_line : (read : Result Log Cause) → with_line (n + 1) log line ≡ read
-        → (read >>= λ next. with_lines (n + 1) next rest) ≡ Ok final
-        → ((next : Log) → with_lines (n + 1) next rest ≡ Ok final → AreRight next.credits next.moments)
-        → AreRight log.credits log.moments
-    by_line (Ok next) e k on = line_back (n + 1) (line_says (n + 1) line) log next e (on next k)
-    by_line (Err cause) e k on = cc
+-- and one line more
+pub right_more : (before : List (List ℕ)) (line : List ℕ) (n : ℕ) (log next : Log) → AreRightLines n log before
+    → with_lines n log before ≡ Ok next → broken_said next (line_says (n + length before + 1) line) ≡ None
+    → AreRightLines n log (before ++ line ∷ [])
+unfolding with_lines AreRightLines
+right_more [] line n log next right told none =
+    let e : next ≡ log = cc in
+    let k : n + 0 + 1 ≡ n + 1 = omega arith in (
+      subst (λ l. broken_said l (line_says (n + 1) line) ≡ None) e
+          (subst (λ j. broken_said next (line_says j line) ≡ None) k none),
+      λ l h. tt,
+    )
+right_more (first ∷ before) line n log next right told none = (
+  right.0,
+  λ l e.
+      let k : n + suc (length before) + 1 ≡ n + 1 + length before + 1 = omega arith in
+      right_more before line (n + 1) l next (right.1 l e)
+      (sym (ap (λ read. read >>= λ x. with_lines (n + 1) x before) e) ∙ told)
+      (subst (λ j. broken_said next (line_says j line) ≡ None) k none),
+)
+
+pub right_none : AreRightLines 0 nothing []
+unfolding AreRightLines
+right_none = tt
+
+pub zero_more : (n : ℕ) → n + 1 ≡ 0 + n + 1
+zero_more n = omega arith

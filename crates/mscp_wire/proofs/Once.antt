@@ -5,35 +5,37 @@ use Rattle.mscp_reader.specs.declared.fault.Cause.{Cause}
 use Rattle.mscp_reader.specs.declared.fault.ReadFault.{ReadFault}
 use Rattle.mscp_reader.specs.declared.fault.ReadFault.TheVariants as reads
 use Rattle.mscp_reader.specs.declared.fault.ScriptFault.{ScriptFault}
-use Rattle.mscp_wire.specs.Wire.{AreRight, broken_by, command_of, controller, outstanding, passed_of, seen_before, told}
-use Rattle.mscp_wire.specs.Log.{Log, line_says, nothing, with_line, with_lines, with_moment, with_said}
+use Rattle.mscp_wire.specs.Wire.{command_of, controller, outstanding, passed_of, seen_before, told}
+use Rattle.mscp_wire.specs.Log.{AreRightLines, Log, broken_in, broken_said, line_says, nothing, with_either, with_line, with_lines, with_said}
 use Rattle.mscp_wire.specs.Right.{Comes, IsFirstFault, IsFirstWrong, IsRightLog, IsTooLarge, Judges, Reaches, Says, Tell}
 use Rattle.mscp_wire.specs.declared.line.Said.TheVariants as says
 use Rattle.mscp_wire.specs.declared.log.Verdict.{Verdict}
 use Rattle.mscp_wire.specs.declared.log.Verdict.TheVariants as verdicts
 use Rattle.mscp_wire.specs.declared.wrong.Wrong.{Wrong}
-use Rattle.mscp_wire.proofs.Meaning.{lines_back, lines_split, right_last}
+use Rattle.mscp_wire.proofs.Meaning.{lines_split, right_split}
 
 -- a log stops at this line: no log that is right comes of it
 abbrev Stops : ℕ → Log → List ℕ → Type 0
-Stops n log line = (next : Log) → with_line n log line ≡ Ok next → AreRight next.credits next.moments → ⊥
+Stops n log line =
+    (next : Log) → with_line n log line ≡ Ok next → broken_said log (line_says n line) ≡ None → ⊥
 
 -- nothing that is right goes on behind it
 passes : (before rest : List (List ℕ)) (line : List ℕ) (n : ℕ) (log final : Log) → n ≡ length before + 1
     → with_lines 0 nothing before ≡ Ok log → Stops n log line → Tell (before ++ line ∷ rest) final → ⊥
-unfolding with_lines
+unfolding with_lines AreRightLines
 passes before rest line n log final count told stops tell =
     let place : n ≡ 0 + length before + 1 = omega (arith, count) in
     let goes : (with_line n log line >>= λ next. with_lines n next rest) ≡ Ok final =
     rw place (ap (λ x. x >>= λ l. with_lines (0 + length before) l (line ∷ rest)) (sym told)
     ∙ sym (lines_split before (line ∷ rest) 0 nothing) ∙ tell.told) in
-    by_line (with_line n log line) refl goes (λ next k. lines_back rest n next final k tell.right)
+    let right = right_split before (line ∷ rest) 0 nothing log tell.right told in
+    by_line (with_line n log line) refl goes
+    (subst (λ k. broken_said log (line_says k line) ≡ None) (sym place) right.0)
   where
     by_line : (read : Result Log Cause) → with_line n log line ≡ read
-        → (read >>= λ next. with_lines n next rest) ≡ Ok final
-        → ((next : Log) → with_lines n next rest ≡ Ok final → AreRight next.credits next.moments) → ⊥
-    by_line (Ok next) e k on = stops next e (on next k)
-    by_line (Err cause) e k on = cc
+        → (read >>= λ next. with_lines n next rest) ≡ Ok final → broken_said log (line_says n line) ≡ None → ⊥
+    by_line (Ok next) e k none = stops next e none
+    by_line (Err cause) e k none = cc
 
 -- two places in a list are one, or one comes before the other
 places : (a b c d : List (List ℕ)) (x y : List ℕ) → a ++ x ∷ b ≡ c ++ y ∷ d
@@ -64,12 +66,7 @@ module _ (bytes : List ℕ) where
     where
       stops : Stops wrong.line w.log w.line
       stops next h r =
-          let m = wrong.moment in
-          let more = with_moment wrong.line w.log m in
-          let goes : Ok more ≡ Ok next = rw w.is_wrong.says at h in
-          let e : more ≡ next = cc in
-          let none : broken_by w.log.credits w.log.moments m ≡ None =
-          right_last w.log.credits w.log.moments m (subst (λ l. AreRight l.credits l.moments) (sym e) r) in
+          let none : broken_in w.log wrong.moment ≡ None = ap (broken_said w.log) (sym w.is_wrong.says) ∙ r in
           let never : Some wrong.rule ≡ None = sym w.is_wrong.rule ∙ none in
           cc
 
@@ -124,7 +121,7 @@ module _ (bytes : List ℕ) where
       let s = stops_once wrong.line fault.line w.line f.line w.log f.log (wrong_stops wrong w) (fault_stops fault f) in
       let e : (line_says wrong.line w.line >>= with_said wrong.line w.log) ≡ Err fault.cause =
       rw (s.number, s.words, s.before) f.cause in
-      let never : Ok (with_moment wrong.line w.log wrong.moment) ≡ Err fault.cause =
+      let never : Ok (with_either wrong.line w.log wrong.moment) ≡ Err fault.cause =
       rw w.is_wrong.says at e in
       cc
 
@@ -139,8 +136,7 @@ module _ (bytes : List ℕ) where
       v.is_wrong.seen
     where
       one : (log : Log) → wrong.line ≡ other.line → wrong.moment ≡ other.moment
-          → broken_by log.credits log.moments wrong.moment ≡ Some wrong.rule
-          → broken_by log.credits log.moments other.moment ≡ Some other.rule
+          → broken_in log wrong.moment ≡ Some wrong.rule → broken_in log other.moment ≡ Some other.rule
           → wrong.command ≡ command_of (outstanding log.moments) wrong.moment
           → other.command ≡ command_of (outstanding log.moments) other.moment
           → wrong.passed ≡ passed_of (outstanding log.moments) wrong.moment

@@ -62,6 +62,7 @@ seen_same xs ys units known h (moments.End via b) e u k =
     ∙ ap (λ z. record { unit = if settles ys a then z else told_nothing; controller = known }) (u a.connection a.unit)
     ∙ ap (λ z. record { unit = unit_before ys (told h) a; controller = z }) k
 seen_same xs ys units known h moments.Reset e u k = refl
+seen_same xs ys units known h (moments.Closed via) e u k = refl
 
 -- the controller after one moment more
 pub controller_more : (h : History) (m : Moment) (old new : Option ℕ) → old ≡ controller h

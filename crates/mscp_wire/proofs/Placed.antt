@@ -226,7 +226,7 @@ both_few xs kinds k = (omega (arith, k.first, k.second, both_counted (sents xs))
 
 -- ---- the next cell
 -- none stands in so many
-none_taken_from : (p : Sent → Bool) (xs : List (Option Sent)) (n : ℕ) → NoneIn p xs 0 n
+pub none_taken_from : (p : Sent → Bool) (xs : List (Option Sent)) (n : ℕ) → NoneIn p xs 0 n
     → list_any p (sents (take n xs)) ≡ false
 none_taken_from p xs zero h = refl
 none_taken_from p xs (suc n) h =

@@ -3,7 +3,6 @@ use Rattle.std.specs.Prelude.{◌≡◌, ℕ, ◌+◌, Bool, true, ◌&&◌, nat
 use Rattle.std.specs.Ordering.{nat_cmp}
 use Rattle.std.specs.BTreeMap as tree
 use Rattle.mscp_drive.specs.declared.connection.Connection.{Connection}
-use Rattle.mscp_packet.specs.Number.{num}
 use Rattle.mscp_packet.specs.Steps.{◌>>=◌}
 use Rattle.mscp_reader.specs.Lexical.{lines}
 use Rattle.mscp_reader.specs.Outcome.{in_line}
@@ -12,9 +11,11 @@ use Rattle.mscp_reader.specs.declared.fault.Cause.TheVariants as causes
 use Rattle.mscp_reader.specs.declared.fault.ReadFault.{ReadFault}
 use Rattle.mscp_reader.specs.declared.fault.ReadFault.TheVariants as reads
 use Rattle.mscp_reader.specs.declared.fault.ScriptFault.{ScriptFault}
-use Rattle.mscp_wire.specs.Wire.{broken_by, called, command_of, controller, count_on, four_in, is_it, is_message, is_new, kept, kept_called, key, outstanding, passed_of, same_connection, seen_before, sent_by, timeout, told}
+use Rattle.mscp_wire.specs.Wire.{called, command_of, controller, count_on, four_in, is_it, is_message, is_new, kept, kept_called, key, outstanding, passed_of, same_connection, seen_before, sent_by, timeout, told}
 use Rattle.mscp_wire.specs.Kept.{sents}
-use Rattle.mscp_wire.specs.Log.{Log, is_fresh, line_says, nothing, with_moment, with_said}
+pub use Rattle.mscp_wire.specs.Begun.{has_name}
+use Rattle.mscp_wire.specs.Log.{Log, broken_in, is_fresh, is_stranger, line_says, nothing, with_moment, with_said, with_stranger}
+use Rattle.mscp_wire.specs.Middle.{IsMiddleOf}
 use Rattle.mscp_wire.specs.declared.course.Course.{Course}
 use Rattle.mscp_wire.specs.declared.course.Finding.{Finding}
 use Rattle.mscp_wire.specs.declared.course.Places.{Places}
@@ -36,7 +37,7 @@ has_room xs s = nat_lt (count_on s.connection xs) 1024
 abbrev pub is_named_in : Moment → Bool
 is_named_in (moments.Message via b time) = is_message b.items
 is_named_in (moments.End via b) = is_message b.items
-is_named_in moments.Reset = true
+is_named_in m = true
 
 -- the number of a message is new, and its host has room
 abbrev pub has_place : List Sent → Moment → Bool
@@ -48,8 +49,12 @@ abbrev pub counts : List Sent → Moment → Bool
 counts xs m = is_named_in m && has_place xs m
 
 -- a log to which the line of this number adds a moment, if it counts
+abbrev pub with_counted : ℕ → Log → Moment → Log
+with_counted number log m = if counts (outstanding log.moments) m then with_moment number log m else log
+
+-- or the end of a command that the log doesn't send
 abbrev pub with_told : ℕ → Log → Moment → Log
-with_told number log m = if counts (outstanding log.moments) m then with_moment number log m else log
+with_told number log m = if is_stranger log m then with_stranger log m else with_counted number log m
 
 -- ---- in which lines commands are mentioned
 
@@ -59,10 +64,6 @@ no_mention = record { sent = None; told = None; asked = None }
 
 abbrev pub no_mentions : Connection → ℕ → Mention
 no_mentions via reference = no_mention
-
--- the packet in these bytes has this number, and is of this connection
-abbrev pub has_name : Connection → List ℕ → Connection → ℕ → Bool
-has_name other b via reference = same_connection other via && nat_eq (num b 0 4) reference
 
 -- it is the end of a GET COMMAND STATUS (0x82) that tells of the command of this number
 abbrev pub tells_of : Connection → List ℕ → Connection → ℕ → Bool
@@ -85,7 +86,7 @@ mention_after number old (moments.End other b) via reference =
     if tells_of other b.items via reference then record (old via reference) { told = Some number } else (
     if has_name other b.items via reference then record (old via reference) { told = None }
     else old via reference)
-mention_after number old moments.Reset via reference = old via reference
+mention_after number old m via reference = old via reference
 
 -- the line that sent a command, and of a poll the line that had told its figure, if there is one
 abbrev pub sent_in : (Connection → ℕ → Mention) → Option Sent → Option ℕ
@@ -127,7 +128,7 @@ finding_by number f m (Some rule) = Some (record {
 })
 
 abbrev pub finding_in : ℕ → Findings → Moment → Option Finding
-finding_in number f m = finding_by number f m (broken_by f.log.credits f.log.moments m)
+finding_in number f m = finding_by number f m (broken_in f.log m)
 
 -- one more, if there is one
 abbrev pub listed : Option Finding → List Finding
@@ -135,9 +136,13 @@ listed None = []
 listed (Some finding) = finding ∷ []
 
 -- where commands are mentioned once it told the moment, if that counts
+abbrev pub mentions_counted : ℕ → Log → (Connection → ℕ → Mention) → Moment → Connection → ℕ → Mention
+mentions_counted number log mentions m =
+    if counts (outstanding log.moments) m then mention_after number mentions m else mentions
+
 abbrev pub mentions_after : ℕ → Log → (Connection → ℕ → Mention) → Moment → Connection → ℕ → Mention
 mentions_after number log mentions m =
-    if counts (outstanding log.moments) m then mention_after number mentions m else mentions
+    if is_stranger log m then mentions else mentions_counted number log mentions m
 
 -- what is found once the line of this number told a moment
 abbrev pub findings_after : ℕ → Findings → Moment → Findings
@@ -208,6 +213,7 @@ pub record IsOn {A : Type 0} (log : Log) (places : Connection → ℕ → Mentio
   pub timeout : course.judge.timeout ≡ timeout log.moments
   pub called : (identifier : ℕ) → kept_called course.judge.units identifier ≡ called log.moments identifier
   pub fresh : course.fresh ≡ is_fresh log
+  pub middle : IsMiddleOf log course.middle
   pub mentions : (via : Connection) (reference : ℕ)
       → mention_of course.mentions.lines via reference ≡ places via reference
 

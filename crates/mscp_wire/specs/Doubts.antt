@@ -8,9 +8,11 @@
 --     Protection  a WRITE or an ERASE succeeds of a unit that is protected from writing             writes_protected
 --     Identifier  two units that are online have one identifier                                     is_called_twice
 --     Next        a GET UNIT STATUS that asks for the next unit passes one that is there            skips
+--     Figure      in a log that begins in the middle a figure doesn't fall                          is_slow
 use Rattle.std.specs.Prelude.{ℕ, zero, suc, ◌+◌, ◌/◌, ◌<◌, Bool, true, false, not, cond, ◌&&◌, ◌||◌, nat_eq, nat_le, nat_lt, if◌then◌else◌, List, length, take, slice_index, Option, Some, None}
 use Rattle.mscp_drive.specs.declared.connection.Connection.{Connection}
 use Rattle.mscp_drive.specs.declared.connection.Connection.TheVariants.{First, Second}
+use Rattle.mscp_wire.specs.Begun.{is_slow}
 use Rattle.mscp_wire.specs.Log.{Log}
 use Rattle.mscp_wire.specs.Wire.{agrees, answer_by, answered_by, called, called_in, command_of, History, identifier_of, is_it, is_known, is_long, is_moved, is_single, is_transfer, is_unknown, moment_at, outstanding, status_code, tells_unit, told}
 use Rattle.mscp_wire.specs.declared.answer.Answer.{Answer}
@@ -107,6 +109,7 @@ no_doubt = record {
   protection = false;
   identifier = false;
   next = false;
+  figure = false;
 }
 
 -- what is doubtful of the end of a command, by what was told before of units
@@ -118,6 +121,7 @@ doubtful_end units callers e y = record {
   protection = writes_protected (units e.connection e.unit) e;
   identifier = is_called_twice units callers (called_in e) e;
   next = skips (units e.connection y.unit) y e;
+  figure = false;
 }
 
 -- if it answers one
@@ -161,12 +165,19 @@ found_at log (Some i) = Some (record {
   command = command_of (outstanding (take i log.moments)) (moment_at log.moments i);
 })
 
--- the doubts of one kind
-abbrev pub doubt_of : (Doubtful → Bool) → Log → Doubt
-doubt_of kind log = record {
-  first = found_at log (first_of (λ i. kind (doubtful_at log.moments i)) (length log.moments));
-  count = many (λ i. kind (doubtful_at log.moments i)) (length log.moments);
+-- the doubts of one kind, of which these places are
+abbrev pub doubts_at : (ℕ → Bool) → Log → Doubt
+doubts_at kind log = record {
+  first = found_at log (first_of kind (length log.moments));
+  count = many kind (length log.moments);
 }
+
+abbrev pub doubt_of : (Doubtful → Bool) → Log → Doubt
+doubt_of kind log = doubts_at (λ i. kind (doubtful_at log.moments i)) log
+
+-- and those of figures
+abbrev pub slow_at : Bool → Option ℕ → History → ℕ → Bool
+slow_at begun credits h i = is_slow begun credits (take i h) (moment_at h i)
 
 -- all of them
 abbrev pub doubts_of : Log → Doubts
@@ -177,6 +188,7 @@ doubts_of log = record {
   protection = doubt_of (λ d. d.protection) log;
   identifier = doubt_of (λ d. d.identifier) log;
   next = doubt_of (λ d. d.next) log;
+  figure = doubts_at (slow_at log.begun log.credits log.moments) log;
 }
 
 -- none of the counts is so large
@@ -187,6 +199,7 @@ pub record AreFewDoubts (doubts : Doubts) (n : ℕ) : Type 0 where
   pub protection : doubts.protection.count < n
   pub identifier : doubts.identifier.count < n
   pub next : doubts.next.count < n
+  pub figure : doubts.figure.count < n
 
 -- the first one is kept
 abbrev pub found_or : Option Found → Found → Option Found
@@ -206,4 +219,5 @@ doubts_with d more new = record {
   protection = doubt_with d.protection more.protection new;
   identifier = doubt_with d.identifier more.identifier new;
   next = doubt_with d.next more.next new;
+  figure = doubt_with d.figure more.figure new;
 }

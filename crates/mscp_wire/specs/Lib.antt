@@ -6,7 +6,9 @@ pub mod Kept
 pub mod Wire
 pub mod Sought
 pub mod Totals
+pub mod Begun
 pub mod Log
+pub mod Middle
 pub mod Doubts
 pub mod Right
 pub mod Course

@@ -1,5 +1,5 @@
 -- A log of the wire: what its lines say, and what they tell. No judge is in these definitions.
-use Rattle.std.specs.Prelude.{ℕ, ◌+◌, ◌-◌, ◌*◌, ◌^◌, ◌/◌, ◌==◌, Bool, false, not, nat_eq, nat_lt, ◌&&◌, ◌||◌, if◌then◌else◌, List, [], ◌∷◌, ◌++◌, length, take, drop, position, codes, slice_index, Option, Some, None, is_none, Result, Ok, Err}
+use Rattle.std.specs.Prelude.{◌≡◌, ℕ, ◌+◌, ◌-◌, ◌*◌, ◌^◌, ◌/◌, ◌==◌, Bool, true, false, not, nat_eq, nat_lt, ◌&&◌, ◌||◌, if◌then◌else◌, List, [], ◌∷◌, ◌++◌, length, take, drop, position, codes, slice_index, Option, Some, None, is_none, Result, Ok, Err}
 use Rattle.std.specs.Str.{bytes_eq}
 use Rattle.arrayvec.specs.ArrayVec.{ArrayVec}
 use Rattle.mscp_drive.specs.declared.connection.Connection.{Connection}
@@ -11,11 +11,14 @@ use Rattle.mscp_reader.specs.Lexical.{wide}
 use Rattle.mscp_reader.specs.Requests.{bytes_in, none, one}
 use Rattle.mscp_reader.specs.declared.fault.Cause.{Cause}
 use Rattle.mscp_reader.specs.declared.fault.Cause.TheVariants as causes
-use Rattle.mscp_wire.specs.Wire.{History}
+use Rattle.mscp_wire.specs.Begun.{is_middle, spares}
+use Rattle.mscp_wire.specs.Wire.{History, broken_by}
 use Rattle.mscp_wire.specs.declared.line.Said.{Said}
 use Rattle.mscp_wire.specs.declared.line.Said.TheVariants as says
 use Rattle.mscp_wire.specs.declared.moment.Moment.{Moment}
 use Rattle.mscp_wire.specs.declared.moment.Moment.TheVariants as moments
+use Rattle.mscp_wire.specs.declared.rule.Rule.{Rule}
+use Rattle.mscp_wire.specs.declared.rule.Rule.TheVariants as rules
 
 -- ---- when it happened
 
@@ -117,15 +120,16 @@ abbrev pub sends_whole : Connection → Option (ArrayVec ℕ) → Said
 sends_whole via None = says.Nothing
 sends_whole via (Some b) = sends via b
 
--- a message or an end of a connection at this time, by the first word
+-- a message or an end of a connection at this time, or that it closes, by the first word
 unfoldable pub happens_on : Option ℕ → Connection → List (List ℕ) → Result Said Cause
 happens_on time via [] = Err causes.Count
 happens_on time via (word ∷ fields) =
     if bytes_eq word (codes "send") then (packet fields >>= λ b. Ok (says.Happens (moments.Message via b time))) else (
     if bytes_eq word (codes "end") then (packet fields >>= λ b. Ok (sends via b)) else (
     if bytes_eq word (codes "from") then (whole_packet fields >>= λ b. Ok (sent_whole time via b)) else (
-    if bytes_eq word (codes "to") then (whole_packet fields >>= λ b. Ok (sends_whole via b))
-    else Err causes.Word)))
+    if bytes_eq word (codes "to") then (whole_packet fields >>= λ b. Ok (sends_whole via b)) else (
+    if bytes_eq word (codes "reset") then (none fields >>= λ f. Ok (says.Happens (moments.Closed via)))
+    else Err causes.Word))))
 
 -- what the words of a line say, behind its time
 unfoldable pub said_by : Option ℕ → List (List ℕ) → Result Said Cause
@@ -133,8 +137,9 @@ said_by time [] = Ok says.Nothing
 said_by time (word ∷ fields) =
     if bytes_eq word (codes "second") then happens_on time Second fields else (
     if bytes_eq word (codes "reset") then (none fields >>= λ f. Ok (says.Happens moments.Reset)) else (
-    if bytes_eq word (codes "credits") then (only_number fields >>= λ c. Ok (says.Credits c))
-    else happens_on time First (word ∷ fields)))
+    if bytes_eq word (codes "credits") then (only_number fields >>= λ c. Ok (says.Credits c)) else (
+    if bytes_eq word (codes "begun") then (none fields >>= λ f. Ok says.Begun)
+    else happens_on time First (word ∷ fields))))
 
 -- what the line of this number says
 unfoldable pub line_says : ℕ → List ℕ → Result Said Cause
@@ -142,23 +147,60 @@ line_says number line = said_at number line >>= λ words. said_by (time_in words
 
 -- ---- a log
 
--- how many credits each host has, if that is told, what went over the wire so far, and the numbers of the lines that
--- told it
+-- how many credits each host has, if that is told, whether the log begins in the middle, what went over the wire so
+-- far, the numbers of the lines that told it, and the ends of commands that the log doesn't send
 pub record Log : Type 0 where
   pub credits : Option ℕ
+  pub begun : Bool
   pub moments : History
   pub lines : List ℕ
+  pub strangers : History
 
 abbrev pub nothing : Log
-nothing = record { credits = None; moments = []; lines = [] }
+nothing = record { credits = None; begun = false; moments = []; lines = []; strangers = [] }
 
 -- nothing was said so far: the credits may be told
 abbrev pub is_fresh : Log → Bool
 is_fresh log = is_none log.credits && nat_eq (length log.moments) 0
 
+-- and that the log begins in the middle, which is told before them
+abbrev pub is_first : Log → Bool
+is_first log = not log.begun && is_fresh log
+
+-- the first rule that a moment breaks, if it breaks one that is asked of it
+abbrev pub spared : Log → Moment → Rule → Bool
+spared log m rule = is_middle log.begun log.moments && spares log.moments log.strangers m rule
+
+abbrev pub broken_unless : Log → Moment → Option Rule → Option Rule
+broken_unless log m None = None
+broken_unless log m (Some rule) = if spared log m rule then None else Some rule
+
+abbrev pub broken_in : Log → Moment → Option Rule
+broken_in log m = broken_unless log m (broken_by log.credits log.moments m)
+
+-- it is the end of a command that the log doesn't send
+abbrev pub is_outstanding : Rule → Bool
+is_outstanding rules.Outstanding = true
+is_outstanding rule = false
+
+abbrev pub is_strange : Log → Moment → Option Rule → Bool
+is_strange log m None = false
+is_strange log m (Some rule) = is_outstanding rule && spared log m rule
+
+abbrev pub is_stranger : Log → Moment → Bool
+is_stranger log m = is_strange log m (broken_by log.credits log.moments m)
+
+-- a log to which such an end is added
+abbrev pub with_stranger : Log → Moment → Log
+with_stranger log m = record log { strangers = log.strangers ++ m ∷ [] }
+
 -- a log to which the line of this number adds a moment
 abbrev pub with_moment : ℕ → Log → Moment → Log
 with_moment number log m = record log { moments = log.moments ++ m ∷ []; lines = log.lines ++ number ∷ [] }
+
+-- which one it is
+abbrev pub with_either : ℕ → Log → Moment → Log
+with_either number log m = if is_stranger log m then with_stranger log m else with_moment number log m
 
 -- a log to which the line of this number adds what it says, right or not
 abbrev pub with_said : ℕ → Log → Said → Result Log Cause
@@ -166,7 +208,9 @@ with_said number log says.Nothing = Ok log
 with_said number log (says.Attention via b) = Ok log
 with_said number log (says.Credits c) =
     if is_fresh log then Ok (record log { credits = Some c }) else Err causes.Word
-with_said number log (says.Happens m) = Ok (with_moment number log m)
+with_said number log says.Begun =
+    if is_first log then Ok (record log { begun = true; strangers = [] }) else Err causes.Word
+with_said number log (says.Happens m) = Ok (with_either number log m)
 
 -- the same of the line of this number
 unfoldable pub with_line : ℕ → Log → List ℕ → Result Log Cause
@@ -176,3 +220,17 @@ with_line number log line = line_says number line >>= with_said number log
 unfoldable pub with_lines : ℕ → Log → List (List ℕ) → Result Log Cause
 with_lines before log [] = Ok log
 with_lines before log (line ∷ rest) = with_line (before + 1) log line >>= λ next. with_lines (before + 1) next rest
+
+-- ---- which lines are right
+
+-- the first rule that what a line says breaks, if it breaks one
+abbrev pub broken_said : Log → Result Said Cause → Option Rule
+broken_said log (Ok (says.Happens m)) = broken_in log m
+broken_said log said = None
+
+-- each of these lines, which so many stand before, breaks no rule after those before it
+unfoldable pub AreRightLines : ℕ → Log → List (List ℕ) → Type 0
+AreRightLines before log [] = Unit {0}
+AreRightLines before log (line ∷ rest) =
+    (broken_said log (line_says (before + 1) line) ≡ None)
+    × ((next : Log) → with_line (before + 1) log line ≡ Ok next → AreRightLines (before + 1) next rest)

@@ -10,23 +10,26 @@ use Rattle.mscp_reader.specs.declared.fault.ReadFault.{ReadFault}
 use Rattle.mscp_reader.specs.declared.fault.ReadFault.TheVariants as reads
 use Rattle.mscp_reader.specs.declared.fault.ScriptFault.{ScriptFault}
 use Rattle.mscp_wire.specs.Kept.{sents}
-use Rattle.mscp_wire.specs.Wire.{AreRight, broken_by, called, command_of, controller, kept, kept_called, outstanding, passed_of, seen_before, timeout, told}
-use Rattle.mscp_wire.specs.Doubts.{AreFewDoubts, doubts_of}
-use Rattle.mscp_wire.specs.Log.{Log, line_says, nothing, with_line, with_lines, with_said}
-use Rattle.mscp_wire.specs.Totals.{IsFew, totals_of}
+use Rattle.mscp_wire.specs.Wire.{called, command_of, controller, kept, kept_called, outstanding, passed_of, seen_before, timeout, told}
+use Rattle.mscp_wire.specs.Doubts.{AreFewDoubts, doubtful, doubts_of}
+use Rattle.mscp_wire.specs.Log.{AreRightLines, Log, broken_in, broken_said, line_says, nothing, with_line, with_lines, with_said}
+use Rattle.mscp_wire.specs.Middle.{IsMiddleOf}
+use Rattle.mscp_wire.specs.Totals.{IsFew, fall_after, totals_of}
+use Rattle.mscp_wire.specs.declared.judge.Stepped.{Stepped}
 use Rattle.mscp_wire.specs.declared.line.Said.{Said}
 use Rattle.mscp_wire.specs.declared.line.Said.TheVariants as says
-use Rattle.mscp_wire.specs.declared.log.Reading.{Reading}
+use Rattle.mscp_wire.specs.declared.reading.Reading.{Reading}
 use Rattle.mscp_wire.specs.declared.log.Verdict.{Verdict}
 use Rattle.mscp_wire.specs.declared.log.Verdict.TheVariants as verdicts
+use Rattle.mscp_wire.specs.declared.moment.Moment.{Moment}
 use Rattle.mscp_wire.specs.declared.wrong.Wrong.{Wrong}
 
 -- ---- a log
 
--- lines tell this log, and each of its moments is right after those before it
+-- lines tell this log, and each of its moments breaks no rule after those before it
 pub record Tell (all : List (List ℕ)) (log : Log) : Type 0 where
   pub told : with_lines 0 nothing all ≡ Ok log
-  pub right : AreRight log.credits log.moments
+  pub right : AreRightLines 0 nothing all
 
 -- a log of these bytes is right
 pub record IsRightLog (bytes : List ℕ) (log : Log) : Type 0 where
@@ -46,7 +49,7 @@ pub record Reaches (bytes : List ℕ) (number : ℕ) (line : List ℕ) (log : Lo
 pub record IsWrong (number : ℕ) (log : Log) (said : Result Said Cause) (wrong : Wrong) : Type 0 where
   pub line : wrong.line ≡ number
   pub says : said ≡ Ok (says.Happens wrong.moment)
-  pub rule : broken_by log.credits log.moments wrong.moment ≡ Some wrong.rule
+  pub rule : broken_in log wrong.moment ≡ Some wrong.rule
   pub command : wrong.command ≡ command_of (outstanding log.moments) wrong.moment
   pub passed : wrong.passed ≡ passed_of (outstanding log.moments) wrong.moment
   pub seen : wrong.seen ≡ seen_before (outstanding log.moments) (told log.moments) (controller log.moments) wrong.moment
@@ -97,7 +100,6 @@ Says (Err reads.OutOfMemory) came = Unit {0}
 
 -- this came of the lines so far, which are right
 pub record IsAfter {A : Type 0} (log : Log) (reading : Reading A) : Type 0 where
-  pub right : AreRight log.credits log.moments
   pub credits : reading.judge.credits ≡ log.credits
   pub commands : sents reading.judge.commands ≡ outstanding log.moments
   pub units : (via : Connection) (unit : ℕ) → kept reading.judge.units via unit ≡ told log.moments via unit
@@ -107,6 +109,13 @@ pub record IsAfter {A : Type 0} (log : Log) (reading : Reading A) : Type 0 where
   pub totals : reading.totals ≡ totals_of log.moments
   pub doubts : reading.doubts ≡ doubts_of log
   pub lines : length log.lines ≡ length log.moments
+  pub middle : IsMiddleOf log reading.middle
+
+-- a step said this of a moment after a log: which command it is about, how far a figure fell, what is doubtful
+pub record IsOf (log : Log) (m : Moment) (stepped : Stepped) : Type 0 where
+  pub command : stepped.command ≡ command_of (outstanding log.moments) m
+  pub fall : stepped.fall ≡ fall_after (outstanding log.moments) m
+  pub doubtful : stepped.doubtful ≡ doubtful (outstanding log.moments) (told log.moments) (called log.moments) m
 
 -- no count is so large
 pub record HasFew {A : Type 0} (reading : Reading A) (n : ℕ) : Type 0 where
@@ -117,6 +126,7 @@ pub record HasFew {A : Type 0} (reading : Reading A) (n : ℕ) : Type 0 where
 abbrev pub Goes : {A : Type 0} → ℕ → Log → Result Said Cause → Result (Option Wrong) ReadFault → Reading A → Type 0
 Goes number log said (Ok None) reading =
     (next : Log) × ((said >>= with_said number log) ≡ Ok next) × IsAfter next reading
+    × (broken_said log said ≡ None)
 Goes number log said (Ok (Some wrong)) reading = IsWrong number log said wrong
 Goes number log said (Err (reads.Script fault)) reading =
     (fault.line ≡ number) × ((said >>= with_said number log) ≡ Err fault.cause)

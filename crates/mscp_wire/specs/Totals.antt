@@ -29,9 +29,10 @@ abbrev pub is_end : Moment → Bool
 is_end (moments.End via b) = true
 is_end m = false
 
--- it is initialised
+-- it is initialised, or a connection closes
 abbrev pub is_reset : Moment → Bool
 is_reset moments.Reset = true
+is_reset (moments.Closed via) = true
 is_reset m = false
 
 -- the opcode of the command that a host sends

@@ -196,15 +196,15 @@ told_after_message via unit told s = if shares via unit s then record told { sta
 
 -- its identifier, once a moment more came
 abbrev pub controller_after : Option ℕ → Moment → Option ℕ
-controller_after known (moments.Message via b time) = known
 controller_after known (moments.End via b) = later_of (controller_in b.items) known
 controller_after known moments.Reset = None
+controller_after known m = known
 
 -- its timeout in seconds, once a moment more came. Before that is told it is the host's own
 abbrev pub timeout_after : Option ℕ → Moment → Option ℕ
-timeout_after known (moments.Message via b time) = known
 timeout_after known (moments.End via b) = later_of (timeout_in b.items) known
 timeout_after known moments.Reset = None
+timeout_after known m = known
 
 -- what either host was told of its identifier after a history
 abbrev pub controller : History → Option ℕ
@@ -226,7 +226,7 @@ called_after_end identifier known e = if is_it (called_in e) identifier then Som
 abbrev pub called_after : ℕ → Option ℕ → Moment → Option ℕ
 called_after identifier known (moments.Message via b time) = known
 called_after identifier known (moments.End via b) = called_after_end identifier known (answer_by via b.items)
-called_after identifier known moments.Reset = None
+called_after identifier known m = None
 
 -- the same after a history
 abbrev pub called : History → ℕ → Option ℕ

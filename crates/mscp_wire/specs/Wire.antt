@@ -34,7 +34,7 @@
 --
 -- An end is asked for Identity and State, and proves how its unit is, only if it is settled (is_settled).
 use Rattle.std.specs.Prelude.{◌≡◌, ℕ, ◌+◌, ◌/◌, ◌<◌, Bool, true, false, not, ◌&&◌, ◌||◌, nat_eq, nat_le, nat_lt, if◌then◌else◌, List, [], ◌∷◌, ◌++◌, length, map, take, drop, find, position, count_by, fold, min, slice_index, slice_index_or, Option, Some, None, is_some}
-use Rattle.std.specs.List.{list_any}
+use Rattle.std.specs.List.{filter, list_any}
 use Rattle.mscp_drive.specs.declared.connection.Connection.{Connection}
 use Rattle.mscp_drive.specs.declared.connection.Connection.TheVariants.{First}
 pub use Rattle.mscp_wire.specs.Messages.{History, answer_by, asks_for_next, controller_in, is_compared, protected_in, table_in, four_in, identity_in, is_about_another, is_immediate, is_known, is_named, is_ordered, is_required, is_sequential, is_short, is_modified, is_sequential_class, is_transfer, is_transfer_class, is_unknown, is_unknown_class, least_length, least_message, same_connection, sent_by, status_code, timeout_in}
@@ -219,7 +219,7 @@ abbrev pub command_of : List Sent → Moment → Option Sent
 command_of xs (moments.Message via b time) = if is_message b.items then Some (sent_by via b.items) else None
 command_of xs (moments.End via b) =
     if is_long b.items then answered_by xs (answer_by via b.items) else None
-command_of xs moments.Reset = None
+command_of xs m = None
 
 -- the first command that keeps back the one at a place, if there is one: of those that its end passes the oldest
 abbrev pub passed_at : List Sent → Option ℕ → Option Sent
@@ -231,7 +231,7 @@ abbrev pub passed_of : List Sent → Moment → Option Sent
 passed_of xs (moments.Message via b time) = None
 passed_of xs (moments.End via b) =
     if is_long b.items then passed_at xs (place_of xs (answer_by via b.items)) else None
-passed_of xs moments.Reset = None
+passed_of xs m = None
 
 -- ---- which ends are settled
 
@@ -274,14 +274,14 @@ abbrev pub seen_of : List Sent → (Connection → ℕ → Told) → Option ℕ 
 seen_of xs units known (moments.Message via b time) = seen_nothing
 seen_of xs units known (moments.End via b) =
     record { unit = unit_before xs units (answer_by via b.items); controller = known }
-seen_of xs units known moments.Reset = seen_nothing
+seen_of xs units known m = seen_nothing
 
 -- the same, if it is as long as its endcode asks
 abbrev pub seen_before : List Sent → (Connection → ℕ → Told) → Option ℕ → Moment → Seen
 seen_before xs units known (moments.Message via b time) = seen_nothing
 seen_before xs units known (moments.End via b) =
     if is_long b.items then seen_of xs units known (moments.End via b) else seen_nothing
-seen_before xs units known moments.Reset = seen_nothing
+seen_before xs units known m = seen_nothing
 
 -- what is outstanding once the end of the command at a place came: the others hear it
 abbrev pub after_end : List Sent → Answer → Option ℕ → List Sent
@@ -292,19 +292,26 @@ after_end xs e (Some i) = map (hears (command_at xs i) e) (take i xs ++ drop (i 
 abbrev pub timed : Option ℕ → Sent → Sent
 timed time s = record s { time = time }
 
+-- the commands that aren't of a connection
+abbrev pub others_of : Connection → List Sent → List Sent
+others_of via xs = filter (λ s. not (same_connection s.connection via)) xs
+
 -- what is outstanding once a moment more came, where this is the controller timeout: a message adds its command, an end
--- takes its own away, and a reset all
+-- takes its own away, a reset all, and a connection that closes its own
 abbrev pub after : Option ℕ → List Sent → Moment → List Sent
 after timeout xs (moments.Message via b time) = xs ++ asking timeout xs (timed time (sent_by via b.items)) ∷ []
 after timeout xs (moments.End via b) = after_end xs (answer_by via b.items) (place_of xs (answer_by via b.items))
 after timeout xs moments.Reset = []
+after timeout xs (moments.Closed via) = others_of via xs
 
--- what the host of a connection was told of a unit once a moment more came, before which these were outstanding
+-- what the host of a connection was told of a unit once a moment more came, before which these were outstanding. As a
+-- connection closes units may change their state, of which no end tells
 abbrev pub told_after : List Sent → Connection → ℕ → Told → Moment → Told
 told_after xs via unit told (moments.Message other b time) = told_after_message via unit told (sent_by other b.items)
 told_after xs via unit told (moments.End other b) =
     told_after_end via unit (settles xs (answer_by other b.items)) told (answer_by other b.items)
 told_after xs via unit told moments.Reset = told_reset
+told_after xs via unit told (moments.Closed other) = told_nothing
 
 -- what stands after a history: the controller timeout, if it was told, the commands that are outstanding, oldest first
 -- (manual, "Flow Control"), and what the host of a connection was told of a unit
@@ -378,7 +385,7 @@ broken credits xs unit (moments.Message via b time) =
 broken credits xs unit (moments.End via b) =
     unless (is_long b.items) rules.Length
     (broken_at xs unit (answer_by via b.items) (place_of xs (answer_by via b.items)))
-broken credits xs unit moments.Reset = None
+broken credits xs unit m = None
 
 -- by a moment after a history
 abbrev pub broken_by : Option ℕ → History → Moment → Option Rule

@@ -3,13 +3,14 @@
 // Each stands in a cell. A command that leaves moves no other: its cell stays, empty, until a fifth of them are. Then the
 // others move together. So each end moves a few commands, whichever it is of.
 
-ghost use Rattle.std.specs.Prelude.{◌≡◌, ◌+◌, ◌-◌, ◌<◌, ◌^◌, ◌++◌, ◌∷◌, [], find, length, map, take, drop, position, false, true, Some, None, OnOk, IfOk, IfSome, IsSome};
+ghost use Rattle.std.specs.Prelude.{◌≡◌, ◌+◌, ◌-◌, ◌<◌, ◌^◌, ◌++◌, ◌∷◌, [], find, length, map, take, drop, position, set, false, true, Some, None, OnOk, IfOk, IfSome, IsSome};
 ghost use Rattle.std.specs.List.{list_any, remove};
 ghost use Rattle.mscp_wire.specs.Wire as wire;
 ghost use Rattle.mscp_wire.specs.Kept as kept;
 ghost use Rattle.mscp_wire.specs.Kept.{cell, place, place_if, sents};
 ghost use Rattle.mscp_wire.specs.Sought.{is_sought};
 
+mod closing;
 mod leaving;
 mod marking;
 mod seeking;
@@ -245,8 +246,7 @@ impl<A: Allocator + Copy> Commands<A> {
         requires { IsSome (cell self.old at) }
         ensures gone { result ≡ wire.command_at (sents self.old) (place self.old at) }
         ensures others { sents self.new ≡ remove (sents self.old) (place self.old at) }
-        ensures cells { length self.new ≡ length self.old }
-        ensures empty { cell self.new at ≡ None }
+        ensures cells { self.new ≡ set self.old at None }
     {
         let sent = self.at(at);
         self.cells.put(at, None);

@@ -2,25 +2,28 @@
 // it is judged, too. The judge of a log that is right knows nothing of this: it stops at the first moment that isn't, and
 // what is said of that is found here, on a second way through the log.
 
-ghost use Rattle.std.specs.Prelude.{◌≡◌, ◌≤◌, ℕ, OnOk, IfOk, Some};
+ghost use Rattle.std.specs.Prelude.{◌≡◌, ◌≤◌, ℕ, false, true, OnOk, IfOk, Some};
 ghost use Rattle.mscp_drive.specs.declared.connection.Connection as connections;
 ghost use Rattle.mscp_reader.specs.Lexical as lexical;
 ghost use Rattle.mscp_wire.specs.Course as course;
-ghost use Rattle.mscp_wire.specs.Course.{Findings, GoesOn, IsOn, finding_in, mentions_after, no_mentions, with_told};
+ghost use Rattle.mscp_wire.specs.Course.{Findings, GoesOn, IsOn, finding_in, is_named_in, mention_after, mention_of, mentions_after, mentions_counted, no_mentions, with_counted, with_told};
 ghost use Rattle.mscp_wire.specs.Log as logs;
-ghost use Rattle.mscp_wire.specs.Log.{Log, nothing};
+ghost use Rattle.mscp_wire.specs.Log.{Log, broken_in, nothing, spared, with_moment};
+ghost use Rattle.mscp_wire.specs.Middle.{IsMiddleOf};
 ghost use Rattle.mscp_wire.specs.Wire.{broken_by, command_of, outstanding};
 ghost use Rattle.mscp_wire.specs.declared.mentions.Mention as mentioned;
 
 use crate::judge::{Judge, Stepped};
 use crate::line::{Said, line_says};
 use crate::mentions::Mentions;
+use crate::middle::{Middle, hear_if, hear_stranger, is_outstanding, spares};
 use crate::moment::Moment;
+use crate::reading::misplaced;
 use crate::rule::Rule;
 use crate::sent::Sent;
 use crate::wrong::Wrong;
 use mscp_drive::OutOfMemory;
-use mscp_reader::{Cause, Lines, ReadFault, ScriptFault, lines_of};
+use mscp_reader::{Lines, ReadFault, lines_of};
 use std::alloc::Allocator;
 
 /// In which lines is told what a moment that isn't right is compared with, counted from 1.
@@ -61,6 +64,8 @@ pub struct Course<A: Allocator> {
     /// Whether nothing was said so far, so that credits may be told.
     pub fresh: bool,
     pub mentions: Mentions<A>,
+    /// What a log shows that begins in the middle, and is still there.
+    pub middle: Option<Middle<A>>,
 }
 
 impl<A: Allocator + Copy> Course<A> {
@@ -72,6 +77,7 @@ impl<A: Allocator + Copy> Course<A> {
             judge: Judge::new(alloc, None),
             fresh: true,
             mentions: Mentions::none(alloc),
+            middle: None,
         }
     }
 
@@ -81,20 +87,28 @@ impl<A: Allocator + Copy> Course<A> {
             → GoesOn number f (Ok (Said.Credits credits)) result self.new }
     {
         if !self.fresh {
-            return Err(ReadFault::Script(ScriptFault {
-                line: number,
-                cause: Cause::Word,
-            }));
+            return Err(misplaced(number));
         }
         self.judge.credits = Some(credits);
         self.fresh = false;
         Ok(None)
     }
 
+    /// What comes of it that the log begins in the middle.
+    fn begin(&mut self, alloc: A, number: u32) -> Result<Option<Finding>, ReadFault>
+        ensures { (f : Findings) → IsOn f.log f.mentions self.old → GoesOn number f (Ok Said.Begun) result self.new }
+    {
+        if self.middle.is_some() || !self.fresh {
+            return Err(misplaced(number));
+        }
+        self.middle = Some(Middle::new(alloc));
+        Ok(None)
+    }
+
     /// What is wrong of a moment that breaks this rule first, and is about this command.
     fn finding(&self, number: u32, rule: Rule, command: Option<Sent>, moment: Moment) -> Finding
         ensures found { (f : Findings) → IsOn f.log f.mentions self.now
-            → broken_by f.log.credits f.log.moments moment ≡ Some rule
+            → broken_in f.log moment ≡ Some rule
             → command ≡ command_of (outstanding f.log.moments) moment
             → finding_in number f moment ≡ Some result }
         ensures moment { result.wrong.moment ≡ moment }
@@ -120,16 +134,47 @@ impl<A: Allocator + Copy> Course<A> {
     /// The line of this number tells a moment, right or not: it counts, if it can.
     fn count(&mut self, number: u32, moment: &Moment) -> Result<(), OutOfMemory>
         ensures { (log : Log) (mentions : connections.Connection → ℕ → mentioned.Mention)
-            → IsOn log mentions self.old → OnOk result (IsOn (with_told number log moment.now)
-            (mentions_after number log mentions moment.now) self.new) }
+            → IsOn log mentions self.old → OnOk result (IsOn (with_counted number log moment.now)
+            (mentions_counted number log mentions moment.now) self.new) }
     {
         if !self.judge.counts(moment) {
             return Ok(());
         }
         self.judge.accept(moment)?;
+        self.note(number, moment)?;
+        Ok(())
+    }
+
+    /// A moment counts, and the judge knows of it.
+    fn note(&mut self, number: u32, moment: &Moment) -> Result<(), OutOfMemory>
+        requires { is_named_in moment.now ≡ true }
+        ensures judge { self.new.judge ≡ self.old.judge }
+        ensures fresh { self.new.fresh ≡ false }
+        ensures mentions { OnOk result ((via : connections.Connection) (reference : ℕ)
+            → mention_of self.new.mentions.lines via reference
+            ≡ mention_after number (mention_of self.old.mentions.lines) moment.now via reference) }
+        ensures middle { OnOk result ((log : Log) → IsMiddleOf log self.old.middle
+            → IsMiddleOf (with_moment number log moment.now) self.new.middle) }
+    {
         self.fresh = false;
         self.mentions.hear(number, moment)?;
+        hear_if(&mut self.middle, moment)?;
         Ok(())
+    }
+
+    /// A moment that breaks a rule which isn't asked of it counts, or it is the end of a command that the log doesn't
+    /// send.
+    fn spare(&mut self, number: u32, moment: &Moment, rule: Rule) -> Result<(), OutOfMemory>
+        ensures { (log : Log) (mentions : connections.Connection → ℕ → mentioned.Mention)
+            → IsOn log mentions self.old → broken_by log.credits log.moments moment.now ≡ Some rule
+            → spared log moment.now rule ≡ true → OnOk result (IsOn (with_told number log moment.now)
+            (mentions_after number log mentions moment.now) self.new) }
+    {
+        if is_outstanding(rule) {
+            hear_stranger(&mut self.middle, moment)?;
+            return Ok(());
+        }
+        self.count(number, moment)
     }
 
     /// What comes of a moment.
@@ -139,38 +184,47 @@ impl<A: Allocator + Copy> Course<A> {
     {
         let Stepped { rule, command, .. } = self.judge.step(&moment)?;
         match rule {
+            None => {
+                self.note(number, &moment)?;
+                Ok(None)
+            }
+            Some(rule) if spares(&self.middle, &moment, rule) => {
+                self.spare(number, &moment, rule)?;
+                Ok(None)
+            }
             Some(rule) => {
                 let finding = self.finding(number, rule, command, moment);
                 self.count(number, &finding.wrong.moment)?;
                 Ok(Some(finding))
             }
-            None => {
-                self.fresh = false;
-                self.mentions.hear(number, &moment)?;
-                Ok(None)
-            }
         }
     }
 
     /// What comes of what the line of this number says.
-    fn said(&mut self, number: u32, said: Said) -> Result<Option<Finding>, ReadFault>
+    fn said(&mut self, alloc: A, number: u32, said: Said) -> Result<Option<Finding>, ReadFault>
         ensures { (f : Findings) → IsOn f.log f.mentions self.old → GoesOn number f (Ok said) result self.new }
     {
         match said {
             Said::Nothing | Said::Attention(..) => Ok(None),
             Said::Credits(credits) => self.credits(number, credits),
+            Said::Begun => self.begin(alloc, number),
             Said::Happens(moment) => self.moment(number, moment),
         }
     }
 
     /// What comes of the line of this number: what isn't right in it, if something isn't.
-    pub fn line(&mut self, number: u32, bytes: &[u8]) -> Result<Option<Finding>, ReadFault>
+    pub fn line(
+        &mut self,
+        alloc: A,
+        number: u32,
+        bytes: &[u8],
+    ) -> Result<Option<Finding>, ReadFault>
         requires { 1 ≤ number }
         ensures { (f : Findings) → IsOn f.log f.mentions self.old
             → GoesOn number f (logs.line_says number bytes.now) result self.new }
     {
         let said = line_says(number, bytes)?;
-        self.said(number, said)
+        self.said(alloc, number, said)
     }
 }
 
@@ -182,7 +236,7 @@ fn places_of<A: Allocator + Copy>(alloc: A, lines: &mut Lines<'_>) -> Result<Pla
 {
     let mut course = Course::new(alloc);
     while let Some(line) = lines.cut() {
-        match course.line(lines.number, line) {
+        match course.line(alloc, lines.number, line) {
             Ok(None) => {}
             Ok(Some(finding)) => return Ok(finding.places),
             Err(ReadFault::Script(_)) => return Ok(Places::nowhere()),

@@ -116,6 +116,7 @@ fn doubtful_end<A: Allocator + Copy>(units: &Units<A>, answer: &Answer, command:
         protection: writes_protected(&told, answer),
         identifier: units.is_called_twice(answer),
         next: skips(units, command, answer),
+        figure: false,
     }
 }
 

@@ -21,6 +21,8 @@ pub struct Doubtful {
     pub identifier: bool,
     /// A GET UNIT STATUS that asks for the next unit passes one that is there.
     pub next: bool,
+    /// A figure doesn't fall in a log that begins in the middle: an older command may be outstanding.
+    pub figure: bool,
 }
 
 /// What is found in a line.
@@ -50,6 +52,7 @@ pub struct Doubts {
     pub protection: Doubt,
     pub identifier: Doubt,
     pub next: Doubt,
+    pub figure: Doubt,
 }
 
 impl Doubtful {
@@ -64,6 +67,7 @@ impl Doubtful {
             protection: false,
             identifier: false,
             next: false,
+            figure: false,
         }
     }
 }
@@ -107,6 +111,7 @@ impl Doubts {
             protection: Doubt::none(),
             identifier: Doubt::none(),
             next: Doubt::none(),
+            figure: Doubt::none(),
         }
     }
 
@@ -126,5 +131,6 @@ impl Doubts {
         self.protection.add(doubtful.protection, &found);
         self.identifier.add(doubtful.identifier, &found);
         self.next.add(doubtful.next, &found);
+        self.figure.add(doubtful.figure, &found);
     }
 }

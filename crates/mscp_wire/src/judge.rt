@@ -161,6 +161,18 @@ pub struct Stepped {
 }
 
 impl Stepped {
+    /// Of a moment that is about no command.
+    fn right() -> Stepped
+        ensures { result ≡ record { rule = None; command = None; fall = 0; doubtful = doubt.no_doubt } }
+    {
+        Stepped {
+            rule: None,
+            command: None,
+            fall: 0,
+            doubtful: Doubtful::nothing(),
+        }
+    }
+
     /// Of a moment that breaks this rule, and is about no command.
     fn broken(rule: Rule) -> Stepped
         ensures { result ≡ record { rule = Some rule; command = None; fall = 0; doubtful = doubt.no_doubt } }
@@ -371,12 +383,11 @@ impl<A: Allocator + Copy> Judge<A> {
             Moment::End(connection, message) => self.end(*connection, message.as_slice()),
             Moment::Reset => {
                 self.reset();
-                Ok(Stepped {
-                    rule: None,
-                    command: None,
-                    fall: 0,
-                    doubtful: Doubtful::nothing(),
-                })
+                Ok(Stepped::right())
+            }
+            Moment::Closed(connection) => {
+                self.close(*connection);
+                Ok(Stepped::right())
             }
         }
     }

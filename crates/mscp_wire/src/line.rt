@@ -23,6 +23,8 @@ pub enum Said {
     Happens(Moment),
     /// The controller sends the host of a connection an attention message.
     Attention(Connection, ArrayVec<u8, 64>),
+    /// The log begins in the middle.
+    Begun,
 }
 
 /// Ten to the power of at most nine.
@@ -160,7 +162,7 @@ fn sends_whole(connection: Connection, message: Option<ArrayVec<u8, 64>>) -> Sai
     }
 }
 
-/// A message or an end of a connection at this time, by the first word and those behind it.
+/// A message or an end of a connection at this time, or that it closes, by the first word and those behind it.
 #[tactic(auto, unfolding(crate::specs::Log::happens_on))]
 fn happens(
     time: Option<u64>,
@@ -179,6 +181,9 @@ fn happens(
         Ok(sent_whole(time, connection, whole_packet(fields)?))
     } else if word == b"to".as_slice() {
         Ok(sends_whole(connection, whole_packet(fields)?))
+    } else if word == b"reset".as_slice() {
+        fields.none()?;
+        Ok(Said::Happens(Moment::Closed(connection)))
     } else {
         Err(Cause::Word)
     }
@@ -216,6 +221,9 @@ fn said_by(time: Option<u64>, word: &[u8], fields: Words<'_>) -> Result<Said, Ca
         Ok(Said::Happens(Moment::Reset))
     } else if word == b"credits".as_slice() {
         Ok(Said::Credits(only_number(fields)?))
+    } else if word == b"begun".as_slice() {
+        fields.none()?;
+        Ok(Said::Begun)
     } else {
         happens(time, Connection::First, word, fields)
     }

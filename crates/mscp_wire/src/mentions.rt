@@ -185,7 +185,7 @@ impl<A: Allocator + Copy> Mentions<A> {
             Moment::End(connection, message) => {
                 self.hear_end(number, *connection, message.as_slice())?;
             }
-            Moment::Reset => {}
+            Moment::Reset | Moment::Closed(_) => {}
         }
         Ok(())
     }

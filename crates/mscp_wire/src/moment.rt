@@ -12,4 +12,6 @@ pub enum Moment {
     End(Connection, ArrayVec<u8, 64>),
     /// The controller is initialised: nothing is outstanding any more.
     Reset,
+    /// The connection of a host closes: none of its commands is outstanding any more.
+    Closed(Connection),
 }

@@ -11,7 +11,7 @@ use crate::judge::{Judge, MOST_CREDITS};
 use crate::moment::Moment;
 use crate::polls::asking;
 use crate::sent::Sent;
-use mscp_drive::OutOfMemory;
+use mscp_drive::{Connection, OutOfMemory};
 use std::alloc::Allocator;
 
 impl<A: Allocator + Copy> Judge<A> {
@@ -51,7 +51,7 @@ impl<A: Allocator + Copy> Judge<A> {
                 message.len() >= 12 && self.has_place(&Sent::of(*connection, message.as_slice()))
             }
             Moment::End(_, message) => message.len() >= 12,
-            Moment::Reset => true,
+            Moment::Reset | Moment::Closed(_) => true,
         }
     }
 
@@ -68,6 +68,19 @@ impl<A: Allocator + Copy> Judge<A> {
         self.units.clear();
         self.controller = None;
         self.timeout = None;
+    }
+
+    /// None of a connection's commands is outstanding, and nothing is known of units, as it closed.
+    pub fn close(&mut self, connection: Connection)
+        ensures commands { sents self.new.commands ≡ wire.others_of connection (sents self.old.commands) }
+        ensures units { (via : connections.Connection) (unit : ℕ) → wire.kept self.new.units via unit ≡ wire.told_nothing }
+        ensures called { (identifier : ℕ) → wire.kept_called self.new.units identifier ≡ None }
+        ensures controller { self.new.controller ≡ self.old.controller }
+        ensures timeout { self.new.timeout ≡ self.old.timeout }
+        ensures credits { self.new.credits ≡ self.old.credits }
+    {
+        self.commands.close(connection);
+        self.units.forget();
     }
 
     /// A moment is added to those before it, right or not.
@@ -96,6 +109,10 @@ impl<A: Allocator + Copy> Judge<A> {
             }
             Moment::Reset => {
                 self.reset();
+                Ok(())
+            }
+            Moment::Closed(connection) => {
+                self.close(*connection);
                 Ok(())
             }
         }

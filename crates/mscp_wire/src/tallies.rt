@@ -105,7 +105,7 @@ fn by_next(command: &Sent) -> Option<usize>
 }
 
 /// Whether a command is of a connection.
-fn is_on(connection: Connection, command: &Sent) -> bool
+pub fn is_on(connection: Connection, command: &Sent) -> bool
     ensures { result ≡ kept.is_on connection command.now }
 {
     command.connection == connection

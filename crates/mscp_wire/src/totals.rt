@@ -19,7 +19,7 @@ pub struct Counts {
     pub polls: u32,
     /// How many ends came.
     pub ends: u32,
-    /// How often the controller was initialised.
+    /// How often the controller was initialised, or a connection closed.
     pub resets: u32,
 }
 
@@ -68,11 +68,11 @@ fn is_end(moment: &Moment) -> bool
     matches!(moment, Moment::End(..))
 }
 
-/// Whether the controller is initialised.
+/// Whether the controller is initialised, or a connection closes.
 fn is_reset(moment: &Moment) -> bool
     ensures { result ≡ total.is_reset moment.now }
 {
-    matches!(moment, Moment::Reset)
+    matches!(moment, Moment::Reset | Moment::Closed(_))
 }
 
 impl Counts {

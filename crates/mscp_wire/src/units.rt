@@ -57,15 +57,31 @@ impl<A: Allocator + Copy> Units<A> {
         }
     }
 
+    /// This was told of all of them.
+    fn reset(&mut self, told: Told)
+        ensures told { (via : connections.Connection) (unit : ℕ) → wire.kept self.new via unit ≡ told }
+        ensures called { (identifier : ℕ) → wire.kept_called self.new identifier ≡ None }
+    {
+        self.others = told;
+        self.kept.clear();
+        // A map that is cleared keeps its room, and clears all of that each time.
+        self.called = HashMap::new(*self.kept.rows.allocator());
+    }
+
     /// No unit is online, as the controller was initialised.
     pub fn clear(&mut self)
         ensures told { (via : connections.Connection) (unit : ℕ) → wire.kept self.new via unit ≡ wire.told_reset }
         ensures called { (identifier : ℕ) → wire.kept_called self.new identifier ≡ None }
     {
-        self.others = Told::reset();
-        self.kept.clear();
-        // A map that is cleared keeps its room, and clears all of that each time.
-        self.called = HashMap::new(*self.kept.rows.allocator());
+        self.reset(Told::reset());
+    }
+
+    /// Nothing is known, as a connection closed.
+    pub fn forget(&mut self)
+        ensures told { (via : connections.Connection) (unit : ℕ) → wire.kept self.new via unit ≡ wire.told_nothing }
+        ensures called { (identifier : ℕ) → wire.kept_called self.new identifier ≡ None }
+    {
+        self.reset(Told::nothing());
     }
 
     /// What the host of a connection was told of a unit.

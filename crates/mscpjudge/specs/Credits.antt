@@ -90,12 +90,14 @@ spent (Some n) = Some (n - 1)
 
 -- ---- the account once a line more was read
 
--- a message spends a credit. A packet that is too short is none
+-- a message spends a credit. A packet that is too short is none. How many a host has after its connection closed isn't
+-- known
 abbrev pub after_moment : Account → Moment → Account
 after_moment account (moments.Message via b time) =
     if is_message b.items then with_credits account via (spent (credits_of account via)) else account
 after_moment account (moments.End via b) = account
 after_moment account moments.Reset = initial
+after_moment account (moments.Closed via) = with_credits account via None
 
 abbrev pub after_said : Account → Result Said Cause → Account
 after_said account (Ok (says.Happens m)) = after_moment account m

@@ -56,6 +56,7 @@ abbrev pub moment_text : Moment → List ℕ
 moment_text (moments.Message via b time) = connection_name via ++ codes "host: " ++ bytes_text b.items
 moment_text (moments.End via b) = sent_text via b.items
 moment_text moments.Reset = codes "reset\n"
+moment_text (moments.Closed via) = connection_name via ++ codes "reset\n"
 
 -- the number of a line, and its time
 abbrev pub number_text : ℕ → Option ℕ → List ℕ
@@ -65,6 +66,7 @@ number_text number time = (codes "line " ++ decimal number) ++ at_text time ++ c
 abbrev pub said_text : ℕ → Option ℕ → Said → List ℕ
 said_text number time says.Nothing = []
 said_text number time (says.Credits c) = number_text number time ++ (codes "credits " ++ decimal c) ++ codes "\n"
+said_text number time says.Begun = number_text number time ++ codes "begun\n"
 said_text number time (says.Happens m) = number_text number time ++ moment_text m
 said_text number time (says.Attention via b) = number_text number time ++ sent_text via b.items
 

@@ -125,6 +125,7 @@ after_moment number time t (moments.Message via b sent) =
 after_moment number time t (moments.End via b) =
     if is_message b.items then after_ended number time t via b.items else t
 after_moment number time t moments.Reset = record t { waiting = nobody; timeout = None }
+after_moment number time t (moments.Closed via) = t
 
 abbrev pub after_said : ℕ → Option ℕ → Timed → Result Said Cause → Timed
 after_said number time t (Ok (says.Happens m)) = after_moment number time t m

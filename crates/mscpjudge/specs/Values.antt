@@ -71,7 +71,7 @@ told_text (moments.Message via b time) =
     if nat_lt (length b.items) 12 then (codes "message: " ++ bytes_text b.items) else message_text b.items
 told_text (moments.End via b) =
     if nat_lt (length b.items) 12 then (codes "end: " ++ bytes_text b.items) else end_text b.items
-told_text moments.Reset = []
+told_text m = []
 
 -- ---- what that is compared with
 

@@ -157,6 +157,8 @@ doubts_text doubts =
     ++ doubt_text (codes "identifier") doubts.identifier
     -- a GET UNIT STATUS that asks for the next unit passes one that is there
     ++ doubt_text (codes "next unit") doubts.next
+    -- in a log that begins in the middle a figure doesn't fall
+    ++ doubt_text (codes "figure") doubts.figure
 
 -- the lines of the totals of a log of these bytes, and of its times
 unfoldable pub counted_text : List ℕ → Totals → List ℕ

@@ -101,6 +101,7 @@ impl Account {
                 self.with(*connection, spent(self.of(*connection)))
             }
             Moment::Reset => Account::initial(),
+            Moment::Closed(connection) => self.with(*connection, None),
             Moment::Message(..) | Moment::End(..) => self,
         }
     }

@@ -64,5 +64,6 @@ pub fn put_doubts<A: Allocator>(text: &mut Vec<u8, A>, doubts: &Doubts) -> Resul
     put_doubt(text, "status", &doubts.status)?;
     put_doubt(text, "protection", &doubts.protection)?;
     put_doubt(text, "identifier", &doubts.identifier)?;
-    put_doubt(text, "next unit", &doubts.next)
+    put_doubt(text, "next unit", &doubts.next)?;
+    put_doubt(text, "figure", &doubts.figure)
 }

@@ -30,7 +30,7 @@ pub fn limit_of(cause: Cause) -> &'static str {
 pub fn limit_on_wire(cause: Cause) -> &'static str {
     match cause {
         Cause::Word =>
-            "a line begins with send, end, from, to, second, reset, credits or port, or with a time and one of these; credits stands before all others of its port",
+            "a line begins with send, end, from, to, second, reset, credits, begun or port, or with a time and one of these; begun and then credits stand before all others of their port",
         Cause::Count =>
             "behind credits and port stands one number, behind send, end, from and to all digits of a packet, without spaces between them",
         Cause::Byte =>

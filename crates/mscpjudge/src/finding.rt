@@ -131,7 +131,7 @@ fn find_lines(alloc: Global, lines: &mut Lines<'_>, times: &Times) -> Result<Vec
     let mut broken = Vec::new(alloc);
     while let Some(line) = lines.cut() {
         let breach = account.line(lines.number, line);
-        let found = course.line(lines.number, line)?;
+        let found = course.line(alloc, lines.number, line)?;
         if let Some(finding) = found_beside(found, breach) {
             put_finding(&mut text, &mut broken, &finding, times)?;
         }

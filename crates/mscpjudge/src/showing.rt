@@ -73,6 +73,10 @@ fn put_moment(alloc: Global, text: &mut Vec<u8>, moment: &Moment) -> Result<(), 
             put_sent(alloc, text, *connection, message.as_slice())
         }
         Moment::Reset => put(text, "reset\n"),
+        Moment::Closed(connection) => {
+            put(text, connection_name(*connection))?;
+            put(text, "reset\n")
+        }
     }
 }
 
@@ -101,6 +105,10 @@ fn put_said(
             put_number(text, number, time)?;
             put_field(text, "credits ", *credits)?;
             put(text, "\n")
+        }
+        Said::Begun => {
+            put_number(text, number, time)?;
+            put(text, "begun\n")
         }
         Said::Happens(moment) => {
             put_number(text, number, time)?;

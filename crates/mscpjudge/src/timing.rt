@@ -301,7 +301,7 @@ impl Timing {
                 self.hear_ended(number, time, *connection, message.as_slice());
             }
             Moment::Reset => self.reset(alloc),
-            Moment::Message(..) | Moment::End(..) => {}
+            Moment::Message(..) | Moment::End(..) | Moment::Closed(_) => {}
         }
         Ok(())
     }

@@ -149,7 +149,7 @@ pub fn put_told<A: Allocator>(text: &mut Vec<u8, A>, moment: &Moment) -> Result<
             }
             put_end(text, message.as_slice())
         }
-        Moment::Reset => Ok(()),
+        Moment::Reset | Moment::Closed(_) => Ok(()),
     }
 }
 

@@ -1,9 +1,9 @@
-use Rattle.std.proofs.Common.{◌+◌, ◌++◌, ◌∷◌, [], length-append, append_assoc, arith, refl, sym, ap, subst, ◌∙◌, Ok, Err}
+use Rattle.std.proofs.Common.{◌≡◌, ◌+◌, length, None, ◌++◌, ◌∷◌, [], length-append, append_assoc, arith, refl, sym, ap, subst, ◌∙◌, Ok, Err}
 use Rattle.std.proofs.lemmas.Result.{err_from_is_err_and}
 use Rattle.mscp_reader.specs.Lexical.{lines}
-use Rattle.mscp_wire.specs.Log.{line_says, nothing}
+use Rattle.mscp_wire.specs.Log.{broken_said, line_says, nothing}
 use Rattle.mscp_wire.specs.Right.{Goes, Judges}
-use Rattle.mscp_wire.proofs.Meaning.{line_faults, lines_more, lines_none}
+use Rattle.mscp_wire.proofs.Meaning.{line_faults, lines_more, lines_none, right_more, right_none, zero_more}
 use Rattle.mscp_wire.proofs.log.judge_lines.Goals as goal
 
 pub loop-bytes-init : goal.loop-bytes-init
@@ -13,6 +13,7 @@ loop-bytes-init g c = record {
   whole = refl;
   counted = c.requires.first;
   told = lines_none nothing;
+  right = right_none;
   after = c.new-reading.ensures.after;
   few = rw c.requires.first c.new-reading.ensures.few;
 }
@@ -29,7 +30,7 @@ returns-in_err-wrong g c =
       small = c.requires.small;
       whole = i.whole ∙ ap (λ ls. i.before ++ ls) c.in-Some.ensures.line;
       counted = c.in-Some.ensures.counted ∙ ap (λ k. k + 1) i.counted;
-      tell = record { told = i.told; right = i.after.right };
+      tell = record { told = i.told; right = i.right };
     }) (c.in_err-wrong.ensures.after i.log i.after))
 
 pub loop-bytes-preserved : goal.loop-bytes-preserved
@@ -48,6 +49,8 @@ loop-bytes-preserved g c =
           ∙ sym (append_assoc i.before (line ∷ []) (lines c.cut.new.self.rest.now));
       counted = omega (arith, count, length-append i.before (line ∷ []));
       told = lines_more i.before line number i.log goes.0 count i.told goes.1;
+      right = right_more i.before line 0 nothing i.log i.right i.told
+          (subst (λ k. broken_said i.log (line_says k line) ≡ None) (count ∙ zero_more (length i.before)) goes.3);
       after = goes.2;
       few = c.in_ok-wrong.ensures.few;
     }

@@ -1,6 +1,6 @@
 use Rattle.std.proofs.Common.{◌≡◌, ◌+◌, ◌++◌, List, ℕ, length, Ok}
 use Rattle.mscp_reader.specs.Lexical.{lines}
-use Rattle.mscp_wire.specs.Log.{Log, nothing, with_lines}
+use Rattle.mscp_wire.specs.Log.{AreRightLines, Log, nothing, with_lines}
 use Rattle.mscp_wire.specs.Right.{HasFew, IsAfter}
 use Rattle.mscp_wire.proofs.log.judge_lines.Given as goal
 
@@ -11,6 +11,7 @@ invariant-loop-bytes g l = record {
   whole : lines l.fn.lines.rest.now ≡ before ++ lines l.lines.rest.now;
   counted : l.lines.number ≡ length before;
   told : with_lines 0 nothing before ≡ Ok log;
+  right : AreRightLines 0 nothing before;
   after : IsAfter log l.reading;
   few : HasFew l.reading (l.lines.number + 1);
 }

@@ -1,4 +1,4 @@
-use Rattle.std.proofs.Common.{◌≡◌, ap, false, length, subst, sym, ◌∙◌, if◌then◌else◌}
+use Rattle.std.proofs.Common.{◌≡◌, ap, false, length, subst, ◌∙◌, if◌then◌else◌}
 use Rattle.mscp_wire.specs.Kept.{IsFound, NoneIn, leaves}
 use Rattle.mscp_wire.specs.Wire.{left, polls}
 use Rattle.mscp_wire.specs.declared.sent.Sent.{Sent}

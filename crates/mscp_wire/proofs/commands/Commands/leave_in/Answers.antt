@@ -1,4 +1,4 @@
-use Rattle.std.proofs.Common.{ap, sym, ◌∙◌, ◌≡◌, if◌then◌else◌}
+use Rattle.std.proofs.Common.{ap, sym, ◌∙◌, if◌then◌else◌}
 use Rattle.mscp_wire.specs.Kept.{cell}
 use Rattle.mscp_wire.specs.Wire.{left}
 use Rattle.mscp_wire.proofs.Placed.{kept_put}

@@ -1,4 +1,4 @@
-use Rattle.std.proofs.Common.{◌≡◌, ap, false, length, subst, sym, true, ◌∙◌, if◌then◌else◌}
+use Rattle.std.proofs.Common.{◌≡◌, ap, false, length, subst, true, ◌∙◌, if◌then◌else◌}
 use Rattle.mscp_wire.specs.Kept.{IsFound, NoneIn, besides}
 use Rattle.mscp_wire.specs.Wire.{turns_beside}
 use Rattle.mscp_wire.specs.declared.sent.Sent.{Sent}

@@ -1,11 +1,19 @@
-use Rattle.std.proofs.Common.{refl, sym, ap, ◌∙◌}
+use Rattle.std.proofs.Common.{◌∙◌, ap, sym}
 use Rattle.mscp_wire.specs.Course.{counts}
-use Rattle.mscp_wire.proofs.Going.{advanced}
+use Rattle.mscp_wire.proofs.Added.{course_more}
 use Rattle.mscp_wire.proofs.course.Course.count.Goals as goal
 
 pub returns : goal.returns
 returns g c = λ log mentions s.
-    advanced c.args.number log mentions c.args.moment.now c.args.self.now _ s c.in_ok-accept.ensures.credits
-    c.in_ok-accept.ensures.after c.in_ok-accept.ensures.units c.in_ok-accept.ensures.called
-    c.in_ok-accept.ensures.controller c.in_ok-accept.ensures.timeout refl c.in_ok-hear.ensures
+    let heard = c.in_ok-accept.ensures in
+    let noted = c.in_ok-note.ensures in
+    course_more c.args.number log mentions c.args.moment.now c.args.self.now c.note.new.self s c.accept.new.self
+    (record {
+      credits = heard.credits;
+      commands = heard.after;
+      units = heard.units;
+      called = heard.called;
+      controller = heard.controller;
+      timeout = heard.timeout;
+    }) noted.judge noted.fresh noted.mentions (noted.middle log s.middle)
     (ap (λ xs. counts xs c.args.moment.now) (sym s.commands) ∙ sym c.counts.ensures ∙ c.if-not-counts.false)

@@ -16,6 +16,7 @@ returns g c = λ f s. (
     called = s.called;
     fresh = refl;
     mentions = s.mentions;
+    middle = s.middle;
   },
   sym (append-nil f.found),
 )

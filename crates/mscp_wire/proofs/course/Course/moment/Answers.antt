@@ -1,35 +1,67 @@
-use Rattle.std.proofs.Common.{◌++◌, refl, sym, ap, ◌∙◌, subst}
-use Rattle.mscp_wire.specs.Course.{IsOn, finding_by, findings_after, listed, mentions_after, with_told}
+use Rattle.std.proofs.Common.{◌≡◌, ◌++◌, Some, refl, sym, ap, ◌∙◌, subst}
+use Rattle.mscp_wire.specs.Course.{IsOn, finding_by, findings_after, listed, mentions_counted, with_counted}
+use Rattle.mscp_wire.specs.Log.{spared}
 use Rattle.mscp_wire.specs.Wire.{command_of}
+use Rattle.mscp_wire.proofs.Added.{course_more}
 use Rattle.mscp_wire.proofs.Contradicted.{kept_then}
-use Rattle.mscp_wire.proofs.Going.{advanced, right_told}
+use Rattle.mscp_wire.proofs.Going.{counted_told, right_told}
 use Rattle.mscp_wire.proofs.Passing.{broken_after}
+use Rattle.mscp_wire.proofs.Sparing.{asked_in, asked_strange, none_in, none_strange, spared_in}
 use Rattle.mscp_wire.proofs.course.Course.moment.Goals as goal
 
-pub returns-in_ok-count-in-Some : goal.returns-in_ok-count-in-Some
-returns-in_ok-count-in-Some g c = λ f s.
-    let on = subst (λ j. IsOn f.log f.mentions (record c.args.self.now { judge = j }))
-    (sym (kept_then _ _ _ _ c.in-Some.is c.in_ok-rule.ensures.unchanged)) s in
-    let rule = broken_after f.log c.args.moment _ _ _ _ _ s.credits s.commands s.units s.controller
-    (sym c.in-Some.is ∙ c.in_ok-rule.ensures.rule) in (
-      findings_after c.args.number f c.args.moment,
+pub returns-in_ok-note-in-None : goal.returns-in_ok-note-in-None
+returns-in_ok-note-in-None g c = λ f s.
+    let m = c.args.moment in
+    let stepped = c.in_ok-rule.ensures in
+    let noted = c.in_ok-note-in-None.ensures in
+    let none = broken_after f.log m _ _ _ _ _ s.credits s.commands s.units s.controller
+    (sym c.in-None.is ∙ stepped.rule) in (
+      findings_after c.args.number f m,
       refl,
-      subst (λ m. IsOn (with_told c.args.number f.log m) (mentions_after c.args.number f.log f.mentions m)
-          c.count.new.self) c.finding-finding.ensures.moment (c.in_ok-count-in-Some.ensures f.log f.mentions on),
-      ap (λ o. f.found ++ listed o) (c.finding-finding.ensures.found f on rule
-          (c.in_ok-rule.ensures.command ∙ ap (λ xs. command_of xs c.args.moment) s.commands)),
+      counted_told c.args.number f.log f.mentions m c.note.new.self (none_strange f.log m none)
+          (course_more c.args.number f.log f.mentions m c.args.self.now c.note.new.self s c.step.new.self (record {
+            credits = stepped.credits;
+            commands = stepped.after c.in-None.is;
+            units = stepped.units c.in-None.is;
+            called = stepped.called c.in-None.is;
+            controller = stepped.controller c.in-None.is;
+            timeout = stepped.timeout c.in-None.is;
+          }) noted.judge noted.fresh noted.mentions (noted.middle f.log s.middle) (right_told f.log m none)),
+      ap (λ o. f.found ++ listed (finding_by c.args.number f m o)) (none_in f.log m none),
     )
 
-pub returns-in_ok-hear-in-None : goal.returns-in_ok-hear-in-None
-returns-in_ok-hear-in-None g c = λ f s.
-    let rule = broken_after f.log c.args.moment _ _ _ _ _ s.credits s.commands s.units s.controller
-    (sym c.in-None.is ∙ c.in_ok-rule.ensures.rule) in (
-      findings_after c.args.number f c.args.moment,
+pub returns-in_ok-spare-in-Some : goal.returns-in_ok-spare-in-Some
+returns-in_ok-spare-in-Some g c = λ f s.
+    let m = c.args.moment in
+    let broken = broken_after f.log m _ _ _ _ _ s.credits s.commands s.units s.controller
+    (sym c.in-Some.is ∙ c.in_ok-rule.ensures.rule) in
+    let spares = sym (c.spares.ensures f.log s.middle) ∙ c.if-spares.true in
+    let on = subst (λ j. IsOn f.log f.mentions (record c.args.self.now { judge = j }))
+    (sym (kept_then _ _ _ _ c.in-Some.is c.in_ok-rule.ensures.unchanged)) s in (
+      findings_after c.args.number f m,
       refl,
-      advanced c.args.number f.log f.mentions c.args.moment c.args.self.now _ s c.in_ok-rule.ensures.credits
-          (c.in_ok-rule.ensures.after c.in-None.is) (c.in_ok-rule.ensures.units c.in-None.is)
-          (c.in_ok-rule.ensures.called c.in-None.is) (c.in_ok-rule.ensures.controller c.in-None.is)
-          (c.in_ok-rule.ensures.timeout c.in-None.is) refl c.in_ok-hear-in-None.ensures
-          (right_told f.log c.args.moment rule),
-      ap (λ o. f.found ++ listed (finding_by c.args.number f c.args.moment o)) rule,
+      c.in_ok-spare-in-Some.ensures f.log f.mentions on broken spares,
+      ap (λ o. f.found ++ listed (finding_by c.args.number f m o)) (spared_in f.log m c.in-Some.rule broken spares),
+    )
+
+pub returns-in_ok-count-in-Some-2 : goal.returns-in_ok-count-in-Some-2
+returns-in_ok-count-in-Some-2 g c = λ f s.
+    let m = c.args.moment in
+    let on = subst (λ j. IsOn f.log f.mentions (record c.args.self.now { judge = j }))
+    (sym (kept_then _ _ _ _ c.in-Some-2.is c.in_ok-rule.ensures.unchanged)) s in
+    let broken = broken_after f.log m _ _ _ _ _ s.credits s.commands s.units s.controller
+    (sym c.in-Some-2.is ∙ c.in_ok-rule.ensures.rule) in
+    let both : Some c.in-Some.rule ≡ Some c.in-Some-2.rule = sym c.in-Some.is ∙ c.in-Some-2.is in
+    let same : c.in-Some.rule ≡ c.in-Some-2.rule = cc in
+    let asked = ap (spared f.log m) (sym same) ∙ sym (c.spares.ensures f.log s.middle) ∙ c.if-spares.false in
+    let told = counted_told c.args.number f.log f.mentions m c.count.new.self
+    (asked_strange f.log m c.in-Some-2.rule broken asked) in (
+      findings_after c.args.number f m,
+      refl,
+      told (subst (λ x. IsOn (with_counted c.args.number f.log x) (mentions_counted c.args.number f.log f.mentions x)
+          c.count.new.self) c.finding-finding.ensures.moment
+          (c.in_ok-count-in-Some-2.ensures f.log f.mentions on)),
+      ap (λ o. f.found ++ listed o) (c.finding-finding.ensures.found f on
+          (asked_in f.log m c.in-Some-2.rule broken asked)
+          (c.in_ok-rule.ensures.command ∙ ap (λ xs. command_of xs m) s.commands)),
     )

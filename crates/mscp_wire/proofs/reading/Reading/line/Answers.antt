@@ -1,7 +1,7 @@
 use Rattle.std.proofs.Common.{arith, sym, ◌∙◌}
 use Rattle.std.proofs.lemmas.Result.{err_from_is_err_and}
 use Rattle.mscp_wire.proofs.Passing.{line_fails, line_goes}
-use Rattle.mscp_wire.proofs.log.Reading.line.Goals as goal
+use Rattle.mscp_wire.proofs.reading.Reading.line.Goals as goal
 
 pub returns-in_err-said-clause-after : goal.returns-in_err-said-clause-after
 returns-in_err-said-clause-after g c = search (arith, err_from_is_err_and, line_fails)
