@@ -5,7 +5,7 @@ use Rattle.mscpjudge.proofs.telling.tell_ports.Goals as goal
 
 pub loop-port-init : goal.loop-port-init
 loop-port-init c =
-    first_at c.args.extent c.args.log.now c.new-telling.result (c.new-telling.ensures.fault ∙ c.port_fault.ensures)
+    first_at c.args.extent c.args.log.now c.new-telling.result (c.new-telling.ensures.fault ∙ c.in_ok-sections.ensures.fault)
     c.new-telling.ensures.outcome c.new-telling.ensures.text
 
 pub returns-in-Some : goal.returns-in-Some
@@ -16,8 +16,8 @@ returns-in-Some c =
     subst (λ n. Stands n c.args.extent c.args.log.now c.loop-port.telling.fault c.loop-port.telling.told.outcome
     c.loop-port.telling.told.text.items) e c.loop-port.invariant)
 
-pub returns-in-None : goal.returns-in-None
-returns-in-None c =
+pub returns : goal.returns
+returns c =
     subst (λ x. Stands 8 c.args.extent c.args.log.now x c.loop-port.telling.told.outcome
     c.loop-port.telling.told.text.items) c.in-None.is
     (let e : c.loop-port.port ≡ 8 = omega arith in
