@@ -1,13 +1,27 @@
 -- What comes of the lines of a log for the ports, a line more at a time.
-use Rattle.std.proofs.Common.{◌≡◌, ◌≢◌, ℕ, zero, suc, ◌+◌, ◌<◌, arith, nat_eq, Bool, true, false, ◌||◌, if◌then◌else◌, List, [], ◌∷◌, ◌++◌, get_or, length, map, set, refl, sym, ap, subst, ◌∙◌, Option, Some, None, Result, Ok, Err}
+use Rattle.std.proofs.Common.{◌≡◌, ◌≢◌, ℕ, zero, suc, ◌+◌, ◌<◌, arith, nat_eq, nat_lt, Bool, true, false, ◌||◌, if◌then◌else◌, List, [], ◌∷◌, ◌++◌, get_or, length, map, set, refl, sym, ap, subst, ◌∙◌, Option, Some, None, Result, Ok, Err}
 use Rattle.std.proofs.lemmas.Bool.Decides.{nat_tests}
 use Rattle.std.proofs.lemmas.List.{get_or-map, get_or-set_other, get_or-set_same, length-map, map-set}
 use Rattle.std.specs.Result.{OnOk}
-use Rattle.mscpjudge.specs.Ports.{Part, fault_after, fault_in, fault_or, first_fault, have_ports, is_port, line_kind, no_part, part_after, part_at, part_by, part_in, port_after, shown, with_line}
+use Rattle.mscpjudge.specs.Ports.{Part, fault_after, fault_in, fault_or, first_fault, have_ports, is_port, kind_by, kind_in, line_kind, no_part, part_after, part_at, part_by, part_in, port_after, shown, with_line}
+use Rattle.mscp_reader.specs.Lexical.{said, words}
+use Rattle.mscp_reader.specs.declared.fault.Cause.TheVariants as causes
 use Rattle.mscp_reader.specs.declared.fault.ScriptFault.{ScriptFault}
+use Rattle.mscp_wire.specs.Log.{without_time}
 use Rattle.mscpjudge.specs.declared.ports.Kind.{Kind}
 use Rattle.mscpjudge.specs.declared.ports.Kind.TheVariants as kinds
 use Rattle.mscpjudge.specs.declared.ports.Section.{Section}
+
+-- an empty line says nothing, whatever its number
+empty_by : (many : Bool) → kind_in (if many then Err causes.Lines else said []) ≡ kinds.Bare
+unfolding said words kind_by without_time
+empty_by true = refl
+empty_by false = refl
+
+pub kind_empty : (number : ℕ) (line : List ℕ) → length line ≡ 0 → line_kind number line ≡ kinds.Bare
+unfolding line_kind
+kind_empty number [] h = empty_by (nat_lt 1000000 number)
+kind_empty number (b ∷ line) h = absurd (omega arith)
 
 -- whether a line begins with the word `port`
 pub have_more : (n place : ℕ) (line : List ℕ) (rest : List (List ℕ)) → place ≡ n + 1

@@ -107,6 +107,18 @@ pub fn line_kind(number: u32, line: &[u8]) -> Kind
     }
 }
 
+/// The same, which is found at once of an empty line: a log may have many.
+#[tactic(auto, using(crate::proofs::Ported::kind_empty))]
+fn quick_kind(number: u32, line: &[u8]) -> Kind
+    requires { 1 ≤ number }
+    ensures { result ≡ ports.line_kind number line.now }
+{
+    if line.is_empty() {
+        return Kind::Bare;
+    }
+    line_kind(number, line)
+}
+
 /// Whether a line begins with the word `port`.
 fn is_port(kind: Kind) -> bool
     ensures { result ≡ ports.is_port kind }
@@ -287,7 +299,7 @@ pub fn sections_of(alloc: Global, log: &[u8]) -> Result<Sections, OutOfMemory>
     let mut sections = Sections::none(alloc)?;
     let mut at = 0;
     while let Some(line) = lines.cut() {
-        let kind = line_kind(lines.number, line);
+        let kind = quick_kind(lines.number, line);
         sections.line(at, lines.number, kind, line)?;
         at = port_after(at, kind);
     }

@@ -12,7 +12,7 @@ loop-line-preserved c =
     let at = c.loop-line.at in
     let line = c.in-Some.line.now in
     let rest = lines c.cut.new.self.rest.now in
-    let kind = c.line_kind-kind.result in
+    let kind = c.quick_kind-kind.result in
     record {
       long = c.in_ok-line.ensures.long ∙ i.long;
       parts = λ port h.
@@ -21,7 +21,7 @@ loop-line-preserved c =
           ∙ part_more port n place at (part_at c.loop-line.sections.ports.items port) line rest c.in-Some.ensures.counted
           ∙ ap (λ k. part_in port place (port_after at k)
           (part_after port at place k line (part_at c.loop-line.sections.ports.items port)) rest)
-          (sym c.line_kind-kind.ensures)
+          (sym c.quick_kind-kind.ensures)
           ∙ ap (λ a. part_in port place a
           (part_after port at place kind line (part_at c.loop-line.sections.ports.items port)) rest)
           (sym c.port_after-at.ensures)
@@ -33,7 +33,7 @@ loop-line-preserved c =
           ∙ ap (first_fault c.loop-line.sections.fault) (fault_more n place line rest c.in-Some.ensures.counted)
           ∙ first_more c.loop-line.sections.fault place (line_kind place line) (fault_in place rest)
           ∙ ap (λ f. first_fault f (fault_in place rest)) (sym (c.in_ok-line.ensures.fault
-          ∙ ap (λ k. fault_after c.loop-line.sections.fault place k) c.line_kind-kind.ensures));
+          ∙ ap (λ k. fault_after c.loop-line.sections.fault place k) c.quick_kind-kind.ensures));
       count = omega (arith, i.count, c.in-Some.ensures.counted, ap length c.in-Some.ensures.line);
     }
 
