@@ -161,12 +161,13 @@ impl Telling {
     }
 }
 
-/// What is said of a log with ports.
-fn tell_ports(alloc: Global, extent: Extent, log: &[u8]) -> Result<Told, ReadFault>
-    requires { length log.now ≤ 16777216 }
-    ensures { tells.TellsBy true extent result log.now }
+/// What is said of a log with ports, which is let go once the lines of each are known.
+fn tell_ports(alloc: Global, extent: Extent, log: Vec<u8>) -> Result<Told, ReadFault>
+    requires { length log.items ≤ 16777216 }
+    ensures { tells.TellsBy true extent result log.items }
 {
-    let sections = sections_of(alloc, log)?;
+    let sections = sections_of(alloc, &log)?;
+    drop(log);
     let mut telling = Telling::new(alloc, sections.fault);
     for port in 0..8 {
         telling.port(alloc, extent, port, &sections.ports[port as usize])?;
@@ -179,13 +180,13 @@ fn tell_ports(alloc: Global, extent: Extent, log: &[u8]) -> Result<Told, ReadFau
 }
 
 /// What is said of a log. One without ports is judged as it is.
-fn tell(alloc: Global, extent: Extent, log: &[u8]) -> Result<Told, ReadFault>
-    ensures { tells.TellsBy (ports.has_ports log.now) extent result log.now }
+fn tell(alloc: Global, extent: Extent, log: Vec<u8>) -> Result<Told, ReadFault>
+    ensures { tells.TellsBy (ports.has_ports log.items) extent result log.items }
 {
-    if has_ports(log) {
+    if has_ports(&log) {
         tell_ports(alloc, extent, log)
     } else {
-        tell_one(alloc, extent, log, &[])
+        tell_one(alloc, extent, &log, &[])
     }
 }
 
@@ -203,7 +204,7 @@ pub fn judge_captured<R: Source, W: Sink>(
     ensures once { WritesOnce result (W.writes writer.old) (W.writes writer.new) }
 {
     let log = read_all(alloc, reader)?;
-    let told = tell(alloc, extent, &log)?;
+    let told = tell(alloc, extent, log)?;
     writer.write_all(&told.text)?;
     Ok(told.outcome)
 }
