@@ -142,6 +142,24 @@ lines_of_other_ports() {
     wire_is_at_fault 'line 3: long' "$(online 1)" 'port 1' "$(printf '%0201d' 0)" 'port 0' "$(onlined 1 0)"
 }
 
+# A line too many is a fault of each port, though it has few of its own, unless a moment before it isn't right there.
+too_many_lines_of_ports() {
+    local wrong='line 2: not right
+rule of the controller: length
+end: 1 bytes
+length: 1, asked for 12 at least
+manual: an end message is as long as its endcode asks'
+    { printf '%s\n' 'port 3' "$(online 1)" && yes '' | head -n 999998; } >"$room/log"
+    "$program" wire "$room/log" </dev/null | cmp -- - <(port_waits 3; echo) || return
+    echo reset >>"$room/log"
+    "$program" wire "$room/log" </dev/null >"$room/out" 2>"$room/err"
+    [ $? = 1 ] && cmp -- "$room/out" /dev/null && fault_is_explained 'line 1000001: lines' "$room/log" limit_on_wire || return
+    { printf '%s\n' 'port 3' 'end 00' 'port 5' 'end 00' && yes '' | head -n 999997; } >"$room/log"
+    "$program" wire "$room/log" </dev/null | cmp -- - <(printf 'port 3\n%s\nport 5\n%s\n' "$wrong" "${wrong/line 2/line 4}") || return
+    "$program" wire --all "$room/log" </dev/null >"$room/out" 2>"$room/err"
+    [ $? = 1 ] && cmp -- "$room/out" /dev/null && fault_is_explained 'line 1000001: lines' "$room/log" limit_on_wire
+}
+
 # What an end that is too short should have.
 lengths_of_ends() {
     wire_values $'end: endcode 0x82, status 0x0000, command 3 of unit 0, 16 bytes\nlength: 16, asked for 20 at least' \

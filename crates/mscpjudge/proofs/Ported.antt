@@ -1,12 +1,27 @@
 -- What comes of the lines of a log for the ports, a line more at a time.
-use Rattle.std.proofs.Common.{◌≡◌, ℕ, ◌+◌, Bool, false, ◌||◌, List, [], ◌∷◌, ◌++◌, refl, sym, ap, subst, ◌∙◌, append_assoc, Option, None}
-use Rattle.std.specs.List.{flat_map}
-use Rattle.std.proofs.Math.Bool.{or_assoc}
-use Rattle.mscpjudge.specs.Ports.{fault_in, fault_or, have_ports, is_port, line_kind, line_of, lines_of, occurs_in, port_after, shows, with_end}
-use Rattle.mscp_reader.specs.declared.fault.Cause.{Cause}
+use Rattle.std.proofs.Common.{◌≡◌, ◌≢◌, ℕ, zero, suc, ◌+◌, ◌<◌, arith, nat_eq, nat_lt, Bool, true, false, ◌||◌, if◌then◌else◌, List, [], ◌∷◌, ◌++◌, get_or, length, map, set, refl, sym, ap, subst, ◌∙◌, Option, Some, None, Result, Ok, Err}
+use Rattle.std.proofs.lemmas.Bool.Decides.{nat_tests}
+use Rattle.std.proofs.lemmas.List.{get_or-map, get_or-set_other, get_or-set_same, length-map, map-set}
+use Rattle.std.specs.Result.{OnOk}
+use Rattle.mscpjudge.specs.Ports.{Part, fault_after, fault_in, fault_or, first_fault, have_ports, is_port, kind_by, kind_in, line_kind, no_part, part_after, part_at, part_by, part_in, port_after, shown, with_line}
+use Rattle.mscp_reader.specs.Lexical.{said, words}
+use Rattle.mscp_reader.specs.declared.fault.Cause.TheVariants as causes
 use Rattle.mscp_reader.specs.declared.fault.ScriptFault.{ScriptFault}
+use Rattle.mscp_wire.specs.Log.{without_time}
 use Rattle.mscpjudge.specs.declared.ports.Kind.{Kind}
 use Rattle.mscpjudge.specs.declared.ports.Kind.TheVariants as kinds
+use Rattle.mscpjudge.specs.declared.ports.Section.{Section}
+
+-- an empty line says nothing, whatever its number
+empty_by : (many : Bool) → kind_in (if many then Err causes.Lines else said []) ≡ kinds.Bare
+unfolding said words kind_by without_time
+empty_by true = refl
+empty_by false = refl
+
+pub kind_empty : (number : ℕ) (line : List ℕ) → length line ≡ 0 → line_kind number line ≡ kinds.Bare
+unfolding line_kind
+kind_empty number [] h = empty_by (nat_lt 1000000 number)
+kind_empty number (b ∷ line) h = absurd (omega arith)
 
 -- whether a line begins with the word `port`
 pub have_more : (n place : ℕ) (line : List ℕ) (rest : List (List ℕ)) → place ≡ n + 1
@@ -30,58 +45,89 @@ pub fault_none : (n : ℕ) → fault_in n [] ≡ None
 unfolding fault_in
 fault_none n = refl
 
--- a port occurs in a line, or behind it
-pub occurs_more : (port n place at : ℕ) (line : List ℕ) (rest : List (List ℕ)) → place ≡ n + 1
-    → occurs_in port n at (line ∷ rest)
-    ≡ (shows port at (line_kind place line) || occurs_in port place (port_after at (line_kind place line)) rest)
-unfolding occurs_in
-occurs_more port n place at line rest e =
-    subst (λ k. occurs_in port n at (line ∷ rest)
-    ≡ (shows port at (line_kind k line) || occurs_in port k (port_after at (line_kind k line)) rest)) (sym e) refl
+-- what is known so far comes before it
+pub first_more : (old : Option ScriptFault) (number : ℕ) (kind : Kind) (rest : Option ScriptFault)
+    → first_fault old (fault_or number kind rest) ≡ first_fault (fault_after old number kind) rest
+first_more (Some fault) number kind rest = refl
+first_more None number (kinds.Faulty cause) rest = refl
+first_more None number (kinds.Names n) rest = refl
+first_more None number kinds.Bare rest = refl
+first_more None number kinds.Says rest = refl
 
-pub occurs_none : (port n at : ℕ) → occurs_in port n at [] ≡ false
-unfolding occurs_in
-occurs_none port n at = refl
+pub first_none : (old : Option ScriptFault) → first_fault old None ≡ old
+first_none None = refl
+first_none (Some fault) = refl
 
--- the log of a port has one line more
-pub lines_more : (port n place at : ℕ) (line : List ℕ) (rest : List (List ℕ)) → place ≡ n + 1
-    → lines_of port n at (line ∷ rest)
-    ≡ line_of port at (line_kind place line) line ∷ lines_of port place (port_after at (line_kind place line)) rest
-unfolding lines_of
-lines_more port n place at line rest e =
-    subst (λ k. lines_of port n at (line ∷ rest)
-    ≡ line_of port at (line_kind k line) line ∷ lines_of port k (port_after at (line_kind k line)) rest) (sym e) refl
+-- what is known of a port
+pub part_more : (port n place at : ℕ) (part : Part) (line : List ℕ) (rest : List (List ℕ)) → place ≡ n + 1
+    → part_in port n at part (line ∷ rest)
+    ≡ part_in port place (port_after at (line_kind place line))
+    (part_after port at place (line_kind place line) line part) rest
+unfolding part_in
+part_more port n place at part line rest e =
+    subst (λ k. part_in port n at part (line ∷ rest)
+    ≡ part_in port k (port_after at (line_kind k line)) (part_after port at k (line_kind k line) line part) rest)
+    (sym e) refl
 
-pub lines_none : (port n at : ℕ) → lines_of port n at [] ≡ []
-unfolding lines_of
-lines_none port n at = refl
+pub part_none : (port n at : ℕ) (part : Part) → part_in port n at part [] ≡ part
+unfolding part_in
+part_none port n at part = refl
 
--- a line that isn't at fault
-pub not_faulty : (number : ℕ) (kind : Kind) (rest : Option ScriptFault)
-    → ((cause : Cause) → kind ≡ kinds.Faulty cause → ⊥) → fault_or number kind rest ≡ rest
-not_faulty number (kinds.Faulty cause) rest h = absurd (h cause refl)
-not_faulty number kinds.Bare rest h = refl
-not_faulty number kinds.Says rest h = refl
-not_faulty number (kinds.Names n) rest h = refl
+-- ---- the sections of all ports
 
--- a line more stands behind what was made so far
-pub log_more : (port n place at : ℕ) (line : List ℕ) (rest : List (List ℕ)) (all own next : List ℕ) (kind : Kind)
-    → place ≡ n + 1 → kind ≡ line_kind place line → all ≡ own ++ flat_map with_end (lines_of port n at (line ∷ rest))
-    → next ≡ own ++ with_end (line_of port at kind line)
-    → all ≡ next ++ flat_map with_end (lines_of port place (port_after at kind) rest)
-log_more port n place at line rest all own next kind e k h p =
-    h ∙ ap (λ xs. own ++ flat_map with_end xs) (lines_more port n place at line rest e)
-    ∙ ap (λ x. own ++ flat_map with_end (line_of port at x line ∷ lines_of port place (port_after at x) rest)) (sym k)
-    ∙ sym (append_assoc own (with_end (line_of port at kind line))
-    (flat_map with_end (lines_of port place (port_after at kind) rest)))
-    ∙ ap (λ xs. xs ++ flat_map with_end (lines_of port place (port_after at kind) rest)) (sym p)
+-- no line was read
+pub all_none : (xs : List Section) (x : Section) (port : ℕ) → part_by x ≡ no_part
+    → ((q : ℕ) → part_at xs q ≡ no_part) → part_at (xs ++ x ∷ []) port ≡ no_part
+all_none [] x zero e h = e
+all_none [] x (suc n) e h = refl
+all_none (y ∷ ys) x zero e h = h 0
+all_none (y ∷ ys) x (suc n) e h = all_none ys x n e (λ q. h (suc q))
 
--- a port that occurred before a line, in it or behind it
-pub shown_more : (port n place at : ℕ) (line : List ℕ) (rest : List (List ℕ)) (all old new : Bool) (kind : Kind)
-    → place ≡ n + 1 → kind ≡ line_kind place line → all ≡ (old || occurs_in port n at (line ∷ rest))
-    → new ≡ (old || shows port at kind) → all ≡ (new || occurs_in port place (port_after at kind) rest)
-shown_more port n place at line rest all old new kind e k h p =
-    h ∙ ap (λ b. old || b) (occurs_more port n place at line rest e)
-    ∙ ap (λ x. old || (shows port at x || occurs_in port place (port_after at x) rest)) (sym k)
-    ∙ sym (or_assoc old (shows port at kind) (occurs_in port place (port_after at kind) rest))
-    ∙ ap (λ b. b || occurs_in port place (port_after at kind) rest) (sym p)
+-- the section that stands at a place
+pub part_here : (xs : List Section) (at : ℕ) (x : Section) → at < length xs → x ≡ get_or xs at x
+    → part_at xs at ≡ part_by x
+part_here xs at x h e = get_or-map part_by xs at x no_part h ∙ ap part_by (sym e)
+
+-- it is changed, and no other
+pub part_same : (xs : List Section) (at : ℕ) (new : Section) → at < length xs
+    → part_at (set xs at new) at ≡ part_by new
+part_same xs at new h =
+    ap (λ ys. get_or ys at no_part) (map-set part_by xs at new)
+    ∙ get_or-set_same (map part_by xs) at (part_by new) no_part (omega (arith, length-map xs part_by))
+
+pub part_other : (xs : List Section) (at port : ℕ) (new : Section) → port ≢ at
+    → part_at (set xs at new) port ≡ part_at xs port
+part_other xs at port new ne =
+    ap (λ ys. get_or ys port no_part) (map-set part_by xs at new)
+    ∙ get_or-set_other (map part_by xs) at port (part_by new) no_part ne
+
+part_by_test : (xs : List Section) (at port : ℕ) (x new : Section) (f : Part → Part) → at < length xs
+    → x ≡ get_or xs at x → part_by new ≡ f (part_by x) → (b : Bool) → nat_eq at port ≡ b
+    → part_at (set xs at new) port ≡ (if b then f (part_at xs port) else part_at xs port)
+part_by_test xs at port x new f h e p true d =
+    let same : at ≡ port = grind (arith, nat_tests) in
+    subst (λ q. part_at (set xs at new) q ≡ f (part_at xs q)) same
+    (part_same xs at new h ∙ p ∙ ap f (sym (part_here xs at x h e)))
+part_by_test xs at port x new f h e p false d =
+    let ne : port ≢ at = grind (arith, nat_tests) in part_other xs at port new ne
+
+-- one line more
+pub parts_said : (xs : List Section) (at number port : ℕ) (kind : Kind) (line : List ℕ) (x new : Section)
+    → kind ≡ kinds.Says → at < length xs → x ≡ get_or xs at x
+    → part_by new ≡ shown (with_line number line (part_by x))
+    → part_at (set xs at new) port ≡ part_after port at number kind line (part_at xs port)
+parts_said xs at number port kind line x new k h e p =
+    subst (λ y. part_at (set xs at new) port ≡ part_after port at number y line (part_at xs port)) (sym k)
+    (part_by_test xs at port x new (λ part. shown (with_line number line part)) h e p (nat_eq at port) refl)
+
+pub parts_named : (xs : List Section) (at named number port : ℕ) (kind : Kind) (line : List ℕ) (x new : Section)
+    → kind ≡ kinds.Names named → named < length xs → x ≡ get_or xs named x → part_by new ≡ shown (part_by x)
+    → part_at (set xs named new) port ≡ part_after port at number kind line (part_at xs port)
+parts_named xs at named number port kind line x new k h e p =
+    subst (λ y. part_at (set xs named new) port ≡ part_after port at number y line (part_at xs port)) (sym k)
+    (part_by_test xs named port x new shown h e p (nat_eq named port) refl)
+
+-- what follows where a call succeeds
+pub on_ok : {T E : Type 0} (r : Result T E) (P Q : Type 0) → OnOk r P → (P → Q) → OnOk r Q
+on_ok (Ok x) P Q h f = f h
+on_ok (Err x) P Q h f = h

@@ -1,20 +1,20 @@
 -- What is said of the ports below one more.
-use Rattle.std.proofs.Common.{◌≡◌, ◌⊎◌, inl, inr, ℕ, ◌+◌, ◌<◌, ◌≤◌, suc, arith, nat_le, Bool, true, false, if◌then◌else◌, List, [], ◌++◌, length, refl, sym, ap, subst, add-one, Option, Some, None, Result, Ok, Err}
+use Rattle.std.proofs.Common.{◌≡◌, ◌⊎◌, inl, inr, ℕ, ◌+◌, ◌<◌, ◌≤◌, suc, arith, nat_le, Bool, true, false, if◌then◌else◌, List, [], ◌++◌, length, refl, sym, ap, subst, ◌∙◌, add-one, Option, Some, None, Result, Ok, Err}
 use Rattle.std.proofs.lemmas.Bool.Decides.{nat_tests}
 use Rattle.std.proofs.Math.Nat.{eq-or-lt_of_le}
 use Rattle.mscp_reader.specs.declared.fault.ReadFault.{ReadFault}
 use Rattle.mscp_reader.specs.declared.fault.ReadFault.TheVariants as reads
 use Rattle.mscp_reader.specs.declared.fault.ScriptFault.{ScriptFault}
 use Rattle.mscp_script.specs.Whole.{IsFront, most_read}
-use Rattle.mscpjudge.specs.Ports.{has_ports, occurs, port_fault, port_log}
+use Rattle.mscpjudge.specs.Numbers.{fault_by, number_by}
+use Rattle.mscpjudge.specs.Ports.{has_ports, number_in, occurs, part_of, port_fault, port_log}
 use Rattle.mscpjudge.specs.Said.{fault_of_log}
-use Rattle.mscpjudge.specs.Told.{Answers, Goes, IsAt, IsFault, IsFaultBelow, IsFirstBelow, SaysBelow, Stands, TellsBy, TellsOne, TellsWire, earlier, port_text, worse}
+use Rattle.mscpjudge.specs.Told.{Answers, Goes, IsAt, IsFaultAt, IsFaultBelow, IsFirstBelow, SaysBelow, Stands, TellsBy, TellsOne, TellsWire, earlier, port_text, worse}
 use Rattle.mscpjudge.specs.declared.judging.Outcome.{Outcome}
 use Rattle.mscpjudge.specs.declared.judging.Outcome.TheVariants as outcomes
 use Rattle.mscpjudge.specs.declared.telling.Extent.{Extent}
 use Rattle.mscpjudge.specs.declared.telling.Telling.{Telling}
 use Rattle.mscpjudge.specs.declared.telling.Told.{Told}
-use Rattle.std.specs.Result.{OnOk}
 
 -- ---- no port
 
@@ -43,12 +43,12 @@ below_too n extent bytes fault (inr (p, less, is, h)) = inr (p, omega arith, is,
 
 pub below_or_last : (n : ℕ) (extent : Extent) (bytes : List ℕ) (fault : ScriptFault)
     → IsFaultBelow (n + 1) extent bytes fault
-    → IsFaultBelow n extent bytes fault ⊎ ((occurs bytes n ≡ true) × IsFault extent (port_log bytes n) fault)
+    → IsFaultBelow n extent bytes fault ⊎ ((occurs bytes n ≡ true) × IsFaultAt extent bytes n fault)
 below_or_last n extent bytes fault (inl h) = inl (inl h)
 below_or_last n extent bytes fault (inr (p, less, is, h)) =
     elim (below_or_is p n less) [
       | inl before ↦ inl (inr (p, before, is, h))
-      | inr same ↦ inr (subst (λ q. (occurs bytes q ≡ true) × IsFault extent (port_log bytes q) fault) same (is, h))
+      | inr same ↦ inr (subst (λ q. (occurs bytes q ≡ true) × IsFaultAt extent bytes q fault) same (is, h))
     ]
 
 -- ---- what stands
@@ -90,8 +90,8 @@ stands_skipped n extent bytes (Some fault) outcome text e s = (
 
 -- one that is told
 pub stands_told : (n : ℕ) (extent : Extent) (bytes : List ℕ) (fault : Option ScriptFault) (outcome own next : Outcome)
-    (text lines more : List ℕ) → occurs bytes n ≡ true → Answers extent (port_log bytes n) own lines
-    → ((other : ScriptFault) → IsFault extent (port_log bytes n) other → ⊥) → next ≡ worse outcome own
+    (text lines more : List ℕ) → occurs bytes n ≡ true → Answers extent (number_in bytes n) (port_log bytes n) own lines
+    → ((other : ScriptFault) → IsFaultAt extent bytes n other → ⊥) → next ≡ worse outcome own
     → more ≡ text ++ port_text n ++ lines
     → Stands n extent bytes fault outcome text → Stands (n + 1) extent bytes fault next more
 stands_told n extent bytes None outcome own next text lines more e answers none o t s = (
@@ -113,8 +113,8 @@ stands_told n extent bytes (Some fault) outcome own next text lines more e answe
 
 -- one that is at fault
 pub stands_first : (n : ℕ) (extent : Extent) (bytes : List ℕ) (fault : ScriptFault) (outcome : Outcome)
-    (text : List ℕ) → occurs bytes n ≡ true → IsFault extent (port_log bytes n) fault
-    → ((other : ScriptFault) → IsFault extent (port_log bytes n) other → other ≡ fault)
+    (text : List ℕ) → occurs bytes n ≡ true → IsFaultAt extent bytes n fault
+    → ((other : ScriptFault) → IsFaultAt extent bytes n other → other ≡ fault)
     → Stands n extent bytes None outcome text → IsFirstBelow (n + 1) extent bytes fault
 stands_first n extent bytes fault outcome text e is only s = (
   inr (n, omega arith, e, is),
@@ -125,8 +125,8 @@ stands_first n extent bytes fault outcome text e is only s = (
 )
 
 pub stands_earlier : (n : ℕ) (extent : Extent) (bytes : List ℕ) (first fault : ScriptFault) → occurs bytes n ≡ true
-    → IsFault extent (port_log bytes n) fault
-    → ((other : ScriptFault) → IsFault extent (port_log bytes n) other → other ≡ fault)
+    → IsFaultAt extent bytes n fault
+    → ((other : ScriptFault) → IsFaultAt extent bytes n other → other ≡ fault)
     → IsFirstBelow n extent bytes first → (b : Bool) → nat_le first.line fault.line ≡ b
     → IsFirstBelow (n + 1) extent bytes (if b then first else fault)
 stands_earlier n extent bytes first fault e is only s true d = (
@@ -149,8 +149,8 @@ stands_earlier n extent bytes first fault e is only s false d = (
 )
 
 pub stands_fails : (n : ℕ) (extent : Extent) (bytes : List ℕ) (first : Option ScriptFault) (fault : ScriptFault)
-    (outcome : Outcome) (text : List ℕ) → occurs bytes n ≡ true → IsFault extent (port_log bytes n) fault
-    → ((other : ScriptFault) → IsFault extent (port_log bytes n) other → other ≡ fault)
+    (outcome : Outcome) (text : List ℕ) → occurs bytes n ≡ true → IsFaultAt extent bytes n fault
+    → ((other : ScriptFault) → IsFaultAt extent bytes n other → other ≡ fault)
     → Stands n extent bytes first outcome text
     → Stands (n + 1) extent bytes (Some (earlier first fault)) outcome text
 stands_fails n extent bytes None fault outcome text e is only s =
@@ -161,7 +161,7 @@ stands_fails n extent bytes (Some first) fault outcome text e is only s =
 -- ---- the whole
 
 -- what is said of a log without ports
-pub one_is : (extent : Extent) (bytes : List ℕ) (r : Result Told ReadFault) → TellsOne extent r bytes
+pub one_is : (extent : Extent) (bytes : List ℕ) (r : Result Told ReadFault) → TellsOne extent (number_by []) r bytes
     → TellsBy false extent r bytes
 one_is extent bytes (Ok told) h = h.0
 one_is extent bytes (Err (reads.Script fault)) h = h.0
@@ -180,24 +180,31 @@ whole_fails extent reads.OutOfMemory log known old new front h e = e
 
 -- ---- a port more
 
-pub told_at : (n : ℕ) (extent : Extent) (bytes log : List ℕ) (old new : Telling) (told : Told) → log ≡ port_log bytes n
-    → occurs bytes n ≡ true → TellsOne extent (Ok told) log → new.fault ≡ old.fault
+pub told_at : (n : ℕ) (extent : Extent) (bytes log numbers : List ℕ) (old new : Telling) (told : Told)
+    → log ≡ port_log bytes n → numbers ≡ (part_of bytes n).numbers → occurs bytes n ≡ true
+    → TellsOne extent (number_by numbers) (Ok told) log → new.fault ≡ old.fault
     → new.told.outcome ≡ worse old.told.outcome told.outcome
     → new.told.text.items ≡ old.told.text.items ++ port_text n ++ told.text.items → IsAt n extent bytes old
     → IsAt (n + 1) extent bytes new
-told_at n extent bytes log old new told same is one f o t s =
-    let k = subst (λ l. TellsOne extent (Ok told) l) same one in
+told_at n extent bytes log numbers old new told same by is one f o t s =
+    let k = subst (λ l. TellsOne extent (number_in bytes n) (Ok told) l) same
+    (subst (λ x. TellsOne extent (number_by x) (Ok told) log) by one) in
     subst (λ x. Stands (n + 1) extent bytes x new.told.outcome new.told.text.items) (sym f)
     (stands_told n extent bytes old.fault old.told.outcome told.outcome new.told.outcome old.told.text.items
-    told.text.items new.told.text.items is k.0 k.1 o t s)
+    told.text.items new.told.text.items is k.0 (λ other h. k.1 h.0 h.1) o t s)
 
-pub fails_at : (n : ℕ) (extent : Extent) (bytes log : List ℕ) (old new : Telling) (fault : ScriptFault)
-    → log ≡ port_log bytes n → occurs bytes n ≡ true → TellsOne extent (Err (reads.Script fault)) log
-    → new.fault ≡ Some (earlier old.fault fault) → IsAt n extent bytes old → IsAt (n + 1) extent bytes new
-fails_at n extent bytes log old new fault same is one f s =
-    let k = subst (λ l. TellsOne extent (Err (reads.Script fault)) l) same one in
-    subst (λ x. Stands (n + 1) extent bytes x new.told.outcome new.told.text.items) (sym f)
-    (stands_fails n extent bytes old.fault fault old.told.outcome old.told.text.items is k.0 k.1 s)
+pub fails_at : (n : ℕ) (extent : Extent) (bytes log numbers : List ℕ) (old new : Telling) (own : ScriptFault)
+    → log ≡ port_log bytes n → numbers ≡ (part_of bytes n).numbers → occurs bytes n ≡ true
+    → TellsOne extent (number_by numbers) (Err (reads.Script own)) log
+    → new.fault ≡ Some (earlier old.fault (fault_by (number_by numbers) own)) → IsAt n extent bytes old
+    → IsAt (n + 1) extent bytes new
+fails_at n extent bytes log numbers old new own same by is one f s =
+    let k = subst (λ l. TellsOne extent (number_in bytes n) (Err (reads.Script own)) l) same
+    (subst (λ x. TellsOne extent (number_by x) (Err (reads.Script own)) log) by one) in
+    subst (λ x. Stands (n + 1) extent bytes x new.told.outcome new.told.text.items)
+    (sym (f ∙ ap (λ x. Some (earlier old.fault (fault_by (number_by x) own))) by))
+    (stands_fails n extent bytes old.fault (fault_by (number_in bytes n) own) old.told.outcome old.told.text.items is
+    (own, k.0, refl) (λ other h. h.2 ∙ ap (fault_by (number_in bytes n)) (k.1 h.0 h.1)) s)
 
 pub skipped_at : (n : ℕ) (extent : Extent) (bytes : List ℕ) (t : Telling) → occurs bytes n ≡ false
     → IsAt n extent bytes t → IsAt (n + 1) extent bytes t
@@ -208,7 +215,3 @@ pub first_at : (extent : Extent) (bytes : List ℕ) (t : Telling) → t.fault �
 first_at extent bytes t f o x =
     subst (λ y. Stands 0 extent bytes t.fault t.told.outcome y) (sym x)
     (subst (λ y. Stands 0 extent bytes t.fault y []) (sym o) (stands_none extent bytes t.fault f))
-
-pub on_ok : {T E : Type 0} (r : Result T E) (P Q : Type 0) → OnOk r P → (P → Q) → OnOk r Q
-on_ok (Ok x) P Q h f = f h
-on_ok (Err x) P Q h f = h

@@ -21,9 +21,9 @@ use Rattle.mscpjudge.specs.Times.{log_time}
 use Rattle.mscpjudge.specs.Wired.{breach_text, came_text, rule_name, wire_text}
 use Rattle.mscpjudge.specs.declared.credits.Account.{Account}
 
--- the lines of what is found, where lines tell these times
-unfoldable pub finding_text : (ℕ → Option ℕ) → Finding → List ℕ
-finding_text time finding = breach_text time finding.wrong finding.places
+-- the lines of what is found, where lines have these numbers among all, and tell these times
+unfoldable pub finding_text : (ℕ → ℕ) → (ℕ → Option ℕ) → Finding → List ℕ
+finding_text number time finding = breach_text number time finding.wrong finding.places
 
 -- the rule that it breaks
 abbrev pub broken_of : Finding → Rule
@@ -92,26 +92,26 @@ gathered_in before g (line ∷ rest) =
 -- ---- all
 
 -- all that is found
-abbrev pub found_text : (ℕ → Option ℕ) → List Finding → List ℕ
-found_text time found = flat_map (finding_text time) found ++ broken_rules_text (map broken_of found)
+abbrev pub found_text : (ℕ → ℕ) → (ℕ → Option ℕ) → List Finding → List ℕ
+found_text number time found = flat_map (finding_text number time) found ++ broken_rules_text (map broken_of found)
 
 -- what is found in lines, or their first fault
-abbrev pub lines_found : (ℕ → Option ℕ) → List (List ℕ) → Result (List ℕ) ScriptFault
-lines_found time lines = gathered_in 0 nothing_gathered lines >>= λ g. Ok (found_text time g.all)
+abbrev pub lines_found : (ℕ → ℕ) → (ℕ → Option ℕ) → List (List ℕ) → Result (List ℕ) ScriptFault
+lines_found number time lines = gathered_in 0 nothing_gathered lines >>= λ g. Ok (found_text number time g.all)
 
 -- the same of a log
-abbrev pub log_found : List ℕ → Result (List ℕ) ScriptFault
-log_found bytes =
+abbrev pub log_found : (ℕ → ℕ) → List ℕ → Result (List ℕ) ScriptFault
+log_found number bytes =
     if nat_lt 16777216 (length bytes) then Err (record { line = 0; cause = causes.Size })
-    else lines_found (log_time bytes) (lines bytes)
+    else lines_found number (log_time bytes) (lines bytes)
 
 -- what is written of what came of a log: all that is wrong, if something is
-abbrev pub all_text : List ℕ → Result Log Wrong → Result (List ℕ) ScriptFault
-all_text bytes (Ok log) = Ok (came_text bytes (Ok log))
-all_text bytes (Err wrong) = log_found bytes
+abbrev pub all_text : (ℕ → ℕ) → List ℕ → Result Log Wrong → Result (List ℕ) ScriptFault
+all_text number bytes (Ok log) = Ok (came_text number bytes (Ok log))
+all_text number bytes (Err wrong) = log_found number bytes
 
 -- and of a verdict on it
-abbrev pub verdict_found : {A : Type 0} → List ℕ → Verdict A → Result (List ℕ) ScriptFault
-verdict_found bytes (verdicts.Right totals doubts commands) =
-    Ok (wire_text bytes (verdicts.Right totals doubts commands))
-verdict_found bytes (verdicts.Wrong wrong) = log_found bytes
+abbrev pub verdict_found : {A : Type 0} → (ℕ → ℕ) → List ℕ → Verdict A → Result (List ℕ) ScriptFault
+verdict_found number bytes (verdicts.Right totals doubts commands) =
+    Ok (wire_text number bytes (verdicts.Right totals doubts commands))
+verdict_found number bytes (verdicts.Wrong wrong) = log_found number bytes

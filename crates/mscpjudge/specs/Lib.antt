@@ -1,5 +1,6 @@
 pub mod Said
 pub mod Ports
+pub mod Numbers
 pub mod Times
 pub mod Credits
 pub mod Credited

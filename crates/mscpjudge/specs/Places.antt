@@ -7,19 +7,19 @@ use Rattle.mscp_wire.specs.declared.rule.Rule.TheVariants as rules
 use Rattle.mscpjudge.specs.Times.{at_text}
 
 -- a line behind words, if it is known, and its time
-abbrev pub place_text : (ℕ → Option ℕ) → List ℕ → Option ℕ → List ℕ
-place_text time words None = []
-place_text time words (Some line) =
-    words ++ (codes " in line " ++ decimal line) ++ at_text (time line) ++ codes "\n"
+abbrev pub place_text : (ℕ → ℕ) → (ℕ → Option ℕ) → List ℕ → Option ℕ → List ℕ
+place_text number time words None = []
+place_text number time words (Some line) =
+    words ++ (codes " in line " ++ decimal (number line)) ++ at_text (time line) ++ codes "\n"
 
 -- where a moment breaks a rule: of a message only the earlier one of its number, of an end where its command was sent,
 -- and what that passes, or where the figure was told last
-unfoldable pub places_text : (ℕ → Option ℕ) → Rule → Places → List ℕ
-places_text time rules.Message places = []
-places_text time rules.Number places = place_text time (codes "the other was sent") places.sent
-places_text time rules.Credits places = []
-places_text time rules.Order places =
-    place_text time (codes "sent") places.sent ++ place_text time (codes "what it passes was sent") places.passed
-places_text time rules.Figure places =
-    place_text time (codes "sent") places.sent ++ place_text time (codes "the last was told") places.asked
-places_text time rule places = place_text time (codes "sent") places.sent
+unfoldable pub places_text : (ℕ → ℕ) → (ℕ → Option ℕ) → Rule → Places → List ℕ
+places_text number time rules.Message places = []
+places_text number time rules.Number places = place_text number time (codes "the other was sent") places.sent
+places_text number time rules.Credits places = []
+places_text number time rules.Order places =
+    place_text number time (codes "sent") places.sent ++ place_text number time (codes "what it passes was sent") places.passed
+places_text number time rules.Figure places =
+    place_text number time (codes "sent") places.sent ++ place_text number time (codes "the last was told") places.asked
+places_text number time rule places = place_text number time (codes "sent") places.sent

@@ -1,6 +1,5 @@
--- The ports of a machine in a log of the wire: what a line is for them, which of them occur, and the log of each.
-use Rattle.std.specs.Prelude.{ℕ, ◌+◌, ◌-◌, nat_eq, nat_lt, Bool, true, false, ◌||◌, if◌then◌else◌, List, [], ◌∷◌, ◌++◌, codes, length, slice_index, Option, Some, None, Result, Ok, Err}
-use Rattle.std.specs.List.{flat_map}
+-- The ports of a machine in a log of the wire: what a line is for them, which of them occur, and the lines of each.
+use Rattle.std.specs.Prelude.{◌≡◌, ◌<◌, ℕ, ◌+◌, ◌-◌, nat_eq, nat_lt, Bool, true, false, ◌||◌, if◌then◌else◌, List, [], ◌∷◌, ◌++◌, codes, get_or, length, map, slice_index, Option, Some, None, Result, Ok, Err}
 use Rattle.std.specs.Str.{bytes_eq}
 use Rattle.mscp_reader.specs.Grammar.{only_number, said_at}
 use Rattle.mscp_reader.specs.Lexical.{lines}
@@ -8,8 +7,11 @@ use Rattle.mscp_reader.specs.declared.fault.Cause.{Cause}
 use Rattle.mscp_reader.specs.declared.fault.Cause.TheVariants as causes
 use Rattle.mscp_reader.specs.declared.fault.ScriptFault.{ScriptFault}
 use Rattle.mscp_wire.specs.Log.{without_time}
+use Rattle.mscpjudge.specs.Numbers.{number_by}
 use Rattle.mscpjudge.specs.declared.ports.Kind.{Kind}
 use Rattle.mscpjudge.specs.declared.ports.Kind.TheVariants as kinds
+use Rattle.mscpjudge.specs.declared.ports.Section.{Section}
+use Rattle.mscpjudge.specs.declared.ports.Sections.{Sections}
 
 -- ---- a line
 
@@ -25,9 +27,10 @@ kind_by [] = kinds.Bare
 kind_by (word ∷ fields) =
     if bytes_eq word (codes "port") then kind_of_number (only_number fields) else kinds.Says
 
--- one that has no words, since it is at fault, is a line of its port
+-- one that has no words, since it is at fault, is a line of its port; one too many is of none
 abbrev pub kind_in : Result (List (List ℕ)) Cause → Kind
 kind_in (Ok words) = kind_by (without_time words)
+kind_in (Err causes.Lines) = kinds.Bare
 kind_in (Err cause) = kinds.Says
 
 -- what the line of this number is
@@ -68,37 +71,7 @@ fault_in before (line ∷ rest) = fault_or (before + 1) (line_kind (before + 1) 
 abbrev pub port_fault : List ℕ → Option ScriptFault
 port_fault bytes = fault_in 0 (lines bytes)
 
--- a line of this kind shows that a port occurs, where it stands among those of one: it names it, or it is one of its
--- own and says something
-abbrev pub shows : ℕ → ℕ → Kind → Bool
-shows port at (kinds.Names n) = nat_eq n port
-shows port at kinds.Says = nat_eq at port
-shows port at kind = false
-
-unfoldable pub occurs_in : ℕ → ℕ → ℕ → List (List ℕ) → Bool
-occurs_in port before at [] = false
-occurs_in port before at (line ∷ rest) =
-    shows port at (line_kind (before + 1) line)
-    || occurs_in port (before + 1) (port_after at (line_kind (before + 1) line)) rest
-
--- a port occurs in a log. Lines before the first `port` line are of port 0
-abbrev pub occurs : List ℕ → ℕ → Bool
-occurs bytes port = occurs_in port 0 0 (lines bytes)
-
--- ---- the log of a port
-
--- a line as it stands in the log of a port, where it stands among those of one: lines of the other ports are empty
--- there, and so are those that begin with the word `port`
-abbrev pub line_of : ℕ → ℕ → Kind → List ℕ → List ℕ
-line_of port at (kinds.Names n) line = []
-line_of port at (kinds.Faulty cause) line = []
-line_of port at kind line = if nat_eq at port then line else []
-
-unfoldable pub lines_of : ℕ → ℕ → ℕ → List (List ℕ) → List (List ℕ)
-lines_of port before at [] = []
-lines_of port before at (line ∷ rest) =
-    line_of port at (line_kind (before + 1) line) line
-    ∷ lines_of port (before + 1) (port_after at (line_kind (before + 1) line)) rest
+-- ---- the lines of a port
 
 -- a line still has a carriage return at its end
 abbrev pub has_return : List ℕ → Bool
@@ -108,6 +81,77 @@ has_return line = nat_eq (slice_index line (length line - 1)) 13
 abbrev pub with_end : List ℕ → List ℕ
 with_end line = line ++ (if has_return line then 13 ∷ 10 ∷ [] else 10 ∷ [])
 
--- the log of a port: as many lines as all, so that each keeps its number
+-- what is known of a port: the log of its own lines, one behind another; the number that each of them has among all
+-- lines; and whether it occurs
+pub record Part : Type 0 where
+  pub log : List ℕ
+  pub numbers : List ℕ
+  pub occurs : Bool
+
+abbrev pub no_part : Part
+no_part = record { log = []; numbers = []; occurs = false }
+
+-- the line of this number is one of them
+abbrev pub with_line : ℕ → List ℕ → Part → Part
+with_line number line part =
+    record part { log = part.log ++ with_end line; numbers = part.numbers ++ number ∷ [] }
+
+-- the port occurs
+abbrev pub shown : Part → Part
+shown part = record part { occurs = true }
+
+-- once the line of this number was read, where it stands among those of one port: a line that says something is that
+-- port's own, and shows that it occurs, as does one that names it
+abbrev pub part_after : ℕ → ℕ → ℕ → Kind → List ℕ → Part → Part
+part_after port at number kinds.Says line part = if nat_eq at port then shown (with_line number line part) else part
+part_after port at number (kinds.Names n) line part = if nat_eq n port then shown part else part
+part_after port at number kind line part = part
+
+-- the same of lines that so many stand before
+unfoldable pub part_in : ℕ → ℕ → ℕ → Part → List (List ℕ) → Part
+part_in port before at part [] = part
+part_in port before at part (line ∷ rest) =
+    part_in port (before + 1) (port_after at (line_kind (before + 1) line))
+    (part_after port at (before + 1) (line_kind (before + 1) line) line part) rest
+
+-- where there are so many lines: behind the last that is read one is at fault at each port, whatever stands there
+abbrev pub part_end : ℕ → Part → Part
+part_end count part = if nat_lt 1000000 count then with_line 1000001 (codes "?") part else part
+
+-- what is known of a port by a log. Lines before the first `port` line are of port 0
+abbrev pub part_of : List ℕ → ℕ → Part
+part_of bytes port = part_end (length (lines bytes)) (part_in port 0 0 no_part (lines bytes))
+
+-- it occurs; its log; and the number that a line of this has among all lines
+abbrev pub occurs : List ℕ → ℕ → Bool
+occurs bytes port = (part_of bytes port).occurs
+
 abbrev pub port_log : List ℕ → ℕ → List ℕ
-port_log bytes port = flat_map with_end (lines_of port 0 0 (lines bytes))
+port_log bytes port = (part_of bytes port).log
+
+abbrev pub number_in : List ℕ → ℕ → ℕ → ℕ
+number_in bytes port = number_by (part_of bytes port).numbers
+
+-- ---- what is kept
+
+-- the first fault so far, or else that of the lines behind
+abbrev pub first_fault : Option ScriptFault → Option ScriptFault → Option ScriptFault
+first_fault None rest = rest
+first_fault (Some fault) rest = Some fault
+
+-- once the line of this number was read
+abbrev pub fault_after : Option ScriptFault → ℕ → Kind → Option ScriptFault
+fault_after old number kind = first_fault old (fault_or number kind None)
+
+abbrev pub part_by : Section → Part
+part_by section = record { log = section.log.items; numbers = section.numbers.items; occurs = section.occurs }
+
+-- what is known of a port by the sections of all
+abbrev pub part_at : List Section → ℕ → Part
+part_at sections port = get_or (map part_by sections) port no_part
+
+-- what is known of each port by a log
+pub record IsSorted (bytes : List ℕ) (sections : Sections) : Type 0 where
+  pub long : length sections.ports.items ≡ 8
+  pub parts : (port : ℕ) → port < 8 → part_at sections.ports.items port ≡ part_of bytes port
+  pub fault : sections.fault ≡ port_fault bytes

@@ -140,41 +140,42 @@ after_lines before t (line ∷ rest) =
 -- ---- what is written
 
 -- from which line to which
-unfoldable pub lines_text : Span → List ℕ
-lines_text span =
-    (codes ", from line " ++ decimal span.first) ++ (codes " to line " ++ decimal span.last) ++ codes ": "
+unfoldable pub lines_text : ℕ → ℕ → List ℕ
+lines_text first last =
+    (codes ", from line " ++ decimal first) ++ (codes " to line " ++ decimal last) ++ codes ": "
 
--- a time behind a word, from which line to which, and of which command
-abbrev pub told_text : List ℕ → Span → List ℕ
-told_text word span = word ++ seconds_text span.time ++ lines_text span ++ command_text span.command
+-- a time behind a word, from which line to which, and of which command, where lines have these numbers among all
+abbrev pub told_text : (ℕ → ℕ) → List ℕ → Span → List ℕ
+told_text number word span =
+    word ++ seconds_text span.time ++ lines_text (number span.first) (number span.last) ++ command_text span.command
 
 -- the same, if there is one
-unfoldable pub span_text : List ℕ → Option Span → List ℕ
-span_text word None = []
-span_text word (Some span) = told_text word span
+unfoldable pub span_text : (ℕ → ℕ) → List ℕ → Option Span → List ℕ
+span_text number word None = []
+span_text number word (Some span) = told_text number word span
 
 -- how many polls were hasty, if some were
 abbrev pub hasty_text : ℕ → List ℕ
 hasty_text count = if nat_eq count 0 then [] else codes "hasty polls: " ++ decimal count ++ codes "\n"
 
-unfoldable pub spans_text : Option Span → Option Span → ℕ → List ℕ
-spans_text longest poll hasty =
-    span_text (codes "longest: ") longest ++ span_text (codes "longest poll: ") poll ++ hasty_text hasty
+unfoldable pub spans_text : (ℕ → ℕ) → Option Span → Option Span → ℕ → List ℕ
+spans_text number longest poll hasty =
+    span_text number (codes "longest: ") longest ++ span_text number (codes "longest poll: ") poll ++ hasty_text hasty
 
-abbrev pub timed_text : Timed → List ℕ
-timed_text t = spans_text t.longest t.poll t.hasty
+abbrev pub timed_text : (ℕ → ℕ) → Timed → List ℕ
+timed_text number t = spans_text number t.longest t.poll t.hasty
 
 -- a byte is '@', with which each time begins
 abbrev pub is_at : ℕ → Bool
 is_at b = b == 64
 
 -- the lines of the times of a log, if it tells some and isn't too large
-abbrev pub lines_timed : List ℕ → List ℕ
-lines_timed bytes =
-    if nat_lt 16777216 (length bytes) then [] else timed_text (after_lines 0 nothing_timed (lines bytes))
+abbrev pub lines_timed : (ℕ → ℕ) → List ℕ → List ℕ
+lines_timed number bytes =
+    if nat_lt 16777216 (length bytes) then [] else timed_text number (after_lines 0 nothing_timed (lines bytes))
 
-unfoldable pub timing_text : List ℕ → List ℕ
-timing_text bytes = if list_any is_at bytes then lines_timed bytes else []
+unfoldable pub timing_text : (ℕ → ℕ) → List ℕ → List ℕ
+timing_text number bytes = if list_any is_at bytes then lines_timed number bytes else []
 
 -- ---- what is kept
 

@@ -11,7 +11,8 @@ use Rattle.mscp_wire.specs.declared.log.Verdict.{Verdict}
 use Rattle.mscp_wire.specs.declared.wrong.Wrong.{Wrong}
 use Rattle.mscpjudge.specs.Credited.{ComesOf}
 use Rattle.mscpjudge.specs.Found.{all_text, verdict_found}
-use Rattle.mscpjudge.specs.Ports.{has_ports, occurs, port_fault, port_log}
+use Rattle.mscpjudge.specs.Numbers.{fault_by, number_by}
+use Rattle.mscpjudge.specs.Ports.{has_ports, number_in, occurs, port_fault, port_log}
 use Rattle.mscpjudge.specs.Wired.{came_outcome, came_text, wire_text}
 use Rattle.mscpjudge.specs.declared.fault.Fault.{Fault}
 use Rattle.mscpjudge.specs.declared.fault.Fault.TheVariants as faults
@@ -24,35 +25,38 @@ use Rattle.mscpjudge.specs.declared.telling.Told.{Told}
 
 -- ---- one log
 
--- what is written of what came of a log: the first moment that isn't right, or all that is wrong
-abbrev pub extent_text : Extent → List ℕ → Result Log Wrong → Result (List ℕ) ScriptFault
-extent_text extents.First log came = Ok (came_text log came)
-extent_text extents.All log came = all_text log came
+-- what is written of what came of a log, whose lines have these numbers among all: the first moment that isn't right,
+-- or all that is wrong
+abbrev pub extent_text : Extent → (ℕ → ℕ) → List ℕ → Result Log Wrong → Result (List ℕ) ScriptFault
+extent_text extents.First number log came = Ok (came_text number log came)
+extent_text extents.All number log came = all_text number log came
 
 -- and of a verdict on it
-abbrev pub verdict_by : {A : Type 0} → Extent → List ℕ → Verdict A → Result (List ℕ) ScriptFault
-verdict_by extents.First log verdict = Ok (wire_text log verdict)
-verdict_by extents.All log verdict = verdict_found log verdict
+abbrev pub verdict_by : {A : Type 0} → Extent → (ℕ → ℕ) → List ℕ → Verdict A → Result (List ℕ) ScriptFault
+verdict_by extents.First number log verdict = Ok (wire_text number log verdict)
+verdict_by extents.All number log verdict = verdict_found number log verdict
 
 -- a log is judged so, and these lines say it
-abbrev pub Answers : Extent → List ℕ → Outcome → List ℕ → Type 0
-Answers extent log outcome text =
+abbrev pub Answers : Extent → (ℕ → ℕ) → List ℕ → Outcome → List ℕ → Type 0
+Answers extent number log outcome text =
     (came : Result Log Wrong) × ComesOf log (Ok came) × (outcome ≡ came_outcome came)
-    × (extent_text extent log came ≡ Ok text)
+    × (extent_text extent number log came ≡ Ok text)
 
--- or it has this fault: the first, unless a moment before it isn't right, or one behind such a moment
-abbrev pub IsFault : Extent → List ℕ → ScriptFault → Type 0
-IsFault extent log fault =
+-- or it has this fault, in the line of this number in it: the first, unless a moment before it isn't right, or one
+-- behind such a moment
+abbrev pub IsFault : Extent → (ℕ → ℕ) → List ℕ → ScriptFault → Type 0
+IsFault extent number log fault =
     ComesOf log (Err fault)
-    ⊎ ((came : Result Log Wrong) × ComesOf log (Ok came) × (extent_text extent log came ≡ Err fault))
+    ⊎ ((came : Result Log Wrong) × ComesOf log (Ok came) × (extent_text extent number log came ≡ Err fault))
 
 -- what was returned of a log is what is said of it, unless memory ran out, and nothing else is
-abbrev pub TellsOne : Extent → Result Told ReadFault → List ℕ → Type 0
-TellsOne extent (Ok told) log =
-    Answers extent log told.outcome told.text.items × ((fault : ScriptFault) → IsFault extent log fault → ⊥)
-TellsOne extent (Err (reads.Script fault)) log =
-    IsFault extent log fault × ((other : ScriptFault) → IsFault extent log other → other ≡ fault)
-TellsOne extent (Err reads.OutOfMemory) log = Unit {0}
+abbrev pub TellsOne : Extent → (ℕ → ℕ) → Result Told ReadFault → List ℕ → Type 0
+TellsOne extent number (Ok told) log =
+    Answers extent number log told.outcome told.text.items
+    × ((fault : ScriptFault) → IsFault extent number log fault → ⊥)
+TellsOne extent number (Err (reads.Script fault)) log =
+    IsFault extent number log fault × ((other : ScriptFault) → IsFault extent number log other → other ≡ fault)
+TellsOne extent number (Err reads.OutOfMemory) log = Unit {0}
 
 -- ---- ports
 
@@ -75,7 +79,7 @@ pub record IsTold (extent : Extent) (bytes : List ℕ) (port : ℕ) (before : Li
     (text : List ℕ) : Type 0 where
   pub own : Outcome
   pub lines : List ℕ
-  pub answers : Answers extent (port_log bytes port) own lines
+  pub answers : Answers extent (number_in bytes port) (port_log bytes port) own lines
   pub outcome_is : outcome ≡ worse others own
   pub text_is : text ≡ before ++ port_text port ++ lines
 
@@ -91,11 +95,17 @@ SaysBelow (suc port) extent bytes outcome text =
     (others : Outcome) × (before : List ℕ) × SaysBelow port extent bytes others before
     × Goes (occurs bytes port) extent bytes port before others outcome text
 
+-- a fault of the log of a port, by the number of its line among all
+abbrev pub IsFaultAt : Extent → List ℕ → ℕ → ScriptFault → Type 0
+IsFaultAt extent bytes port fault =
+    (own : ScriptFault) × IsFault extent (number_in bytes port) (port_log bytes port) own
+    × (fault ≡ fault_by (number_in bytes port) own)
+
 -- a fault of a line that begins with the word `port`, or of the log of a port below this one
 abbrev pub IsFaultBelow : ℕ → Extent → List ℕ → ScriptFault → Type 0
 IsFaultBelow port extent bytes fault =
     (port_fault bytes ≡ Some fault)
-    ⊎ ((p : ℕ) × (p < port) × (occurs bytes p ≡ true) × IsFault extent (port_log bytes p) fault)
+    ⊎ ((p : ℕ) × (p < port) × (occurs bytes p ≡ true) × IsFaultAt extent bytes p fault)
 
 -- no other stands in a line before it
 abbrev pub IsFirstBelow : ℕ → Extent → List ℕ → ScriptFault → Type 0
@@ -105,9 +115,9 @@ IsFirstBelow port extent bytes fault =
 
 -- ---- the whole
 
--- a log is judged so, and these lines say it: of each of the eight ports that occurs, and none has a fault
+-- a log is judged so, and these lines say it: without ports as it stands, and else of each of the eight ports that occurs, and none has a fault
 abbrev pub SaysBy : Bool → Extent → List ℕ → Outcome → List ℕ → Type 0
-SaysBy false extent bytes outcome text = Answers extent bytes outcome text
+SaysBy false extent bytes outcome text = Answers extent (number_by []) bytes outcome text
 SaysBy true extent bytes outcome text =
     SaysBelow 8 extent bytes outcome text × ((fault : ScriptFault) → IsFaultBelow 8 extent bytes fault → ⊥)
 
@@ -116,7 +126,7 @@ SaysAll extent bytes outcome text = SaysBy (has_ports bytes) extent bytes outcom
 
 -- or this is its fault: the first one of all ports
 abbrev pub FailsBy : Bool → Extent → List ℕ → ScriptFault → Type 0
-FailsBy false extent bytes fault = IsFault extent bytes fault
+FailsBy false extent bytes fault = IsFault extent (number_by []) bytes fault
 FailsBy true extent bytes fault = IsFirstBelow 8 extent bytes fault
 
 abbrev pub FailsAll : Extent → List ℕ → ScriptFault → Type 0

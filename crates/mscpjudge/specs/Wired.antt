@@ -112,74 +112,78 @@ rule_line rule = codes "rule of the " ++ breaker_name rule ++ codes ": " ++ rule
 abbrev pub manual_line : Rule → List ℕ
 manual_line rule = codes "manual: " ++ rule_text rule ++ codes "\n"
 
--- which line isn't right, and its time
-unfoldable pub line_text : (ℕ → Option ℕ) → ℕ → List ℕ
-line_text time line = (codes "line " ++ decimal line) ++ at_text (time line) ++ codes ": not right\n"
+-- which line isn't right, and its time, where lines have these numbers among all, and tell these times
+unfoldable pub line_text : (ℕ → ℕ) → (ℕ → Option ℕ) → ℕ → List ℕ
+line_text number time line = (codes "line " ++ decimal (number line)) ++ at_text (time line) ++ codes ": not right\n"
 
--- the lines of a moment that isn't right, where lines tell these times
-abbrev pub breach_text : (ℕ → Option ℕ) → Wrong → Places → List ℕ
-breach_text time wrong places =
-    line_text time wrong.line ++ rule_line wrong.rule ++ meant_text wrong.command ++ told_text wrong.moment
+-- the lines of a moment that isn't right
+abbrev pub breach_text : (ℕ → ℕ) → (ℕ → Option ℕ) → Wrong → Places → List ℕ
+breach_text number time wrong places =
+    line_text number time wrong.line ++ rule_line wrong.rule ++ meant_text wrong.command ++ told_text wrong.moment
     ++ against_text wrong.rule wrong.moment wrong.command wrong.passed wrong.seen
-    ++ places_text time wrong.rule places
+    ++ places_text number time wrong.rule places
 
 -- and those of a log that isn't
-abbrev pub broken_text : (ℕ → Option ℕ) → Wrong → Places → List ℕ
-broken_text time wrong places = breach_text time wrong places ++ manual_line wrong.rule
+abbrev pub broken_text : (ℕ → ℕ) → (ℕ → Option ℕ) → Wrong → Places → List ℕ
+broken_text number time wrong places = breach_text number time wrong places ++ manual_line wrong.rule
 
 -- the end of a line about the command of a moment, if it has one
 abbrev pub answered_text : Option Sent → List ℕ
 answered_text None = codes "\n"
 answered_text (Some s) = codes ": " ++ command_text s
 
--- the line of the doubts of one kind, if there are any: how many, and the first
-abbrev pub first_text : List ℕ → ℕ → Option Found → List ℕ
-first_text kind count None = []
-first_text kind count (Some found) =
-    (codes "doubt: " ++ decimal count) ++ codes " " ++ kind ++ (codes ", first in line " ++ decimal found.line)
-    ++ answered_text found.command
+-- the line of the doubts of one kind: how many, and the line and the command of the first
+abbrev pub first_in : List ℕ → ℕ → ℕ → Option Sent → List ℕ
+first_in kind count line command =
+    (codes "doubt: " ++ decimal count) ++ codes " " ++ kind ++ (codes ", first in line " ++ decimal line)
+    ++ answered_text command
 
-unfoldable pub doubt_text : List ℕ → Doubt → List ℕ
-doubt_text kind doubt = first_text kind doubt.count doubt.first
+-- the same, if there are any
+abbrev pub first_text : (ℕ → ℕ) → List ℕ → ℕ → Option Found → List ℕ
+first_text number kind count None = []
+first_text number kind count (Some found) = first_in kind count (number found.line) found.command
+
+unfoldable pub doubt_text : (ℕ → ℕ) → List ℕ → Doubt → List ℕ
+doubt_text number kind doubt = first_text number kind doubt.count doubt.first
 
 -- the lines of all kinds
-abbrev pub doubts_text : Doubts → List ℕ
-doubts_text doubts =
+abbrev pub doubts_text : (ℕ → ℕ) → Doubts → List ℕ
+doubts_text number doubts =
     -- two identities are told of a unit, and nothing between may have changed it
-    doubt_text (codes "identity") doubts.identity
+    doubt_text number (codes "identity") doubts.identity
     -- a transfer succeeds past the size of its unit and its replacement and caching table
-    ++ doubt_text (codes "size") doubts.size
+    ++ doubt_text number (codes "size") doubts.size
     -- a status has a code that such a command has no use for
-    ++ doubt_text (codes "status") doubts.status
+    ++ doubt_text number (codes "status") doubts.status
     -- a WRITE or an ERASE succeeds of a unit that is protected from writing
-    ++ doubt_text (codes "protection") doubts.protection
+    ++ doubt_text number (codes "protection") doubts.protection
     -- two units that are online have one identifier
-    ++ doubt_text (codes "identifier") doubts.identifier
+    ++ doubt_text number (codes "identifier") doubts.identifier
     -- a GET UNIT STATUS that asks for the next unit passes one that is there
-    ++ doubt_text (codes "next unit") doubts.next
+    ++ doubt_text number (codes "next unit") doubts.next
     -- in a log that begins in the middle a figure doesn't fall
-    ++ doubt_text (codes "figure") doubts.figure
+    ++ doubt_text number (codes "figure") doubts.figure
 
 -- the lines of the totals of a log of these bytes, and of its times
-unfoldable pub counted_text : List ℕ → Totals → List ℕ
-counted_text bytes totals = totals_text totals ++ timing_text bytes
+unfoldable pub counted_text : (ℕ → ℕ) → List ℕ → Totals → List ℕ
+counted_text number bytes totals = totals_text totals ++ timing_text number bytes
 
 -- the lines of what came of it
-abbrev pub came_text : List ℕ → Result Log Wrong → List ℕ
-came_text bytes (Ok log) =
-    counted_text bytes (totals_of log.moments) ++ doubts_text (doubts_of log)
+abbrev pub came_text : (ℕ → ℕ) → List ℕ → Result Log Wrong → List ℕ
+came_text number bytes (Ok log) =
+    counted_text number bytes (totals_of log.moments) ++ doubts_text number (doubts_of log)
     ++ flat_map outstanding_text (outstanding log.moments)
-came_text bytes (Err wrong) = broken_text (log_time bytes) wrong (places_in bytes)
+came_text number bytes (Err wrong) = broken_text number (log_time bytes) wrong (places_in bytes)
 
 abbrev pub came_outcome : Result Log Wrong → Outcome
 came_outcome (Ok log) = outcomes.Legal
 came_outcome (Err wrong) = outcomes.Wrong
 
 -- the lines of a verdict, and how the log is judged by it
-abbrev pub wire_text : {A : Type 0} → List ℕ → Verdict A → List ℕ
-wire_text bytes (verdicts.Right totals doubts commands) =
-    counted_text bytes totals ++ doubts_text doubts ++ flat_map outstanding_text commands.items
-wire_text bytes (verdicts.Wrong wrong) = broken_text (log_time bytes) wrong (places_in bytes)
+abbrev pub wire_text : {A : Type 0} → (ℕ → ℕ) → List ℕ → Verdict A → List ℕ
+wire_text number bytes (verdicts.Right totals doubts commands) =
+    counted_text number bytes totals ++ doubts_text number doubts ++ flat_map outstanding_text commands.items
+wire_text number bytes (verdicts.Wrong wrong) = broken_text number (log_time bytes) wrong (places_in bytes)
 
 abbrev pub wire_outcome : {A : Type 0} → Verdict A → Outcome
 wire_outcome (verdicts.Right totals doubts commands) = outcomes.Legal

@@ -6,6 +6,7 @@ ghost use Rattle.mscp_reader.specs.Outcome.{Tells};
 ghost use Rattle.mscpjudge.specs.Common.{breaks, broken_of, broken_rules_text, finding_text, lines_found, log_found};
 ghost use Rattle.mscpjudge.specs.Found as found;
 ghost use Rattle.mscpjudge.specs.Found.{found_beside};
+ghost use Rattle.mscpjudge.specs.Numbers.{number_by};
 ghost use Rattle.mscpjudge.specs.Times.{time_of};
 
 use crate::credits::Account;
@@ -91,9 +92,10 @@ fn put_finding(
     text: &mut Vec<u8>,
     broken: &mut Vec<Rule>,
     finding: &Finding,
-    times: &Times,
+    times: &Times<'_>,
 ) -> Result<(), OutOfMemory>
-    ensures text { OnOk result (text.new.items ≡ text.old.items ++ finding_text (time_of times.now.lines) finding.now) }
+    ensures text { OnOk result (text.new.items ≡ text.old.items
+        ++ finding_text (number_by times.now.numbers.now) (time_of times.now.lines) finding.now) }
     ensures broken { OnOk result (broken.new.items ≡ broken.old.items ++ broken_of finding.now ∷ []) }
 {
     put_wrong(text, &finding.wrong, &finding.places, times)?;
@@ -120,9 +122,9 @@ fn found_beside(found: Option<Finding>, breach: Option<Wrong>) -> Option<Finding
 }
 
 /// What is found in lines.
-fn find_lines(alloc: Global, lines: &mut Lines<'_>, times: &Times) -> Result<Vec<u8>, ReadFault>
+fn find_lines(alloc: Global, lines: &mut Lines<'_>, times: &Times<'_>) -> Result<Vec<u8>, ReadFault>
     requires { lines.old.number ≡ 0 }
-    ensures { Tells (λ text. text.items) result (lines_found (time_of times.now.lines)
+    ensures { Tells (λ text. text.items) result (lines_found (number_by times.now.numbers.now) (time_of times.now.lines)
         (lexical.lines lines.old.rest.now)) }
 {
     let mut course = Course::new(alloc);
@@ -141,20 +143,25 @@ fn find_lines(alloc: Global, lines: &mut Lines<'_>, times: &Times) -> Result<Vec
 }
 
 /// What is found in a log.
-fn find_all(alloc: Global, bytes: &[u8]) -> Result<Vec<u8>, ReadFault>
-    ensures { Tells (λ text. text.items) result (log_found bytes.now) }
+fn find_all(alloc: Global, bytes: &[u8], numbers: &[u32]) -> Result<Vec<u8>, ReadFault>
+    ensures { Tells (λ text. text.items) result (log_found (number_by numbers.now) bytes.now) }
 {
     let mut lines = lines_of(bytes)?;
-    let times = times_in(alloc, bytes)?;
+    let times = times_in(alloc, bytes, numbers)?;
     find_lines(alloc, &mut lines, &times)
 }
 
 /// What is said of a log of which this is the verdict.
-pub fn all_of(alloc: Global, log: &[u8], verdict: &Verdict<Global>) -> Result<Vec<u8>, ReadFault>
-    ensures { Tells (λ text. text.items) result (found.verdict_found log.now verdict.now) }
+pub fn all_of(
+    alloc: Global,
+    log: &[u8],
+    numbers: &[u32],
+    verdict: &Verdict<Global>,
+) -> Result<Vec<u8>, ReadFault>
+    ensures { Tells (λ text. text.items) result (found.verdict_found (number_by numbers.now) log.now verdict.now) }
 {
     match verdict {
-        Verdict::Right(..) => Ok(text_of(alloc, log, verdict)?),
-        Verdict::Wrong(_) => find_all(alloc, log),
+        Verdict::Right(..) => Ok(text_of(alloc, log, numbers, verdict)?),
+        Verdict::Wrong(_) => find_all(alloc, log, numbers),
     }
 }

@@ -14,6 +14,7 @@ mod finding;
 mod hearing;
 mod judging;
 mod lengths;
+mod numbers;
 mod places;
 mod ports;
 mod showing;

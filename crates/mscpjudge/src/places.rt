@@ -2,8 +2,10 @@
 
 ghost use Rattle.std.specs.Prelude.{◌≡◌, ◌++◌, OnOk};
 ghost use Rattle.mscpjudge.specs.Common.{place_text, places_text};
+ghost use Rattle.mscpjudge.specs.Numbers.{number_by};
 ghost use Rattle.mscpjudge.specs.Times.{time_of};
 
+use crate::numbers::number_of;
 use crate::time::put_at;
 use crate::times::Times;
 use mscp_text::{put, put_field};
@@ -15,14 +17,15 @@ fn put_place<A: Allocator>(
     text: &mut Vec<u8, A>,
     words: &str,
     line: Option<u32>,
-    times: &Times,
+    times: &Times<'_>,
 ) -> Result<(), AllocError>
-    ensures { OnOk result (text.new.items ≡ text.old.items ++ place_text (time_of times.now.lines) words.now line) }
+    ensures { OnOk result (text.new.items ≡ text.old.items
+        ++ place_text (number_by times.now.numbers.now) (time_of times.now.lines) words.now line) }
 {
     match line {
         Some(line) => {
             put(text, words)?;
-            put_field(text, " in line ", line)?;
+            put_field(text, " in line ", number_of(times.numbers, line))?;
             put_at(text, times.at(line))?;
             put(text, "\n")
         }
@@ -36,9 +39,10 @@ pub fn put_places<A: Allocator>(
     text: &mut Vec<u8, A>,
     rule: Rule,
     places: &Places,
-    times: &Times,
+    times: &Times<'_>,
 ) -> Result<(), AllocError>
-    ensures { OnOk result (text.new.items ≡ text.old.items ++ places_text (time_of times.now.lines) rule places.now) }
+    ensures { OnOk result (text.new.items ≡ text.old.items
+        ++ places_text (number_by times.now.numbers.now) (time_of times.now.lines) rule places.now) }
 {
     match rule {
         Rule::Message | Rule::Credits => Ok(()),

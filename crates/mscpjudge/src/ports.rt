@@ -1,15 +1,17 @@
 // The ports of a machine in a log of the wire. A line `port N` says that the lines behind it went over the wire of that port.
-// Each port is judged by a log of its own, in which all other lines are empty. Without such a line nothing of this is made.
+// Each port is judged by a log of its own lines alone, and they are told by the numbers that they have among all: so eight
+// ports cost no more than one. Without such a line nothing of this is made.
 
-ghost use Rattle.std.specs.Prelude.{◌≡◌, ◌≤◌, ◌<◌, ◌++◌, ◌∷◌, length, IfOk, OnOk};
+ghost use Rattle.std.specs.Prelude.{◌≡◌, ◌≤◌, ◌<◌, ◌++◌, ◌∷◌, ℕ, codes, length, None, IfOk, OnOk};
 ghost use Rattle.mscp_reader.specs.Lexical as lexical;
 ghost use Rattle.mscp_reader.specs.Grammar.{only_number};
 ghost use Rattle.mscp_wire.specs.Log.{without_time};
 ghost use Rattle.mscpjudge.specs.Ports as ports;
 
-use mscp_reader::{Cause, Lines, ScriptFault, Words, lines_of, wide, words_of};
+use mscp_controller::OutOfMemory;
+use mscp_reader::{Cause, Lines, MOST_LINES, ScriptFault, Words, lines_of, wide, words_of};
 use mscp_wire::is_time;
-use std::alloc::{AllocError, Allocator};
+use std::alloc::{AllocError, Global};
 
 /// What a line of a log is for the ports.
 #[derive(Clone, Copy)]
@@ -24,11 +26,19 @@ pub enum Kind {
     Says,
 }
 
-/// The log of a port, and whether the port occurs in the log of all.
+/// What is known of a port: the log of its own lines, their numbers among all lines, and whether the port occurs.
 #[derive(Drop)]
-pub struct Section<A: Allocator> {
-    pub log: Vec<u8, A>,
+pub struct Section {
+    pub log: Vec<u8>,
+    pub numbers: Vec<u32>,
     pub occurs: bool,
+}
+
+/// The same of each port, and the first fault of a line that names one.
+#[derive(Drop)]
+pub struct Sections {
+    pub ports: Vec<Section>,
+    pub fault: Option<ScriptFault>,
 }
 
 /// The one number that is left.
@@ -92,8 +102,21 @@ pub fn line_kind(number: u32, line: &[u8]) -> Kind
 {
     match words_of(number, line) {
         Ok(words) => kind_in(words),
+        Err(fault) if fault.cause == Cause::Lines => Kind::Bare,
         Err(_) => Kind::Says,
     }
+}
+
+/// The same, which is found at once of an empty line: a log may have many.
+#[tactic(auto, using(crate::proofs::Ported::kind_empty))]
+fn quick_kind(number: u32, line: &[u8]) -> Kind
+    requires { 1 ≤ number }
+    ensures { result ≡ ports.line_kind number line.now }
+{
+    if line.is_empty() {
+        return Kind::Bare;
+    }
+    line_kind(number, line)
 }
 
 /// Whether a line begins with the word `port`.
@@ -136,44 +159,6 @@ pub fn has_ports(log: &[u8]) -> bool
     }
 }
 
-/// The first fault of a line that begins so.
-pub fn port_fault(log: &[u8]) -> Option<ScriptFault>
-    requires { length log.now ≤ 16777216 }
-    ensures { result ≡ ports.port_fault log.now }
-{
-    let mut lines = Lines::new(log);
-    while let Some(line) = lines.cut() {
-        if let Kind::Faulty(cause) = line_kind(lines.number, line) {
-            return Some(ScriptFault {
-                line: lines.number,
-                cause,
-            });
-        }
-    }
-    None
-}
-
-/// Whether a line of this kind shows that a port occurs, where it stands among those of one.
-fn shows(port: u32, at: u32, kind: Kind) -> bool
-    ensures { result ≡ ports.shows port at kind }
-{
-    match kind {
-        Kind::Names(named) => named == port,
-        Kind::Says => at == port,
-        _ => false,
-    }
-}
-
-/// A line as it stands in the log of a port.
-fn line_of(port: u32, at: u32, kind: Kind, line: &[u8]) -> &[u8]
-    ensures { result.now ≡ ports.line_of port at kind line.now }
-{
-    match kind {
-        Kind::Bare | Kind::Says if at == port => line,
-        _ => &[],
-    }
-}
-
 /// Whether a line still has a carriage return at its end.
 fn has_return(line: &[u8]) -> bool
     ensures { result ≡ ports.has_return line.now }
@@ -182,7 +167,7 @@ fn has_return(line: &[u8]) -> bool
 }
 
 /// Appends a line and its end.
-fn put_line<A: Allocator>(log: &mut Vec<u8, A>, line: &[u8]) -> Result<(), AllocError>
+fn put_line(log: &mut Vec<u8>, line: &[u8]) -> Result<(), AllocError>
     ensures { OnOk result (log.new.items ≡ log.old.items ++ ports.with_end line.now) }
 {
     log.extend_from_slice(line)?;
@@ -193,21 +178,131 @@ fn put_line<A: Allocator>(log: &mut Vec<u8, A>, line: &[u8]) -> Result<(), Alloc
     }
 }
 
-/// The log of a port, in one pass over the log of all.
-pub fn section_of<A: Allocator>(alloc: A, log: &[u8], port: u32) -> Result<Section<A>, AllocError>
+/// The first fault of a line that names a port, once a line more was read.
+fn fault_after(old: Option<ScriptFault>, number: u32, kind: Kind) -> Option<ScriptFault>
+    ensures { result ≡ ports.fault_after old number kind }
+{
+    match (old, kind) {
+        (None, Kind::Faulty(cause)) => Some(ScriptFault {
+            line: number,
+            cause,
+        }),
+        (old, _) => old,
+    }
+}
+
+impl Section {
+    /// Of no line.
+    fn none(alloc: Global) -> Section
+        ensures { ports.part_by result ≡ ports.no_part }
+    {
+        Section {
+            log: Vec::new(alloc),
+            numbers: Vec::new(alloc),
+            occurs: false,
+        }
+    }
+
+    /// The line of this number is one of the port.
+    fn put(&mut self, number: u32, line: &[u8]) -> Result<(), AllocError>
+        ensures { OnOk result (ports.part_by self.new ≡ ports.with_line number line.now (ports.part_by self.old)) }
+    {
+        put_line(&mut self.log, line)?;
+        self.numbers.push(number)?;
+        Ok(())
+    }
+
+    /// The same of one that shows that the port occurs.
+    fn say(&mut self, number: u32, line: &[u8]) -> Result<(), AllocError>
+        ensures { OnOk result (ports.part_by self.new
+            ≡ ports.shown (ports.with_line number line.now (ports.part_by self.old))) }
+    {
+        self.put(number, line)?;
+        self.occurs = true;
+        Ok(())
+    }
+}
+
+impl Sections {
+    /// Of no line.
+    fn none(alloc: Global) -> Result<Sections, AllocError>
+        ensures long { IfOk result (λ sections. length sections.ports.items ≡ 8) }
+        ensures parts { IfOk result (λ sections. (port : ℕ) → port < 8
+            → ports.part_at sections.ports.items port ≡ ports.no_part) }
+        ensures fault { IfOk result (λ sections. sections.fault ≡ None) }
+    {
+        let mut sections = Vec::new(alloc);
+        for _port in 0..8u32 {
+            sections.push(Section::none(alloc))?;
+        }
+        Ok(Sections {
+            ports: sections,
+            fault: None,
+        })
+    }
+
+    /// Once the line of this number was read, which stands among those of a port.
+    fn line(&mut self, at: u32, number: u32, kind: Kind, line: &[u8]) -> Result<(), AllocError>
+        ensures parts { OnOk result ((port : ℕ) → port < length self.old.ports.items
+            → ports.part_at self.new.ports.items port
+            ≡ ports.part_after port at number kind line.now (ports.part_at self.old.ports.items port)) }
+        ensures long { length self.new.ports.items ≡ length self.old.ports.items }
+        ensures fault { self.new.fault ≡ ports.fault_after self.old.fault number kind }
+    {
+        self.fault = fault_after(self.fault, number, kind);
+        match kind {
+            Kind::Says if (at as usize) < self.ports.len() => {
+                self.ports[at as usize].say(number, line)
+            }
+            Kind::Names(port) if (port as usize) < self.ports.len() => {
+                self.ports[port as usize].occurs = true;
+                Ok(())
+            }
+            _ => Ok(()),
+        }
+    }
+
+    /// Behind the last line that is read, one is at fault at each port.
+    fn end(&mut self) -> Result<(), AllocError>
+        ensures parts { OnOk result ((port : ℕ) → port < length self.old.ports.items
+            → ports.part_at self.new.ports.items port
+            ≡ ports.with_line 1000001 (codes "?") (ports.part_at self.old.ports.items port)) }
+        ensures long { OnOk result (length self.new.ports.items ≡ length self.old.ports.items) }
+        ensures fault { self.new.fault ≡ self.old.fault }
+    {
+        for place in 0..self.ports.len() {
+            self.ports[place].put(MOST_LINES + 1, b"?".as_slice())?;
+        }
+        Ok(())
+    }
+
+    /// Once all lines were read, of which there are so many.
+    fn close(&mut self, count: u32) -> Result<(), AllocError>
+        ensures parts { OnOk result ((port : ℕ) → port < length self.old.ports.items
+            → ports.part_at self.new.ports.items port ≡ ports.part_end count (ports.part_at self.old.ports.items port)) }
+        ensures long { OnOk result (length self.new.ports.items ≡ length self.old.ports.items) }
+        ensures fault { self.new.fault ≡ self.old.fault }
+    {
+        if count > MOST_LINES {
+            return self.end();
+        }
+        Ok(())
+    }
+}
+
+/// What is known of each port by a log: one pass over it.
+pub fn sections_of(alloc: Global, log: &[u8]) -> Result<Sections, OutOfMemory>
     requires { length log.now ≤ 16777216 }
-    ensures log { IfOk result (λ section. section.log.items ≡ ports.port_log log.now port) }
-    ensures occurs { IfOk result (λ section. section.occurs ≡ ports.occurs log.now port) }
+    ensures { IfOk result (λ sections. ports.IsSorted log.now sections) }
 {
     let mut lines = Lines::new(log);
-    let mut own = Vec::new(alloc);
-    let mut occurs = false;
+    let mut sections = Sections::none(alloc)?;
     let mut at = 0;
     while let Some(line) = lines.cut() {
-        let kind = line_kind(lines.number, line);
-        occurs |= shows(port, at, kind);
-        put_line(&mut own, line_of(port, at, kind, line))?;
+        let kind = quick_kind(lines.number, line);
+        sections.line(at, lines.number, kind, line)?;
         at = port_after(at, kind);
     }
-    Ok(Section { log: own, occurs })
+    sections.close(lines.number)?;
+    Ok(sections)
 }

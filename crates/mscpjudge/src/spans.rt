@@ -1,8 +1,10 @@
 // How the times of a log are written: the longest of a command and of a poll, and how many polls were hasty.
 
 ghost use Rattle.std.specs.Prelude.{◌≡◌, ◌++◌, OnOk};
+ghost use Rattle.mscpjudge.specs.Numbers.{number_by};
 ghost use Rattle.mscpjudge.specs.Timing as timings;
 
+use crate::numbers::number_of;
 use crate::time::put_seconds;
 use crate::timing::Span;
 use crate::wire::put_command;
@@ -11,21 +13,31 @@ use std::alloc::{AllocError, Allocator};
 
 /// Appends from which line to which.
 #[tactic(auto, unfolding(crate::specs::Timing::lines_text))]
-fn put_lines<A: Allocator>(text: &mut Vec<u8, A>, span: &Span) -> Result<(), AllocError>
-    ensures { OnOk result (text.new.items ≡ text.old.items ++ timings.lines_text span.now) }
+fn put_lines<A: Allocator>(text: &mut Vec<u8, A>, first: u32, last: u32) -> Result<(), AllocError>
+    ensures { OnOk result (text.new.items ≡ text.old.items ++ timings.lines_text first last) }
 {
-    put_field(text, ", from line ", span.first)?;
-    put_field(text, " to line ", span.last)?;
+    put_field(text, ", from line ", first)?;
+    put_field(text, " to line ", last)?;
     put(text, ": ")
 }
 
 /// Appends a time behind a word, from which line to which, and of which command.
-fn put_told<A: Allocator>(text: &mut Vec<u8, A>, word: &str, span: &Span) -> Result<(), AllocError>
-    ensures { OnOk result (text.new.items ≡ text.old.items ++ timings.told_text word.now span.now) }
+fn put_told<A: Allocator>(
+    text: &mut Vec<u8, A>,
+    word: &str,
+    span: &Span,
+    numbers: &[u32],
+) -> Result<(), AllocError>
+    ensures { OnOk result (text.new.items ≡ text.old.items
+        ++ timings.told_text (number_by numbers.now) word.now span.now) }
 {
     put(text, word)?;
     put_seconds(text, span.time)?;
-    put_lines(text, span)?;
+    put_lines(
+        text,
+        number_of(numbers, span.first),
+        number_of(numbers, span.last),
+    )?;
     put_command(text, &span.command)
 }
 
@@ -35,11 +47,13 @@ fn put_span<A: Allocator>(
     text: &mut Vec<u8, A>,
     word: &str,
     span: &Option<Span>,
+    numbers: &[u32],
 ) -> Result<(), AllocError>
-    ensures { OnOk result (text.new.items ≡ text.old.items ++ timings.span_text word.now span.now) }
+    ensures { OnOk result (text.new.items ≡ text.old.items
+        ++ timings.span_text (number_by numbers.now) word.now span.now) }
 {
     match span {
-        Some(span) => put_told(text, word, span),
+        Some(span) => put_told(text, word, span, numbers),
         None => Ok(()),
     }
 }
@@ -62,10 +76,12 @@ pub fn put_spans<A: Allocator>(
     longest: &Option<Span>,
     poll: &Option<Span>,
     hasty: u32,
+    numbers: &[u32],
 ) -> Result<(), AllocError>
-    ensures { OnOk result (text.new.items ≡ text.old.items ++ timings.spans_text longest.now poll.now hasty) }
+    ensures { OnOk result (text.new.items ≡ text.old.items
+        ++ timings.spans_text (number_by numbers.now) longest.now poll.now hasty) }
 {
-    put_span(text, "longest: ", longest)?;
-    put_span(text, "longest poll: ", poll)?;
+    put_span(text, "longest: ", longest, numbers)?;
+    put_span(text, "longest poll: ", poll, numbers)?;
     put_hasty(text, hasty)
 }

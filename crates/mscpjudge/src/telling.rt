@@ -3,6 +3,7 @@
 ghost use Rattle.std.specs.Prelude.{◌≡◌, ◌≤◌, ◌+◌, ◌++◌, ℕ, List, [], length, true, false, OnOk};
 ghost use Rattle.mscp_reader.specs.Outcome.{Tells};
 ghost use Rattle.mscpjudge.specs.Common.{WritesOnce};
+ghost use Rattle.mscpjudge.specs.Numbers.{number_by};
 ghost use Rattle.mscpjudge.specs.Ports as ports;
 ghost use Rattle.mscpjudge.specs.Told as tells;
 
@@ -10,7 +11,8 @@ use crate::credited::judge_credited;
 use crate::fault::Fault;
 use crate::finding::all_of;
 use crate::judging::Outcome;
-use crate::ports::{has_ports, port_fault, section_of};
+use crate::numbers::fault_of;
+use crate::ports::{Section, has_ports, sections_of};
 use crate::wire::{text_of, wire_outcome};
 use mscp_controller::OutOfMemory;
 use mscp_reader::{ReadFault, ScriptFault};
@@ -47,22 +49,24 @@ fn text_by(
     alloc: Global,
     extent: Extent,
     log: &[u8],
+    numbers: &[u32],
     verdict: &Verdict<Global>,
 ) -> Result<Vec<u8>, ReadFault>
-    ensures { Tells (λ text. text.items) result (tells.verdict_by extent log.now verdict.now) }
+    ensures { Tells (λ text. text.items) result (tells.verdict_by extent (number_by numbers.now) log.now
+        verdict.now) }
 {
     match extent {
-        Extent::First => Ok(text_of(alloc, log, verdict)?),
-        Extent::All => all_of(alloc, log, verdict),
+        Extent::First => Ok(text_of(alloc, log, numbers, verdict)?),
+        Extent::All => all_of(alloc, log, numbers, verdict),
     }
 }
 
-/// What is said of one log.
-fn tell_one(alloc: Global, extent: Extent, log: &[u8]) -> Result<Told, ReadFault>
-    ensures { tells.TellsOne extent result log.now }
+/// What is said of one log, whose lines have these numbers among all. A fault has the number of its line in it.
+fn tell_one(alloc: Global, extent: Extent, log: &[u8], numbers: &[u32]) -> Result<Told, ReadFault>
+    ensures { tells.TellsOne extent (number_by numbers.now) result log.now }
 {
     let verdict = judge_credited(alloc, log)?;
-    let text = text_by(alloc, extent, log, &verdict)?;
+    let text = text_by(alloc, extent, log, numbers, &verdict)?;
     let outcome = wire_outcome(&verdict);
     Ok(Told { outcome, text })
 }
@@ -117,20 +121,23 @@ impl Telling {
         Ok(())
     }
 
-    /// What is said of the log of a port that occurs.
+    /// What is said of a port that occurs.
     fn section(
         &mut self,
         alloc: Global,
         extent: Extent,
         port: u32,
-        log: &[u8],
+        section: &Section,
     ) -> Result<(), OutOfMemory>
-        ensures { OnOk result ((bytes : List ℕ) → ports.occurs bytes port ≡ true → log.now ≡ ports.port_log bytes port
-            → tells.IsAt port extent bytes self.old → tells.IsAt (port + 1) extent bytes self.new) }
+        ensures { OnOk result ((bytes : List ℕ) → ports.part_by section.now ≡ ports.part_of bytes port
+            → ports.occurs bytes port ≡ true → tells.IsAt port extent bytes self.old
+            → tells.IsAt (port + 1) extent bytes self.new) }
     {
-        match tell_one(alloc, extent, log) {
+        match tell_one(alloc, extent, &section.log, &section.numbers) {
             Ok(told) => self.put(port, &told)?,
-            Err(ReadFault::Script(fault)) => self.fault = Some(earlier(self.fault, fault)),
+            Err(ReadFault::Script(fault)) => {
+                self.fault = Some(earlier(self.fault, fault_of(&section.numbers, fault)));
+            }
             Err(ReadFault::OutOfMemory) => return Err(OutOfMemory),
         }
         Ok(())
@@ -142,28 +149,28 @@ impl Telling {
         alloc: Global,
         extent: Extent,
         port: u32,
-        log: &[u8],
+        section: &Section,
     ) -> Result<(), OutOfMemory>
-        requires { length log.now ≤ 16777216 }
-        ensures { OnOk result (tells.IsAt port extent log.now self.old
-            → tells.IsAt (port + 1) extent log.now self.new) }
+        ensures { OnOk result ((bytes : List ℕ) → ports.part_by section.now ≡ ports.part_of bytes port
+            → tells.IsAt port extent bytes self.old → tells.IsAt (port + 1) extent bytes self.new) }
     {
-        let section = section_of(alloc, log, port)?;
         if section.occurs {
-            return self.section(alloc, extent, port, &section.log);
+            return self.section(alloc, extent, port, section);
         }
         Ok(())
     }
 }
 
-/// What is said of a log with ports.
-fn tell_ports(alloc: Global, extent: Extent, log: &[u8]) -> Result<Told, ReadFault>
-    requires { length log.now ≤ 16777216 }
-    ensures { tells.TellsBy true extent result log.now }
+/// What is said of a log with ports, which is let go once the lines of each are known.
+fn tell_ports(alloc: Global, extent: Extent, log: Vec<u8>) -> Result<Told, ReadFault>
+    requires { length log.items ≤ 16777216 }
+    ensures { tells.TellsBy true extent result log.items }
 {
-    let mut telling = Telling::new(alloc, port_fault(log));
+    let sections = sections_of(alloc, &log)?;
+    drop(log);
+    let mut telling = Telling::new(alloc, sections.fault);
     for port in 0..8 {
-        telling.port(alloc, extent, port, log)?;
+        telling.port(alloc, extent, port, &sections.ports[port as usize])?;
     }
     let Telling { told, fault } = telling;
     match fault {
@@ -173,13 +180,13 @@ fn tell_ports(alloc: Global, extent: Extent, log: &[u8]) -> Result<Told, ReadFau
 }
 
 /// What is said of a log. One without ports is judged as it is.
-fn tell(alloc: Global, extent: Extent, log: &[u8]) -> Result<Told, ReadFault>
-    ensures { tells.TellsBy (ports.has_ports log.now) extent result log.now }
+fn tell(alloc: Global, extent: Extent, log: Vec<u8>) -> Result<Told, ReadFault>
+    ensures { tells.TellsBy (ports.has_ports log.items) extent result log.items }
 {
-    if has_ports(log) {
+    if has_ports(&log) {
         tell_ports(alloc, extent, log)
     } else {
-        tell_one(alloc, extent, log)
+        tell_one(alloc, extent, &log, &[])
     }
 }
 
@@ -197,7 +204,7 @@ pub fn judge_captured<R: Source, W: Sink>(
     ensures once { WritesOnce result (W.writes writer.old) (W.writes writer.new) }
 {
     let log = read_all(alloc, reader)?;
-    let told = tell(alloc, extent, &log)?;
+    let told = tell(alloc, extent, log)?;
     writer.write_all(&told.text)?;
     Ok(told.outcome)
 }

@@ -1,4 +1,5 @@
-// The times of a log's lines, by the numbers of these: made only of a log that isn't right.
+// The times of a log's lines, by the numbers of these in it, and the numbers that they have among all lines: made only of a
+// log that isn't right.
 
 ghost use Rattle.std.specs.Prelude.{◌≡◌, IfOk};
 ghost use Rattle.mscp_reader.specs.Lexical as lexical;
@@ -10,19 +11,22 @@ use mscp_reader::{Lines, lines_of};
 use std::alloc::Global;
 use std::collections::BTreeMap;
 
-/// The times of lines, by their numbers.
+/// The times of lines, by their numbers, and the numbers that these are told by.
 #[derive(Drop)]
-pub struct Times {
+pub struct Times<'a> {
     pub lines: BTreeMap<u32, u64>,
+    pub numbers: &'a [u32],
 }
 
-impl Times {
+impl<'a> Times<'a> {
     /// Of no line.
-    fn none(alloc: Global) -> Times
-        ensures { told.time_of result.lines ≡ told.no_time }
+    fn none(alloc: Global, numbers: &'a [u32]) -> Times<'a>
+        ensures times { told.time_of result.lines ≡ told.no_time }
+        ensures numbers { result.numbers.now ≡ numbers.now }
     {
         Times {
             lines: BTreeMap::new(alloc),
+            numbers,
         }
     }
 
@@ -35,12 +39,17 @@ impl Times {
 }
 
 /// The times of these lines.
-fn times_of(alloc: Global, lines: &mut Lines<'_>) -> Result<Times, OutOfMemory>
+fn times_of<'a>(
+    alloc: Global,
+    lines: &mut Lines<'_>,
+    numbers: &'a [u32],
+) -> Result<Times<'a>, OutOfMemory>
     requires { lines.old.number ≡ 0 }
-    ensures { IfOk result (λ times. told.time_of times.lines
+    ensures times { IfOk result (λ times. told.time_of times.lines
         ≡ told.lines_time 0 (lexical.lines lines.old.rest.now)) }
+    ensures numbers { IfOk result (λ times. times.numbers.now ≡ numbers.now) }
 {
-    let mut times = Times::none(alloc);
+    let mut times = Times::none(alloc, numbers);
     while let Some(line) = lines.cut() {
         if let Some(time) = line_time(lines.number, line) {
             times.lines.insert(lines.number, time)?;
@@ -50,11 +59,12 @@ fn times_of(alloc: Global, lines: &mut Lines<'_>) -> Result<Times, OutOfMemory>
 }
 
 /// The times of a log.
-pub fn times_in(alloc: Global, log: &[u8]) -> Result<Times, OutOfMemory>
-    ensures { IfOk result (λ times. told.time_of times.lines ≡ told.log_time log.now) }
+pub fn times_in<'a>(alloc: Global, log: &[u8], numbers: &'a [u32]) -> Result<Times<'a>, OutOfMemory>
+    ensures times { IfOk result (λ times. told.time_of times.lines ≡ told.log_time log.now) }
+    ensures numbers { IfOk result (λ times. times.numbers.now ≡ numbers.now) }
 {
     match lines_of(log) {
-        Ok(mut lines) => times_of(alloc, &mut lines),
-        Err(_) => Ok(Times::none(alloc)),
+        Ok(mut lines) => times_of(alloc, &mut lines, numbers),
+        Err(_) => Ok(Times::none(alloc, numbers)),
     }
 }

@@ -8,6 +8,7 @@ ghost use Rattle.std.specs.Prelude.{Result};
 ghost use Rattle.mscp_wire.specs.declared.line.Said.{Said};
 ghost use Rattle.mscp_reader.specs.declared.fault.Cause.{Cause};
 ghost use Rattle.mscp_wire.specs.Wire.{is_hasty, key, later_of};
+ghost use Rattle.mscpjudge.specs.Numbers.{number_by};
 ghost use Rattle.mscpjudge.specs.Timing as timings;
 
 use crate::spans::put_spans;
@@ -46,7 +47,8 @@ pub struct Timing {
     pub hasty: u32,
 }
 
-/// Whether a log tells a time: each begins with '@'.
+/// Whether a log tells a time: each begins with '@'. The loop is quicker where it isn't made part of another function.
+#[inline(never)]
 fn has_times(log: &[u8]) -> bool
     ensures { result ≡ list_any timings.is_at log.now }
 {
@@ -342,13 +344,18 @@ fn timing_of(alloc: Global, lines: &mut Lines<'_>) -> Result<Timing, AllocError>
 }
 
 /// Appends the lines of the times of a log that isn't too large.
-fn put_timed(alloc: Global, text: &mut Vec<u8>, log: &[u8]) -> Result<(), AllocError>
-    ensures { OnOk result (text.new.items ≡ text.old.items ++ timings.lines_timed log.now) }
+fn put_timed(
+    alloc: Global,
+    text: &mut Vec<u8>,
+    log: &[u8],
+    numbers: &[u32],
+) -> Result<(), AllocError>
+    ensures { OnOk result (text.new.items ≡ text.old.items ++ timings.lines_timed (number_by numbers.now) log.now) }
 {
     match lines_of(log) {
         Ok(mut lines) => {
             let timing = timing_of(alloc, &mut lines)?;
-            put_spans(text, &timing.longest, &timing.poll, timing.hasty)
+            put_spans(text, &timing.longest, &timing.poll, timing.hasty, numbers)
         }
         Err(_) => Ok(()),
     }
@@ -356,11 +363,16 @@ fn put_timed(alloc: Global, text: &mut Vec<u8>, log: &[u8]) -> Result<(), AllocE
 
 /// The same, if it tells some.
 #[tactic(auto, unfolding(crate::specs::Timing::timing_text))]
-pub fn put_timing(alloc: Global, text: &mut Vec<u8>, log: &[u8]) -> Result<(), AllocError>
-    ensures { OnOk result (text.new.items ≡ text.old.items ++ timings.timing_text log.now) }
+pub fn put_timing(
+    alloc: Global,
+    text: &mut Vec<u8>,
+    log: &[u8],
+    numbers: &[u32],
+) -> Result<(), AllocError>
+    ensures { OnOk result (text.new.items ≡ text.old.items ++ timings.timing_text (number_by numbers.now) log.now) }
 {
     if has_times(log) {
-        put_timed(alloc, text, log)
+        put_timed(alloc, text, log, numbers)
     } else {
         Ok(())
     }

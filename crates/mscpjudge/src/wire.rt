@@ -4,11 +4,13 @@ ghost use Rattle.std.specs.Prelude.{◌≡◌, ◌++◌, OnOk, IfOk};
 ghost use Rattle.mscpjudge.specs.Common.{flat_map, breach_text, breaker_name, broken_text, command_text, connection_name, meant_text, opcode_name, outstanding_text, wire_outcome, wire_text};
 ghost use Rattle.mscp_wire.specs.Course.{places_in};
 ghost use Rattle.mscpjudge.specs.Commands as commands;
+ghost use Rattle.mscpjudge.specs.Numbers.{number_by};
 ghost use Rattle.mscpjudge.specs.Times.{log_time, time_of};
 ghost use Rattle.mscpjudge.specs.Wired as wired;
 
 use crate::doubts::put_doubts;
 use crate::judging::Outcome;
+use crate::numbers::number_of;
 use crate::places::put_places;
 use crate::time::put_at;
 use crate::times::{Times, times_in};
@@ -224,10 +226,15 @@ fn put_manual<A: Allocator>(text: &mut Vec<u8, A>, rule: Rule) -> Result<(), All
 
 /// Appends which line isn't right, and its time.
 #[tactic(auto, unfolding(crate::specs::Wired::line_text))]
-fn put_line<A: Allocator>(text: &mut Vec<u8, A>, line: u32, times: &Times) -> Result<(), AllocError>
-    ensures { OnOk result (text.new.items ≡ text.old.items ++ wired.line_text (time_of times.now.lines) line) }
+fn put_line<A: Allocator>(
+    text: &mut Vec<u8, A>,
+    line: u32,
+    times: &Times<'_>,
+) -> Result<(), AllocError>
+    ensures { OnOk result (text.new.items ≡ text.old.items
+        ++ wired.line_text (number_by times.now.numbers.now) (time_of times.now.lines) line) }
 {
-    put_field(text, "line ", line)?;
+    put_field(text, "line ", number_of(times.numbers, line))?;
     put_at(text, times.at(line))?;
     put(text, ": not right\n")
 }
@@ -237,10 +244,10 @@ pub fn put_wrong<A: Allocator>(
     text: &mut Vec<u8, A>,
     wrong: &Wrong,
     places: &Places,
-    times: &Times,
+    times: &Times<'_>,
 ) -> Result<(), AllocError>
     ensures { OnOk result (text.new.items ≡ text.old.items
-        ++ breach_text (time_of times.now.lines) wrong.now places.now) }
+        ++ breach_text (number_by times.now.numbers.now) (time_of times.now.lines) wrong.now places.now) }
 {
     put_line(text, wrong.line, times)?;
     put_rule(text, wrong.rule)?;
@@ -255,12 +262,14 @@ fn put_broken(
     alloc: Global,
     text: &mut Vec<u8>,
     log: &[u8],
+    numbers: &[u32],
     wrong: &Wrong,
 ) -> Result<(), OutOfMemory>
-    ensures { OnOk result (text.new.items ≡ text.old.items ++ broken_text (log_time log.now) wrong.now (places_in log.now)) }
+    ensures { OnOk result (text.new.items ≡ text.old.items
+        ++ broken_text (number_by numbers.now) (log_time log.now) wrong.now (places_in log.now)) }
 {
     let places = places_in(alloc, log)?;
-    let times = times_in(alloc, log)?;
+    let times = times_in(alloc, log, numbers)?;
     put_wrong(text, wrong, &places, &times)?;
     put_manual(text, wrong.rule)?;
     Ok(())
@@ -272,12 +281,14 @@ fn put_counted(
     alloc: Global,
     text: &mut Vec<u8>,
     log: &[u8],
+    numbers: &[u32],
     totals: &Totals,
 ) -> Result<(), AllocError>
-    ensures { OnOk result (text.new.items ≡ text.old.items ++ wired.counted_text log.now totals.now) }
+    ensures { OnOk result (text.new.items ≡ text.old.items
+        ++ wired.counted_text (number_by numbers.now) log.now totals.now) }
 {
     put_totals(text, totals)?;
-    put_timing(alloc, text, log)
+    put_timing(alloc, text, log, numbers)
 }
 
 /// Appends the lines of a verdict on a log.
@@ -285,27 +296,33 @@ fn put_verdict(
     alloc: Global,
     text: &mut Vec<u8>,
     log: &[u8],
+    numbers: &[u32],
     verdict: &Verdict<Global>,
 ) -> Result<(), OutOfMemory>
-    ensures { OnOk result (text.new.items ≡ text.old.items ++ wire_text log.now verdict.now) }
+    ensures { OnOk result (text.new.items ≡ text.old.items ++ wire_text (number_by numbers.now) log.now verdict.now) }
 {
     match verdict {
         Verdict::Right(totals, doubts, commands) => {
-            put_counted(alloc, text, log, totals)?;
-            put_doubts(text, doubts)?;
+            put_counted(alloc, text, log, numbers, totals)?;
+            put_doubts(text, doubts, numbers)?;
             put_outstanding(text, commands.as_slice())?;
             Ok(())
         }
-        Verdict::Wrong(wrong) => put_broken(alloc, text, log, wrong),
+        Verdict::Wrong(wrong) => put_broken(alloc, text, log, numbers, wrong),
     }
 }
 
 /// The lines of a verdict on a log.
-pub fn text_of(alloc: Global, log: &[u8], verdict: &Verdict<Global>) -> Result<Vec<u8>, OutOfMemory>
-    ensures { IfOk result (λ text. text.items ≡ wire_text log.now verdict.now) }
+pub fn text_of(
+    alloc: Global,
+    log: &[u8],
+    numbers: &[u32],
+    verdict: &Verdict<Global>,
+) -> Result<Vec<u8>, OutOfMemory>
+    ensures { IfOk result (λ text. text.items ≡ wire_text (number_by numbers.now) log.now verdict.now) }
 {
     let mut text = Vec::new(alloc);
-    put_verdict(alloc, &mut text, log, verdict)?;
+    put_verdict(alloc, &mut text, log, numbers, verdict)?;
     Ok(text)
 }
 

@@ -3,6 +3,7 @@ use Rattle.std.specs.List.{flat_map}
 use Rattle.mscp_reader.specs.Lexical.{lines}
 use Rattle.mscp_wire.specs.Course.{IsOn}
 use Rattle.mscpjudge.specs.Found.{Gathered, broken_of, finding_text, gathered_in, nothing_gathered}
+use Rattle.mscpjudge.specs.Numbers.{number_by}
 use Rattle.mscpjudge.specs.Times.{time_of}
 use Rattle.mscpjudge.proofs.finding.find_lines.Given as goal
 
@@ -12,7 +13,7 @@ invariant-loop-line l = record {
   on : IsOn gathered.told.log gathered.told.mentions l.course;
   fresh : gathered.told.found ≡ [];
   account : l.account ≡ gathered.account;
-  text : l.text.items ≡ flat_map (finding_text (time_of l.times.lines)) gathered.all;
+  text : l.text.items ≡ flat_map (finding_text (number_by l.times.numbers.now) (time_of l.times.lines)) gathered.all;
   broken : l.broken.items ≡ map broken_of gathered.all;
   read : gathered_in 0 nothing_gathered (lines l.fn.lines.rest.now)
       ≡ gathered_in l.lines.number gathered (lines l.lines.rest.now);

@@ -1,14 +1,15 @@
-use Rattle.std.proofs.Common.{sym, ◌∙◌}
-use Rattle.mscpjudge.proofs.Standing.{on_ok, skipped_at}
+use Rattle.std.proofs.Common.{sym, ap, ◌∙◌}
+use Rattle.mscpjudge.specs.Ports.{Part}
+use Rattle.mscpjudge.proofs.Ported.{on_ok}
+use Rattle.mscpjudge.proofs.Standing.{skipped_at}
 use Rattle.mscpjudge.proofs.telling.Telling.port.Goals as goal
 
 pub returns-then-section : goal.returns-then-section
 returns-then-section c =
     on_ok c.section.result _ _ c.section.ensures
-    (λ h s. h c.args.log.now (sym c.in_ok-section.ensures.occurs ∙ c.if-section.true)
-    (c.deref.ensures.value ∙ c.in_ok-section.ensures.log) s)
+    (λ h bytes same s. h bytes same (sym (ap (λ (p : Part). p.occurs) same) ∙ c.if-section.true) s)
 
 pub returns : goal.returns
 returns c =
-    λ s. skipped_at c.args.port c.args.extent c.args.log.now c.args.self.now
-    (sym c.in_ok-section.ensures.occurs ∙ c.if-section.false) s
+    λ bytes same s. skipped_at c.args.port c.args.extent bytes c.args.self.now
+    (sym (ap (λ (p : Part). p.occurs) same) ∙ c.if-section.false) s

@@ -1,20 +1,25 @@
-use Rattle.std.proofs.Common.{◌+◌, sym, subst, Err}
-use Rattle.mscp_reader.specs.declared.fault.ReadFault.TheVariants as reads
-use Rattle.mscpjudge.specs.Told.{IsFirstBelow, TellsOne}
-use Rattle.mscpjudge.proofs.Standing.{stands_fails, told_at}
+use Rattle.std.proofs.Common.{sym, ap, subst, ◌∙◌, Some, Err}
+use Rattle.mscpjudge.specs.Numbers.{fault_by, number_by}
+use Rattle.mscpjudge.specs.Ports.{Part}
+use Rattle.mscpjudge.specs.Told.{TellsOne, earlier}
+use Rattle.mscpjudge.proofs.Standing.{fails_at, told_at}
 use Rattle.mscpjudge.proofs.telling.Telling.section.Goals as goal
 
 pub returns-in_ok-put-in-Ok : goal.returns-in_ok-put-in-Ok
 returns-in_ok-put-in-Ok c =
-    λ bytes is same s. told_at c.args.port c.args.extent bytes c.args.log.now c.args.self.now c.put.new.self
-    c.in-Ok.told same is c.in-Ok.ensures c.in_ok-put-in-Ok.ensures.fault c.in_ok-put-in-Ok.ensures.outcome
-    c.in_ok-put-in-Ok.ensures.text s
+    λ bytes same is s. told_at c.args.port c.args.extent bytes c.deref.result.now c.deref-2.result.now
+    c.args.self.now c.put.new.self c.in-Ok.told (c.deref.ensures.value ∙ ap (λ (p : Part). p.log) same)
+    (c.deref-2.ensures.value ∙ ap (λ (p : Part). p.numbers) same) is c.in-Ok.ensures
+    c.in_ok-put-in-Ok.ensures.fault c.in_ok-put-in-Ok.ensures.outcome c.in_ok-put-in-Ok.ensures.text s
 
 pub returns-in-Err-Script : goal.returns-in-Err-Script
 returns-in-Err-Script c =
-    λ bytes is same s.
-    let k = subst (λ l. TellsOne c.args.extent (Err (reads.Script c.in-Err-Script.fault)) l) same
-    (subst (λ f. TellsOne c.args.extent (Err f) c.args.log.now) c.in-Err-Script.field-0-is c.in-Err-Script.ensures) in
-    subst (λ f. IsFirstBelow (c.args.port + 1) c.args.extent bytes f) (sym c.earlier.ensures)
-    (stands_fails c.args.port c.args.extent bytes c.args.self.now.fault c.in-Err-Script.fault
-    c.args.self.now.told.outcome c.args.self.now.told.text.items is k.0 k.1 s)
+    λ bytes same is s. fails_at c.args.port c.args.extent bytes c.deref.result.now c.deref-2.result.now
+    c.args.self.now (record c.args.self.now { fault = Some c.earlier.result }) c.in-Err-Script.fault
+    (c.deref.ensures.value ∙ ap (λ (p : Part). p.log) same)
+    (c.deref-2.ensures.value ∙ ap (λ (p : Part). p.numbers) same) is
+    (subst (λ f. TellsOne c.args.extent (number_by c.deref-2.result.now) (Err f) c.deref.result.now)
+    c.in-Err-Script.field-0-is c.in-Err-Script.ensures)
+    (ap (λ f. Some f) (c.earlier.ensures ∙ ap (earlier c.args.self.now.fault) (c.fault_of.ensures
+    ∙ ap (λ xs. fault_by (number_by xs) c.in-Err-Script.fault)
+    (c.deref-in-Err-Script.ensures.value ∙ sym c.deref-2.ensures.value)))) s
