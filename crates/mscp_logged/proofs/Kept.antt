@@ -6,7 +6,7 @@ use Rattle.mscp_drive.specs.Settings.{Settings}
 use Rattle.mscp_drive.specs.declared.connection.Connection.TheVariants.{First}
 use Rattle.mscp_port.proofs.Common.{eq-eqb, eqb-true, false≢true}
 use Rattle.mscp_ported.specs.Told.{Said}
-use Rattle.mscp_wire.specs.Wire.{History, aborts, answer_by, command_at, controller, controller_after, controller_in, count_of, fits, has_abort, has_count, has_status, later_of, moment_at, outstanding, status_code}
+use Rattle.mscp_wire.specs.Wire.{History, aborts, answer_by, command_at, controller, controller_after, controller_in, count_of, fits, has_abort, has_count, has_status, is_same_unit, later_of, moment_at, outstanding, status_code}
 use Rattle.mscp_wire.specs.declared.answer.Answer.{Answer}
 use Rattle.mscp_wire.specs.declared.moment.Moment.{Moment}
 use Rattle.mscp_wire.specs.declared.moment.Moment.TheVariants as moments
@@ -16,12 +16,13 @@ use Rattle.mscp_wire.specs.declared.sent.Sent.{Sent}
 use Rattle.mscp_wire.specs.declared.told.Seen.{Seen}
 use Rattle.mscp_logged.specs.Rules.{HostIsRight, Keeps, is_left_open, is_of_drives, is_of_polls}
 use Rattle.mscp_logged.proofs.About.{about_right, success_right}
-use Rattle.mscp_logged.proofs.Breaking.{command_holds, end_holds, placed_holds}
+use Rattle.mscp_logged.proofs.Breaking.{command_holds, end_holds, placed_holds, seen_at}
 use Rattle.mscp_logged.proofs.Coded.{endcode_right, unit_right}
 use Rattle.mscp_logged.proofs.Figures.{IsShownAt, coded_so}
 use Rattle.mscp_logged.proofs.Heard.{IsShown, figure_right}
 use Rattle.mscp_logged.proofs.Long.{whole_long}
 use Rattle.mscp_logged.proofs.Placed.{keeps_rule}
+use Rattle.mscp_logged.proofs.Recalled.{IsSameUnit}
 use Rattle.mscp_logged.proofs.Stated.{IsSeen, IsTied, Stated}
 use Rattle.mscp_logged.proofs.Suited.{IsKnown, identifier}
 use Rattle.mscp_logged.proofs.Tied.{IsEndOf}
@@ -70,7 +71,8 @@ fits_known c one other (inr e) (inr k) = subst (λ o. fits o other ≡ true) (sy
 -- ---- the end of a command
 
 module _ (c : Settings) (F : Type 0) (xs : List Sent) (unit : Seen) (known : IsKnown c unit.controller) (b : List ℕ)
-    (tied : IsTied (IsEndOf c F) F (Unit {0}) xs b) where
+    (tied : IsTied (IsEndOf c F) F (Unit {0}) xs b)
+    (same : is_same_unit unit.unit (answer_by First b) ≡ true) where
   abbrev y : Sent
   y = command_at xs tied.place
 
@@ -103,6 +105,7 @@ module _ (c : Settings) (F : Type 0) (xs : List Sent) (unit : Seen) (known : IsK
       subst (λ s. has_count e (count_of s e) ≡ true) (sym tied.command) (tied.tie.suited (f refl)).count
   command_right rules.Controller asked f polls =
       fits_known c unit.controller (controller_in b) known tied.tie.known
+  command_right rules.Identity asked f polls = same
   command_right rules.Message asked f polls = refl
   command_right rules.Number asked f polls = refl
   command_right rules.Credits asked f polls = refl
@@ -121,11 +124,13 @@ module _ (c : Settings) (F : Type 0) (xs : List Sent) (unit : Seen) (known : IsK
 pub keeps_rules : (c : Settings) (F : Type 0) (limit : Option ℕ) (x : Rule) (h : History) (aw : List (List ℕ))
     (held : List Said) → Stated (IsEndOf c F) F (Unit {0}) h aw held → HostIsRight limit h → is_left_open x ≡ false
     → (is_of_drives x ≡ true → F)
-    → (is_of_polls x ≡ true → (i : ℕ) → i < length h → IsShownAt (take i h) (moment_at h i)) → Keeps x limit h
-keeps_rules c F limit x h aw held s host asked f shown = keeps_rule (IsEndOf c F) F (Unit {0}) limit x h aw held s
-    (λ h m. is_of_polls x ≡ true → IsShownAt h m) (λ i low polls. shown polls i low)
-    (λ i unit b low is tied more. end_right c F (outstanding (take i h)) unit
-    (subst (λ o. IsKnown c o) (sym is) (told i)) b.items tied x asked f more) host
+    → (is_of_polls x ≡ true → (i : ℕ) → i < length h → IsShownAt (take i h) (moment_at h i))
+    → ((i : ℕ) → i < length h → IsSameUnit (take i h) (moment_at h i)) → Keeps x limit h
+keeps_rules c F limit x h aw held s host asked f shown same = keeps_rule (IsEndOf c F) F (Unit {0}) limit x h aw held s
+    (λ h m. (is_of_polls x ≡ true → IsShownAt h m) × IsSameUnit h m)
+    (λ i low. ((λ polls. shown polls i low), same i low))
+    (λ i b low tied more. end_right c F (outstanding (take i h)) (seen_at (take i h) (moments.End First b)) (told i)
+    b.items tied more.1 x asked f more.0) host
   where
     known : (prefix : History) (m : Moment) → IsSeen (IsEndOf c F) F (Unit {0}) prefix m → IsKnownBy c m
     known prefix (moments.End via b) is = is.1.tie.known

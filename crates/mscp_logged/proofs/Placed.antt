@@ -17,9 +17,9 @@ use Rattle.mscp_logged.proofs.Stated.{IsSeen, IsTied, Stated}
 pub keeps_rule : (Tie : List ℕ → List ℕ → Type 0) (G O : Type 0) (limit : Option ℕ) (x : Rule) (h : History)
     (aw : List (List ℕ)) (held : List Said) → Stated Tie G O h aw held
     → (More : History → Moment → Type 0) → ((i : ℕ) → i < length h → More (take i h) (moment_at h i))
-    → ((i : ℕ) (unit : Seen) (b : ArrayVec ℕ) → i < length h → unit.controller ≡ controller (take i h)
+    → ((i : ℕ) (b : ArrayVec ℕ) → i < length h
     → IsTied Tie G O (outstanding (take i h)) b.items → More (take i h) (moments.End First b)
-    → end_holds (outstanding (take i h)) unit First b.items x ≡ true)
+    → end_holds (outstanding (take i h)) (seen_at (take i h) (moments.End First b)) First b.items x ≡ true)
     → HostIsRight limit h → Keeps x limit h
 keeps_rule Tie G O limit x h aw held s More more ends host i low =
     by (moment_at h i) (s.each i low) (more i low) (host i low)
@@ -31,8 +31,8 @@ keeps_rule Tie G O limit x h aw held s More more ends host i low =
     by (moments.End via b) is m right e =
         let unit = seen_at (take i h) (moments.End via b) in
         false≢true (sym (moment_fails (outstanding (take i h)) unit limit (moments.End via b) x e)
-        ∙ subst (λ v. end_holds (outstanding (take i h)) unit v b.items x ≡ true) (sym is.0)
-        (ends i unit b low refl is.1 (subst (λ v. More (take i h) (moments.End v b)) is.0 m)))
+        ∙ subst (λ v. end_holds (outstanding (take i h)) (seen_at (take i h) (moments.End v b)) v b.items x ≡ true)
+        (sym is.0) (ends i b low is.1 (subst (λ v. More (take i h) (moments.End v b)) is.0 m)))
     by m is y right e = none_never x e
 
 abbrev pub Any : List ℕ → List ℕ → Type 0

@@ -67,9 +67,8 @@ abbrev pub PortsAnswerWhatIsOutstanding : {K : Type 0} → Picking K → K → T
 PortsAnswerWhatIsOutstanding picks picker =
     OfLogs picks picker (λ c calls h. (limit : Option ℕ) → HostIsRight limit h → Keeps rules.Outstanding limit h)
 
--- a rule of which nothing is said here: of what is told of units
+-- a rule of which nothing is said here: of what is told of whether units are online
 abbrev pub is_left_open : Rule → Bool
-is_left_open rules.Identity = true
 is_left_open rules.State = true
 is_left_open rule = false
 

@@ -29,7 +29,7 @@ pub fn ports_answer_what_is_outstanding<K: Picker>(picker: &K)
 }
 
 /// Of such a port, whose units have blocks: while its host's messages are right, no moment of the log breaks a rule of
-/// `mscp_wire`, but for the two of which nothing is said here: `Identity` and `State`. `Status`, `Aborted` and `Count` are kept if
+/// `mscp_wire`, but for the one of which nothing is said here: `State`. `Status`, `Aborted` and `Count` are kept if
 /// what the port is told of blocks that failed has a code from 5 to 11, as what a drive or a medium has; and `Figure` if whoever calls
 /// the port asks for blocks each time that it asks what is wanted.
 pub fn ports_keep_fifteen_rules<K: Picker>(picker: &K)

@@ -2,6 +2,7 @@ use Rattle.mscp_logged.specs.Rules.{TellsFaults}
 use Rattle.mscp_logged.proofs.Figured.{known}
 use Rattle.mscp_logged.proofs.Kept.{keeps_rules}
 use Rattle.mscp_logged.proofs.Logging.{stated}
+use Rattle.mscp_logged.proofs.Recalling.{recalled}
 use Rattle.mscp_logged.proofs.Tied.{IsEndOf, IsFineUntil, end_of, fine_before, late_of, never_aborted, own_end_of, own_turn, turn_of}
 use Rattle.mscp_logged.proofs.law.ports_keep_fifteen_rules.Goals as goal
 
@@ -28,3 +29,6 @@ returns g c = λ s before controller hardware credits start p calls valid was qu
     controller hardware credits start valid was quiet made limit (IsFineUntil F) (fine_before F) state p calls asks
     reads (asks, λ f. f) a host (c.ports_serve_who_asks_for_blocks.ensures hardware credits controller start p calls
     made (blocks polls) a)).each)
+    (recalled g.K.Picker.picks s c.args.picker.now c.controllers_keep_the_promise.ensures valid sizes before hardware
+    credits controller start was made quiet c.ports_end_what_they_took.ensures c.ports_tell_in_order.ensures p calls
+    asks reads a).each
