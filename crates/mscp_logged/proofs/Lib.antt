@@ -47,3 +47,5 @@ pub mod Listening
 pub mod Recalling
 pub mod Away
 pub mod Driven
+pub mod Placing
+pub mod Stating

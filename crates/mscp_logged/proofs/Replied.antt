@@ -100,6 +100,15 @@ bad_after v code status never other is =
     by false false e false f true false g h = never h
     by false false e false f false false g h = never h
 
+-- the state of a unit that is told is Success only if it is online
+pub state_good : (v : Volume) → unit_state v % 32 ≡ 0 → v.is_mounted ≡ true
+state_good v good = by v.is_there v.is_mounted refl good
+  where
+    by : (x y : Bool) → v.is_mounted ≡ y → cond (not x) 0x23 (cond (not y) 4 0) % 32 ≡ 0 → v.is_mounted ≡ true
+    by false y is g = search (arith, g)
+    by true false is g = search (arith, g)
+    by true true is g = is
+
 -- ---- the end of a command that is aborted
 
 pub aborted_told : (h : Hardware) (units : List Shape) (r : Record) (d : Decided) (v : Volume) (u : ℕ) (o : Option Shape)
@@ -159,7 +168,7 @@ module _ (h : Hardware) (c : Settings) (online : Bool) (figure : ℕ) (sent : Li
 
   -- that of a GET UNIT STATUS
   module _ (of : k.order ≡ orders.UnitStatus) (none : fault_of c k ≡ None) where
-    end_is : e ≡ own_end_with c online figure (record (command_of sent) { order = orders.UnitStatus }) None
+    pub end_is : e ≡ own_end_with c online figure (record (command_of sent) { order = orders.UnitStatus }) None
     end_is = ap (λ o. own_end_with c online figure (command_of sent) o) none
         ∙ ap (λ o. own_end_with c online figure (record (command_of sent) { order = o }) None) of
 
@@ -176,17 +185,9 @@ module _ (h : Hardware) (c : Settings) (online : Bool) (figure : ℕ) (sent : Li
     state true = refl
     state false = refl
 
-    status : ends_formality d.code ≡ false → d.status ≡ unit_state v
-    status plain = decided.status plain
+    pub state_told : ends_formality d.code ≡ false → d.status ≡ unit_state v
+    state_told plain = decided.status plain
         ∙ ap (λ (x : End). status_after (verdicts.Served blocks.Good) x.code x.status v) end_is ∙ state online
-
-    mounted : unit_state v % 32 ≡ 0 → v.is_mounted ≡ true
-    mounted good = by v.is_there v.is_mounted refl good
-      where
-        by : (x y : Bool) → v.is_mounted ≡ y → cond (not x) 0x23 (cond (not y) 4 0) % 32 ≡ 0 → v.is_mounted ≡ true
-        by false y is g = search (arith, g)
-        by true false is g = search (arith, g)
-        by true true is g = is
 
     tells : Tells (unit_found c.units k.unit) v v (answer_by First text)
     tells = by (text_reads h c.units e d)
@@ -204,7 +205,7 @@ module _ (h : Hardware) (c : Settings) (online : Bool) (figure : ℕ) (sent : Li
           described = λ is. subst (λ o. IsIdentityOf o v a.identity)
               (sym unit_is.1) (inr (identity (sym x.2.low ∙ (describes_so a is).good)));
           told = λ is unsure. (
-            mounted (ap (λ n. n % 32) (sym (status x.0)) ∙ sym x.2.low ∙ (tells_so a is unsure).0),
+            state_good v (ap (λ n. n % 32) (sym (state_told x.0)) ∙ sym x.2.low ∙ (tells_so a is unsure).0),
             same_volume v,
           );
           stays = λ brings is. (is, same_volume v);

@@ -74,11 +74,11 @@ decided_so units verdict v w e kept flags = record {
 -- ---- statuses
 
 -- an ONLINE is told that its unit was online if that is so, and succeeds just if the controller gave it so
-record IsOnlineTold (v : Volume) (given told : ℕ) : Type 0 where
-  back : given % 32 ≡ 0 → told % 32 ≡ 0
-  was : told % 32 ≡ 0 → told / 256 % 2 ≡ 1 → v.is_mounted ≡ true
+pub record IsOnlineTold (v : Volume) (given told : ℕ) : Type 0 where
+  pub back : given % 32 ≡ 0 → told % 32 ≡ 0
+  pub was : told % 32 ≡ 0 → told / 256 % 2 ≡ 1 → v.is_mounted ≡ true
 
-online_told : (v : Volume) (verdict : Verdict) (online : Bool) → IsSure false v verdict
+pub online_told : (v : Volume) (verdict : Verdict) (online : Bool) → IsSure false v verdict
     → IsOnlineTold v (outcome_status online orders.Online (block_told verdict))
     (status_after verdict 0x89 (outcome_status online orders.Online (block_told verdict)) v)
 online_told v verdicts.NoVolume online sure =
