@@ -143,3 +143,10 @@ module _ (k : Block) (ds : List Drive) (r : Record) (ended : Option End) (v w : 
   pub brought_driven : r.command.unit ≡ u → (d : Drive) → find (has_number r.command.unit) ds ≡ Some d
       → ((online : Bool) → state_left online r.command.order ended ≡ true) → So
   brought_driven same d found is = own_driven same d found (λ on. is _)
+
+-- the volumes stay, or go, and the drives stay
+pub driven_as : (units : List Shape) (volumes more : List Volume) (drives others : List Drive) → others ≡ drives
+    → ((u : ℕ) → (volume_found units more u).is_mounted ≡ true → (volume_found units volumes u).is_mounted ≡ true)
+    → AreDriven units volumes drives → AreDriven units more others
+driven_as units volumes more drives others same was driven u on =
+    ap (λ ds. (drive_of ds u).online) same ∙ driven u (was u on)

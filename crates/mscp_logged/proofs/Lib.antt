@@ -49,3 +49,6 @@ pub mod Away
 pub mod Driven
 pub mod Placing
 pub mod Stating
+pub mod Served
+pub mod Driving
+pub mod Bringing

@@ -14,7 +14,7 @@ use Rattle.mscp_queue.specs.Drives.{drive_of}
 use Rattle.mscp_queue.specs.Records.{Record, aborted_record}
 use Rattle.mscp_controller.specs.Arrival.{fault_of, is_queued, refusal}
 use Rattle.mscp_controller.specs.Holdings.{Holdings, aborting, answered_end, arrives, balance_of, figure_polled, held_unless, outstanding_of, queued, record_aborted, reference_aborted, sent_unless, taken_as, with_end}
-use Rattle.mscp_controller.specs.Outcomes.{own_end, own_end_with}
+use Rattle.mscp_controller.specs.Outcomes.{own_end_with}
 use Rattle.mscp_controller.specs.declared.entry.SendFault.{SendFault}
 use Rattle.mscp_controller.specs.declared.entry.Sent.TheVariants as sents
 use Rattle.mscp_port.specs.Blocks.{kept_of}
@@ -24,7 +24,6 @@ use Rattle.mscp_port.specs.Messages.{handed, own_end_of}
 use Rattle.mscp_port.specs.Ports.{IsReadingText}
 use Rattle.mscp_port.specs.Seen.{SeesText, answered_to}
 use Rattle.mscp_port.specs.Volumes.{volume_found}
-use Rattle.mscp_port.specs.declared.decided.Decided.{Decided}
 use Rattle.mscp_port.specs.declared.hardware.Hardware.{Hardware}
 use Rattle.mscp_port.specs.declared.port.Port.{Port}
 use Rattle.mscp_port.specs.declared.slot.Descriptor.{Descriptor}
@@ -47,8 +46,10 @@ use Rattle.mscp_ported.proofs.Leaving.{text_grows}
 use Rattle.mscp_ported.proofs.Tables.{answer_by}
 use Rattle.mscp_logged.proofs.Bytes.{handed_small}
 use Rattle.mscp_logged.proofs.Describing.{IsTold}
-use Rattle.mscp_logged.proofs.Moored.{found_as, read_volumes, volumes_still}
+use Rattle.mscp_logged.proofs.Moored.{alive, found_as, missing, read_volumes, volumes_still}
 use Rattle.mscp_logged.proofs.Replied.{aborted_told, reply_told}
+use Rattle.mscp_logged.proofs.Away.{IsPlaced}
+use Rattle.mscp_logged.proofs.Stating.{aborted_placed, reply_placed}
 use Rattle.mscp_logged.proofs.Speaking.{Each, Speaks}
 use Rattle.mscp_logged.proofs.Stepped.{IsDecided, decided_so}
 use Rattle.mscp_logged.proofs.Texts.{text_with, texts_more, texts_of, waiting}
@@ -56,14 +57,14 @@ use Rattle.mscp_logged.proofs.Texts.{text_with, texts_more, texts_of, waiting}
 module _ {K : Type 0} (bytes : List ℕ) (done : Unit) (old new : Port K) (aw : List (List ℕ)) (k : Kept old aw)
     (r : Hears bytes old (Ok done) new) (small : (i : ℕ) → slice_index bytes i < 2 ^ 8)
     (long : length (ends_of old.controller) ≡ length old.decided.items) (lives : is_dead new.stage ≡ false)
-    (hw : Hardware) (c : Settings) (settings : old.controller.settings ≡ c) where
+    (hw : Hardware) (c : Settings) (settings : old.controller.settings ≡ c) (F : Type 0) where
   -- and if the controller took none, none come
   abbrev pub So : Type 0
-  So = (more : List (List ℕ)) × Speaks hw c.units old new more
+  So = (more : List (List ℕ)) × Speaks hw c.units F old new more
       × (taken_by (WasRead bytes (Ok done)) old ≡ [] → more ≡ [])
 
   volumes : new.volumes ≡ old.volumes
-  volumes = read_volumes old new lives bytes (Ok done) r
+  volumes = alive old new lives (read_volumes old new bytes (Ok done) r)
 
   now : new.controller.settings ≡ c
   now = r.settings ∙ settings
@@ -77,7 +78,8 @@ module _ {K : Type 0} (bytes : List ℕ) (done : Unit) (old new : Port K) (aw : 
     record {
       behind = ap (λ es. texts_of hw c.units es new.decided.items) ends
           ∙ ap (texts_of hw c.units (ends_of old.controller)) decided ∙ sym (append-nil (waiting hw c.units old));
-      told = λ u. found_as c.units u old.volumes new.volumes (volumes_still old new lives volumes);
+      told = λ u. found_as c.units u old.volumes new.volumes (volumes_still old new volumes);
+      placed = λ f u. found_as c.units u old.volumes new.volumes (volumes_still old new volumes);
     },
     λ none. refl,
   )
@@ -169,33 +171,37 @@ module _ {K : Type 0} (bytes : List ℕ) (done : Unit) (old new : Port K) (aw : 
         abbrev W : ℕ → Volume
         W u = volume_found c.units new.volumes u
 
-        -- its own, by these settings
-        reply : (s : Settings) → h.settings ≡ s → (d : Decided) → IsDecided s.units (verdicts.Served blocks.Good)
-            (volume_found c.units new.volumes command.unit) (volume_found c.units new.volumes command.unit)
-            (own_end s (drive_of h.drives command.unit).online
-            (figure_polled h.settings First h.waiting command.order) command) d → (u : ℕ)
-            → IsTold u (unit_found s.units u) (W u) (W u) (text_with hw s.units
-            (own_end s (drive_of h.drives command.unit).online
-            (figure_polled h.settings First h.waiting command.order) command) d)
-        reply s same d decided = reply_told hw s (drive_of h.drives command.unit).online
-            (figure_polled h.settings First h.waiting command.order) sent
-            (subst (λ z. is_queued z command ≡ false) same immediate)
-            (handed_small old.controller.settings.units bytes sees.long small) d W decided
+        abbrev online : Bool
+        online = (drive_of h.drives command.unit).online
+
+        abbrev figure : ℕ
+        figure = figure_polled h.settings First h.waiting command.order
 
         unit_is : own.unit ≡ command.unit
         unit_is = by (fault_of h.settings command)
           where
-            by : (o : Option ℕ) → (own_end_with h.settings (drive_of h.drives command.unit).online
-                (figure_polled h.settings First h.waiting command.order) command o).unit ≡ command.unit
+            by : (o : Option ℕ) → (own_end_with h.settings online figure command o).unit ≡ command.unit
             by None = refl
             by (Some status) = refl
 
+        own_decided : IsDecided h.settings.units (verdicts.Served blocks.Good) (W command.unit) (W command.unit) own
+            (answer_by old new own)
+        own_decided = subst (λ n. IsDecided h.settings.units (verdicts.Served blocks.Good) (W n) (W n) own
+            (answer_by old new own)) unit_is (subst (λ s. IsDecided s.units (verdicts.Served blocks.Good) (W own.unit)
+            (W own.unit) own (answer_by old new own)) (sym settings) (decided own))
+
+        few_unit : command.unit < 2 ^ 16
+        few_unit = handed_small old.controller.settings.units bytes sees.long small
+
         own_told : (u : ℕ) → IsTold u (unit_found c.units u) (W u) (W u) (text own)
         own_told u = subst (λ s. IsTold u (unit_found s.units u) (W u) (W u) (text_with hw s.units own
-            (answer_by old new own))) settings (reply h.settings refl (answer_by old new own)
-            (subst (λ n. IsDecided h.settings.units (verdicts.Served blocks.Good) (W n) (W n) own
-            (answer_by old new own)) unit_is (subst (λ s. IsDecided s.units (verdicts.Served blocks.Good) (W own.unit)
-            (W own.unit) own (answer_by old new own)) (sym settings) (decided own))) u)
+            (answer_by old new own))) settings
+            (reply_told hw h.settings online figure sent immediate few_unit (answer_by old new own) W own_decided u)
+
+        own_placed : (u : ℕ) → IsPlaced u (W u) (W u) (text own)
+        own_placed u = subst (λ s. IsPlaced u (W u) (W u) (text_with hw s.units own (answer_by old new own))) settings
+            (reply_placed hw h.settings online figure sent immediate few_unit (answer_by old new own) W own_decided
+            (λ n none. missing c.units new.volumes n (subst (λ s. unit_found s.units n ≡ None) settings none)) u)
 
         told_so : (x : Option Record) (u : ℕ)
             → Each (IsTold u (unit_found c.units u)) (W u) (W u) (map text (aborted x ++ own ∷ []))
@@ -204,6 +210,14 @@ module _ {K : Type 0} (bytes : List ℕ) (done : Unit) (old new : Port K) (aw : 
           aborted_told hw c.units x (answer_by old new (aborted_record x)) (W u) u (unit_found c.units u)
               (W (aborted_record x).unit) (decided (aborted_record x)),
           own_told u,
+        )
+
+        placed_so : (x : Option Record) (u : ℕ) → Each (IsPlaced u) (W u) (W u) (map text (aborted x ++ own ∷ []))
+        placed_so None u = own_placed u
+        placed_so (Some x) u = (
+          aborted_placed hw c.units x (answer_by old new (aborted_record x)) (W u) u (W (aborted_record x).unit)
+              (decided (aborted_record x)),
+          own_placed u,
         )
 
         answered_so : So
@@ -219,6 +233,9 @@ module _ {K : Type 0} (bytes : List ℕ) (done : Unit) (old new : Port K) (aw : 
             told = λ u. subst (λ vs. Each (IsTold u (unit_found c.units u)) (volume_found c.units vs u) (W u)
                 (map text (aborted (record_aborted First h.waiting command.order) ++ own ∷ []))) volumes
                 (told_so (record_aborted First h.waiting command.order) u);
+            placed = λ f u. subst (λ vs. Each (IsPlaced u) (volume_found c.units vs u) (W u)
+                (map text (aborted (record_aborted First h.waiting command.order) ++ own ∷ []))) volumes
+                (placed_so (record_aborted First h.waiting command.order) u);
           },
           λ taken. absurd (search (arith, sym one ∙ taken)),
         )

@@ -1,22 +1,23 @@
 -- A unit that is online after a call was so before, with the same volume, unless the call ended an ONLINE of it.
-use Rattle.std.proofs.Common.{◌≡◌, ◌⊎◌, ◌∙◌, ℕ, Bool, true, false, cond, length, set, List, Option, None, Some, inl, inr, refl, ap, sym, subst, arith}
-use Rattle.std.specs.Prelude.{◌==◌, ◌/◌, ◌%◌, Ok, Err}
+use Rattle.std.proofs.Common.{◌≡◌, ◌⊎◌, ◌∙◌, ℕ, Bool, true, false, cond, length, nat_eq, set, List, Option, None, Some, inl, inr, refl, ap, sym, subst, arith}
+use Rattle.std.specs.Prelude.{◌==◌, ◌/◌, ◌%◌, Ok, Err, find}
+use Rattle.std.proofs.lemmas.Option.{none-some}
 use Rattle.mscp_packet.specs.declared.end.End.{End}
 use Rattle.mscp_drive.specs.Shape.{Shape}
+use Rattle.mscp_drive.specs.UnitList.{unit_found}
+use Rattle.mscp_queue.proofs.Placed.{find_cases, find_first, position_none}
 use Rattle.mscp_drive.specs.declared.connection.Connection.{Connection}
 use Rattle.mscp_port.specs.declared.buffers.Buffer.{Buffer}
 use Rattle.mscp_port.specs.declared.port.Outgoing.{Outgoing}
 use Rattle.mscp_port.specs.declared.port.Port.{Port}
-use Rattle.mscp_port.specs.declared.stage.Stage.TheVariants as stages
 use Rattle.mscp_port.specs.declared.volumes.Volume.{Volume}
 use Rattle.mscp_port.specs.Blocks.{kept_of}
-use Rattle.mscp_port.specs.Calls.{Hears, Wants}
+use Rattle.mscp_port.specs.Calls.{Dies, Hears, Wants}
 use Rattle.mscp_port.specs.Histories.{Becomes, Call, Picking, WriteIp, ReadIp, WriteSa, Next, PutAside, WasRead, Went, LookAgain, Tick, VolumeCame, VolumeWent, Protect}
 use Rattle.mscp_port.specs.Moved.{place_heeded, volumes_after}
 use Rattle.mscp_port.specs.Outgoings.{IsNews, news_place}
-use Rattle.mscp_port.specs.Ports.{IsAsNew}
 use Rattle.mscp_port.specs.Volumes.{brought_online, no_volume, place_in, volume_at, volume_changed, volume_found, volume_heeded, volume_in_place, volume_protected, volume_put, volumes_heeded, volumes_with}
-use Rattle.mscp_port.proofs.Common.{cases_eq, cases_lt, false≢true, get_or-set_other, get_or-set_same, get_or_past, length-set}
+use Rattle.mscp_port.proofs.Common.{cases_eq, cases_lt, eq-eqb, false≢true, get_or-set_other, get_or-set_same, get_or_past, length-set}
 use Rattle.mscp_port.proofs.Loads.{looks_or_not}
 use Rattle.mscp_ported.specs.Talk.{is_dead}
 use Rattle.mscp_ported.proofs.Coming.{brought_for}
@@ -53,7 +54,7 @@ set_as vs q x was place = elim (cases_eq place q) [
 
 -- ---- calls of which no end comes
 
-module _ {K : Type 0} (old new : Port K) (lives : is_dead new.stage ≡ false) where
+module _ {K : Type 0} (old new : Port K) where
   abbrev So : Type 0
   So = AreAsWere old.volumes new.volumes
 
@@ -61,8 +62,10 @@ module _ {K : Type 0} (old new : Port K) (lives : is_dead new.stage ≡ false) w
   volumes_still e = subst (λ ws. AreAsWere old.volumes ws) (sym e)
       (λ place. same_as (volume_at old.volumes place) (volume_at old.volumes place) refl)
 
-  pub never_dies : (code : ℕ) → IsAsNew (stages.Dead code) old new → So
-  never_dies code d = absurd (search (arith, lives, ap is_dead d.stage))
+  -- where there is no fatal error
+  pub alive : {X : Type 0} → is_dead new.stage ≡ false → X ⊎ Dies old new → X
+  alive lives (inl x) = x
+  alive lives (inr d) = absurd (search (arith, lives, ap is_dead d.1.stage))
 
   news_so : (units : List Shape) (o : Option ℕ) (out : Option Outgoing)
       → IsNews units old.volumes o out new.volumes → So
@@ -81,11 +84,9 @@ module _ {K : Type 0} (old new : Port K) (lives : is_dead new.stage ≡ false) w
     | inr never ↦ volumes_still (r.says.keeps never).volumes
   ]
 
-  pub read_volumes : (bytes : List ℕ) (result : _) → Hears bytes old result new → new.volumes ≡ old.volumes
-  read_volumes bytes result r = elim r.frame [
-    | inl e ↦ ap (λ (q : Port K). q.volumes) e
-    | inr d ↦ absurd (search (arith, lives, ap is_dead d.1.stage))
-  ]
+  pub read_volumes : (bytes : List ℕ) (result : _) → Hears bytes old result new
+      → (new.volumes ≡ old.volumes) ⊎ Dies old new
+  read_volumes bytes result r = elim r.frame [ inl e ↦ inl (ap (λ (q : Port K). q.volumes) e) | inr d ↦ inr d ]
 
   with_one : (becomes : Volume → Volume) (o : Option ℕ) → ((v : Volume) → IsAsWas v (becomes v))
       → new.volumes ≡ volumes_with becomes o old.volumes → So
@@ -97,35 +98,33 @@ module _ {K : Type 0} (old new : Port K) (lives : is_dead new.stage ≡ false) w
       → new.volumes ≡ volumes_with becomes o old.volumes → So
   goes_so becomes o off = with_one becomes o (λ v is. absurd (false≢true (sym (off v) ∙ is)))
 
-  pub passive_volumes : (picks : Picking K) (call : Call) → Becomes picks call old new → IsPassive call → So
+  pub passive_volumes : (picks : Picking K) (call : Call) → Becomes picks call old new → IsPassive call
+      → AreAsWere old.volumes new.volumes ⊎ Dies old new
   passive_volumes picks WriteIp r is = absurd is
   passive_volumes picks (Next blocks action bytes) r is = absurd is
   passive_volumes picks (WasRead bytes (Ok done)) r is = absurd is
   passive_volumes picks (Went outcome (Ok done)) r is = absurd is
-  passive_volumes picks ReadIp r is = elim r.frame [
-    | inl e ↦ volumes_still (ap (λ (q : Port K). q.volumes) e)
-    | inr d ↦ never_dies d.0 d.1
-  ]
-  passive_volumes picks (WriteSa word) r is = elim r.frame [
-    | inl e ↦ volumes_still (ap (λ (q : Port K). q.volumes) e)
-    | inr d ↦ never_dies d.0 d.1
-  ]
-  passive_volumes picks PutAside r is = volumes_still (ap (λ (q : Port K). q.volumes) r)
-  passive_volumes picks (WasRead bytes (Err unasked)) r is = volumes_still (ap (λ (q : Port K). q.volumes) r.unasked)
-  passive_volumes picks (Went outcome (Err unasked)) r is = volumes_still (ap (λ (q : Port K). q.volumes) r.unasked)
-  passive_volumes picks LookAgain r is = volumes_still (ap (λ (q : Port K). q.volumes) r)
-  passive_volumes picks Tick r is = elim r.either [
-    | inl e ↦ volumes_still (ap (λ (q : Port K). q.volumes) e)
-    | inr d ↦ never_dies 9 d
-  ]
-  passive_volumes picks (VolumeCame m unit (Ok done)) r is = goes_so (volume_put m)
-      (place_in old.controller.settings.units unit) (λ v. refl) (ap (λ (q : Port K). q.volumes) (r.came refl))
-  passive_volumes picks (VolumeCame m unit (Err fault)) r is = volumes_still (ap (λ (q : Port K). q.volumes) r.refused)
-  passive_volumes picks (VolumeWent unit result) r is = goes_so (volume_changed false)
-      (place_in old.controller.settings.units unit) (λ v. refl) (ap (λ (q : Port K). q.volumes) r.frame)
-  passive_volumes picks (Protect protected unit result) r is = with_one (volume_protected protected)
+  passive_volumes picks ReadIp r is =
+      elim r.frame [ inl e ↦ inl (volumes_still (ap (λ (q : Port K). q.volumes) e)) | inr d ↦ inr d ]
+  passive_volumes picks (WriteSa word) r is =
+      elim r.frame [ inl e ↦ inl (volumes_still (ap (λ (q : Port K). q.volumes) e)) | inr d ↦ inr d ]
+  passive_volumes picks PutAside r is = inl (volumes_still (ap (λ (q : Port K). q.volumes) r))
+  passive_volumes picks (WasRead bytes (Err unasked)) r is =
+      inl (volumes_still (ap (λ (q : Port K). q.volumes) r.unasked))
+  passive_volumes picks (Went outcome (Err unasked)) r is =
+      inl (volumes_still (ap (λ (q : Port K). q.volumes) r.unasked))
+  passive_volumes picks LookAgain r is = inl (volumes_still (ap (λ (q : Port K). q.volumes) r))
+  passive_volumes picks Tick r is =
+      elim r.either [ inl e ↦ inl (volumes_still (ap (λ (q : Port K). q.volumes) e)) | inr d ↦ inr (9, d) ]
+  passive_volumes picks (VolumeCame m unit (Ok done)) r is = inl (goes_so (volume_put m)
+      (place_in old.controller.settings.units unit) (λ v. refl) (ap (λ (q : Port K). q.volumes) (r.came refl)))
+  passive_volumes picks (VolumeCame m unit (Err fault)) r is =
+      inl (volumes_still (ap (λ (q : Port K). q.volumes) r.refused))
+  passive_volumes picks (VolumeWent unit result) r is = inl (goes_so (volume_changed false)
+      (place_in old.controller.settings.units unit) (λ v. refl) (ap (λ (q : Port K). q.volumes) r.frame))
+  passive_volumes picks (Protect protected unit result) r is = inl (with_one (volume_protected protected)
       (place_in old.controller.settings.units unit) (λ v is. (is, record { there = refl; media = refl; size = refl }))
-      (ap (λ (q : Port K). q.volumes) r.frame)
+      (ap (λ (q : Port K). q.volumes) r.frame))
 
 -- ---- a step
 
@@ -201,3 +200,47 @@ module _ (units : List Shape) (bs : List Buffer) (via : Connection) (vs : List V
             ⊎ Ended 0x89 u (brought_for via ended)) units u place here bs via vs (λ is. is) ended (λ x. inr x)
             (λ never is. inl (is, never)),
       )
+
+-- an AVAILABLE that succeeded leaves the unit offline, whoever asked for it
+available_offline : (kept : Option Buffer) (v : Volume) → (volume_heeded 0x88 kept v).is_mounted ≡ false
+available_offline None v = refl
+available_offline (Some b) v = refl
+
+set_off : (vs : List Volume) (q : ℕ) (x : Volume) → x.is_mounted ≡ false
+    → (volume_at (set vs q x) q).is_mounted ≡ false
+set_off vs q x off = elim (cases_lt q (length vs)) [
+  | inl within ↦ ap (λ (v : Volume). v.is_mounted) (get_or-set_same vs q x no_volume within) ∙ off
+  | inr past ↦ ap (λ (v : Volume). v.is_mounted)
+      (get_or_past (set vs q x) q no_volume (search (arith, past, length-set vs q x)))
+]
+
+pub available_off : (units : List Shape) (bs : List Buffer) (via : Connection) (vs : List Volume) (e : End) (u : ℕ)
+    → e.code ≡ 0x88 → e.status % 32 ≡ 0 → e.unit ≡ u
+    → (volume_found units (volumes_after units bs via (Some e) vs) u).is_mounted ≡ false
+available_off units bs via vs e u code good of = by (place_in units u) refl
+  where
+    kept : Option Buffer
+    kept = kept_of via e.reference bs
+
+    at : (o : Option ℕ) → place_in units u ≡ o → place_heeded units e ≡ o
+    at o here = ap (λ b. cond b (place_in units e.unit) None) (eq-eqb (e.status % 32) 0 good)
+        ∙ ap (place_in units) of ∙ here
+
+    by : (o : Option ℕ) → place_in units u ≡ o
+        → (volume_in_place (volumes_heeded e.code (kept_of via e.reference bs) (place_heeded units e) vs) o).is_mounted
+        ≡ false
+    by None here = refl
+    by (Some q) here = subst (λ o. (volume_at (volumes_heeded e.code (kept_of via e.reference bs) o vs) q).is_mounted
+        ≡ false) (sym (at (Some q) here)) (set_off vs q (volume_heeded e.code kept (volume_at vs q))
+        (ap (λ n. (volume_heeded n kept (volume_at vs q)).is_mounted) code
+        ∙ available_offline kept (volume_at vs q)))
+
+-- where there is no such unit there is no volume
+pub missing : (units : List Shape) (vs : List Volume) (u : ℕ) → unit_found units u ≡ None
+    → (volume_found units vs u).is_mounted ≡ false
+missing units vs u none = elim (find_cases (λ (s : Shape). nat_eq s.number u) units) [
+  | inl all ↦ ap (λ o. (volume_in_place vs o).is_mounted) (position_none (λ (s : Shape). nat_eq s.number u) units all)
+  | inr some ↦ absurd (none-some _ (sym none
+      ∙ (ap (find (λ (s : Shape). nat_eq s.number u)) some.3.is
+      ∙ find_first (λ (s : Shape). nat_eq s.number u) some.0 some.1 some.2 some.3.before some.3.passed)))
+]

@@ -4,11 +4,10 @@ use Rattle.arrayvec.specs.ArrayVec.{ArrayVec}
 use Rattle.mscp_drive.specs.declared.connection.Connection.TheVariants.{First}
 use Rattle.mscp_port.proofs.Common.{false≢true}
 use Rattle.mscp_ported.specs.Told.{Said}
-use Rattle.mscp_wire.specs.Wire.{History, broken_by, controller, moment_at, outstanding}
+use Rattle.mscp_wire.specs.Wire.{History, broken_by, moment_at, outstanding}
 use Rattle.mscp_wire.specs.declared.moment.Moment.{Moment}
 use Rattle.mscp_wire.specs.declared.moment.Moment.TheVariants as moments
 use Rattle.mscp_wire.specs.declared.rule.Rule.{Rule}
-use Rattle.mscp_wire.specs.declared.told.Seen.{Seen}
 use Rattle.mscp_logged.specs.Rules.{HostIsRight, Keeps, is_message}
 use Rattle.mscp_logged.proofs.Breaking.{end_holds, moment_fails, none_never, seen_at}
 use Rattle.mscp_logged.proofs.Stated.{IsSeen, IsTied, Stated}

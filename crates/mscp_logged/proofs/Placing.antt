@@ -1,5 +1,5 @@
 -- An end that a step gives says that its unit is online, or that it isn't, only if that is so.
-use Rattle.std.proofs.Common.{◌≡◌, ◌≢◌, ◌⊎◌, ◌≤◌, ◌<◌, ◌^◌, ◌∙◌, ℕ, Bool, true, false, cond, nat_eq, List, Option, None, Some, inl, inr, refl, ap, sym, subst, arith}
+use Rattle.std.proofs.Common.{◌≡◌, ◌≢◌, ◌⊎◌, ◌≤◌, ◌∙◌, ℕ, Bool, true, false, cond, nat_eq, List, inl, inr, refl, ap, sym, subst, arith}
 use Rattle.std.specs.Prelude.{◌%◌, ◌/◌, ◌&&◌, ◌||◌, is_some}
 use Rattle.mscp_packet.specs.declared.command.MoveKind.{MoveKind}
 use Rattle.mscp_packet.specs.declared.command.MoveKind.TheVariants as moves
@@ -29,7 +29,7 @@ use Rattle.mscp_wire.specs.declared.answer.Answer.{Answer}
 use Rattle.mscp_shown.proofs.Suiting.{IsFault}
 use Rattle.mscp_logged.proofs.Away.{Says}
 use Rattle.mscp_logged.proofs.Describing.{IsAsWas}
-use Rattle.mscp_logged.proofs.Stepped.{IsDecided, IsGivenEnd, IsOnlineTold, online_told}
+use Rattle.mscp_logged.proofs.Stepped.{IsDecided, IsGivenEnd, online_told}
 use Rattle.mscp_logged.proofs.Sure.{IsSure}
 use Rattle.mscp_logged.proofs.Texts.{text_with}
 use Rattle.mscp_logged.proofs.Worded.{Reads, text_reads}
@@ -70,8 +70,10 @@ away_parts e h = by (nat_eq (e.status % 32) 0 && (nat_eq e.code 0x88 && nat_eq (
         → (x || y || (nat_eq (e.status % 32) 3 && is_of_unit e.code)) ≡ true → IsAwayCode e.code (e.status % 32)
     by true f y g h =
         let p = and_parts (nat_eq (e.status % 32) 0) (nat_eq e.code 0x88 && nat_eq (e.status / 512 % 2) 0) f in
-        inl (eqb-true (e.status % 32) 0 p.0,
-        eqb-true e.code 0x88 (and_parts (nat_eq e.code 0x88) (nat_eq (e.status / 512 % 2) 0) p.1).0)
+        inl (
+          eqb-true (e.status % 32) 0 p.0,
+          eqb-true e.code 0x88 (and_parts (nat_eq e.code 0x88) (nat_eq (e.status / 512 % 2) 0) p.1).0,
+        )
     by false f true g h =
         let p = and_parts (nat_eq (e.status % 32) 4) (is_of_unit e.code || nat_eq e.code 0x83) g in
         inr (inl (eqb-true (e.status % 32) 4 p.0, p.1))

@@ -31,7 +31,7 @@ use Rattle.mscp_wire.specs.Wire.{answer_by, brings, describes, sent_by, tells_un
 use Rattle.mscp_wire.specs.declared.answer.Answer.{Answer}
 use Rattle.mscp_shown.proofs.Saying.{sent_says}
 use Rattle.mscp_shown.proofs.Suiting.{refused_apart}
-use Rattle.mscp_logged.proofs.Describing.{IsIdentityOf, IsTold, Tells, identity_of, mine, same_volume, sizeless}
+use Rattle.mscp_logged.proofs.Describing.{IsAsWas, IsIdentityOf, IsTold, Tells, identity_of, mine, same_volume, sizeless}
 use Rattle.mscp_logged.proofs.Stepped.{IsDecided, IsTelling, formal_telling}
 use Rattle.mscp_logged.proofs.Suited.{formal_opcode}
 use Rattle.mscp_logged.proofs.Texts.{text_with}
@@ -257,7 +257,7 @@ module _ (h : Hardware) (c : Settings) (online : Bool) (figure : ℕ) (sent : Li
 
 -- ---- one of the port's own
 
-pub own_silent : (v : Option Volume) (b : List ℕ) (own : Own) → own_answer false v b ≡ Some own
+own_silent : (v : Option Volume) (b : List ℕ) (own : Own) → own_answer false v b ≡ Some own
     → describes (answer_by First (own_text b own)) ≡ true → ⊥
 own_silent v b = own_cases v b (λ own. describes (answer_by First (own_text b own)) ≡ true → ⊥)
     (λ asks is. formal_opcode (λ n. IsTelling (n + 0x80) → ⊥) (λ t. search (arith, t)) (λ t. search (arith, t))
@@ -269,3 +269,15 @@ own_silent v b = own_cases v b (λ own. describes (answer_by First (own_text b o
         (λ is. search (arith, (describes_so (answer_by First (own_text b (own_refused b 0x1C01))) is).good))
     by status (inr e) = subst (λ n. describes (answer_by First (own_text b (own_refused b n))) ≡ true → ⊥) (sym e)
         (λ is. search (arith, (describes_so (answer_by First (own_text b (own_refused b 0x0C01))) is).good))
+
+pub own_told : (u : ℕ) (o : Option Shape) {v w : Volume} (x : Option Volume) (b : List ℕ) (own : Own)
+    → own_answer false x b ≡ Some own → IsAsWas v w → IsTold u o v w (own_text b own)
+own_told u o x b own answer still = record {
+  own = λ here. record {
+    described = λ is. absurd (own_silent x b own answer is);
+    told = λ is unsure. absurd (own_silent x b own answer
+        (or_right (brings (answer_by First (own_text b own))) (tells_unit (answer_by First (own_text b own))) is));
+    stays = λ none. still;
+  };
+  other = λ here. still;
+}

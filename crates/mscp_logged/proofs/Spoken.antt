@@ -1,10 +1,8 @@
 -- By a step the end that comes tells of its unit what is so, and each other unit stays as it is.
-use Rattle.std.proofs.Common.{◌≡◌, ◌∙◌, ◌+◌, ◌^◌, ◌<◌, ◌≤◌, ◌++◌, ◌∷◌, [], ℕ, Bool, true, false, cond, filter, length, map, List, MatchOption, Option, None, Some, inl, inr, refl, ap, sym, subst, arith}
-use Rattle.std.specs.Prelude.{◌&&◌, Ok, Err, Result, find, is_some}
+use Rattle.std.proofs.Common.{◌≡◌, ◌∙◌, ◌<◌, ◌≤◌, ◌++◌, ◌∷◌, [], ℕ, Bool, true, false, cond, filter, length, map, List, MatchOption, Option, None, Some, inl, inr, refl, ap, sym, subst, arith}
+use Rattle.std.specs.Prelude.{◌%◌, Ok, Err, Result, find, is_some}
 use Rattle.std.proofs.lemmas.List.{append-nil}
 use Rattle.std.proofs.lemmas.Option.{none-some}
-use Rattle.mscp_packet.specs.Number.{num}
-use Rattle.mscp_packet.specs.declared.command.Command.{Command}
 use Rattle.mscp_packet.specs.declared.end.End.{End}
 use Rattle.mscp_drive.specs.Settings.{Settings}
 use Rattle.mscp_drive.specs.Shape.{Shape}
@@ -15,24 +13,19 @@ use Rattle.mscp_drive.specs.declared.connection.Connection.TheVariants.{First, S
 use Rattle.mscp_queue.proofs.Named.{is_same}
 use Rattle.mscp_queue.specs.Names.{name_on}
 use Rattle.mscp_queue.specs.Orders.{endcode}
-use Rattle.mscp_queue.specs.Outcomes.{is_good_block, touches}
 use Rattle.mscp_queue.specs.Records.{Record, drive_at, has_name, name_of, record_at}
-use Rattle.mscp_queue.specs.Serving.{end_given, touched}
+use Rattle.mscp_queue.specs.Serving.{end_given}
 use Rattle.mscp_queue.specs.declared.drive.Drive.{Drive}
 use Rattle.mscp_queue.specs.declared.name.Name.{Name}
 use Rattle.mscp_queue.specs.declared.report.Report.{Report}
 use Rattle.mscp_queue.specs.declared.report.Report.TheVariants as reports
 use Rattle.mscp_controller.specs.Holdings.{Finishes, Holdings}
 use Rattle.mscp_controller.specs.declared.entry.NotBegun.{NotBegun}
-use Rattle.mscp_controller.proofs.Basics.{queued_open}
-use Rattle.mscp_port.specs.Blocks.{block_told, kept_of, moved_by}
-use Rattle.mscp_port.specs.Buffers.{is_of}
+use Rattle.mscp_port.specs.Blocks.{block_told}
 use Rattle.mscp_port.specs.Calls.{Goes}
-use Rattle.mscp_port.specs.Formalities.{code_told, ends_formality, is_formality}
 use Rattle.mscp_port.specs.Moved.{HeedsStep, IsStepping, TakesBegun, TakesBlock, block_begun, block_served, end_brought, volumes_after}
 use Rattle.mscp_port.specs.Volumes.{volume_found}
 use Rattle.mscp_port.specs.declared.action.Outcome.{Outcome}
-use Rattle.mscp_port.specs.declared.buffers.Buffer.{Buffer}
 use Rattle.mscp_port.specs.declared.decided.Decided.{Decided}
 use Rattle.mscp_port.specs.declared.hardware.Hardware.{Hardware}
 use Rattle.mscp_port.specs.declared.port.Port.{Port}
@@ -40,7 +33,7 @@ use Rattle.mscp_port.specs.declared.task.Task.{Task}
 use Rattle.mscp_port.specs.declared.task.Task.TheVariants as tasks
 use Rattle.mscp_port.specs.declared.verdict.Verdict.{Verdict}
 use Rattle.mscp_port.specs.declared.volumes.Volume.{Volume}
-use Rattle.mscp_port.proofs.Common.{eq-eqb, eqb-true, false≢true}
+use Rattle.mscp_port.proofs.Common.{eqb-true, false≢true}
 use Rattle.mscp_port.proofs.Kept.{is_numbered}
 use Rattle.mscp_port.proofs.Said.{served_name}
 use Rattle.mscp_ported.specs.Talk.{is_dead}
@@ -49,29 +42,30 @@ use Rattle.mscp_ported.proofs.Buffered.{FitsBuffer}
 use Rattle.mscp_ported.proofs.Coming.{brought_for, come_so, ends_of, steps_bring}
 use Rattle.mscp_ported.proofs.Ending.{Grows}
 use Rattle.mscp_ported.proofs.Fitted.{Fitting}
-use Rattle.mscp_ported.proofs.Fitting.{decided_code, given_plain as given_of, kept_one, IsPlainEnd}
+use Rattle.mscp_ported.proofs.Fitting.{given_plain as given_of, IsPlainEnd}
 use Rattle.mscp_ported.proofs.Leaving.{step_grows}
-use Rattle.mscp_ported.proofs.Mounting.{Ended, one_ended}
+use Rattle.mscp_ported.proofs.Mounting.{Ended}
 use Rattle.mscp_ported.proofs.Moving.{IsBegunStep}
 use Rattle.mscp_ported.proofs.Numbered.{At}
 use Rattle.mscp_ported.proofs.Numbering.{served_waits}
-use Rattle.mscp_ported.proofs.Origins.{IsOf}
 use Rattle.mscp_ported.proofs.Sole.{found_sole, served_itself}
 use Rattle.mscp_ported.proofs.Staying.{Stays, went_stays}
 use Rattle.mscp_ported.proofs.Tables.{decided_by}
 use Rattle.mscp_ported.proofs.Transferring.{IsHow}
-use Rattle.mscp_shown.proofs.Suiting.{valid_order}
-use Rattle.mscp_logged.proofs.Bytes.{handed_small, stood_code}
-use Rattle.mscp_logged.proofs.Describing.{IsAsWas, IsTold, mine, Tells}
-use Rattle.mscp_logged.proofs.Made.{given_is}
+use Rattle.mscp_logged.proofs.Describing.{IsAsWas}
 use Rattle.mscp_logged.proofs.Moored.{found_as, heeded, volumes_still, Heeded}
 use Rattle.mscp_logged.proofs.Ordering.{OrderedIn}
 use Rattle.mscp_logged.proofs.Speaking.{Speaks}
-use Rattle.mscp_logged.proofs.Stepped.{IsGivenEnd, decided_so, given_plain, step_tells, IsDecided}
-use Rattle.mscp_logged.proofs.Sure.{told_sure, IsSure}
 use Rattle.mscp_logged.proofs.Texts.{text_with, waiting, texts_of, texts_more}
-use Rattle.mscp_wire.specs.Wire.{answer_by}
-use Rattle.mscp_logged.proofs.Worded.{text_unit}
+use Rattle.mscp_packet.specs.declared.command.Order.{Order}
+use Rattle.mscp_packet.specs.declared.command.Order.TheVariants as orders
+use Rattle.mscp_queue.specs.Drives.{drive_of, has_number, replaced}
+use Rattle.mscp_queue.specs.Outcomes.{is_success}
+use Rattle.mscp_queue.specs.Serving.{drive_after, drives_after, state_left}
+use Rattle.mscp_logged.specs.Rules.{IsFaultTold}
+use Rattle.mscp_logged.proofs.Driven.{AreDriven, driven_as, still_driven}
+use Rattle.mscp_logged.proofs.Moored.{available_off}
+use Rattle.mscp_logged.proofs.Served.{IsServed, served_driven, served_placed, served_told}
 
 -- ---- a step
 
@@ -82,9 +76,13 @@ module _ {c : Settings} {Told : Verdict → Record → Type 0} {K : Type 0} (pic
     (outcome : Outcome) (done : Unit) (old new : Port K) (aw : List (List ℕ)) (k : Kept old aw)
     (f : Fitting c Told old aw) (o : OrderedIn c old aw) (r : Goes picks outcome old (Ok done) new)
     (few : length (ends_of new.controller) ≤ 64) (lives : is_dead new.stage ≡ false) (begun : IsBegunStep old)
-    (h : Hardware) (settings : old.controller.settings ≡ c) where
-  abbrev So : Type 0
-  So = (more : List (List ℕ)) × Speaks h c.units old new more
+    (h : Hardware) (settings : old.controller.settings ≡ c) (F : Type 0) (fault : F → IsFaultTold outcome)
+    (driven : AreDriven c.units old.volumes old.controller.drives)
+    (housed : (u : ℕ) (unit : Shape) → unit_found c.units u ≡ Some unit
+    → (x : Drive) × (find (has_number u) old.controller.drives ≡ Some x)) where
+  abbrev pub So : Type 0
+  So = (more : List (List ℕ))
+      × (Speaks h c.units F old new more × AreDriven c.units new.volumes new.controller.drives)
 
   abbrev V : ℕ → Volume
   V u = volume_found c.units old.volumes u
@@ -95,17 +93,24 @@ module _ {c : Settings} {Told : Verdict → Record → Type 0} {K : Type 0} (pic
   now : new.controller.settings ≡ c
   now = r.settings ∙ settings
 
-  none_so : new.volumes ≡ old.volumes → ends_of new.controller ≡ ends_of old.controller
-      → new.decided.items ≡ old.decided.items → So
-  none_so volumes ends decided = (
+  none_so : new.volumes ≡ old.volumes → new.controller ≡ old.controller → new.decided.items ≡ old.decided.items → So
+  none_so volumes controller decided = (
     [],
-    record {
-      behind = ap (λ es. texts_of h c.units es new.decided.items) ends
-          ∙ ap (texts_of h c.units (ends_of old.controller)) decided
-          ∙ sym (append-nil (waiting h c.units old));
-      told = λ u. found_as c.units u old.volumes new.volumes (volumes_still old new lives volumes);
-    },
+    (
+      record {
+        behind = ap (λ (x : Holdings K). texts_of h c.units (ends_of x) new.decided.items) controller
+            ∙ ap (texts_of h c.units (ends_of old.controller)) decided
+            ∙ sym (append-nil (waiting h c.units old));
+        told = still;
+        placed = λ f. still;
+      },
+      driven_as c.units old.volumes new.volumes old.controller.drives new.controller.drives
+          (ap (λ (x : Holdings K). x.drives) controller) (λ u on. (still u on).0) driven,
+    ),
   )
+    where
+      still : (u : ℕ) → IsAsWas (V u) (W u)
+      still u = found_as c.units u old.volumes new.volumes (volumes_still old new volumes)
 
   module _ (verdict : Verdict) (how : IsHow old outcome verdict) (g : Grows old new (decided_by verdict old new))
       (name : Name) (was : old.controller.begun ≡ Some name) (place : ℕ)
@@ -116,7 +121,9 @@ module _ {c : Settings} {Told : Verdict → Record → Type 0} {K : Type 0} (pic
       (record_at old.controller.waiting place))
       (ends : ends_of new.controller ≡ ends_of old.controller ++ brought_for name.connection ended)
       (volumes : new.volumes ≡ volumes_after old.controller.settings.units old.buffers.items name.connection ended
-      old.volumes) where
+      old.volumes)
+      (drives : new.controller.drives ≡ drives_after (block_told verdict) old.controller.drives
+      old.controller.waiting place) where
     abbrev rs0 : List Record
     rs0 = old.controller.waiting
 
@@ -155,34 +162,71 @@ module _ {c : Settings} {Told : Verdict → Record → Type 0} {K : Type 0} (pic
     )
 
     -- no end comes for the host
-    quiet_so : (via : Connection) (x : Option End) → name.connection ≡ via → ended ≡ x → brought_for via x ≡ [] → So
-    quiet_so via x first same none = (
-      [],
-      record {
-        behind = let z = came [] (ap (λ v. brought_for v ended) first ∙ ap (brought_for via) same ∙ none) in
-            ap (λ es. texts_of h c.units es new.decided.items)
-            (z.0 ∙ append-nil (ends_of old.controller))
-            ∙ ap (texts_of h c.units (ends_of old.controller))
-            (z.1 ∙ append-nil old.decided.items) ∙ sym (append-nil (waiting h c.units old));
-        told = still;
-      },
-    )
-      where
-        still : (u : ℕ) → IsAsWas (V u) (W u)
-        still u on =
-            let z = heeded_so via x first same u in
-            elim (z.1 on) [
-              | inl y ↦ (y.0, z.0)
-              | inr y ↦ absurd (empty_ended 0x89 u (subst (λ es. Ended 0x89 u es) none y))
-            ]
+    module _ (via : Connection) (x : Option End) (first : name.connection ≡ via) (same : ended ≡ x)
+        (none : brought_for via x ≡ []) where
+      still : (u : ℕ) → IsAsWas (V u) (W u)
+      still u on =
+          let z = heeded_so via x first same u in
+          elim (z.1 on) [
+            | inl y ↦ (y.0, z.0)
+            | inr y ↦ absurd (empty_ended 0x89 u (subst (λ es. Ended 0x89 u es) none y))
+          ]
+
+      -- an AVAILABLE that succeeds takes it offline, whoever asked for it
+      stays_online : (u : ℕ) → (W u).is_mounted ≡ true → r0.command.unit ≡ u
+          → state_left true r0.command.order x ≡ true
+      stays_online u on own = by x same r0.command.order refl
+        where
+          by : (y : Option End) → ended ≡ y → (order : Order) → r0.command.order ≡ order
+              → state_left true order y ≡ true
+          by None e order of = refl
+          by (Some end) e orders.Available of = off (is_success end.status) refl
+            where
+              plain : IsPlainEnd r0 end
+              plain = given_of b d r0 end (sym given ∙ e)
+
+              off : (c : Bool) → is_success end.status ≡ c → cond c false true ≡ true
+              off false z = refl
+              off true z = absurd (false≢true (sym (ap (λ vs. (volume_found c.units vs u).is_mounted)
+                  (volumes ∙ ap (λ s. volumes_after s.units old.buffers.items name.connection ended old.volumes)
+                  settings ∙ ap (λ y. volumes_after c.units old.buffers.items name.connection y old.volumes) e)
+                  ∙ available_off c.units old.buffers.items name.connection old.volumes end u
+                  (plain.code ∙ ap endcode of) (eqb-true (end.status % 32) 0 z) (plain.unit ∙ own)) ∙ on))
+          by (Some end) e orders.Online of = on_success (is_success end.status)
+            where
+              on_success : (c : Bool) → cond c true true ≡ true
+              on_success false = refl
+              on_success true = refl
+          by (Some end) e order of = refl
+
+      driven_so : AreDriven c.units new.volumes new.controller.drives
+      driven_so u on = subst (λ ds. (drive_of ds u).online ≡ true) (sym (drives
+          ∙ ap (λ y. replaced r0.command.unit (record (drive_after b d r0) {
+            online = state_left d.online r0.command.order y;
+          }) old.controller.drives) (sym given ∙ same)))
+          (still_driven b old.controller.drives r0 x (V u) (W u) u (driven u) (λ y. (still u y).0)
+          (stays_online u) on)
+
+      quiet_so : So
+      quiet_so = (
+        [],
+        (
+          record {
+            behind = let z = came [] (ap (λ v. brought_for v ended) first ∙ ap (brought_for via) same ∙ none) in
+                ap (λ es. texts_of h c.units es new.decided.items) (z.0 ∙ append-nil (ends_of old.controller))
+                ∙ ap (texts_of h c.units (ends_of old.controller)) (z.1 ∙ append-nil old.decided.items)
+                ∙ sym (append-nil (waiting h c.units old));
+            told = still;
+            placed = λ f. still;
+          },
+          driven_so,
+        ),
+      )
 
     -- one comes
     module _ (e : End) (first : name.connection ≡ First) (one : ended ≡ Some e) where
       via : r0.connection ≡ First
       via = ap (λ (n : Name). n.connection) is ∙ first
-
-      n : ℕ
-      n = r0.command.reference
 
       numbered : is_numbered r0.command.reference r0 ≡ true
       numbered = is_same (name_of r0) (name_on First r0.command.reference)
@@ -194,102 +238,22 @@ module _ {c : Settings} {Told : Verdict → Record → Type 0} {K : Type 0} (pic
           (sym (ap (λ via. name_on via r0.command.reference) via) ∙ is)
           (found_sole (is_numbered r0.command.reference) rs0 w sole ∙ ap Some (sym same))
 
-      module _ (t : List ℕ) (x : Buffer) (kept : filter (is_of First r0.command.reference) old.buffers.items ≡ x ∷ [])
-          (fits : FitsBuffer r0 x t) (unit : Shape) (there : unit_found c.units r0.command.unit ≡ Some unit)
-          (here : find (has_name name) rs0 ≡ Some r0) where
-        of : IsOf r0 t
-        of = fits.of
-
-        plain : IsPlainEnd r0 e
-        plain = given_of b d r0 e (sym given ∙ one)
-
-        its_end : IsGivenEnd r0.command.order d.online verdict e
-        its_end =
-            let q = given_is b d r0 e (sym given ∙ one) in
-            record {
-              waits = (queued_open of.settings r0.command of.queued).waits;
-              valid = valid_order of.settings r0.command.unit r0.command.order
-                  (queued_open of.settings r0.command of.queued).sound;
-              code = plain.code;
-              status = ap (λ (y : End). y.status) (sym q.end);
-              body = (d.unit, r0.good + cond (touches d.online r0.command.order && is_good_block b) 1 0, ap (λ (y : End). y.body) (sym q.end));
-            }
-
-        small : e.unit < 2 ^ 16
-        small = subst (λ m. m < 2 ^ 16)
-            (sym (plain.unit ∙ ap (λ (y : Command). y.unit) of.command))
-            (handed_small of.settings.units t of.message.long of.message.small)
-
-        formal : ends_formality (decided_by verdict old new e).code ≡ true → e.code ≡ 0x90
-        formal formality = by (is_formality x.opcode) refl
-          where
-            is_code : (decided_by verdict old new e).code ≡ cond (is_formality x.opcode) (x.opcode + 0x80) e.code
-            is_code = decided_code _ _ e new.controller.settings.units new.flags _
-                ∙ ap (λ y. code_told y e.code) (ap (λ m. kept_of First m old.buffers.items) plain.number
-                ∙ kept_one r0.command.reference old.buffers.items x kept)
-
-            by : (y : Bool) → is_formality x.opcode ≡ y → e.code ≡ 0x90
-            by true z = plain.code ∙ ap (λ (y : Command). endcode y.order) of.command
-                ∙ stood_code of.settings.units t of.message.long (ap is_formality (sym fits.opcode) ∙ z)
-            by false z = absurd (given_plain r0.command.order d.online verdict e its_end
-                (ap ends_formality (sym (is_code ∙ ap (λ y. cond y (x.opcode + 0x80) e.code) z)) ∙ formality))
-
-        tells : Tells (unit_found c.units e.unit) (V e.unit) (W e.unit)
-            (answer_by First (text e))
-        tells =
-            let z = heeded_so First (Some e) first one e.unit in
-            step_tells h c.units verdict d.online (V e.unit) (W e.unit) e (decided_by verdict old new e) unit
-            (ap (unit_found c.units) plain.unit ∙ there)
-            (subst (λ s. IsDecided c.units verdict (volume_found s.units old.volumes e.unit) (W e.unit) e
-            (decided_by verdict old new e)) settings
-            (subst (λ s. IsDecided s.units verdict
-            (volume_found old.controller.settings.units old.volumes e.unit) (volume_found s.units new.volumes e.unit) e
-            (decided_by verdict old new e)) now
-            (decided_so new.controller.settings.units verdict
-            (volume_found old.controller.settings.units old.volumes e.unit)
-            (volume_found new.controller.settings.units new.volumes e.unit) e
-            (kept_of First e.reference old.buffers.items) new.flags)))
-            z.0 formal (λ on. elim (z.1 on) [
-              | inl y ↦ inl y.0
-              | inr y ↦ let q = one_ended First 0x89 e.unit e y in inr (q.0, q.2)
-            ]) r0.command.order (touched d r0)
-            (subst (λ m. IsSure (is_some (moved_by r0.command.order (touched d r0))) (volume_found c.units old.volumes m) verdict) (sym plain.unit)
-            (subst (λ s. IsSure (is_some (moved_by r0.command.order (touched d r0))) (volume_found s.units old.volumes r0.command.unit) verdict) settings
-            (told_sure old outcome begun name was r0 here verdict how))) its_end
-
-        told_so : (u : ℕ) → IsTold u (unit_found c.units u) (V u) (W u) (text e)
-        told_so u = record { own = own; other = other }
-          where
-            names : num (text e) 4 2 ≡ e.unit
-            names = text_unit h c.units e (decided_by verdict old new e) small
-
-            own : mine u (text e) ≡ true → Tells (unit_found c.units u) (V u) (W u)
-                (answer_by First (text e))
-            own here = subst (λ m. Tells (unit_found c.units m) (V m) (W m)
-                (answer_by First (text e)))
-                (sym names ∙ eqb-true (num (text e) 4 2) u here) tells
-
-            other : mine u (text e) ≡ false → IsAsWas (V u) (W u)
-            other here on =
-                let z = heeded_so First (Some e) first one u in
-                elim (z.1 on) [
-                  | inl y ↦ (y.0, z.0)
-                  | inr y ↦ absurd (false≢true (sym here ∙ eq-eqb (num (text e) 4 2) u
-                      (names ∙ (one_ended First 0x89 u e y).1)))
-                ]
-
-        one_so : So
-        one_so = (
-          text e ∷ [],
+      one_so : IsServed c outcome verdict old new r0 e → So
+      one_so served = (
+        text e ∷ [],
+        (
           record {
             behind = let z = came (e ∷ []) (ap (λ v. brought_for v ended) first ∙ ap (brought_for First) one) in
                 ap (λ es. texts_of h c.units es new.decided.items) z.0
                 ∙ ap (texts_of h c.units (ends_of old.controller ++ e ∷ [])) z.1
                 ∙ texts_more h c.units (ends_of old.controller) (e ∷ []) old.decided.items
                 (decided_by verdict old new) f.long;
-            told = told_so;
+            told = served_told h served;
+            placed = λ told. served_placed h served driven (fault told);
           },
-        )
+          served_driven h served driven housed drives,
+        ),
+      )
 
       some_unit : (y : Option Shape) → is_some y ≡ true → (unit : Shape) × (y ≡ Some unit)
       some_unit None z = search (arith, z)
@@ -308,8 +272,26 @@ module _ {c : Settings} {Told : Verdict → Record → Type 0} {K : Type 0} (pic
               let good = o.own r0.command.reference w.own w.sole in
               let unit = some_unit (unit_found c.units r0.command.unit)
               (subst (λ z. is_some (unit_found c.units z.command.unit) ≡ true) (sym same) good.known) in
-              one_so w.text x.0 x.1 (subst (λ z. FitsBuffer z x.0 w.text) (sym same) x.2) unit.0 unit.1
-              (found w.own w.sole same)
+              one_so (record {
+                given = sym given ∙ one;
+                how = how;
+                begun = begun;
+                name = name;
+                was = was;
+                here = found w.own w.sole same;
+                message = w.text;
+                buffer = x.0;
+                kept = x.1;
+                fits = subst (λ z. FitsBuffer z x.0 w.text) (sym same) x.2;
+                unit = unit.0;
+                there = unit.1;
+                volumes = volumes
+                    ∙ ap (λ s. volumes_after s.units old.buffers.items name.connection ended old.volumes) settings
+                    ∙ ap (λ v. volumes_after c.units old.buffers.items v ended old.volumes) first
+                    ∙ ap (λ y. volumes_after c.units old.buffers.items First y old.volumes) one;
+                settings = settings;
+                now = now;
+              })
 
     served : So
     served = by name.connection ended refl refl
@@ -328,8 +310,7 @@ module _ {c : Settings} {Told : Verdict → Record → Type 0} {K : Type 0} (pic
       took : (name : Name) → old.controller.begun ≡ Some name → (result : Result Report NotBegun)
           → Finishes picks (name_on name.connection name.reference) (block_told verdict) old.controller result
           new.controller → HeedsStep name.connection verdict (end_brought result) old new → So
-      took name was (Err not_begun) x q = none_so (ap (λ (p : Port K). p.volumes) q.frame)
-          (ap (λ (y : Holdings K). ends_of y) x.1) q.decided
+      took name was (Err not_begun) x q = none_so (ap (λ (p : Port K). p.volumes) q.frame) x.1 q.decided
       took name was (Ok reports.Idle) x q = absurd (none-some name (sym x.1.serves.1 ∙ was))
       took name was (Ok (reports.Served other number unit lbn started seek ended)) x q =
           let place = x.1.serves.0 in
@@ -339,10 +320,11 @@ module _ {c : Settings} {Told : Verdict → Record → Type 0} {K : Type 0} (pic
           (record_at old.controller.waiting place) x.0 s.next.same) ended (ap (λ y. end_brought (Ok y)) s.told)
           (steps_bring picks name.connection name.reference (block_told verdict) old.controller new.controller
           (Ok (reports.Served other number unit lbn started seek ended)) x) (ap (λ (p : Port K). p.volumes) q.frame)
+          (ap (λ l. l.drives) s.left)
 
       by : (y : Option Name) → old.controller.begun ≡ y → MatchOption y (new ≡ record old { task = tasks.Free })
           (λ name. TakesBlock picks name.connection name.reference verdict old new) → So
-      by None e q = none_so (ap (λ (p : Port K). p.volumes) q) (ap (λ (p : Port K). ends_of p.controller) q)
+      by None e q = none_so (ap (λ (p : Port K). p.volumes) q) (ap (λ (p : Port K). p.controller) q)
           (ap (λ (p : Port K). p.decided.items) q)
       by (Some name) e q = took name e q.finished.0 q.finished.1 q.finished.2
 
@@ -353,7 +335,7 @@ module _ {c : Settings} {Told : Verdict → Record → Type 0} {K : Type 0} (pic
       other t at never stays = elim stays [
         | inr dead ↦ absurd (search (arith, lives, ap is_dead dead.1.stage))
         | inl s ↦ elim r.commands [
-          | inl x ↦ none_so x.volumes (ap (λ (y : Holdings K). ends_of y) s.0) (ap (λ y. y.items) s.1)
+          | inl x ↦ none_so x.volumes s.0 (ap (λ y. y.items) s.1)
           | inr more ↦ elim more [
             | inl block ↦ absurd (never (subst (λ x. IsStepping x) at block.0))
             | inr dead ↦ absurd (search (arith, lives, ap is_dead dead.1.stage))

@@ -1,6 +1,6 @@
 -- An end that answers a message, or that of a command which is aborted, says that its unit is online, or that it isn't,
 -- only if that is so.
-use Rattle.std.proofs.Common.{◌≡◌, ◌⊎◌, ⊎_elim, ◌∙◌, ◌+◌, ◌<◌, ◌^◌, ℕ, Bool, true, false, cond, nat_eq, List, Option, None, Some, inl, inr, refl, ap, sym, subst, arith}
+use Rattle.std.proofs.Common.{◌≡◌, ◌⊎◌, ⊎_elim, ◌∙◌, ◌+◌, ◌<◌, ◌^◌, ℕ, Bool, true, false, cond, List, Option, None, Some, inl, inr, refl, ap, sym, subst, arith}
 use Rattle.std.specs.Prelude.{◌%◌, ◌/◌, ◌==◌, ◌&&◌, ◌||◌, not, slice_index}
 use Rattle.mscp_packet.specs.Commands.{command_of}
 use Rattle.mscp_packet.specs.Number.{num}
@@ -26,14 +26,14 @@ use Rattle.mscp_port.specs.declared.verdict.Verdict.TheVariants as verdicts
 use Rattle.mscp_port.specs.declared.volumes.Volume.{Volume}
 use Rattle.mscp_port.proofs.Common.{eqb-true, false≢true}
 use Rattle.mscp_ported.specs.Answers.{Own, own_answer, own_text}
-use Rattle.mscp_ported.proofs.Itself.{IsPast, own_cases, own_formal, own_refused}
-use Rattle.mscp_wire.specs.Wire.{answer_by, says_away, says_online, sent_by}
+use Rattle.mscp_ported.proofs.Itself.{IsPast, own_cases, own_refused}
+use Rattle.mscp_wire.specs.Wire.{answer_by, sent_by}
 use Rattle.mscp_wire.specs.declared.answer.Answer.{Answer}
 use Rattle.mscp_wire.specs.declared.sent.Sent.{Sent}
 use Rattle.mscp_shown.proofs.Saying.{Says as AsksFor, sent_says}
 use Rattle.mscp_shown.proofs.Suiting.{refused_apart}
 use Rattle.mscp_logged.proofs.Away.{IsPlaced, Says}
-use Rattle.mscp_logged.proofs.Describing.{mine, same_volume}
+use Rattle.mscp_logged.proofs.Describing.{IsAsWas, mine, same_volume}
 use Rattle.mscp_logged.proofs.Placing.{IsAwayCode, IsOnlineCode, away_parts, formal_away, formal_online, online_parts}
 use Rattle.mscp_logged.proofs.Replied.{end_is, state_good, state_told}
 use Rattle.mscp_logged.proofs.Stepped.{IsDecided}
@@ -294,7 +294,7 @@ module _ (h : Hardware) (c : Settings) (online : Bool) (figure : ℕ) (sent : Li
 
 -- ---- one of the port's own
 
-pub own_mute : (v : Option Volume) (b : List ℕ) (own : Own) → own_answer false v b ≡ Some own
+own_mute : (v : Option Volume) (b : List ℕ) (own : Own) → own_answer false v b ≡ Some own
     → IsMute (answer_by First (own_text b own)).code ((answer_by First (own_text b own)).status % 32)
 own_mute v b = own_cases v b
     (λ own. IsMute (answer_by First (own_text b own)).code ((answer_by First (own_text b own)).status % 32))
@@ -308,3 +308,15 @@ own_mute v b = own_cases v b
         ((answer_by First (own_text b (own_refused b n))).status % 32)) (sym e) (other_mute _ _ (inl refl))
     by status (inr e) = subst (λ n. IsMute (answer_by First (own_text b (own_refused b n))).code
         ((answer_by First (own_text b (own_refused b n))).status % 32)) (sym e) (other_mute _ _ (inl refl))
+
+pub own_placed : (u : ℕ) {v w : Volume} (x : Option Volume) (b : List ℕ) (own : Own) → own_answer false x b ≡ Some own
+    → IsAsWas v w → IsPlaced u v w (own_text b own)
+own_placed u x b own answer still = record {
+  own = λ here. record {
+    online = λ says. let p = online_parts (answer_by First (own_text b own)) says in
+        absurd ((own_mute x b own answer).0 ((answer_by First (own_text b own)).status / 256 % 2) p.0 p.1);
+    away = λ says. absurd ((own_mute x b own answer).1 (away_parts (answer_by First (own_text b own)) says));
+    stays = λ none. still;
+  };
+  other = λ here. still;
+}
