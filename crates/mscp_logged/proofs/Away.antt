@@ -57,7 +57,8 @@ module _ (u : ℕ) (v w : Volume) where
       by false e = e
       by true e = absurd (false≢true (sym away ∙ (was e).0))
 
-  pub placed_still : IsAsWas v w → (told : Option (Unit {0})) (qs : List (List ℕ)) → Placed u v told qs → Placed u w told qs
+  pub placed_still : IsAsWas v w → (told : Option (Unit {0})) (qs : List (List ℕ)) → Placed u v told qs
+      → Placed u w told qs
   placed_still was = claimed_as (Denies u) (opens u) (takes_away u) (IsAway v) (IsAway w) (off was)
 
   module _ (text : List ℕ) (is : IsPlaced u v w text) where

@@ -106,8 +106,8 @@ module _ {K : Type 0} (picks : Picking K) (c : Settings) (picker : K)
         by (Next blocks action bytes) asks reads fine a never other = absurd (other blocks action bytes refl)
         by (WasRead bytes (Ok done)) asks reads fine a never other =
             let x = read_speaks bytes done a.0 p (awaited picks start a.0 calls a.1)
-            (numbers_kept picks c picker keep valid sizes before hardware credits controller start was made quiet a.0 calls
-            reads.1 a.1) a.2 reads.0 (whole a.0 calls a.1).ends.long lives hardware c
+            (numbers_kept picks c picker keep valid sizes before hardware credits controller start was made quiet a.0
+            calls reads.1 a.1) a.2 reads.0 (whole a.0 calls a.1).ends.long lives hardware c
             (promised picks c picker keep valid sizes before hardware credits controller start was made quiet a.0 calls
             a.1).1.settings F in
             (x.0, x.1, λ b u e. x.2)
@@ -115,10 +115,10 @@ module _ {K : Type 0} (picks : Picking K) (c : Settings) (picker : K)
             let m = promised picks c picker keep valid sizes before hardware credits controller start was made quiet p
             (Went outcome (Ok done) ∷ calls) a in
             let x = went_speaks (picks a.0.controller.picker) outcome done a.0 p (awaited picks start a.0 calls a.1)
-            (numbers_kept picks c picker keep valid sizes before hardware credits controller start was made quiet a.0 calls
+            (numbers_kept picks c picker keep valid sizes before hardware credits controller start was made quiet a.0
+            calls reads a.1)
+            (fits picks c picker keep valid sizes before hardware credits controller start was made quiet a.0 calls
             reads a.1)
-            (fits picks c picker keep valid sizes before hardware credits controller start was made quiet a.0 calls reads
-            a.1)
             (ordering picks c picker keep valid sizes before hardware credits controller start was made quiet a.0 calls
             reads a.1) a.2 (few_ends (picks picker) c m.0 p.controller valid m.1) lives
             (steps picks hardware credits controller start made a.0 calls
@@ -127,7 +127,8 @@ module _ {K : Type 0} (picks : Picking K) (c : Settings) (picker : K)
             a.1).1.settings F (λ f. (fine f).0)
             (driving picks c picker keep valid sizes before hardware credits controller start was made quiet a.0 calls
             (asked_before (Went outcome (Ok done)) calls asks) reads a.1)
-            (housed picks c picker keep valid sizes before hardware credits controller start was made quiet a.0 calls a.1)
+            (housed picks c picker keep valid sizes before hardware credits controller start was made quiet a.0 calls
+            a.1)
             in
             (x.0, x.1.0, λ b u e. search (arith, e))
         by call asks reads fine a never other = passive call a tt
@@ -179,9 +180,9 @@ module _ {K : Type 0} (picks : Picking K) (c : Settings) (picker : K)
               let still = next_volumes a.0 p (picks a.0.controller.picker) b x a.2.0 in (
                 [],
                 record {
-                  comes = next_comes hardware c.units a.0 p (picks a.0.controller.picker) b x a.2.0 k.ends.long k.hardware
-                      (ap (λ (s : Settings). s.units) (promised picks c picker keep valid sizes before hardware credits
-                      controller start was made quiet a.0 calls a.1).1.settings);
+                  comes = next_comes hardware c.units a.0 p (picks a.0.controller.picker) b x a.2.0 k.ends.long
+                      k.hardware (ap (λ (s : Settings). s.units) (promised picks c picker keep valid sizes before hardware
+                      credits controller start was made quiet a.0 calls a.1).1.settings);
                   told = λ u. found_as c.units u a.0.volumes p.volumes still;
                   placed = λ f u. found_as c.units u a.0.volumes p.volumes still;
                 },
@@ -231,7 +232,8 @@ module _ {K : Type 0} (picks : Picking K) (c : Settings) (picker : K)
                   ∙ ap (λ xs. q.out.bytes.items ∷ xs) is_none ∙ sym (ap (λ xs. xs ++ q.out.bytes.items ∷ []) was_none);
               told = λ u. subst (λ b. IsTold u (unit_found c.units u) (volume_found c.units a.0.volumes u)
                   (volume_found c.units p.volumes u) b) (sym own.own.2)
-                  (own_told u (unit_found c.units u) (volume_named a.0 q.message) q.message own.own.0 answered (still u));
+                  (own_told u (unit_found c.units u) (volume_named a.0 q.message) q.message own.own.0 answered
+                  (still u));
               placed = λ f u. subst (λ b. IsPlaced u (volume_found c.units a.0.volumes u)
                   (volume_found c.units p.volumes u) b) (sym own.own.2)
                   (own_placed u (volume_named a.0 q.message) q.message own.own.0 answered (still u));

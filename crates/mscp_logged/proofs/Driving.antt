@@ -174,10 +174,10 @@ module _ {K : Type 0} (picks : Picking K) (c : Settings) (picker : K)
           let m = promised picks c picker keep valid sizes before hardware credits controller start was made quiet p
           (Went outcome (Ok done) ∷ calls) a in
           (went_speaks (picks a.0.controller.picker) outcome done a.0 p aw
-          (numbers_kept picks c picker keep valid sizes before hardware credits controller start was made quiet a.0 calls
+          (numbers_kept picks c picker keep valid sizes before hardware credits controller start was made quiet a.0
+          calls reads a.1)
+          (fits picks c picker keep valid sizes before hardware credits controller start was made quiet a.0 calls
           reads a.1)
-          (fits picks c picker keep valid sizes before hardware credits controller start was made quiet a.0 calls reads
-          a.1)
           (ordering picks c picker keep valid sizes before hardware credits controller start was made quiet a.0 calls
           reads a.1) a.2 (few_ends (picks picker) c m.0 p.controller valid m.1) lives
           (steps picks hardware credits controller start made a.0 calls

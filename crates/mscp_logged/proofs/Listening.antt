@@ -243,8 +243,9 @@ module _ {K : Type 0} (bytes : List ℕ) (done : Unit) (old new : Port K) (aw : 
       taken : (q : Bool) → is_queued h.settings command ≡ q → So
       taken true e = none_so (ap (λ (x : Holdings K). ends_of x) (gets ∙ ap (λ b. cond b (queued First h command)
           (with_end First (aborting First h command.order) (answered_end First h command))) e))
-          (sees.sent (sents.Queued command.reference) none (answer ∙ ap (λ b. Ok (cond b (sents.Queued command.reference)
-          (sents.Answered command.reference (reference_aborted First h.waiting command.order)))) e)).decided
+          (sees.sent (sents.Queued command.reference) none (answer ∙ ap (λ b. Ok (cond b
+          (sents.Queued command.reference) (sents.Answered command.reference
+          (reference_aborted First h.waiting command.order)))) e)).decided
       taken false e = answered_so e (gets ∙ ap (λ b. cond b (queued First h command)
           (with_end First (aborting First h command.order) (answered_end First h command))) e)
 

@@ -184,11 +184,13 @@ module _ (v : Volume) (online : Bool) (driven : v.is_mounted ≡ true → online
 
   -- of any command that waited
   gone_off : (order : Order) (verdict : Verdict) → is_immediate order ≡ false
-      → ((byte why : ℕ) → order ≢ orders.Invalid byte why) → (moves : Bool) → IsSure moves v verdict → IsFault (block_told verdict)
-      → Told order verdict → IsOff v (endcode order) (outcome_status online order (block_told verdict))
+      → ((byte why : ℕ) → order ≢ orders.Invalid byte why) → (moves : Bool) → IsSure moves v verdict
+      → IsFault (block_told verdict) → Told order verdict
+      → IsOff v (endcode order) (outcome_status online order (block_told verdict))
   gone_off order verdicts.NoVolume waits valid moves sure fault h = (sure, λ code good. error_bad online order good)
   gone_off order verdicts.NotOnline waits valid moves sure fault h = (sure, λ code good. error_bad online order good)
-  gone_off (orders.Move kind count block) (verdicts.Served b) waits valid moves sure fault h = move_gone kind count block b fault h
+  gone_off (orders.Move kind count block) (verdicts.Served b) waits valid moves sure fault h =
+      move_gone kind count block b fault h
   gone_off orders.Online (verdicts.Served blocks.Good) waits valid moves sure fault h =
       absurd (online_good online v.is_mounted h)
   gone_off orders.Online (verdicts.Served (blocks.Bad n)) waits valid moves sure fault h =

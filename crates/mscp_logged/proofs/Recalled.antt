@@ -132,7 +132,7 @@ module _ (F : Type 0) (units : List Shape) (volumes : List Volume) where
           (ap (λ (t : Told). told_away t.state) (sym (told_more h (end_of q) u)) ∙ e));
     }
 
-  pub ends_recalled : (h : History) (ends : List (List ℕ)) (qs : List (List ℕ)) → Recalled F units volumes h (ends ++ qs)
+  pub ends_recalled : (h : History) (ends qs : List (List ℕ)) → Recalled F units volumes h (ends ++ qs)
       → Recalled F units volumes (h ++ map end_of ends) qs
   ends_recalled h [] qs r = recalled_as h (h ++ []) qs qs (append-nil h) refl r
   ends_recalled h (q ∷ ends) qs r =

@@ -95,7 +95,8 @@ module _ {K : Type 0} (picks : Picking K) (c : Settings) (picker : K)
         ∙ append-nil (said picks start a.0 calls a.1))
         ∙ ap (λ z. after.0 ++ map said_in (option_to_list z)) is_out)
 
-    goes : (more : List (List ℕ)) → Brings hardware c.units F a.0 p more → State a.0 calls a.1 → State p (call ∷ calls) a
+    goes : (more : List (List ℕ)) → Brings hardware c.units F a.0 p more → State a.0 calls a.1
+        → State p (call ∷ calls) a
     goes more is s = by a.0.outgoing p.outgoing refl refl is.comes moved
       where
         ms : History
@@ -183,7 +184,8 @@ module _ {K : Type 0} (picks : Picking K) (c : Settings) (picker : K)
       by never s true dead = forgotten p (call ∷ calls) asks a (since_dead p.stage call _ _ dead)
           (since_dead p.stage call _ _ dead) (since_dead p.stage call _ _ dead)
       by never s false lives =
-          let d = ends c before controller hardware credits start p call calls valid was quiet made reads a never lives in
+          let d = ends c before controller hardware credits start p call calls valid was quiet made reads a never
+          lives in
           let m = brings picks c picker keep valid sizes before hardware credits controller start was made quiet F p
           call calls asks reads fine a never lives d.1 in
           goes p call calls asks a never lives m.0 m.1 s

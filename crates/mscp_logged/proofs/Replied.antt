@@ -111,8 +111,8 @@ state_good v good = by v.is_there v.is_mounted refl good
 
 -- ---- the end of a command that is aborted
 
-pub aborted_told : (h : Hardware) (units : List Shape) (r : Record) (d : Decided) (v : Volume) (u : ℕ) (o : Option Shape)
-    (w : Volume) → IsDecided units (verdicts.Served blocks.Good) w w (aborted_record r) d
+pub aborted_told : (h : Hardware) (units : List Shape) (r : Record) (d : Decided) (v : Volume) (u : ℕ)
+    (o : Option Shape) (w : Volume) → IsDecided units (verdicts.Served blocks.Good) w w (aborted_record r) d
     → IsTold u o v v (text_with h units (aborted_record r) d)
 aborted_told h units r d v u o w decided = silent_told u o v (text_with h units (aborted_record r) d)
     (failed h units (aborted_record r) d (λ plain is. bad_after w (aborted_record r).code 2 (λ e. search (arith, e))
@@ -261,7 +261,8 @@ own_silent : (v : Option Volume) (b : List ℕ) (own : Own) → own_answer false
     → describes (answer_by First (own_text b own)) ≡ true → ⊥
 own_silent v b = own_cases v b (λ own. describes (answer_by First (own_text b own)) ≡ true → ⊥)
     (λ asks is. formal_opcode (λ n. IsTelling (n + 0x80) → ⊥) (λ t. search (arith, t)) (λ t. search (arith, t))
-    (λ t. search (arith, t)) (slice_index b 8) asks (describes_so (answer_by First (own_text b (own_formal b))) is).code)
+    (λ t. search (arith, t)) (slice_index b 8) asks
+    (describes_so (answer_by First (own_text b (own_formal b))) is).code)
     (λ status moves past. by status past)
   where
     by : (status : ℕ) → IsPast status → describes (answer_by First (own_text b (own_refused b status))) ≡ true → ⊥

@@ -146,7 +146,8 @@ module _ {c : Settings} {K : Type 0} {outcome : Outcome} {verdict : Verdict} {ol
   formal : ends_formality made.code ≡ true → e.code ≡ 0x90
   formal formality = by (is_formality s.buffer.opcode) refl
     where
-      is_code : (decided_by verdict old new e).code ≡ cond (is_formality s.buffer.opcode) (s.buffer.opcode + 0x80) e.code
+      is_code : (decided_by verdict old new e).code
+          ≡ cond (is_formality s.buffer.opcode) (s.buffer.opcode + 0x80) e.code
       is_code = decided_code _ _ e new.controller.settings.units new.flags _
           ∙ ap (λ y. code_told y e.code) (ap (λ m. kept_of First m old.buffers.items) plain.number
           ∙ kept_one r.command.reference old.buffers.items s.buffer s.kept)

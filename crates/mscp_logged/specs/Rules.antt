@@ -80,9 +80,9 @@ abbrev pub is_of_polls : Rule → Bool
 is_of_polls rules.Figure = true
 is_of_polls rule = false
 
--- the law of ports: while the host's messages are right, and if no unit is without a block, no moment breaks a rule; for
--- those that hang on drives, if what is told of blocks that failed is what these may tell; and for the one that hangs
--- on steps, if blocks are asked for each time that it is asked what is wanted
+-- the law of ports: while the host's messages are right, and if no unit is without a block, no moment breaks a rule;
+-- for those that hang on drives, if what is told of blocks that failed is what these may tell; and for the one that
+-- hangs on steps, if blocks are asked for each time that it is asked what is wanted
 abbrev pub PortsAreRight : {K : Type 0} → Picking K → K → Type 0
 PortsAreRight picks picker = OfLogs picks picker (λ c calls h. (limit : Option ℕ) (rule : Rule)
     → All (λ unit. 0 < unit.size) c.units → HostIsRight limit h → (is_of_drives rule ≡ true → TellsFaults calls)
