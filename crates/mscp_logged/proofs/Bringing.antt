@@ -181,8 +181,8 @@ module _ {K : Type 0} (picks : Picking K) (c : Settings) (picker : K)
                 [],
                 record {
                   comes = next_comes hardware c.units a.0 p (picks a.0.controller.picker) b x a.2.0 k.ends.long
-                      k.hardware (ap (λ (s : Settings). s.units) (promised picks c picker keep valid sizes before hardware
-                      credits controller start was made quiet a.0 calls a.1).1.settings);
+                      k.hardware (ap (λ (s : Settings). s.units) (promised picks c picker keep valid sizes before
+                      hardware credits controller start was made quiet a.0 calls a.1).1.settings);
                   told = λ u. found_as c.units u a.0.volumes p.volumes still;
                   placed = λ f u. found_as c.units u a.0.volumes p.volumes still;
                 },
