@@ -96,7 +96,7 @@ module _ (u : ℕ) (v w : Volume) where
 -- ---- what a host was told
 
 -- an end that brings its unit online is settled
-pub brings_settled : (xs : List Sent) (e : Answer) → brings e ≡ true → settles xs e ≡ true
+brings_settled : (xs : List Sent) (e : Answer) → brings e ≡ true → settles xs e ≡ true
 brings_settled xs e b = by (place_of xs e)
   where
     p : (nat_eq e.code 0x89 ≡ true) × (nat_eq (e.status % 32) 0 ≡ true)

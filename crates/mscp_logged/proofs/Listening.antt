@@ -69,9 +69,6 @@ module _ {K : Type 0} (bytes : List ℕ) (done : Unit) (old new : Port K) (aw : 
   now : new.controller.settings ≡ c
   now = r.settings ∙ settings
 
-  abbrev V : ℕ → Volume
-  V u = volume_found c.units old.volumes u
-
   none_so : ends_of new.controller ≡ ends_of old.controller → new.decided.items ≡ old.decided.items → So
   none_so ends decided = (
     [],

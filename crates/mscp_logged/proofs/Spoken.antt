@@ -26,7 +26,6 @@ use Rattle.mscp_port.specs.Calls.{Goes}
 use Rattle.mscp_port.specs.Moved.{HeedsStep, IsStepping, TakesBegun, TakesBlock, block_begun, block_served, end_brought, volumes_after}
 use Rattle.mscp_port.specs.Volumes.{volume_found}
 use Rattle.mscp_port.specs.declared.action.Outcome.{Outcome}
-use Rattle.mscp_port.specs.declared.decided.Decided.{Decided}
 use Rattle.mscp_port.specs.declared.hardware.Hardware.{Hardware}
 use Rattle.mscp_port.specs.declared.port.Port.{Port}
 use Rattle.mscp_port.specs.declared.task.Task.{Task}
@@ -135,9 +134,6 @@ module _ {c : Settings} {Told : Verdict → Record → Type 0} {K : Type 0} (pic
 
     abbrev d : Drive
     d = drive_at old.controller.drives old.controller.waiting place
-
-    abbrev made : End → Decided
-    made = decided_by verdict old new
 
     abbrev text : End → List ℕ
     text e = text_with h c.units e (decided_by verdict old new e)
