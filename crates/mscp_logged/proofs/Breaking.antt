@@ -3,7 +3,7 @@ use Rattle.std.proofs.Common.{◌≡◌, ◌∙◌, ◌+◌, ◌<◌, ℕ, Bool,
 use Rattle.std.specs.Prelude.{is_some}
 use Rattle.mscp_drive.specs.declared.connection.Connection.{Connection}
 use Rattle.mscp_port.proofs.Common.{false≢true}
-use Rattle.mscp_wire.specs.Wire.{History, answer_by, broken, broken_at, broken_end, command_at, controller, count_of, fits, has_abort, has_count, has_endcode, has_figure, has_status, is_about, is_long, moment_at, names_unit, other_of, outstanding, passes_none, place_of, polled_by, seen_of, succeeds, told, unless}
+use Rattle.mscp_wire.specs.Wire.{History, answer_by, broken, broken_at, broken_end, command_at, controller, count_of, fits, has_abort, has_count, has_endcode, has_figure, has_status, is_about, is_long, is_same_unit, moment_at, names_unit, other_of, outstanding, passes_none, place_of, polled_by, seen_of, succeeds, suits_state, told, unless}
 use Rattle.mscp_wire.specs.declared.answer.Answer.{Answer}
 use Rattle.mscp_wire.specs.declared.moment.Moment.{Moment}
 use Rattle.mscp_wire.specs.declared.moment.Moment.TheVariants as moments
@@ -34,7 +34,6 @@ module _ (holds : Rule → Bool) (x : Rule) where
 -- ---- the end of a command
 
 module _ (earlier later : List Sent) (y : Sent) (unit : Seen) (e : Answer) where
-  -- of Identity and State nothing is said here
   abbrev pub command_holds : Rule → Bool
   command_holds rules.Unit = names_unit y e
   command_holds rules.Endcode = has_endcode y e
@@ -45,8 +44,8 @@ module _ (earlier later : List Sent) (y : Sent) (unit : Seen) (e : Answer) where
   command_holds rules.About = is_about e (other_of y e)
   command_holds rules.Figure = has_figure later y e (polled_by y e)
   command_holds rules.Count = has_count e (count_of y e)
-  command_holds rules.Identity = false
-  command_holds rules.State = false
+  command_holds rules.Identity = is_same_unit unit.unit e
+  command_holds rules.State = suits_state unit.unit.state e
   command_holds rules.Controller = fits unit.controller e.controller
   command_holds rule = true
 
@@ -61,8 +60,8 @@ module _ (earlier later : List Sent) (y : Sent) (unit : Seen) (e : Answer) where
       (unless_fails command_holds x rules.About _ _ (λ b. b)
       (unless_fails command_holds x rules.Figure _ _ (λ b. b)
       (unless_fails command_holds x rules.Count _ _ (λ b. b)
-      (unless_fails command_holds x rules.Identity _ _ (λ b. refl)
-      (unless_fails command_holds x rules.State _ _ (λ b. refl)
+      (unless_fails command_holds x rules.Identity _ _ (λ b. b)
+      (unless_fails command_holds x rules.State _ _ (λ b. b)
       (unless_fails command_holds x rules.Controller _ _ (λ b. b) (none_fails command_holds x))))))))))))
 
 -- ---- a moment

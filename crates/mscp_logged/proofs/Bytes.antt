@@ -1,5 +1,5 @@
 -- A message as it is handed over says what it says itself, but for its unit.
-use Rattle.std.proofs.Common.{◌≡◌, ◌<◌, ◌≤◌, ◌++◌, ◌∷◌, ◌%◌, ◌/◌, ℕ, zero, suc, Bool, true, false, cond, drop, length, take, List, inl, inr, refl, sym, subst, arith}
+use Rattle.std.proofs.Common.{◌≡◌, ◌+◌, ◌*◌, ◌^◌, ◌<◌, ◌≤◌, ◌++◌, ◌∷◌, ◌%◌, ◌/◌, ℕ, zero, suc, Bool, true, false, cond, drop, length, take, List, inl, inr, refl, sym, subst, arith}
 use Rattle.std.specs.Prelude.{slice_index}
 use Rattle.byteorder.specs.Endian.{little_bytes}
 unfoldable use Rattle.mscp_packet.specs.Commands.{command_of}
@@ -12,6 +12,7 @@ use Rattle.mscp_queue.specs.Orders.{endcode}
 use Rattle.mscp_port.specs.Formalities.{is_formality, stand_in}
 use Rattle.mscp_port.specs.Messages.{asks_for_next, handed, next_unit}
 use Rattle.mscp_ported.proofs.Origins.{IsText}
+use Rattle.mscp_ported.proofs.Units.{small_unit, stand_unit}
 use Rattle.mscp_wire.specs.Wire.{sent_by}
 use Rattle.mscp_wire.specs.declared.sent.Sent.{Sent}
 use Rattle.mscp_shown.specs.Keeping.{AreBytes}
@@ -121,3 +122,23 @@ stood_code units t long formal = subst (λ c. endcode (command_of (cond c (stand
     by : (t : List ℕ) → 12 ≤ length t → endcode (command_of (stand_in t)).order ≡ 0x90
     by (a ∷ b ∷ c ∷ d ∷ e ∷ f ∷ g ∷ h ∷ rest) long = refl
     by t long = absurd (search (arith, long))
+
+-- ---- the unit of a message as it is handed over
+
+next_small : (n : ℕ) → 0 + n % 256 * 1 + n / 256 % 256 * 256 < 2 ^ 16
+next_small n = omega arith
+
+named_small : (b : List ℕ) (n : ℕ) → 12 ≤ length b → num (take 4 b ++ little_bytes 2 n ++ drop 6 b) 4 2 < 2 ^ 16
+named_small (a ∷ b ∷ c ∷ d ∷ e ∷ f ∷ g ∷ h ∷ i ∷ j ∷ k ∷ l ∷ rest) n long = next_small n
+named_small b n long = absurd (search (arith, long))
+
+pub handed_small : (units : List Shape) (b : List ℕ) → 12 ≤ length b → ((i : ℕ) → slice_index b i < 2 ^ 8)
+    → (command_of (handed units b)).unit < 2 ^ 16
+unfolding command_of
+handed_small units b long small = by (is_formality (slice_index b 8)) (asks_for_next b)
+  where
+    by : (c d : Bool) → num (cond c (stand_in b) (cond d
+        (take 4 b ++ little_bytes 2 (next_unit units (num b 4 2)) ++ drop 6 b) b)) 4 2 < 2 ^ 16
+    by true d = subst (λ n. n < 2 ^ 16) (sym (stand_unit b long)) (small_unit b small)
+    by false true = named_small b (next_unit units (num b 4 2)) long
+    by false false = small_unit b small

@@ -4,9 +4,9 @@ use Rattle.std.specs.List.{AllByRecursion, list_any}
 use Rattle.std.specs.Prelude.{◌||◌, fold, is_some}
 use Rattle.mscp_drive.specs.Settings.{Settings}
 use Rattle.mscp_drive.specs.declared.connection.Connection.TheVariants.{First}
-use Rattle.mscp_port.proofs.Common.{eq-eqb, eqb-true, false≢true}
+use Rattle.mscp_port.proofs.Common.{eq-eqb, eqb-true}
 use Rattle.mscp_ported.specs.Told.{Said}
-use Rattle.mscp_wire.specs.Wire.{History, aborts, answer_by, command_at, controller, controller_after, controller_in, count_of, fits, has_abort, has_count, has_status, later_of, moment_at, outstanding, status_code}
+use Rattle.mscp_wire.specs.Wire.{History, aborts, answer_by, command_at, controller, controller_after, controller_in, count_of, fits, has_abort, has_count, has_status, is_same_unit, later_of, moment_at, outstanding, status_code, suits_state}
 use Rattle.mscp_wire.specs.declared.answer.Answer.{Answer}
 use Rattle.mscp_wire.specs.declared.moment.Moment.{Moment}
 use Rattle.mscp_wire.specs.declared.moment.Moment.TheVariants as moments
@@ -14,14 +14,15 @@ use Rattle.mscp_wire.specs.declared.rule.Rule.{Rule}
 use Rattle.mscp_wire.specs.declared.rule.Rule.TheVariants as rules
 use Rattle.mscp_wire.specs.declared.sent.Sent.{Sent}
 use Rattle.mscp_wire.specs.declared.told.Seen.{Seen}
-use Rattle.mscp_logged.specs.Rules.{HostIsRight, Keeps, is_left_open, is_of_drives, is_of_polls}
+use Rattle.mscp_logged.specs.Rules.{HostIsRight, Keeps, is_of_drives, is_of_polls}
 use Rattle.mscp_logged.proofs.About.{about_right, success_right}
-use Rattle.mscp_logged.proofs.Breaking.{command_holds, end_holds, placed_holds}
+use Rattle.mscp_logged.proofs.Breaking.{command_holds, end_holds, placed_holds, seen_at}
 use Rattle.mscp_logged.proofs.Coded.{endcode_right, unit_right}
 use Rattle.mscp_logged.proofs.Figures.{IsShownAt, coded_so}
 use Rattle.mscp_logged.proofs.Heard.{IsShown, figure_right}
 use Rattle.mscp_logged.proofs.Long.{whole_long}
 use Rattle.mscp_logged.proofs.Placed.{keeps_rule}
+use Rattle.mscp_logged.proofs.Recalled.{IsSameUnit, IsSuitedUnit}
 use Rattle.mscp_logged.proofs.Stated.{IsSeen, IsTied, Stated}
 use Rattle.mscp_logged.proofs.Suited.{IsKnown, identifier}
 use Rattle.mscp_logged.proofs.Tied.{IsEndOf}
@@ -70,62 +71,68 @@ fits_known c one other (inr e) (inr k) = subst (λ o. fits o other ≡ true) (sy
 -- ---- the end of a command
 
 module _ (c : Settings) (F : Type 0) (xs : List Sent) (unit : Seen) (known : IsKnown c unit.controller) (b : List ℕ)
-    (tied : IsTied (IsEndOf c F) F (Unit {0}) xs b) where
+    (tied : IsTied (IsEndOf c F) F (Unit {0}) xs b)
+    (same : is_same_unit unit.unit (answer_by First b) ≡ true)
+    (suits : F → suits_state unit.unit.state (answer_by First b) ≡ true) where
   abbrev y : Sent
   y = command_at xs tied.place
 
   abbrev e : Answer
   e = answer_by First b
 
-  command_right : (x : Rule) → is_left_open x ≡ false → (is_of_drives x ≡ true → F)
+  command_right : (x : Rule) → (is_of_drives x ≡ true → F)
       → (is_of_polls x ≡ true → IsShown xs b)
       → command_holds (take tied.place xs) (drop (tied.place + 1) xs) y unit e x ≡ true
-  command_right rules.Unit asked f polls = unit_right y e tied.message tied.command tied.tie.fits.unit
-  command_right rules.Endcode asked f polls =
+  command_right rules.Unit f polls = unit_right y e tied.message tied.command tied.tie.fits.unit
+  command_right rules.Endcode f polls =
       endcode_right y e tied.message (ap (λ (s : Sent). s.opcode) tied.command) tied.tie.fits.code
-  command_right rules.Status asked f polls =
+  command_right rules.Status f polls =
       subst (λ s. has_status s e ≡ true) (sym tied.command) (tied.tie.suited (f refl)).status
-  command_right rules.Aborted asked f polls = aborted_right (nat_eq (status_code e) 2) refl
+  command_right rules.Aborted f polls = aborted_right (nat_eq (status_code e) 2) refl
     where
       aborted_right : (b : Bool) → nat_eq (status_code e) 2 ≡ b → has_abort (drop (tied.place + 1) xs) y e ≡ true
       aborted_right true is = ap (λ b. not b || list_any (aborts y) (drop (tied.place + 1) xs)) is
           ∙ tied.abort (f refl) (eqb-true (status_code e) 2 is)
       aborted_right false is = ap (λ b. not b || list_any (aborts y) (drop (tied.place + 1) xs)) is
-  command_right rules.Order asked f polls = tied.order tt
-  command_right rules.Figure asked f polls =
+  command_right rules.Order f polls = tied.order tt
+  command_right rules.Figure f polls =
       figure_right (drop (tied.place + 1) xs) y b (whole_long b tied.tie.whole)
       (coded_so y e (endcode_right y e tied.message (ap (λ (s : Sent). s.opcode) tied.command) tied.tie.fits.code))
       (polls refl tied.place tied.at)
-  command_right rules.Success asked f polls =
+  command_right rules.Success f polls =
       success_right y b tied.message tied.command tied.tie.fits tied.tie.whole
-  command_right rules.About asked f polls = about_right y b tied.message tied.command tied.tie.fits tied.tie.whole
-  command_right rules.Count asked f polls =
+  command_right rules.About f polls = about_right y b tied.message tied.command tied.tie.fits tied.tie.whole
+  command_right rules.Count f polls =
       subst (λ s. has_count e (count_of s e) ≡ true) (sym tied.command) (tied.tie.suited (f refl)).count
-  command_right rules.Controller asked f polls =
+  command_right rules.Controller f polls =
       fits_known c unit.controller (controller_in b) known tied.tie.known
-  command_right rules.Message asked f polls = refl
-  command_right rules.Number asked f polls = refl
-  command_right rules.Credits asked f polls = refl
-  command_right rules.Length asked f polls = refl
-  command_right rules.Outstanding asked f polls = refl
-  command_right x asked f polls = absurd (false≢true (sym asked))
+  command_right rules.Identity f polls = same
+  command_right rules.State f polls = suits (f refl)
+  command_right rules.Message f polls = refl
+  command_right rules.Number f polls = refl
+  command_right rules.Credits f polls = refl
+  command_right rules.Length f polls = refl
+  command_right rules.Outstanding f polls = refl
 
-  end_right : (x : Rule) → is_left_open x ≡ false → (is_of_drives x ≡ true → F)
+  end_right : (x : Rule) → (is_of_drives x ≡ true → F)
       → (is_of_polls x ≡ true → IsShown xs b) → end_holds xs unit First b x ≡ true
-  end_right rules.Length asked f polls = whole_long b tied.tie.whole
-  end_right rules.Outstanding asked f polls = ap is_some tied.at
-  end_right x asked f polls = ap (λ o. placed_holds xs unit e o x) tied.at ∙ command_right x asked f polls
+  end_right rules.Length f polls = whole_long b tied.tie.whole
+  end_right rules.Outstanding f polls = ap is_some tied.at
+  end_right x f polls = ap (λ o. placed_holds xs unit e o x) tied.at ∙ command_right x f polls
 
 -- ---- all of them
 
 pub keeps_rules : (c : Settings) (F : Type 0) (limit : Option ℕ) (x : Rule) (h : History) (aw : List (List ℕ))
-    (held : List Said) → Stated (IsEndOf c F) F (Unit {0}) h aw held → HostIsRight limit h → is_left_open x ≡ false
+    (held : List Said) → Stated (IsEndOf c F) F (Unit {0}) h aw held → HostIsRight limit h
     → (is_of_drives x ≡ true → F)
-    → (is_of_polls x ≡ true → (i : ℕ) → i < length h → IsShownAt (take i h) (moment_at h i)) → Keeps x limit h
-keeps_rules c F limit x h aw held s host asked f shown = keeps_rule (IsEndOf c F) F (Unit {0}) limit x h aw held s
-    (λ h m. is_of_polls x ≡ true → IsShownAt h m) (λ i low polls. shown polls i low)
-    (λ i unit b low is tied more. end_right c F (outstanding (take i h)) unit
-    (subst (λ o. IsKnown c o) (sym is) (told i)) b.items tied x asked f more) host
+    → (is_of_polls x ≡ true → (i : ℕ) → i < length h → IsShownAt (take i h) (moment_at h i))
+    → ((i : ℕ) → i < length h → IsSameUnit (take i h) (moment_at h i))
+    → ((i : ℕ) → i < length h → F → IsSuitedUnit (take i h) (moment_at h i)) → Keeps x limit h
+keeps_rules c F limit x h aw held s host f shown same suits = keeps_rule (IsEndOf c F) F (Unit {0}) limit x h aw held s
+    (λ h m. (is_of_polls x ≡ true → IsShownAt h m) × IsSameUnit h m × (F → IsSuitedUnit h m))
+    (λ i low. ((λ polls. shown polls i low), same i low, suits i low))
+    (λ i b low tied more. end_right c F (outstanding (take i h)) (seen_at (take i h) (moments.End First b)) (told i)
+    b.items tied more.1 more.2 x f more.0) host
   where
     known : (prefix : History) (m : Moment) → IsSeen (IsEndOf c F) F (Unit {0}) prefix m → IsKnownBy c m
     known prefix (moments.End via b) is = is.1.tie.known

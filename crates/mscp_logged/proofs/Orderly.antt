@@ -144,7 +144,7 @@ module _ {K : Type 0} (picks : Picking K) (c : Settings) (picker : K)
     (hardware : Hardware) (credits : ℕ) (controller : Holdings K) (start : Port K)
     (was : AnsweredCalls (picks picker) (fresh c picker) before controller)
     (made : IsMadeOf hardware credits controller start) (quiet : outstanding_of First controller ≡ []) where
-  promised : (p : Port K) (calls : List Call) (a : Answered picks start calls p)
+  pub promised : (p : Port K) (calls : List Call) (a : Answered picks start calls p)
       → (ms : List Made) × KeepsPromise (picks picker) c ms p.controller
   promised p calls a =
       let x = knows picks c picker keep valid before hardware credits controller start was made p calls a in
@@ -154,10 +154,10 @@ module _ {K : Type 0} (picks : Picking K) (c : Settings) (picker : K)
       → Kept p (awaited picks start p calls a)
   numbers_kept = kept picks c picker keep valid before hardware credits controller start was made quiet
 
-  abbrev Any : Verdict → Record → Type 0
+  abbrev pub Any : Verdict → Record → Type 0
   Any verdict r = Unit {0}
 
-  fits : (p : Port K) (calls : List Call) → ReadsBytes calls → (a : Answered picks start calls p)
+  pub fits : (p : Port K) (calls : List Call) → ReadsBytes calls → (a : Answered picks start calls p)
       → Fitting c Any p (awaited picks start p calls a)
   fits p calls reads a = fitting picks c picker keep valid sizes before hardware credits controller start was made quiet
       Any (λ calls. Unit {0}) (λ call calls fine. tt)

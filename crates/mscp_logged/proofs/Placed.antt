@@ -4,11 +4,10 @@ use Rattle.arrayvec.specs.ArrayVec.{ArrayVec}
 use Rattle.mscp_drive.specs.declared.connection.Connection.TheVariants.{First}
 use Rattle.mscp_port.proofs.Common.{false≢true}
 use Rattle.mscp_ported.specs.Told.{Said}
-use Rattle.mscp_wire.specs.Wire.{History, broken_by, controller, moment_at, outstanding}
+use Rattle.mscp_wire.specs.Wire.{History, broken_by, moment_at, outstanding}
 use Rattle.mscp_wire.specs.declared.moment.Moment.{Moment}
 use Rattle.mscp_wire.specs.declared.moment.Moment.TheVariants as moments
 use Rattle.mscp_wire.specs.declared.rule.Rule.{Rule}
-use Rattle.mscp_wire.specs.declared.told.Seen.{Seen}
 use Rattle.mscp_logged.specs.Rules.{HostIsRight, Keeps, is_message}
 use Rattle.mscp_logged.proofs.Breaking.{end_holds, moment_fails, none_never, seen_at}
 use Rattle.mscp_logged.proofs.Stated.{IsSeen, IsTied, Stated}
@@ -17,9 +16,9 @@ use Rattle.mscp_logged.proofs.Stated.{IsSeen, IsTied, Stated}
 pub keeps_rule : (Tie : List ℕ → List ℕ → Type 0) (G O : Type 0) (limit : Option ℕ) (x : Rule) (h : History)
     (aw : List (List ℕ)) (held : List Said) → Stated Tie G O h aw held
     → (More : History → Moment → Type 0) → ((i : ℕ) → i < length h → More (take i h) (moment_at h i))
-    → ((i : ℕ) (unit : Seen) (b : ArrayVec ℕ) → i < length h → unit.controller ≡ controller (take i h)
+    → ((i : ℕ) (b : ArrayVec ℕ) → i < length h
     → IsTied Tie G O (outstanding (take i h)) b.items → More (take i h) (moments.End First b)
-    → end_holds (outstanding (take i h)) unit First b.items x ≡ true)
+    → end_holds (outstanding (take i h)) (seen_at (take i h) (moments.End First b)) First b.items x ≡ true)
     → HostIsRight limit h → Keeps x limit h
 keeps_rule Tie G O limit x h aw held s More more ends host i low =
     by (moment_at h i) (s.each i low) (more i low) (host i low)
@@ -31,8 +30,8 @@ keeps_rule Tie G O limit x h aw held s More more ends host i low =
     by (moments.End via b) is m right e =
         let unit = seen_at (take i h) (moments.End via b) in
         false≢true (sym (moment_fails (outstanding (take i h)) unit limit (moments.End via b) x e)
-        ∙ subst (λ v. end_holds (outstanding (take i h)) unit v b.items x ≡ true) (sym is.0)
-        (ends i unit b low refl is.1 (subst (λ v. More (take i h) (moments.End v b)) is.0 m)))
+        ∙ subst (λ v. end_holds (outstanding (take i h)) (seen_at (take i h) (moments.End v b)) v b.items x ≡ true)
+        (sym is.0) (ends i b low is.1 (subst (λ v. More (take i h) (moments.End v b)) is.0 m)))
     by m is y right e = none_never x e
 
 abbrev pub Any : List ℕ → List ℕ → Type 0

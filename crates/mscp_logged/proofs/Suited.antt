@@ -153,13 +153,13 @@ formal_high code e h = search (arith, sym h ∙ ap ends_formality e)
 
 -- ---- statuses
 
-low_bits : (x : ℕ) → num (little_bytes 2 x) 0 2 % 32 ≡ x % 32
+pub low_bits : (x : ℕ) → num (little_bytes 2 x) 0 2 % 32 ≡ x % 32
 low_bits x = low x
   where
     low : (x : ℕ) → (0 + x % 256 * 1 + x / 256 % 256 * 256) % 32 ≡ x % 32
     low x = omega arith
 
-body_bits : (body : EndBody) (e : End) (d : Decided) (o : Option Shape) (h : Hardware)
+pub body_bits : (body : EndBody) (e : End) (d : Decided) (o : Option Shape) (h : Hardware)
     → num (end_with_body body e d o h) 10 2 ≡ num (little_bytes 2 d.status) 0 2
 body_bits body e d o h = grind arith
 

@@ -143,7 +143,7 @@ said_as c F old aw text t f s = record {
       told = x.told;
     }))
 
-faults_before : (call : Call) (calls : List Call) → TellsFaults (call ∷ calls) → TellsFaults calls
+pub faults_before : (call : Call) (calls : List Call) → TellsFaults (call ∷ calls) → TellsFaults calls
 faults_before (Went outcome result) calls h = h.1
 faults_before call calls h = h
 

@@ -67,17 +67,12 @@ abbrev pub PortsAnswerWhatIsOutstanding : {K : Type 0} → Picking K → K → T
 PortsAnswerWhatIsOutstanding picks picker =
     OfLogs picks picker (λ c calls h. (limit : Option ℕ) → HostIsRight limit h → Keeps rules.Outstanding limit h)
 
--- a rule of which nothing is said here: of what is told of units
-abbrev pub is_left_open : Rule → Bool
-is_left_open rules.Identity = true
-is_left_open rules.State = true
-is_left_open rule = false
-
--- one that hangs on what drives tell of blocks that failed
+-- a rule that hangs on what drives tell of blocks that failed
 abbrev pub is_of_drives : Rule → Bool
 is_of_drives rules.Status = true
 is_of_drives rules.Aborted = true
 is_of_drives rules.Count = true
+is_of_drives rules.State = true
 is_of_drives rule = false
 
 -- and one that hangs on steps: a figure falls by them alone
@@ -85,11 +80,10 @@ abbrev pub is_of_polls : Rule → Bool
 is_of_polls rules.Figure = true
 is_of_polls rule = false
 
--- the law of the other rules: while the host's messages are right, and if no unit is without a block, no moment breaks
--- one of them; for those that hang on drives, if what is told of blocks that failed is what these may tell; and for the
--- one that hangs on steps, if blocks are asked for each time that it is asked what is wanted
-abbrev pub PortsKeepFifteenRules : {K : Type 0} → Picking K → K → Type 0
-PortsKeepFifteenRules picks picker = OfLogs picks picker (λ c calls h. (limit : Option ℕ) (rule : Rule)
-    → All (λ unit. 0 < unit.size) c.units → HostIsRight limit h → is_left_open rule ≡ false
-    → (is_of_drives rule ≡ true → TellsFaults calls) → (is_of_polls rule ≡ true → AsksForBlocks calls)
-    → Keeps rule limit h)
+-- the law of ports: while the host's messages are right, and if no unit is without a block, no moment breaks a rule;
+-- for those that hang on drives, if what is told of blocks that failed is what these may tell; and for the one that
+-- hangs on steps, if blocks are asked for each time that it is asked what is wanted
+abbrev pub PortsAreRight : {K : Type 0} → Picking K → K → Type 0
+PortsAreRight picks picker = OfLogs picks picker (λ c calls h. (limit : Option ℕ) (rule : Rule)
+    → All (λ unit. 0 < unit.size) c.units → HostIsRight limit h → (is_of_drives rule ≡ true → TellsFaults calls)
+    → (is_of_polls rule ≡ true → AsksForBlocks calls) → Keeps rule limit h)

@@ -1,6 +1,6 @@
 // What is true of all that a port's log shows.
 
-ghost use Rattle.mscp_logged.specs.Rules.{PortsAnswerWhatIsOutstanding, PortsKeepFifteenRules, PortsSendLongEnds};
+ghost use Rattle.mscp_logged.specs.Rules.{PortsAnswerWhatIsOutstanding, PortsAreRight, PortsSendLongEnds};
 
 use mscp_controller::controllers_keep_the_promise;
 use mscp_ported::{
@@ -29,11 +29,10 @@ pub fn ports_answer_what_is_outstanding<K: Picker>(picker: &K)
 }
 
 /// Of such a port, whose units have blocks: while its host's messages are right, no moment of the log breaks a rule of
-/// `mscp_wire`, but for the two of which nothing is said here: `Identity` and `State`. `Status`, `Aborted` and `Count` are kept if
-/// what the port is told of blocks that failed has a code from 5 to 11, as what a drive or a medium has; and `Figure` if whoever calls
-/// the port asks for blocks each time that it asks what is wanted.
-pub fn ports_keep_fifteen_rules<K: Picker>(picker: &K)
-    ensures { PortsKeepFifteenRules K.picks picker.now }
+/// `mscp_wire`. `Status`, `Aborted`, `Count` and `State` are kept if what the port is told of blocks that failed has a code from 5 to
+/// 11, as what a drive or a medium has; and `Figure` if whoever calls the port asks for blocks each time that it asks what is wanted.
+pub fn ports_are_right<K: Picker>(picker: &K)
+    ensures { PortsAreRight K.picks picker.now }
 {
     controllers_keep_the_promise(picker);
     ports_end_what_they_took(picker);

@@ -3,6 +3,4 @@
 
 mod law;
 
-pub use crate::law::{
-    ports_answer_what_is_outstanding, ports_keep_fifteen_rules, ports_send_long_ends,
-};
+pub use crate::law::{ports_answer_what_is_outstanding, ports_are_right, ports_send_long_ends};

@@ -127,7 +127,8 @@ kept_found f bs = elim (find_cases f bs) [
 ]
 
 -- where one is kept of a number, and where none is
-kept_one : (n : ℕ) (bs : List Buffer) (b : Buffer) → filter (is_of First n) bs ≡ b ∷ [] → kept_of First n bs ≡ Some b
+pub kept_one : (n : ℕ) (bs : List Buffer) (b : Buffer) → filter (is_of First n) bs ≡ b ∷ []
+    → kept_of First n bs ≡ Some b
 kept_one n bs b e = kept_found (is_of First n) bs ∙ found_sole (is_of First n) bs b e
 
 kept_none : (n : ℕ) (bs : List Buffer) → filter (is_of First n) bs ≡ [] → kept_of First n bs ≡ None

@@ -38,7 +38,7 @@ use Rattle.mscp_ported.proofs.Coming.{brought_for, come_so, ends_of, steps_bring
 -- ---- a volume
 
 -- a unit that is online with its volume is so for this reason
-abbrev Mounted : Type 0 → Volume → Type 0
+abbrev pub Mounted : Type 0 → Volume → Type 0
 Mounted why v = v.is_mounted ≡ true → why
 
 not_mounted : (why : Type 0) (v : Volume) → v.is_mounted ≡ false → Mounted why v
@@ -127,7 +127,7 @@ other_volume why because becomes units unit to place (Some q) vs on off here the
 -- ---- a step
 
 -- an end by which the unit goes offline, of those that came
-abbrev Ended : ℕ → ℕ → List End → Type 0
+abbrev pub Ended : ℕ → ℕ → List End → Type 0
 Ended code unit es = (e : End) × Contains es e × (e.code ≡ code) × (e.unit ≡ unit) × (e.status % 32 ≡ 0)
 
 none_ended : (code unit : ℕ) (es : List End) → es ≡ [] → Ended code unit es → ⊥
@@ -137,7 +137,7 @@ none_ended code unit es none h = nothing h.0 (subst (λ xs. Contains xs h.0) non
     nothing e there = search (arith, there)
 
 -- the one that came
-one_ended : (via : Connection) (code unit : ℕ) (e : End) → Ended code unit (brought_for via (Some e))
+pub one_ended : (via : Connection) (code unit : ℕ) (e : End) → Ended code unit (brought_for via (Some e))
     → (e.code ≡ code) × (e.unit ≡ unit) × (e.status % 32 ≡ 0)
 one_ended First code unit e h = by h.0 h.1 h.2 h.3 h.4
   where
@@ -206,7 +206,7 @@ module _ (why because : Type 0) (units : List Shape) (unit place : ℕ) (here : 
     (bs : List Buffer) (via : Connection) (vs : List Volume)
     (m : Mounted why (volume_at vs place)) where
   -- an end comes, by which the unit is online, or doesn't go offline
-  ended_so : (ended : Option End)
+  pub ended_so : (ended : Option End)
       → (Ended 0x89 unit (brought_for via ended) → because)
       → ((Ended 0x88 unit (brought_for via ended) → ⊥) → why → because)
       → Mounted because (volume_at (volumes_after units bs via ended vs) place)

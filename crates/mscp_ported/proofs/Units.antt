@@ -30,7 +30,7 @@ small_unit b h = few (slice_index b 4) (slice_index b 5) (h 4) (h 5)
     few : (x y : ℕ) → x < 2 ^ 8 → y < 2 ^ 8 → 0 + x * 1 + y * 256 < 2 ^ 16
     few x y a b = omega (arith, a, b)
 
-stand_unit : (b : List ℕ) → 12 ≤ length b → num (stand_in b) 4 2 ≡ num b 4 2
+pub stand_unit : (b : List ℕ) → 12 ≤ length b → num (stand_in b) 4 2 ≡ num b 4 2
 stand_unit (a ∷ b ∷ c ∷ d ∷ e ∷ f ∷ g ∷ h ∷ i ∷ j ∷ k ∷ l ∷ rest) long = refl
 stand_unit b long = absurd (search (arith, long))
 
@@ -50,7 +50,7 @@ handed_unit units b long small = by (is_formality (slice_index b 8)) (asks_for_n
 
 -- ---- the text of an end
 
-body_unit : (body : EndBody) (e : End) (d : Decided) (o : Option Shape) (h : Hardware) → e.unit < 2 ^ 16
+pub body_unit : (body : EndBody) (e : End) (d : Decided) (o : Option Shape) (h : Hardware) → e.unit < 2 ^ 16
     → num (end_with_body body e d o h) 4 2 ≡ e.unit
 body_unit body e d o h small = grind (arith, two e.unit small)
 

@@ -14,4 +14,4 @@ returns g c = λ s before controller hardware credits start p calls valid was qu
     (λ p call calls reads fine a q never. absurd never) (λ old text o own kind never. absurd never)
     (λ p call calls reads fine a q never. absurd never) (λ p call calls reads fine a q own kind never. absurd never)
     (λ old text o small own kind. tt) limit p calls asks
-    reads tt a host) (λ h m. Unit {0}) (λ i low. tt) (λ i unit b low is tied more. ap is_some tied.at) host
+    reads tt a host) (λ h m. Unit {0}) (λ i low. tt) (λ i b low tied more. ap is_some tied.at) host

@@ -2,12 +2,13 @@ use Rattle.mscp_logged.specs.Rules.{TellsFaults}
 use Rattle.mscp_logged.proofs.Figured.{known}
 use Rattle.mscp_logged.proofs.Kept.{keeps_rules}
 use Rattle.mscp_logged.proofs.Logging.{stated}
+use Rattle.mscp_logged.proofs.Recalling.{recalled}
 use Rattle.mscp_logged.proofs.Tied.{IsEndOf, IsFineUntil, end_of, fine_before, late_of, never_aborted, own_end_of, own_turn, turn_of}
-use Rattle.mscp_logged.proofs.law.ports_keep_fifteen_rules.Goals as goal
+use Rattle.mscp_logged.proofs.law.ports_are_right.Goals as goal
 
 pub returns : goal.returns
 returns g c = λ s before controller hardware credits start p calls valid was quiet made asks reads a limit rule sizes
-    host asked faults blocks.
+    host faults blocks.
     let F = TellsFaults calls in
     let state = stated (IsEndOf s F) F (Unit {0}) g.K.Picker.picks s c.args.picker.now
     c.ports_end_what_they_took.ensures c.ports_tell_in_order.ensures before controller hardware credits start valid was
@@ -21,10 +22,14 @@ returns g c = λ s before controller hardware credits start p calls valid was qu
     credits controller start was made quiet F)
     (own_turn g.K.Picker.picks s c.args.picker.now c.controllers_keep_the_promise.ensures valid sizes before hardware
     credits controller start was made quiet F) (own_end_of s F) limit in
-    keeps_rules s F limit rule _ _ _ (state p calls asks reads (asks, λ f. f) a host) host asked faults
+    let recalling = recalled g.K.Picker.picks s c.args.picker.now c.controllers_keep_the_promise.ensures valid sizes
+    before hardware credits controller start was made quiet c.ports_end_what_they_took.ensures
+    c.ports_tell_in_order.ensures F p calls asks reads (λ f. f) a in
+    keeps_rules s F limit rule _ _ _ (state p calls asks reads (asks, λ f. f) a host) host faults
     (λ polls. (known (IsEndOf s F) F (Unit {0}) (λ text message tie. tie.fits.code) g.K.Picker.picks s
     c.args.picker.now c.ports_end_what_they_took.ensures c.ports_tell_in_order.ensures
     c.ports_hold_what_is_awaited.ensures c.ports_pass_ends_on.ensures c.ports_lower_figures.ensures sizes before
     controller hardware credits start valid was quiet made limit (IsFineUntil F) (fine_before F) state p calls asks
     reads (asks, λ f. f) a host (c.ports_serve_who_asks_for_blocks.ensures hardware credits controller start p calls
     made (blocks polls) a)).each)
+    recalling.each recalling.suits

@@ -1,0 +1,216 @@
+-- Over a whole list of calls a unit that is online with its volume is online in the controller, too.
+use Rattle.std.proofs.Common.{◌≡◌, ◌⊎◌, ◌∙◌, ◌<◌, ◌∷◌, [], ℕ, All, Bool, true, false, cond, map, nat_eq, List, Option, None, Some, inl, inr, refl, ap, sym, subst, arith}
+use Rattle.std.specs.Prelude.{Ok, find, option_map}
+use Rattle.mscp_packet.specs.Commands.{command_of}
+use Rattle.mscp_drive.specs.Settings.{IsValid, Settings}
+use Rattle.mscp_drive.specs.Shape.{Shape, one_block}
+use Rattle.mscp_drive.specs.UnitList.{unit_found}
+use Rattle.mscp_drive.specs.declared.connection.Connection.TheVariants.{First}
+use Rattle.mscp_queue.specs.Drives.{has_number}
+use Rattle.mscp_queue.specs.declared.drive.Drive.{Drive}
+use Rattle.mscp_controller.specs.Arrival.{is_queued, refusal}
+use Rattle.mscp_controller.specs.Calls.{AnsweredCalls, Call as Made, history}
+use Rattle.mscp_controller.specs.Controllers.{ControllersKeepThePromise, drive_now}
+use Rattle.mscp_controller.specs.Holdings.{Holdings, aborting, after_message, answered_end, balance_of, fresh, held_unless, outstanding_of, queued, with_end}
+use Rattle.mscp_controller.specs.declared.entry.SendFault.{SendFault}
+use Rattle.mscp_port.specs.declared.hardware.Hardware.{Hardware}
+use Rattle.mscp_port.specs.declared.port.Port.{Port}
+use Rattle.mscp_port.specs.declared.stage.Stage.{Stage}
+use Rattle.mscp_port.specs.declared.stage.Stage.TheVariants as stages
+use Rattle.mscp_port.specs.declared.task.Task.{Task}
+use Rattle.mscp_port.specs.declared.task.Task.TheVariants as tasks
+use Rattle.mscp_port.specs.declared.volumes.Volume.{Volume}
+use Rattle.mscp_port.specs.Calls.{Dies, Hears, IsMadeOf, Wants}
+use Rattle.mscp_port.specs.Histories.{Answered, Call, Next, Picking, WasRead, Went, WriteIp}
+use Rattle.mscp_port.specs.Messages.{handed, own_end_of}
+use Rattle.mscp_port.specs.Moved.{GoesOnWithBlock}
+use Rattle.mscp_port.specs.Ports.{IsAsNew, IsReadingText}
+use Rattle.mscp_port.specs.Volumes.{place_in, volume_at, volume_in_place}
+use Rattle.mscp_port.proofs.Begun.{taken_or_not}
+use Rattle.mscp_port.proofs.Common.{false≢true, none-some, position-Some}
+use Rattle.mscp_port.proofs.Loads.{looks_or_not}
+use Rattle.mscp_port.proofs.Said.{none_or_some}
+use Rattle.mscp_ported.specs.Awaited.{ReadsBytes, awaited}
+use Rattle.mscp_ported.specs.Talk.{AsksAlways, is_dead}
+use Rattle.mscp_ported.proofs.Coming.{few_ends}
+use Rattle.mscp_ported.proofs.Following.{asked_before}
+use Rattle.mscp_ported.proofs.Moving.{steps}
+use Rattle.mscp_ported.proofs.Staying.{IsPassive, passive_stays}
+use Rattle.mscp_logged.proofs.Driven.{AreDriven, driven_as}
+use Rattle.mscp_logged.proofs.Moored.{AreAsWere, found_as, next_volumes, passive_volumes, read_volumes, volumes_still}
+use Rattle.mscp_logged.proofs.Orderly.{fits, numbers_kept, ordering, promised}
+use Rattle.mscp_logged.proofs.Seen.{reads_before}
+use Rattle.mscp_logged.proofs.Spoken.{went_speaks}
+
+-- ---- the drives
+
+find_drives : (f : Shape → Drive) → ((s : Shape) → (f s).unit ≡ s) → (u : ℕ) (units : List Shape)
+    → find (has_number u) (map f units) ≡ option_map f (unit_found units u)
+find_drives f same u [] = refl
+find_drives f same u (s ∷ units) =
+    ap (λ x. cond (nat_eq x.number u) (Some (f s)) (find (has_number u) (map f units))) (same s)
+    ∙ by (nat_eq s.number u) (find_drives f same u units)
+  where
+    by : (b : Bool) → find (has_number u) (map f units) ≡ option_map f (unit_found units u)
+        → cond b (Some (f s)) (find (has_number u) (map f units))
+        ≡ option_map f (cond b (Some s) (unit_found units u))
+    by true e = refl
+    by false e = e
+
+-- no message changes one
+message_drives : {K : Type 0} (h : Holdings K) (b : List ℕ) → (after_message First h b).drives ≡ h.drives
+message_drives {K} h b = by (refusal (balance_of First h) (outstanding_of First h) b)
+  where
+    taken : (q : Bool) → (cond q (queued First h (command_of b))
+        (with_end First (aborting First h (command_of b).order) (answered_end First h (command_of b)))).drives
+        ≡ h.drives
+    taken true = refl
+    taken false = refl
+
+    by : (o : Option SendFault) → (held_unless First h (command_of b) o).drives ≡ h.drives
+    by (Some fault) = refl
+    by None = taken (is_queued h.settings (command_of b))
+
+module _ {K : Type 0} (old new : Port K) where
+  next_drives : (picks : List _ → ℕ → Type 0) (blocks : Bool) (action : _) → Wants picks blocks old action new
+      → new.controller.drives ≡ old.controller.drives
+  next_drives picks blocks action r = elim (looks_or_not old) [
+    | inl looks ↦ elim (r.says.looks looks) [
+      | inl t ↦ ap (λ (h : Holdings K). h.drives) t.controller
+      | inr n ↦ ap (λ (h : Holdings K). h.drives) n.controller
+    ]
+    | inr never ↦ ap (λ (h : Holdings K). h.drives) (r.says.keeps never).controller
+  ]
+
+  read_drives : (bytes : List ℕ) (done : Unit) → Hears bytes old (Ok done) new
+      → (new.controller.drives ≡ old.controller.drives) ⊎ Dies old new
+  read_drives bytes done r = by old.task refl
+    where
+      by : (t : Task) → old.task ≡ t → (new.controller.drives ≡ old.controller.drives) ⊎ Dies old new
+      by (tasks.Text slot size foreign) at = inl (elim (none_or_some (own_end_of old foreign bytes)) [
+        | inl none ↦ ap (λ (h : Holdings K). h.drives) (r.handed slot size foreign at refl none)
+            ∙ message_drives old.controller (handed old.controller.settings.units bytes)
+        | inr own ↦ ap (λ (h : Holdings K). h.drives)
+            (r.own slot size foreign at (λ none. none-some own.0 (sym none ∙ own.1)))
+      ])
+      by t at = elim (r.nothing_else (λ h. subst (λ x. IsReadingText x) at h))
+          [ inl same ↦ inl (ap (λ (h : Holdings K). h.drives) same) | inr d ↦ inr d ]
+
+-- ---- calls
+
+module _ {K : Type 0} (picks : Picking K) (c : Settings) (picker : K)
+    (keep : ControllersKeepThePromise (picks picker) picker) (valid : IsValid c)
+    (sizes : All (λ unit. 0 < unit.size) c.units) (before : List Made)
+    (hardware : Hardware) (credits : ℕ) (controller : Holdings K) (start : Port K)
+    (was : AnsweredCalls (picks picker) (fresh c picker) before controller)
+    (made : IsMadeOf hardware credits controller start) (quiet : outstanding_of First controller ≡ []) where
+  abbrev pub So : Port K → Type 0
+  So p = AreDriven c.units p.volumes p.controller.drives
+
+  -- each unit has its drive
+  pub housed : (p : Port K) (calls : List Call) (a : Answered picks start calls p) (u : ℕ) (unit : Shape)
+      → unit_found c.units u ≡ Some unit → (x : Drive) × (find (has_number u) p.controller.drives ≡ Some x)
+  housed p calls a u unit found =
+      let m = promised picks c picker keep valid sizes before hardware credits controller start was made quiet p calls
+      a in (
+        drive_now c (history m.0) unit,
+        ap (find (has_number u)) m.1.drives ∙ find_drives (drive_now c (history m.0)) (λ s. refl) u c.units
+            ∙ ap (option_map (drive_now c (history m.0))) found,
+      )
+
+  -- none is online
+  none_so : (p : Port K) → ((place : ℕ) → place < 16 → (volume_at p.volumes place).is_mounted ≡ false) → So p
+  none_so p off u on = absurd (false≢true (sym (by (place_in c.units u) refl) ∙ on))
+    where
+      by : (o : Option ℕ) → place_in c.units u ≡ o → (volume_in_place p.volumes (place_in c.units u)).is_mounted ≡ false
+      by None e = ap (λ o. (volume_in_place p.volumes o).is_mounted) e
+      by (Some place) e = ap (λ o. (volume_in_place p.volumes o).is_mounted) e ∙ off place (search (
+        arith,
+        (position-Some (λ (s : Shape). nat_eq s.number u) c.units place one_block e).0,
+        valid.unit_list.few,
+      ))
+
+  as_new : (s : Stage) (old p : Port K) → IsAsNew s old p → So p
+  as_new s old p d = none_so p (λ place low. ap (λ (v : Volume). v.is_mounted) (d.volumes place low))
+
+  stays_so : (old p : Port K) → AreAsWere old.volumes p.volumes → p.controller.drives ≡ old.controller.drives → So old
+      → So p
+  stays_so old p still drives = driven_as c.units old.volumes p.volumes old.controller.drives p.controller.drives drives
+      (λ u on. (found_as c.units u old.volumes p.volumes still on).0)
+
+  passive : (p : Port K) (call : Call) (calls : List Call) (a : Answered picks start (call ∷ calls) p) → IsPassive call
+      → So a.0 → So p
+  passive p call calls a is s = elim (passive_volumes a.0 p picks call a.2 is) [
+    | inr d ↦ as_new (stages.Dead d.0) a.0 p d.1
+    | inl still ↦ elim (passive_stays picks call a.0 p a.2 is) [
+      | inr d ↦ as_new (stages.Dead d.0) a.0 p d.1
+      | inl same ↦ stays_so a.0 p still (ap (λ (h : Holdings K). h.drives) same.0) s
+    ]
+  ]
+
+  went : (p : Port K) (outcome : _) (done : Unit) (calls : List Call) → AsksAlways (Went outcome (Ok done) ∷ calls)
+      → ReadsBytes calls → (a : Answered picks start (Went outcome (Ok done) ∷ calls) p) → So a.0 → So p
+  went p outcome done calls asks reads a s = by (is_dead p.stage) refl
+    where
+      aw : List (List ℕ)
+      aw = awaited picks start a.0 calls a.1
+
+      -- a port that is dead takes no step
+      stepped : is_dead p.stage ≡ true → GoesOnWithBlock (picks a.0.controller.picker) a.0 p → So p
+      stepped dead goes = by a.0.stage refl (sym (ap is_dead same) ∙ dead)
+        where
+          same : p.stage ≡ a.0.stage
+          same = elim (taken_or_not (picks a.0.controller.picker) a.0 p goes) [
+            | inl e ↦ ap (λ (q : Port K). q.stage) e
+            | inr t ↦ ap (λ (q : Port K). q.stage) t.2.finished.2.frame
+          ]
+
+          by : (x : Stage) → a.0.stage ≡ x → is_dead a.0.stage ≡ true → So p
+          by (stages.Dead code) at d = absurd (false≢true (a.2.dead code at))
+          by x at d = absurd (search (arith, at, d))
+
+      by : (b : Bool) → is_dead p.stage ≡ b → So p
+      by false lives =
+          let m = promised picks c picker keep valid sizes before hardware credits controller start was made quiet p
+          (Went outcome (Ok done) ∷ calls) a in
+          (went_speaks (picks a.0.controller.picker) outcome done a.0 p aw
+          (numbers_kept picks c picker keep valid sizes before hardware credits controller start was made quiet a.0
+          calls reads a.1)
+          (fits picks c picker keep valid sizes before hardware credits controller start was made quiet a.0 calls
+          reads a.1)
+          (ordering picks c picker keep valid sizes before hardware credits controller start was made quiet a.0 calls
+          reads a.1) a.2 (few_ends (picks picker) c m.0 p.controller valid m.1) lives
+          (steps picks hardware credits controller start made a.0 calls
+          (asked_before (Went outcome (Ok done)) calls asks) a.1).begun hardware
+          (promised picks c picker keep valid sizes before hardware credits controller start was made quiet a.0 calls
+          a.1).1.settings ⊥ (λ never. absurd never) s (housed a.0 calls a.1)).1.1
+      by true dead = elim a.2.commands [
+        | inl x ↦ stays_so a.0 p (volumes_still a.0 p x.volumes) (ap (λ (h : Holdings K). h.drives) x.controller) s
+        | inr more ↦ elim more [
+          | inl block ↦ stepped dead block.1
+          | inr d ↦ as_new (stages.Dead d.0) a.0 p d.1
+        ]
+      ]
+
+  pub driving : (p : Port K) (calls : List Call) → AsksAlways calls → ReadsBytes calls
+      → (a : Answered picks start calls p) → So p
+  driving p [] asks reads a = none_so p (λ place low. ap (λ (q : Port K). (volume_at q.volumes place).is_mounted) a
+      ∙ ap (λ (v : Volume). v.is_mounted) (made.volumes place low))
+  driving p (call ∷ calls) asks reads a = by call asks reads a
+      (driving a.0 calls (asked_before call calls asks) (reads_before call calls reads) a.1)
+    where
+      by : (call : Call) → AsksAlways (call ∷ calls) → ReadsBytes (call ∷ calls)
+          → (a : Answered picks start (call ∷ calls) p) → So a.0 → So p
+      by WriteIp asks reads a s = as_new stages.First a.0 p a.2
+      by (Next blocks action bytes) asks reads a s = stays_so a.0 p
+          (next_volumes a.0 p (picks a.0.controller.picker) blocks action a.2.0)
+          (next_drives a.0 p (picks a.0.controller.picker) blocks action a.2.0) s
+      by (WasRead bytes (Ok done)) asks reads a s = elim (read_volumes a.0 p bytes (Ok done) a.2) [
+        | inr d ↦ as_new (stages.Dead d.0) a.0 p d.1
+        | inl volumes ↦ elim (read_drives a.0 p bytes done a.2) [
+          | inr d ↦ as_new (stages.Dead d.0) a.0 p d.1
+          | inl drives ↦ stays_so a.0 p (volumes_still a.0 p volumes) drives s
+        ]
+      ]
+      by (Went outcome (Ok done)) asks reads a s = went p outcome done calls asks reads a s
+      by call asks reads a s = passive p call calls a tt s

@@ -1,0 +1,246 @@
+-- A unit that is online after a call was so before, with the same volume, unless the call ended an ONLINE of it.
+use Rattle.std.proofs.Common.{◌≡◌, ◌⊎◌, ◌∙◌, ℕ, Bool, true, false, cond, length, nat_eq, set, List, Option, None, Some, inl, inr, refl, ap, sym, subst, arith}
+use Rattle.std.specs.Prelude.{◌==◌, ◌/◌, ◌%◌, Ok, Err, find}
+use Rattle.std.proofs.lemmas.Option.{none-some}
+use Rattle.mscp_packet.specs.declared.end.End.{End}
+use Rattle.mscp_drive.specs.Shape.{Shape}
+use Rattle.mscp_drive.specs.UnitList.{unit_found}
+use Rattle.mscp_queue.proofs.Placed.{find_cases, find_first, position_none}
+use Rattle.mscp_drive.specs.declared.connection.Connection.{Connection}
+use Rattle.mscp_port.specs.declared.buffers.Buffer.{Buffer}
+use Rattle.mscp_port.specs.declared.port.Outgoing.{Outgoing}
+use Rattle.mscp_port.specs.declared.port.Port.{Port}
+use Rattle.mscp_port.specs.declared.volumes.Volume.{Volume}
+use Rattle.mscp_port.specs.Blocks.{kept_of}
+use Rattle.mscp_port.specs.Calls.{Dies, Hears, Wants}
+use Rattle.mscp_port.specs.Histories.{Becomes, Call, Picking, WriteIp, ReadIp, WriteSa, Next, PutAside, WasRead, Went, LookAgain, Tick, VolumeCame, VolumeWent, Protect}
+use Rattle.mscp_port.specs.Moved.{place_heeded, volumes_after}
+use Rattle.mscp_port.specs.Outgoings.{IsNews, news_place}
+use Rattle.mscp_port.specs.Volumes.{brought_online, no_volume, place_in, volume_at, volume_changed, volume_found, volume_heeded, volume_in_place, volume_protected, volume_put, volumes_heeded, volumes_with}
+use Rattle.mscp_port.proofs.Common.{cases_eq, cases_lt, eq-eqb, false≢true, get_or-set_other, get_or-set_same, get_or_past, length-set}
+use Rattle.mscp_port.proofs.Loads.{looks_or_not}
+use Rattle.mscp_ported.specs.Talk.{is_dead}
+use Rattle.mscp_ported.proofs.Coming.{brought_for}
+use Rattle.mscp_ported.proofs.Mounting.{Ended, ended_so}
+use Rattle.mscp_ported.proofs.Staying.{IsPassive}
+use Rattle.mscp_logged.proofs.Describing.{IsAsWas, IsSame, same_volume}
+
+abbrev pub AreAsWere : List Volume → List Volume → Type 0
+AreAsWere vs ws = (place : ℕ) → IsAsWas (volume_at vs place) (volume_at ws place)
+
+same_as : (v w : Volume) → w ≡ v → IsAsWas v w
+same_as v w e = subst (λ x. IsAsWas v x) (sym e) (λ is. (is, same_volume v))
+
+pub found_as : (units : List Shape) (u : ℕ) (vs ws : List Volume) → AreAsWere vs ws
+    → IsAsWas (volume_found units vs u) (volume_found units ws u)
+found_as units u vs ws was = by (place_in units u)
+  where
+    by : (o : Option ℕ) → IsAsWas (volume_in_place vs o) (volume_in_place ws o)
+    by None = λ is. absurd (false≢true is)
+    by (Some place) = was place
+
+set_as : (vs : List Volume) (q : ℕ) (x : Volume) → IsAsWas (volume_at vs q) x → AreAsWere vs (set vs q x)
+set_as vs q x was place = elim (cases_eq place q) [
+  | inl same ↦ elim (cases_lt place (length vs)) [
+    | inl within ↦ subst (λ w. IsAsWas (volume_at vs place) w)
+        (sym (ap (λ i. volume_at (set vs i x) place) (sym same) ∙ get_or-set_same vs place x no_volume within))
+        (subst (λ i. IsAsWas (volume_at vs i) x) (sym same) was)
+    | inr past ↦ λ is. absurd (false≢true (sym (ap (λ (v : Volume). v.is_mounted)
+        (get_or_past (set vs q x) place no_volume (search (arith, past, length-set vs q x)))) ∙ is))
+  ]
+  | inr other ↦ same_as (volume_at vs place) (volume_at (set vs q x) place)
+      (get_or-set_other vs q place x no_volume other)
+]
+
+-- ---- calls of which no end comes
+
+module _ {K : Type 0} (old new : Port K) where
+  abbrev So : Type 0
+  So = AreAsWere old.volumes new.volumes
+
+  pub volumes_still : new.volumes ≡ old.volumes → So
+  volumes_still e = subst (λ ws. AreAsWere old.volumes ws) (sym e)
+      (λ place. same_as (volume_at old.volumes place) (volume_at old.volumes place) refl)
+
+  -- where there is no fatal error
+  pub alive : {X : Type 0} → is_dead new.stage ≡ false → X ⊎ Dies old new → X
+  alive lives (inl x) = x
+  alive lives (inr d) = absurd (search (arith, lives, ap is_dead d.1.stage))
+
+  news_so : (units : List Shape) (o : Option ℕ) (out : Option Outgoing)
+      → IsNews units old.volumes o out new.volumes → So
+  news_so units None out h = volumes_still h.1
+  news_so units (Some q) out h = subst (λ ws. AreAsWere old.volumes ws) (sym h.1)
+      (set_as old.volumes q (record (volume_at old.volumes q) { is_news = false })
+      (λ is. (is, record { there = refl; media = refl; size = refl })))
+
+  pub next_volumes : (picks : List _ → ℕ → Type 0) (blocks : Bool) (action : _) → Wants picks blocks old action new
+      → So
+  next_volumes picks blocks action r = elim (looks_or_not old) [
+    | inl looks ↦ elim (r.says.looks looks) [
+      | inl t ↦ volumes_still t.volumes
+      | inr n ↦ news_so old.controller.settings.units (news_place old) new.outgoing n.out
+    ]
+    | inr never ↦ volumes_still (r.says.keeps never).volumes
+  ]
+
+  pub read_volumes : (bytes : List ℕ) (result : _) → Hears bytes old result new
+      → (new.volumes ≡ old.volumes) ⊎ Dies old new
+  read_volumes bytes result r = elim r.frame [ inl e ↦ inl (ap (λ (q : Port K). q.volumes) e) | inr d ↦ inr d ]
+
+  with_one : (becomes : Volume → Volume) (o : Option ℕ) → ((v : Volume) → IsAsWas v (becomes v))
+      → new.volumes ≡ volumes_with becomes o old.volumes → So
+  with_one becomes None was e = volumes_still e
+  with_one becomes (Some q) was e = subst (λ ws. AreAsWere old.volumes ws) (sym e)
+      (set_as old.volumes q (becomes (volume_at old.volumes q)) (was (volume_at old.volumes q)))
+
+  goes_so : (becomes : Volume → Volume) (o : Option ℕ) → ((v : Volume) → (becomes v).is_mounted ≡ false)
+      → new.volumes ≡ volumes_with becomes o old.volumes → So
+  goes_so becomes o off = with_one becomes o (λ v is. absurd (false≢true (sym (off v) ∙ is)))
+
+  pub passive_volumes : (picks : Picking K) (call : Call) → Becomes picks call old new → IsPassive call
+      → AreAsWere old.volumes new.volumes ⊎ Dies old new
+  passive_volumes picks WriteIp r is = absurd is
+  passive_volumes picks (Next blocks action bytes) r is = absurd is
+  passive_volumes picks (WasRead bytes (Ok done)) r is = absurd is
+  passive_volumes picks (Went outcome (Ok done)) r is = absurd is
+  passive_volumes picks ReadIp r is =
+      elim r.frame [ inl e ↦ inl (volumes_still (ap (λ (q : Port K). q.volumes) e)) | inr d ↦ inr d ]
+  passive_volumes picks (WriteSa word) r is =
+      elim r.frame [ inl e ↦ inl (volumes_still (ap (λ (q : Port K). q.volumes) e)) | inr d ↦ inr d ]
+  passive_volumes picks PutAside r is = inl (volumes_still (ap (λ (q : Port K). q.volumes) r))
+  passive_volumes picks (WasRead bytes (Err unasked)) r is =
+      inl (volumes_still (ap (λ (q : Port K). q.volumes) r.unasked))
+  passive_volumes picks (Went outcome (Err unasked)) r is =
+      inl (volumes_still (ap (λ (q : Port K). q.volumes) r.unasked))
+  passive_volumes picks LookAgain r is = inl (volumes_still (ap (λ (q : Port K). q.volumes) r))
+  passive_volumes picks Tick r is =
+      elim r.either [ inl e ↦ inl (volumes_still (ap (λ (q : Port K). q.volumes) e)) | inr d ↦ inr (9, d) ]
+  passive_volumes picks (VolumeCame m unit (Ok done)) r is = inl (goes_so (volume_put m)
+      (place_in old.controller.settings.units unit) (λ v. refl) (ap (λ (q : Port K). q.volumes) (r.came refl)))
+  passive_volumes picks (VolumeCame m unit (Err fault)) r is =
+      inl (volumes_still (ap (λ (q : Port K). q.volumes) r.refused))
+  passive_volumes picks (VolumeWent unit result) r is = inl (goes_so (volume_changed false)
+      (place_in old.controller.settings.units unit) (λ v. refl) (ap (λ (q : Port K). q.volumes) r.frame))
+  passive_volumes picks (Protect protected unit result) r is = inl (with_one (volume_protected protected)
+      (place_in old.controller.settings.units unit) (λ v is. (is, record { there = refl; media = refl; size = refl }))
+      (ap (λ (q : Port K). q.volumes) r.frame))
+
+-- ---- a step
+
+heeded_fields : (code : ℕ) (kept : Option Buffer) (v : Volume) → IsSame v (volume_heeded code kept v)
+heeded_fields code None v = by (code == 0x88)
+  where
+    by : (c : Bool) → IsSame v (cond c (record v { is_mounted = false; is_protected_by_host = false }) v)
+    by true = record { there = refl; media = refl; size = refl }
+    by false = same_volume v
+heeded_fields code (Some b) v = by (code == 0x88) (code == 0x89) (code == 0x8A) (b.modifiers / 4 % 2 == 1)
+  where
+    by : (c d f t : Bool) → IsSame v (cond c (record v { is_mounted = false; is_protected_by_host = false })
+        (cond d (cond t (record (brought_online v) { is_protected_by_host = b.flags / 0x1000 % 2 == 1 })
+        (brought_online v)) (cond f (cond t (record v { is_protected_by_host = b.flags / 0x1000 % 2 == 1 }) v) v)))
+    by true d f t = record { there = refl; media = refl; size = refl }
+    by false true f true = record { there = refl; media = refl; size = refl }
+    by false true f false = record { there = refl; media = refl; size = refl }
+    by false false true true = record { there = refl; media = refl; size = refl }
+    by false false true false = same_volume v
+    by false false false t = same_volume v
+
+alike : (v w : Volume) → w ≡ v → IsSame v w
+alike v w e = subst (λ x. IsSame v x) (sym e) (same_volume v)
+
+set_same : (vs : List Volume) (q place : ℕ) (x : Volume) → IsSame (volume_at vs q) x
+    → IsSame (volume_at vs place) (volume_at (set vs q x) place)
+set_same vs q place x same = elim (cases_eq place q) [
+  | inl here ↦ elim (cases_lt place (length vs)) [
+    | inl within ↦ subst (λ w. IsSame (volume_at vs place) w)
+        (sym (ap (λ i. volume_at (set vs i x) place) (sym here) ∙ get_or-set_same vs place x no_volume within))
+        (subst (λ i. IsSame (volume_at vs i) x) (sym here) same)
+    | inr past ↦ alike (volume_at vs place) (volume_at (set vs q x) place)
+        (get_or_past (set vs q x) place no_volume (search (arith, past, length-set vs q x))
+        ∙ sym (get_or_past vs place no_volume (search (arith, past))))
+  ]
+  | inr other ↦ alike (volume_at vs place) (volume_at (set vs q x) place)
+      (get_or-set_other vs q place x no_volume other)
+]
+
+module _ (units : List Shape) (bs : List Buffer) (via : Connection) (vs : List Volume) (ended : Option End) where
+  abbrev ws : List Volume
+  ws = volumes_after units bs via ended vs
+
+  heeded_same : (place : ℕ) → IsSame (volume_at vs place) (volume_at ws place)
+  heeded_same place = by ended
+    where
+      by : (o : Option End) → IsSame (volume_at vs place) (volume_at (volumes_after units bs via o vs) place)
+      by None = same_volume (volume_at vs place)
+      by (Some e) = at (place_heeded units e)
+        where
+          at : (o : Option ℕ) → IsSame (volume_at vs place)
+              (volume_at (volumes_heeded e.code (kept_of via e.reference bs) o vs) place)
+          at None = same_volume (volume_at vs place)
+          at (Some q) = set_same vs q place (volume_heeded e.code (kept_of via e.reference bs) (volume_at vs q))
+              (heeded_fields e.code (kept_of via e.reference bs) (volume_at vs q))
+
+  -- what becomes of a unit's volume: it stays, and is online by an ONLINE that succeeded, or was so before, and no
+  -- AVAILABLE succeeded
+  abbrev pub Heeded : ℕ → Volume → Volume → Type 0
+  Heeded u v w = IsSame v w
+      × (w.is_mounted ≡ true → ((v.is_mounted ≡ true) × (Ended 0x88 u (brought_for via ended) → ⊥))
+      ⊎ Ended 0x89 u (brought_for via ended))
+
+  pub heeded : (u : ℕ) → Heeded u (volume_found units vs u) (volume_found units ws u)
+  heeded u = by (place_in units u) refl
+    where
+      by : (o : Option ℕ) → place_in units u ≡ o → Heeded u (volume_in_place vs o) (volume_in_place ws o)
+      by None here = (same_volume no_volume, λ is. absurd (false≢true is))
+      by (Some place) here = (
+        heeded_same place,
+        ended_so ((volume_at vs place).is_mounted ≡ true)
+            ((((volume_at vs place).is_mounted ≡ true) × (Ended 0x88 u (brought_for via ended) → ⊥))
+            ⊎ Ended 0x89 u (brought_for via ended)) units u place here bs via vs (λ is. is) ended (λ x. inr x)
+            (λ never is. inl (is, never)),
+      )
+
+-- an AVAILABLE that succeeded leaves the unit offline, whoever asked for it
+available_offline : (kept : Option Buffer) (v : Volume) → (volume_heeded 0x88 kept v).is_mounted ≡ false
+available_offline None v = refl
+available_offline (Some b) v = refl
+
+set_off : (vs : List Volume) (q : ℕ) (x : Volume) → x.is_mounted ≡ false
+    → (volume_at (set vs q x) q).is_mounted ≡ false
+set_off vs q x off = elim (cases_lt q (length vs)) [
+  | inl within ↦ ap (λ (v : Volume). v.is_mounted) (get_or-set_same vs q x no_volume within) ∙ off
+  | inr past ↦ ap (λ (v : Volume). v.is_mounted)
+      (get_or_past (set vs q x) q no_volume (search (arith, past, length-set vs q x)))
+]
+
+pub available_off : (units : List Shape) (bs : List Buffer) (via : Connection) (vs : List Volume) (e : End) (u : ℕ)
+    → e.code ≡ 0x88 → e.status % 32 ≡ 0 → e.unit ≡ u
+    → (volume_found units (volumes_after units bs via (Some e) vs) u).is_mounted ≡ false
+available_off units bs via vs e u code good of = by (place_in units u) refl
+  where
+    kept : Option Buffer
+    kept = kept_of via e.reference bs
+
+    at : (o : Option ℕ) → place_in units u ≡ o → place_heeded units e ≡ o
+    at o here = ap (λ b. cond b (place_in units e.unit) None) (eq-eqb (e.status % 32) 0 good)
+        ∙ ap (place_in units) of ∙ here
+
+    by : (o : Option ℕ) → place_in units u ≡ o
+        → (volume_in_place (volumes_heeded e.code (kept_of via e.reference bs) (place_heeded units e) vs) o).is_mounted
+        ≡ false
+    by None here = refl
+    by (Some q) here = subst (λ o. (volume_at (volumes_heeded e.code (kept_of via e.reference bs) o vs) q).is_mounted
+        ≡ false) (sym (at (Some q) here)) (set_off vs q (volume_heeded e.code kept (volume_at vs q))
+        (ap (λ n. (volume_heeded n kept (volume_at vs q)).is_mounted) code
+        ∙ available_offline kept (volume_at vs q)))
+
+-- where there is no such unit there is no volume
+pub missing : (units : List Shape) (vs : List Volume) (u : ℕ) → unit_found units u ≡ None
+    → (volume_found units vs u).is_mounted ≡ false
+missing units vs u none = elim (find_cases (λ (s : Shape). nat_eq s.number u) units) [
+  | inl all ↦ ap (λ o. (volume_in_place vs o).is_mounted) (position_none (λ (s : Shape). nat_eq s.number u) units all)
+  | inr some ↦ absurd (none-some _ (sym none
+      ∙ (ap (find (λ (s : Shape). nat_eq s.number u)) some.3.is
+      ∙ find_first (λ (s : Shape). nat_eq s.number u) some.0 some.1 some.2 some.3.before some.3.passed)))
+]

@@ -1,0 +1,191 @@
+-- What was told of units is borne out over a whole list of calls.
+use Rattle.std.proofs.Common.{◌≡◌, ◌≢◌, ◌∙◌, ◌<◌, ◌++◌, ◌∷◌, [], ℕ, All, Bool, true, false, cond, map, List, Option, None, Some, inl, inr, refl, ap, append_assoc, sym, arith}
+use Rattle.std.specs.Prelude.{flat_map, option_to_list}
+use Rattle.std.proofs.lemmas.List.{append-nil}
+use Rattle.mscp_drive.specs.Settings.{IsValid, Settings}
+use Rattle.mscp_drive.specs.UnitList.{unit_found}
+use Rattle.mscp_drive.specs.declared.connection.Connection.TheVariants.{First}
+use Rattle.mscp_controller.specs.Calls.{AnsweredCalls, Call as Made}
+use Rattle.mscp_controller.specs.Controllers.{ControllersKeepThePromise}
+use Rattle.mscp_controller.specs.Holdings.{Holdings, fresh, outstanding_of}
+use Rattle.mscp_port.specs.declared.hardware.Hardware.{Hardware}
+use Rattle.mscp_port.specs.declared.port.Outgoing.{Outgoing}
+use Rattle.mscp_port.specs.declared.port.Port.{Port}
+use Rattle.mscp_port.specs.Calls.{IsMadeOf}
+use Rattle.mscp_port.specs.Departures.{begins, leaves}
+use Rattle.mscp_port.specs.Histories.{Answered, Call, Picking, WriteIp}
+use Rattle.mscp_port.specs.Volumes.{volume_found}
+use Rattle.mscp_ported.specs.Awaited.{PortsEndWhatTheyTook, ReadsBytes}
+use Rattle.mscp_ported.specs.Ends.{came, end_said, ends_begun, ends_said}
+use Rattle.mscp_ported.specs.Talk.{AsksAlways, is_dead}
+use Rattle.mscp_ported.specs.Told.{PortsTellInOrder, Said, accepted_by, held, said, said_in}
+use Rattle.mscp_ported.proofs.Coming.{ends_of}
+use Rattle.mscp_ported.proofs.Ending.{Ends, zipped}
+use Rattle.mscp_ported.proofs.Following.{asked_before}
+use Rattle.mscp_ported.proofs.Itself.{since_alive}
+use Rattle.mscp_wire.specs.Wire.{History, told}
+use Rattle.mscp_logged.specs.Logged.{end_of, ends_in, is_foreign, logged, message_of, messages_by, seen_by}
+use Rattle.mscp_logged.proofs.Recalled.{Recalled, ends_recalled, messages_recalled, nothing_recalled, recalled_as, volumes_recalled}
+use Rattle.mscp_logged.proofs.Seen.{is_reset, last_is, none_held, reads_before, since_dead, since_reset}
+use Rattle.mscp_logged.proofs.Speaking.{known_goes, placed_goes}
+use Rattle.mscp_logged.proofs.Texts.{out_texts, texts_none, to_come, waiting}
+use Rattle.mscp_logged.specs.Rules.{TellsFaults}
+use Rattle.mscp_logged.proofs.Away.{told_away}
+use Rattle.mscp_logged.proofs.Bringing.{Brings, brings, whole}
+use Rattle.mscp_logged.proofs.Tied.{faults_before}
+
+none_gone : {X : Type 0} (xs ys : List X) → [] ≡ xs ++ ys → ys ≡ []
+none_gone [] ys e = sym e
+none_gone (x ∷ xs) ys e = search (arith, e)
+
+module _ {K : Type 0} (picks : Picking K) (c : Settings) (picker : K)
+    (keep : ControllersKeepThePromise (picks picker) picker) (valid : IsValid c)
+    (sizes : All (λ unit. 0 < unit.size) c.units) (before : List Made)
+    (hardware : Hardware) (credits : ℕ) (controller : Holdings K) (start : Port K)
+    (was : AnsweredCalls (picks picker) (fresh c picker) before controller)
+    (made : IsMadeOf hardware credits controller start) (quiet : outstanding_of First controller ≡ [])
+    (ends : PortsEndWhatTheyTook picks picker) (tell : PortsTellInOrder picks) (F : Type 0) where
+  abbrev pub State : (p : Port K) (calls : List Call) → Answered picks start calls p → Type 0
+  State p calls a = Recalled F c.units p.volumes (logged picks start p calls a) (to_come hardware c.units p)
+
+  -- all was forgotten
+  forgotten : (p : Port K) (calls : List Call) → AsksAlways calls → (a : Answered picks start calls p)
+      → said picks start p calls a ≡ [] → came picks start p calls a ≡ [] → logged picks start p calls a ≡ []
+      → State p calls a
+  forgotten p calls asks a none no_end no_moment = nothing_recalled F c.units p.volumes (logged picks start p calls a)
+      (to_come hardware c.units p) no_moment (ap (λ xs. xs ++ waiting hardware c.units p) (out p.outgoing refl)
+      ∙ texts_none hardware c.units (ends_of p.controller) p.decided.items
+      (none_gone k.gone (zipped (ends_of p.controller) p.decided.items) (sym no_end ∙ k.all)))
+    where
+      k : Ends hardware c.units p (came picks start p calls a) (ends_said picks start p calls a)
+      k = (whole picks c picker keep valid sizes before hardware credits controller start was made quiet F p calls
+          a).ends
+
+      nothing : held p ≡ []
+      nothing = let t = (tell hardware credits controller start p calls made asks a).0 in
+          none_held t.0 (held p) (t.1 ∙ none)
+
+      out : (o : Option Outgoing) → p.outgoing ≡ o → out_texts p.outgoing ≡ []
+      out None e = ap out_texts e
+      out (Some o) e = search (arith, sym (ap (λ z. map said_in (option_to_list z)) e) ∙ nothing)
+
+  module _ (p : Port K) (call : Call) (calls : List Call) (asks : AsksAlways (call ∷ calls))
+      (a : Answered picks start (call ∷ calls) p) (never : call ≢ WriteIp)
+      (lives : is_dead p.stage ≡ false) where
+    abbrev h : History
+    h = logged picks start a.0 calls a.1
+
+    abbrev old : List (List ℕ)
+    old = waiting hardware c.units a.0
+
+    abbrev now : List (List ℕ)
+    now = waiting hardware c.units p
+
+    -- ---- what goes out
+
+    same_held : (o x : Outgoing) → a.0.outgoing ≡ Some o → p.outgoing ≡ Some x → said_in o ≡ said_in x
+    same_held o x was_out is_out =
+        let before = (tell hardware credits controller start a.0 calls made (asked_before call calls asks) a.1).0 in
+        let after = (tell hardware credits controller start p (call ∷ calls) made asks a).0 in
+        last_is before.0 after.0 (said_in o) (said_in x)
+        (ap (λ z. before.0 ++ map said_in (option_to_list z)) (sym was_out) ∙ before.1
+        ∙ sym (after.1 ∙ since_alive p.stage call _ _ never lives
+        ∙ ap (λ os. said picks start a.0 calls a.1 ++ map said_in os)
+        (ap (λ z. begins z p.outgoing) was_out ∙ ap (begins (Some o)) is_out)
+        ∙ append-nil (said picks start a.0 calls a.1))
+        ∙ ap (λ z. after.0 ++ map said_in (option_to_list z)) is_out)
+
+    goes : (more : List (List ℕ)) → Brings hardware c.units F a.0 p more → State a.0 calls a.1
+        → State p (call ∷ calls) a
+    goes more is s = by a.0.outgoing p.outgoing refl refl is.comes moved
+      where
+        ms : History
+        ms = messages_by call a.0
+
+        messages : Recalled F c.units a.0.volumes (h ++ ms) (to_come hardware c.units a.0)
+        messages = by (is_foreign a.0.task)
+          where
+            by : (b : Bool) → Recalled F c.units a.0.volumes (h ++ cond b [] (map message_of (accepted_by call a.0)))
+                (to_come hardware c.units a.0)
+            by true = recalled_as F c.units a.0.volumes h (h ++ []) _ _ (append-nil h) refl s
+            by false = messages_recalled F c.units a.0.volumes h (to_come hardware c.units a.0)
+                (accepted_by call a.0) s
+
+        moved : Recalled F c.units p.volumes (h ++ ms) (to_come hardware c.units a.0 ++ more)
+        moved = volumes_recalled F c.units a.0.volumes p.volumes (h ++ ms) (to_come hardware c.units a.0)
+            (to_come hardware c.units a.0 ++ more) (λ u. known_goes u (unit_found c.units u)
+            (volume_found c.units a.0.volumes u) (volume_found c.units p.volumes u)
+            (told (h ++ ms) First u).identity (to_come hardware c.units a.0) more (is.told u))
+            (λ f u. placed_goes u (volume_found c.units a.0.volumes u) (volume_found c.units p.volumes u)
+            (told_away (told (h ++ ms) First u).state) (to_come hardware c.units a.0) more (is.placed f u)) messages
+
+        log_is : (x y : Option Outgoing) → a.0.outgoing ≡ x → p.outgoing ≡ y
+            → logged picks start p (call ∷ calls) a ≡ (h ++ ms) ++ flat_map ends_in (leaves x y)
+        log_is x y was_out is_out = since_alive p.stage call h (seen_by call a.0 p) never lives
+            ∙ sym (append_assoc h ms (flat_map ends_in (leaves a.0.outgoing p.outgoing)))
+            ∙ ap (λ z. (h ++ ms) ++ flat_map ends_in (leaves z p.outgoing)) was_out
+            ∙ ap (λ z. (h ++ ms) ++ flat_map ends_in (leaves x z)) is_out
+
+        to_log : (x y : Option Outgoing) → a.0.outgoing ≡ x → p.outgoing ≡ y
+            → Recalled F c.units p.volumes ((h ++ ms) ++ flat_map ends_in (leaves x y)) (out_texts y ++ now)
+            → State p (call ∷ calls) a
+        to_log x y was_out is_out = recalled_as F c.units p.volumes ((h ++ ms) ++ flat_map ends_in (leaves x y))
+            (logged picks start p (call ∷ calls) a) (out_texts y ++ now) (to_come hardware c.units p)
+            (log_is x y was_out is_out) (ap (λ z. out_texts z ++ now) is_out)
+
+        still : (x y : Option Outgoing) (qs : List (List ℕ)) → flat_map ends_in (leaves x y) ≡ []
+            → out_texts y ++ now ≡ qs → Recalled F c.units p.volumes (h ++ ms) qs
+            → Recalled F c.units p.volumes ((h ++ ms) ++ flat_map ends_in (leaves x y)) (out_texts y ++ now)
+        still x y qs none e = recalled_as F c.units p.volumes (h ++ ms) _ qs (out_texts y ++ now)
+            (ap (λ z. (h ++ ms) ++ z) none ∙ append-nil (h ++ ms)) e
+
+        behind : (o : Outgoing) (y : Option Outgoing) → a.0.outgoing ≡ Some o → p.outgoing ≡ y
+            → ends_begun a.0.outgoing p.outgoing ++ now ≡ old ++ more → now ≡ old ++ more
+        behind o y was_out is_out comes = ap (λ z. ends_begun z p.outgoing ++ now) (sym was_out) ∙ comes
+
+        by : (x y : Option Outgoing) → a.0.outgoing ≡ x → p.outgoing ≡ y
+            → ends_begun a.0.outgoing p.outgoing ++ now ≡ old ++ more
+            → Recalled F c.units p.volumes (h ++ ms) (to_come hardware c.units a.0 ++ more) → State p (call ∷ calls) a
+        by None y was_out is_out comes r = to_log None y was_out is_out (still None y _ refl
+            (out_is y refl ∙ ap (λ z. ends_begun None z ++ now) (sym is_out)
+            ∙ ap (λ z. ends_begun z p.outgoing ++ now) (sym was_out) ∙ comes
+            ∙ ap (λ z. (out_texts z ++ old) ++ more) (sym was_out)) r)
+          where
+            out_is : (z : Option Outgoing) → y ≡ z → out_texts y ++ now ≡ ends_begun None y ++ now
+            out_is None e = ap (λ z. out_texts z ++ now) e ∙ ap (λ z. ends_begun None z ++ now) (sym e)
+            out_is (Some o) e = ap (λ z. out_texts z ++ now) e ∙ ap (λ z. ends_begun None z ++ now) (sym e)
+        by (Some o) (Some x) was_out is_out comes r =
+            to_log (Some o) (Some x) was_out is_out (still (Some o) (Some x) _ refl
+            (ap (λ (z : Said). end_said z.kind z.text ++ now) (sym (same_held o x was_out is_out))
+            ∙ ap (λ z. out_texts (Some o) ++ z) (behind o (Some x) was_out is_out comes)
+            ∙ sym (append_assoc (out_texts (Some o)) old more)
+            ∙ ap (λ z. (out_texts z ++ old) ++ more) (sym was_out)) r)
+        by (Some o) None was_out is_out comes r = to_log (Some o) None was_out is_out
+            (recalled_as F c.units p.volumes ((h ++ ms) ++ map end_of (end_said o.kind o.bytes.items)) _ now now
+            (ap (λ z. (h ++ ms) ++ z) (append-nil (map end_of (end_said o.kind o.bytes.items)))) refl
+            (ends_recalled F c.units p.volumes (h ++ ms) (end_said o.kind o.bytes.items) now
+            (recalled_as F c.units p.volumes (h ++ ms) (h ++ ms) _ _ refl
+            (ap (λ z. out_texts (Some o) ++ z) (behind o None was_out is_out comes)
+            ∙ sym (append_assoc (out_texts (Some o)) old more)
+            ∙ ap (λ z. (out_texts z ++ old) ++ more) (sym was_out)) r)))
+
+  pub recalled : (p : Port K) (calls : List Call) → AsksAlways calls → ReadsBytes calls → (F → TellsFaults calls)
+      → (a : Answered picks start calls p) → State p calls a
+  recalled p [] asks reads fine a = forgotten p [] asks a refl refl refl
+  recalled p (call ∷ calls) asks reads fine a = elim (is_reset call) [
+    | inl reset ↦ forgotten p (call ∷ calls) asks a (since_reset p.stage call _ _ reset)
+        (since_reset p.stage call _ _ reset) (since_reset p.stage call _ _ reset)
+    | inr never ↦ by never (recalled a.0 calls (asked_before call calls asks) (reads_before call calls reads)
+        (λ f. faults_before call calls (fine f)) a.1)
+        (is_dead p.stage) refl
+  ]
+    where
+      by : call ≢ WriteIp → State a.0 calls a.1 → (b : Bool) → is_dead p.stage ≡ b → State p (call ∷ calls) a
+      by never s true dead = forgotten p (call ∷ calls) asks a (since_dead p.stage call _ _ dead)
+          (since_dead p.stage call _ _ dead) (since_dead p.stage call _ _ dead)
+      by never s false lives =
+          let d = ends c before controller hardware credits start p call calls valid was quiet made reads a never
+          lives in
+          let m = brings picks c picker keep valid sizes before hardware credits controller start was made quiet F p
+          call calls asks reads fine a never lives d.1 in
+          goes p call calls asks a never lives m.0 m.1 s

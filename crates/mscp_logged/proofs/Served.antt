@@ -1,0 +1,276 @@
+-- The end that a step gives to the host tells of its unit what is so, and says whether that is online as that is so.
+use Rattle.std.proofs.Common.{◌≡◌, ◌≢◌, ◌⊎◌, ◌∙◌, ◌+◌, ◌^◌, ◌<◌, ◌∷◌, [], ℕ, Bool, true, false, cond, filter, List, Some, inl, inr, refl, ap, sym, subst, arith}
+use Rattle.std.specs.Prelude.{◌%◌, ◌&&◌, find, is_some}
+use Rattle.mscp_packet.specs.Number.{num}
+use Rattle.mscp_packet.specs.declared.command.Command.{Command}
+use Rattle.mscp_packet.specs.declared.end.End.{End}
+use Rattle.mscp_drive.specs.Settings.{Settings}
+use Rattle.mscp_drive.specs.Shape.{Shape}
+use Rattle.mscp_drive.specs.UnitList.{unit_found}
+use Rattle.mscp_drive.specs.declared.block.Block.{Block}
+use Rattle.mscp_drive.specs.declared.connection.Connection.TheVariants.{First}
+use Rattle.mscp_queue.specs.Orders.{endcode}
+use Rattle.mscp_queue.specs.Outcomes.{is_good_block, touches}
+use Rattle.mscp_queue.specs.Records.{Record, has_name}
+use Rattle.mscp_queue.specs.Serving.{end_given, touched}
+use Rattle.mscp_queue.specs.declared.drive.Drive.{Drive}
+use Rattle.mscp_queue.specs.declared.name.Name.{Name}
+use Rattle.mscp_controller.proofs.Basics.{queued_open}
+use Rattle.mscp_port.specs.Blocks.{block_told, kept_of, moved_by}
+use Rattle.mscp_port.specs.Buffers.{is_of}
+use Rattle.mscp_port.specs.Formalities.{code_told, ends_formality, is_formality}
+use Rattle.mscp_port.specs.Moved.{volumes_after}
+use Rattle.mscp_port.specs.Volumes.{volume_found}
+use Rattle.mscp_port.specs.declared.action.Outcome.{Outcome}
+use Rattle.mscp_port.specs.declared.buffers.Buffer.{Buffer}
+use Rattle.mscp_port.specs.declared.decided.Decided.{Decided}
+use Rattle.mscp_port.specs.declared.hardware.Hardware.{Hardware}
+use Rattle.mscp_port.specs.declared.port.Port.{Port}
+use Rattle.mscp_port.specs.declared.verdict.Verdict.{Verdict}
+use Rattle.mscp_port.specs.declared.volumes.Volume.{Volume}
+use Rattle.mscp_port.proofs.Common.{eq-eqb, eqb-true, false≢true}
+use Rattle.mscp_ported.proofs.Buffered.{FitsBuffer}
+use Rattle.mscp_ported.proofs.Coming.{brought_for}
+use Rattle.mscp_ported.proofs.Fitting.{decided_code, given_plain as given_of, kept_one, IsPlainEnd}
+use Rattle.mscp_ported.proofs.Mounting.{Ended, one_ended}
+use Rattle.mscp_ported.proofs.Moving.{IsBegunStep}
+use Rattle.mscp_ported.proofs.Origins.{IsOf}
+use Rattle.mscp_ported.proofs.Tables.{decided_by}
+use Rattle.mscp_ported.proofs.Transferring.{IsHow}
+use Rattle.mscp_shown.proofs.Suiting.{valid_order}
+use Rattle.mscp_logged.proofs.Bytes.{handed_small, stood_code}
+use Rattle.mscp_logged.proofs.Describing.{IsAsWas, IsTold, mine, Tells}
+use Rattle.mscp_logged.proofs.Made.{given_is}
+use Rattle.mscp_logged.proofs.Moored.{heeded, Heeded}
+use Rattle.mscp_logged.proofs.Stepped.{IsGivenEnd, decided_so, given_plain, step_tells, IsDecided}
+use Rattle.mscp_logged.proofs.Sure.{told_sure, IsSure}
+use Rattle.mscp_logged.proofs.Texts.{text_with}
+use Rattle.mscp_wire.specs.Wire.{answer_by}
+use Rattle.mscp_logged.proofs.Worded.{text_unit}
+use Rattle.mscp_packet.specs.declared.command.Order.{Order}
+use Rattle.mscp_packet.specs.declared.command.Order.TheVariants as orders
+use Rattle.mscp_queue.specs.Drives.{drive_of, has_number, replaced}
+use Rattle.mscp_queue.specs.Outcomes.{is_success, state_after}
+use Rattle.mscp_queue.specs.Serving.{drive_after, state_left}
+use Rattle.mscp_controller.specs.Arrival.{is_immediate}
+use Rattle.mscp_logged.specs.Rules.{IsFaultTold}
+use Rattle.mscp_logged.proofs.Away.{IsPlaced, Says}
+use Rattle.mscp_logged.proofs.Driven.{AreDriven, brought_driven, still_driven}
+use Rattle.mscp_logged.proofs.Faults.{told_fine}
+use Rattle.mscp_logged.proofs.Moored.{available_off}
+use Rattle.mscp_logged.proofs.Placing.{step_says}
+
+-- ---- what is known of it
+
+-- the step that was begun went so, and gave this end to its command
+pub record IsServed (c : Settings) {K : Type 0} (outcome : Outcome) (verdict : Verdict) (old new : Port K) (r : Record)
+    (e : End) : Type 0 where
+  pub given : end_given (block_told verdict) (drive_of old.controller.drives r.command.unit) r ≡ Some e
+  pub how : IsHow old outcome verdict
+  pub begun : IsBegunStep old
+  pub name : Name
+  pub was : old.controller.begun ≡ Some name
+  pub here : find (has_name name) old.controller.waiting ≡ Some r
+  pub message : List ℕ
+  pub buffer : Buffer
+  pub kept : filter (is_of First r.command.reference) old.buffers.items ≡ buffer ∷ []
+  pub fits : FitsBuffer r buffer message
+  pub unit : Shape
+  pub there : unit_found c.units r.command.unit ≡ Some unit
+  pub volumes : new.volumes ≡ volumes_after c.units old.buffers.items First (Some e) old.volumes
+  pub settings : old.controller.settings ≡ c
+  pub now : new.controller.settings ≡ c
+
+module _ {c : Settings} {K : Type 0} {outcome : Outcome} {verdict : Verdict} {old new : Port K} {r : Record} {e : End}
+    (h : Hardware) (s : IsServed c outcome verdict old new r e) where
+  abbrev V : ℕ → Volume
+  V u = volume_found c.units old.volumes u
+
+  abbrev W : ℕ → Volume
+  W u = volume_found c.units new.volumes u
+
+  abbrev d : Drive
+  d = drive_of old.controller.drives r.command.unit
+
+  abbrev b : Block
+  b = block_told verdict
+
+  abbrev made : Decided
+  made = decided_by verdict old new e
+
+  abbrev text : List ℕ
+  text = text_with h c.units e (decided_by verdict old new e)
+
+  of : IsOf r s.message
+  of = s.fits.of
+
+  plain : IsPlainEnd r e
+  plain = given_of b d r e s.given
+
+  its_end : IsGivenEnd r.command.order d.online verdict e
+  its_end =
+      let q = given_is b d r e s.given in
+      record {
+        waits = (queued_open of.settings r.command of.queued).waits;
+        valid = valid_order of.settings r.command.unit r.command.order
+            (queued_open of.settings r.command of.queued).sound;
+        code = plain.code;
+        status = ap (λ (y : End). y.status) (sym q.end);
+        body = (
+          d.unit,
+          r.good + cond (touches d.online r.command.order && is_good_block b) 1 0,
+          ap (λ (y : End). y.body) (sym q.end),
+        );
+      }
+
+  small : e.unit < 2 ^ 16
+  small = subst (λ m. m < 2 ^ 16) (sym (plain.unit ∙ ap (λ (y : Command). y.unit) of.command))
+      (handed_small of.settings.units s.message of.message.long of.message.small)
+
+  names : num text 4 2 ≡ e.unit
+  names = text_unit h c.units e made small
+
+  -- the volume of a unit
+  heeded_so : (u : ℕ) → Heeded c.units old.buffers.items First old.volumes (Some e) u (V u) (W u)
+  heeded_so u = subst (λ ws. Heeded c.units old.buffers.items First old.volumes (Some e) u (V u)
+      (volume_found c.units ws u)) (sym s.volumes) (heeded c.units old.buffers.items First old.volumes (Some e) u)
+
+  mounted : (W e.unit).is_mounted ≡ true
+      → ((V e.unit).is_mounted ≡ true) ⊎ ((e.code ≡ 0x89) × (e.status % 32 ≡ 0))
+  mounted on = elim ((heeded_so e.unit).1 on) [
+    | inl y ↦ inl y.0
+    | inr y ↦ let q = one_ended First 0x89 e.unit e y in inr (q.0, q.2)
+  ]
+
+  -- it isn't a formality's, or its command has the code of what stands in for one
+  formal : ends_formality made.code ≡ true → e.code ≡ 0x90
+  formal formality = by (is_formality s.buffer.opcode) refl
+    where
+      is_code : (decided_by verdict old new e).code
+          ≡ cond (is_formality s.buffer.opcode) (s.buffer.opcode + 0x80) e.code
+      is_code = decided_code _ _ e new.controller.settings.units new.flags _
+          ∙ ap (λ y. code_told y e.code) (ap (λ m. kept_of First m old.buffers.items) plain.number
+          ∙ kept_one r.command.reference old.buffers.items s.buffer s.kept)
+
+      by : (y : Bool) → is_formality s.buffer.opcode ≡ y → e.code ≡ 0x90
+      by true z = plain.code ∙ ap (λ (y : Command). endcode y.order) of.command
+          ∙ stood_code of.settings.units s.message of.message.long (ap is_formality (sym s.fits.opcode) ∙ z)
+      by false z = absurd (given_plain r.command.order d.online verdict e its_end
+          (ap ends_formality (sym (is_code ∙ ap (λ y. cond y (s.buffer.opcode + 0x80) e.code) z)) ∙ formality))
+
+  decided : IsDecided c.units verdict (V e.unit) (W e.unit) e made
+  decided = subst (λ x. IsDecided c.units verdict (volume_found x.units old.volumes e.unit) (W e.unit) e made)
+      s.settings (subst (λ x. IsDecided x.units verdict
+      (volume_found old.controller.settings.units old.volumes e.unit) (volume_found x.units new.volumes e.unit) e made)
+      s.now (decided_so new.controller.settings.units verdict
+      (volume_found old.controller.settings.units old.volumes e.unit)
+      (volume_found new.controller.settings.units new.volumes e.unit) e
+      (kept_of First e.reference old.buffers.items) new.flags))
+
+  abbrev moves : Bool
+  moves = is_some (moved_by r.command.order (touched d r))
+
+  sure : IsSure moves (V e.unit) verdict
+  sure = subst (λ m. IsSure moves (volume_found c.units old.volumes m) verdict) (sym plain.unit)
+      (subst (λ x. IsSure moves (volume_found x.units old.volumes r.command.unit) verdict) s.settings
+      (told_sure old outcome s.begun s.name s.was r s.here verdict s.how))
+
+  -- ---- what it tells
+
+  tells : Tells (unit_found c.units e.unit) (V e.unit) (W e.unit) (answer_by First text)
+  tells = step_tells h c.units verdict d.online (V e.unit) (W e.unit) e made s.unit
+      (ap (unit_found c.units) plain.unit ∙ s.there) decided (heeded_so e.unit).0 formal mounted r.command.order
+      (touched d r) sure its_end
+
+  -- of another unit it tells nothing
+  apart : (u : ℕ) → mine u text ≡ false → IsAsWas (V u) (W u)
+  apart u other on =
+      let z = heeded_so u in
+      elim (z.1 on) [
+        | inl y ↦ (y.0, z.0)
+        | inr y ↦ absurd (false≢true (sym other ∙ eq-eqb (num text 4 2) u
+            (names ∙ (one_ended First 0x89 u e y).1)))
+      ]
+
+  unit_is : (u : ℕ) → mine u text ≡ true → e.unit ≡ u
+  unit_is u here = sym names ∙ eqb-true (num text 4 2) u here
+
+  pub served_told : (u : ℕ) → IsTold u (unit_found c.units u) (V u) (W u) text
+  served_told u = record {
+    own = λ here. subst (λ m. Tells (unit_found c.units m) (V m) (W m) (answer_by First text)) (unit_is u here) tells;
+    other = apart u;
+  }
+
+  -- ---- what it says
+
+  module _ (driven : AreDriven c.units old.volumes old.controller.drives) where
+    left : e.code ≡ 0x88 → e.status % 32 ≡ 0 → (W e.unit).is_mounted ≡ false
+    left code good = ap (λ vs. (volume_found c.units vs e.unit).is_mounted) s.volumes
+        ∙ available_off c.units old.buffers.items First old.volumes e e.unit code good refl
+
+    says : IsFaultTold outcome → Says (V e.unit) (W e.unit) (answer_by First text)
+    says fault = step_says h c.units verdict d.online r.done (V e.unit) (W e.unit) e made r.command.order its_end
+        decided sure (told_fine old outcome fault s.begun s.name s.was r s.here verdict s.how).0
+        (λ on. subst (λ m. (drive_of old.controller.drives m).online ≡ true) plain.unit (driven e.unit on)) mounted left
+        tells.stays
+
+    pub served_placed : IsFaultTold outcome → (u : ℕ) → IsPlaced u (V u) (W u) text
+    served_placed fault u = record {
+      own = λ here. subst (λ m. Says (V m) (W m) (answer_by First text)) (unit_is u here) (says fault);
+      other = apart u;
+    }
+
+    -- ---- and the controller's drive
+
+    is_online : (order : Order) → is_immediate order ≡ false → ((byte why : ℕ) → order ≢ orders.Invalid byte why)
+        → endcode order ≡ 0x89 → order ≡ orders.Online
+    is_online orders.Online waits valid code = refl
+    is_online orders.SetUnit waits valid code = search (arith, code)
+    is_online orders.Available waits valid code = search (arith, code)
+    is_online (orders.Move kind count block) waits valid code = grind (arith, code)
+    is_online (orders.Invalid byte why) waits valid code = absurd (valid byte why refl)
+    is_online order waits valid code = search (arith, waits)
+
+    goes_online : e.code ≡ 0x89 → e.status % 32 ≡ 0 → (online : Bool)
+        → state_left online r.command.order (Some e) ≡ true
+    goes_online code good online = ap (λ o. state_after online o e.status)
+        (is_online r.command.order its_end.waits its_end.valid (sym its_end.code ∙ code))
+        ∙ ap (λ b. cond b true online) (eq-eqb (e.status % 32) 0 good)
+
+    stays_online : (order : Order) → order ≡ r.command.order → (u : ℕ) → (W u).is_mounted ≡ true
+        → r.command.unit ≡ u → state_left true order (Some e) ≡ true
+    stays_online orders.Available is u on same = by (is_success e.status) refl
+      where
+        by : (b : Bool) → is_success e.status ≡ b → cond b false true ≡ true
+        by false x = refl
+        by true x = absurd (false≢true (sym (ap (λ vs. (volume_found c.units vs u).is_mounted) s.volumes
+            ∙ available_off c.units old.buffers.items First old.volumes e u
+            (its_end.code ∙ ap endcode (sym is)) (eqb-true (e.status % 32) 0 x) (plain.unit ∙ same)) ∙ on))
+    stays_online orders.Online is u on same = by (is_success e.status)
+      where
+        by : (b : Bool) → cond b true true ≡ true
+        by false = refl
+        by true = refl
+    stays_online order is u on same = refl
+
+    pub served_driven : ((u : ℕ) (unit : Shape) → unit_found c.units u ≡ Some unit
+        → (x : Drive) × (find (has_number u) old.controller.drives ≡ Some x))
+        → new.controller.drives ≡ replaced r.command.unit (drive_after b d r) old.controller.drives
+        → AreDriven c.units new.volumes new.controller.drives
+    served_driven housed drives u on = subst (λ ds. (drive_of ds u).online ≡ true) (sym (drives
+        ∙ ap (λ x. replaced r.command.unit (record (drive_after b d r) {
+          online = state_left d.online r.command.order x;
+        }) old.controller.drives) s.given)) (by ((heeded_so u).1 on))
+      where
+        by : (((V u).is_mounted ≡ true) × (Ended 0x88 u (brought_for First (Some e)) → ⊥))
+            ⊎ Ended 0x89 u (brought_for First (Some e))
+            → (drive_of (replaced r.command.unit (record (drive_after b d r) {
+              online = state_left d.online r.command.order (Some e);
+            }) old.controller.drives) u).online ≡ true
+        by (inl y) = still_driven b old.controller.drives r (Some e) (V u) (W u) u (driven u) (λ x. y.0)
+            (λ x same. stays_online r.command.order refl u x same) on
+        by (inr y) =
+            let q = one_ended First 0x89 u e y in
+            let x = housed r.command.unit s.unit s.there in
+            brought_driven b old.controller.drives r (Some e) (V u) (W u) u (driven u) (sym plain.unit ∙ q.1) x.0 x.1
+            (goes_online q.0 q.2) on

@@ -1,0 +1,322 @@
+-- An end that answers a message, or that of a command which is aborted, says that its unit is online, or that it isn't,
+-- only if that is so.
+use Rattle.std.proofs.Common.{◌≡◌, ◌⊎◌, ⊎_elim, ◌∙◌, ◌+◌, ◌<◌, ◌^◌, ℕ, Bool, true, false, cond, List, Option, None, Some, inl, inr, refl, ap, sym, subst, arith}
+use Rattle.std.specs.Prelude.{◌%◌, ◌/◌, ◌==◌, ◌&&◌, ◌||◌, not, slice_index}
+use Rattle.mscp_packet.specs.Commands.{command_of}
+use Rattle.mscp_packet.specs.Number.{num}
+use Rattle.mscp_packet.specs.declared.command.Command.{Command}
+use Rattle.mscp_packet.specs.declared.command.Order.{Order}
+use Rattle.mscp_packet.specs.declared.command.Order.TheVariants as orders
+use Rattle.mscp_packet.specs.declared.end.End.{End}
+use Rattle.mscp_drive.specs.Settings.{Settings, unit_found}
+use Rattle.mscp_drive.specs.Shape.{Shape}
+use Rattle.mscp_drive.specs.UnitList as list
+use Rattle.mscp_drive.specs.declared.block.Block.TheVariants as blocks
+use Rattle.mscp_drive.specs.declared.connection.Connection.TheVariants.{First}
+use Rattle.mscp_queue.specs.Orders.{endcode}
+use Rattle.mscp_queue.specs.Records.{Record, aborted_record}
+use Rattle.mscp_controller.specs.Arrival.{fault_of, is_queued, move_fault, order_fault, unit_fault}
+use Rattle.mscp_controller.specs.Outcomes.{own_end, own_end_with}
+use Rattle.mscp_port.specs.Decided.{status_after, unit_state}
+use Rattle.mscp_port.specs.Formalities.{ends_formality}
+use Rattle.mscp_port.specs.Leaving.{end_with_body}
+use Rattle.mscp_port.specs.declared.decided.Decided.{Decided}
+use Rattle.mscp_port.specs.declared.hardware.Hardware.{Hardware}
+use Rattle.mscp_port.specs.declared.verdict.Verdict.TheVariants as verdicts
+use Rattle.mscp_port.specs.declared.volumes.Volume.{Volume}
+use Rattle.mscp_port.proofs.Common.{eqb-true, false≢true}
+use Rattle.mscp_ported.specs.Answers.{Own, own_answer, own_text}
+use Rattle.mscp_ported.proofs.Itself.{IsPast, own_cases, own_refused}
+use Rattle.mscp_wire.specs.Wire.{answer_by, sent_by}
+use Rattle.mscp_wire.specs.declared.answer.Answer.{Answer}
+use Rattle.mscp_wire.specs.declared.sent.Sent.{Sent}
+use Rattle.mscp_shown.proofs.Saying.{Says as AsksFor, sent_says}
+use Rattle.mscp_shown.proofs.Suiting.{refused_apart}
+use Rattle.mscp_logged.proofs.Away.{IsPlaced, Says}
+use Rattle.mscp_logged.proofs.Describing.{IsAsWas, mine, same_volume}
+use Rattle.mscp_logged.proofs.Placing.{IsAwayCode, IsOnlineCode, away_parts, formal_away, formal_online, online_parts}
+use Rattle.mscp_logged.proofs.Replied.{end_is, state_good, state_told}
+use Rattle.mscp_logged.proofs.Stepped.{IsDecided}
+use Rattle.mscp_logged.proofs.Suited.{formal_opcode}
+use Rattle.mscp_logged.proofs.Texts.{text_with}
+use Rattle.mscp_logged.proofs.Worded.{Reads, text_reads, text_unit}
+
+-- ---- one that says neither
+
+-- by its code, or by the code of its status
+abbrev IsMute : ℕ → ℕ → Type 0
+IsMute code status = ((bit : ℕ) → status ≡ 0 → IsOnlineCode code bit → ⊥) × (IsAwayCode code status → ⊥)
+
+mute : (v : Volume) (a : Answer) → IsMute a.code (a.status % 32) → Says v v a
+mute v a m = record {
+  online = λ says. let p = online_parts a says in absurd (m.0 (a.status / 256 % 2) p.0 p.1);
+  away = λ says. absurd (m.1 (away_parts a says));
+  stays = λ none is. (is, same_volume v);
+}
+
+pub mute_placed : (u : ℕ) (v : Volume) (text : List ℕ)
+    → IsMute (answer_by First text).code ((answer_by First text).status % 32) → IsPlaced u v v text
+mute_placed u v text m = record {
+  own = λ here. mute v (answer_by First text) m;
+  other = λ here is. (is, same_volume v);
+}
+
+formal_mute : (code status : ℕ) → ends_formality code ≡ true → IsMute code status
+formal_mute code status is = ((λ bit zero on. formal_online code bit is on), λ away. formal_away code status is away)
+
+-- statuses of no unit: Invalid Command and Command Aborted
+abbrev IsOther : ℕ → Type 0
+IsOther status = (status ≡ 1) ⊎ (status ≡ 2)
+
+other_mute : (code status : ℕ) → IsOther status → IsMute code status
+other_mute code status is = ((λ bit zero on. none is zero), λ away. never is away)
+  where
+    none : IsOther status → status ≡ 0 → ⊥
+    none (inl e) zero = search (arith, e, zero)
+    none (inr e) zero = search (arith, e, zero)
+
+    never : IsOther status → IsAwayCode code status → ⊥
+    never (inl e) (inl x) = search (arith, e, x.0)
+    never (inl e) (inr (inl x)) = search (arith, e, x.0)
+    never (inl e) (inr (inr x)) = search (arith, e, x.0)
+    never (inr e) (inl x) = search (arith, e, x.0)
+    never (inr e) (inr (inl x)) = search (arith, e, x.0)
+    never (inr e) (inr (inr x)) = search (arith, e, x.0)
+
+module _ (h : Hardware) (units : List Shape) (e : End) (d : Decided) where
+  abbrev end_answer : Answer
+  end_answer = answer_by First (text_with h units e d)
+
+  text_mute : (ends_formality d.code ≡ false → IsMute e.code (d.status % 32))
+      → IsMute end_answer.code (end_answer.status % 32)
+  text_mute m = by (text_reads h units e d)
+    where
+      by : ((ends_formality d.code ≡ true) × Reads end_answer d.code d.status)
+          ⊎ ((ends_formality d.code ≡ false)
+          × (text_with h units e d ≡ end_with_body e.body e d (list.unit_found units e.unit) h)
+          × Reads end_answer e.code d.status) → IsMute end_answer.code (end_answer.status % 32)
+      by (inl x) = subst (λ n. IsMute n (end_answer.status % 32)) (sym x.1.code)
+          (formal_mute d.code (end_answer.status % 32) x.0)
+      by (inr x) = subst (λ n. IsMute n (end_answer.status % 32)) (sym x.2.code)
+          (subst (λ n. IsMute e.code n) (sym x.2.low) (m x.0))
+
+-- ---- statuses
+
+-- a status that is told as it is
+kept_after : (v : Volume) (code status : ℕ) → (status % 32 ≡ 0 → ⊥) → (status % 32 ≡ 4 → ⊥)
+    → status_after (verdicts.Served blocks.Good) code status v ≡ status
+kept_after v code status never other =
+    by (code == 0x83) (status == 0) refl (status == 4) refl (code == 0x89) (status == 0x0100) refl
+  where
+    by : (x y : Bool) → (status == 0) ≡ y → (z : Bool) → (status == 4) ≡ z → (s t : Bool) → (status == 0x0100) ≡ t
+        → cond (x && (y || z)) (unit_state v) (cond (s && (y || t)) (cond v.is_mounted 0x0100 0) status) ≡ status
+    by x true e z f s t g = absurd (never (ap (λ n. n % 32) (eqb-true status 0 e)))
+    by x false e true f s t g = absurd (other (ap (λ n. n % 32) (eqb-true status 4 f)))
+    by x false e false f s true g = absurd (never (ap (λ n. n % 32) (eqb-true status 0x0100 g)))
+    by true false e false f true false g = refl
+    by true false e false f false false g = refl
+    by false false e false f true false g = refl
+    by false false e false f false false g = refl
+
+-- the end of a command that is aborted
+pub aborted_placed : (h : Hardware) (units : List Shape) (r : Record) (d : Decided) (v : Volume) (u : ℕ) (w : Volume)
+    → IsDecided units (verdicts.Served blocks.Good) w w (aborted_record r) d
+    → IsPlaced u v v (text_with h units (aborted_record r) d)
+aborted_placed h units r d v u w decided = mute_placed u v (text_with h units (aborted_record r) d)
+    (text_mute h units (aborted_record r) d (λ plain. other_mute (aborted_record r).code (d.status % 32) (inr
+    (ap (λ n. n % 32) (decided.status plain ∙ kept_after w (aborted_record r).code 2 (λ e. search (arith, e))
+    (λ e. search (arith, e)))))))
+
+-- Unit-Offline is told of no unit that is there
+move_some : (c : Settings) (count block status : ℕ) (unit : Shape) → move_fault c count block (Some unit) ≡ Some status
+    → status % 32 ≡ 3 → ⊥
+move_some c count block status unit e three = grind (arith, e, three)
+
+module _ (c : Settings) (unit status : ℕ) (three : status % 32 ≡ 3) where
+  unit_none : (o : Option Shape) → unit_fault o ≡ Some status → o ≡ None
+  unit_none None e = refl
+  unit_none (Some s) e = search (arith, e)
+
+  move_none : (count block : ℕ) (o : Option Shape) → move_fault c count block o ≡ Some status → o ≡ None
+  move_none count block None e = refl
+  move_none count block (Some s) e = absurd (move_some c count block status s e three)
+
+  offline_none : (o : Order) (s : Sent) → AsksFor o s → order_fault c unit o ≡ Some status → unit_found c unit ≡ None
+  offline_none (orders.Move kind count block) s says e = move_none count block (unit_found c unit) e
+  offline_none orders.UnitStatus s says e = unit_none (unit_found c unit) e
+  offline_none orders.Available s says e = unit_none (unit_found c unit) e
+  offline_none orders.Online s says e = unit_none (unit_found c unit) e
+  offline_none orders.SetUnit s says e = unit_none (unit_found c unit) e
+  offline_none (orders.SetController version) s says e = grind (arith, e, three)
+  offline_none (orders.Invalid byte why) s says e = absurd (apart (⊎_elim (λ x. ap (λ n. n % 32) x.0)
+      (λ short. ap (λ n. n % 32) short.1.why) says))
+    where
+      apart : why % 32 ≡ 1 → ⊥
+      apart one = search (arith, e, one, three)
+  offline_none (orders.Abort other) s says e = search (arith, e)
+  offline_none (orders.Status other) s says e = search (arith, e)
+
+-- ---- a reply
+
+module _ (h : Hardware) (c : Settings) (online : Bool) (figure : ℕ) (sent : List ℕ)
+    (immediate : is_queued c (command_of sent) ≡ false) (small : (command_of sent).unit < 2 ^ 16) (d : Decided)
+    (volume : ℕ → Volume)
+    (decided : IsDecided c.units (verdicts.Served blocks.Good) (volume (command_of sent).unit)
+    (volume (command_of sent).unit) (own_end c online figure (command_of sent)) d)
+    (missing : (u : ℕ) → unit_found c u ≡ None → (volume u).is_mounted ≡ false) where
+  abbrev k : Command
+  k = command_of sent
+
+  abbrev e : End
+  e = own_end c online figure (command_of sent)
+
+  abbrev v : Volume
+  v = volume (command_of sent).unit
+
+  abbrev text : List ℕ
+  text = text_with h c.units (own_end c online figure (command_of sent)) d
+
+  abbrev a : Answer
+  a = answer_by First text
+
+  abbrev So : Type 0
+  So = (u : ℕ) → IsPlaced u (volume u) (volume u) text
+
+  unit_is : e.unit ≡ k.unit
+  unit_is = by (fault_of c k)
+    where
+      by : (o : Option ℕ) → (own_end_with c online figure (command_of sent) o).unit ≡ k.unit
+      by None = refl
+      by (Some status) = refl
+
+  own_so : Says v v a → So
+  own_so says u = record { own = own; other = λ here is. (is, same_volume (volume u)) }
+    where
+      own : mine u text ≡ true → Says (volume u) (volume u) a
+      own here = subst (λ n. Says (volume n) (volume n) a)
+          (sym (text_unit h c.units e d (subst (λ n. n < 2 ^ 16) (sym unit_is) small) ∙ unit_is)
+          ∙ eqb-true (num text 4 2) u here) says
+
+  never_so : (ends_formality d.code ≡ false → IsMute e.code (d.status % 32)) → So
+  never_so m u = mute_placed u (volume u) text (text_mute h c.units e d m)
+
+  refused : (status : ℕ) → fault_of c k ≡ Some status → So
+  refused status fault = by (refused_apart c k.unit status k.order (sent_by First sent) (sent_says First sent) fault)
+    where
+      told : (status % 32 ≡ 0 → ⊥) → (status % 32 ≡ 4 → ⊥) → ends_formality d.code ≡ false
+          → d.status % 32 ≡ status % 32
+      told never other plain = ap (λ n. n % 32) (decided.status plain
+          ∙ ap (λ n. status_after (verdicts.Served blocks.Good) e.code n v)
+          (ap (λ o. (own_end_with c online figure (command_of sent) o).status) fault)
+          ∙ kept_after v e.code status never other)
+
+      by : (status % 32 ≡ 1) ⊎ (status % 32 ≡ 3) → So
+      by (inl one) = never_so (λ plain. other_mute e.code (d.status % 32)
+          (inl (told (λ z. search (arith, one, z)) (λ z. search (arith, one, z)) plain ∙ one)))
+      by (inr three) = own_so (from (text_reads h c.units e d))
+        where
+          none : (volume k.unit).is_mounted ≡ false
+          none = missing k.unit
+              (offline_none c k.unit status three k.order (sent_by First sent) (sent_says First sent) fault)
+
+          from : ((ends_formality d.code ≡ true) × Reads a d.code d.status)
+              ⊎ ((ends_formality d.code ≡ false)
+              × (text ≡ end_with_body e.body e d (list.unit_found c.units e.unit) h) × Reads a e.code d.status)
+              → Says v v a
+          from (inl x) = mute v a (subst (λ n. IsMute n (a.status % 32)) (sym x.1.code)
+              (formal_mute d.code (a.status % 32) x.0))
+          from (inr x) = record {
+            online = λ says. search (
+              arith,
+              (online_parts a says).0,
+              x.2.low ∙ told (λ z. search (arith, three, z)) (λ z. search (arith, three, z)) x.0 ∙ three,
+            );
+            away = λ says. none;
+            stays = λ brings is. (is, same_volume v);
+          }
+
+  coded : (order : Order) → k.order ≡ order → (code : ℕ) → endcode order ≡ code → fault_of c k ≡ None
+      → ((status : ℕ) → IsMute code status) → So
+  coded order of code is none m = never_so (λ plain. subst (λ n. IsMute n (d.status % 32))
+      (sym (ap (λ o. (own_end_with c online figure (command_of sent) o).code) none ∙ ap endcode of ∙ is))
+      (m (d.status % 32)))
+
+  status_says : (of : k.order ≡ orders.UnitStatus) (none : fault_of c k ≡ None) → Says v v a
+  status_says of none = from (text_reads h c.units e d)
+    where
+      state : ends_formality d.code ≡ false → d.status ≡ unit_state v
+      state = state_told h c online figure sent immediate small d volume decided of none
+
+      code : e.code ≡ 0x83
+      code = ap (λ (x : End). x.code) (end_is h c online figure sent immediate small d volume decided of none)
+
+      available : (x y : Bool) → v.is_mounted ≡ y → cond (not x) 0x23 (cond (not y) 4 0) % 32 ≡ 4
+          → v.is_mounted ≡ false
+      available false y is g = search (arith, g)
+      available true false is g = is
+      available true true is g = search (arith, g)
+
+      away : (s : ℕ) → s ≡ unit_state v % 32 → IsAwayCode 0x83 s → v.is_mounted ≡ false
+      away s is (inl x) = search (arith, x.1)
+      away s is (inr (inl x)) = available v.is_there v.is_mounted refl (sym is ∙ x.0)
+      away s is (inr (inr x)) = absurd (false≢true x.1)
+
+      from : ((ends_formality d.code ≡ true) × Reads a d.code d.status)
+          ⊎ ((ends_formality d.code ≡ false)
+          × (text ≡ end_with_body e.body e d (list.unit_found c.units e.unit) h) × Reads a e.code d.status)
+          → Says v v a
+      from (inl x) = mute v a (subst (λ n. IsMute n (a.status % 32)) (sym x.1.code)
+          (formal_mute d.code (a.status % 32) x.0))
+      from (inr x) = record {
+        online = λ says. state_good v
+            (ap (λ n. n % 32) (sym (state x.0)) ∙ sym x.2.low ∙ (online_parts a says).0);
+        away = λ says. away (a.status % 32) (x.2.low ∙ ap (λ n. n % 32) (state x.0))
+            (subst (λ n. IsAwayCode n (a.status % 32)) (x.2.code ∙ code) (away_parts a says));
+        stays = λ brings is. (is, same_volume v);
+      }
+
+  pub reply_placed : So
+  reply_placed = by (fault_of c k) refl
+    where
+      open_so : fault_of c k ≡ None → (order : Order) → k.order ≡ order → So
+      open_so none orders.UnitStatus of = own_so (status_says of none)
+      open_so none (orders.Abort other) of = coded (orders.Abort other) of 0x81 refl none
+          (λ status. ((λ bit zero on. grind (arith, on)), λ away. grind (arith, away)))
+      open_so none (orders.Status other) of = coded (orders.Status other) of 0x82 refl none
+          (λ status. ((λ bit zero on. grind (arith, on)), λ away. grind (arith, away)))
+      open_so none (orders.SetController version) of = coded (orders.SetController version) of 0x84 refl none
+          (λ status. ((λ bit zero on. grind (arith, on)), λ away. grind (arith, away)))
+      open_so none order of = search (arith, of, none, immediate)
+
+      by : (o : Option ℕ) → fault_of c k ≡ o → So
+      by None none = open_so none k.order refl
+      by (Some status) fault = refused status fault
+
+-- ---- one of the port's own
+
+own_mute : (v : Option Volume) (b : List ℕ) (own : Own) → own_answer false v b ≡ Some own
+    → IsMute (answer_by First (own_text b own)).code ((answer_by First (own_text b own)).status % 32)
+own_mute v b = own_cases v b
+    (λ own. IsMute (answer_by First (own_text b own)).code ((answer_by First (own_text b own)).status % 32))
+    (λ asks. formal_mute (slice_index b 8 + 0x80) 0
+    (formal_opcode (λ n. ends_formality (n + 0x80) ≡ true) refl refl refl (slice_index b 8) asks))
+    (λ status moves past. by status past)
+  where
+    by : (status : ℕ) → IsPast status → IsMute (answer_by First (own_text b (own_refused b status))).code
+        ((answer_by First (own_text b (own_refused b status))).status % 32)
+    by status (inl e) = subst (λ n. IsMute (answer_by First (own_text b (own_refused b n))).code
+        ((answer_by First (own_text b (own_refused b n))).status % 32)) (sym e) (other_mute _ _ (inl refl))
+    by status (inr e) = subst (λ n. IsMute (answer_by First (own_text b (own_refused b n))).code
+        ((answer_by First (own_text b (own_refused b n))).status % 32)) (sym e) (other_mute _ _ (inl refl))
+
+pub own_placed : (u : ℕ) {v w : Volume} (x : Option Volume) (b : List ℕ) (own : Own) → own_answer false x b ≡ Some own
+    → IsAsWas v w → IsPlaced u v w (own_text b own)
+own_placed u x b own answer still = record {
+  own = λ here. record {
+    online = λ says. let p = online_parts (answer_by First (own_text b own)) says in
+        absurd ((own_mute x b own answer).0 ((answer_by First (own_text b own)).status / 256 % 2) p.0 p.1);
+    away = λ says. absurd ((own_mute x b own answer).1 (away_parts (answer_by First (own_text b own)) says));
+    stays = λ none. still;
+  };
+  other = λ here. still;
+}

@@ -1,0 +1,294 @@
+-- An end that a step gives tells of its unit what is so, of the volume that is there then.
+use Rattle.byteorder.specs.Endian.{little_bytes}
+use Rattle.std.proofs.Common.{◌≡◌, ◌≢◌, ◌⊎◌, ◌∙◌, ℕ, Bool, true, false, cond, nat_eq, List, Option, Some, inl, inr, refl, ap, sym, subst, arith}
+use Rattle.std.specs.Prelude.{◌%◌, ◌/◌, ◌==◌, ◌||◌, is_some}
+use Rattle.mscp_packet.specs.Number.{num}
+use Rattle.mscp_packet.specs.declared.command.MoveKind.{MoveKind}
+use Rattle.mscp_packet.specs.declared.command.Order.{Order}
+use Rattle.mscp_packet.specs.declared.command.Order.TheVariants as orders
+use Rattle.mscp_packet.specs.declared.end.End.{End}
+use Rattle.mscp_packet.specs.declared.end.EndBody.TheVariants as bodies
+use Rattle.mscp_drive.specs.Shape.{Shape}
+use Rattle.mscp_drive.specs.UnitList.{unit_found}
+use Rattle.mscp_drive.specs.declared.block.Block.TheVariants as blocks
+use Rattle.mscp_drive.specs.declared.connection.Connection.TheVariants.{First}
+use Rattle.mscp_queue.specs.Orders.{endcode}
+use Rattle.mscp_queue.specs.Outcomes.{is_success, online_body, outcome_body, outcome_status}
+use Rattle.mscp_controller.specs.Arrival.{is_immediate}
+use Rattle.mscp_port.specs.Blocks.{block_told, moved_by}
+use Rattle.mscp_port.specs.Decided.{controller_decided, end_decided, found_decided, status_after, status_told}
+use Rattle.mscp_port.specs.Formalities.{code_told, ends_formality, formal_status}
+use Rattle.mscp_port.specs.Leaving.{end_with_body}
+use Rattle.mscp_port.specs.declared.buffers.Buffer.{Buffer}
+use Rattle.mscp_port.specs.declared.decided.Decided.{Decided}
+use Rattle.mscp_port.specs.declared.hardware.Hardware.{Hardware}
+use Rattle.mscp_port.specs.declared.verdict.Verdict.{Verdict}
+use Rattle.mscp_port.specs.declared.verdict.Verdict.TheVariants as verdicts
+use Rattle.mscp_port.specs.declared.volumes.Volume.{Volume}
+use Rattle.mscp_port.proofs.Common.{eqb-true, false≢true}
+use Rattle.mscp_ported.proofs.Fitting.{decided_code, decided_status}
+use Rattle.mscp_ported.proofs.Origins.{told_same}
+use Rattle.mscp_wire.specs.Wire.{answer_by, brings, describes}
+use Rattle.mscp_wire.specs.declared.answer.Answer.{Answer}
+use Rattle.mscp_logged.proofs.Describing.{IsAsWas, IsIdentityOf, IsSame, Tells, identity_of}
+use Rattle.mscp_logged.proofs.Sure.{IsSure}
+use Rattle.mscp_logged.proofs.Texts.{text_with}
+use Rattle.mscp_logged.proofs.Worded.{Reads, brings_is, describes_so, online_identity, tells_so, text_reads}
+
+-- ---- what is decided
+
+-- by a step that went so, or a message: its status by the volume before, type and size by that which is there now
+pub record IsDecided (units : List Shape) (verdict : Verdict) (v w : Volume) (e : End) (d : Decided) : Type 0 where
+  pub status : ends_formality d.code ≡ false → d.status ≡ status_after verdict e.code e.status v
+  pub media : (unit : Shape) → unit_found units e.unit ≡ Some unit → (e.code == 0x84) ≡ false
+      → d.media ≡ cond w.is_there w.media unit.media
+  pub size : (unit : Shape) → unit_found units e.unit ≡ Some unit → (e.code == 0x84) ≡ false
+      → d.size ≡ cond w.is_there w.size unit.size
+
+pub decided_so : (units : List Shape) (verdict : Verdict) (v w : Volume) (e : End) (kept : Option Buffer) (flags : ℕ)
+    → IsDecided units verdict v w e (end_decided (code_told kept e.code)
+    (status_told verdict (code_told kept e.code) e.status v) e units flags w)
+decided_so units verdict v w e kept flags = record {
+  status = λ plain.
+      let informal = sym (ap ends_formality (decided_code code status e units flags w)) ∙ plain in
+      decided_status code status e units flags w
+      ∙ ap (λ b. cond b (formal_status e.status) (status_after verdict code e.status v)) informal
+      ∙ ap (λ n. status_after verdict n e.status v) (told_same kept e.code informal);
+  media = λ unit found other. ap (λ (d : Decided). d.media) (unit_is unit found other);
+  size = λ unit found other. ap (λ (d : Decided). d.size) (unit_is unit found other);
+}
+  where
+    code : ℕ
+    code = code_told kept e.code
+
+    status : ℕ
+    status = status_told verdict (code_told kept e.code) e.status v
+
+    unit_is : (unit : Shape) → unit_found units e.unit ≡ Some unit → (e.code == 0x84) ≡ false
+        → end_decided (code_told kept e.code) (status_told verdict (code_told kept e.code) e.status v) e units flags w
+        ≡ found_decided (code_told kept e.code) (status_told verdict (code_told kept e.code) e.status v) (Some unit) w
+    unit_is unit found other = ap (λ b. cond b (controller_decided code status flags)
+        (found_decided code status (unit_found units e.unit) w)) other
+        ∙ ap (λ o. found_decided code status o w) found
+
+-- ---- statuses
+
+-- an ONLINE is told that its unit was online if that is so, and succeeds just if the controller gave it so
+pub record IsOnlineTold (v : Volume) (given told : ℕ) : Type 0 where
+  pub back : given % 32 ≡ 0 → told % 32 ≡ 0
+  pub was : told % 32 ≡ 0 → told / 256 % 2 ≡ 1 → v.is_mounted ≡ true
+
+pub online_told : (v : Volume) (verdict : Verdict) (online : Bool) → IsSure false v verdict
+    → IsOnlineTold v (outcome_status online orders.Online (block_told verdict))
+    (status_after verdict 0x89 (outcome_status online orders.Online (block_told verdict)) v)
+online_told v verdicts.NoVolume online sure =
+    record { back = λ e. search (arith, e); was = λ e bit. search (arith, e) }
+online_told v verdicts.NotOnline online sure =
+    record { back = λ e. search (arith, e); was = λ e bit. search (arith, e) }
+online_told v (verdicts.Served blocks.Good) online sure = by online v.is_mounted refl
+  where
+    by : (b m : Bool) → v.is_mounted ≡ m → IsOnlineTold v (cond b 0x0100 0)
+        (cond (nat_eq (cond b 0x0100 0) 0 || nat_eq (cond b 0x0100 0) 0x0100) (cond v.is_mounted 0x0100 0)
+        (cond b 0x0100 0))
+    by true true e = subst (λ m. IsOnlineTold v 0x0100 (cond m 0x0100 0)) (sym e)
+        (record { back = λ x. refl; was = λ x y. e })
+    by true false e = subst (λ m. IsOnlineTold v 0x0100 (cond m 0x0100 0)) (sym e)
+        (record { back = λ x. refl; was = λ x y. search (arith, y) })
+    by false true e = subst (λ m. IsOnlineTold v 0 (cond m 0x0100 0)) (sym e)
+        (record { back = λ x. refl; was = λ x y. e })
+    by false false e = subst (λ m. IsOnlineTold v 0 (cond m 0x0100 0)) (sym e)
+        (record { back = λ x. refl; was = λ x y. search (arith, y) })
+online_told v (verdicts.Served (blocks.Bad n)) online (inr moves) = absurd (false≢true moves.0)
+online_told v (verdicts.Served (blocks.Bad n)) online (inl bad) = by (nat_eq n 0) refl (nat_eq n 0x0100) refl
+  where
+    never : n % 32 ≡ 0 → ⊥
+    never e = search (arith, e, bad)
+
+    by : (x : Bool) → nat_eq n 0 ≡ x → (y : Bool) → nat_eq n 0x0100 ≡ y
+        → IsOnlineTold v n (cond (nat_eq n 0 || nat_eq n 0x0100) (cond v.is_mounted 0x0100 0) n)
+    by true e y f = absurd (never (ap (λ k. k % 32) (eqb-true n 0 e)))
+    by false e true f = absurd (never (ap (λ k. k % 32) (eqb-true n 0x0100 f)))
+    by false e false f =
+        subst (λ b. IsOnlineTold v n (cond b (cond v.is_mounted 0x0100 0) n))
+        (sym (ap (λ b. b || nat_eq n 0x0100) e ∙ f))
+        (record { back = λ x. absurd (never x); was = λ x y. absurd (never x) })
+
+-- ---- ends
+
+online_shaped : (shape : Shape) (status : ℕ)
+    → (x : ℕ) × (y : ℕ) × (z : ℕ) × (w : ℕ) × (online_body shape status ≡ bodies.Online x y z w)
+online_shaped shape status = by (is_success status)
+  where
+    by : (b : Bool) → (x : ℕ) × (y : ℕ) × (z : ℕ) × (w : ℕ)
+        × (cond b (bodies.Online shape.id shape.media shape.size shape.serial) (bodies.Online 0 0 0 0)
+        ≡ bodies.Online x y z w)
+    by true = (shape.id, shape.media, shape.size, shape.serial, refl)
+    by false = (0, 0, 0, 0, refl)
+
+-- codes of ends that tell what their unit is
+abbrev pub IsTelling : ℕ → Type 0
+IsTelling code = (code ≡ 0x83) ⊎ (code ≡ 0x89) ⊎ (code ≡ 0x8A)
+
+pub formal_telling : (code : ℕ) → ends_formality code ≡ true → IsTelling code → ⊥
+formal_telling code e (inl h) = search (arith, sym (ap ends_formality h) ∙ e)
+formal_telling code e (inr (inl h)) = search (arith, sym (ap ends_formality h) ∙ e)
+formal_telling code e (inr (inr h)) = search (arith, sym (ap ends_formality h) ∙ e)
+
+move_telling : (kind : MoveKind) (count block : ℕ) → IsTelling (endcode (orders.Move kind count block)) → ⊥
+move_telling kind count block h = grind (arith, h)
+
+-- what a step gives
+pub record IsGivenEnd (order : Order) (online : Bool) (verdict : Verdict) (e : End) : Type 0 where
+  pub waits : is_immediate order ≡ false
+  pub valid : (byte why : ℕ) → order ≢ orders.Invalid byte why
+  pub code : e.code ≡ endcode order
+  pub status : e.status ≡ outcome_status online order (block_told verdict)
+  pub body : (shape : Shape) × (n : ℕ)
+      × (e.body ≡ outcome_body shape (outcome_status online order (block_told verdict)) order n)
+
+module _ (h : Hardware) (units : List Shape) (verdict : Verdict) (online : Bool) (v w : Volume) (e : End)
+    (d : Decided) (unit : Shape) (found : unit_found units e.unit ≡ Some unit)
+    (decided : IsDecided units verdict v w e d) (same : IsSame v w)
+    (formal : ends_formality d.code ≡ true → e.code ≡ 0x90)
+    (mounted : w.is_mounted ≡ true → (v.is_mounted ≡ true) ⊎ ((e.code ≡ 0x89) × (e.status % 32 ≡ 0))) where
+  abbrev text : List ℕ
+  text = text_with h units e d
+
+  abbrev a : Answer
+  a = answer_by First (text_with h units e d)
+
+  abbrev So : Type 0
+  So = Tells (unit_found units e.unit) v w a
+
+  stays : ((e.code ≡ 0x89) → (e.status % 32 ≡ 0) → brings a ≡ true) → brings a ≡ false → IsAsWas v w
+  stays back none is = by (mounted is)
+    where
+      by : (v.is_mounted ≡ true) ⊎ ((e.code ≡ 0x89) × (e.status % 32 ≡ 0)) → (v.is_mounted ≡ true) × IsSame v w
+      by (inl was) = (was, same)
+      by (inr new) = absurd (false≢true (sym none ∙ back new.0 new.1))
+
+  -- it doesn't tell what its unit is
+  silent : (IsTelling a.code → ⊥) → (e.code ≡ 0x89 → ⊥) → So
+  silent never other = record {
+    described = λ is. absurd (never (describes_so a is).code);
+    told = λ is unsure. absurd (never (by (tells_so a is unsure).1));
+    stays = stays (λ code good. absurd (other code));
+  }
+    where
+      by : (a.code ≡ 0x83) ⊎ ((a.code ≡ 0x89) × (a.status / 256 % 2 ≡ 1)) → IsTelling a.code
+      by (inl x) = inl x
+      by (inr x) = inr (inl x.0)
+
+  formal_so : ends_formality d.code ≡ true → Reads a d.code d.status → So
+  formal_so is reads = silent (λ t. formal_telling d.code is (subst (λ c. IsTelling c) reads.code t))
+      (λ code. search (arith, sym code ∙ formal is))
+
+  module _ (plain : ends_formality d.code ≡ false) (reads : Reads a e.code d.status)
+      (worded : text ≡ end_with_body e.body e d (unit_found units e.unit) h) where
+    -- what it tells is its volume
+    identity : (x y z t : ℕ) → e.body ≡ bodies.Online x y z t → nat_eq e.code 0x83 ≡ false → (e.code == 0x84) ≡ false
+        → d.status % 32 ≡ 0 → a.identity ≡ Some (identity_of unit w)
+    identity x y z t body code other good =
+        ap (λ b. (answer_by First b).identity) (worded ∙ ap (λ b. end_with_body b e d (unit_found units e.unit) h) body
+        ∙ ap (λ o. end_with_body (bodies.Online x y z t) e d o h) found)
+        ∙ online_identity x y z t e d unit h code good
+        ∙ ap (λ m. Some (record {
+          identifier = num (little_bytes 8 unit.id) 0 8;
+          media = num (little_bytes 4 m) 0 4;
+          size = Some (num (little_bytes 4 d.size) 0 4);
+        })) (decided.media unit found other)
+        ∙ ap (λ n. Some (record {
+          identifier = num (little_bytes 8 unit.id) 0 8;
+          media = num (little_bytes 4 (cond w.is_there w.media unit.media)) 0 4;
+          size = Some (num (little_bytes 4 n) 0 4);
+        })) (decided.size unit found other)
+
+    described : (order : Order) (code : ℕ) → e.code ≡ code → nat_eq code 0x83 ≡ false → (code == 0x84) ≡ false
+        → ((x : ℕ) × (y : ℕ) × (z : ℕ) × (t : ℕ) × (e.body ≡ bodies.Online x y z t)) → describes a ≡ true
+        → IsIdentityOf (unit_found units e.unit) w a.identity
+    described order code is other apart body tells = subst (λ o. IsIdentityOf o w a.identity) (sym found)
+        (inl (identity body.0 body.1 body.2 body.3 body.4 (ap (λ n. nat_eq n 0x83) is ∙ other)
+        (ap (λ n. n == 0x84) is ∙ apart) (sym reads.low ∙ (describes_so a tells).good)))
+
+    online_so : IsSure false v verdict → IsGivenEnd orders.Online online verdict e → So
+    online_so sure given = record {
+      described = described orders.Online 0x89 given.code refl refl
+          (let b = online_shaped given.body.0 (outcome_status online orders.Online (block_told verdict)) in
+          (b.0, b.1, b.2, b.3, given.body.2 ∙ b.4));
+      told = λ is unsure. by (tells_so a is unsure).0 (tells_so a is unsure).1;
+      stays = stays (λ code good. brings_is a (reads.code ∙ given.code)
+          (reads.low ∙ ap (λ n. n % 32) status ∙ told_so.back (ap (λ n. n % 32) (sym given.status) ∙ good)));
+    }
+      where
+        told_so : IsOnlineTold v (outcome_status online orders.Online (block_told verdict))
+            (status_after verdict 0x89 (outcome_status online orders.Online (block_told verdict)) v)
+        told_so = online_told v verdict online sure
+
+        status : d.status
+            ≡ status_after verdict 0x89 (outcome_status online orders.Online (block_told verdict)) v
+        status = decided.status plain ∙ ap (λ n. status_after verdict n e.status v) given.code
+            ∙ ap (λ n. status_after verdict 0x89 n v) given.status
+
+        by : a.status % 32 ≡ 0 → (a.code ≡ 0x83) ⊎ ((a.code ≡ 0x89) × (a.status / 256 % 2 ≡ 1))
+            → (v.is_mounted ≡ true) × IsSame v w
+        by good (inl x) = search (arith, sym x ∙ reads.code ∙ given.code)
+        by good (inr x) = (
+          told_so.was (ap (λ n. n % 32) (sym status) ∙ sym reads.low ∙ good)
+              (ap (λ n. n / 256 % 2) (sym status) ∙ sym reads.bit ∙ x.1),
+          same,
+        )
+
+    set_so : (given : IsGivenEnd orders.SetUnit online verdict e) → So
+    set_so given = record {
+      described = described orders.SetUnit 0x8A given.code refl refl
+          (let b = online_shaped given.body.0 (outcome_status online orders.SetUnit (block_told verdict)) in
+          (b.0, b.1, b.2, b.3, given.body.2 ∙ b.4));
+      told = λ is unsure. by (tells_so a is unsure).1;
+      stays = stays (λ code good. search (arith, sym code ∙ given.code));
+    }
+      where
+        by : (a.code ≡ 0x83) ⊎ ((a.code ≡ 0x89) × (a.status / 256 % 2 ≡ 1)) → (v.is_mounted ≡ true) × IsSame v w
+        by (inl x) = search (arith, sym x ∙ reads.code ∙ given.code)
+        by (inr x) = search (arith, sym x.0 ∙ reads.code ∙ given.code)
+
+    other_so : (order : Order) (code : ℕ) → IsGivenEnd order online verdict e → endcode order ≡ code
+        → (IsTelling code → ⊥) → So
+    other_so order code given is never = silent (λ t. never (subst (λ c. IsTelling c) (reads.code ∙ given.code ∙ is) t))
+        (λ c. never (inr (inl (sym (given.code ∙ is) ∙ c))))
+
+    plain_so : (order : Order) (lbn : Option ℕ) → IsSure (is_some (moved_by order lbn)) v verdict
+        → IsGivenEnd order online verdict e → So
+    plain_so orders.Online lbn sure given = online_so sure given
+    plain_so orders.SetUnit lbn sure given = set_so given
+    plain_so orders.Available lbn sure given =
+        other_so orders.Available 0x88 given refl (λ t. search (arith, t))
+    plain_so (orders.Move kind count block) lbn sure given =
+        other_so (orders.Move kind count block) _ given refl (move_telling kind count block)
+    plain_so (orders.Invalid byte why) lbn sure given = absurd (given.valid byte why refl)
+    plain_so order lbn sure given = search (arith, given.waits)
+
+  pub step_tells : (order : Order) (lbn : Option ℕ) → IsSure (is_some (moved_by order lbn)) v verdict
+      → IsGivenEnd order online verdict e → So
+  step_tells order lbn sure given = by (text_reads h units e d)
+    where
+      by : ((ends_formality d.code ≡ true) × Reads a d.code d.status)
+          ⊎ ((ends_formality d.code ≡ false) × (text ≡ end_with_body e.body e d (unit_found units e.unit) h)
+          × Reads a e.code d.status) → So
+      by (inl x) = formal_so x.0 x.1
+      by (inr x) = plain_so x.0 x.2 x.1 order lbn sure given
+
+-- no such end has the code of a formality's
+pub given_plain : (order : Order) (online : Bool) (verdict : Verdict) (e : End) → IsGivenEnd order online verdict e
+    → ends_formality e.code ≡ true → ⊥
+given_plain order online verdict e given is =
+    by order given.waits given.valid (sym (ap ends_formality given.code) ∙ is)
+  where
+    moved : (kind : MoveKind) (count block : ℕ)
+        → ends_formality (endcode (orders.Move kind count block)) ≡ true → ⊥
+    moved kind count block h = grind (arith, h)
+
+    by : (order : Order) → is_immediate order ≡ false → ((byte why : ℕ) → order ≢ orders.Invalid byte why)
+        → ends_formality (endcode order) ≡ true → ⊥
+    by (orders.Move kind count block) waits valid h = moved kind count block h
+    by (orders.Invalid byte why) waits valid h = valid byte why refl
+    by order waits valid h = search (arith, waits, h)

@@ -1,0 +1,219 @@
+-- How a step went that ended otherwise than its drive told: its unit isn't online with its volume. And a transfer goes
+-- well only while it is.
+use Rattle.std.proofs.Common.{◌≡◌, ◌⊎◌, ◌≤◌, ◌∙◌, ℕ, Bool, true, false, cond, List, Option, None, Some, inl, inr, refl, ap, sym, subst, arith}
+use Rattle.std.specs.Prelude.{◌%◌, ◌==◌, ◌&&◌, Result, Ok, Err, find, is_some, nat_le, not, option_map}
+use Rattle.mscp_packet.specs.declared.command.MoveKind.{MoveKind}
+use Rattle.mscp_packet.specs.declared.command.Order.{Order}
+use Rattle.mscp_packet.specs.declared.command.Order.TheVariants as orders
+use Rattle.mscp_drive.specs.declared.block.Block.{Block}
+use Rattle.mscp_drive.specs.declared.block.Block.TheVariants as blocks
+use Rattle.mscp_queue.specs.Drives.{drive_of}
+use Rattle.mscp_queue.specs.Records.{Record, has_name}
+use Rattle.mscp_queue.specs.Serving.{upcoming_of}
+use Rattle.mscp_queue.specs.declared.name.Name.{Name}
+use Rattle.mscp_queue.specs.declared.upcoming.Upcoming.{Upcoming}
+use Rattle.mscp_controller.specs.Holdings.{begun_step}
+use Rattle.mscp_port.specs.Blocks.{block_of, changed_verdict, fault_with, faulted, has_changed, has_host_bytes, is_available, kept_of, move_of, move_task, part_task, part_with, refusal_of, moved_by, takes_any_volume, task_of, unless_fault, writes}
+use Rattle.mscp_port.specs.Buffers.{part_of}
+use Rattle.mscp_port.specs.Moved.{begun_task, block_begun, block_served, known_task, moved_step, part_at, part_served}
+use Rattle.mscp_port.specs.Ports.{IsOfBlock}
+use Rattle.mscp_port.specs.Volumes.{place_in, volume_at, volume_found, volume_in_place}
+use Rattle.mscp_port.specs.declared.action.Outcome.{Outcome}
+use Rattle.mscp_port.specs.declared.buffers.Buffer.{Buffer}
+use Rattle.mscp_port.specs.declared.port.Port.{Port}
+use Rattle.mscp_port.specs.declared.task.Task.{Task}
+use Rattle.mscp_port.specs.declared.task.Task.TheVariants as tasks
+use Rattle.mscp_port.specs.declared.verdict.Verdict.{Verdict}
+use Rattle.mscp_port.specs.declared.verdict.Verdict.TheVariants as verdicts
+use Rattle.mscp_port.specs.declared.volumes.Volume.{Volume}
+use Rattle.mscp_ported.proofs.Moving.{IsBegunStep}
+use Rattle.mscp_ported.proofs.Transferring.{IsHow, begun_record}
+use Rattle.mscp_port.proofs.Common.{and_parts, false≢true}
+
+-- ---- a verdict
+
+-- a block that moves one goes well only on a unit that is online, and so it fails, or by a fault of its medium, drive
+-- or buffer
+abbrev IsSureBlock : Bool → Volume → Block → Type 0
+IsSureBlock moves v blocks.Good = moves ≡ true → v.is_mounted ≡ true
+IsSureBlock moves v (blocks.Bad status) =
+    ((5 ≤ status % 32) × (status % 32 ≤ 11)) ⊎ ((moves ≡ true) × (v.is_mounted ≡ true))
+
+abbrev pub IsSure : Bool → Volume → Verdict → Type 0
+IsSure moves v (verdicts.Served block) = IsSureBlock moves v block
+IsSure moves v verdicts.NoVolume = v.is_mounted ≡ false
+IsSure moves v verdicts.NotOnline = v.is_mounted ≡ false
+
+abbrev IsSureOr : Volume → Result (ℕ × ℕ) Verdict → Type 0
+IsSureOr v (Ok part) = v.is_mounted ≡ true
+IsSureOr v (Err verdict) = IsSure true v verdict
+
+abbrev IsSureTask : Bool → Volume → Task → Type 0
+IsSureTask moves v (tasks.Step verdict) = IsSure moves v verdict
+IsSureTask moves v task = Unit {0}
+
+fault : (moves : Bool) (v : Volume) (n : ℕ) → (5 ≤ n % 32) × (n % 32 ≤ 11) → IsSure moves v (faulted n)
+fault moves v n h = inl h
+
+drive_error : (moves : Bool) (v : Volume) → IsSure moves v (faulted 0x000B)
+drive_error moves v = inl (omega arith, omega arith)
+
+changed_sure : (moves : Bool) (v : Volume) → IsSure moves v (changed_verdict v)
+changed_sure moves v = by v.is_mounted refl
+  where
+    by : (c : Bool) → v.is_mounted ≡ c → IsSure moves v (cond c (faulted 0x000B) verdicts.NoVolume)
+    by true e = drive_error moves v
+    by false e = e
+
+-- why a block isn't moved, or the unit is online
+abbrev IsSureEither : Volume → Option Verdict → Type 0
+IsSureEither v None = v.is_mounted ≡ true
+IsSureEither v (Some verdict) = IsSure true v verdict
+
+either_cond : (v : Volume) (c : Bool) (x y : Option Verdict) → IsSureEither v x → IsSureEither v y
+    → IsSureEither v (cond c x y)
+either_cond v true x y a b = a
+either_cond v false x y a b = b
+
+refusal_sure : (kind : MoveKind) (block : ℕ) (b : Buffer) (v : Volume) → IsSureEither v (refusal_of kind block b v)
+refusal_sure kind block b v = by v.is_mounted refl
+  where
+    rest : v.is_mounted ≡ true → IsSureEither v
+        (cond (has_host_bytes kind && b.address % 2 == 1) (Some (faulted 0x0029))
+        (cond (b.count % 2 == 1) (Some (faulted 0x0049))
+        (cond (writes kind && v.is_protected_by_host) (Some (faulted 0x1006))
+        (cond (writes kind && v.is_protected) (Some (faulted 0x2006))
+        (cond (nat_le v.size block) (Some (faulted 0x000B)) None)))))
+    rest e = either_cond v (has_host_bytes kind && b.address % 2 == 1) (Some (faulted 0x0029)) _
+        (fault true v 0x0029 (omega arith, omega arith))
+        (either_cond v (b.count % 2 == 1) (Some (faulted 0x0049)) _ (fault true v 0x0049 (omega arith, omega arith))
+        (either_cond v (writes kind && v.is_protected_by_host) (Some (faulted 0x1006)) _
+        (fault true v 0x1006 (omega arith, omega arith))
+        (either_cond v (writes kind && v.is_protected) (Some (faulted 0x2006)) _
+        (fault true v 0x2006 (omega arith, omega arith))
+        (either_cond v (nat_le v.size block) (Some (faulted 0x000B)) None (drive_error true v) e))))
+
+    by : (c : Bool) → v.is_mounted ≡ c → IsSureEither v (cond (not c) (Some verdicts.NotOnline)
+        (cond (has_host_bytes kind && b.address % 2 == 1) (Some (faulted 0x0029))
+        (cond (b.count % 2 == 1) (Some (faulted 0x0049))
+        (cond (writes kind && v.is_protected_by_host) (Some (faulted 0x1006))
+        (cond (writes kind && v.is_protected) (Some (faulted 0x2006))
+        (cond (nat_le v.size block) (Some (faulted 0x000B)) None))))))
+    by false e = e
+    by true e = rest e
+
+part_sure : (kind : MoveKind) (block done : ℕ) (b : Buffer) (v : Volume)
+    → IsSureOr v (part_with kind block done b v)
+part_sure kind block done b v = by (fault_with kind block b v)
+    (either_cond v (has_changed b v) (Some (changed_verdict v)) (refusal_of kind block b v) (changed_sure true v)
+    (refusal_sure kind block b v)) (part_of b done)
+  where
+    by : (o : Option Verdict) → IsSureEither v o → (part : Option (ℕ × ℕ)) → IsSureOr v (unless_fault o part)
+    by (Some verdict) f part = f
+    by None f None = fault true v 0x0069 (omega arith, omega arith)
+    by None f (Some part) = f
+
+-- ---- a step
+
+task_cond : (moves : Bool) (v : Volume) (c : Bool) (x y : Task) → (c ≡ true → IsSureTask moves v x)
+    → IsSureTask moves v y → IsSureTask moves v (cond c x y)
+task_cond moves v true x y a b = a refl
+task_cond moves v false x y a b = b
+
+-- it moves a block
+abbrev pub moves_block : Upcoming → Bool
+moves_block u = is_some (move_of u)
+
+none_moves : (v : Volume) (move : Option (MoveKind × ℕ)) → move ≡ None
+    → IsSure (is_some move) v (verdicts.Served blocks.Good)
+none_moves v None e = λ moves. absurd (false≢true moves)
+none_moves v (Some move) e = search (arith, e)
+
+available_still : (order : Order) (lbn : Option ℕ) → is_available order ≡ true → moved_by order lbn ≡ None
+available_still orders.Available lbn e = refl
+available_still order lbn e = search arith
+
+any_still : (order : Order) (lbn : Option ℕ) → takes_any_volume order ≡ true → moved_by order lbn ≡ None
+any_still orders.Online lbn e = refl
+any_still orders.SetUnit lbn e = refl
+any_still order lbn e = search arith
+
+module _ (u : Upcoming) where
+  move_sure : (b : Buffer) (v : Volume) (move : Option (MoveKind × ℕ))
+      → IsSureTask (is_some move) v (move_task u move b v)
+  move_sure b v None = λ moves. absurd (false≢true moves)
+  move_sure b v (Some move) = by (part_with move.0 move.1 u.done b v) (part_sure move.0 move.1 u.done b v)
+    where
+      by : (part : Result (ℕ × ℕ) Verdict) → IsSureOr v part → IsSureTask true v (part_task part)
+      by (Ok part) s = task_cond true v (part.1 == 0) (tasks.Step (verdicts.Served blocks.Good)) tasks.Transfer
+          (λ zero moves. s) tt
+      by (Err verdict) s = s
+
+  task_sure : (b : Buffer) (v : Volume) → IsSureTask (moves_block u) v (task_of u b v)
+  task_sure b v = task_cond (moves_block u) v (is_available u.command.order)
+      (tasks.Step (verdicts.Served blocks.Good)) _
+      (λ e. none_moves v (move_of u) (available_still u.command.order u.lbn e))
+      (task_cond (moves_block u) v (v.is_there && takes_any_volume u.command.order)
+      (tasks.Step (verdicts.Served blocks.Good)) _ (λ e. none_moves v (move_of u) (any_still u.command.order u.lbn
+      (and_parts v.is_there (takes_any_volume u.command.order) e).1))
+      (task_cond (moves_block u) v (has_changed b v) (tasks.Step (changed_verdict v)) _
+      (λ e. changed_sure (moves_block u) v) (move_sure b v (move_of u))))
+
+  known_sure : (place : Option ℕ) (kept : Option Buffer) (volumes : List Volume)
+      → IsSureTask (moves_block u) (volume_in_place volumes place) (known_task u place kept volumes)
+  known_sure (Some place) (Some b) volumes = task_sure b (volume_at volumes place)
+  known_sure None kept volumes = drive_error (moves_block u) (volume_in_place volumes None)
+  known_sure (Some place) None volumes = drive_error (moves_block u) (volume_at volumes place)
+
+at_sure : (place : Option ℕ) (kept : Option Buffer) (kind : MoveKind) (block done : ℕ) (volumes : List Volume)
+    → IsSureOr (volume_in_place volumes place) (part_at place kept kind block done volumes)
+at_sure (Some place) (Some b) kind block done volumes = part_sure kind block done b (volume_at volumes place)
+at_sure None kept kind block done volumes = drive_error true (volume_in_place volumes None)
+at_sure (Some place) None kind block done volumes = drive_error true (volume_at volumes place)
+
+-- ---- what is told
+
+outcome_sure : (v : Volume) (outcome : Outcome) → v.is_mounted ≡ true
+    → IsSure true v (verdicts.Served (block_of outcome))
+outcome_sure v outcome e = by (block_of outcome)
+  where
+    by : (b : Block) → IsSureBlock true v b
+    by blocks.Good = λ moves. e
+    by (blocks.Bad status) = inr (refl, e)
+
+module _ {K : Type 0} (old : Port K) (outcome : Outcome) (step : IsBegunStep old) (name : Name)
+    (was : old.controller.begun ≡ Some name) (r : Record)
+    (found : find (has_name name) old.controller.waiting ≡ Some r) where
+  abbrev u : Upcoming
+  u = upcoming_of (drive_of old.controller.drives r.command.unit) r
+
+  abbrev v : Volume
+  v = volume_found old.controller.settings.units old.volumes r.command.unit
+
+  begun_is : begun_step old.controller ≡ Some u
+  begun_is = begun_record old.controller name r was found
+
+  step_sure : (verdict : Verdict) → old.task ≡ tasks.Step verdict → IsSure (moves_block u) v verdict
+  step_sure verdict at = subst (λ t. IsSureTask (moves_block u) v t)
+      (sym (ap (begun_task old.controller.settings.units old.buffers.items old.volumes) begun_is)
+      ∙ sym (step (subst (λ t. IsOfBlock t) (sym at) tt)) ∙ at)
+      (known_sure u (place_in old.controller.settings.units u.command.unit)
+      (kept_of u.connection u.command.reference old.buffers.items) old.volumes)
+
+  moved_sure : IsSure (moves_block u) v (block_served old outcome (block_begun old))
+  moved_sure = subst (λ o. IsSure (moves_block u) v (block_served old outcome (moved_step o))) (sym begun_is)
+      (by (move_of u))
+    where
+      served : (part : Result (ℕ × ℕ) Verdict) → IsSureOr v part → IsSure true v (part_served outcome part)
+      served (Ok part) s = outcome_sure v outcome s
+      served (Err verdict) s = s
+
+      by : (move : Option (MoveKind × ℕ))
+          → IsSure (is_some move) v (block_served old outcome (option_map (λ move. (u, move.0, move.1)) move))
+      by None = drive_error false v
+      by (Some move) = served _ (at_sure (place_in old.controller.settings.units u.command.unit)
+          (kept_of u.connection u.command.reference old.buffers.items) move.0 move.1 u.done old.volumes)
+
+  pub told_sure : (verdict : Verdict) → IsHow old outcome verdict → IsSure (moves_block u) v verdict
+  told_sure verdict (inl at) = step_sure verdict at
+  told_sure verdict (inr h) = subst (λ x. IsSure (moves_block u) v x) (sym h.1) moved_sure

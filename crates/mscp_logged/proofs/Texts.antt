@@ -1,0 +1,143 @@
+-- The texts of the disk's ends that are still to come: of what goes out, and behind it of those that wait in the
+-- controller, each with what was decided of it. By each call more come behind them.
+use Rattle.std.proofs.Common.{◌≡◌, ◌∙◌, ◌++◌, ◌∷◌, [], ℕ, Bool, drop, length, map, List, Option, None, Some, inl, inr, refl, ap, sym, arith}
+use Rattle.std.specs.Prelude.{slice_get}
+use Rattle.std.proofs.lemmas.List.{append-nil}
+use Rattle.std.proofs.lemmas.Option.{none-some, same_Some}
+use Rattle.mscp_packet.specs.declared.end.End.{End}
+use Rattle.mscp_drive.specs.Shape.{Shape}
+use Rattle.mscp_drive.specs.UnitList.{unit_found}
+use Rattle.mscp_controller.specs.Holdings.{Holdings}
+use Rattle.mscp_port.specs.declared.action.Action.{Action}
+use Rattle.mscp_port.specs.declared.decided.Decided.{Decided}
+use Rattle.mscp_port.specs.declared.hardware.Hardware.{Hardware}
+use Rattle.mscp_port.specs.declared.port.Outgoing.{Outgoing}
+use Rattle.mscp_port.specs.declared.port.Port.{Port}
+use Rattle.mscp_port.specs.Calls.{Wants}
+use Rattle.mscp_port.specs.Leaving.{end_left, end_told, told_end}
+use Rattle.mscp_port.specs.Outgoings.{IsNews, MayBegin, TakesEnd, news_place}
+use Rattle.mscp_port.proofs.Loads.{looks_or_not}
+use Rattle.mscp_ported.specs.Ends.{end_said, ends_begun}
+use Rattle.mscp_ported.proofs.Coming.{ends_of}
+use Rattle.mscp_ported.proofs.Ending.{zipped}
+use Rattle.mscp_ported.proofs.Wanting.{alive_or_dead}
+
+-- what waits, with what was decided of each
+module _ (h : Hardware) (units : List Shape) where
+  abbrev pub text_with : End → Decided → List ℕ
+  text_with e d = end_told e d (unit_found units e.unit) h
+
+  abbrev pub texts_of : List End → List Decided → List (List ℕ)
+  texts_of [] ds = []
+  texts_of (e ∷ es) [] = []
+  texts_of (e ∷ es) (d ∷ ds) = text_with e d ∷ texts_of es ds
+
+  abbrev pub waiting : {K : Type 0} → Port K → List (List ℕ)
+  waiting p = texts_of (ends_of p.controller) p.decided.items
+
+  pub texts_none : (es : List End) (ds : List Decided) → zipped es ds ≡ [] → texts_of es ds ≡ []
+  texts_none [] ds e = refl
+  texts_none (x ∷ es) [] e = refl
+  texts_none (x ∷ es) (d ∷ ds) e = search (arith, e)
+
+  texts_come : (fs : List End) (f : End → Decided) → texts_of fs (map f fs) ≡ map (λ e. text_with e (f e)) fs
+  texts_come [] f = refl
+  texts_come (x ∷ fs) f = ap (λ xs. text_with x (f x) ∷ xs) (texts_come fs f)
+
+  pub texts_more : (es fs : List End) (ds : List Decided) (f : End → Decided) → length es ≡ length ds
+      → texts_of (es ++ fs) (ds ++ map f fs) ≡ texts_of es ds ++ map (λ e. text_with e (f e)) fs
+  texts_more [] fs [] f long = texts_come fs f
+  texts_more [] fs (d ∷ ds) f long = search (arith, long)
+  texts_more (x ∷ es) fs [] f long = search (arith, long)
+  texts_more (x ∷ es) fs (d ∷ ds) f long =
+      ap (λ xs. text_with x d ∷ xs) (texts_more es fs ds f (search (arith, long)))
+
+  module _ {K : Type 0} (old new : Port K) where
+    -- what begins to go out is the oldest of them, and these come behind
+    abbrev pub Comes : List (List ℕ) → Type 0
+    Comes more = ends_begun old.outgoing new.outgoing ++ waiting new ≡ waiting old ++ more
+
+    begun_none : (o : Option Outgoing) → ends_begun o o ≡ []
+    begun_none None = refl
+    begun_none (Some x) = refl
+
+    pub still_begun : new.outgoing ≡ old.outgoing → ends_begun old.outgoing new.outgoing ≡ []
+    still_begun same = ap (ends_begun old.outgoing) same ∙ begun_none old.outgoing
+
+    pub none_come : ends_begun old.outgoing new.outgoing ≡ [] → ends_of new.controller ≡ ends_of old.controller
+        → new.decided.items ≡ old.decided.items → Comes []
+    none_come none ends decided = ap (λ xs. xs ++ waiting new) none
+        ∙ ap (λ es. texts_of es new.decided.items) ends ∙ ap (texts_of (ends_of old.controller)) decided
+        ∙ sym (append-nil (waiting old))
+
+    pub some_come : ends_begun old.outgoing new.outgoing ≡ [] → length (ends_of old.controller)
+        ≡ length old.decided.items → (f : End → Decided) (brought : List End)
+        → ends_of new.controller ≡ ends_of old.controller ++ brought
+        → new.decided.items ≡ old.decided.items ++ map f brought → Comes (map (λ e. text_with e (f e)) brought)
+    some_come none long f brought ends decided = ap (λ xs. xs ++ waiting new) none
+        ∙ ap (λ es. texts_of es new.decided.items) ends ∙ ap (texts_of (ends_of old.controller ++ brought)) decided
+        ∙ texts_more (ends_of old.controller) brought old.decided.items f long
+
+    -- ---- as something is wanted
+
+    module _ (picks : List _ → ℕ → Type 0) (blocks : Bool) (action : Action) (r : Wants picks blocks old action new)
+        (long : length (ends_of old.controller) ≡ length old.decided.items) (hardware : old.hardware ≡ h)
+        (settings : old.controller.settings.units ≡ units) where
+      taken : (es : List End) (ds : List Decided) → length es ≡ length ds → (e : End) → slice_get es 0 ≡ Some e
+          → (d : Decided) × (slice_get ds 0 ≡ Some d)
+          × (texts_of es ds ≡ text_with e d ∷ texts_of (drop 1 es) (drop 1 ds))
+      taken [] ds long e some = absurd (none-some e some)
+      taken (x ∷ es) [] long e some = search (arith, long)
+      taken (x ∷ es) (d ∷ ds) long e some =
+          (d, refl, ap (λ y. text_with y d ∷ texts_of es ds) (same_Some x e some))
+
+      text_is : (e : End) (d : Decided) → slice_get old.decided.items 0 ≡ Some d → told_end old e ≡ text_with e d
+      text_is e d some =
+          ap (λ o. end_left e o (unit_found old.controller.settings.units e.unit) old.hardware) some
+          ∙ ap (λ us. end_told e d (unit_found us e.unit) old.hardware) settings
+          ∙ ap (end_told e d (unit_found units e.unit)) hardware
+
+      news_none : (volumes before : _) (place : Option ℕ) (o : Option Outgoing)
+          → IsNews old.controller.settings.units before place o volumes → ends_begun None o ≡ []
+      news_none volumes before place o n = grind (arith, none-some)
+
+      may : ends_begun old.outgoing new.outgoing ≡ [] → MayBegin old.controller new.controller
+          → new.decided ≡ old.decided → Comes []
+      may none begin decided =
+          none_come none (ap (λ (c : Holdings K). ends_of c) begin) (ap (λ d. d.items) decided)
+
+      takes : TakesEnd old new → Comes []
+      takes t =
+          let e = t.out.0 in
+          let x = taken (ends_of old.controller) old.decided.items long e t.out.1 in
+          ap (λ xs. xs ++ waiting new) (ap (λ o. ends_begun o new.outgoing) t.nothing
+          ∙ ap (ends_begun None) t.out.2 ∙ ap (λ y. y ∷ []) (text_is e x.0 x.1))
+          ∙ ap (λ xs. text_with e x.0 ∷ xs) (ap (λ (c : Holdings K). texts_of (ends_of c) new.decided.items)
+          t.controller ∙ ap (texts_of (drop 1 (ends_of old.controller))) t.decided)
+          ∙ sym x.2 ∙ sym (append-nil (waiting old))
+
+      pub next_comes : Comes []
+      next_comes = elim (alive_or_dead old old.stage refl) [
+        | inr d ↦
+            let e = (r.dead d.0 d.1).1 in
+            none_come (still_begun (ap (λ (q : Port K). q.outgoing) e))
+            (ap (λ (q : Port K). ends_of q.controller) e) (ap (λ (q : Port K). q.decided.items) e)
+        | inl alive ↦ elim (looks_or_not old) [
+          | inl looks ↦ elim (r.says.looks looks) [
+            | inl t ↦ takes t
+            | inr n ↦ may (ap (λ o. ends_begun o new.outgoing) n.nothing
+                ∙ news_none new.volumes old.volumes (news_place old) new.outgoing n.out) n.controller n.decided
+          ]
+          | inr never ↦
+              let q = r.says.keeps never in may (still_begun q.outgoing) q.controller q.decided
+        ]
+      ]
+
+-- ---- with what goes out
+
+abbrev pub out_texts : Option Outgoing → List (List ℕ)
+out_texts None = []
+out_texts (Some o) = end_said o.kind o.bytes.items
+
+abbrev pub to_come : Hardware → List Shape → {K : Type 0} → Port K → List (List ℕ)
+to_come h units p = out_texts p.outgoing ++ waiting h units p
