@@ -329,6 +329,7 @@ step credits timeout xs ys units known (moments.End via b) h r stated =
           (end_kept xs ys h u b.items e r.0 r.1)),
     )
 step credits timeout xs ys units known moments.Reset h r stated = (refl, record { link = tt; alone = tt })
+step credits timeout xs ys units known (moments.Closed via) h r stated = absurd r
 
 states : (credits : Option ℕ) (h : History) → strict.AreRight credits h → strict.AreStated h → (n : ℕ) → n ≤ length h
     → State (strict.outstanding (take n h)) (wire.outstanding (take n h))

@@ -29,6 +29,7 @@ abbrev pub after : List Sent → Moment → List Sent
 after xs (moments.Message via b time) = xs ++ sent_by via b.items ∷ []
 after xs (moments.End via b) = after_end xs (answer_by via b.items) (place_of xs (answer_by via b.items))
 after xs moments.Reset = []
+after xs (moments.Closed via) = xs
 
 abbrev pub outstanding : History → List Sent
 outstanding h = fold after [] h
@@ -78,6 +79,8 @@ abbrev pub IsRightAfter : Option ℕ → List Sent → Seen → Moment → Type 
 IsRightAfter credits xs unit (moments.Message via b time) = IsRightMessage credits xs b.items (sent_by via b.items)
 IsRightAfter credits xs unit (moments.End via b) = (i : ℕ) × IsRightEnd xs unit b.items (answer_by via b.items) i
 IsRightAfter credits xs unit moments.Reset = Unit {0}
+-- no connection of a trace closes
+IsRightAfter credits xs unit (moments.Closed via) = ⊥
 
 abbrev pub IsRight : Option ℕ → History → Moment → Type 0
 IsRight credits h m = IsRightAfter credits (outstanding h) (told_at (wire.told h) (wire.controller h) m) m
