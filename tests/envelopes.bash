@@ -58,12 +58,36 @@ credits_beside_other_rules() {
 rule of the host: credits
 command: READ 2 of unit 0
 message: opcode 0x21, 32 bytes
+credits: 1 since the reset, all spent
 manual: a host needs a credit for each command, and keeps the last one for immediate commands' 1 \
         reset "$(from "$(greeting)")" "@1.5 $(from "$(reading 2)")" "$(moved 7 0 1024)" 'send x' || return
     printf '%s\n' reset "$(to "$(greeted)" 1)" "$(from "$(online 2)")" "$(from "$(online 3)")" >"$room/log"
     ! "$program" wire "$room/log" >"$room/out" && [ "$(head -n 1 "$room/out")" = 'line 2: not right' ] &&
         wire_breaks 'host: reference number' 'READ 1 of unit 0' reset "$(from "$(greeting)")" "$(from "$(reading 1)")" &&
         wire_is_at_fault 'line 2: hex' reset 'from xx' "$(from "$(online 2)")"
+}
+
+# How many there were since the last reset, with the one that each host has then, of its own connection. Those of a line
+# `credits` aren't told so.
+credits_that_are_spent() {
+    local begin=("$(from "$(greeting)")" "$(to "$(greeted)" 9)" reset "$(from "$(greeting)")" "$(to "$(greeted)" 2)")
+    wire_values $'message: opcode 0x02, 16 bytes\ncredits: 3 since the reset, all spent' "${begin[@]}" "$(from "$(online 2)")" \
+        "$(from "$(poll 3 2)")" "$(from "$(poll 4 2)")" &&
+        wire_values $'message: opcode 0x02, 16 bytes\ncredits: 1 since the reset, all spent' "${begin[@]}" \
+            "$(from "$(greeting)" 'second ')" "$(from "$(poll 3 2)" 'second ')" &&
+        wire_values 'message: opcode 0x09, 12 bytes' 'credits 1' "$(online 1)" "$(online 2)" || return
+    wire_says_all 'line 3: not right
+rule of the host: credits
+command: ONLINE 2 of unit 0
+message: opcode 0x09, 12 bytes
+credits: 1 since the reset, all spent
+line 6: not right
+rule of the host: credits
+command: ONLINE 5 of unit 0
+message: opcode 0x09, 12 bytes
+credits: 2 since the reset, all spent
+wrong: 2 credits' 1 reset "$(from "$(online 1)")" "$(from "$(online 2)")" "$(to "$(onlined 1 0)" 1)" "$(from "$(online 4)")" \
+        "$(from "$(online 5)")"
 }
 
 # What comes behind a message without a credit is judged. It takes none.
@@ -82,6 +106,7 @@ line 6: not right
 rule of the host: credits
 command: ONLINE 2 of unit 0
 message: opcode 0x09, 12 bytes
+credits: 1 since the reset, all spent
 manual: a host needs a credit for each command, and keeps the last one for immediate commands
 port 1
 right

@@ -68,7 +68,7 @@ $2}")
 }
 
 # What is said of a moment that breaks a rule, without the lines of its values, and of those where they were told.
-without_values() { grep -vE '^(end|message|passes|names|figure of command [0-9]+|length|bytes|identifier|media type|size): ' | without_places; }
+without_values() { grep -vE '^(end|message|passes|names|figure of command [0-9]+|length|bytes|identifier|media type|size|credits): ' | without_places; }
 without_places() { grep -vE '^(the other was sent|sent|what it passes was sent|the last was told) in line [0-9]+( at [0-9.]+)?$'; }
 
 # The last of the lines breaks a rule, and these are its values.

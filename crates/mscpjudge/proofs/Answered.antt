@@ -20,13 +20,15 @@ use Rattle.mscpjudge.specs.declared.telling.Told.{Told}
 -- ---- one log
 
 -- what is written of a verdict is what is written of what came of its log
-pub by_came : {A : Type 0} (extent : Extent) (number : ℕ → ℕ) (verdict : Verdict A) (log : List ℕ) (k : Came number verdict log)
+pub by_came : {A : Type 0} (extent : Extent) (number : ℕ → ℕ) (verdict : Verdict A) (log : List ℕ)
+    (k : Came number verdict log)
     → verdict_by extent number log verdict ≡ extent_text extent number log k.came
 by_came extents.First number verdict log k = ap Ok k.text
 by_came extents.All number verdict log k = k.all
 
 -- a log that comes so has no fault but that of its verdict
-pub fault_of_came : {A : Type 0} (extent : Extent) (number : ℕ → ℕ) (verdict : Verdict A) (log : List ℕ) (came : Result Log Wrong)
+pub fault_of_came : {A : Type 0} (extent : Extent) (number : ℕ → ℕ) (verdict : Verdict A) (log : List ℕ)
+    (came : Result Log Wrong)
     (fault : ScriptFault) → Says (Ok verdict) (Ok came) → extent_text extent number log came ≡ Err fault
     → verdict_by extent number log verdict ≡ Err fault
 fault_of_came extents.First number verdict log came fault s h = cc

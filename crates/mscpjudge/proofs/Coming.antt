@@ -21,10 +21,14 @@ pub record Came {A : Type 0} (number : ℕ → ℕ) (verdict : Verdict A) (log :
 pub came_of : {A : Type 0} (number : ℕ → ℕ) (verdict : Verdict A) (log : List ℕ) → JudgesAll (Ok verdict) log
     → Came number verdict log
 came_of number (verdicts.Right totals doubts commands) log j =
-    let text = ap (λ t. counted_text number log t ++ doubts_text number doubts ++ flat_map outstanding_text commands.items) j.2
-    ∙ ap (λ d. counted_text number log (totals_of j.0.moments) ++ doubts_text number d ++ flat_map outstanding_text commands.items)
+    let text = ap (λ t. counted_text number log t ++ doubts_text number doubts
+    ++ flat_map outstanding_text commands.items) j.2
+    ∙ ap (λ d. counted_text number log (totals_of j.0.moments) ++ doubts_text number d
+    ++ flat_map outstanding_text commands.items)
     j.3
-    ∙ ap (λ xs. counted_text number log (totals_of j.0.moments) ++ doubts_text number (doubts_of j.0) ++ flat_map outstanding_text xs)
+    ∙ ap (λ xs. counted_text number log (totals_of j.0.moments) ++ doubts_text number (doubts_of j.0)
+    ++ flat_map outstanding_text xs)
     j.4 in
     record { came = Ok j.0; comes = j.1; outcome = refl; text = text; all = ap Ok text }
-came_of number (verdicts.Wrong wrong) log j = record { came = Err wrong; comes = j; outcome = refl; text = refl; all = refl }
+came_of number (verdicts.Wrong wrong) log j =
+    record { came = Err wrong; comes = j; outcome = refl; text = refl; all = refl }

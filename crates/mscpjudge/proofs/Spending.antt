@@ -1,6 +1,7 @@
 -- What comes of the lines of a log for the account of credits, a line more at a time.
-use Rattle.std.proofs.Common.{◌≡◌, ℕ, ◌+◌, List, [], ◌∷◌, refl, sym, subst, None}
-use Rattle.mscpjudge.specs.Credits.{after_line, breach_from, first_of, line_breach}
+use Rattle.std.proofs.Common.{◌≡◌, ℕ, ◌+◌, ◌<◌, ◌≤◌, arith, nat_le, true, false, if◌then◌else◌, List, [], ◌∷◌, refl, sym, ap, subst, ◌∙◌, None}
+use Rattle.std.proofs.lemmas.Bool.Decides.{nat_tests}
+use Rattle.mscpjudge.specs.Credits.{account_in, after_line, breach_from, first_of, line_breach}
 use Rattle.mscpjudge.specs.declared.credits.Account.{Account}
 
 -- the first message without a credit
@@ -15,3 +16,24 @@ breach_more n place account line rest e =
 pub breach_none : (n : ℕ) (account : Account) → breach_from n account [] ≡ None
 unfolding breach_from
 breach_none n account = refl
+
+-- the account before a line of this number
+pub account_here : (n place number : ℕ) (account : Account) (line : List ℕ) (rest : List (List ℕ)) → place ≡ n + 1
+    → number ≤ place → account_in n number account (line ∷ rest) ≡ account
+unfolding account_in
+account_here n place number account line rest e h =
+    let k : nat_le number (n + 1) ≡ true = grind (arith, nat_tests) in
+    ap (λ b. if b then account else account_in (n + 1) number (after_line (n + 1) account line) rest) k
+
+pub account_more : (n place number : ℕ) (account : Account) (line : List ℕ) (rest : List (List ℕ)) → place ≡ n + 1
+    → place < number
+    → account_in n number account (line ∷ rest) ≡ account_in place number (after_line place account line) rest
+unfolding account_in
+account_more n place number account line rest e h =
+    let k : nat_le number (n + 1) ≡ false = grind (arith, nat_tests) in
+    ap (λ b. if b then account else account_in (n + 1) number (after_line (n + 1) account line) rest) k
+    ∙ ap (λ m. account_in m number (after_line m account line) rest) (sym e)
+
+pub account_none : (n number : ℕ) (account : Account) → account_in n number account [] ≡ account
+unfolding account_in
+account_none n number account = refl

@@ -1,5 +1,6 @@
 -- The credits of hosts, by the envelopes of whole packets: what the controller gave, and what a host spent.
-use Rattle.std.specs.Prelude.{ℕ, ◌+◌, ◌-◌, ◌%◌, ◌==◌, nat_eq, nat_lt, min, Bool, false, if◌then◌else◌, List, [], ◌∷◌, codes, length, take, slice_index, Option, Some, None, Result, Ok, Err}
+use Rattle.std.specs.Prelude.{ℕ, ◌+◌, ◌-◌, ◌%◌, ◌==◌, nat_eq, nat_le, nat_lt, min, Bool, false, if◌then◌else◌, List, [], ◌∷◌, ◌++◌, codes, length, take, slice_index, Option, Some, None, Result, Ok, Err}
+use Rattle.std.specs.Fmt.{decimal}
 use Rattle.std.specs.List.{list_any}
 use Rattle.std.specs.Str.{bytes_eq}
 use Rattle.mscp_drive.specs.declared.connection.Connection.{Connection}
@@ -14,10 +15,12 @@ use Rattle.mscp_wire.specs.declared.line.Said.{Said}
 use Rattle.mscp_wire.specs.declared.line.Said.TheVariants as says
 use Rattle.mscp_wire.specs.declared.moment.Moment.{Moment}
 use Rattle.mscp_wire.specs.declared.moment.Moment.TheVariants as moments
+use Rattle.mscp_wire.specs.declared.rule.Rule.{Rule}
 use Rattle.mscp_wire.specs.declared.rule.Rule.TheVariants as rules
 use Rattle.mscp_wire.specs.declared.sent.Sent.{Sent}
 use Rattle.mscp_wire.specs.declared.wrong.Wrong.{Wrong}
 use Rattle.mscpjudge.specs.declared.credits.Account.{Account}
+use Rattle.mscpjudge.specs.declared.credits.Credits.{Credits}
 use Rattle.mscpjudge.specs.declared.envelopes.Tells.{Tells}
 use Rattle.mscpjudge.specs.declared.envelopes.Tells.TheVariants as tells
 
@@ -67,26 +70,29 @@ abbrev pub unknown : Account
 unknown = record { first = None; second = None }
 
 -- once the controller is initialised each host has one credit
-abbrev pub initial : Account
-initial = record { first = Some 1; second = Some 1 }
+abbrev pub one_credit : Credits
+one_credit = record { left = 1; given = 1 }
 
-abbrev pub credits_of : Account → Connection → Option ℕ
+abbrev pub initial : Account
+initial = record { first = Some one_credit; second = Some one_credit }
+
+abbrev pub credits_of : Account → Connection → Option Credits
 credits_of account First = account.first
 credits_of account Second = account.second
 
-abbrev pub with_credits : Account → Connection → Option ℕ → Account
+abbrev pub with_credits : Account → Connection → Option Credits → Account
 with_credits account First credits = record account { first = credits }
 with_credits account Second credits = record account { second = credits }
 
 -- so many more were given. At most 65,535 are kept
-abbrev pub given : Option ℕ → ℕ → Option ℕ
+abbrev pub given : Option Credits → ℕ → Option Credits
 given None more = None
-given (Some n) more = Some (min (n + more) 65535)
+given (Some c) more = Some (record { left = min (c.left + more) 65535; given = min (c.given + more) 4294967295 })
 
 -- one was spent, if one was there
-abbrev pub spent : Option ℕ → Option ℕ
+abbrev pub spent : Option Credits → Option Credits
 spent None = None
-spent (Some n) = Some (n - 1)
+spent (Some c) = Some (record c { left = c.left - 1 })
 
 -- ---- the account once a line more was read
 
@@ -117,9 +123,9 @@ after_line number account line = account_after account (line_tells number line) 
 
 -- it is known that a host has no credit (manual, "Flow Control"). The last one it may take for any command: whoever
 -- boots does so
-abbrev pub has_none : Option ℕ → Bool
+abbrev pub has_none : Option Credits → Bool
 has_none None = false
-has_none (Some n) = nat_eq n 0
+has_none (Some c) = nat_eq c.left 0
 
 -- a message breaks the rule on credits, in the line of this number
 abbrev pub breach_of : ℕ → Moment → Sent → Wrong
@@ -177,3 +183,31 @@ lines_breach bytes = if nat_lt 16777216 (length bytes) then None else breach_fro
 
 unfoldable pub log_breach : List ℕ → Option Wrong
 log_breach bytes = if list_any is_of_from bytes then lines_breach bytes else None
+
+-- ---- what is told of such a message
+
+-- the account before the line of this number, of lines that so many stand before
+unfoldable pub account_in : ℕ → ℕ → Account → List (List ℕ) → Account
+account_in before number account [] = account
+account_in before number account (line ∷ rest) =
+    if nat_le number (before + 1) then account
+    else account_in (before + 1) number (after_line (before + 1) account line) rest
+
+abbrev pub account_before : List ℕ → ℕ → Account
+account_before bytes number =
+    if nat_lt 16777216 (length bytes) then unknown else account_in 0 number unknown (lines bytes)
+
+-- the credits of the host whose command breaks the rule on them, by an account
+abbrev pub credits_by : Rule → Option Sent → Account → Option Credits
+credits_by rules.Credits (Some s) account = credits_of account s.connection
+credits_by rule command account = None
+
+-- and by a log
+abbrev pub credits_before : List ℕ → Wrong → Option Credits
+credits_before bytes wrong = credits_by wrong.rule wrong.command (account_before bytes wrong.line)
+
+-- how many there were, where all are known to be spent
+unfoldable pub credits_text : Option Credits → List ℕ
+credits_text None = []
+credits_text (Some c) =
+    if nat_eq c.left 0 then (codes "credits: " ++ decimal c.given) ++ codes " since the reset, all spent\n" else []

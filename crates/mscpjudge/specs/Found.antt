@@ -8,7 +8,7 @@ use Rattle.mscp_reader.specs.Lexical.{lines}
 use Rattle.mscp_reader.specs.declared.fault.Cause.TheVariants as causes
 use Rattle.mscp_reader.specs.declared.fault.ScriptFault.{ScriptFault}
 use Rattle.mscp_reader.specs.Outcome.{in_line}
-use Rattle.mscp_wire.specs.Course.{Findings, findings_with, listed, no_findings, nowhere}
+use Rattle.mscp_wire.specs.Course.{Findings, findings_with, no_findings, nowhere}
 use Rattle.mscp_wire.specs.Log.{Log, line_says}
 use Rattle.mscp_wire.specs.declared.course.Finding.{Finding}
 use Rattle.mscp_wire.specs.declared.log.Verdict.{Verdict}
@@ -16,18 +16,25 @@ use Rattle.mscp_wire.specs.declared.log.Verdict.TheVariants as verdicts
 use Rattle.mscp_wire.specs.declared.rule.Rule.{Rule}
 use Rattle.mscp_wire.specs.declared.rule.Rule.TheVariants as rules
 use Rattle.mscp_wire.specs.declared.wrong.Wrong.{Wrong}
-use Rattle.mscpjudge.specs.Credits.{after_line, line_breach, unknown}
+use Rattle.mscpjudge.specs.Credits.{after_line, credits_by, line_breach, unknown}
 use Rattle.mscpjudge.specs.Times.{log_time}
 use Rattle.mscpjudge.specs.Wired.{breach_text, came_text, rule_name, wire_text}
 use Rattle.mscpjudge.specs.declared.credits.Account.{Account}
+use Rattle.mscpjudge.specs.declared.credits.Credits.{Credits}
 
--- the lines of what is found, where lines have these numbers among all, and tell these times
-unfoldable pub finding_text : (ℕ → ℕ) → (ℕ → Option ℕ) → Finding → List ℕ
-finding_text number time finding = breach_text number time finding.wrong finding.places
+-- what is found in a line, and the credits of its host, if it breaks the rule on them
+pub record Breach : Type 0 where
+  pub finding : Finding
+  pub credits : Option Credits
+
+-- the lines of it, where lines have these numbers among all, and tell these times
+unfoldable pub finding_text : (ℕ → ℕ) → (ℕ → Option ℕ) → Breach → List ℕ
+finding_text number time breach =
+    breach_text number time breach.credits breach.finding.wrong breach.finding.places
 
 -- the rule that it breaks
-abbrev pub broken_of : Finding → Rule
-broken_of finding = finding.wrong.rule
+abbrev pub broken_of : Breach → Rule
+broken_of breach = breach.finding.wrong.rule
 
 -- all rules, in the order in which they are asked
 abbrev pub rules_in_order : List Rule
@@ -58,7 +65,7 @@ broken_rules_text broken = flat_map (rule_text broken) rules_in_order
 pub record Gathered : Type 0 where
   pub told : Findings
   pub account : Account
-  pub all : List Finding
+  pub all : List Breach
 
 abbrev pub nothing_gathered : Gathered
 nothing_gathered = record { told = no_findings; account = unknown; all = [] }
@@ -74,12 +81,22 @@ found_beside (Some finding) breach = Some finding
 found_beside None None = None
 found_beside None (Some wrong) = Some (record { wrong = wrong; places = nowhere })
 
+-- the same by an account of the lines before, one more if there is one
+abbrev pub breach_by : Account → Finding → Breach
+breach_by account finding =
+    record { finding = finding; credits = credits_by finding.wrong.rule finding.wrong.command account }
+
+abbrev pub breaches_by : Account → Option Finding → List Breach
+breaches_by account None = []
+breaches_by account (Some finding) = breach_by account finding ∷ []
+
 -- once the line of this number was read, where the wire has this to tell
 abbrev pub gathered_after : ℕ → Gathered → List ℕ → Findings → Gathered
 gathered_after number g line next = record {
   told = record next { found = [] };
   account = after_line number g.account line;
-  all = g.all ++ listed (found_beside (newest next.found) (line_breach number g.account line));
+  all =
+      g.all ++ breaches_by g.account (found_beside (newest next.found) (line_breach number g.account line));
 }
 
 -- the same of lines that so many stand before, or the first fault
@@ -92,7 +109,7 @@ gathered_in before g (line ∷ rest) =
 -- ---- all
 
 -- all that is found
-abbrev pub found_text : (ℕ → ℕ) → (ℕ → Option ℕ) → List Finding → List ℕ
+abbrev pub found_text : (ℕ → ℕ) → (ℕ → Option ℕ) → List Breach → List ℕ
 found_text number time found = flat_map (finding_text number time) found ++ broken_rules_text (map broken_of found)
 
 -- what is found in lines, or their first fault

@@ -19,7 +19,8 @@ places_text number time rules.Message places = []
 places_text number time rules.Number places = place_text number time (codes "the other was sent") places.sent
 places_text number time rules.Credits places = []
 places_text number time rules.Order places =
-    place_text number time (codes "sent") places.sent ++ place_text number time (codes "what it passes was sent") places.passed
+    place_text number time (codes "sent") places.sent
+    ++ place_text number time (codes "what it passes was sent") places.passed
 places_text number time rules.Figure places =
     place_text number time (codes "sent") places.sent ++ place_text number time (codes "the last was told") places.asked
 places_text number time rule places = place_text number time (codes "sent") places.sent

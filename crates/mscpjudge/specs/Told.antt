@@ -115,7 +115,8 @@ IsFirstBelow port extent bytes fault =
 
 -- ---- the whole
 
--- a log is judged so, and these lines say it: without ports as it stands, and else of each of the eight ports that occurs, and none has a fault
+-- a log is judged so, and these lines say it: without ports as it stands, and else of each of the eight ports that
+-- occurs, and none has a fault
 abbrev pub SaysBy : Bool → Extent → List ℕ → Outcome → List ℕ → Type 0
 SaysBy false extent bytes outcome text = Answers extent (number_by []) bytes outcome text
 SaysBy true extent bytes outcome text =

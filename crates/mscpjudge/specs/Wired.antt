@@ -20,10 +20,12 @@ use Rattle.mscp_wire.specs.declared.totals.Totals.{Totals}
 use Rattle.mscp_wire.specs.declared.wrong.Wrong.{Wrong}
 pub use Rattle.mscpjudge.specs.Commands.{command_text, connection_name}
 use Rattle.mscpjudge.specs.Counted.{totals_text}
+use Rattle.mscpjudge.specs.Credits.{credits_before, credits_text}
 use Rattle.mscpjudge.specs.Places.{places_text}
 use Rattle.mscpjudge.specs.Times.{at_text, log_time}
 use Rattle.mscpjudge.specs.Timing.{timing_text}
 use Rattle.mscpjudge.specs.Values.{against_text, told_text}
+use Rattle.mscpjudge.specs.declared.credits.Credits.{Credits}
 use Rattle.mscpjudge.specs.declared.judging.Outcome.{Outcome}
 use Rattle.mscpjudge.specs.declared.judging.Outcome.TheVariants as outcomes
 
@@ -116,16 +118,17 @@ manual_line rule = codes "manual: " ++ rule_text rule ++ codes "\n"
 unfoldable pub line_text : (ℕ → ℕ) → (ℕ → Option ℕ) → ℕ → List ℕ
 line_text number time line = (codes "line " ++ decimal (number line)) ++ at_text (time line) ++ codes ": not right\n"
 
--- the lines of a moment that isn't right
-abbrev pub breach_text : (ℕ → ℕ) → (ℕ → Option ℕ) → Wrong → Places → List ℕ
-breach_text number time wrong places =
+-- the lines of a moment that isn't right. Its host has these credits, if it breaks the rule on them
+abbrev pub breach_text : (ℕ → ℕ) → (ℕ → Option ℕ) → Option Credits → Wrong → Places → List ℕ
+breach_text number time credits wrong places =
     line_text number time wrong.line ++ rule_line wrong.rule ++ meant_text wrong.command ++ told_text wrong.moment
     ++ against_text wrong.rule wrong.moment wrong.command wrong.passed wrong.seen
-    ++ places_text number time wrong.rule places
+    ++ credits_text credits ++ places_text number time wrong.rule places
 
 -- and those of a log that isn't
-abbrev pub broken_text : (ℕ → ℕ) → (ℕ → Option ℕ) → Wrong → Places → List ℕ
-broken_text number time wrong places = breach_text number time wrong places ++ manual_line wrong.rule
+abbrev pub broken_text : (ℕ → ℕ) → (ℕ → Option ℕ) → Option Credits → Wrong → Places → List ℕ
+broken_text number time credits wrong places =
+    breach_text number time credits wrong places ++ manual_line wrong.rule
 
 -- the end of a line about the command of a moment, if it has one
 abbrev pub answered_text : Option Sent → List ℕ
@@ -173,7 +176,8 @@ abbrev pub came_text : (ℕ → ℕ) → List ℕ → Result Log Wrong → List 
 came_text number bytes (Ok log) =
     counted_text number bytes (totals_of log.moments) ++ doubts_text number (doubts_of log)
     ++ flat_map outstanding_text (outstanding log.moments)
-came_text number bytes (Err wrong) = broken_text number (log_time bytes) wrong (places_in bytes)
+came_text number bytes (Err wrong) =
+    broken_text number (log_time bytes) (credits_before bytes wrong) wrong (places_in bytes)
 
 abbrev pub came_outcome : Result Log Wrong → Outcome
 came_outcome (Ok log) = outcomes.Legal
@@ -183,7 +187,8 @@ came_outcome (Err wrong) = outcomes.Wrong
 abbrev pub wire_text : {A : Type 0} → (ℕ → ℕ) → List ℕ → Verdict A → List ℕ
 wire_text number bytes (verdicts.Right totals doubts commands) =
     counted_text number bytes totals ++ doubts_text number doubts ++ flat_map outstanding_text commands.items
-wire_text number bytes (verdicts.Wrong wrong) = broken_text number (log_time bytes) wrong (places_in bytes)
+wire_text number bytes (verdicts.Wrong wrong) =
+    broken_text number (log_time bytes) (credits_before bytes wrong) wrong (places_in bytes)
 
 abbrev pub wire_outcome : {A : Type 0} → Verdict A → Outcome
 wire_outcome (verdicts.Right totals doubts commands) = outcomes.Legal

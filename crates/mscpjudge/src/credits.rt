@@ -14,33 +14,48 @@ use mscp_controller::Connection;
 use mscp_reader::{Lines, ScriptFault, lines_of};
 use mscp_wire::{Moment, Rule, Said, Seen, Sent, Wrong, line_says};
 
-/// How many credits each host has, if that is known.
+/// The credits of a host: how many are left, of so many that it had since the controller was initialised.
+#[derive(Clone, Copy)]
+pub struct Credits {
+    pub left: u16,
+    pub given: u32,
+}
+
+/// The credits of each host, if they are known.
 #[derive(Clone, Copy)]
 pub struct Account {
-    pub first: Option<u16>,
-    pub second: Option<u16>,
+    pub first: Option<Credits>,
+    pub second: Option<Credits>,
 }
 
 /// How many a host has to whom so many more are given.
-fn given(known: Option<u16>, more: u8) -> Option<u16>
+fn given(known: Option<Credits>, more: u8) -> Option<Credits>
     ensures { result ≡ told.given known more }
 {
-    Some(known?.saturating_add(u16::from(more)))
+    let Credits { left, given } = known?;
+    Some(Credits {
+        left: left.saturating_add(u16::from(more)),
+        given: given.saturating_add(u32::from(more)),
+    })
 }
 
 /// How many one has who spends one.
-fn spent(known: Option<u16>) -> Option<u16>
+fn spent(known: Option<Credits>) -> Option<Credits>
     ensures { result ≡ told.spent known }
 {
-    Some(known?.saturating_sub(1))
+    let known = known?;
+    Some(Credits {
+        left: known.left.saturating_sub(1),
+        ..known
+    })
 }
 
 /// Whether a host is known to have none.
-fn has_none(known: Option<u16>) -> bool
+fn has_none(known: Option<Credits>) -> bool
     ensures { result ≡ told.has_none known }
 {
     match known {
-        Some(credits) => credits == 0,
+        Some(credits) => credits.left == 0,
         None => false,
     }
 }
@@ -60,14 +75,15 @@ impl Account {
     fn initial() -> Account
         ensures { result ≡ told.initial }
     {
+        let one = Credits { left: 1, given: 1 };
         Account {
-            first: Some(1),
-            second: Some(1),
+            first: Some(one),
+            second: Some(one),
         }
     }
 
     /// The credits of a connection's host.
-    fn of(&self, connection: Connection) -> Option<u16>
+    fn of(&self, connection: Connection) -> Option<Credits>
         ensures { result ≡ told.credits_of self.now connection }
     {
         match connection {
@@ -77,7 +93,7 @@ impl Account {
     }
 
     /// The same account where that host has so many.
-    fn with(self, connection: Connection, credits: Option<u16>) -> Account
+    fn with(self, connection: Connection, credits: Option<Credits>) -> Account
         ensures { result ≡ told.with_credits self connection credits }
     {
         match connection {
@@ -176,6 +192,16 @@ impl Account {
         }
     }
 
+    /// The credits of the host whose command breaks the rule on them, if one does.
+    pub fn told_in(&self, wrong: &Wrong) -> Option<Credits>
+        ensures { result ≡ told.credits_by wrong.now.rule wrong.now.command self.now }
+    {
+        match (wrong.rule, wrong.command) {
+            (Rule::Credits, Some(command)) => self.of(command.connection),
+            _ => None,
+        }
+    }
+
     /// Reads the line of this number: what is wrong of it.
     pub fn line(&mut self, number: u32, line: &[u8]) -> Option<Wrong>
         requires { 1 ≤ number }
@@ -231,5 +257,40 @@ pub fn log_breach(log: &[u8]) -> Option<Wrong>
         lines_breach(log)
     } else {
         None
+    }
+}
+
+/// The account before the line of this number, of these lines.
+fn account_of(lines: &mut Lines<'_>, number: u32) -> Account
+    requires { lines.old.number ≡ 0 }
+    ensures { result ≡ told.account_in 0 number told.unknown (lexical.lines lines.old.rest.now) }
+{
+    let mut account = Account::unknown();
+    while let Some(line) = lines.cut() {
+        if number <= lines.number {
+            return account;
+        }
+        let _ = account.line(lines.number, line);
+    }
+    account
+}
+
+/// The same of a log, unless that is too large.
+fn account_before(log: &[u8], number: u32) -> Account
+    ensures { result ≡ told.account_before log.now number }
+{
+    match lines_of(log) {
+        Ok(mut lines) => account_of(&mut lines, number),
+        Err(_) => Account::unknown(),
+    }
+}
+
+/// The credits of the host whose command breaks the rule on them in a log.
+pub fn credits_before(log: &[u8], wrong: &Wrong) -> Option<Credits>
+    ensures { result ≡ told.credits_before log.now wrong.now }
+{
+    match wrong.rule {
+        Rule::Credits => account_before(log, wrong.line).told_in(wrong),
+        _ => None,
     }
 }

@@ -9,7 +9,7 @@ ghost use Rattle.mscpjudge.specs.Found.{found_beside};
 ghost use Rattle.mscpjudge.specs.Numbers.{number_by};
 ghost use Rattle.mscpjudge.specs.Times.{time_of};
 
-use crate::credits::Account;
+use crate::credits::{Account, Credits};
 use crate::times::{Times, times_in};
 use crate::wire::{put_wrong, rule_name, text_of};
 use mscp_controller::OutOfMemory;
@@ -92,13 +92,15 @@ fn put_finding(
     text: &mut Vec<u8>,
     broken: &mut Vec<Rule>,
     finding: &Finding,
+    credits: &Option<Credits>,
     times: &Times<'_>,
 ) -> Result<(), OutOfMemory>
     ensures text { OnOk result (text.new.items ≡ text.old.items
-        ++ finding_text (number_by times.now.numbers.now) (time_of times.now.lines) finding.now) }
-    ensures broken { OnOk result (broken.new.items ≡ broken.old.items ++ broken_of finding.now ∷ []) }
+        ++ finding_text (number_by times.now.numbers.now) (time_of times.now.lines)
+        (record { finding = finding.now; credits = credits.now })) }
+    ensures broken { OnOk result (broken.new.items ≡ broken.old.items ++ finding.now.wrong.rule ∷ []) }
 {
-    put_wrong(text, &finding.wrong, &finding.places, times)?;
+    put_wrong(text, &finding.wrong, credits, &finding.places, times)?;
     broken.push(finding.wrong.rule)?;
     Ok(())
 }
@@ -132,10 +134,12 @@ fn find_lines(alloc: Global, lines: &mut Lines<'_>, times: &Times<'_>) -> Result
     let mut text = Vec::new(alloc);
     let mut broken = Vec::new(alloc);
     while let Some(line) = lines.cut() {
+        let before = account;
         let breach = account.line(lines.number, line);
         let found = course.line(alloc, lines.number, line)?;
         if let Some(finding) = found_beside(found, breach) {
-            put_finding(&mut text, &mut broken, &finding, times)?;
+            let credits = before.told_in(&finding.wrong);
+            put_finding(&mut text, &mut broken, &finding, &credits, times)?;
         }
     }
     put_counts(&mut text, broken.as_slice())?;

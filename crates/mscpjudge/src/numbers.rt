@@ -1,5 +1,5 @@
-// The numbers that lines of a log have among all lines, where the log is that of a port. Where none are told, each line has
-// its own.
+// The numbers that lines of a log have among all lines, where the log is that of a port. Where none are told, each line
+// has its own.
 
 ghost use Rattle.std.specs.Prelude.{◌≡◌};
 ghost use Rattle.mscpjudge.specs.Numbers as told;

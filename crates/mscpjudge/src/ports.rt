@@ -1,6 +1,6 @@
-// The ports of a machine in a log of the wire. A line `port N` says that the lines behind it went over the wire of that port.
-// Each port is judged by a log of its own lines alone, and they are told by the numbers that they have among all: so eight
-// ports cost no more than one. Without such a line nothing of this is made.
+// The ports of a machine in a log of the wire. A line `port N` says that the lines behind it went over the wire of that
+// port. Each port is judged by a log of its own lines alone, and they are told by the numbers that they have among all:
+// so eight ports cost no more than one. Without such a line nothing of this is made.
 
 ghost use Rattle.std.specs.Prelude.{◌≡◌, ◌≤◌, ◌<◌, ◌++◌, ◌∷◌, ℕ, codes, length, None, IfOk, OnOk};
 ghost use Rattle.mscp_reader.specs.Lexical as lexical;
@@ -279,7 +279,8 @@ impl Sections {
     /// Once all lines were read, of which there are so many.
     fn close(&mut self, count: u32) -> Result<(), AllocError>
         ensures parts { OnOk result ((port : ℕ) → port < length self.old.ports.items
-            → ports.part_at self.new.ports.items port ≡ ports.part_end count (ports.part_at self.old.ports.items port)) }
+            → ports.part_at self.new.ports.items port
+            ≡ ports.part_end count (ports.part_at self.old.ports.items port)) }
         ensures long { OnOk result (length self.new.ports.items ≡ length self.old.ports.items) }
         ensures fault { self.new.fault ≡ self.old.fault }
     {

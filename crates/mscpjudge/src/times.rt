@@ -1,5 +1,5 @@
-// The times of a log's lines, by the numbers of these in it, and the numbers that they have among all lines: made only of a
-// log that isn't right.
+// The times of a log's lines, by the numbers of these in it, and the numbers that they have among all lines: made only
+// of a log that isn't right.
 
 ghost use Rattle.std.specs.Prelude.{◌≡◌, IfOk};
 ghost use Rattle.mscp_reader.specs.Lexical as lexical;

@@ -4,10 +4,12 @@ ghost use Rattle.std.specs.Prelude.{◌≡◌, ◌++◌, OnOk, IfOk};
 ghost use Rattle.mscpjudge.specs.Common.{flat_map, breach_text, breaker_name, broken_text, command_text, connection_name, meant_text, opcode_name, outstanding_text, wire_outcome, wire_text};
 ghost use Rattle.mscp_wire.specs.Course.{places_in};
 ghost use Rattle.mscpjudge.specs.Commands as commands;
+ghost use Rattle.mscpjudge.specs.Credits.{credits_before, credits_text};
 ghost use Rattle.mscpjudge.specs.Numbers.{number_by};
 ghost use Rattle.mscpjudge.specs.Times.{log_time, time_of};
 ghost use Rattle.mscpjudge.specs.Wired as wired;
 
+use crate::credits::{Credits, credits_before};
 use crate::doubts::put_doubts;
 use crate::judging::Outcome;
 use crate::numbers::number_of;
@@ -239,21 +241,40 @@ fn put_line<A: Allocator>(
     put(text, ": not right\n")
 }
 
-/// Appends the lines of a moment that isn't right.
+/// Appends the line of how many credits there were, where all are known to be spent.
+#[tactic(auto, unfolding(crate::specs::Credits::credits_text))]
+fn put_credits<A: Allocator>(
+    text: &mut Vec<u8, A>,
+    credits: &Option<Credits>,
+) -> Result<(), AllocError>
+    ensures { OnOk result (text.new.items ≡ text.old.items ++ credits_text credits.now) }
+{
+    match credits {
+        Some(credits) if credits.left == 0 => {
+            put_field(text, "credits: ", credits.given)?;
+            put(text, " since the reset, all spent\n")
+        }
+        _ => Ok(()),
+    }
+}
+
+/// Appends the lines of a moment that isn't right, and of the credits of its host, if it breaks the rule on them.
 pub fn put_wrong<A: Allocator>(
     text: &mut Vec<u8, A>,
     wrong: &Wrong,
+    credits: &Option<Credits>,
     places: &Places,
     times: &Times<'_>,
 ) -> Result<(), AllocError>
     ensures { OnOk result (text.new.items ≡ text.old.items
-        ++ breach_text (number_by times.now.numbers.now) (time_of times.now.lines) wrong.now places.now) }
+        ++ breach_text (number_by times.now.numbers.now) (time_of times.now.lines) credits.now wrong.now places.now) }
 {
     put_line(text, wrong.line, times)?;
     put_rule(text, wrong.rule)?;
     put_meant(text, &wrong.command)?;
     put_told(text, &wrong.moment)?;
     put_against(text, wrong)?;
+    put_credits(text, credits)?;
     put_places(text, wrong.rule, places, times)
 }
 
@@ -266,11 +287,13 @@ fn put_broken(
     wrong: &Wrong,
 ) -> Result<(), OutOfMemory>
     ensures { OnOk result (text.new.items ≡ text.old.items
-        ++ broken_text (number_by numbers.now) (log_time log.now) wrong.now (places_in log.now)) }
+        ++ broken_text (number_by numbers.now) (log_time log.now) (credits_before log.now wrong.now) wrong.now
+        (places_in log.now)) }
 {
     let places = places_in(alloc, log)?;
     let times = times_in(alloc, log, numbers)?;
-    put_wrong(text, wrong, &places, &times)?;
+    let credits = credits_before(log, wrong);
+    put_wrong(text, wrong, &credits, &places, &times)?;
     put_manual(text, wrong.rule)?;
     Ok(())
 }

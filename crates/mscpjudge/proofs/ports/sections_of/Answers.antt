@@ -18,7 +18,8 @@ loop-line-preserved c =
       parts = λ port h.
           i.parts port h
           ∙ ap (part_in port n at (part_at c.loop-line.sections.ports.items port)) c.in-Some.ensures.line
-          ∙ part_more port n place at (part_at c.loop-line.sections.ports.items port) line rest c.in-Some.ensures.counted
+          ∙ part_more port n place at (part_at c.loop-line.sections.ports.items port) line rest
+          c.in-Some.ensures.counted
           ∙ ap (λ k. part_in port place (port_after at k)
           (part_after port at place k line (part_at c.loop-line.sections.ports.items port)) rest)
           (sym c.quick_kind-kind.ensures)

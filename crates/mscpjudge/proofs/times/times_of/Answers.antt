@@ -6,8 +6,9 @@ use Rattle.mscpjudge.proofs.times.times_of.Goals as goal
 
 pub loop-line-init : goal.loop-line-init
 loop-line-init c = record {
-  past = past_none c.args.lines.now.number (lines c.args.lines.now.rest.now) (time_of c.none-times.result.lines) c.requires
-      c.none-times.ensures.times;
+  past =
+      past_none c.args.lines.now.number (lines c.args.lines.now.rest.now) (time_of c.none-times.result.lines)
+      c.requires c.none-times.ensures.times;
   numbers = c.none-times.ensures.numbers;
 }
 

@@ -18,7 +18,8 @@ loop-place-preserved c =
           (part_same xs place new within ∙ c.in_ok-put.ensures
           ∙ ap (λ l. with_line 1000001 l (part_by c.index_mut.result.now)) c.as_slice.ensures
           ∙ ap (with_line 1000001 (codes "?"))
-          (sym (part_here xs place c.index_mut.result.now within c.index_mut.ensures.value) ∙ i.left place (omega arith)));
+          (sym (part_here xs place c.index_mut.result.now within c.index_mut.ensures.value)
+          ∙ i.left place (omega arith)));
       left = λ port h.
           let ne : port ≢ place = omega arith in part_other xs place port new ne ∙ i.left port (omega arith);
     }
