@@ -54,6 +54,7 @@ states_of_before() {
         wire_is_right '4 2 0 2 0' '' begun "$(available 3)" "$(availed 3 1)" "${away[@]}" &&
         wire_is_right '6 3 0 3 0' '' begun "$(available 3)" "$(availed 3 1)" "${away[@]}" "${moves[@]}" &&
         wire_is_right '4 2 0 2 0' '' begun "${away[@]}" "second $(availed 3 0)" "${moves[@]}" &&
+        wire_is_right '4 2 0 2 0' '' begun "${released[@]}" "second $(availed 9 0)" "${moves[@]}" &&
         wire_is_right '6 3 0 3 0' '' begun "second $(unit_status 1 0 0)" "second $(unit_told 1 0)" "${released[@]}" "${moves[@]}" &&
         wire_breaks 'controller: state' 'READ 2 of unit 0' begun "$(available 3 1)" "end $(packet 12 3 1 136 0)" reset "${moves[@]}" &&
         wire_is_right '6 3 0 3 0' '' begun "$(available 3 1)" "end $(packet 12 3 1 136 0)" "${away[@]}" "${moves[@]}"

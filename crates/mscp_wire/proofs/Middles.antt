@@ -8,7 +8,7 @@ use Rattle.arrayvec.specs.ArrayVec.{ArrayVec}
 use Rattle.mscp_drive.specs.declared.connection.Connection.{Connection}
 use Rattle.mscp_drive.specs.declared.connection.Connection.TheVariants.{First, Second}
 use Rattle.mscp_packet.specs.Number.{num}
-use Rattle.mscp_wire.specs.Begun.{has_sent, has_turned, is_about_sent, is_figure, is_initial, is_middle, is_on, is_slow, is_sure, is_unnamed, names, sends, spares, spares_end, turns_unit}
+use Rattle.mscp_wire.specs.Begun.{has_met, has_sent, has_turned, is_about_sent, is_figure, is_initial, is_middle, is_on, is_slow, is_sure, is_unnamed, names, sends, spares, spares_end, turns_unit}
 use Rattle.mscp_wire.specs.Middle.{IsMiddle, Shows, has_other, keeps_unit, kept_name, name_in, name_with}
 use Rattle.mscp_wire.specs.Wire.{History, answer_by, broken_by, key, other_side, same_connection}
 use Rattle.mscp_wire.specs.declared.answer.Answer.{Answer}
@@ -30,6 +30,30 @@ any_push p (x ∷ h) m = ap (λ b. p x || b) (any_push p h m) ∙ by_test (p x)
     by_test : (b : Bool) → (b || (list_any p h || p m)) ≡ ((b || list_any p h) || p m)
     by_test true = refl
     by_test false = refl
+
+-- a packet more is of a connection
+pub met_more : (h strangers : History) (via : Connection) (m : Moment)
+    → (has_met h strangers via || is_on via m) ≡ has_met (h ++ m ∷ []) strangers via
+met_more h strangers via m =
+    swap (list_any (is_on via) h) (list_any (is_on via) strangers) (is_on via m)
+    ∙ sym (ap (λ b. b || list_any (is_on via) strangers) (any_push (is_on via) h m))
+  where
+    swap : (a b c : Bool) → ((a || b) || c) ≡ ((a || c) || b)
+    swap true b c = refl
+    swap false true true = refl
+    swap false true false = refl
+    swap false false true = refl
+    swap false false false = refl
+
+pub met_strange : (h strangers : History) (via : Connection) (m : Moment)
+    → (has_met h strangers via || is_on via m) ≡ has_met h (strangers ++ m ∷ []) via
+met_strange h strangers via m =
+    whole (list_any (is_on via) h) (list_any (is_on via) strangers) (is_on via m)
+    ∙ sym (ap (λ b. list_any (is_on via) h || b) (any_push (is_on via) strangers m))
+  where
+    whole : (a b c : Bool) → ((a || b) || c) ≡ (a || (b || c))
+    whole true b c = refl
+    whole false b c = refl
 
 -- ---- a number
 
@@ -173,10 +197,10 @@ module _ {A : Type 0} (h strangers : History) (other : Connection) (b : ArrayVec
       subst (λ n. Named sent other n (kept_name old) (kept_name met)) (numbered ∙ ap (λ l. num l 0 4) is)
       (λ via reference. same_names put met met_names via reference ∙ named via reference)
 
-  first_met : met.first ≡ (list_any (is_on First) h || same_connection other First)
+  first_met : met.first ≡ (has_met h strangers First || same_connection other First)
   first_met = met_first ∙ ap (λ x. x || same_connection other First) (put_first ∙ s.first)
 
-  second_met : met.second ≡ (list_any (is_on Second) h || same_connection other Second)
+  second_met : met.second ≡ (has_met h strangers Second || same_connection other Second)
   second_met = met_second ∙ ap (λ x. x || same_connection other Second) (put_second ∙ s.second)
 
   units_met : (via : Connection) (unit : ℕ) → keeps_unit met via unit ≡ list_any (has_turned via unit) h
@@ -191,8 +215,8 @@ module _ {A : Type 0} (h strangers : History) (other : Connection) (b : ArrayVec
             (names_put true named) (λ via reference. refl) (λ via reference. refl);
         units = λ via unit. units_met via unit ∙ sym (never (list_any (has_turned via unit) h))
             ∙ sym (any_push (has_turned via unit) h x);
-        first = first_met ∙ sym (any_push (is_on First) h x);
-        second = second_met ∙ sym (any_push (is_on Second) h x);
+        first = first_met ∙ met_more h strangers First x;
+        second = second_met ∙ met_more h strangers Second x;
       })
 
   pub ended_shows : (m : Moment) (a : Answer) (new : Middle A) → m ≡ moments.End other b → a ≡ answer_by other bytes
@@ -213,27 +237,22 @@ module _ {A : Type 0} (h strangers : History) (other : Connection) (b : ArrayVec
         units = λ via unit. turned via unit
             ∙ ap (λ z. z || (same_connection other via && turns_unit unit y)) (units_met via unit)
             ∙ sym (any_push (has_turned via unit) h x);
-        first = first ∙ first_met ∙ sym (any_push (is_on First) h x);
-        second = second ∙ second_met ∙ sym (any_push (is_on Second) h x);
+        first = first ∙ first_met ∙ met_more h strangers First x;
+        second = second ∙ second_met ∙ met_more h strangers Second x;
       })
 
--- the end of a command that the log doesn't send
-pub strange_shows : {A : Type 0} (h strangers : History) (other : Connection) (b : ArrayVec ℕ) (bytes : List ℕ)
-    (number : ℕ) (m : Moment) (old new : Middle A) → Shows h strangers old → m ≡ moments.End other b
-    → bytes ≡ b.items → number ≡ num bytes 0 4 → Named false other number (kept_name old) (kept_name new)
-    → new.units ≡ old.units → new.first ≡ old.first → new.second ≡ old.second
-    → Shows h (strangers ++ m ∷ []) new
-strange_shows h strangers other b bytes number m old new s e is numbered named units first second =
-    let x = moments.End other b in
-    let put = subst (λ n. Named false other n (kept_name old) (kept_name new)) (numbered ∙ ap (λ l. num l 0 4) is)
-    named in
-    subst (λ y. Shows h (strangers ++ y ∷ []) new) (sym e) (record {
-      names = strangers_more h strangers other (num b.items 0 4) (kept_name old) (kept_name new) s.names x put
-          (λ via reference. refl);
-      units = λ via unit. same_units old new units via unit ∙ s.units via unit;
-      first = first ∙ s.first;
-      second = second ∙ s.second;
-    })
+  -- the end of a command that the log doesn't send
+  pub strange_shows : (m : Moment) → m ≡ moments.End other b
+      → Named false other number (kept_name old) (kept_name put) → Shows h (strangers ++ m ∷ []) met
+  strange_shows m e named =
+      let x = moments.End other b in
+      subst (λ y. Shows h (strangers ++ y ∷ []) met) (sym e) (record {
+        names = strangers_more h strangers other (num b.items 0 4) (kept_name old) (kept_name met) s.names x
+            (names_put false named) (λ via reference. refl);
+        units = units_met;
+        first = first_met ∙ met_strange h strangers First x;
+        second = second_met ∙ met_strange h strangers Second x;
+      })
 
 -- a reset ends the middle, and nothing else does
 pub middle_more : (begun : Bool) (h : History) (m : Moment) → is_initial m ≡ false
@@ -258,13 +277,13 @@ middle_ends begun h m e =
 
 -- whether the host of an end is alone with its unit
 pub other_met : {A : Type 0} (h strangers : History) (middle : Middle A) (via : Connection)
-    → Shows h strangers middle → has_other middle via ≡ list_any (is_on (other_side via)) h
+    → Shows h strangers middle → has_other middle via ≡ has_met h strangers (other_side via)
 other_met h strangers middle First s = s.second
 other_met h strangers middle Second s = s.first
 
 pub sure_by : {A : Type 0} (h strangers : History) (middle : Middle A) (e : Answer) (turned other : Bool)
     → Shows h strangers middle → turned ≡ keeps_unit middle e.connection e.unit
-    → other ≡ has_other middle e.connection → (turned && not other) ≡ is_sure h e
+    → other ≡ has_other middle e.connection → (turned && not other) ≡ is_sure h strangers e
 sure_by h strangers middle e turned other s t o =
     ap (λ b. b && not other) (t ∙ s.units e.connection e.unit)
     ∙ ap (λ b. list_any (has_turned e.connection e.unit) h && not b)

@@ -1,5 +1,5 @@
 -- Of a log that doesn't begin in the middle each moment is right after those before it.
-use Rattle.std.proofs.Common.{◌≡◌, ℕ, suc, ◌+◌, Bool, true, false, not, ◌&&◌, if◌then◌else◌, List, [], ◌∷◌, ◌++◌, length, arith, refl, sym, ap, subst, ◌∙◌, length-append, ⊎_elim, Option, Some, None, Result, Ok, Err}
+use Rattle.std.proofs.Common.{◌≡◌, ℕ, ◌+◌, Bool, true, false, ◌&&◌, if◌then◌else◌, List, [], ◌∷◌, ◌++◌, length, arith, refl, sym, ap, subst, ◌∙◌, length-append, ⊎_elim, Option, Some, None, Result, Ok, Err}
 use Rattle.std.proofs.lemmas.Bool.{cases_lt, false≢true}
 use Rattle.std.proofs.lemmas.Bool.Decides.{nat_tests}
 use Rattle.std.proofs.lemmas.List.{take-append-le}
@@ -9,7 +9,7 @@ use Rattle.mscp_packet.specs.Steps.{◌>>=◌}
 use Rattle.mscp_reader.specs.declared.fault.Cause.{Cause}
 use Rattle.mscp_reader.specs.declared.fault.Cause.TheVariants as causes
 use Rattle.mscp_wire.specs.Begun.{is_middle, spares}
-use Rattle.mscp_wire.specs.Log.{AreRightLines, Log, broken_in, broken_said, is_first, is_fresh, is_outstanding, is_strange, is_stranger, line_says, nothing, spared, with_either, with_line, with_lines, with_moment, with_said, with_stranger}
+use Rattle.mscp_wire.specs.Log.{AreRightLines, Log, broken_in, broken_said, is_first, is_fresh, is_outstanding, is_strange, is_stranger, line_says, nothing, spared, with_line, with_lines, with_moment, with_said, with_stranger}
 use Rattle.mscp_wire.specs.Right.{IsRightLog}
 use Rattle.mscp_wire.specs.Wire.{AreRight, History, IsRight, broken_by}
 use Rattle.mscp_wire.specs.declared.line.Said.{Said}

@@ -68,16 +68,21 @@ abbrev pub is_unnamed : History → History → Answer → Bool
 is_unnamed h strangers e =
     not (list_any (names e.connection e.reference) h) && not (list_any (names e.connection e.reference) strangers)
 
+-- one of these moments or ends is of this connection
+abbrev pub has_met : History → History → Connection → Bool
+has_met h strangers via = list_any (is_on via) h || list_any (is_on via) strangers
+
 -- all that the host of a connection had sent to a unit before the log has ended, and it is the only host
-abbrev pub is_sure : History → Answer → Bool
-is_sure h e = list_any (has_turned e.connection e.unit) h && not (list_any (is_on (other_side e.connection)) h)
+abbrev pub is_sure : History → History → Answer → Bool
+is_sure h strangers e =
+    list_any (has_turned e.connection e.unit) h && not (has_met h strangers (other_side e.connection))
 
 -- a rule isn't asked of an end in the middle
 abbrev pub spares_end : History → History → Answer → Rule → Bool
 spares_end h strangers e rules.Outstanding = is_unnamed h strangers e
 spares_end h strangers e rules.Figure = true
-spares_end h strangers e rules.Identity = not (is_sure h e)
-spares_end h strangers e rules.State = not (is_sure h e)
+spares_end h strangers e rules.Identity = not (is_sure h strangers e)
+spares_end h strangers e rules.State = not (is_sure h strangers e)
 spares_end h strangers e rule = false
 
 abbrev pub spares : History → History → Moment → Rule → Bool

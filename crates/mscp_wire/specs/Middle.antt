@@ -4,7 +4,7 @@ use Rattle.std.specs.HashMap as hashed
 use Rattle.std.specs.List.{list_any}
 use Rattle.mscp_drive.specs.declared.connection.Connection.{Connection}
 use Rattle.mscp_drive.specs.declared.connection.Connection.TheVariants.{First, Second}
-use Rattle.mscp_wire.specs.Begun.{has_turned, is_middle, is_on, names, sends}
+use Rattle.mscp_wire.specs.Begun.{has_met, has_turned, is_middle, names, sends}
 use Rattle.mscp_wire.specs.Log.{Log}
 use Rattle.mscp_wire.specs.Wire.{History, key}
 use Rattle.mscp_wire.specs.declared.middle.Middle.{Middle}
@@ -38,8 +38,8 @@ pub record Shows {A : Type 0} (h strangers : History) (middle : Middle A) : Type
   pub names : (via : Connection) (reference : ℕ)
       → kept_name middle via reference ≡ name_in h strangers via reference
   pub units : (via : Connection) (unit : ℕ) → keeps_unit middle via unit ≡ list_any (has_turned via unit) h
-  pub first : middle.first ≡ list_any (is_on First) h
-  pub second : middle.second ≡ list_any (is_on Second) h
+  pub first : middle.first ≡ has_met h strangers First
+  pub second : middle.second ≡ has_met h strangers Second
 
 -- what is kept of a number once a packet has it, which is a message or not
 abbrev pub name_with : Bool → Option Bool → Option Bool

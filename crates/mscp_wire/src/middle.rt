@@ -79,7 +79,7 @@ impl<A: Allocator + Copy> Middle<A> {
 
     /// Whether all that the host of an end had sent to its unit before has ended.
     fn is_sure(&self, answer: &Answer) -> bool
-        ensures { (h strangers : History) → middles.Shows h strangers self.now → result ≡ begun.is_sure h answer.now }
+        ensures { (h strangers : History) → middles.Shows h strangers self.now → result ≡ begun.is_sure h strangers answer.now }
     {
         self.units
             .contains_key(&key(answer.connection, u32::from(answer.unit)))
@@ -208,6 +208,7 @@ impl<A: Allocator + Copy> Middle<A> {
         match moment {
             Moment::End(connection, message) if message.len() >= 12 => {
                 self.put(*connection, four_at(message.as_slice(), 0), false)?;
+                self.meet(*connection);
                 Ok(())
             }
             _ => Ok(()),

@@ -1,6 +1,6 @@
 use Rattle.std.proofs.Common.{◌∙◌, ap, sym}
 use Rattle.mscp_wire.specs.Wire.{answer_by}
-use Rattle.mscp_wire.proofs.Middles.{ended_shows}
+use Rattle.mscp_wire.proofs.Middles.{ended_shows, sent_shows}
 use Rattle.mscp_wire.proofs.middle.Middle.hear.Goals as goal
 
 pub returns-in_ok-turn-in-End : goal.returns-in_ok-turn-in-End
@@ -16,3 +16,12 @@ returns-in_ok-turn-in-End g c = λ h strangers s rest.
     (c.of-answer.ensures
     ∙ ap (answer_by via) (c.as_slice-in-End.ensures.value ∙ sym c.as_slice-in-End-2.ensures.value))
     put.names turned.names turned.units turned.first turned.second
+
+pub returns-in_ok-put-in-Message : goal.returns-in_ok-put-in-Message
+returns-in_ok-put-in-Message g c = λ h strangers s rest.
+    let put = c.in_ok-put-in-Message.ensures in
+    let met = c.meet.ensures in
+    sent_shows h strangers c.in-Message.connection c.in-Message.message c.as_slice.result.now c.four_at.result
+    c.args.self.now c.put.new.self c.meet.new.self s c.as_slice.ensures.value c.four_at.ensures put.units put.first
+    put.second met.names met.units met.first met.second c.in-Message.field-2 c.args.moment.now c.in-Message.is
+    put.names
