@@ -76,6 +76,6 @@ closed_connections() {
             'second reset' "second $(reading 1)" &&
         wire_breaks 'controller: outstanding' '' "second $(reading 1)" "second $(reading 2)" "$(reading 1)" 'second reset' "second $(moved 2 0 1024)" &&
         wire_is_right '5 2 0 2 1' '' "${released[@]}" 'second reset' "${moves[@]}" &&
-        wire_breaks 'host: credits' 'READ 9 of unit 0' 'credits 3' "second $(poll 1 9)" 'second reset' "second $(poll 1 9)" "second $(poll 2 9)" \
+        wire_breaks 'host: credits' 'second READ 9 of unit 0' 'credits 3' "second $(poll 1 9)" 'second reset' "second $(poll 1 9)" "second $(poll 2 9)" \
             "second $(reading 9)" && wire_is_at_fault 'line 1: count' 'second reset now' && wire_is_at_fault 'line 2: word' 'second reset' 'second resets'
 }

@@ -783,7 +783,7 @@ wire_refuses() {
 }
 
 no_log_of_the_wire() {
-    wire_refuses 'line 1: word' 'read 1 0 512 0' && wire_refuses 'line 2: word' '' 'second reset' &&
+    wire_refuses 'line 1: word' 'read 1 0 512 0' && wire_refuses 'line 2: word' '' 'second begun' &&
         wire_refuses 'line 1: count' second && wire_refuses 'line 1: count' send && wire_refuses 'line 1: count' 'reset 1' &&
         wire_refuses 'line 1: count' 'end 00 00' && wire_refuses 'line 1: hex' 'send 0' && wire_refuses 'line 1: hex' 'send 0x' &&
         wire_refuses 'line 1: hex' "send $(packet 65 1 0 33 0)" && wire_refuses 'line 1: number' 'credits -1' &&
