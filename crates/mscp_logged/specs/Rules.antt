@@ -1,5 +1,5 @@
 -- Which rules of the wire are kept by all that a port's log shows.
-use Rattle.std.specs.Prelude.{All, ◌≡◌, ◌≢◌, ◌<◌, ◌≤◌, ◌%◌, ◌^◌, ℕ, Bool, true, false, [], ◌∷◌, List, length, take, Option, Some}
+use Rattle.std.specs.Prelude.{All, ◌≡◌, ◌≢◌, ◌⊎◌, ◌<◌, ◌≤◌, ◌%◌, ◌^◌, ℕ, Bool, true, false, [], ◌∷◌, List, length, take, Option, Some}
 use Rattle.mscp_drive.specs.Settings.{IsValid, Settings}
 use Rattle.mscp_drive.specs.declared.connection.Connection.TheVariants.{First}
 use Rattle.mscp_controller.specs.Calls.{AnsweredCalls, Call as Made}
@@ -12,6 +12,7 @@ use Rattle.mscp_port.specs.Calls.{IsMadeOf}
 use Rattle.mscp_port.specs.Histories.{Answered, Call, Picking, Went}
 use Rattle.mscp_ported.specs.Asking.{AsksForBlocks}
 use Rattle.mscp_ported.specs.Awaited.{ReadsBytes}
+use Rattle.mscp_ported.specs.Passing.{ServesBetweenPolls}
 use Rattle.mscp_ported.specs.Talk.{AsksAlways}
 use Rattle.mscp_wire.specs.Wire.{History, IsRight, broken_by, moment_at}
 use Rattle.mscp_wire.specs.declared.moment.Moment.{Moment}
@@ -45,16 +46,21 @@ TellsFaults [] = Unit {0}
 TellsFaults (Went outcome result ∷ earlier) = IsFaultTold outcome × TellsFaults earlier
 TellsFaults (call ∷ earlier) = TellsFaults earlier
 
--- this is true of a port's log, whatever it is set to and told: the port was made over a controller, which had answered
--- some calls before and has nothing of its host's; it is told of actions only after they were wanted, and what it reads
--- are bytes
-abbrev pub OfLogs : {K : Type 0} → Picking K → K → (Settings → List Call → History → Type 0) → Type 0
-OfLogs {K} picks picker Claim =
+-- this is true of a port, whatever it is set to and told: it was made over a controller, which had answered some calls
+-- before and has nothing of its host's; it is told of actions only after they were wanted, and what it reads are bytes
+abbrev pub OfPorts : {K : Type 0} (picks : Picking K) (picker : K) (Claim : Settings → (start p : Port K)
+    (calls : List Call) → Answered picks start calls p → Type 0) → Type 0
+OfPorts {K} picks picker Claim =
     (c : Settings) (before : List Made) (controller : Holdings K) (hardware : Hardware) (credits : ℕ)
     (start p : Port K) (calls : List Call) → IsValid c
     → AnsweredCalls (picks picker) (fresh c picker) before controller → outstanding_of First controller ≡ []
     → IsMadeOf hardware credits controller start → AsksAlways calls → ReadsBytes calls
-    → (a : Answered picks start calls p) → Claim c calls (logged picks start p calls a)
+    → (a : Answered picks start calls p) → Claim c start p calls a
+
+-- and this of its log
+abbrev pub OfLogs : {K : Type 0} → Picking K → K → (Settings → List Call → History → Type 0) → Type 0
+OfLogs picks picker Claim =
+    OfPorts picks picker (λ c start p calls a. Claim c calls (logged picks start p calls a))
 
 -- ---- the laws
 
@@ -82,8 +88,11 @@ is_of_polls rule = false
 
 -- the law of ports: while the host's messages are right, and if no unit is without a block, no moment breaks a rule;
 -- for those that hang on drives, if what is told of blocks that failed is what these may tell; and for the one that
--- hangs on steps, if blocks are asked for each time that it is asked what is wanted
+-- hangs on steps, if one is told between any two polls of one command, as the controller takes them, or if blocks are
+-- asked for each time that it is asked what is wanted
 abbrev pub PortsAreRight : {K : Type 0} → Picking K → K → Type 0
-PortsAreRight picks picker = OfLogs picks picker (λ c calls h. (limit : Option ℕ) (rule : Rule)
-    → All (λ unit. 0 < unit.size) c.units → HostIsRight limit h → (is_of_drives rule ≡ true → TellsFaults calls)
-    → (is_of_polls rule ≡ true → AsksForBlocks calls) → Keeps rule limit h)
+PortsAreRight picks picker = OfPorts picks picker (λ c start p calls a. (limit : Option ℕ) (rule : Rule)
+    → All (λ unit. 0 < unit.size) c.units → HostIsRight limit (logged picks start p calls a)
+    → (is_of_drives rule ≡ true → TellsFaults calls)
+    → (is_of_polls rule ≡ true → ServesBetweenPolls picks start p calls a ⊎ AsksForBlocks calls)
+    → Keeps rule limit (logged picks start p calls a))

@@ -1,3 +1,4 @@
+use Rattle.std.proofs.Common.{⊎_elim}
 use Rattle.mscp_logged.specs.Rules.{TellsFaults}
 use Rattle.mscp_logged.proofs.Figured.{known}
 use Rattle.mscp_logged.proofs.Kept.{keeps_rules}
@@ -30,6 +31,7 @@ returns g c = λ s before controller hardware credits start p calls valid was qu
     c.args.picker.now c.ports_end_what_they_took.ensures c.ports_tell_in_order.ensures
     c.ports_hold_what_is_awaited.ensures c.ports_pass_ends_on.ensures c.ports_lower_figures.ensures sizes before
     controller hardware credits start valid was quiet made limit (IsFineUntil F) (fine_before F) state p calls asks
-    reads (asks, λ f. f) a host (c.ports_serve_who_asks_for_blocks.ensures hardware credits controller start p calls
-    made (blocks polls) a)).each)
+    reads (asks, λ f. f) a host (⊎_elim (λ serves. serves)
+    (λ b. c.ports_serve_who_asks_for_blocks.ensures hardware credits controller start p calls made b a)
+    (blocks polls))).each)
     recalling.each recalling.suits
