@@ -1,48 +1,10 @@
 -- The end of a transfer that is aborted counts just the blocks that were moved.
-use Rattle.std.proofs.Common.{◌≡◌, ◌∙◌, ◌&&◌, ◌*◌, ◌≤◌, ◌++◌, ◌∷◌, [], ℕ, Bool, true, false, cond, drop, filter, length, min, List, Contains, Option, None, Some, inl, inr, refl, ap, sym, subst, arith, append_assoc}
-use Rattle.std.specs.Prelude.{◌==◌, Ok, find, is_none, option_map, option_to_list, slice_index}
-use Rattle.std.proofs.lemmas.List.{append-nil}
-use Rattle.std.proofs.lemmas.Option.{none-some, same_Some}
-unfoldable use Rattle.mscp_packet.specs.Commands.{command_of}
-use Rattle.mscp_packet.specs.Number.{num}
-use Rattle.mscp_packet.specs.Opcodes.{opcode_of}
+use Rattle.mscp_ported.proofs.Common.{Answered, AsksAlways, Bool, Buffer, Call, Command, Contains, Contains-push_cases, Counts, Descriptor, End, First, Hardware, Holdings, IsMadeOf, IsReadingText, List, MoveKind, None, Ok, Option, Order, Picking, Port, Record, SendFault, Settings, Some, Task, WasRead, [], aborted_record, aborting, answer_to_message, answered_end, answered_to, ap, append-nil, append_assoc, arith, arrives, asked, asks_nothing, balance_of, come, command_of, cond, drop, false, fault_of, filter, find, found_is, handed, has_name, held_unless, inl, inr, is_none, is_numbered, is_queued, is_queued_so, is_queued_text, length, min, moved, moved_body, name_on, none-some, none_or_some, none_waits, num, opcode_of, option_map, option_to_list, outstanding_of, own_answer, own_end_of, own_end_with, queued, record_aborted, reference_aborted, refl, refusal, same_Some, sent_unless, slice_index, subst, sym, taken_as, taken_number, transfers, true, volume_named, with_end, ℕ, ◌&&◌, ◌*◌, ◌++◌, ◌==◌, ◌∙◌, ◌∷◌, ◌≡◌, ◌≤◌}
 use Rattle.mscp_packet.specs.declared.class.Opcode.TheVariants as codes
-use Rattle.mscp_packet.specs.declared.command.Command.{Command}
-use Rattle.mscp_packet.specs.declared.command.MoveKind.{MoveKind}
-use Rattle.mscp_packet.specs.declared.command.Order.{Order}
 use Rattle.mscp_packet.specs.declared.command.Order.TheVariants as orders
-use Rattle.mscp_packet.specs.declared.end.End.{End}
 use Rattle.mscp_packet.specs.declared.end.EndBody.TheVariants as bodies
-use Rattle.mscp_drive.specs.Settings.{Settings}
-use Rattle.mscp_drive.specs.declared.connection.Connection.TheVariants.{First}
-use Rattle.mscp_queue.specs.Names.{name_on}
-use Rattle.mscp_queue.specs.Outcomes.{moved_body}
-use Rattle.mscp_queue.specs.Records.{Record, aborted_record, has_name}
-use Rattle.mscp_queue.proofs.Placed.{found_is}
-use Rattle.mscp_controller.specs.Arrival.{fault_of, is_queued, refusal}
-use Rattle.mscp_controller.specs.declared.entry.SendFault.{SendFault}
 use Rattle.mscp_controller.specs.declared.entry.Sent.TheVariants as sents
-use Rattle.mscp_controller.specs.Holdings.{Holdings, aborting, answer_to_message, answered_end, arrives, balance_of, held_unless, outstanding_of, queued, record_aborted, reference_aborted, sent_unless, taken_as, with_end}
-use Rattle.mscp_controller.specs.Outcomes.{own_end_with}
-use Rattle.mscp_port.specs.declared.buffers.Buffer.{Buffer}
-use Rattle.mscp_port.specs.declared.hardware.Hardware.{Hardware}
-use Rattle.mscp_port.specs.declared.port.Port.{Port}
-use Rattle.mscp_port.specs.declared.slot.Descriptor.{Descriptor}
-use Rattle.mscp_port.specs.declared.task.Task.{Task}
 use Rattle.mscp_port.specs.declared.task.Task.TheVariants as tasks
-use Rattle.mscp_port.specs.Calls.{IsMadeOf}
-use Rattle.mscp_port.specs.Histories.{Answered, Call, Picking, WasRead}
-use Rattle.mscp_port.specs.Messages.{handed, own_end_of}
-use Rattle.mscp_port.specs.Ports.{IsReadingText}
-use Rattle.mscp_port.specs.Seen.{answered_to}
-use Rattle.mscp_port.proofs.Come.{none_waits, taken_number}
-use Rattle.mscp_port.proofs.Common.{Contains-push_cases}
-use Rattle.mscp_port.proofs.Kept.{is_numbered}
-use Rattle.mscp_port.proofs.Said.{none_or_some}
-use Rattle.mscp_ported.specs.Answers.{asks_nothing, own_answer, volume_named}
-use Rattle.mscp_ported.specs.Ends.{come}
-use Rattle.mscp_ported.specs.Talk.{AsksAlways}
-use Rattle.mscp_ported.specs.Transfers.{Counts, asked, is_queued_so, is_queued_text, moved, transfers}
 use Rattle.mscp_ported.proofs.Answering.{handed_so}
 use Rattle.mscp_ported.proofs.Coming.{come_so, ends_of}
 use Rattle.mscp_ported.proofs.Decided.{read_stays}

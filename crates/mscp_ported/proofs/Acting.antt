@@ -1,29 +1,11 @@
 -- What an action leaves that touches no memory, and the steps of the initialisation.
-use Rattle.std.proofs.Common.{◌≡◌, ◌≢◌, ◌⊎◌, ◌∙◌, ◌*◌, ◌/◌, ◌%◌, ◌++◌, [], ℕ, Bool, true, false, cond, map, not, List, Option, None, Some, MatchOption, inl, inr, refl, ap, sym, subst, arith}
-use Rattle.std.specs.Prelude.{◌==◌, ◌&&◌, Ok}
-use Rattle.std.proofs.lemmas.List.{append-nil}
-use Rattle.mscp_queue.specs.declared.name.Name.{Name}
-use Rattle.mscp_queue.specs.declared.view.Choice.{Choice}
-use Rattle.mscp_port.specs.declared.action.Action.{Action}
+use Rattle.mscp_ported.proofs.Common.{Action, Bool, Choice, Commands, Due, Goes, Idle, IsAsNew, List, MatchOption, Name, None, Ok, Option, Outcome, Port, Read, Responses, Rings, Said, Some, Stage, StandInOrder, TakesBegun, TakesBlock, Talk, Task, Turn, Verdict, Went, Wish, [], ap, append-nil, arith, at_step, begins, cond, false, inl, inr, interrupted, is_dead, map, message_slot, message_text, not, packet_slot, refl, said_in, step_task, stepped, subst, sym, true, written, ℕ, ◌%◌, ◌*◌, ◌++◌, ◌/◌, ◌==◌, ◌∙◌, ◌≡◌, ◌≢◌, ◌⊎◌}
+use Rattle.std.specs.Prelude.{◌&&◌}
 use Rattle.mscp_port.specs.declared.action.Action.TheVariants as actions
-use Rattle.mscp_port.specs.declared.action.Outcome.{Outcome}
 use Rattle.mscp_port.specs.declared.action.Outcome.TheVariants as outcomes
-use Rattle.mscp_port.specs.declared.port.Port.{Port}
-use Rattle.mscp_port.specs.declared.rings.Side.TheVariants.{Responses, Commands}
-use Rattle.mscp_port.specs.declared.stage.Stage.{Stage}
 use Rattle.mscp_port.specs.declared.stage.Stage.TheVariants as stages
-use Rattle.mscp_port.specs.declared.task.Task.{Task}
 use Rattle.mscp_port.specs.declared.task.Task.TheVariants as tasks
-use Rattle.mscp_port.specs.declared.verdict.Verdict.{Verdict}
-use Rattle.mscp_port.specs.Acted.{step_task}
-use Rattle.mscp_port.specs.Areas.{Rings}
-use Rattle.mscp_port.specs.Calls.{Goes}
-use Rattle.mscp_port.specs.Departures.{begins}
-use Rattle.mscp_port.specs.Histories.{Went}
-use Rattle.mscp_port.specs.Moved.{TakesBegun, TakesBlock}
-use Rattle.mscp_port.specs.Ports.{IsAsNew}
-use Rattle.mscp_ported.specs.Talk.{Wish, Turn, Idle, Read, Due, Talk, at_step, done_by, interrupted, is_dead, stepped, written}
-use Rattle.mscp_ported.specs.Told.{Said, StandInOrder, message_slot, message_text, packet_slot, said_in}
+use Rattle.mscp_ported.specs.Talk.{done_by}
 use Rattle.mscp_ported.proofs.After.{After, IsNoReset, alters, none_said, same_stage}
 use Rattle.mscp_ported.proofs.Look.{AreTold, Counts, Fits, InStep, IsClear, IsElse, IsOfRings, IsOpen, IsOwned, IsSimple, IsTelling, IsWrite, Look, Names, NeedsOut, block_rings, in_hand, is_loud, look, told_on}
 use Rattle.mscp_ported.proofs.Plain.{dies}

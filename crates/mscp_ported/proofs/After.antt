@@ -1,16 +1,6 @@
 -- What a call leaves in step.
-use Rattle.std.proofs.Common.{◌≡◌, ◌⊎◌, ◌∙◌, ◌++◌, [], ℕ, true, false, cond, map, List, Option, None, Some, inl, inr, refl, ap, sym, subst, arith}
-use Rattle.std.specs.Prelude.{option_to_list}
-use Rattle.std.proofs.lemmas.List.{append-nil}
-use Rattle.mscp_port.specs.declared.port.Outgoing.{Outgoing}
-use Rattle.mscp_port.specs.declared.port.Port.{Port}
-use Rattle.mscp_port.specs.declared.stage.Stage.{Stage}
+use Rattle.mscp_ported.proofs.Common.{Call, List, None, Option, Outgoing, Packet, Port, Said, Some, Stage, Talk, Task, Turn, Wish, [], accepted_by, ap, append-nil, arith, begins, cond, false, inl, inr, is_dead, map, option_to_list, refl, said_in, silence, since, stepped, subst, sym, talk_after, talk_by, true, ℕ, ◌++◌, ◌∙◌, ◌≡◌, ◌⊎◌}
 use Rattle.mscp_port.specs.declared.stage.Stage.TheVariants as stages
-use Rattle.mscp_port.specs.declared.task.Task.{Task}
-use Rattle.mscp_port.specs.Departures.{begins}
-use Rattle.mscp_port.specs.Histories.{Call}
-use Rattle.mscp_ported.specs.Talk.{Wish, Turn, Packet, Talk, is_dead, silence, since, stepped, talk_after, talk_by}
-use Rattle.mscp_ported.specs.Told.{Said, accepted_by, said_in}
 use Rattle.mscp_ported.proofs.Look.{AreTold, InStep, IsTelling, Look, left_all, left_quiet, quiet_left}
 
 -- what is in step after a call, by which the port looks so

@@ -1,38 +1,9 @@
 -- What a port answers itself.
-use Rattle.std.proofs.Common.{◌≡◌, ◌∙◌, ◌+◌, ◌/◌, ◌≤◌, ◌++◌, ◌∷◌, [], drop, find, length, nat_le, nat_lt, take, ℕ, Bool, true, false, cond, List, Option, None, Some, IsSomeAnd, inl, inr, refl, ap, sym, subst, arith}
-use Rattle.std.specs.Prelude.{◌==◌, ◌&&◌, Ok, is_none, option_map, slice_index}
-use Rattle.byteorder.specs.Endian.{little_bytes}
-use Rattle.std.proofs.lemmas.List.{append-nil}
-use Rattle.mscp_packet.specs.Number.{num}
-use Rattle.mscp_packet.specs.Opcodes.{opcode_of}
-use Rattle.mscp_packet.specs.declared.command.Command.{Command}
+use Rattle.mscp_ported.proofs.Common.{Answered, AsksAlways, Bool, Call, Command, Commands, Descriptor, End, First, Hardware, Holdings, IsHandedOver, IsMadeOf, IsOwnAnswer, IsSomeAnd, List, None, Ok, Opened, Option, Outgoing, Own, Picking, Port, Responses, SendFault, Shape, Slot, Some, Task, Turn, Volume, WasRead, [], access_of_nothing, after_message, answer_to_message, ap, append-nil, arith, arrives, asks_next, asks_nothing, balance_of, bare_end, come, command_of, cond, drop, end_bytes, end_kind, false, handed, held_unless, inl, inr, is_for_utilities, is_none, kind_answered, length, little_bytes, nat_le, nat_lt, none-some, num, number_in, number_or_zero, opcode_of, option_map, order_with, outstanding_of, own_answer, own_end, own_end_of, own_refusal, own_text, poll_brings, poll_end, polls_bring, refl, refusal, refused_end, same_Some, sent_unless, slice_index, subst, sym, take, talk_of, text_handed, true, volume_named, volume_refusal, ℕ, ◌++◌, ◌+◌, ◌/◌, ◌==◌, ◌∙◌, ◌∷◌, ◌≡◌, ◌≤◌}
+use Rattle.std.proofs.Common.{find}
+use Rattle.std.specs.Prelude.{◌&&◌}
 use Rattle.mscp_packet.specs.declared.command.Order.TheVariants as orders
-unfoldable use Rattle.mscp_packet.specs.Commands.{command_of}
-use Rattle.mscp_packet.specs.Commands.{order_with}
-use Rattle.mscp_drive.specs.Shape.{Shape}
-use Rattle.mscp_drive.specs.declared.connection.Connection.TheVariants.{First}
-use Rattle.mscp_controller.specs.Arrival.{refusal}
-use Rattle.mscp_controller.specs.declared.entry.SendFault.{SendFault}
-use Rattle.std.proofs.lemmas.Option.{none-some, same_Some}
-use Rattle.mscp_packet.specs.Ends.{end_bytes}
-use Rattle.mscp_packet.specs.declared.end.End.{End}
-use Rattle.mscp_controller.specs.Holdings.{Holdings, after_message, answer_to_message, arrives, balance_of, held_unless, outstanding_of, sent_unless}
-use Rattle.mscp_port.specs.declared.hardware.Hardware.{Hardware}
-use Rattle.mscp_port.specs.declared.port.Outgoing.{Outgoing}
-use Rattle.mscp_port.specs.declared.port.Port.{Port}
-use Rattle.mscp_port.specs.declared.rings.Side.TheVariants.{Commands, Responses}
-use Rattle.mscp_port.specs.declared.slot.Descriptor.{Descriptor}
-use Rattle.mscp_port.specs.declared.task.Task.{Task}
 use Rattle.mscp_port.specs.declared.task.Task.TheVariants as tasks
-use Rattle.mscp_port.specs.declared.volumes.Volume.{Volume}
-use Rattle.mscp_port.specs.Calls.{IsMadeOf}
-use Rattle.mscp_port.specs.Histories.{Answered, Call, Picking, WasRead}
-use Rattle.mscp_port.specs.Messages.{bare_end, handed, number_or_zero, own_end, own_end_of, refused_end, volume_refusal}
-use Rattle.mscp_port.specs.Packets.{end_kind}
-use Rattle.mscp_ported.specs.Ends.{come}
-use Rattle.mscp_ported.specs.Answers.{IsHandedOver, IsOwnAnswer, Own, access_of_nothing, asks_next, asks_nothing, is_for_utilities, kind_answered, number_in, own_answer, own_refusal, own_text, text_handed, volume_named}
-use Rattle.mscp_ported.specs.Polls.{poll_brings, poll_end, polls_bring}
-use Rattle.mscp_ported.specs.Talk.{AsksAlways, Opened, Slot, Turn, talk_of}
 use Rattle.mscp_ported.proofs.Coming.{come_so, ends_of}
 use Rattle.mscp_ported.proofs.Following.{in_step}
 use Rattle.mscp_ported.proofs.Silent.{none_waits}

@@ -1,44 +1,8 @@
 -- What there is of each reference number after each call of a port.
-use Rattle.std.proofs.Common.{◌≡◌, ◌∙◌, ◌/◌, ◌%◌, ◌^◌, ◌<◌, ◌≤◌, ◌++◌, ◌∷◌, [], ℕ, Bool, true, false, cond, drop, filter, length, nat_eq, nat_lt, take, List, Option, None, Some, inl, inr, refl, ap, sym, subst, arith}
-use Rattle.std.specs.Prelude.{option_map, option_to_list, slice_index}
-use Rattle.std.specs.List.{AllByRecursion, list_any}
-use Rattle.std.proofs.lemmas.List.{append-nil}
-use Rattle.std.proofs.lemmas.List.Folds.{list_any-append}
-use Rattle.byteorder.specs.Endian.{little_bytes}
-use Rattle.mscp_packet.specs.Number.{num}
-use Rattle.mscp_packet.specs.Opcodes.{move_byte, opcode_of, opcodes, row_of}
+use Rattle.mscp_ported.proofs.Common.{AllByRecursion, Bool, Call, Command, Dies, End, First, Holdings, List, MoveKind, Name, None, Opcode, Option, Order, Port, Record, Settings, Shape, Some, [], aborted_record, ap, append-nil, arith, asks_for_next, balance_of, bytes_in, command_of, cond, drop, ends_said_by, eq-eqb, eqb-true, false, false≢true, filter, found_is, fresh_record, handed, has_number, holds, inl, inr, is_dead, is_formality, is_numbered, is_same, is_transfer, length, list_any, list_any-append, little_bytes, move_byte, name_of, name_on, nat_eq, nat_lt, next_unit, none_waits, num, numbers_ended, opcode_of, opcodes, option_map, option_to_list, or_parts, order_with, outstanding_of, own_end_with, record_aborted, refl, refusal, row_of, same_is, since, slice_index, stand_in, subst, sym, take, taken_by, taken_number, true, unaborted, without_ends, ℕ, ◌%◌, ◌++◌, ◌/◌, ◌<◌, ◌^◌, ◌∙◌, ◌∷◌, ◌≡◌, ◌≤◌}
 use Rattle.mscp_packet.specs.declared.class.Opcode.TheVariants as codes
-use Rattle.mscp_packet.specs.declared.command.MoveKind.{MoveKind}
 use Rattle.mscp_packet.specs.declared.command.MoveKind.TheVariants as kinds
-use Rattle.mscp_queue.proofs.Placed.{found_is}
-use Rattle.mscp_packet.specs.Commands.{order_with}
-use Rattle.mscp_packet.specs.declared.class.Opcode.{Opcode}
-use Rattle.mscp_packet.specs.declared.command.Command.{Command}
-use Rattle.mscp_packet.specs.declared.command.Order.{Order}
 use Rattle.mscp_packet.specs.declared.command.Order.TheVariants as orders
-use Rattle.mscp_packet.specs.declared.end.End.{End}
-unfoldable use Rattle.mscp_packet.specs.Commands.{command_of}
-use Rattle.mscp_drive.specs.Settings.{Settings}
-use Rattle.mscp_drive.specs.Shape.{Shape}
-use Rattle.mscp_drive.specs.declared.connection.Connection.TheVariants.{First}
-use Rattle.mscp_queue.specs.declared.name.Name.{Name}
-use Rattle.mscp_queue.specs.Names.{name_on}
-use Rattle.mscp_queue.specs.Records.{Record, aborted_record, fresh_record, name_of}
-use Rattle.mscp_queue.proofs.Named.{is_same, same_is}
-use Rattle.mscp_controller.specs.Arrival.{holds, refusal}
-use Rattle.mscp_controller.specs.Outcomes.{own_end_with}
-use Rattle.mscp_controller.specs.Holdings.{Holdings, balance_of, numbers_ended, outstanding_of, record_aborted, unaborted}
-use Rattle.mscp_port.specs.declared.port.Port.{Port}
-use Rattle.mscp_port.specs.Calls.{Dies}
-use Rattle.mscp_port.specs.Formalities.{is_formality, stand_in}
-use Rattle.mscp_port.specs.Histories.{Call}
-use Rattle.mscp_port.specs.Messages.{handed, next_unit, asks_for_next}
-use Rattle.mscp_port.proofs.Come.{none_waits, taken_number}
-use Rattle.mscp_port.proofs.Common.{eq-eqb, eqb-true, false≢true, or_parts}
-use Rattle.mscp_port.proofs.Kept.{is_numbered}
-use Rattle.mscp_ported.specs.Awaited.{bytes_in, is_transfer, has_number, taken_by, without_ends}
-use Rattle.mscp_ported.specs.Ends.{ends_said_by}
-use Rattle.mscp_ported.specs.Talk.{is_dead, since}
 use Rattle.mscp_ported.proofs.Coming.{ends_of}
 use Rattle.mscp_ported.proofs.Numbered.{At, AtEach, IsNothing, asked_by, counted_in, ends_numbered, some_none}
 use Rattle.mscp_ported.proofs.Numbering.{aborts, comes_ended, comes_waiting}

@@ -1,41 +1,8 @@
 -- Each end that goes out is that of a message that is awaited.
 use Rattle.mscp_port.specs.declared.stage.Stage.TheVariants as stages
-use Rattle.mscp_port.specs.Seen.{heard, heeded}
-use Rattle.std.proofs.Common.{◌≡◌, ◌≢◌, ◌∙◌, ◌&&◌, ◌++◌, ◌∷◌, [], ℕ, Bool, true, false, cond, List, MatchOption, Option, None, Some, inl, inr, refl, ap, sym, subst, arith}
-use Rattle.std.specs.Prelude.{Result, Ok, Err, is_none, is_ok}
-use Rattle.std.proofs.lemmas.List.{append-nil}
-use Rattle.std.proofs.lemmas.Option.{none-some}
-use Rattle.mscp_packet.specs.declared.end.End.{End}
-unfoldable use Rattle.mscp_packet.specs.Commands.{command_of}
-use Rattle.mscp_drive.specs.declared.connection.Connection.TheVariants.{First}
-use Rattle.mscp_queue.specs.declared.name.Name.{Name}
-use Rattle.mscp_queue.specs.declared.report.Report.{Report}
+use Rattle.mscp_ported.proofs.Common.{Bool, Descriptor, End, Err, Finishes, First, Goes, Hears, Holdings, IsReadingText, List, MatchOption, Name, None, NotBegun, Ok, Option, Outcome, Port, Report, Result, SeesText, SendFault, Some, TakesBegun, TakesBlock, Task, Verdict, WasRead, Went, [], aborting, answer_to_message, answered_end, answered_to, ap, append-nil, arith, arrives, balance_of, block_begun, block_served, block_told, command_of, cond, drive_at, end_brought, end_given, every_append, false, fault_of, handed, heard, heeded, held_unless, inl, inr, is_dead, is_none, is_ok, is_queued, is_taken_text, name_on, none-some, none_or_some, outstanding_of, own_answer, own_end_of, queued, record_at, refl, refusal, sent_unless, served_name, since, subst, sym, taken_as, taken_by, true, volume_named, waiting_after, with_end, ℕ, ◌&&◌, ◌++◌, ◌∙◌, ◌∷◌, ◌≡◌, ◌≢◌}
 use Rattle.mscp_queue.specs.declared.report.Report.TheVariants as reports
-use Rattle.mscp_queue.specs.Names.{name_on}
-use Rattle.mscp_queue.specs.Records.{drive_at, record_at}
-use Rattle.mscp_queue.specs.Serving.{end_given, waiting_after}
-use Rattle.mscp_queue.proofs.Lists.{every_append}
-use Rattle.mscp_controller.specs.Arrival.{fault_of, is_queued, refusal}
-use Rattle.mscp_controller.specs.declared.entry.NotBegun.{NotBegun}
-use Rattle.mscp_controller.specs.declared.entry.SendFault.{SendFault}
-use Rattle.mscp_controller.specs.Holdings.{Finishes, Holdings, aborting, answer_to_message, answered_end, arrives, balance_of, held_unless, outstanding_of, queued, sent_unless, taken_as, with_end}
-use Rattle.mscp_port.specs.declared.action.Outcome.{Outcome}
-use Rattle.mscp_port.specs.declared.port.Port.{Port}
-use Rattle.mscp_port.specs.declared.slot.Descriptor.{Descriptor}
-use Rattle.mscp_port.specs.declared.task.Task.{Task}
 use Rattle.mscp_port.specs.declared.task.Task.TheVariants as tasks
-use Rattle.mscp_port.specs.declared.verdict.Verdict.{Verdict}
-use Rattle.mscp_port.specs.Blocks.{block_told}
-use Rattle.mscp_port.specs.Calls.{Goes, Hears}
-use Rattle.mscp_port.specs.Histories.{WasRead, Went}
-use Rattle.mscp_port.specs.Messages.{handed, own_end_of}
-use Rattle.mscp_port.specs.Moved.{TakesBegun, TakesBlock, block_begun, block_served, end_brought}
-use Rattle.mscp_port.specs.Ports.{IsReadingText}
-use Rattle.mscp_port.specs.Seen.{SeesText, answered_to}
-use Rattle.mscp_port.proofs.Said.{none_or_some, served_name}
-use Rattle.mscp_ported.specs.Answers.{own_answer, volume_named}
-use Rattle.mscp_ported.specs.Awaited.{is_taken_text, taken_by}
-use Rattle.mscp_ported.specs.Talk.{is_dead, since}
 use Rattle.mscp_ported.proofs.Answering.{handed_so, none_so, own_so}
 use Rattle.mscp_ported.proofs.Awaiting.{IsLikeIt, IsNoReset, IsSmall, Kept, answered_so, handed_like, lives_so, own_bytes, own_number, queued_so, same_so, stays_so}
 use Rattle.mscp_ported.proofs.Coming.{brought_for, ends_of, steps_bring}

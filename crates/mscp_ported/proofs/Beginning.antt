@@ -1,26 +1,8 @@
 -- What a port makes of its controller as something is wanted: a take, and a begin.
-use Rattle.std.proofs.Common.{◌≡◌, ◌≢◌, ◌⊎◌, ◌∙◌, ◌++◌, ◌∷◌, [], ℕ, Bool, List, Option, None, Some, inl, inr, refl, ap, sym, subst, arith}
-use Rattle.std.proofs.lemmas.Option.{none-some}
-use Rattle.mscp_drive.specs.declared.connection.Connection.TheVariants.{First}
+use Rattle.mscp_ported.proofs.Common.{Action, AnsweredCalls, Begin, Begins, BeginsBlock, Bool, Choice, First, Foretells, Holdings, IsNews, IsOfBlock, List, MayBegin, Next, None, Option, Outgoing, Picking, Plain, Port, Says, Some, TakesEnd, Task, Upcoming, Wants, [], after_take, ap, arith, begin_made, begun_step, end_taken, inl, inr, line_of, looks_or_not, news_place, none-some, refl, subst, sym, take_made, ℕ, ◌++◌, ◌∙◌, ◌∷◌, ◌≡◌, ◌≢◌, ◌⊎◌}
 use Rattle.mscp_drive.specs.declared.event.Event.TheVariants as events
-use Rattle.mscp_queue.specs.declared.upcoming.Upcoming.{Upcoming}
-use Rattle.mscp_queue.specs.declared.view.Choice.{Choice}
-use Rattle.mscp_queue.specs.Lines.{Begins}
 use Rattle.mscp_controller.specs.declared.entry.Entry.TheVariants as entries
-use Rattle.mscp_controller.specs.Calls.{AnsweredCalls, Begin, Plain}
-use Rattle.mscp_controller.specs.Holdings.{Foretells, Holdings, after_take, begun_step, end_taken, line_of}
-use Rattle.mscp_port.specs.declared.action.Action.{Action}
-use Rattle.mscp_port.specs.declared.port.Outgoing.{Outgoing}
-use Rattle.mscp_port.specs.declared.port.Port.{Port}
-use Rattle.mscp_port.specs.declared.task.Task.{Task}
 use Rattle.mscp_port.specs.declared.task.Task.TheVariants as tasks
-use Rattle.mscp_port.specs.Calls.{Wants}
-use Rattle.mscp_port.specs.Histories.{Picking, Next}
-use Rattle.mscp_port.specs.Moved.{BeginsBlock}
-use Rattle.mscp_port.specs.Outgoings.{IsNews, MayBegin, Says, TakesEnd, news_place}
-use Rattle.mscp_port.specs.Ports.{IsOfBlock}
-use Rattle.mscp_port.proofs.Loads.{looks_or_not}
-use Rattle.mscp_ported.specs.Making.{begin_made, take_made}
 use Rattle.mscp_ported.proofs.Wanting.{alive_or_dead}
 use Rattle.mscp_ported.proofs.Making.{Follows, made_more}
 

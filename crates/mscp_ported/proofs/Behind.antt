@@ -1,21 +1,8 @@
 -- An ABORT stands behind the command that it names.
-use Rattle.std.proofs.Common.{◌≡◌, ◌∙◌, ◌&&◌, ◌++◌, ◌∷◌, [], ℕ, Bool, true, false, cond, filter, length, nat_eq, nat_lt, not, List, Option, None, Some, refl, ap, sym, arith}
-use Rattle.std.specs.Prelude.{◌≤◌, ◌||◌, drop, nat_le, slice_index, take}
-use Rattle.byteorder.specs.Endian.{little_bytes}
-use Rattle.std.specs.List.{list_any}
-use Rattle.mscp_packet.specs.Commands.{order_with, parameters}
-unfoldable use Rattle.mscp_packet.specs.Commands.{command_of}
-use Rattle.mscp_packet.specs.Number.{num}
-use Rattle.mscp_packet.specs.Opcodes.{least, opcode_of, opcodes, row_of}
-use Rattle.mscp_packet.specs.declared.class.Opcode.{Opcode}
+use Rattle.mscp_ported.proofs.Common.{Bool, List, None, Opcode, Option, Shape, Some, [], and_parts, ap, arith, asks_for_next, command_of, cond, eq-eqb, eqb-true, false, false≢true, filter, found_is, handed, has_number, is_formality, least, length, list_any, little_bytes, nat_eq, nat_lt, next_unit, not, num, opcode_of, opcodes, order_with, parameters, refl, row_of, slice_index, stand_in, sym, true, ℕ, ◌&&◌, ◌++◌, ◌||◌, ◌∙◌, ◌∷◌, ◌≡◌}
+use Rattle.std.specs.Prelude.{◌≤◌, drop, nat_le, take}
 use Rattle.mscp_packet.specs.declared.class.Opcode.TheVariants as codes
 use Rattle.mscp_packet.specs.declared.command.Order.TheVariants as orders
-use Rattle.mscp_drive.specs.Shape.{Shape}
-use Rattle.mscp_queue.proofs.Placed.{found_is}
-use Rattle.mscp_port.specs.Formalities.{is_formality, stand_in}
-use Rattle.mscp_port.specs.Messages.{asks_for_next, handed, next_unit}
-use Rattle.mscp_port.proofs.Common.{and_parts, eq-eqb, eqb-true, false≢true}
-use Rattle.mscp_ported.specs.Awaited.{has_number}
 use Rattle.mscp_ported.proofs.Numbered.{other_number, some_none}
 
 -- ---- the messages

@@ -1,30 +1,6 @@
 -- What is kept of each command that waits for a host is what its message said, and there is room for it.
-use Rattle.std.proofs.Common.{◌≡◌, ◌∙◌, ◌+◌, ◌<◌, ◌≤◌, ◌++◌, ◌∷◌, [], ℕ, zero, suc, Bool, true, false, cond, filter, length, nat_eq, nat_lt, not, List, Option, None, Some, inl, inr, refl, ap, sym, subst, arith}
-use Rattle.std.specs.Prelude.{find, option_map, slice_index}
-use Rattle.std.proofs.lemmas.Option.{none-some}
-use Rattle.mscp_packet.specs.Number.{num}
-use Rattle.mscp_packet.specs.declared.command.Command.{Command}
-use Rattle.mscp_packet.specs.declared.command.Order.{Order}
+use Rattle.mscp_ported.proofs.Common.{Block, Bool, Buffer, Command, Connection, Drive, End, First, IsCodeFor, List, None, Option, Order, Record, Second, Some, [], advanced, ap, arith, buffer_in, cond, end_given, endcode, eq-eqb, eqb-true, false, false≢true, filter, find, has_number, inl, inr, is_formality, is_numbered, is_of, kept_after, length, name_on, nat_eq, nat_lt, none-some, not, num, option_map, record_at, reference_aborted, refl, refused_body, slice_index, subst, suc, sym, true, unaborted, waiting_after, waiting_on, without, without_aborted, without_kept, zero, ℕ, ◌++◌, ◌+◌, ◌<◌, ◌∙◌, ◌∷◌, ◌≡◌, ◌≤◌}
 use Rattle.mscp_packet.specs.declared.command.Order.TheVariants as orders
-use Rattle.mscp_packet.specs.declared.end.End.{End}
-use Rattle.mscp_packet.specs.Ends.{refused_body}
-use Rattle.mscp_drive.specs.declared.block.Block.{Block}
-use Rattle.mscp_drive.specs.declared.connection.Connection.{Connection}
-use Rattle.mscp_drive.specs.declared.connection.Connection.TheVariants.{First, Second}
-use Rattle.mscp_queue.specs.declared.drive.Drive.{Drive}
-use Rattle.mscp_queue.specs.Names.{name_on}
-use Rattle.mscp_queue.specs.Orders.{endcode}
-use Rattle.mscp_queue.specs.Records.{Record, advanced, record_at, without}
-use Rattle.mscp_queue.specs.Serving.{end_given, waiting_after}
-use Rattle.mscp_controller.specs.Holdings.{reference_aborted, unaborted, waiting_on}
-use Rattle.mscp_port.specs.declared.buffers.Buffer.{Buffer}
-use Rattle.mscp_port.specs.Buffers.{buffer_in, is_of, without as without_kept, without_aborted}
-use Rattle.mscp_port.specs.Formalities.{is_formality}
-use Rattle.mscp_port.specs.Moved.{kept_after}
-use Rattle.mscp_port.proofs.Common.{eq-eqb, eqb-true, false≢true}
-use Rattle.mscp_port.proofs.Kept.{is_numbered}
-use Rattle.mscp_ported.specs.Awaited.{has_number}
-use Rattle.mscp_ported.specs.Fitting.{IsCodeFor}
 use Rattle.mscp_ported.proofs.Units.{IsUnitIn}
 use Rattle.mscp_ported.proofs.Codes.{about_in}
 use Rattle.mscp_ported.proofs.Keeping.{end_number}

@@ -1,20 +1,7 @@
 -- Each end that goes out fits its message, over a whole list of calls.
 use Rattle.mscp_ported.proofs.Holding.{small_figure}
 use Rattle.mscp_ported.proofs.Untouched.{passive_buffers}
-use Rattle.mscp_controller.specs.Calls.{AnsweredCalls, Call as Made}
-use Rattle.mscp_controller.specs.Controllers.{ControllersKeepThePromise, KeepsPromise}
-use Rattle.mscp_controller.specs.Holdings.{Holdings, fresh, numbers, numbers_ended, outstanding_of, waiting_on}
-use Rattle.mscp_drive.specs.Both.{of}
-use Rattle.mscp_drive.specs.Settings.{IsValid, Settings}
-use Rattle.mscp_drive.specs.declared.connection.Connection.TheVariants.{First}
-use Rattle.mscp_packet.specs.Number.{num}
-use Rattle.mscp_port.specs.Buffers.{is_of}
-use Rattle.mscp_port.specs.Calls.{IsMadeOf}
-use Rattle.mscp_port.specs.Histories.{Answered, Call, Next, Picking, WasRead, Went, WriteIp}
-use Rattle.mscp_port.specs.declared.hardware.Hardware.{Hardware}
-use Rattle.mscp_port.specs.declared.action.Outcome.{Outcome}
-use Rattle.mscp_port.specs.declared.port.Port.{Port}
-use Rattle.mscp_port.specs.declared.verdict.Verdict.{Verdict}
+use Rattle.mscp_ported.proofs.Common.{All, AllByRecursion, Answered, AnsweredCalls, Call, ControllersKeepThePromise, First, Hardware, Holdings, IsMadeOf, IsValid, KeepsPromise, List, Made, Name, Next, Ok, Outcome, Picking, Port, ReadsBytes, Record, Settings, Some, Verdict, WasRead, Went, WriteIp, [], ap, arith, awaited, ends_said_by, filter, find, fresh, has_name, has_number, is_of, length, num, numbers, numbers_ended, of, outstanding_of, refl, subst, sym, waiting_on, ℕ, ◌<◌, ◌∙◌, ◌∷◌, ◌≡◌}
 use Rattle.mscp_ported.proofs.Awaiting.{IsNoReset, Kept}
 use Rattle.mscp_ported.proofs.Coming.{ends_of, few_ends}
 use Rattle.mscp_ported.proofs.Dealing.{passive_taken}
@@ -30,13 +17,6 @@ use Rattle.mscp_ported.proofs.Opcodes.{IsSaid, next_fits, said_is, went_fits}
 use Rattle.mscp_ported.proofs.Promised.{knows}
 use Rattle.mscp_ported.proofs.Staying.{IsPassive, passive_stays}
 use Rattle.mscp_ported.proofs.Transferring.{IsHow}
-use Rattle.mscp_ported.specs.Awaited.{ReadsBytes, awaited, has_number}
-use Rattle.mscp_ported.specs.Ends.{ends_said_by}
-use Rattle.std.proofs.Common.{ℕ, All, List, Some, [], ap, arith, filter, length, refl, subst, sym, ◌<◌, ◌∙◌, ◌∷◌, ◌≡◌}
-use Rattle.mscp_queue.specs.Records.{Record, has_name}
-use Rattle.mscp_queue.specs.declared.name.Name.{Name}
-use Rattle.std.specs.List.{AllByRecursion}
-use Rattle.std.specs.Prelude.{Ok, find}
 
 reads_before : (call : Call) (calls : List Call) → ReadsBytes (call ∷ calls) → ReadsBytes calls
 reads_before (WasRead bytes result) calls reads = reads.1

@@ -1,35 +1,6 @@
 -- How often the volume of a unit changed, and what is kept of a command of which it is known how often since.
-use Rattle.std.proofs.Common.{◌≡◌, ◌≢◌, ◌⊎◌, ◌∙◌, ◌+◌, ◌<◌, ◌≤◌, ◌%◌, ◌∷◌, [], ℕ, Bool, true, false, cond, length, set, nat_eq, List, Option, None, Some, inl, inr, refl, ap, sym, subst, arith}
-use Rattle.std.specs.Prelude.{◌==◌, Ok, Err}
-use Rattle.std.proofs.Math.Nat.{mod-add-mod}
-use Rattle.std.proofs.lemmas.Option.{none-some, same_Some}
-use Rattle.mscp_drive.specs.Shape.{Shape, one_block}
-use Rattle.mscp_controller.specs.Holdings.{Holdings}
-use Rattle.mscp_packet.specs.declared.end.End.{End}
-use Rattle.mscp_drive.specs.declared.connection.Connection.{Connection}
-use Rattle.mscp_queue.specs.declared.view.Choice.{Choice}
-use Rattle.mscp_port.specs.declared.buffers.Buffer.{Buffer}
-use Rattle.mscp_port.specs.declared.hardware.Hardware.{Hardware}
-use Rattle.mscp_port.specs.declared.port.Outgoing.{Outgoing}
-use Rattle.mscp_port.specs.declared.port.Port.{Port}
+use Rattle.mscp_ported.proofs.Common.{Answered, Becomes, Bool, Buffer, Call, Choice, Connection, End, Err, GoesOnWithBlock, Hardware, Holdings, IsForgotten, IsMadeOf, IsNews, IsOfItsVolume, IsSaidBy, Keeps, List, LookAgain, More, Next, None, Ok, Option, Outgoing, Picking, Port, Protect, PutAside, ReadIp, Says, Shape, Some, Tick, Volume, VolumeCame, VolumeWent, WasRead, Went, WriteIp, WriteSa, [], ap, arith, cases_eq, cases_lt, changed, changed_by, changes_at, cond, end_brought, eq-eqb, eqb-true, false, false≢true, get_or-set_other, get_or-set_same, get_or_past, inl, inr, keeps_after, keeps_none, length, length-set, looks_or_not, mod-add-mod, nat_eq, news_place, no_volume, none-some, one_block, place_in, position-Some, refl, same_Some, set, settings_stay, subst, sym, taken_or_not, true, volume_at, volume_changed, volume_heeded, volume_protected, volume_put, volumes_after, volumes_heeded, volumes_with, weaker_for, ℕ, ◌%◌, ◌+◌, ◌<◌, ◌==◌, ◌∙◌, ◌∷◌, ◌≡◌, ◌≢◌, ◌≤◌, ◌⊎◌}
 use Rattle.mscp_port.specs.declared.stage.Stage.TheVariants as stages
-use Rattle.mscp_port.specs.declared.volumes.Volume.{Volume}
-use Rattle.mscp_port.specs.Calls.{IsMadeOf}
-use Rattle.mscp_port.specs.Departures.{IsForgotten}
-use Rattle.mscp_port.specs.Histories.{Answered, Becomes, Call, Picking, WriteIp, ReadIp, WriteSa, Next, PutAside, WasRead, Went, LookAgain, Tick, VolumeCame, VolumeWent, Protect}
-use Rattle.mscp_port.specs.Kept.{IsSaidBy}
-use Rattle.mscp_port.specs.Moved.{GoesOnWithBlock, end_brought, volumes_after}
-use Rattle.mscp_port.specs.Outgoings.{IsNews, Says, news_place}
-use Rattle.mscp_port.specs.Seen.{changes_at}
-use Rattle.mscp_port.specs.Volumes.{no_volume, place_in, volume_at, volume_changed, volume_heeded, volume_protected, volume_put, volumes_heeded, volumes_with}
-use Rattle.mscp_port.proofs.Begun.{taken_or_not}
-use Rattle.mscp_port.proofs.Common.{cases_eq, cases_lt, eq-eqb, eqb-true, false≢true, get_or-set_other, get_or-set_same, get_or_past, length-set, position-Some}
-use Rattle.mscp_port.proofs.Kept.{weaker_for}
-use Rattle.mscp_port.proofs.Credits.{settings_stay}
-use Rattle.mscp_port.proofs.Loads.{looks_or_not}
-use Rattle.mscp_port.proofs.Said.{Keeps, More, keeps_none}
-use Rattle.mscp_port.proofs.Telling.{keeps_after}
-use Rattle.mscp_ported.specs.Mounts.{IsOfItsVolume, changed, changed_by}
 
 -- ---- units
 

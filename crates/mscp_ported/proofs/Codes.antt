@@ -1,33 +1,9 @@
 -- The endcode of a command is that of its message's opcode, and a poll is about the command that its message names.
-use Rattle.std.proofs.Common.{◌≡◌, ◌⊎◌, ◌∙◌, ◌+◌, ◌<◌, ◌≤◌, ◌++◌, ◌∷◌, [], ℕ, Bool, true, false, cond, drop, length, nat_eq, nat_lt, take, List, Option, None, Some, inl, inr, refl, ap, sym, subst, arith}
-use Rattle.std.specs.Prelude.{bit_or, slice_index}
-use Rattle.byteorder.specs.Endian.{little_bytes}
-use Rattle.mscp_packet.specs.Number.{num}
-use Rattle.mscp_packet.specs.Opcodes.{least, opcode_of, opcodes, row_of}
-use Rattle.mscp_packet.specs.declared.class.Opcode.{Opcode}
+use Rattle.mscp_ported.proofs.Common.{Bool, Command, End, EndBody, IsCodeFor, List, MoveKind, None, Opcode, Option, Order, Settings, Shape, Some, [], ap, arith, asks_for_next, bit_or, command_of, cond, drop, endcode, eqb-true, false, fault_of, found_is, handed, inl, inr, is_formality, is_queued, least, length, little_bytes, move_fault, nat_eq, nat_lt, next_unit, num, opcode_of, opcodes, order_with, own_end_with, parameters, refl, refused_body, row_of, slice_index, stand_in, subst, sym, take, true, unit_fault, unit_found, version_fault, ℕ, ◌++◌, ◌+◌, ◌<◌, ◌∙◌, ◌∷◌, ◌≡◌, ◌≤◌, ◌⊎◌}
 use Rattle.mscp_packet.specs.declared.class.Opcode.TheVariants as codes
-use Rattle.mscp_packet.specs.declared.command.Command.{Command}
-use Rattle.mscp_packet.specs.declared.command.MoveKind.{MoveKind}
 use Rattle.mscp_packet.specs.declared.command.MoveKind.TheVariants as kinds
-use Rattle.mscp_packet.specs.declared.command.Order.{Order}
 use Rattle.mscp_packet.specs.declared.command.Order.TheVariants as orders
-use Rattle.mscp_packet.specs.declared.end.End.{End}
-use Rattle.mscp_packet.specs.declared.end.EndBody.{EndBody}
 use Rattle.mscp_packet.specs.declared.end.EndBody.TheVariants as bodies
-use Rattle.mscp_packet.specs.Commands.{order_with, parameters}
-use Rattle.mscp_packet.specs.Ends.{refused_body}
-unfoldable use Rattle.mscp_packet.specs.Commands.{command_of}
-use Rattle.mscp_drive.specs.Settings.{Settings}
-use Rattle.mscp_drive.specs.Shape.{Shape}
-use Rattle.mscp_drive.specs.UnitList.{unit_found}
-use Rattle.mscp_queue.specs.Orders.{endcode}
-use Rattle.mscp_queue.proofs.Placed.{found_is}
-use Rattle.mscp_controller.specs.Arrival.{fault_of, is_queued, move_fault, unit_fault, version_fault}
-use Rattle.mscp_controller.specs.Outcomes.{own_end_with}
-use Rattle.mscp_port.specs.Formalities.{is_formality, stand_in}
-use Rattle.mscp_port.specs.Messages.{asks_for_next, handed, next_unit}
-use Rattle.mscp_port.proofs.Common.{eqb-true}
-use Rattle.mscp_ported.specs.Fitting.{IsCodeFor}
 
 -- ---- codes
 

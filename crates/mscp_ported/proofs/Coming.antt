@@ -1,36 +1,7 @@
 -- The ends that come for a host by a message or by a step.
-use Rattle.std.proofs.Common.{◌≡◌, ◌∙◌, ◌+◌, ◌≤◌, ◌++◌, ◌∷◌, [], ℕ, Bool, true, false, cond, drop, length, List, Option, None, Some, refl, ap, sym, subst, arith, append_assoc}
-use Rattle.mscp_queue.specs.Records.{aborted_record, record_at}
-use Rattle.std.specs.Prelude.{if◌then◌else◌, Result, Ok, Err, option_map, option_to_list}
-use Rattle.std.proofs.lemmas.List.{append-nil}
-use Rattle.std.proofs.Math.Seq.{drop-append_seam, take-length}
-use Rattle.mscp_packet.specs.Commands.{command_of}
-use Rattle.mscp_packet.specs.declared.command.Command.{Command}
-use Rattle.mscp_packet.specs.declared.end.End.{End}
-use Rattle.mscp_drive.specs.Both.{of}
-use Rattle.mscp_drive.specs.Settings.{IsValid, Settings, credits_of}
-use Rattle.mscp_drive.specs.declared.block.Block.{Block}
-use Rattle.mscp_drive.specs.declared.connection.Connection.{Connection}
-use Rattle.mscp_drive.specs.declared.connection.Connection.TheVariants.{First, Second}
-use Rattle.mscp_queue.specs.declared.report.Report.{Report}
+use Rattle.mscp_ported.proofs.Common.{Block, Bool, Choice, Command, Connection, End, Err, Finishes, First, Holdings, IsValid, KeepsPromise, List, Made, Name, None, NotBegun, Ok, Option, Port, Report, Result, Second, SendFault, Sent, Settings, Some, [], aborted_record, aborting, after_message, answer_to_message, answered_end, ap, append-nil, append_assoc, arith, balance_of, come, command_of, cond, credits_of, drop, drop-append_seam, end_brought, false, held_unless, history, if◌then◌else◌, is_queued, length, name_on, of, option_map, option_to_list, outstanding_of, queued, record_aborted, record_at, reference_aborted, refl, refusal, same_connection, sent_unless, served_name, subst, sym, take-length, true, untaken, waiting_by, with_end, ℕ, ◌++◌, ◌+◌, ◌∙◌, ◌∷◌, ◌≡◌, ◌≤◌}
 use Rattle.mscp_queue.specs.declared.report.Report.TheVariants as reports
-use Rattle.mscp_queue.specs.declared.view.Choice.{Choice}
-use Rattle.mscp_queue.specs.declared.name.Name.{Name}
-use Rattle.mscp_queue.specs.Names.{name_on, same_connection}
-use Rattle.mscp_controller.specs.Arrival.{is_queued, refusal}
-use Rattle.mscp_controller.specs.Account.{untaken}
-use Rattle.mscp_controller.specs.Commands.{waiting_by}
-use Rattle.mscp_controller.specs.Calls.{Call as Made, history}
-use Rattle.mscp_controller.specs.Controllers.{KeepsPromise}
-use Rattle.mscp_controller.specs.Holdings.{Finishes, Holdings, after_message, answer_to_message, aborting, answered_end, balance_of, held_unless, outstanding_of, queued, record_aborted, reference_aborted, sent_unless, with_end}
-use Rattle.mscp_controller.specs.declared.entry.NotBegun.{NotBegun}
-use Rattle.mscp_controller.specs.declared.entry.SendFault.{SendFault}
-use Rattle.mscp_controller.specs.declared.entry.Sent.{Sent}
 use Rattle.mscp_controller.specs.declared.entry.Sent.TheVariants as sents
-use Rattle.mscp_port.specs.declared.port.Port.{Port}
-use Rattle.mscp_port.specs.Moved.{end_brought}
-use Rattle.mscp_port.proofs.Said.{served_name}
-use Rattle.mscp_ported.specs.Ends.{come}
 
 -- the ends of the host's connection
 abbrev pub ends_of : {K : Type 0} → Holdings K → List End

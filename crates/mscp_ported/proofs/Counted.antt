@@ -1,15 +1,6 @@
 -- An end counts no more bytes than its command asks for.
-use Rattle.std.proofs.Common.{◌≡◌, ◌≤◌, ℕ, Bool, true, false, cond, None, Some, subst, arith}
-use Rattle.std.proofs.lemmas.Option.{none-some, same_Some}
-use Rattle.mscp_packet.specs.declared.command.Order.{Order}
+use Rattle.mscp_ported.proofs.Common.{Block, Bool, Drive, End, None, Order, Record, Shape, Some, arith, cond, end_given, false, goes_on, left_of, moved_body, none-some, outcome_at, outcome_body, same_Some, subst, true, ℕ, ◌≡◌, ◌≤◌}
 use Rattle.mscp_packet.specs.declared.command.Order.TheVariants as orders
-use Rattle.mscp_packet.specs.declared.end.End.{End}
-use Rattle.mscp_drive.specs.Shape.{Shape}
-use Rattle.mscp_drive.specs.declared.block.Block.{Block}
-use Rattle.mscp_queue.specs.declared.drive.Drive.{Drive}
-use Rattle.mscp_queue.specs.Outcomes.{goes_on, moved_body, outcome_at, outcome_body}
-use Rattle.mscp_queue.specs.Records.{Record, left_of}
-use Rattle.mscp_queue.specs.Serving.{end_given}
 use Rattle.mscp_ported.proofs.Numbered.{asked_by, counted_in}
 
 pub moved_few : (order : Order) (good n : ℕ) → asked_by order ≤ n → counted_in (moved_body order good) ≤ n

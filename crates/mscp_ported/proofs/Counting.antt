@@ -1,14 +1,5 @@
 -- Slots that were given back, one behind the other, and what was told in them.
-use Rattle.std.proofs.Common.{◌≡◌, ◌∙◌, ◌+◌, ◌-◌, ◌*◌, ◌/◌, ◌%◌, ◌^◌, ◌++◌, ◌∷◌, [], ℕ, Bool, true, false, cond, length, nat_lt, List, Option, None, Some, IfSome, refl, ap, sym, arith}
-use Rattle.std.proofs.Math.Pow.{mod-mod-pow}
-use Rattle.std.proofs.Common.{mod-lt, pow_pos}
-use Rattle.mscp_port.specs.declared.rings.Side.{Side}
-use Rattle.mscp_port.specs.declared.rings.Side.TheVariants.{Responses, Commands}
-use Rattle.mscp_port.specs.Areas.{Rings, area_named, base_named, rings_named, slot_in, slots_of, word_of}
-use Rattle.mscp_ported.specs.Rings.{slot_place, slots_in, word_place}
-use Rattle.mscp_port.specs.Slots.{is_owned}
-use Rattle.mscp_ported.specs.Talk.{Slot, Packet, address_in}
-use Rattle.mscp_ported.specs.Told.{Said, StandInOrder, TellAll, Tells, left_after}
+use Rattle.mscp_ported.proofs.Common.{Bool, Commands, IfSome, List, None, Option, Packet, Responses, Rings, Said, Side, Slot, Some, StandInOrder, TellAll, Tells, [], address_in, ap, area_named, arith, base_named, cond, false, is_owned, left_after, length, mod-lt, mod-mod-pow, nat_lt, pow_pos, refl, rings_named, slot_in, slot_place, slots_in, slots_of, sym, true, word_of, word_place, ℕ, ◌%◌, ◌*◌, ◌++◌, ◌+◌, ◌-◌, ◌/◌, ◌^◌, ◌∙◌, ◌∷◌, ◌≡◌}
 use Rattle.mscp_ported.proofs.Look.{IsWide, left_all}
 
 -- ---- counts

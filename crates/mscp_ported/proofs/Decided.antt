@@ -1,38 +1,7 @@
 -- Each end goes out with what was decided of it as it came.
-use Rattle.std.proofs.Common.{◌≡◌, ◌∙◌, ◌≤◌, ◌++◌, ◌∷◌, [], ℕ, Bool, true, false, cond, length, map, List, Option, None, Some, MatchOption, inl, inr, refl, ap, sym, subst, arith}
-use Rattle.std.specs.Prelude.{Ok, Err}
-use Rattle.std.proofs.lemmas.List.{append-nil}
-use Rattle.std.proofs.lemmas.Option.{none-some}
-use Rattle.mscp_packet.specs.Number.{num}
-use Rattle.mscp_packet.specs.declared.end.End.{End}
-use Rattle.mscp_drive.specs.Both.{of}
-use Rattle.mscp_drive.specs.Settings.{IsValid, Settings}
-use Rattle.mscp_drive.specs.Shape.{Shape}
-use Rattle.mscp_drive.specs.declared.connection.Connection.TheVariants.{First}
-use Rattle.mscp_controller.specs.Calls.{AnsweredCalls, Call as Made}
-use Rattle.mscp_controller.specs.Controllers.{ControllersKeepThePromise, KeepsPromise}
-use Rattle.mscp_controller.specs.Holdings.{Holdings, fresh}
-use Rattle.mscp_port.specs.declared.hardware.Hardware.{Hardware}
-use Rattle.mscp_queue.specs.declared.name.Name.{Name}
-use Rattle.mscp_port.specs.declared.action.Outcome.{Outcome}
-use Rattle.mscp_port.specs.declared.port.Outgoing.{Outgoing}
-use Rattle.mscp_port.specs.declared.port.Port.{Port}
-use Rattle.mscp_port.specs.declared.rings.Side.{Side}
-use Rattle.mscp_port.specs.declared.rings.Side.TheVariants.{Responses, Commands}
-use Rattle.mscp_port.specs.declared.stage.Stage.{Stage}
+use Rattle.mscp_ported.proofs.Common.{Answered, AnsweredCalls, Bool, Call, Commands, ControllersKeepThePromise, Dies, End, Err, First, Hardware, Hears, Holdings, IsAlive, IsAsNew, IsMadeOf, IsReadingText, IsValid, KeepsPromise, Leaving, List, Made, MatchOption, Name, Next, None, Ok, Option, Outcome, Outgoing, Picking, Port, Responses, Settings, Shape, Side, Some, Stage, TakesBegun, TakesBlock, Task, Verdict, WasRead, Went, WriteIp, [], answer_left, ap, append-nil, arith, block_begun, block_served, came, came_by, come, cond, end_text, ends_begun, ends_said, ends_said_by, false, fresh, header_fault, inl, inr, is_dead, is_owned, length, map, none-some, num, of, read_size, refl, since, step_left, step_told, subst, sym, true, verdict_in, ℕ, ◌++◌, ◌∙◌, ◌∷◌, ◌≡◌, ◌≤◌}
 use Rattle.mscp_port.specs.declared.stage.Stage.TheVariants as stages
-use Rattle.mscp_port.specs.declared.task.Task.{Task}
 use Rattle.mscp_port.specs.declared.task.Task.TheVariants as tasks
-use Rattle.mscp_port.specs.declared.verdict.Verdict.{Verdict}
-use Rattle.mscp_port.specs.Calls.{Dies, Hears, IsMadeOf}
-use Rattle.mscp_port.specs.Histories.{Answered, Call, Picking, WriteIp, Next, WasRead, Went}
-use Rattle.mscp_port.specs.Moved.{TakesBegun, TakesBlock, block_begun, block_served}
-use Rattle.mscp_port.specs.Ports.{IsAlive, IsAsNew, IsReadingText, read_size}
-use Rattle.mscp_port.specs.Seen.{header_fault}
-use Rattle.mscp_port.specs.Slots.{is_owned}
-use Rattle.mscp_ported.specs.Ends.{Leaving, answer_left, came, came_by, come, end_text, ends_begun, ends_said, ends_said_by, step_left, verdict_in}
-use Rattle.mscp_ported.specs.Making.{step_told}
-use Rattle.mscp_ported.specs.Talk.{is_dead, since}
 use Rattle.mscp_ported.proofs.Coming.{ends_of, few_ends}
 use Rattle.mscp_ported.proofs.Ending.{Ends, Grows, grows, left_with, none_come, none_left, stays, zip_ends, zipped}
 use Rattle.mscp_ported.proofs.Leaving.{goes_out, step_grows, text_grows}

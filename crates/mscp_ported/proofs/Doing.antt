@@ -1,37 +1,9 @@
 -- By each action that is done fewer are left before what goes out is gone.
-use Rattle.std.proofs.Common.{◌≡◌, ◌≢◌, ◌⊎◌, ◌∙◌, ◌∷◌, ◌+◌, ◌≤◌, [], ℕ, Bool, true, false, cond, not, length, List, Option, None, Some, MatchOption, inl, inr, refl, ap, sym, subst, arith}
-use Rattle.std.specs.Prelude.{◌==◌, Result, Ok, Err}
-use Rattle.std.proofs.lemmas.Option.{none-some}
-use Rattle.mscp_packet.specs.Number.{num}
-use Rattle.mscp_controller.specs.declared.entry.SendFault.{SendFault}
-use Rattle.mscp_controller.specs.declared.entry.Sent.{Sent}
+use Rattle.mscp_ported.proofs.Common.{Becomes, Bool, Call, Choice, Commands, Descriptor, Err, GivesBack, Goes, GoesOnWithBlock, Hears, IsAlive, IsAsNew, IsForgotten, IsGiven, IsOutcomeOf, List, LookAgain, MatchOption, Next, None, Ok, Option, Outcome, Outgoing, Picking, Port, Protect, PutAside, ReadIp, Responses, Result, Rings, SeesHeader, SeesText, SendFault, Sends, Sent, Side, Some, Stage, Task, Tick, VolumeCame, VolumeWent, WasRead, Went, WriteIp, WriteSa, WritesOut, [], acts, answered_to, ap, arith, aside, bytes_read, cond, connection_in, counted, false, false≢true, header_fault, heard, hears_of, inl, inr, is_flagged, is_owned, length, length_in, looks_or_not, none-some, none_or_not, not, num, own_end_of, read_again, read_size, refl, slots_of, stays, step_at, subst, sym, taken_or_not, true, vector_in, ℕ, ◌+◌, ◌==◌, ◌∙◌, ◌∷◌, ◌≡◌, ◌≢◌, ◌≤◌, ◌⊎◌}
 use Rattle.mscp_controller.specs.declared.entry.Sent.TheVariants as sents
-use Rattle.mscp_queue.specs.declared.view.Choice.{Choice}
-use Rattle.mscp_port.specs.declared.action.Outcome.{Outcome}
 use Rattle.mscp_port.specs.declared.action.Outcome.TheVariants as outcomes
-use Rattle.mscp_port.specs.declared.port.Outgoing.{Outgoing}
-use Rattle.mscp_port.specs.declared.port.Port.{Port}
-use Rattle.mscp_port.specs.declared.rings.Side.{Side}
-use Rattle.mscp_port.specs.declared.rings.Side.TheVariants.{Responses, Commands}
-use Rattle.mscp_port.specs.declared.slot.Descriptor.{Descriptor}
-use Rattle.mscp_port.specs.declared.stage.Stage.{Stage}
 use Rattle.mscp_port.specs.declared.stage.Stage.TheVariants as stages
-use Rattle.mscp_port.specs.declared.task.Task.{Task}
 use Rattle.mscp_port.specs.declared.task.Task.TheVariants as tasks
-use Rattle.mscp_port.specs.Acted.{GivesBack, WritesOut, counted, hears_of, vector_in}
-use Rattle.mscp_port.specs.Areas.{Rings, slots_of}
-use Rattle.mscp_port.specs.Departures.{IsForgotten}
-use Rattle.mscp_port.specs.Calls.{Goes, Hears, read_again, step_at}
-use Rattle.mscp_port.specs.Histories.{Becomes, Call, Picking, WriteIp, ReadIp, WriteSa, Next, PutAside, WasRead, Went, LookAgain, Tick, VolumeCame, VolumeWent, Protect}
-use Rattle.mscp_port.specs.Messages.{own_end_of}
-use Rattle.mscp_port.specs.Moved.{GoesOnWithBlock}
-use Rattle.mscp_port.specs.Ports.{IsAlive, IsAsNew, IsOutcomeOf, aside, read_size}
-use Rattle.mscp_port.specs.Seen.{SeesHeader, SeesText, Sends, answered_to, bytes_read, connection_in, header_fault, heard, length_in, stays}
-use Rattle.mscp_port.specs.Slots.{is_flagged, is_owned}
-use Rattle.mscp_port.proofs.Begun.{taken_or_not}
-use Rattle.mscp_port.proofs.Common.{false≢true}
-use Rattle.mscp_port.proofs.Loads.{looks_or_not, none_or_not}
-use Rattle.mscp_ported.specs.Soon.{IsGiven, acts}
 use Rattle.mscp_ported.proofs.Look.{IsClear}
 use Rattle.mscp_ported.proofs.Room.{room}
 

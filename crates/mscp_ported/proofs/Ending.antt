@@ -1,15 +1,5 @@
 -- The ends that came go out with what was decided of them, call by call.
-use Rattle.std.proofs.Common.{◌≡◌, ◌∙◌, ◌++◌, ◌∷◌, [], ℕ, Bool, true, false, cond, drop, length, map, List, refl, ap, sym, subst, arith, append_assoc}
-use Rattle.std.proofs.lemmas.List.{append-nil, length-append, length-map}
-use Rattle.std.proofs.Math.Seq.{drop-append_seam}
-use Rattle.mscp_packet.specs.declared.end.End.{End}
-use Rattle.mscp_drive.specs.Shape.{Shape}
-use Rattle.mscp_port.specs.declared.decided.Decided.{Decided}
-use Rattle.mscp_port.specs.declared.hardware.Hardware.{Hardware}
-use Rattle.mscp_port.specs.declared.port.Port.{Port}
-use Rattle.mscp_port.specs.Histories.{Call}
-use Rattle.mscp_ported.specs.Ends.{Leaving, came_by, come, end_text, ends_said_by}
-use Rattle.mscp_ported.specs.Talk.{is_dead, since}
+use Rattle.mscp_ported.proofs.Common.{Bool, Call, Decided, End, Hardware, Leaving, List, Port, Shape, [], ap, append-nil, append_assoc, arith, came_by, come, cond, drop, drop-append_seam, end_text, ends_said_by, false, is_dead, length, length-append, length-map, map, refl, since, subst, sym, true, ℕ, ◌++◌, ◌∙◌, ◌∷◌, ◌≡◌}
 use Rattle.mscp_ported.proofs.Coming.{ends_of}
 use Rattle.mscp_ported.proofs.Tables.{fields_of}
 

@@ -1,71 +1,11 @@
 -- By each call of a port the figure of a command that waits falls or stays.
-use Rattle.std.proofs.Common.{◌≡◌, ◌⊎◌, ◌∙◌, ◌+◌, ◌<◌, ◌≤◌, ◌++◌, ◌∷◌, [], ℕ, Bool, true, false, cond, filter, length, not, take, List, Option, None, Some, inl, inr, refl, ap, sym, subst, arith}
-use Rattle.std.specs.Prelude.{Contains, Ok, Err, find}
-use Rattle.std.specs.List.{AllByRecursion}
-use Rattle.std.proofs.lemmas.List.{append-nil}
-use Rattle.std.proofs.lemmas.Option.{none-some, same_Some}
-use Rattle.mscp_drive.specs.Settings.{IsValid, Settings}
-use Rattle.mscp_queue.specs.declared.name.Name.{Name}
-use Rattle.mscp_queue.specs.Names.{same_name}
-use Rattle.mscp_queue.proofs.Lists.{every_append, every_kept, every_weaker}
-use Rattle.mscp_queue.proofs.Named.{is_same, same_is}
-use Rattle.mscp_controller.specs.Commands.{ends_in, is_waiting, name}
-unfoldable use Rattle.mscp_controller.specs.Commands.{waiting}
-use Rattle.mscp_controller.specs.Figures.{figure}
-unfoldable use Rattle.mscp_controller.specs.Figures.{figure_of}
-use Rattle.mscp_controller.specs.Headline.{Promise}
-use Rattle.mscp_controller.specs.History.{Moment, Trace, is_step, queues}
-use Rattle.mscp_controller.specs.Legal.{IsLegal, IsRight}
-use Rattle.mscp_controller.proofs.Promise.Apart.{name_last, new_name, queued_name}
-use Rattle.mscp_controller.proofs.Promise.Falling.{Falling}
-use Rattle.mscp_controller.proofs.Promise.Grows.{name_before, waiting_more}
-use Rattle.mscp_controller.proofs.Promise.Progress.{waits_in}
-use Rattle.mscp_controller.proofs.Promise.Waits.{waiting_waits, waits_below}
-use Rattle.std.specs.Prelude.{Result}
-use Rattle.std.proofs.lemmas.List.{length-append, take_all, take_at}
-use Rattle.std.proofs.lemmas.Grind.{flat_map-append}
-use Rattle.mscp_packet.specs.declared.end.End.{End}
-use Rattle.mscp_drive.specs.Shape.{Shape}
-use Rattle.mscp_drive.specs.declared.block.Block.{Block}
-use Rattle.mscp_drive.specs.declared.connection.Connection.TheVariants.{First}
+use Rattle.mscp_ported.proofs.Common.{AllByRecursion, Answered, AnsweredCalls, AsksAlways, AtEach, Becomes, Block, Bool, Buffer, Call, Choice, ControllersKeepThePromise, Drive, EachWaiting, End, Err, Falling, Finish, First, Hardware, Holdings, IsFinish, IsForgotten, IsLegal, IsMadeOf, IsOfBlock, IsRight, IsStepping, IsValid, KeepsPromise, List, Lowers, Made, Makes, Moment, Name, Next, None, NotBegun, Ok, Option, Outcome, Outgoing, OutgoingKind, Picking, Plain, Port, Promise, Record, Report, Result, Settings, Shape, Some, Task, TellsStep, Trace, Volume, WasRead, Went, [], answered_to, ap, append-nil, arith, begin_made, begun_task, block_begun, cond, ends_in, every_append, every_kept, every_weaker, false, false≢true, figure, figure_of, figure_of_name, figure_on, filter, find, flat_map-append, fresh, handed, history, inl, inr, is_begun, is_same, is_step, is_waiting, length, length-append, moment, moment_last, moments_of, name, name_before, name_last, name_on, new_name, none-some, not, own_end_of, queued_name, queues, refl, same_Some, same_is, same_name, send_made, step_told, subst, sym, take, take_all, take_at, take_made, told_of, transfer_told, true, unless_own, upcoming_begun, waiting, waiting_more, waiting_waits, waits_below, waits_in, ℕ, ◌++◌, ◌+◌, ◌<◌, ◌∙◌, ◌∷◌, ◌≡◌, ◌≤◌, ◌⊎◌}
+use Rattle.std.specs.Prelude.{Contains}
 use Rattle.mscp_drive.specs.declared.event.Event.TheVariants as events
-use Rattle.mscp_queue.specs.Figures.{figure_of_name}
-use Rattle.mscp_queue.specs.Names.{name_on}
-use Rattle.mscp_queue.specs.Records.{Record}
-use Rattle.mscp_queue.specs.Serving.{is_begun, upcoming_begun}
-use Rattle.mscp_queue.specs.declared.drive.Drive.{Drive}
-use Rattle.mscp_queue.specs.declared.report.Report.{Report}
-use Rattle.mscp_queue.specs.declared.view.Choice.{Choice}
-use Rattle.mscp_controller.specs.Calls.{AnsweredCalls, Call as Made, Finish, Plain, history, moments_of}
-use Rattle.mscp_controller.specs.Controllers.{ControllersKeepThePromise, KeepsPromise}
-use Rattle.mscp_controller.specs.Headline.{AtEach, EachWaiting}
-use Rattle.mscp_controller.specs.History.{moment}
-use Rattle.mscp_controller.specs.Holdings.{Holdings, fresh}
 use Rattle.mscp_controller.specs.declared.entry.Entry.TheVariants as entries
-use Rattle.mscp_controller.specs.declared.entry.NotBegun.{NotBegun}
-use Rattle.mscp_controller.proofs.Promise.Grows.{moment_last}
-use Rattle.mscp_port.specs.declared.action.Outcome.{Outcome}
-use Rattle.mscp_port.specs.declared.buffers.Buffer.{Buffer}
-use Rattle.mscp_port.specs.declared.hardware.Hardware.{Hardware}
-use Rattle.mscp_port.specs.declared.port.Outgoing.{Outgoing}
-use Rattle.mscp_port.specs.declared.port.OutgoingKind.{OutgoingKind}
 use Rattle.mscp_port.specs.declared.port.OutgoingKind.TheVariants as kinds
-use Rattle.mscp_port.specs.declared.port.Port.{Port}
-use Rattle.mscp_port.specs.declared.task.Task.{Task}
 use Rattle.mscp_port.specs.declared.task.Task.TheVariants as tasks
-use Rattle.mscp_port.specs.declared.volumes.Volume.{Volume}
-use Rattle.mscp_port.specs.Calls.{IsMadeOf}
-use Rattle.mscp_port.specs.Departures.{IsForgotten}
-use Rattle.mscp_port.specs.Fair.{TellsStep}
-use Rattle.mscp_port.specs.Histories.{Answered, Becomes, Call, Next, Picking, WasRead, Went}
-use Rattle.mscp_port.specs.Messages.{handed, own_end_of}
-use Rattle.mscp_port.specs.Moved.{IsStepping, begun_task, block_begun}
-use Rattle.mscp_port.specs.Ports.{IsOfBlock}
-use Rattle.mscp_port.specs.Seen.{answered_to}
-use Rattle.mscp_port.proofs.Common.{false≢true}
-use Rattle.mscp_ported.specs.Figures.{Lowers, figure_on}
-use Rattle.mscp_ported.specs.Making.{IsFinish, Makes, begin_made, send_made, step_told, take_made, taken_as, told_of, transfer_told, unless_own}
-use Rattle.mscp_ported.specs.Talk.{AsksAlways}
+use Rattle.mscp_ported.specs.Making.{taken_as}
 use Rattle.mscp_ported.proofs.Made.{follows}
 use Rattle.mscp_ported.proofs.Making.{made_more}
 use Rattle.mscp_ported.proofs.Moving.{steps}

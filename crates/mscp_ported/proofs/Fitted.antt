@@ -1,19 +1,5 @@
 -- Each end that waits fits the message whose end it is, after each call of a port.
-use Rattle.mscp_port.specs.declared.verdict.Verdict.{Verdict}
-use Rattle.std.proofs.Common.{◌≡◌, ◌⊎◌, ◌∙◌, ◌++◌, ◌∷◌, [], ℕ, Bool, true, false, cond, filter, length, map, List, inl, inr, refl, ap, sym, subst, arith}
-use Rattle.std.specs.List.{AllByRecursion}
-use Rattle.std.proofs.lemmas.List.{append-nil, length-append}
-use Rattle.mscp_controller.specs.Holdings.{Holdings}
-use Rattle.mscp_drive.specs.Settings.{Settings}
-use Rattle.mscp_drive.specs.declared.connection.Connection.TheVariants.{First}
-use Rattle.mscp_packet.specs.declared.end.End.{End}
-use Rattle.mscp_port.proofs.Kept.{is_numbered}
-use Rattle.mscp_port.specs.Buffers.{is_of}
-use Rattle.mscp_port.specs.Calls.{Dies}
-use Rattle.mscp_port.specs.Histories.{Call}
-use Rattle.mscp_port.specs.declared.buffers.Buffer.{Buffer}
-use Rattle.mscp_port.specs.declared.decided.Decided.{Decided}
-use Rattle.mscp_port.specs.declared.port.Port.{Port}
+use Rattle.mscp_ported.proofs.Common.{AllByRecursion, Bool, Buffer, Call, Decided, Dies, End, First, Holdings, Leaving, List, Port, Record, Settings, Verdict, [], ap, append-nil, arith, cond, ends_said_by, every_append, false, filter, inl, inr, is_dead, is_numbered, is_of, length, length-append, length-map, map, refl, since, subst, sym, taken_by, true, without_ends, ℕ, ◌++◌, ◌∙◌, ◌∷◌, ◌≡◌, ◌⊎◌}
 use Rattle.mscp_ported.proofs.Awaiting.{IsNoReset}
 use Rattle.mscp_ported.proofs.Buffered.{IsKeptEach}
 use Rattle.mscp_ported.proofs.Coming.{ends_of}
@@ -22,12 +8,6 @@ use Rattle.mscp_ported.proofs.Fitting.{FitsIn}
 use Rattle.mscp_ported.proofs.Followed.{AreFollowed, followed_forgotten}
 use Rattle.mscp_ported.proofs.Numbered.{some_none}
 use Rattle.mscp_ported.proofs.Staying.{Stays}
-use Rattle.mscp_ported.specs.Awaited.{taken_by, without_ends}
-use Rattle.mscp_ported.specs.Ends.{Leaving, ends_said_by}
-use Rattle.mscp_ported.specs.Talk.{is_dead, since}
-use Rattle.mscp_queue.proofs.Lists.{every_append}
-use Rattle.mscp_queue.specs.Records.{Record}
-use Rattle.std.proofs.lemmas.List.{length-map}
 
 -- ---- what is kept
 

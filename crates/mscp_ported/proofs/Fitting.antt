@@ -1,38 +1,11 @@
 -- Each end that waits fits the message whose end it is.
-use Rattle.mscp_port.specs.declared.verdict.Verdict.{Verdict}
-use Rattle.std.proofs.Common.{◌≡◌, ◌∙◌, ◌+◌, ◌^◌, ◌<◌, ◌≤◌, ◌++◌, ◌∷◌, [], ℕ, Bool, true, false, cond, filter, length, nat_eq, not, List, Option, None, Some, inl, inr, refl, ap, sym, subst, arith}
-use Rattle.std.specs.Prelude.{find, position, slice_get}
-use Rattle.std.specs.List.{AllByRecursion}
-use Rattle.mscp_packet.specs.Number.{num}
-use Rattle.mscp_packet.specs.Ends.{refused_body}
-use Rattle.mscp_drive.specs.UnitList.{unit_found}
-use Rattle.mscp_packet.specs.declared.command.Order.{Order}
+use Rattle.mscp_ported.proofs.Common.{AllByRecursion, Block, Bool, Buffer, Decided, Drive, End, First, IsCodeFor, Leaving, List, None, Option, Order, Port, Record, Settings, Shape, Some, Verdict, Volume, [], aborted_record, ap, arith, code_told, cond, controller_decided, end_decided, end_given, endcode, ends_formality, eq-eqb, eqb-true, false, filter, find, find_cases, find_first, find_none, found_decided, goes_on, has_number, inl, inr, is_formality, is_of, kept_at, kept_of, left_of, length, moved_body, nat_eq, not, num, outcome_at, outcome_body, position_first, position_none, refl, refused_body, slice_get, status_told, subst, sym, true, unit_found, volume_found, ℕ, ◌++◌, ◌+◌, ◌<◌, ◌^◌, ◌∙◌, ◌∷◌, ◌≡◌, ◌≤◌}
+use Rattle.std.specs.Prelude.{position}
 use Rattle.mscp_packet.specs.declared.command.Order.TheVariants as orders
-use Rattle.mscp_packet.specs.declared.end.End.{End}
 use Rattle.mscp_packet.specs.declared.end.EndBody.TheVariants as bodies
-use Rattle.mscp_drive.specs.Settings.{Settings}
-use Rattle.mscp_drive.specs.Shape.{Shape}
-use Rattle.mscp_drive.specs.declared.block.Block.{Block}
-use Rattle.mscp_drive.specs.declared.connection.Connection.TheVariants.{First}
-use Rattle.mscp_queue.specs.declared.drive.Drive.{Drive}
-use Rattle.mscp_queue.specs.Orders.{endcode}
-use Rattle.mscp_queue.specs.Outcomes.{goes_on, moved_body, outcome_at, outcome_body}
-use Rattle.mscp_queue.specs.Records.{Record, aborted_record, left_of}
-use Rattle.mscp_queue.specs.Serving.{end_given}
-use Rattle.mscp_queue.proofs.Placed.{find_cases, find_first, find_none, position_first, position_none}
-use Rattle.mscp_port.specs.declared.buffers.Buffer.{Buffer}
-use Rattle.mscp_port.specs.declared.decided.Decided.{Decided}
-use Rattle.mscp_port.specs.Blocks.{kept_at, kept_of}
-use Rattle.mscp_port.specs.Buffers.{is_of}
-use Rattle.mscp_port.specs.Decided.{controller_decided, end_decided, found_decided, status_told}
 use Rattle.mscp_port.specs.declared.verdict.Verdict.TheVariants as verdicts
 use Rattle.mscp_drive.specs.declared.block.Block.TheVariants as blocks
-use Rattle.mscp_port.specs.Formalities.{code_told, ends_formality, is_formality}
-use Rattle.mscp_port.specs.declared.volumes.Volume.{Volume}
-use Rattle.mscp_port.proofs.Common.{eq-eqb, eqb-true, none-some, same_Some}
-use Rattle.mscp_ported.specs.Awaited.{has_number}
-use Rattle.mscp_ported.specs.Ends.{Leaving}
-use Rattle.mscp_ported.specs.Fitting.{IsCodeFor}
+use Rattle.mscp_port.proofs.Common.{none-some, same_Some}
 use Rattle.mscp_ported.proofs.Units.{IsUnitIn}
 use Rattle.mscp_ported.proofs.Codes.{IsAboutCode, about_in}
 use Rattle.mscp_ported.proofs.Buffered.{FitsBuffer}
@@ -41,8 +14,6 @@ use Rattle.mscp_ported.proofs.Numbered.{ends_numbered, none_beside, none_of_it, 
 use Rattle.mscp_ported.proofs.Origins.{IsMade, IsToldSo, formal_code, told_same}
 use Rattle.mscp_ported.proofs.Sole.{found_sole, sole_left}
 use Rattle.mscp_ported.proofs.Tables.{answer_by, decided_by}
-use Rattle.mscp_port.specs.Volumes.{volume_found}
-use Rattle.mscp_port.specs.declared.port.Port.{Port}
 
 -- ---- what is said of an end
 

@@ -1,30 +1,8 @@
 -- Behind the end of a command that was aborted waits that of its ABORT, whose message came later.
-use Rattle.std.proofs.Common.{◌≡◌, ◌⊎◌, ◌∙◌, ◌++◌, ◌∷◌, [], ℕ, Bool, true, false, cond, filter, length, nat_eq, not, List, Option, None, Some, inl, inr, refl, ap, sym, subst, arith}
-use Rattle.std.specs.Prelude.{◌≤◌, ◌||◌, find, option_map, option_to_list}
-use Rattle.std.specs.List.{list_any}
-use Rattle.std.proofs.lemmas.Option.{none-some}
-unfoldable use Rattle.mscp_packet.specs.Commands.{command_of}
-use Rattle.mscp_packet.specs.Number.{num}
-use Rattle.mscp_packet.specs.declared.command.Command.{Command}
-use Rattle.mscp_packet.specs.declared.command.Order.{Order}
+use Rattle.mscp_ported.proofs.Common.{Bool, Command, Drive, End, First, Holdings, List, None, Option, Order, Record, Settings, Some, Verdict, [], aborted_record, answered_end, ap, arith, block_told, command_of, cond, drive_of, end_given, eq-eqb, eqb-true, false, false≢true, figure_polled, filter, find, found_is, handed, has_number, inl, inr, is_numbered, is_queued, length, list_any, nat_eq, none-some, not, num, option_map, option_to_list, record_aborted, refl, subst, sym, true, ℕ, ◌++◌, ◌||◌, ◌∙◌, ◌∷◌, ◌≡◌, ◌⊎◌}
+use Rattle.std.specs.Prelude.{◌≤◌}
 use Rattle.mscp_packet.specs.declared.command.Order.TheVariants as orders
-use Rattle.mscp_packet.specs.declared.end.End.{End}
-use Rattle.mscp_drive.specs.Settings.{Settings}
-use Rattle.mscp_queue.proofs.Placed.{found_is}
-use Rattle.mscp_queue.specs.Records.{Record, aborted_record}
-use Rattle.mscp_queue.specs.Serving.{end_given}
-use Rattle.mscp_queue.specs.declared.drive.Drive.{Drive}
-use Rattle.mscp_controller.specs.Arrival.{is_queued}
-use Rattle.mscp_controller.specs.Holdings.{Holdings, answered_end, figure_polled, record_aborted}
 use Rattle.mscp_controller.specs.Outcomes.{own_end}
-use Rattle.mscp_drive.specs.declared.connection.Connection.TheVariants.{First}
-use Rattle.mscp_port.proofs.Kept.{is_numbered}
-use Rattle.mscp_queue.specs.Drives.{drive_of}
-use Rattle.mscp_port.specs.Blocks.{block_told}
-use Rattle.mscp_port.specs.Messages.{handed}
-use Rattle.mscp_port.specs.declared.verdict.Verdict.{Verdict}
-use Rattle.mscp_port.proofs.Common.{eq-eqb, eqb-true, false≢true}
-use Rattle.mscp_ported.specs.Awaited.{has_number}
 use Rattle.mscp_ported.proofs.Behind.{aborts_behind, aborts_come, aborts_left, aborts_more, any_more, any_none, handed_abort, is_abort, is_abort_of}
 use Rattle.mscp_ported.proofs.Numbered.{At, AtEach, ends_numbered, first_of_one, none_beside, none_found, other_number, some_none}
 use Rattle.mscp_ported.proofs.Owning.{number_of}

@@ -1,22 +1,7 @@
 -- What follows each call of a port, and so a list of calls.
-use Rattle.std.proofs.Common.{◌≡◌, ◌≢◌, ◌∙◌, ◌∷◌, [], ℕ, Bool, map, List, Option, None, Some, IfSome, inl, inr, refl, ap, sym, subst, arith}
-use Rattle.std.specs.Prelude.{Ok, Err, option_to_list}
-use Rattle.std.proofs.lemmas.List.{append-nil}
-use Rattle.mscp_controller.specs.Holdings.{Holdings}
-use Rattle.mscp_port.specs.declared.action.Action.{Action}
-use Rattle.mscp_port.specs.declared.hardware.Hardware.{Hardware}
-use Rattle.mscp_port.specs.declared.port.Port.{Port}
-use Rattle.mscp_port.specs.declared.rings.Side.TheVariants.{Commands}
+use Rattle.mscp_ported.proofs.Common.{Action, Answered, AreAccepted, AsksAlways, Becomes, Bool, Call, Commands, Err, Hardware, Holdings, Idle, IfSome, IsMadeOf, IsOfBlock, IsOwed, List, LookAgain, Message, Next, None, Ok, Opened, Option, Picking, Port, Protect, PutAside, Read, ReadIp, Said, Slot, Some, Talk, Task, Tick, Turn, VolumeCame, VolumeWent, WasRead, Went, Wish, WriteIp, WriteSa, [], accepted, accepted_by, accepted_text, ap, append-nil, arith, inl, inr, map, message_text, option_to_list, place_in, refl, said, said_in, silence, subst, sym, talk_by, talk_of, wish, ℕ, ◌∙◌, ◌∷◌, ◌≡◌, ◌≢◌}
 use Rattle.mscp_port.specs.declared.stage.Stage.TheVariants as stages
-use Rattle.mscp_port.specs.declared.task.Task.{Task}
 use Rattle.mscp_port.specs.declared.task.Task.TheVariants as tasks
-use Rattle.mscp_port.specs.Calls.{IsMadeOf}
-use Rattle.mscp_port.specs.Histories.{Answered, Becomes, Call, Picking, WriteIp, ReadIp, WriteSa, Next, PutAside, WasRead, Went, LookAgain, Tick, VolumeCame, VolumeWent, Protect}
-use Rattle.mscp_port.specs.Ports.{IsOfBlock}
-use Rattle.mscp_port.specs.Volumes.{place_in}
-use Rattle.mscp_ported.specs.Owed.{IsOwed}
-use Rattle.mscp_ported.specs.Talk.{AsksAlways, Idle, Message, Opened, Read, Slot, Talk, Turn, Wish, silence, talk_by, talk_of, wish}
-use Rattle.mscp_ported.specs.Told.{AreAccepted, Said, accepted, accepted_by, accepted_text, message_text, said, said_in}
 use Rattle.mscp_ported.proofs.After.{After, IsNoReset, IsPlain}
 use Rattle.mscp_ported.proofs.Look.{Fits, HasLeft, Hears, InStep, IsClear, IsOfRings, IsWide, NeedsOut, has_area, in_hand, look, slot_at}
 use Rattle.mscp_ported.proofs.Going.{went}

@@ -1,19 +1,6 @@
 -- A command that asks nothing of a disk waits in the controller, if the port doesn't answer it itself.
-use Rattle.std.proofs.Common.{◌≡◌, ◌∙◌, ◌+◌, ◌<◌, ◌≤◌, ◌∷◌, ℕ, Bool, true, false, cond, length, nat_le, nat_lt, List, Option, None, Some, inl, inr, refl, ap, sym, subst, arith}
-use Rattle.std.specs.Prelude.{All, is_none, option_map, slice_index}
-use Rattle.std.proofs.lemmas.Option.{none-some}
-use Rattle.mscp_packet.specs.Number.{num}
-unfoldable use Rattle.mscp_packet.specs.Commands.{command_of}
-use Rattle.mscp_drive.specs.Extent.{range_fault}
-use Rattle.mscp_drive.specs.Settings.{IsValid, Settings}
-use Rattle.mscp_drive.specs.Shape.{Shape}
-use Rattle.mscp_drive.specs.UnitList.{unit_found}
-use Rattle.mscp_queue.proofs.Placed.{find_cases, find_first, position_none}
-use Rattle.mscp_controller.specs.Arrival.{is_queued, move_fault}
-use Rattle.mscp_port.specs.declared.volumes.Volume.{Volume}
-use Rattle.mscp_port.specs.Formalities.{is_formality, stand_in}
-use Rattle.mscp_port.specs.Messages.{bare_end, handed, next_named, own_end, refused_end, volume_refusal}
-use Rattle.mscp_port.specs.Volumes.{place_in}
+use Rattle.mscp_ported.proofs.Common.{Bool, IsValid, List, None, Option, Settings, Shape, Some, Volume, ap, arith, bare_end, command_of, cond, false, find_cases, find_first, handed, inl, inr, is_formality, is_none, is_queued, length, move_fault, nat_le, nat_lt, next_named, none-some, num, option_map, own_end, place_in, position_none, range_fault, refl, refused_end, slice_index, stand_in, subst, sym, true, unit_found, volume_refusal, ℕ, ◌+◌, ◌<◌, ◌∙◌, ◌∷◌, ◌≡◌, ◌≤◌}
+use Rattle.std.specs.Prelude.{All}
 use Rattle.mscp_ported.proofs.Sole.{found_all}
 
 -- its unit is there

@@ -1,35 +1,13 @@
 -- A packet is written, and slots are given back.
-use Rattle.std.proofs.Common.{◌≡◌, ◌∙◌, ◌+◌, ◌-◌, ◌%◌, ◌++◌, ◌∷◌, [], ℕ, Bool, true, false, cond, length, map, not, List, Option, None, Some, IsSomeAnd, MatchOption, inl, inr, refl, ap, sym, subst, arith}
-use Rattle.std.specs.Prelude.{◌==◌, Ok}
-use Rattle.std.proofs.Math.Nat.{mod-add-mod}
-use Rattle.std.proofs.lemmas.List.{append-nil, length-append, length-map, map-append}
-use Rattle.std.proofs.lemmas.Option.{none-some}
-use Rattle.mscp_queue.specs.declared.view.Choice.{Choice}
+use Rattle.mscp_ported.proofs.Common.{Bool, Choice, Commands, Descriptor, GivesBack, Goes, Idle, IsAsNew, IsOfBlock, IsSomeAnd, List, Looks, Marks, MatchOption, Message, None, Ok, Option, Outcome, Outgoing, OutgoingKind, Packet, Port, Read, Responses, Rings, Said, Side, Slot, Some, StandInOrder, Taken, Talk, Tells, Turn, Went, Wish, Written, [], address_in, ap, append-nil, arith, begins, cond, connection_of, connection_told, credits_by, credits_in, credits_with, false, given_turn, hears_of, inl, inr, is_flagged, is_owned, left_after, length, length-append, length-map, map, map-append, message_slot, message_text, mod-add-mod, none-some, not, packet_of, packet_slot, packet_with, refl, said_in, slots_in, slots_of, subst, sym, text_of, true, written, ℕ, ◌%◌, ◌++◌, ◌+◌, ◌-◌, ◌==◌, ◌∙◌, ◌∷◌, ◌≡◌}
 use Rattle.mscp_port.specs.declared.action.Action.TheVariants as actions
-use Rattle.mscp_port.specs.declared.action.Outcome.{Outcome}
-use Rattle.mscp_port.specs.declared.port.Outgoing.{Outgoing}
-use Rattle.mscp_port.specs.declared.port.OutgoingKind.{OutgoingKind}
 use Rattle.mscp_port.specs.declared.port.OutgoingKind.TheVariants as kinds
-use Rattle.mscp_port.specs.declared.port.Port.{Port}
-use Rattle.mscp_port.specs.declared.rings.Side.{Side}
-use Rattle.mscp_port.specs.declared.rings.Side.TheVariants.{Responses, Commands}
-use Rattle.mscp_port.specs.declared.slot.Descriptor.{Descriptor}
 use Rattle.mscp_port.specs.declared.stage.Stage.TheVariants as stages
 use Rattle.mscp_port.specs.declared.task.Task.TheVariants as tasks
-use Rattle.mscp_port.specs.Acted.{GivesBack, hears_of}
-use Rattle.mscp_port.specs.Areas.{Rings, slots_of}
-use Rattle.mscp_port.specs.Calls.{Goes}
-use Rattle.mscp_port.specs.Departures.{begins}
-use Rattle.mscp_port.specs.Histories.{Went}
-use Rattle.mscp_port.specs.Packets.{connection_of, credits_by, credits_with, packet_of}
-use Rattle.mscp_port.specs.Ports.{IsAsNew, IsOfBlock}
-use Rattle.mscp_port.specs.Slots.{is_flagged, is_owned, text_of}
-use Rattle.mscp_ported.specs.Talk.{Wish, Slot, Turn, Idle, Taken, Read, Written, Looks, Marks, Message, Packet, Talk, address_in, done_by, given_turn, written}
-use Rattle.mscp_ported.specs.Told.{Said, StandInOrder, Tells, connection_told, credits_in, left_after, message_slot, message_text, packet_slot, packet_with, said_in}
+use Rattle.mscp_ported.specs.Talk.{done_by}
 use Rattle.mscp_ported.proofs.After.{After, same_stage}
 use Rattle.mscp_ported.proofs.Look.{AreTold, Fits, HasLeft, InStep, IsAsked, IsClear, IsOfRings, IsOwned, IsPacketOut, IsTelling, Look, NeedsOut, in_hand, left_all, left_quiet, look, quiet_left, slot_at}
 use Rattle.mscp_ported.proofs.Hearing.{up_step}
-use Rattle.mscp_ported.specs.Rings.{slots_in}
 use Rattle.mscp_ported.proofs.Counting.{slots_so, address_mod, left_more, one_more, tell_more}
 use Rattle.mscp_ported.proofs.Acting.{alive, dead_so, goes_on, is_done, quiet_of, same_said, told_so, up_of, write_one}
 

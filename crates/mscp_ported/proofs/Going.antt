@@ -1,20 +1,8 @@
 -- What follows an action of the port's that went somehow.
-use Rattle.std.proofs.Common.{◌≡◌, ◌∙◌, ◌*◌, ◌%◌, ◌++◌, [], ℕ, Bool, true, false, cond, map, List, None, Some, refl, ap, sym, subst, arith}
-use Rattle.std.specs.Prelude.{◌==◌, Ok}
-use Rattle.mscp_queue.specs.declared.view.Choice.{Choice}
-use Rattle.mscp_port.specs.declared.action.Action.{Action}
+use Rattle.mscp_ported.proofs.Common.{Action, Bool, Choice, Due, Goes, Idle, IsOutcomeOf, List, Marks, Moves, None, Ok, Outcome, Port, Said, Side, Some, Talk, Task, Went, Wish, [], ap, arith, block_begun, block_served, cond, false, interrupted, interrupts, map, message_text, refl, subst, sym, true, ℕ, ◌%◌, ◌*◌, ◌++◌, ◌==◌, ◌∙◌, ◌≡◌}
 use Rattle.mscp_port.specs.declared.action.Action.TheVariants as actions
-use Rattle.mscp_port.specs.declared.action.Outcome.{Outcome}
-use Rattle.mscp_port.specs.declared.port.Port.{Port}
-use Rattle.mscp_port.specs.declared.rings.Side.{Side}
-use Rattle.mscp_port.specs.declared.task.Task.{Task}
 use Rattle.mscp_port.specs.declared.task.Task.TheVariants as tasks
-use Rattle.mscp_port.specs.Calls.{Goes}
-use Rattle.mscp_port.specs.Histories.{Went}
-use Rattle.mscp_port.specs.Moved.{Moves, block_begun, block_served}
-use Rattle.mscp_port.specs.Ports.{IsOutcomeOf}
-use Rattle.mscp_ported.specs.Talk.{Wish, Idle, Marks, Due, Talk, done_by, interrupted, interrupts}
-use Rattle.mscp_ported.specs.Told.{Said, message_text}
+use Rattle.mscp_ported.specs.Talk.{done_by}
 use Rattle.mscp_ported.proofs.After.{After, same_stage}
 use Rattle.mscp_ported.proofs.Look.{Fits, InStep, IsAsked, IsInterrupt, in_hand, look}
 use Rattle.mscp_ported.proofs.Hearing.{up_step}

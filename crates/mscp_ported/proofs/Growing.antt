@@ -1,20 +1,6 @@
 -- What begins to go out by a call of a port, and which ends its controller has more then.
-use Rattle.mscp_packet.specs.Number.{num}
-use Rattle.mscp_packet.specs.declared.end.End.{End}
-use Rattle.mscp_port.specs.Departures.{begins}
-use Rattle.mscp_port.specs.Histories.{Call, WasRead}
-use Rattle.mscp_port.specs.declared.port.Port.{Port}
+use Rattle.mscp_ported.proofs.Common.{AllByRecursion, Call, Deals, End, List, None, Ok, Option, Outgoing, PassesOn, Pending, Port, Some, TakesPoll, WasRead, [], accepted_by, ap, append-nil, arith, begins, ends_said_by, figure_on, flat_map, inl, inr, map, map-append, num, pending_end, pending_held, pending_in, pending_said, said_in, sym, ℕ, ◌++◌, ◌∙◌, ◌∷◌, ◌≡◌, ◌≤◌, ◌⊎◌}
 use Rattle.mscp_ported.proofs.Coming.{ends_of}
-use Rattle.mscp_ported.specs.Awaited.{Deals}
-use Rattle.mscp_ported.specs.Ends.{ends_said_by}
-use Rattle.mscp_ported.specs.Figures.{figure_on}
-use Rattle.mscp_ported.specs.Passing.{PassesOn, Pending, TakesPoll, pending_end, pending_held, pending_in, pending_said}
-use Rattle.mscp_port.specs.declared.port.Outgoing.{Outgoing}
-use Rattle.mscp_ported.specs.Told.{accepted_by, said_in}
-use Rattle.std.proofs.Common.{ℕ, List, None, Option, Some, [], ap, arith, inl, inr, map, sym, ◌++◌, ◌∙◌, ◌∷◌, ◌≡◌, ◌≤◌, ◌⊎◌}
-use Rattle.std.proofs.lemmas.List.{append-nil, map-append}
-use Rattle.std.specs.List.{AllByRecursion}
-use Rattle.std.specs.Prelude.{Ok, flat_map}
 
 -- ---- what begins to go out
 

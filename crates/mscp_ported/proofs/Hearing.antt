@@ -1,31 +1,9 @@
 -- What follows when bytes of a host's memory were read.
-use Rattle.std.proofs.Common.{◌≡◌, ◌≢◌, ◌⊎◌, ◌∙◌, ◌≤◌, ◌++◌, ◌∷◌, [], ℕ, Bool, true, false, cond, length, map, List, Option, None, Some, IfSome, IsSomeAnd, MatchOption, inl, inr, refl, ap, sym, subst, arith}
-use Rattle.std.specs.Prelude.{◌==◌, Result, Ok, Err}
-use Rattle.std.proofs.Common.{mod-lt}
-use Rattle.std.proofs.lemmas.List.{append-nil}
-use Rattle.std.proofs.lemmas.Option.{none-some}
-use Rattle.mscp_packet.specs.Number.{num}
+use Rattle.mscp_ported.proofs.Common.{Action, Bool, Commands, Descriptor, Err, Idle, IfSome, IsAsNew, IsOfBlock, IsSomeAnd, List, Looks, Marks, MatchOption, Message, None, Ok, Opened, Option, Outgoing, Packet, Port, Read, Reads, Responses, Result, Rings, Said, SeesText, Side, Slot, Some, Taken, Talk, Task, Turn, WasRead, Wish, [], accepted_by, accepted_text, accepts, address_in, answered_to, ap, append-nil, arith, begins, bytes_read, cond, connection_in, false, header_fault, inl, inr, is_dead, is_owned, length, length_in, map, message_text, mod-lt, none-some, num, own_end_of, read_by, read_size, read_turn, refl, said_in, side_at, slot_in, slot_read, stays, stepped, subst, sym, takes, true, ℕ, ◌++◌, ◌==◌, ◌∙◌, ◌∷◌, ◌≡◌, ◌≢◌, ◌≤◌, ◌⊎◌}
 use Rattle.mscp_controller.specs.declared.entry.Sent.TheVariants as sents
-use Rattle.mscp_port.specs.declared.action.Action.{Action}
 use Rattle.mscp_port.specs.declared.action.Action.TheVariants as actions
-use Rattle.mscp_port.specs.declared.port.Outgoing.{Outgoing}
-use Rattle.mscp_port.specs.declared.port.Port.{Port}
-use Rattle.mscp_port.specs.declared.rings.Side.{Side}
-use Rattle.mscp_port.specs.declared.rings.Side.TheVariants.{Responses, Commands}
-use Rattle.mscp_port.specs.declared.slot.Descriptor.{Descriptor}
 use Rattle.mscp_port.specs.declared.stage.Stage.TheVariants as stages
-use Rattle.mscp_port.specs.declared.task.Task.{Task}
 use Rattle.mscp_port.specs.declared.task.Task.TheVariants as tasks
-use Rattle.mscp_port.specs.Areas.{Rings, slot_in}
-use Rattle.mscp_port.specs.Calls.{Hears as Reads}
-use Rattle.mscp_port.specs.Departures.{begins}
-use Rattle.mscp_port.specs.Histories.{WasRead}
-use Rattle.mscp_port.specs.Messages.{own_end_of}
-use Rattle.mscp_port.specs.Ports.{IsAsNew, IsOfBlock, read_size}
-use Rattle.mscp_port.specs.Seen.{SeesText, answered_to, bytes_read, connection_in, header_fault, length_in, stays}
-use Rattle.mscp_port.specs.Slots.{is_owned}
-use Rattle.mscp_ported.specs.Talk.{Wish, Slot, Turn, Idle, Taken, Opened, Read, Looks, Marks, Message, Packet, Talk, address_in, is_dead, read_by, read_turn, side_at, slot_read, stepped, takes}
-use Rattle.mscp_ported.specs.Told.{Said, accepted_by, accepted_text, accepts, message_text, said_in}
 use Rattle.mscp_ported.proofs.After.{After, IsNoReset, alters, none_said, say_on, same_stage}
 use Rattle.mscp_ported.proofs.Look.{AreTold, Counts, Fits, Hears, InStep, IsAsked, IsClear, IsOfRings, IsOpen, IsOwned, IsRead, IsWide, IsTelling, Look, NeedsOut, given_at, in_hand, is_loud, look, slot_at, told_on}
 use Rattle.mscp_ported.proofs.Counting.{place_so}

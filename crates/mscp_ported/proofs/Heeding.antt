@@ -1,36 +1,10 @@
 -- Behind a message that a port read each end that waits fits its message still.
-use Rattle.mscp_port.specs.declared.verdict.Verdict.{Verdict}
+use Rattle.mscp_ported.proofs.Common.{All, AllByRecursion, Bool, Command, Descriptor, End, First, Hears, Holdings, IsCodeFor, IsReadingText, IsValid, List, None, Ok, Option, Order, Port, Record, SeesText, SendFault, Sends, Settings, Some, Task, Verdict, WasRead, [], aborted_record, aborting, answered_end, answered_to, ap, append_assoc, arith, arrives, balance_of, buffer_in, changes_at, command_of, cond, ends_formality, eq-eqb, eqb-true, every_append, false, fault_of, figure_in, figure_on, figure_polled, filter, find, found_is, fresh_record, handed, has_number, held_unless, inl, inr, is_formality, is_none, is_numbered, is_of, is_ok, is_queued, is_taken_text, length, nat_eq, none-some, none_or_some, num, option_map, option_to_list, outstanding_of, own_answer, own_end, own_end_of, place_in, queued, record_aborted, reference_aborted, refl, refusal, same_Some, sent_unless, since, slice_index, status_told, subst, sym, taken_as, taken_by, true, unaborted, volume_at, volume_named, waiting_on, with_end, ℕ, ◌&&◌, ◌++◌, ◌+◌, ◌-◌, ◌<◌, ◌^◌, ◌∙◌, ◌∷◌, ◌≡◌, ◌≢◌, ◌≤◌}
 use Rattle.mscp_ported.proofs.Refusals.{num_small, own_figure, some_balance}
-use Rattle.mscp_ported.specs.Figures.{figure_on}
-use Rattle.mscp_ported.specs.Passing.{figure_in}
 use Rattle.mscp_ported.proofs.Untouched.{read_keeps}
 use Rattle.mscp_controller.specs.declared.entry.Sent.TheVariants as sents
 use Rattle.mscp_port.specs.declared.task.Task.TheVariants as tasks
 use Rattle.mscp_packet.specs.declared.command.Order.TheVariants as orders
-use Rattle.mscp_controller.specs.Arrival.{fault_of, is_queued, refusal}
-use Rattle.mscp_controller.specs.Holdings.{Holdings, aborting, answered_end, arrives, balance_of, figure_polled, held_unless, outstanding_of, queued, record_aborted, reference_aborted, sent_unless, taken_as, unaborted, waiting_on, with_end}
-use Rattle.mscp_controller.specs.declared.entry.SendFault.{SendFault}
-use Rattle.mscp_drive.specs.Settings.{IsValid, Settings}
-use Rattle.mscp_drive.specs.declared.connection.Connection.TheVariants.{First}
-unfoldable use Rattle.mscp_packet.specs.Commands.{command_of}
-use Rattle.mscp_packet.specs.Number.{num}
-use Rattle.mscp_packet.specs.declared.command.Command.{Command}
-use Rattle.mscp_packet.specs.declared.command.Order.{Order}
-use Rattle.mscp_packet.specs.declared.end.End.{End}
-use Rattle.mscp_port.proofs.Common.{eq-eqb, eqb-true}
-use Rattle.mscp_port.proofs.Kept.{is_numbered}
-use Rattle.mscp_port.proofs.Said.{none_or_some}
-use Rattle.mscp_port.specs.Buffers.{buffer_in, is_of}
-use Rattle.mscp_port.specs.Calls.{Hears}
-use Rattle.mscp_port.specs.Formalities.{ends_formality, is_formality}
-use Rattle.mscp_port.specs.Histories.{WasRead}
-use Rattle.mscp_port.specs.Messages.{handed, own_end, own_end_of}
-use Rattle.mscp_port.specs.Ports.{IsReadingText}
-use Rattle.mscp_port.specs.Seen.{SeesText, Sends, answered_to, changes_at}
-use Rattle.mscp_port.specs.Volumes.{place_in, volume_at}
-use Rattle.mscp_port.specs.declared.port.Port.{Port}
-use Rattle.mscp_port.specs.declared.slot.Descriptor.{Descriptor}
-use Rattle.mscp_port.specs.declared.task.Task.{Task}
 use Rattle.mscp_ported.proofs.Answering.{none_so, own_so}
 use Rattle.mscp_ported.proofs.Awaiting.{IsLikeIt, IsNoReset, IsSmall, Kept, handed_like, is_it, nothing_there, others, own_number}
 use Rattle.mscp_ported.proofs.Awaits.{none_taken, taken_is}
@@ -49,22 +23,10 @@ use Rattle.mscp_ported.proofs.Numbered.{At, IsNothing, first_of_one, none_beside
 use Rattle.mscp_ported.proofs.Origins.{IsOf, IsText, aborted_of, answer_of, queued_of}
 use Rattle.mscp_ported.proofs.Owning.{and_false, number_of}
 use Rattle.mscp_ported.proofs.Sole.{found_sole, sole_comes}
-use Rattle.mscp_port.specs.Decided.{status_told}
 use Rattle.mscp_port.specs.declared.verdict.Verdict.TheVariants as verdicts
 use Rattle.mscp_drive.specs.declared.block.Block.TheVariants as blocks
 use Rattle.mscp_ported.proofs.Tables.{answer_by}
-use Rattle.mscp_ported.specs.Answers.{own_answer, volume_named}
-use Rattle.mscp_ported.specs.Awaited.{has_number, is_taken_text, taken_by}
-use Rattle.mscp_ported.specs.Fitting.{IsCodeFor}
 use Rattle.mscp_ported.proofs.Units.{IsUnitIn, handed_unit}
-use Rattle.mscp_ported.specs.Talk.{since}
-use Rattle.mscp_queue.proofs.Lists.{every_append}
-use Rattle.mscp_queue.proofs.Placed.{found_is}
-use Rattle.mscp_queue.specs.Records.{Record, aborted_record, fresh_record}
-use Rattle.std.proofs.Common.{ℕ, All, Bool, List, None, Option, Some, [], ap, append_assoc, arith, cond, false, filter, inl, inr, length, nat_eq, refl, subst, sym, true, ◌&&◌, ◌++◌, ◌+◌, ◌-◌, ◌<◌, ◌^◌, ◌∙◌, ◌∷◌, ◌≡◌, ◌≢◌, ◌≤◌}
-use Rattle.std.proofs.lemmas.Option.{none-some, same_Some}
-use Rattle.std.specs.List.{AllByRecursion}
-use Rattle.std.specs.Prelude.{Ok, find, is_none, is_ok, option_map, option_to_list, slice_index}
 
 module _ {c : Settings} {Told : Verdict → Record → Type 0} {K : Type 0} (bytes : List ℕ) (done : Unit)
     (old new : Port K) (aw : List (List ℕ)) (k : Kept old aw)

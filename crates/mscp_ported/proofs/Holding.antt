@@ -1,35 +1,6 @@
 -- A port holds the command or the end of each message that is awaited.
-use Rattle.std.proofs.Common.{◌≡◌, ◌∙◌, ◌<◌, ◌≤◌, ◌∷◌, [], ℕ, Bool, true, false, cond, filter, length, map, List, Option, None, Some, inl, inr, refl, ap, sym, subst, arith}
-use Rattle.std.specs.Prelude.{◌↔◌, ◌^◌, Contains, find, option_map}
-use Rattle.std.specs.List.{AllByRecursion}
-use Rattle.std.proofs.lemmas.List.{take_all}
-use Rattle.std.proofs.lemmas.Option.{none-some}
-use Rattle.mscp_drive.specs.Settings.{IsValid, Settings, bound}
-use Rattle.mscp_drive.specs.declared.connection.Connection.TheVariants.{First}
-use Rattle.mscp_queue.specs.declared.name.Name.{Name}
-use Rattle.mscp_queue.specs.declared.view.Choice.{Choice}
-use Rattle.mscp_queue.specs.Figures.{figure_at_place, figure_of_name}
-use Rattle.mscp_queue.specs.Names.{name_on, same_name}
-use Rattle.mscp_queue.specs.Records.{Record, has_name, name_of}
-use Rattle.mscp_queue.proofs.Placed.{position_none}
-use Rattle.mscp_controller.specs.Calls.{AnsweredCalls, Call as Made, history}
-use Rattle.mscp_controller.specs.Commands.{name}
-unfoldable use Rattle.mscp_controller.specs.Commands.{waiting}
-use Rattle.mscp_controller.specs.Controllers.{ControllersKeepThePromise, KeepsPromise}
-use Rattle.mscp_controller.specs.Figures.{figure, figure_found}
-unfoldable use Rattle.mscp_controller.specs.Figures.{figure_of}
-use Rattle.mscp_controller.specs.History.{Trace}
-use Rattle.mscp_controller.specs.Holdings.{Holdings, fresh, outstanding_of}
-use Rattle.mscp_controller.proofs.Promise.Progress.{waits_in}
-use Rattle.mscp_controller.proofs.Promise.Waits.{waiting_waits}
-use Rattle.mscp_port.specs.declared.hardware.Hardware.{Hardware}
-use Rattle.mscp_port.specs.declared.port.Port.{Port}
-use Rattle.mscp_port.specs.Calls.{IsMadeOf}
-use Rattle.mscp_port.specs.Histories.{Answered, Call, Picking}
-use Rattle.mscp_port.proofs.Kept.{is_numbered}
-use Rattle.mscp_ported.specs.Awaited.{ReadsBytes, awaited}
-use Rattle.mscp_ported.specs.Figures.{figure_on}
-use Rattle.mscp_ported.specs.Passing.{HoldsAwaited}
+use Rattle.mscp_ported.proofs.Common.{AllByRecursion, Answered, AnsweredCalls, Bool, Call, Choice, ControllersKeepThePromise, First, Hardware, Holdings, HoldsAwaited, IsMadeOf, IsValid, KeepsPromise, List, Made, Name, None, Option, Picking, Port, ReadsBytes, Record, Settings, Some, Trace, [], ap, arith, awaited, bound, cond, false, figure, figure_at_place, figure_found, figure_of, figure_of_name, figure_on, filter, find, fresh, has_name, history, inl, inr, is_numbered, length, map, name, name_of, name_on, none-some, option_map, outstanding_of, position_none, refl, same_name, subst, sym, take_all, true, waiting, waiting_waits, waits_in, ℕ, ◌<◌, ◌↔◌, ◌∙◌, ◌∷◌, ◌≡◌, ◌≤◌}
+use Rattle.std.specs.Prelude.{◌^◌, Contains}
 use Rattle.mscp_ported.proofs.Coming.{ends_of}
 use Rattle.mscp_ported.proofs.Ended.{kept}
 use Rattle.mscp_ported.proofs.Falling.{found_of}

@@ -1,21 +1,6 @@
 -- An answer of the port's own has the number of its message, and is whole.
-use Rattle.byteorder.specs.Endian.{little_bytes}
-use Rattle.std.specs.Prelude.{replicate}
-use Rattle.std.proofs.Common.{◌≡◌, ◌≢◌, ◌⊎◌, ◌∙◌, ◌+◌, ◌^◌, ◌<◌, ◌≤◌, ◌++◌, ◌∷◌, [], ℕ, Bool, true, false, cond, length, List, Option, None, Some, inl, inr, refl, ap, sym, subst, arith}
-use Rattle.std.specs.Prelude.{◌==◌, ◌&&◌, ◌||◌, is_none, nat_le, nat_lt, option_map, slice_index}
-use Rattle.std.proofs.lemmas.Option.{none-some, same_Some}
-use Rattle.mscp_packet.proofs.Numbers.{four}
-use Rattle.mscp_packet.specs.Number.{num}
-use Rattle.mscp_packet.specs.Ends.{end_length, kind_of_code}
-use Rattle.mscp_packet.specs.declared.end.BodyKind.{BodyKind}
-use Rattle.mscp_drive.specs.Extent.{blocks}
-use Rattle.mscp_port.specs.declared.stage.Stage.{Stage}
-use Rattle.mscp_port.specs.declared.volumes.Volume.{Volume}
-use Rattle.mscp_port.specs.Histories.{Call, WriteIp}
-use Rattle.mscp_port.proofs.Common.{and_parts, eqb-true}
-use Rattle.mscp_ported.specs.Answers.{asks_nothing, moves_data, own_answer, own_refusal, Own, own_text, past_end}
-use Rattle.mscp_ported.specs.Awaited.{IsWhole}
-use Rattle.mscp_ported.specs.Talk.{is_dead, since}
+use Rattle.mscp_ported.proofs.Common.{BodyKind, Bool, Call, IsWhole, List, None, Option, Own, Some, Stage, Volume, WriteIp, [], and_parts, ap, arith, asks_nothing, blocks, cond, end_length, eqb-true, false, four, inl, inr, is_dead, is_none, kind_of_code, length, little_bytes, moves_data, none-some, num, option_map, own_answer, own_refusal, own_text, past_end, refl, replicate, same_Some, since, slice_index, subst, sym, true, ℕ, ◌++◌, ◌+◌, ◌<◌, ◌==◌, ◌^◌, ◌||◌, ◌∙◌, ◌∷◌, ◌≡◌, ◌≢◌, ◌≤◌, ◌⊎◌}
+use Rattle.std.specs.Prelude.{◌&&◌, nat_le, nat_lt}
 
 pub own_number : (b : List ℕ) (own : Own) → num b 0 4 < 2 ^ 32 → num (own_text b own) 0 4 ≡ num b 0 4
 own_number b own small = four (num b 0 4) small

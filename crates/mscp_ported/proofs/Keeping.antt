@@ -1,50 +1,10 @@
 -- What is kept of a command after each call: its blocks so far were moved at their places.
-use Rattle.std.proofs.Common.{◌≡◌, ◌≢◌, ◌∙◌, ◌+◌, ◌-◌, ◌*◌, ◌<◌, ◌≤◌, ◌++◌, ◌∷◌, [], ℕ, suc, Bool, true, false, cond, filter, length, min, List, Contains, MatchOption, Option, None, Some, inl, inr, refl, ap, sym, subst, arith}
-use Rattle.std.specs.Prelude.{◌==◌, Result, Ok, Err}
-use Rattle.std.proofs.lemmas.Option.{none-some, same_Some}
-use Rattle.mscp_packet.specs.Number.{num}
-use Rattle.mscp_packet.specs.declared.command.MoveKind.{MoveKind}
+use Rattle.mscp_ported.proofs.Common.{Action, Answered, AsksAlways, Block, Bool, Buffer, Call, Connection, Contains, Drive, End, Err, Finishes, First, Hardware, HeedsStep, Holdings, IsMadeOf, IsReadingText, IsStepping, List, LookAgain, MatchOption, MoveKind, Name, Next, None, NotBegun, Ok, Option, Order, Outcome, Picking, Port, Protect, PutAside, ReadIp, Record, Report, Result, Says, Some, TakesBegun, TakesBlock, Task, Tick, Verdict, VolumeCame, VolumeWent, WasRead, Went, WriteIp, WriteSa, [], advanced, ap, arith, asked, begun_step, block_begun, block_served, block_told, buffer_in, comes, cond, done_by, drive_at, end_brought, end_given, false, false≢true, filter, goes_on, inl, inr, is_begun, is_done, is_first, is_moving, is_numbered, is_of, is_queued_text, is_same, is_step_of, kept_after, left_of, length, looks_or_not, min, moved, name_of, name_on, none-some, not_of, num, order_weight, outcome_at, record_at, refl, same_Some, same_is, same_name, served_name, subst, suc, sym, transfers, true, upcoming_begun, waiting_after, wanted, wish, without_among, ℕ, ◌*◌, ◌++◌, ◌+◌, ◌-◌, ◌<◌, ◌==◌, ◌∙◌, ◌∷◌, ◌≡◌, ◌≢◌, ◌≤◌}
 use Rattle.mscp_packet.specs.declared.command.MoveKind.TheVariants as moves
-use Rattle.mscp_packet.specs.declared.command.Order.{Order}
 use Rattle.mscp_packet.specs.declared.command.Order.TheVariants as orders
-use Rattle.mscp_packet.specs.declared.end.End.{End}
-use Rattle.mscp_drive.specs.declared.block.Block.{Block}
-use Rattle.mscp_drive.specs.declared.connection.Connection.{Connection}
-use Rattle.mscp_drive.specs.declared.connection.Connection.TheVariants.{First}
-use Rattle.mscp_queue.specs.declared.drive.Drive.{Drive}
-use Rattle.mscp_queue.specs.declared.name.Name.{Name}
-use Rattle.mscp_queue.specs.declared.report.Report.{Report}
 use Rattle.mscp_queue.specs.declared.report.Report.TheVariants as reports
-use Rattle.mscp_queue.specs.Names.{name_on, same_name}
-use Rattle.mscp_queue.specs.Outcomes.{goes_on, outcome_at}
-use Rattle.mscp_queue.specs.Orders.{order_weight}
-use Rattle.mscp_queue.specs.Records.{Record, advanced, drive_at, left_of, name_of, record_at}
-use Rattle.mscp_queue.specs.Serving.{end_given, is_begun, upcoming_begun, waiting_after}
-use Rattle.mscp_queue.proofs.Named.{is_same, same_is}
-use Rattle.mscp_controller.specs.declared.entry.NotBegun.{NotBegun}
-use Rattle.mscp_controller.specs.Holdings.{Finishes, Holdings, begun_step}
-use Rattle.mscp_port.specs.declared.action.Action.{Action}
 use Rattle.mscp_port.specs.declared.action.Action.TheVariants as actions
-use Rattle.mscp_port.specs.declared.action.Outcome.{Outcome}
-use Rattle.mscp_port.specs.declared.buffers.Buffer.{Buffer}
-use Rattle.mscp_port.specs.declared.hardware.Hardware.{Hardware}
-use Rattle.mscp_port.specs.declared.port.Port.{Port}
-use Rattle.mscp_port.specs.declared.task.Task.{Task}
 use Rattle.mscp_port.specs.declared.task.Task.TheVariants as tasks
-use Rattle.mscp_port.specs.declared.verdict.Verdict.{Verdict}
-use Rattle.mscp_port.specs.Blocks.{block_told}
-use Rattle.mscp_port.specs.Buffers.{buffer_in, is_of}
-use Rattle.mscp_port.specs.Calls.{IsMadeOf}
-use Rattle.mscp_port.specs.Histories.{Answered, Call, Picking, WriteIp, ReadIp, WriteSa, Next, PutAside, WasRead, Went, LookAgain, Tick, VolumeCame, VolumeWent, Protect}
-use Rattle.mscp_port.specs.Moved.{HeedsStep, IsStepping, TakesBegun, TakesBlock, block_begun, block_served, end_brought, kept_after}
-use Rattle.mscp_port.specs.Outgoings.{Says}
-use Rattle.mscp_port.specs.Ports.{IsReadingText}
-use Rattle.mscp_port.proofs.Common.{false≢true}
-use Rattle.mscp_port.proofs.Kept.{is_numbered}
-use Rattle.mscp_port.proofs.Loads.{looks_or_not}
-use Rattle.mscp_port.proofs.Said.{served_name, without_among, is_first, not_of}
-use Rattle.mscp_ported.specs.Talk.{AsksAlways, wish}
-use Rattle.mscp_ported.specs.Transfers.{asked, comes, done_by, is_done, is_moving, is_queued_text, is_step_of, moved, transfers, wanted}
 use Rattle.mscp_ported.proofs.Transferring.{IsHow, goes_on_so, moves_so, no_done, none_moving, other_step, told_so}
 use Rattle.mscp_ported.proofs.Moving.{Steps, steps}
 use Rattle.mscp_ported.proofs.Owning.{AreOwned, Own, Owned, and_false, carries, nothing_kept, number_of, parts_of, quiet, text_owned}

@@ -1,34 +1,7 @@
 -- Ends that come by a message or by a step, and go out as something is wanted.
-use Rattle.std.proofs.Common.{◌≡◌, ◌≢◌, ◌∙◌, ◌+◌, ◌≤◌, ◌++◌, ◌∷◌, [], ℕ, Bool, true, false, cond, drop, length, map, nat_lt, List, Option, None, Some, MatchOption, inl, inr, refl, ap, sym, subst, arith, append_assoc}
-use Rattle.std.specs.Prelude.{Result, Ok, Err, slice_get}
-use Rattle.std.proofs.lemmas.List.{append-nil, length-append, map-append}
-use Rattle.std.proofs.lemmas.Option.{none-some, same_Some}
-use Rattle.std.proofs.Math.Seq.{drop-append_seam}
-use Rattle.mscp_packet.specs.declared.end.End.{End}
-use Rattle.mscp_drive.specs.Shape.{Shape}
-use Rattle.mscp_drive.specs.UnitList.{unit_found}
-use Rattle.mscp_drive.specs.declared.connection.Connection.{Connection}
-use Rattle.mscp_drive.specs.declared.connection.Connection.TheVariants.{First, Second}
-use Rattle.mscp_queue.specs.declared.name.Name.{Name}
-use Rattle.mscp_queue.specs.declared.view.Choice.{Choice}
+use Rattle.mscp_ported.proofs.Common.{Bool, Choice, Connection, Decided, Descriptor, End, Err, First, Hardware, Hears, IsNews, Leaving, List, MatchOption, MayBegin, Name, None, Ok, Option, Outgoing, Port, Result, Says, Second, SeesText, Shape, Some, TakesBegun, TakesBlock, Verdict, [], answered_to, ap, append-nil, append_assoc, arith, block_told, cond, decided_ended, drop, drop-append_seam, end_brought, end_left, end_text, end_told, ends_begun, false, handed, inl, inr, is_dead, length, length-append, looks_or_not, map, map-append, nat_lt, news_place, none-some, own_end_of, refl, same_Some, slice_get, subst, sym, told_end, true, unit_found, ℕ, ◌++◌, ◌+◌, ◌∙◌, ◌∷◌, ◌≡◌, ◌≢◌, ◌≤◌}
 use Rattle.mscp_controller.specs.declared.entry.Sent.TheVariants as sents
-use Rattle.mscp_port.specs.declared.decided.Decided.{Decided}
-use Rattle.mscp_port.specs.declared.hardware.Hardware.{Hardware}
-use Rattle.mscp_port.specs.declared.port.Outgoing.{Outgoing}
-use Rattle.mscp_port.specs.declared.port.Port.{Port}
-use Rattle.mscp_port.specs.declared.slot.Descriptor.{Descriptor}
 use Rattle.mscp_port.specs.declared.task.Task.TheVariants as tasks
-use Rattle.mscp_port.specs.declared.verdict.Verdict.{Verdict}
-use Rattle.mscp_port.specs.Blocks.{block_told}
-use Rattle.mscp_port.specs.Calls.{Hears}
-use Rattle.mscp_port.specs.Leaving.{end_left, end_told, told_end}
-use Rattle.mscp_port.specs.Messages.{handed, own_end_of}
-use Rattle.mscp_port.specs.Moved.{TakesBegun, TakesBlock, decided_ended, end_brought}
-use Rattle.mscp_port.specs.Outgoings.{IsNews, MayBegin, Says, news_place}
-use Rattle.mscp_port.specs.Seen.{SeesText, answered_to}
-use Rattle.mscp_port.proofs.Loads.{looks_or_not}
-use Rattle.mscp_ported.specs.Ends.{Leaving, end_text, ends_begun}
-use Rattle.mscp_ported.specs.Talk.{is_dead}
 use Rattle.mscp_ported.proofs.Coming.{brings, brought_for, ends_of, steps_bring}
 use Rattle.mscp_ported.proofs.Ending.{Ends, Grows, left_with, none_come, zipped}
 use Rattle.mscp_ported.proofs.Tables.{answer_by, decided_by, text_so}

@@ -1,3 +1,4 @@
+mod Common
 pub mod Look
 pub mod After
 pub mod Plain

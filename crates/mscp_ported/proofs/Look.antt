@@ -1,23 +1,8 @@
 -- What of a port is in step with what was done in its host's memory.
-use Rattle.std.proofs.Common.{◌≡◌, ◌≢◌, ◌+◌, ◌-◌, ◌%◌, ◌^◌, ◌≤◌, ◌++◌, ◌∷◌, [], ℕ, Bool, true, false, length, map, List, Option, None, IfSome, IsSomeAnd}
-use Rattle.std.specs.Prelude.{◌==◌, option_to_list}
-use Rattle.mscp_port.specs.declared.action.Action.{Action}
+use Rattle.mscp_ported.proofs.Common.{Action, Bool, Commands, Due, Idle, IfSome, IsOfBlock, IsSomeAnd, List, Looks, Marks, Message, None, Opened, Option, Outgoing, Packet, Port, Read, Responses, Rings, Said, Side, Slot, Stage, StandInOrder, Taken, Talk, Task, TellAll, Tells, Turn, Wish, Written, [], address_in, bytes_read, connection_in, credits_by, false, is_dead, is_owned, left_after, length, length_in, map, message_slot, message_text, option_to_list, packet_of, packet_slot, said_in, silence, slot_in, text_of, true, ℕ, ◌%◌, ◌++◌, ◌+◌, ◌-◌, ◌==◌, ◌^◌, ◌∷◌, ◌≡◌, ◌≢◌, ◌≤◌}
 use Rattle.mscp_port.specs.declared.action.Action.TheVariants as actions
-use Rattle.mscp_port.specs.declared.port.Outgoing.{Outgoing}
-use Rattle.mscp_port.specs.declared.port.Port.{Port}
-use Rattle.mscp_port.specs.declared.rings.Side.{Side}
-use Rattle.mscp_port.specs.declared.rings.Side.TheVariants.{Responses, Commands}
-use Rattle.mscp_port.specs.declared.stage.Stage.{Stage}
 use Rattle.mscp_port.specs.declared.stage.Stage.TheVariants as stages
-use Rattle.mscp_port.specs.declared.task.Task.{Task}
 use Rattle.mscp_port.specs.declared.task.Task.TheVariants as tasks
-use Rattle.mscp_port.specs.Areas.{Rings, slot_in}
-use Rattle.mscp_port.specs.Packets.{credits_by, packet_of}
-use Rattle.mscp_port.specs.Ports.{IsOfBlock}
-use Rattle.mscp_port.specs.Seen.{bytes_read, connection_in, length_in}
-use Rattle.mscp_port.specs.Slots.{is_owned, text_of}
-use Rattle.mscp_ported.specs.Talk.{Wish, Slot, Turn, Idle, Taken, Opened, Read, Written, Looks, Marks, Due, Packet, Message, Talk, address_in, is_dead, silence}
-use Rattle.mscp_ported.specs.Told.{Said, StandInOrder, TellAll, Tells, left_after, message_slot, message_text, packet_slot, said_in}
 
 -- ---- a port
 

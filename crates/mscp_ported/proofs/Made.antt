@@ -1,10 +1,6 @@
 -- What a port makes of its controller by each of its own calls.
-use Rattle.std.proofs.Common.{[], inl, inr, refl}
-use Rattle.std.specs.Prelude.{Ok, Err}
-use Rattle.mscp_port.specs.declared.port.Port.{Port}
+use Rattle.mscp_ported.proofs.Common.{Becomes, Call, Err, Makes, Next, Ok, Picking, Port, WasRead, Went, WriteIp, [], inl, inr, refl}
 use Rattle.mscp_port.specs.declared.stage.Stage.TheVariants as stages
-use Rattle.mscp_port.specs.Histories.{Becomes, Call, Picking, WriteIp, Next, WasRead, Went}
-use Rattle.mscp_ported.specs.Making.{Makes}
 use Rattle.mscp_ported.proofs.Beginning.{next}
 use Rattle.mscp_ported.proofs.Making.{Follows, was_read, went}
 use Rattle.mscp_ported.proofs.Staying.{IsPassive, passive_stays}

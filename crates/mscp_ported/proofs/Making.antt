@@ -1,36 +1,11 @@
 -- What a port's controller answers to the calls that the port makes of it, by one call of its own.
-use Rattle.std.proofs.Common.{◌≡◌, ◌⊎◌, ◌∙◌, ◌++◌, ◌∷◌, [], ℕ, Bool, List, Option, None, Some, MatchOption, inl, inr, refl, ap, sym, subst}
-use Rattle.std.specs.Prelude.{Result, Ok, Err}
-use Rattle.std.proofs.lemmas.Option.{none-some}
-use Rattle.mscp_packet.specs.declared.command.MoveKind.{MoveKind}
-use Rattle.mscp_packet.specs.declared.end.End.{End}
-use Rattle.mscp_drive.specs.declared.block.Block.{Block}
-use Rattle.mscp_drive.specs.declared.connection.Connection.TheVariants.{First}
+use Rattle.mscp_ported.proofs.Common.{AnsweredCalls, Block, Bool, Call, Choice, End, Err, Finish, First, Goes, Hears, Holdings, IsFinish, IsForgotten, IsReadingText, List, Made, Makes, MatchOption, MoveKind, Name, None, Ok, Option, Outcome, Picking, Plain, Port, Result, Some, TakesBegun, TakesBlock, Task, Unasked, Upcoming, Verdict, WasRead, Went, [], answered_to, ap, block_begun, block_of, block_served, block_told, handed, inl, inr, none-some, own_end_of, part_now, part_served, refl, send_made, step_told, subst, sym, told_as, told_of, told_unless, transfer_told, unless_own, ℕ, ◌++◌, ◌∙◌, ◌∷◌, ◌≡◌, ◌⊎◌}
 use Rattle.mscp_drive.specs.declared.event.Event.TheVariants as events
-use Rattle.mscp_queue.specs.declared.name.Name.{Name}
-use Rattle.mscp_queue.specs.declared.upcoming.Upcoming.{Upcoming}
-use Rattle.mscp_queue.specs.declared.view.Choice.{Choice}
 use Rattle.mscp_controller.specs.declared.entry.Entry.TheVariants as entries
-use Rattle.mscp_controller.specs.Calls.{AnsweredCalls, Finish, Plain, Call as Made}
-use Rattle.mscp_controller.specs.Holdings.{Holdings}
-use Rattle.mscp_port.specs.declared.action.Outcome.{Outcome}
 use Rattle.mscp_port.specs.declared.action.Outcome.TheVariants as outcomes
-use Rattle.mscp_port.specs.declared.action.Unasked.{Unasked}
-use Rattle.mscp_port.specs.declared.port.Port.{Port}
 use Rattle.mscp_port.specs.declared.stage.Stage.TheVariants as stages
-use Rattle.mscp_port.specs.declared.task.Task.{Task}
 use Rattle.mscp_port.specs.declared.task.Task.TheVariants as tasks
-use Rattle.mscp_port.specs.declared.verdict.Verdict.{Verdict}
 use Rattle.mscp_port.specs.declared.verdict.Verdict.TheVariants as verdicts
-use Rattle.mscp_port.specs.Blocks.{block_of, block_told}
-use Rattle.mscp_port.specs.Calls.{Goes, Hears}
-use Rattle.mscp_port.specs.Departures.{IsForgotten}
-use Rattle.mscp_port.specs.Histories.{Call, Picking, WasRead, Went}
-use Rattle.mscp_port.specs.Messages.{handed, own_end_of}
-use Rattle.mscp_port.specs.Moved.{TakesBegun, TakesBlock, block_begun, block_served, part_now, part_served}
-use Rattle.mscp_port.specs.Ports.{IsReadingText}
-use Rattle.mscp_port.specs.Seen.{answered_to}
-use Rattle.mscp_ported.specs.Making.{IsFinish, Makes, send_made, step_told, told_as, told_of, told_unless, transfer_told, unless_own}
 use Rattle.mscp_ported.proofs.Staying.{went_stays}
 
 -- ---- calls of the controller, one behind the other

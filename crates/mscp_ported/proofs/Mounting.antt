@@ -1,37 +1,6 @@
 -- A unit that is online was brought online with the volume that is in it.
-use Rattle.std.proofs.Common.{◌≡◌, ◌≢◌, ◌⊎◌, ◌∙◌, ◌<◌, ◌%◌, ◌/◌, ◌∷◌, [], ℕ, Bool, true, false, cond, length, set, List, Option, None, Some, Contains, inl, inr, refl, ap, sym, subst, arith}
-use Rattle.std.specs.Prelude.{◌==◌, Ok, Err}
-use Rattle.std.specs.List.{position}
-use Rattle.std.proofs.lemmas.List.{append-nil}
-use Rattle.std.proofs.lemmas.Option.{none-some, same_Some}
-use Rattle.mscp_packet.specs.declared.end.End.{End}
-use Rattle.mscp_drive.specs.Shape.{Shape}
-use Rattle.mscp_drive.specs.declared.connection.Connection.{Connection}
-use Rattle.mscp_drive.specs.declared.connection.Connection.TheVariants.{First, Second}
-use Rattle.mscp_controller.specs.Holdings.{Holdings}
-use Rattle.mscp_port.specs.declared.action.Outcome.{Outcome}
-use Rattle.mscp_port.specs.declared.buffers.Buffer.{Buffer}
-use Rattle.mscp_port.specs.declared.hardware.Hardware.{Hardware}
-use Rattle.mscp_port.specs.declared.port.Outgoing.{Outgoing}
-use Rattle.mscp_port.specs.declared.port.Port.{Port}
-use Rattle.mscp_port.specs.declared.stage.Stage.{Stage}
+use Rattle.mscp_ported.proofs.Common.{Answered, Bool, Buffer, Call, Connection, Contains, End, Err, First, Goes, Hardware, Holdings, IsAsNew, IsMadeOf, IsNews, IsOnline, List, LookAgain, Next, None, Ok, Option, Outcome, Outgoing, Picking, Port, Protect, PutAside, ReadIp, Says, Second, Shape, Some, Stage, Succeeds, Tick, Volume, VolumeCame, VolumeWent, WasRead, Went, WriteIp, WriteSa, [], ap, append-nil, arith, brought_online, cases_eq, cases_lt, come, cond, end_brought, eq-eqb, eqb-true, false, false≢true, get_or-set_other, get_or-set_same, get_or_past, inl, inr, is_of, kept_found, kept_of, length, length-set, looks_or_not, news_place, no_volume, none-some, of_first, place_heeded, place_in, position, protected_by, refl, same_Some, set, settings_stay, subst, sym, taken_or_not, true, volume_at, volume_changed, volume_heeded, volume_protected, volume_put, volumes_after, volumes_heeded, volumes_with, ℕ, ◌%◌, ◌/◌, ◌<◌, ◌==◌, ◌∙◌, ◌∷◌, ◌≡◌, ◌≢◌, ◌⊎◌}
 use Rattle.mscp_port.specs.declared.stage.Stage.TheVariants as stages
-use Rattle.mscp_port.specs.declared.volumes.Volume.{Volume}
-use Rattle.mscp_port.specs.Blocks.{kept_of}
-use Rattle.mscp_port.specs.Buffers.{is_of}
-use Rattle.mscp_port.specs.Calls.{Goes, IsMadeOf}
-use Rattle.mscp_port.specs.Histories.{Answered, Call, Picking, WriteIp, ReadIp, WriteSa, Next, PutAside, WasRead, Went, LookAgain, Tick, VolumeCame, VolumeWent, Protect}
-use Rattle.mscp_port.specs.Moved.{end_brought, place_heeded, volumes_after}
-use Rattle.mscp_port.specs.Outgoings.{IsNews, Says, news_place}
-use Rattle.mscp_port.specs.Ports.{IsAsNew}
-use Rattle.mscp_port.specs.Volumes.{no_volume, place_in, brought_online, protected_by, volume_at, volume_changed, volume_heeded, volume_protected, volume_put, volumes_heeded, volumes_with}
-use Rattle.mscp_port.proofs.Begun.{taken_or_not}
-use Rattle.mscp_port.proofs.Common.{cases_eq, cases_lt, eq-eqb, eqb-true, false≢true, get_or-set_other, get_or-set_same, get_or_past, length-set}
-use Rattle.mscp_port.proofs.Credits.{settings_stay}
-use Rattle.mscp_port.proofs.Loads.{looks_or_not}
-use Rattle.mscp_port.proofs.Said.{kept_found, of_first}
-use Rattle.mscp_ported.specs.Ends.{come}
-use Rattle.mscp_ported.specs.Mounts.{IsOnline, Succeeds}
 use Rattle.mscp_ported.proofs.Changing.{same_unit}
 use Rattle.mscp_ported.proofs.Coming.{brought_for, come_so, ends_of, steps_bring}
 

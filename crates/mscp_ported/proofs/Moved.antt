@@ -1,53 +1,10 @@
 -- A block of which the controller is told that it went well was moved at its place.
-use Rattle.std.proofs.Common.{◌<◌, ◌≡◌, ◌≢◌, ◌⊎◌, ◌∙◌, ◌+◌, ◌*◌, ◌≤◌, ◌&&◌, ◌∷◌, [], ℕ, All, Bool, true, false, cond, nat_eq, List, Option, None, Some, IfSome, inl, inr, refl, ap, sym, subst, arith}
-use Rattle.std.specs.Prelude.{Result, Ok, Err, find, option_map}
-use Rattle.std.specs.List.{position}
-use Rattle.mscp_port.proofs.Common.{eqb-true}
-use Rattle.std.proofs.lemmas.Option.{none-some, same_Some}
-use Rattle.mscp_packet.specs.declared.command.MoveKind.{MoveKind}
-use Rattle.mscp_packet.specs.declared.command.Order.{Order}
-use Rattle.mscp_drive.specs.declared.block.Block.{Block}
+use Rattle.mscp_ported.proofs.Common.{All, Answered, AsksAlways, Block, Bool, Buffer, Call, Connection, Err, Finish, First, Hardware, Holdings, IfSome, IsEmpty, IsFinish, IsMadeOf, IsOfBlock, IsTo, Keeps, List, Made, Makes, MoveKind, Name, None, NotBegun, Ok, Option, Order, Outcome, Picking, Port, Record, Report, Result, Some, Task, Upcoming, Verdict, Volume, WasMoved, WasSaid, Went, Wish, [], ap, arith, asks_nothing, begun_step, begun_task, block_begun, block_moved, changed_verdict, cond, drive_of, eqb-true, false, find, has_changed, has_name, inl, inr, is_available, is_moving, is_of, is_same, kept_found, kept_of, kept_was_said, known_task, move_of, move_task, move_wanted, moved_by, moved_step, name_of, name_on, nat_eq, none-some, of_first, option_map, part_at, part_now, part_of, part_task, part_wanted, part_with, place_in, position, refl, same_Some, step_told, subst, sym, takes_any_volume, task_of, told_as, told_of, told_unless, transfer_told, true, upcoming_begun, upcoming_of, volume_at, wish, ℕ, ◌&&◌, ◌*◌, ◌+◌, ◌<◌, ◌∙◌, ◌∷◌, ◌≡◌, ◌≢◌, ◌≤◌, ◌⊎◌}
 use Rattle.mscp_drive.specs.declared.block.Block.TheVariants as blocks
-use Rattle.mscp_drive.specs.declared.connection.Connection.{Connection}
-use Rattle.mscp_drive.specs.declared.connection.Connection.TheVariants.{First}
-use Rattle.mscp_queue.specs.declared.name.Name.{Name}
-use Rattle.mscp_queue.specs.declared.report.Report.{Report}
-use Rattle.mscp_queue.specs.declared.upcoming.Upcoming.{Upcoming}
-use Rattle.mscp_queue.specs.Names.{name_on}
-use Rattle.mscp_queue.specs.Records.{Record, has_name, name_of}
-use Rattle.mscp_queue.specs.Drives.{drive_of}
-use Rattle.mscp_queue.specs.Serving.{upcoming_begun, upcoming_of}
-use Rattle.mscp_queue.proofs.Named.{is_same}
-use Rattle.mscp_controller.specs.declared.entry.NotBegun.{NotBegun}
-use Rattle.mscp_controller.specs.Calls.{Finish, Call as Made}
-use Rattle.mscp_controller.specs.Holdings.{Holdings, begun_step}
 use Rattle.mscp_port.specs.declared.action.Action.TheVariants as actions
-use Rattle.mscp_port.specs.declared.action.Outcome.{Outcome}
 use Rattle.mscp_port.specs.declared.action.Outcome.TheVariants as outcomes
-use Rattle.mscp_port.specs.declared.buffers.Buffer.{Buffer}
-use Rattle.mscp_port.specs.declared.hardware.Hardware.{Hardware}
-use Rattle.mscp_port.specs.declared.port.Port.{Port}
-use Rattle.mscp_port.specs.declared.task.Task.{Task}
 use Rattle.mscp_port.specs.declared.task.Task.TheVariants as tasks
-use Rattle.mscp_port.specs.declared.verdict.Verdict.{Verdict}
 use Rattle.mscp_port.specs.declared.verdict.Verdict.TheVariants as verdicts
-use Rattle.mscp_port.specs.declared.volumes.Volume.{Volume}
-use Rattle.mscp_port.specs.Blocks.{changed_verdict, has_changed, is_available, kept_of, move_of, move_task, moved_by, part_task, part_with, takes_any_volume, task_of}
-use Rattle.mscp_port.specs.Buffers.{is_of, part_of}
-use Rattle.mscp_port.specs.Calls.{IsMadeOf}
-use Rattle.mscp_port.specs.Histories.{Answered, Call, Picking, Went}
-use Rattle.mscp_port.specs.Kept.{WasSaid}
-use Rattle.mscp_port.specs.Moved.{begun_task, block_begun, known_task, move_wanted, moved_step, part_at, part_now, part_wanted}
-use Rattle.mscp_port.specs.Ports.{IsOfBlock}
-use Rattle.mscp_port.specs.Volumes.{place_in, volume_at}
-use Rattle.mscp_port.proofs.Kept.{IsTo}
-use Rattle.mscp_port.proofs.Said.{Keeps, kept_found, of_first}
-use Rattle.mscp_port.proofs.Telling.{kept_was_said}
-use Rattle.mscp_ported.specs.Answers.{asks_nothing}
-use Rattle.mscp_ported.specs.Making.{IsFinish, Makes, step_told, told_as, told_of, told_unless, transfer_told}
-use Rattle.mscp_ported.specs.Moved.{IsEmpty, WasMoved, block_moved}
-use Rattle.mscp_ported.specs.Talk.{AsksAlways, Wish, wish}
-use Rattle.mscp_ported.specs.Transfers.{is_moving}
 use Rattle.mscp_ported.proofs.Moving.{Steps, steps}
 use Rattle.mscp_ported.proofs.Parts.{changed_bad, has_data, no_good_part, none_left, part_is, part_left, some_left}
 use Rattle.mscp_ported.proofs.Sole.{found_all}

@@ -1,28 +1,8 @@
 -- A block of which the controller is told that it went well was moved.
-use Rattle.std.proofs.Common.{◌≡◌, ◌⊎◌, ◌∙◌, ◌∷◌, [], ℕ, Bool, false, List, Option, None, Some, IfSome, inl, inr, refl, ap, sym, subst, arith}
-use Rattle.std.specs.Prelude.{Ok, Err}
-use Rattle.mscp_packet.specs.declared.command.MoveKind.{MoveKind}
-use Rattle.mscp_drive.specs.Shape.{Shape}
-use Rattle.mscp_queue.specs.declared.upcoming.Upcoming.{Upcoming}
-use Rattle.mscp_controller.specs.Holdings.{Holdings, begun_step}
-use Rattle.mscp_port.specs.declared.action.Action.{Action}
+use Rattle.mscp_ported.proofs.Common.{Action, Answered, AsksAlways, Becomes, Bool, Buffer, Call, Dies, Drops, Err, Hardware, Holdings, IfSome, IsAlive, IsMadeOf, IsOfBlock, IsWanted, Leaves, List, LookAgain, MoveKind, Next, None, Ok, Option, Picking, Port, Protect, PutAside, ReadIp, Shape, Some, Task, Tick, Upcoming, Verdict, Volume, VolumeCame, VolumeWent, WasRead, Went, Wish, WriteIp, WriteSa, [], ap, arith, aside, begun_step, begun_task, block_begun, false, inl, inr, kept_of, move_wanted, moved_step, part_at, part_wanted, place_in, read_again, refl, step_again, step_at, subst, sym, volume_changed, volume_protected, volume_put, volumes_with, wish, ℕ, ◌∙◌, ◌∷◌, ◌≡◌, ◌⊎◌}
 use Rattle.mscp_port.specs.declared.action.Action.TheVariants as actions
-use Rattle.mscp_port.specs.declared.buffers.Buffer.{Buffer}
-use Rattle.mscp_port.specs.declared.hardware.Hardware.{Hardware}
-use Rattle.mscp_port.specs.declared.port.Port.{Port}
 use Rattle.mscp_port.specs.declared.stage.Stage.TheVariants as stages
-use Rattle.mscp_port.specs.declared.task.Task.{Task}
 use Rattle.mscp_port.specs.declared.task.Task.TheVariants as tasks
-use Rattle.mscp_port.specs.declared.verdict.Verdict.{Verdict}
-use Rattle.mscp_port.specs.declared.volumes.Volume.{Volume}
-use Rattle.mscp_port.specs.Blocks.{kept_of}
-use Rattle.mscp_port.specs.Calls.{Dies, IsMadeOf, read_again, step_again, step_at}
-use Rattle.mscp_port.specs.Histories.{Answered, Becomes, Call, Picking, WriteIp, ReadIp, WriteSa, Next, PutAside, WasRead, Went, LookAgain, Tick, VolumeCame, VolumeWent, Protect}
-use Rattle.mscp_port.specs.Moved.{begun_task, block_begun, move_wanted, moved_step, part_at, part_wanted}
-use Rattle.mscp_port.specs.Ports.{Drops, IsAlive, IsOfBlock, Leaves, aside}
-use Rattle.mscp_port.specs.Volumes.{place_in, volume_changed, volume_protected, volume_put, volumes_with}
-use Rattle.mscp_port.specs.Wanted.{IsWanted}
-use Rattle.mscp_ported.specs.Talk.{AsksAlways, Wish, wish}
 use Rattle.mscp_ported.proofs.Following.{in_step}
 use Rattle.mscp_ported.proofs.Look.{block_rings}
 use Rattle.mscp_ported.proofs.Wanting.{alive_or_dead}

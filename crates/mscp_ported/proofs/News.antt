@@ -1,39 +1,10 @@
 -- A port has no news of a unit that is online, or that has no volume.
-use Rattle.std.proofs.Common.{◌≡◌, ◌∙◌, ◌∷◌, ◌<◌, ◌≤◌, [], ℕ, zero, suc, Bool, true, false, cond, length, set, List, Option, None, Some, IsSomeAnd, inl, inr, refl, ap, sym, subst, arith, length-set, get_or-set_same, get_or-set_other}
-use Rattle.mscp_port.proofs.Common.{cases_lt, cases_eq, eqb-true, get_or_past, false≢true}
-use Rattle.std.specs.Prelude.{◌==◌, ◌/◌, ◌%◌, Ok, Err, option_map, slice_get}
-use Rattle.std.specs.List.{position}
+use Rattle.mscp_ported.proofs.Common.{Answered, Becomes, Bool, Buffer, Call, Choice, Connection, End, Err, GoesOnWithBlock, Hardware, Holdings, IsAsNew, IsAvailable, IsMadeOf, IsNews, IsSomeAnd, IsUnitList, List, LookAgain, Next, None, Ok, Option, Outgoing, OutgoingKind, Picking, Port, Protect, PutAside, ReadIp, Says, Shape, Some, Stage, TellsNews, Tick, Volume, VolumeCame, VolumeWent, WasRead, Went, WriteIp, WriteSa, [], ap, arith, attention, brought_online, cases_eq, cases_lt, cond, end_brought, end_bytes, end_kind, eqb-true, false, false≢true, get_or_past, inl, inr, length, looks_or_not, news_place, no_volume, none-some, option_map, own_end_of, place_in, position, protected_by, refl, same_Some, set, settings_still, slice_get, subst, suc, sym, taken_or_not, true, volume_at, volume_changed, volume_heeded, volume_protected, volume_put, volume_reset, volumes_after, volumes_heeded, volumes_with, zero, ℕ, ◌<◌, ◌==◌, ◌∙◌, ◌∷◌, ◌≡◌, ◌≤◌}
+use Rattle.std.proofs.Common.{length-set, get_or-set_same, get_or-set_other}
+use Rattle.std.specs.Prelude.{◌/◌, ◌%◌}
 use Rattle.std.proofs.lemmas.List.Quantifiers.{position-Some}
-use Rattle.std.proofs.lemmas.Option.{none-some, same_Some}
-use Rattle.mscp_drive.specs.Shape.{Shape}
-use Rattle.mscp_drive.specs.UnitList.{IsUnitList}
-use Rattle.mscp_controller.specs.Holdings.{Holdings}
-use Rattle.mscp_packet.specs.Ends.{end_bytes}
-use Rattle.mscp_packet.specs.declared.end.End.{End}
-use Rattle.mscp_drive.specs.declared.connection.Connection.{Connection}
-use Rattle.mscp_queue.specs.declared.view.Choice.{Choice}
-use Rattle.mscp_port.specs.declared.buffers.Buffer.{Buffer}
-use Rattle.mscp_port.specs.declared.hardware.Hardware.{Hardware}
-use Rattle.mscp_port.specs.declared.port.Outgoing.{Outgoing}
-use Rattle.mscp_port.specs.declared.port.OutgoingKind.{OutgoingKind}
 use Rattle.mscp_port.specs.declared.port.OutgoingKind.TheVariants as kinds
-use Rattle.mscp_port.specs.declared.port.Port.{Port}
-use Rattle.mscp_port.specs.declared.stage.Stage.{Stage}
 use Rattle.mscp_port.specs.declared.stage.Stage.TheVariants as stages
-use Rattle.mscp_port.specs.declared.volumes.Volume.{Volume}
-use Rattle.mscp_port.specs.Calls.{IsMadeOf}
-use Rattle.mscp_port.specs.Histories.{Answered, Becomes, Call, Picking, WriteIp, ReadIp, WriteSa, Next, PutAside, WasRead, Went, LookAgain, Tick, VolumeCame, VolumeWent, Protect}
-use Rattle.mscp_port.specs.Leaving.{attention}
-use Rattle.mscp_port.specs.Messages.{own_end_of}
-use Rattle.mscp_port.specs.Moved.{GoesOnWithBlock, end_brought, volumes_after}
-use Rattle.mscp_port.specs.Outgoings.{IsNews, Says, TellsNews, news_place}
-use Rattle.mscp_port.specs.Packets.{end_kind}
-use Rattle.mscp_port.specs.Ports.{IsAsNew}
-use Rattle.mscp_port.specs.Volumes.{brought_online, no_volume, place_in, protected_by, volume_at, volume_changed, volume_heeded, volume_protected, volume_put, volume_reset, volumes_heeded, volumes_with}
-use Rattle.mscp_port.proofs.Begun.{taken_or_not}
-use Rattle.mscp_port.proofs.Credits.{settings_still}
-use Rattle.mscp_port.proofs.Loads.{looks_or_not}
-use Rattle.mscp_ported.specs.News.{IsAvailable}
 
 -- ---- a volume
 

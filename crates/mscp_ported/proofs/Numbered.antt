@@ -1,18 +1,7 @@
 -- What there is of each reference number: nothing; a message whose command waits; or one whose end waits.
-use Rattle.std.proofs.Common.{◌≡◌, ◌⊎◌, ◌∙◌, ◌≤◌, ◌++◌, ◌∷◌, [], ℕ, Bool, true, false, cond, filter, nat_eq, not, List, None, Some, inl, inr, refl, ap, sym, subst, arith}
-use Rattle.std.specs.Prelude.{find}
-use Rattle.std.proofs.lemmas.List.Elements.{filter-append}
-use Rattle.std.proofs.lemmas.List.{append-nil}
-use Rattle.mscp_packet.specs.Number.{num}
-use Rattle.mscp_packet.specs.declared.command.Order.{Order}
+use Rattle.mscp_ported.proofs.Common.{Bool, End, EndBody, List, None, Order, Record, Some, [], ap, append-nil, arith, bytes_in, cond, eq-eqb, eqb-true, false, false≢true, filter, filter-append, find, has_number, inl, inr, is_numbered, nat_eq, not, num, refl, subst, sym, true, ℕ, ◌++◌, ◌∙◌, ◌∷◌, ◌≡◌, ◌≤◌, ◌⊎◌}
 use Rattle.mscp_packet.specs.declared.command.Order.TheVariants as orders
-use Rattle.mscp_packet.specs.declared.end.End.{End}
-use Rattle.mscp_packet.specs.declared.end.EndBody.{EndBody}
 use Rattle.mscp_packet.specs.declared.end.EndBody.TheVariants as bodies
-use Rattle.mscp_queue.specs.Records.{Record}
-use Rattle.mscp_port.proofs.Common.{eq-eqb, eqb-true, false≢true}
-use Rattle.mscp_port.proofs.Kept.{is_numbered}
-use Rattle.mscp_ported.specs.Awaited.{bytes_in, has_number}
 use Rattle.mscp_ported.proofs.Sole.{sole_left}
 
 abbrev pub ends_numbered : ℕ → End → Bool

@@ -1,22 +1,5 @@
 -- What there is of each reference number after a step of a command, and after a message.
-use Rattle.std.proofs.Common.{◌≡◌, ◌∙◌, ◌+◌, ◌<◌, ◌≤◌, ◌++◌, ◌∷◌, [], ℕ, Bool, true, false, cond, drop, filter, length, map, nat_eq, not, take, List, Option, None, Some, inl, inr, refl, ap, sym, subst, arith}
-use Rattle.std.specs.Prelude.{find, option_map, option_to_list}
-use Rattle.std.proofs.lemmas.List.Elements.{filter-append}
-use Rattle.std.proofs.lemmas.List.{append-nil}
-use Rattle.std.proofs.lemmas.Option.{none-some, same_Some}
-use Rattle.mscp_packet.specs.Number.{num}
-use Rattle.mscp_packet.specs.declared.command.Command.{Command}
-use Rattle.mscp_packet.specs.declared.end.End.{End}
-use Rattle.mscp_drive.specs.declared.block.Block.{Block}
-use Rattle.mscp_drive.specs.declared.connection.Connection.{Connection}
-use Rattle.mscp_drive.specs.declared.connection.Connection.TheVariants.{First, Second}
-use Rattle.mscp_queue.specs.declared.drive.Drive.{Drive}
-use Rattle.mscp_queue.specs.Names.{name_on}
-use Rattle.mscp_queue.specs.Records.{Record, aborted_record, advanced, no_record, passed_by, record_at, remains, step_charge, without}
-use Rattle.mscp_queue.specs.Serving.{end_given, waiting_after}
-use Rattle.mscp_port.proofs.Common.{drop_more, eq-eqb, eqb-true, false≢true, take-append-drop}
-use Rattle.mscp_port.proofs.Kept.{is_numbered}
-use Rattle.mscp_ported.specs.Awaited.{bytes_in, has_number}
+use Rattle.mscp_ported.proofs.Common.{Block, Bool, Command, Connection, Drive, End, First, List, None, Option, Record, Second, Some, [], aborted_record, advanced, ap, append-nil, arith, bytes_in, cond, drop, drop_more, end_given, eq-eqb, eqb-true, false, false≢true, filter, filter-append, find, has_number, inl, inr, is_numbered, length, map, name_on, nat_eq, no_record, none-some, not, num, option_map, option_to_list, passed_by, record_at, refl, remains, same_Some, step_charge, subst, sym, take, take-append-drop, true, waiting_after, without, ℕ, ◌++◌, ◌+◌, ◌<◌, ◌∙◌, ◌∷◌, ◌≡◌, ◌≤◌}
 use Rattle.mscp_ported.proofs.Coming.{brought_for}
 use Rattle.mscp_ported.proofs.Counted.{given_few, moved_few}
 use Rattle.mscp_ported.proofs.Keeping.{end_number}

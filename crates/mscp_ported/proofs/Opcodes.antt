@@ -1,31 +1,7 @@
 -- By each call of a port each end that waits fits its message still.
 use Rattle.mscp_queue.specs.declared.report.Report.TheVariants as reports
 use Rattle.mscp_port.specs.declared.task.Task.TheVariants as tasks
-use Rattle.mscp_controller.specs.Holdings.{Finishes, Holdings}
-use Rattle.mscp_controller.specs.declared.entry.NotBegun.{NotBegun}
-use Rattle.mscp_drive.specs.Settings.{Settings}
-use Rattle.mscp_drive.specs.declared.block.Block.{Block}
-use Rattle.mscp_drive.specs.declared.connection.Connection.{Connection}
-use Rattle.mscp_drive.specs.declared.connection.Connection.TheVariants.{First, Second}
-use Rattle.mscp_packet.specs.Ends.{IsOfKind}
-use Rattle.mscp_packet.specs.Number.{num}
-use Rattle.mscp_packet.specs.declared.end.End.{End}
-use Rattle.mscp_port.proofs.Kept.{is_numbered}
-use Rattle.mscp_port.proofs.Loads.{looks_or_not}
-use Rattle.mscp_port.proofs.Said.{served_name}
-use Rattle.mscp_port.specs.Blocks.{block_told}
-use Rattle.mscp_port.specs.Buffers.{is_of}
-use Rattle.mscp_port.specs.Calls.{Goes, Wants}
-use Rattle.mscp_port.specs.Histories.{Next, Went}
-use Rattle.mscp_port.specs.Leaving.{told_end}
-use Rattle.mscp_port.specs.Moved.{HeedsStep, IsStepping, TakesBegun, TakesBlock, block_begun, block_served, end_brought, kept_after}
-use Rattle.mscp_port.specs.Outgoings.{MayBegin, TakesEnd, news_place}
-use Rattle.mscp_port.specs.declared.action.Action.{Action}
-use Rattle.mscp_port.specs.declared.action.Outcome.{Outcome}
-use Rattle.mscp_port.specs.declared.decided.Decided.{Decided}
-use Rattle.mscp_port.specs.declared.port.Port.{Port}
-use Rattle.mscp_port.specs.declared.task.Task.{Task}
-use Rattle.mscp_port.specs.declared.verdict.Verdict.{Verdict}
+use Rattle.mscp_ported.proofs.Common.{Action, AllByRecursion, Block, Bool, Connection, Decided, Drive, End, Err, Finishes, First, Fits, Goes, HeedsStep, Holdings, IsCodeFor, IsOfKind, IsStepping, List, MatchOption, MayBegin, Name, Next, None, NotBegun, Ok, Option, Outcome, Port, Record, Report, Result, Second, Settings, Some, TakesBegun, TakesBlock, TakesEnd, Task, Verdict, Wants, Went, [], ap, append-nil, arith, block_begun, block_served, block_told, drive_at, drop, end_brought, end_given, ends_begun, filter, find, has_name, has_number, inl, inr, is_numbered, is_of, is_same, kept_after, length, looks_or_not, name_of, name_on, news_place, none-some, not, num, record_at, refl, served_name, since, slice_get, subst, sym, told_end, true, waiting_after, without_ends, ℕ, ◌++◌, ◌<◌, ◌∙◌, ◌∷◌, ◌≡◌, ◌≤◌}
 use Rattle.mscp_ported.proofs.Awaiting.{IsNoReset, Kept}
 use Rattle.mscp_ported.proofs.Buffered.{FitsBuffer, IsKeptEach, step_kept, taken_kept}
 use Rattle.mscp_ported.proofs.Coming.{brought_for, come_so, ends_of, steps_bring}
@@ -45,22 +21,6 @@ use Rattle.mscp_ported.proofs.Tables.{decided_by}
 use Rattle.mscp_ported.proofs.Transferring.{IsHow}
 use Rattle.mscp_ported.proofs.Units.{told_unit_is}
 use Rattle.mscp_ported.proofs.Wanting.{alive_or_dead}
-use Rattle.mscp_ported.specs.Awaited.{has_number, without_ends}
-use Rattle.mscp_ported.specs.Ends.{ends_begun}
-use Rattle.mscp_ported.specs.Fitting.{Fits, IsCodeFor}
-use Rattle.mscp_ported.specs.Talk.{since}
-use Rattle.mscp_queue.proofs.Named.{is_same}
-use Rattle.mscp_queue.specs.Names.{name_on}
-use Rattle.mscp_queue.specs.Records.{Record, drive_at, has_name, name_of, record_at}
-use Rattle.mscp_queue.specs.Serving.{end_given, waiting_after}
-use Rattle.mscp_queue.specs.declared.drive.Drive.{Drive}
-use Rattle.mscp_queue.specs.declared.name.Name.{Name}
-use Rattle.mscp_queue.specs.declared.report.Report.{Report}
-use Rattle.std.proofs.Common.{ℕ, Bool, List, MatchOption, None, Option, Some, [], ap, arith, drop, filter, inl, inr, length, not, refl, subst, sym, true, ◌++◌, ◌<◌, ◌∙◌, ◌∷◌, ◌≡◌, ◌≤◌}
-use Rattle.std.proofs.lemmas.List.{append-nil}
-use Rattle.std.proofs.lemmas.Option.{none-some}
-use Rattle.std.specs.List.{AllByRecursion}
-use Rattle.std.specs.Prelude.{Err, Ok, Result, find, slice_get}
 
 -- this is the text of an end that fits its message
 pub record IsSaid (c : Settings) (Told : Verdict → Record → Type 0) {K : Type 0} (old : Port K)

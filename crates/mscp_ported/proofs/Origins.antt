@@ -1,28 +1,8 @@
 -- How an end was made that waits: of which command, what its message was, and with which status it is told.
-use Rattle.std.proofs.Common.{◌≡◌, ◌⊎◌, ◌∙◌, ◌+◌, ◌<◌, ◌≤◌, ◌^◌, ℕ, Bool, true, false, cond, length, List, Option, None, Some, refl, ap, sym, subst, arith}
-use Rattle.std.specs.Prelude.{slice_index}
-use Rattle.mscp_packet.specs.Commands.{command_of}
-use Rattle.mscp_packet.specs.declared.command.Command.{Command}
-use Rattle.mscp_drive.specs.Settings.{Settings}
+use Rattle.mscp_ported.proofs.Common.{Bool, Buffer, Command, Drive, First, Holdings, Leaving, List, None, Option, Record, Settings, Some, Verdict, Volume, aborted_record, advanced, answered_end, ap, arith, block_told, code_told, command_of, cond, drive_of, end_given, ends_formality, false, figure_polled, fresh_record, handed, is_formality, is_queued, length, order_weight, refl, slice_index, status_told, subst, sym, true, ℕ, ◌+◌, ◌<◌, ◌^◌, ◌∙◌, ◌≡◌, ◌≤◌, ◌⊎◌}
 use Rattle.mscp_drive.specs.declared.block.Block.TheVariants as blocks
-use Rattle.mscp_drive.specs.declared.connection.Connection.TheVariants.{First}
-use Rattle.mscp_queue.specs.Drives.{drive_of}
-use Rattle.mscp_queue.specs.Orders.{order_weight}
-use Rattle.mscp_queue.specs.Records.{Record, aborted_record, advanced, fresh_record}
-use Rattle.mscp_queue.specs.Serving.{end_given}
-use Rattle.mscp_queue.specs.declared.drive.Drive.{Drive}
-use Rattle.mscp_controller.specs.Arrival.{is_queued}
-use Rattle.mscp_controller.specs.Holdings.{Holdings, answered_end, figure_polled}
 use Rattle.mscp_controller.specs.Outcomes.{own_end}
-use Rattle.mscp_port.specs.declared.buffers.Buffer.{Buffer}
-use Rattle.mscp_port.specs.declared.verdict.Verdict.{Verdict}
 use Rattle.mscp_port.specs.declared.verdict.Verdict.TheVariants as verdicts
-use Rattle.mscp_port.specs.declared.volumes.Volume.{Volume}
-use Rattle.mscp_port.specs.Blocks.{block_told}
-use Rattle.mscp_port.specs.Decided.{status_told}
-use Rattle.mscp_port.specs.Formalities.{code_told, ends_formality, is_formality}
-use Rattle.mscp_port.specs.Messages.{handed}
-use Rattle.mscp_ported.specs.Ends.{Leaving}
 use Rattle.mscp_ported.proofs.Sole.{Alike}
 
 -- a message is of bytes, and has as many as each has

@@ -1,28 +1,11 @@
 -- What is wanted for what is in hand is what is due.
-use Rattle.std.proofs.Common.{◌≡◌, ◌≢◌, ◌⊎◌, ◌∙◌, ◌+◌, ◌-◌, ◌*◌, ◌%◌, ◌^◌, ◌≤◌, ℕ, length, replicate, List, Option, None, Some, IfSome, IsSomeAnd, MatchOption, inl, inr, refl, ap, sym, subst, arith}
-use Rattle.std.specs.Prelude.{Result, Ok, Err}
-use Rattle.std.proofs.Math.Nat.{mod-add-mod}
-use Rattle.byteorder.specs.Endian.{little_bytes}
-use Rattle.mscp_port.specs.declared.action.Action.{Action}
+use Rattle.mscp_ported.proofs.Common.{Action, Commands, Due, Err, Idle, IfSome, IsCalm, IsInArea, IsInPacket, IsLook, IsOwed, IsSomeAnd, IsWanted, IsWithin, List, Looks, Marks, MatchOption, None, Ok, Opened, Option, Outgoing, Port, Read, Responses, Result, Rings, Side, Some, Stage, Taken, Talk, Task, Turn, Written, address_in, ap, arith, block_begun, bytes_wanted, clear_count, clear_from, credits_by, credits_with, given, given_back, given_in, in_hand, inl, inr, length, little_bytes, mod-add-mod, move_wanted, packet_of, packet_out, part_now, part_wanted, refl, slot_in, slot_place, slots_of, subst, sym, text_of, word_of, word_place, zeros_out, ℕ, ◌%◌, ◌*◌, ◌+◌, ◌-◌, ◌^◌, ◌∙◌, ◌≡◌, ◌≢◌, ◌≤◌, ◌⊎◌}
+use Rattle.std.proofs.Common.{replicate}
 use Rattle.mscp_port.specs.declared.action.Action.TheVariants as actions
-use Rattle.mscp_port.specs.declared.port.Outgoing.{Outgoing}
-use Rattle.mscp_port.specs.declared.port.Port.{Port}
-use Rattle.mscp_port.specs.declared.rings.Side.{Side}
-use Rattle.mscp_port.specs.declared.rings.Side.TheVariants.{Responses, Commands}
-use Rattle.mscp_port.specs.declared.stage.Stage.{Stage}
 use Rattle.mscp_port.specs.declared.stage.Stage.TheVariants as stages
-use Rattle.mscp_port.specs.declared.task.Task.{Task}
 use Rattle.mscp_port.specs.declared.task.Task.TheVariants as tasks
-use Rattle.mscp_port.specs.Areas.{Rings, IsInArea, slot_in, slots_of, word_of}
-use Rattle.mscp_port.specs.Moved.{block_begun, move_wanted, part_now, part_wanted}
-use Rattle.mscp_port.specs.Packets.{credits_by, credits_with, packet_of}
-use Rattle.mscp_port.specs.Ports.{IsInPacket, IsWithin, in_hand}
-use Rattle.mscp_port.specs.Slots.{given_back, text_of}
-use Rattle.mscp_port.specs.Wanted.{IsWanted, bytes_wanted, clear_count, clear_from, given_in, packet_out, zeros_out}
-use Rattle.mscp_ported.specs.Owed.{GivesBack, IsCalm, IsLook, IsOwed}
-use Rattle.mscp_ported.specs.Talk.{Turn, Idle, Taken, Opened, Read, Written, Looks, Marks, Due, Talk, address_in, given}
+use Rattle.mscp_ported.specs.Owed.{GivesBack}
 use Rattle.mscp_ported.proofs.Counting.{address_mod, mod_power, place_so, slots_so, word_so}
-use Rattle.mscp_ported.specs.Rings.{slot_place, word_place}
 use Rattle.mscp_ported.proofs.Look.{Counts, Fits, IsAsked, IsClear, IsElse, IsOfRings, IsOpen, IsRead, IsWide, IsWrite, IsInterrupt, Names, NeedsOut, given_at, look, slot_at}
 
 -- ---- actions

@@ -1,43 +1,9 @@
 -- What is kept of a command was said by its own message, and its blocks so far were moved at their places.
-use Rattle.std.proofs.Common.{◌≡◌, ◌≢◌, ◌⊎◌, ◌∙◌, ◌<◌, ◌&&◌, ◌++◌, ◌∷◌, [], ℕ, Bool, true, false, cond, filter, length, nat_eq, nat_lt, not, List, Contains, Option, None, Some, inl, inr, refl, ap, sym, subst, arith}
-use Rattle.std.specs.Prelude.{◌==◌, Ok, find, is_none, option_map, slice_index}
-use Rattle.std.proofs.lemmas.List.{append-nil}
-use Rattle.std.proofs.lemmas.Option.{none-some, same_Some}
-use Rattle.mscp_packet.specs.Number.{num}
-use Rattle.mscp_packet.specs.declared.command.Command.{Command}
-use Rattle.mscp_packet.specs.declared.command.Order.{Order}
+use Rattle.mscp_ported.proofs.Common.{Action, Answered, Bool, Buffer, Call, Command, Contains, Contains-push_cases, Descriptor, End, First, Holdings, IsLike, List, Name, None, Ok, Option, Order, Picking, Port, Record, SeesText, SendFault, Some, WasRead, [], aborting, answer_to_message, answered_end, answered_to, ap, append-nil, arith, arrives, asked, asks_nothing, balance_of, buffer_in, changes_at, comes, command_of, cond, done_by, eq-eqb, eqb-true, false, filter, find, fresh_record, handed, handed_as_read, handed_like, held_unless, inl, inr, is_first, is_formality, is_none, is_numbered, is_queued, is_queued_so, is_queued_text, kept_beside, kept_of_sent, length, moved, name_of, name_on, nat_eq, nat_lt, none-some, none_among, none_or_some, none_waits, not, not_of, num, option_map, order_weight, outstanding_of, own_answer, own_end_of, place_in, queued, reference_aborted, refl, refusal, same_Some, same_is, sent_unless, slice_index, subst, sym, taken_as, taken_number, transfers, true, unaborted, volume_named, wish, with_end, without_aborted, without_among, ℕ, ◌&&◌, ◌++◌, ◌<◌, ◌==◌, ◌∙◌, ◌∷◌, ◌≡◌, ◌≢◌, ◌⊎◌}
 use Rattle.mscp_packet.specs.declared.command.Order.TheVariants as orders
-use Rattle.mscp_packet.specs.declared.end.End.{End}
-unfoldable use Rattle.mscp_packet.specs.Commands.{command_of}
-use Rattle.mscp_drive.specs.declared.connection.Connection.TheVariants.{First}
-use Rattle.mscp_queue.specs.declared.name.Name.{Name}
-use Rattle.mscp_queue.specs.Names.{name_on}
-use Rattle.mscp_queue.specs.Orders.{order_weight}
-use Rattle.mscp_queue.specs.Records.{Record, fresh_record, name_of}
-use Rattle.mscp_queue.proofs.Named.{same_is}
-use Rattle.mscp_controller.specs.Arrival.{is_queued, refusal}
-use Rattle.mscp_controller.specs.declared.entry.SendFault.{SendFault}
 use Rattle.mscp_controller.specs.declared.entry.Sent.TheVariants as sents
-use Rattle.mscp_controller.specs.Holdings.{Holdings, aborting, answer_to_message, answered_end, arrives, balance_of, held_unless, outstanding_of, queued, reference_aborted, sent_unless, taken_as, unaborted, with_end}
-use Rattle.mscp_port.specs.declared.action.Action.{Action}
-use Rattle.mscp_port.specs.declared.buffers.Buffer.{Buffer}
-use Rattle.mscp_port.specs.declared.port.Port.{Port}
-use Rattle.mscp_port.specs.declared.slot.Descriptor.{Descriptor}
 use Rattle.mscp_port.specs.declared.task.Task.TheVariants as tasks
-use Rattle.mscp_port.specs.Buffers.{buffer_in, kept_beside, without_aborted}
-use Rattle.mscp_port.specs.Histories.{Answered, Call, Picking, WasRead}
-use Rattle.mscp_port.specs.Formalities.{is_formality}
-use Rattle.mscp_port.specs.Messages.{handed, own_end_of}
-use Rattle.mscp_port.specs.Seen.{SeesText, answered_to, changes_at, kept_of_sent}
-use Rattle.mscp_port.specs.Volumes.{place_in}
-use Rattle.mscp_port.proofs.Come.{IsLike, handed_as_read, handed_like, none_waits, taken_number}
-use Rattle.mscp_port.proofs.Common.{Contains-push_cases, eq-eqb, eqb-true}
-use Rattle.mscp_port.proofs.Among.{none_among}
-use Rattle.mscp_port.proofs.Kept.{is_numbered}
-use Rattle.mscp_port.proofs.Said.{is_first, none_or_some, not_of, without_among}
-use Rattle.mscp_ported.specs.Answers.{asks_nothing, own_answer, volume_named}
-use Rattle.mscp_ported.specs.Talk.{wish}
-use Rattle.mscp_ported.specs.Transfers.{asked, comes, done_by, is_queued_so, is_queued_text, moved, text_of, transfers}
+use Rattle.mscp_ported.specs.Transfers.{text_of}
 use Rattle.mscp_ported.proofs.Answering.{handed_so, none_so, own_so}
 use Rattle.mscp_ported.proofs.Sole.{Alike, found_sole, itself, none_passes, sole_beside, sole_comes, sole_left, sole_passes}
 

@@ -1,17 +1,9 @@
 -- A part of what is kept of a command, where its block may be moved.
-use Rattle.std.proofs.Common.{◌<◌, ◌≡◌, ◌≢◌, ◌+◌, ◌-◌, ◌*◌, ◌≤◌, ◌||◌, ℕ, Bool, true, false, cond, min, nat_eq, nat_lt, Option, None, Some, IfSome, refl, ap, sym, arith}
-use Rattle.std.specs.Prelude.{Ok, Err}
-use Rattle.std.proofs.lemmas.Option.{none-some, same_Some}
-use Rattle.mscp_packet.specs.declared.command.MoveKind.{MoveKind}
+use Rattle.mscp_ported.proofs.Common.{Bool, Buffer, Err, IfSome, MoveKind, None, Ok, Option, Some, Verdict, Volume, ap, arith, asks_nothing, changed_verdict, cond, false, fault_with, faulted, has_changed, is_formality, min, nat_eq, nat_lt, none-some, part_of, part_with, refl, refusal_of, same_Some, sym, true, unless_fault, ℕ, ◌*◌, ◌+◌, ◌-◌, ◌<◌, ◌≡◌, ◌≢◌, ◌≤◌}
+use Rattle.std.proofs.Common.{◌||◌}
 use Rattle.mscp_drive.specs.declared.block.Block.TheVariants as blocks
-use Rattle.mscp_port.specs.declared.buffers.Buffer.{Buffer}
-use Rattle.mscp_port.specs.declared.verdict.Verdict.{Verdict}
 use Rattle.mscp_port.specs.declared.verdict.Verdict.TheVariants as verdicts
-use Rattle.mscp_port.specs.declared.volumes.Volume.{Volume}
-use Rattle.mscp_port.specs.Blocks.{changed_verdict, fault_with, faulted, has_changed, part_with, refusal_of, unless_fault}
-use Rattle.mscp_port.specs.Buffers.{left_of, part_of}
-use Rattle.mscp_port.specs.Formalities.{is_formality}
-use Rattle.mscp_ported.specs.Answers.{asks_nothing}
+use Rattle.mscp_port.specs.Buffers.{left_of}
 
 -- ---- parts of buffers
 

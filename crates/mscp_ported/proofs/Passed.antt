@@ -1,18 +1,6 @@
 -- Ends pass on to a host in order, over a whole list of calls.
 use Rattle.mscp_port.specs.declared.port.OutgoingKind.TheVariants as kinds
-use Rattle.mscp_controller.specs.Calls.{AnsweredCalls, Call as Made}
-use Rattle.mscp_controller.specs.Controllers.{ControllersKeepThePromise}
-use Rattle.mscp_controller.specs.Holdings.{Holdings, fresh, outstanding_of}
-use Rattle.mscp_drive.specs.Settings.{IsValid, Settings}
-use Rattle.mscp_drive.specs.declared.connection.Connection.TheVariants.{First}
-use Rattle.mscp_packet.specs.Number.{num}
-use Rattle.mscp_port.proofs.Kept.{is_numbered}
-use Rattle.mscp_port.specs.Calls.{IsMadeOf}
-use Rattle.mscp_port.specs.Departures.{begins}
-use Rattle.mscp_port.specs.Histories.{Answered, Call, Next, Picking, WasRead, Went, WriteIp}
-use Rattle.mscp_port.specs.declared.hardware.Hardware.{Hardware}
-use Rattle.mscp_port.specs.declared.port.OutgoingKind.{OutgoingKind}
-use Rattle.mscp_port.specs.declared.port.Port.{Port}
+use Rattle.mscp_ported.proofs.Common.{All, AllByRecursion, Answered, AnsweredCalls, AsksAlways, Call, ControllersKeepThePromise, Deals, Err, First, Hardware, Holdings, IsMadeOf, IsValid, List, Made, Next, Ok, OutgoingKind, PassesOn, Pending, Picking, Port, ReadsBytes, Record, Settings, TakesPoll, WasRead, Went, WriteIp, [], accepted_by, ap, append-nil, arith, awaited, begins, ends_said_by, every_append, false, figure_on, filter, flat_map, fresh, inl, inr, is_dead, is_numbered, map, num, outstanding_of, pending_end, pending_held, pending_in, pending_said, refl, said_in, subst, sym, taken_by, ℕ, ◌++◌, ◌<◌, ◌∙◌, ◌∷◌, ◌≡◌, ◌≢◌, ◌≤◌, ◌⊎◌}
 use Rattle.mscp_ported.proofs.Answering.{answers}
 use Rattle.mscp_ported.proofs.Awaiting.{Kept}
 use Rattle.mscp_ported.proofs.ByOpcode.{fitting}
@@ -23,18 +11,6 @@ use Rattle.mscp_ported.proofs.Itself.{own_number}
 use Rattle.mscp_ported.proofs.Growing.{Grown, begun_one, grown_none, grown_passes, pending_these, silent}
 use Rattle.mscp_ported.proofs.Passing.{Comes, next_passes, read_comes, went_grown}
 use Rattle.mscp_ported.proofs.Staying.{IsPassive, passive_stays}
-use Rattle.mscp_ported.specs.Awaited.{Deals, ReadsBytes, awaited, taken_by}
-use Rattle.mscp_ported.specs.Ends.{ends_said_by}
-use Rattle.mscp_ported.specs.Figures.{figure_on}
-use Rattle.mscp_ported.specs.Passing.{PassesOn, Pending, TakesPoll, pending_end, pending_held, pending_in, pending_said}
-use Rattle.mscp_ported.specs.Talk.{AsksAlways, is_dead}
-use Rattle.mscp_ported.specs.Told.{accepted_by, said_in}
-use Rattle.mscp_queue.proofs.Lists.{every_append}
-use Rattle.mscp_queue.specs.Records.{Record}
-use Rattle.std.proofs.Common.{ℕ, All, List, [], ap, arith, false, filter, inl, inr, map, refl, subst, sym, ◌++◌, ◌<◌, ◌∙◌, ◌∷◌, ◌≡◌, ◌≢◌, ◌≤◌, ◌⊎◌}
-use Rattle.std.proofs.lemmas.List.{append-nil}
-use Rattle.std.specs.List.{AllByRecursion}
-use Rattle.std.specs.Prelude.{Err, Ok, flat_map}
 
 module _ {K : Type 0} (picks : Picking K) (c : Settings) (picker : K)
     (keeps : ControllersKeepThePromise (picks picker) picker) (valid : IsValid c)

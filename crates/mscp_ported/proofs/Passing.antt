@@ -1,40 +1,10 @@
 -- Ends pass on to a host in the order in which they came.
-use Rattle.mscp_drive.specs.Settings.{Settings}
+use Rattle.mscp_ported.proofs.Common.{Action, AllByRecursion, Bool, Command, Connection, Descriptor, End, Err, Finishes, First, Goes, Hears, Holdings, IsOfKind, IsReadingText, List, MatchOption, MayBegin, Name, Next, None, NotBegun, Ok, Option, Order, Outcome, PassesOn, Port, Record, Report, Result, Second, SeesText, SendFault, Settings, Some, TakesBegun, TakesBlock, TakesEnd, TakesPoll, Task, Verdict, Wants, WasRead, Went, [], aborted_record, aborting, accepted_by, accepted_text, accepts, answer_to_message, answered_end, answered_to, ap, append-nil, append_assoc, arith, arrives, balance_of, block_begun, block_served, block_told, command_of, cond, drive_at, drop, end_brought, end_given, ends_begun, every_append, false, fault_of, figure_on, filter, find, flat_map, found_is, handed, held_unless, inl, inr, is_dead, is_none, is_numbered, is_ok, is_queued, is_same, is_taken_text, length, looks_or_not, map, name_of, name_on, nat_eq, news_place, none-some, none_or_some, num, option_map, option_to_list, outstanding_of, own_answer, own_end_of, pending_end, pending_held, pending_in, pending_said, queued, record_aborted, record_at, refl, refusal, said_in, sent_unless, served_name, slice_get, slice_index, subst, sym, taken_by, told_end, true, volume_named, with_end, ℕ, ◌&&◌, ◌++◌, ◌∙◌, ◌∷◌, ◌≡◌, ◌≤◌, ◌⊎◌}
 use Rattle.mscp_ported.proofs.Growing.{Grown, begun_one, silent, grown_none, grown_passes}
 use Rattle.mscp_port.specs.declared.port.OutgoingKind.TheVariants as kinds
 use Rattle.mscp_packet.specs.declared.command.Order.TheVariants as orders
 use Rattle.mscp_port.specs.declared.task.Task.TheVariants as tasks
 use Rattle.mscp_queue.specs.declared.report.Report.TheVariants as reports
-use Rattle.mscp_controller.specs.Arrival.{fault_of, is_queued, refusal}
-use Rattle.mscp_controller.specs.Holdings.{Finishes, Holdings, aborting, answer_to_message, answered_end, arrives, balance_of, held_unless, outstanding_of, queued, record_aborted, sent_unless, with_end}
-use Rattle.mscp_controller.specs.declared.entry.NotBegun.{NotBegun}
-use Rattle.mscp_controller.specs.declared.entry.SendFault.{SendFault}
-use Rattle.mscp_drive.specs.declared.connection.Connection.{Connection}
-use Rattle.mscp_drive.specs.declared.connection.Connection.TheVariants.{First, Second}
-unfoldable use Rattle.mscp_packet.specs.Commands.{command_of}
-use Rattle.mscp_packet.specs.Ends.{IsOfKind}
-use Rattle.mscp_packet.specs.Number.{num}
-use Rattle.mscp_packet.specs.declared.command.Command.{Command}
-use Rattle.mscp_packet.specs.declared.command.Order.{Order}
-use Rattle.mscp_packet.specs.declared.end.End.{End}
-use Rattle.mscp_port.proofs.Kept.{is_numbered}
-use Rattle.mscp_port.proofs.Loads.{looks_or_not}
-use Rattle.mscp_port.proofs.Said.{none_or_some, served_name}
-use Rattle.mscp_port.specs.Blocks.{block_told}
-use Rattle.mscp_port.specs.Calls.{Goes, Hears, Wants}
-use Rattle.mscp_port.specs.Histories.{Next, WasRead, Went}
-use Rattle.mscp_port.specs.Leaving.{told_end}
-use Rattle.mscp_port.specs.Messages.{handed, own_end_of}
-use Rattle.mscp_port.specs.Moved.{TakesBegun, TakesBlock, block_begun, block_served, end_brought}
-use Rattle.mscp_port.specs.Outgoings.{MayBegin, TakesEnd, news_place}
-use Rattle.mscp_port.specs.Ports.{IsReadingText}
-use Rattle.mscp_port.specs.Seen.{SeesText, answered_to}
-use Rattle.mscp_port.specs.declared.action.Action.{Action}
-use Rattle.mscp_port.specs.declared.action.Outcome.{Outcome}
-use Rattle.mscp_port.specs.declared.port.Port.{Port}
-use Rattle.mscp_port.specs.declared.slot.Descriptor.{Descriptor}
-use Rattle.mscp_port.specs.declared.task.Task.{Task}
-use Rattle.mscp_port.specs.declared.verdict.Verdict.{Verdict}
 use Rattle.mscp_ported.proofs.Answering.{handed_so, own_so, poll_command, poll_handed, polled}
 use Rattle.mscp_ported.proofs.Awaiting.{Kept, handed_like, own_number}
 use Rattle.mscp_ported.proofs.Coming.{brought_for, ends_of, steps_bring}
@@ -48,27 +18,7 @@ use Rattle.mscp_ported.proofs.Numbering.{served_waits}
 use Rattle.mscp_ported.proofs.Owning.{and_false, number_of}
 use Rattle.mscp_ported.proofs.Staying.{went_stays}
 use Rattle.mscp_ported.proofs.Wanting.{alive_or_dead}
-use Rattle.mscp_ported.specs.Answers.{own_answer, volume_named}
-use Rattle.mscp_ported.specs.Awaited.{is_taken_text, taken_by}
-use Rattle.mscp_ported.specs.Ends.{ends_begun}
-use Rattle.mscp_ported.specs.Figures.{figure_on}
-use Rattle.mscp_ported.specs.Passing.{PassesOn, TakesPoll, pending_end, pending_held, pending_in, pending_said}
-use Rattle.mscp_ported.specs.Talk.{is_dead}
 use Rattle.mscp_ported.proofs.Opcodes.{first}
-use Rattle.mscp_ported.specs.Told.{accepted_by, accepted_text, accepts, said_in}
-use Rattle.mscp_queue.proofs.Lists.{every_append}
-use Rattle.mscp_queue.proofs.Named.{is_same}
-use Rattle.mscp_queue.proofs.Placed.{found_is}
-use Rattle.mscp_queue.specs.Names.{name_on}
-use Rattle.mscp_queue.specs.Records.{Record, aborted_record, drive_at, name_of, record_at}
-use Rattle.mscp_queue.specs.Serving.{end_given}
-use Rattle.mscp_queue.specs.declared.name.Name.{Name}
-use Rattle.mscp_queue.specs.declared.report.Report.{Report}
-use Rattle.std.proofs.Common.{ℕ, Bool, List, MatchOption, None, Option, Some, [], ap, append_assoc, arith, cond, drop, false, filter, inl, inr, length, map, nat_eq, refl, subst, sym, true, ◌&&◌, ◌++◌, ◌∙◌, ◌∷◌, ◌≡◌, ◌≤◌, ◌⊎◌}
-use Rattle.std.proofs.lemmas.List.{append-nil}
-use Rattle.std.proofs.lemmas.Option.{none-some}
-use Rattle.std.specs.List.{AllByRecursion}
-use Rattle.std.specs.Prelude.{Err, Ok, Result, find, flat_map, is_none, is_ok, option_map, option_to_list, slice_get, slice_index}
 
 -- ---- an end is taken
 

@@ -1,16 +1,7 @@
 -- Calls that report no action: what is in step stays so.
-use Rattle.std.proofs.Common.{◌≡◌, ◌⊎◌, ◌∙◌, ◌++◌, [], ℕ, false, map, List, Option, None, Some, IfSome, inl, inr, refl, ap, sym, subst, arith}
-use Rattle.std.specs.Prelude.{option_to_list}
-use Rattle.mscp_port.specs.declared.port.Port.{Port}
-use Rattle.mscp_port.specs.declared.stage.Stage.{Stage}
+use Rattle.mscp_ported.proofs.Common.{Call, Dies, Idle, IfSome, IsAsNew, IsOfBlock, List, None, Option, Port, Said, Some, Stage, Talk, Task, Turn, Wish, WriteIp, [], ap, arith, aside, false, inl, inr, is_dead, map, message_text, option_to_list, read_again, refl, said_in, silence, step_at, stepped, subst, sym, talk_after, ℕ, ◌++◌, ◌∙◌, ◌≡◌, ◌⊎◌}
 use Rattle.mscp_port.specs.declared.stage.Stage.TheVariants as stages
-use Rattle.mscp_port.specs.declared.task.Task.{Task}
 use Rattle.mscp_port.specs.declared.task.Task.TheVariants as tasks
-use Rattle.mscp_port.specs.Calls.{Dies, read_again, step_at}
-use Rattle.mscp_port.specs.Histories.{Call, WriteIp}
-use Rattle.mscp_port.specs.Ports.{IsAsNew, IsOfBlock, aside}
-use Rattle.mscp_ported.specs.Talk.{Wish, Turn, Idle, Talk, is_dead, silence, stepped, talk_after}
-use Rattle.mscp_ported.specs.Told.{Said, message_text, said_in}
 use Rattle.mscp_ported.proofs.After.{After, IsNoReset, IsPlain, ends, unmoved}
 use Rattle.mscp_ported.proofs.Look.{Fits, HasLeft, InStep, IsAsked, IsClear, IsOfRings, IsOpen, IsTelling, IsWide, Look, NeedsOut, has_area, in_hand, look, told_on}
 

@@ -1,20 +1,7 @@
 -- What is promised of the controller in a port.
-use Rattle.std.proofs.Common.{◌≡◌, ◌∙◌, ◌++◌, ◌∷◌, [], ℕ, List, None, Some, inl, inr, refl, ap, sym, subst}
-use Rattle.std.specs.Prelude.{Ok, Err}
-use Rattle.mscp_drive.specs.Settings.{IsValid, Settings}
+use Rattle.mscp_ported.proofs.Common.{Answered, AnsweredCalls, AnswersCall, AreMade, Begin, Call, Choice, ControllersKeepThePromise, Err, Finish, Hardware, Holdings, IsMadeOf, IsValid, KeepsPromise, Line, List, Made, None, Ok, Picking, Plain, Port, Settings, Some, [], ap, fresh, inl, inr, owner_kept, refl, subst, sym, ℕ, ◌++◌, ◌∙◌, ◌∷◌, ◌≡◌}
 use Rattle.mscp_drive.specs.declared.event.Event.TheVariants as events
-use Rattle.mscp_queue.specs.declared.view.Choice.{Choice}
-use Rattle.mscp_queue.specs.Lines.{Line}
 use Rattle.mscp_controller.specs.declared.entry.Entry.TheVariants as entries
-use Rattle.mscp_controller.specs.Calls.{AnsweredCalls, AnswersCall, Begin, Finish, Plain, Call as Made}
-use Rattle.mscp_controller.specs.Controllers.{ControllersKeepThePromise, KeepsPromise}
-use Rattle.mscp_controller.specs.Holdings.{Holdings, fresh}
-use Rattle.mscp_controller.proofs.Bridge.Basics.{owner_kept}
-use Rattle.mscp_port.specs.declared.hardware.Hardware.{Hardware}
-use Rattle.mscp_port.specs.declared.port.Port.{Port}
-use Rattle.mscp_port.specs.Calls.{IsMadeOf}
-use Rattle.mscp_port.specs.Histories.{Answered, Call, Picking}
-use Rattle.mscp_ported.specs.Making.{AreMade}
 use Rattle.mscp_ported.proofs.Made.{follows}
 use Rattle.mscp_ported.proofs.Making.{made_more}
 

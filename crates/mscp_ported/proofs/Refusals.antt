@@ -1,22 +1,8 @@
 -- Which messages find a credit, and that an end which is answered at once tells no greater figure.
-use Rattle.mscp_packet.specs.declared.end.BodyKind.{BodyKind}
+use Rattle.mscp_ported.proofs.Common.{BodyKind, Bool, Command, List, None, Option, Order, SendFault, Settings, Some, answer_body, arith, cond, endcode, false, figure_in, kind_of_code, length, nat_eq, nat_lt, none-some, num, own_end_with, refl, refusal, slice_index, true, zero_body, ℕ, ◌*◌, ◌+◌, ◌<◌, ◌^◌, ◌≡◌, ◌≤◌}
 use Rattle.mscp_packet.specs.declared.end.BodyKind.TheVariants as kinds_of
-use Rattle.mscp_packet.specs.Ends.{kind_of_code, zero_body}
-use Rattle.mscp_controller.specs.Outcomes.{answer_body}
-use Rattle.mscp_ported.specs.Passing.{figure_in}
 use Rattle.mscp_controller.specs.declared.entry.SendFault.TheVariants as faults
 use Rattle.mscp_packet.specs.declared.command.Order.TheVariants as orders
-use Rattle.mscp_controller.specs.Arrival.{refusal}
-use Rattle.mscp_controller.specs.Outcomes.{own_end_with}
-use Rattle.mscp_controller.specs.declared.entry.SendFault.{SendFault}
-use Rattle.mscp_drive.specs.Settings.{Settings}
-use Rattle.mscp_packet.specs.Number.{num}
-use Rattle.mscp_packet.specs.declared.command.Command.{Command}
-use Rattle.mscp_packet.specs.declared.command.Order.{Order}
-use Rattle.mscp_queue.specs.Orders.{endcode}
-use Rattle.std.proofs.Common.{ℕ, Bool, List, None, Option, Some, arith, cond, false, length, nat_eq, nat_lt, refl, true, ◌*◌, ◌+◌, ◌<◌, ◌^◌, ◌≡◌, ◌≤◌}
-use Rattle.std.proofs.lemmas.Option.{none-some}
-use Rattle.std.specs.Prelude.{slice_index}
 
 pub num_small : (b : List ℕ) → ((i : ℕ) → slice_index b i < 2 ^ 8) → num b 12 4 < 2 ^ 32
 num_small b h = few (slice_index b 12) (slice_index b 13) (slice_index b 14) (slice_index b 15) (h 12) (h 13) (h 14)

@@ -1,21 +1,10 @@
 -- What follows when a host reads and writes registers.
-use Rattle.std.proofs.Common.{◌≡◌, ◌≢◌, ◌⊎◌, ◌∙◌, ◌%◌, ◌++◌, [], ℕ, Bool, true, false, cond, nat_lt, map, List, Option, None, Some, IfSome, inl, inr, refl, ap, sym, subst, arith}
-use Rattle.std.specs.Prelude.{◌==◌}
-use Rattle.std.proofs.lemmas.Option.{none-some}
-use Rattle.mscp_port.specs.declared.port.Port.{Port}
-use Rattle.mscp_port.specs.declared.stage.Stage.{Stage}
+use Rattle.mscp_ported.proofs.Common.{Bool, IfSome, List, None, Option, Port, ReadIp, ReadsIp, Rings, Said, Some, Stage, Talk, Task, Turn, Wish, WriteSa, WritesSa, [], answered, ap, append-nil, arith, cond, false, inl, inr, is_dead, map, message_text, nat_lt, none-some, refl, stepped, subst, sym, true, ℕ, ◌%◌, ◌++◌, ◌==◌, ◌∙◌, ◌≡◌, ◌≢◌, ◌⊎◌}
 use Rattle.mscp_port.specs.declared.stage.Stage.TheVariants as stages
-use Rattle.mscp_port.specs.declared.task.Task.{Task}
 use Rattle.mscp_port.specs.declared.task.Task.TheVariants as tasks
-use Rattle.mscp_port.specs.Areas.{Rings}
-use Rattle.mscp_port.specs.Calls.{ReadsIp, WritesSa}
-use Rattle.mscp_port.specs.Histories.{ReadIp, WriteSa}
-use Rattle.mscp_ported.specs.Talk.{Wish, Turn, Talk, answered, is_dead, stepped}
-use Rattle.mscp_ported.specs.Told.{Said, message_text}
 use Rattle.mscp_ported.proofs.After.{After, IsNoReset, IsPlain, alters, none_said, same_stage}
 use Rattle.mscp_ported.proofs.Look.{Fits, Hand, InStep, IsAsked, IsClear, IsOfRings, IsOpen, IsTelling, Look, has_area, in_hand, is_early, is_loud, look, told_on}
 use Rattle.mscp_ported.proofs.Plain.{again_so, dies, lets_be, same_port}
-use Rattle.std.proofs.lemmas.List.{append-nil}
 
 -- ---- the stage becomes another
 

@@ -1,35 +1,9 @@
 -- In which ports the ring of responses wasn't found full, and no step of the initialisation waits.
-use Rattle.std.proofs.Common.{◌≡◌, ◌≢◌, ◌⊎◌, ◌∙◌, ◌∷◌, ◌≤◌, ◌<◌, [], ℕ, Bool, true, false, cond, List, Option, None, Some, IfSome, MatchOption, inl, inr, refl, ap, sym, subst, arith}
-use Rattle.std.specs.Prelude.{◌==◌, ◌/◌, ◌%◌, nat_lt, Result, Ok, Err}
-use Rattle.std.proofs.lemmas.Option.{none-some}
-use Rattle.mscp_packet.specs.Number.{num}
-use Rattle.mscp_controller.specs.Holdings.{Holdings}
-use Rattle.mscp_controller.specs.declared.entry.SendFault.{SendFault}
-use Rattle.mscp_controller.specs.declared.entry.Sent.{Sent}
+use Rattle.mscp_ported.proofs.Common.{Answered, AsksAlways, Becomes, Bool, Call, Choice, Commands, Descriptor, Err, Goes, Hardware, HasRoom, Hears, Holdings, IfSome, IsAsNew, IsGiven, IsMadeOf, IsOutcomeOf, List, LookAgain, MatchOption, Next, None, Ok, Option, Outcome, Picking, Port, Protect, PutAside, ReadIp, ReadsIp, Responses, Result, Rings, SeesText, SendFault, Sends, Sent, Some, Stage, TakesStep, Task, Tick, Unasked, VolumeCame, VolumeWent, WasRead, Went, WriteIp, WriteSa, WritesSa, [], answered_to, ap, arith, bytes_read, cond, connection_in, false, false≢true, header_fault, inl, inr, is_owned, length_in, none-some, none_or_not, num, own_end_of, read_size, refl, rings_named, step_answered, subst, sym, taken_or_not, true, ℕ, ◌<◌, ◌==◌, ◌∙◌, ◌∷◌, ◌≡◌, ◌≢◌, ◌≤◌, ◌⊎◌}
+use Rattle.std.specs.Prelude.{◌/◌, ◌%◌, nat_lt}
 use Rattle.mscp_controller.specs.declared.entry.Sent.TheVariants as sents
-use Rattle.mscp_queue.specs.declared.view.Choice.{Choice}
-use Rattle.mscp_port.specs.declared.action.Outcome.{Outcome}
-use Rattle.mscp_port.specs.declared.action.Unasked.{Unasked}
-use Rattle.mscp_port.specs.declared.hardware.Hardware.{Hardware}
-use Rattle.mscp_port.specs.declared.port.Port.{Port}
-use Rattle.mscp_port.specs.declared.rings.Side.TheVariants.{Responses, Commands}
-use Rattle.mscp_port.specs.declared.slot.Descriptor.{Descriptor}
-use Rattle.mscp_port.specs.declared.stage.Stage.{Stage}
 use Rattle.mscp_port.specs.declared.stage.Stage.TheVariants as stages
-use Rattle.mscp_port.specs.declared.task.Task.{Task}
 use Rattle.mscp_port.specs.declared.task.Task.TheVariants as tasks
-use Rattle.mscp_port.specs.Areas.{Rings, rings_named}
-use Rattle.mscp_port.specs.Calls.{Goes, Hears, IsMadeOf, ReadsIp, TakesStep, WritesSa, step_answered}
-use Rattle.mscp_port.specs.Histories.{Answered, Becomes, Call, Picking, WriteIp, ReadIp, WriteSa, Next, PutAside, WasRead, Went, LookAgain, Tick, VolumeCame, VolumeWent, Protect}
-use Rattle.mscp_port.specs.Messages.{own_end_of}
-use Rattle.mscp_port.specs.Ports.{IsAsNew, IsOutcomeOf, read_size}
-use Rattle.mscp_port.specs.Seen.{SeesText, Sends, answered_to, bytes_read, connection_in, header_fault, length_in}
-use Rattle.mscp_port.specs.Slots.{is_owned}
-use Rattle.mscp_port.proofs.Begun.{taken_or_not}
-use Rattle.mscp_port.proofs.Common.{false≢true}
-use Rattle.mscp_port.proofs.Loads.{none_or_not}
-use Rattle.mscp_ported.specs.Soon.{HasRoom, IsGiven}
-use Rattle.mscp_ported.specs.Talk.{AsksAlways}
 use Rattle.mscp_ported.proofs.Following.{asked_before, in_step}
 use Rattle.mscp_ported.proofs.Look.{IsClear, IsOfRings}
 

@@ -1,27 +1,9 @@
 -- The bytes with which an end leaves say what it says.
-use Rattle.mscp_port.specs.declared.verdict.Verdict.{Verdict}
-use Rattle.mscp_queue.specs.Records.{Record}
-use Rattle.std.proofs.Common.{◌≡◌, ◌⊎◌, ◌∙◌, ◌≤◌, ◌∷◌, [], ℕ, Bool, true, false, cond, length, nat_eq, List, Option, Some, inl, inr, refl, ap, sym, arith}
-use Rattle.std.specs.Prelude.{find, option_map, slice_get, slice_index}
-use Rattle.std.specs.List.{AllByRecursion}
-use Rattle.mscp_packet.specs.Number.{num}
-use Rattle.mscp_packet.specs.declared.end.BodyKind.{BodyKind}
+use Rattle.mscp_ported.proofs.Common.{AllByRecursion, BodyKind, Bool, Decided, End, EndBody, IsOfKind, List, Option, Port, Record, Settings, Shape, Some, Verdict, [], ap, arith, cond, end_bytes, end_left, end_with_body, endcodes, ends_formality, eq-eqb, eqb-true, false, figure_in, find, four, head, inl, inr, kind_of_body, kind_of_code, length, nat_eq, num, option_map, refl, slice_get, slice_index, sym, told_end, true, unit_found, ℕ, ◌∙◌, ◌∷◌, ◌≡◌, ◌≤◌, ◌⊎◌}
 use Rattle.mscp_packet.specs.declared.end.BodyKind.TheVariants as kinds_of
-use Rattle.mscp_packet.specs.Ends.{IsOfKind, endcodes, end_bytes, kind_of_body, kind_of_code}
-use Rattle.mscp_packet.proofs.Numbers.{four}
-use Rattle.mscp_drive.specs.UnitList.{unit_found}
-use Rattle.mscp_packet.specs.declared.end.End.{End}
-use Rattle.mscp_packet.specs.declared.end.EndBody.{EndBody}
 use Rattle.mscp_packet.specs.declared.end.EndBody.TheVariants as bodies
-use Rattle.mscp_drive.specs.Settings.{Settings}
-use Rattle.mscp_drive.specs.Shape.{Shape}
-use Rattle.mscp_port.specs.declared.decided.Decided.{Decided}
-use Rattle.mscp_port.specs.Formalities.{ends_formality}
-use Rattle.mscp_port.specs.Leaving.{end_left, end_with_body, head, told_end}
-use Rattle.mscp_port.specs.declared.port.Port.{Port}
-use Rattle.mscp_port.proofs.Common.{eq-eqb, eqb-true, none-some, same_Some}
+use Rattle.mscp_port.proofs.Common.{none-some, same_Some}
 use Rattle.mscp_ported.proofs.Codes.{IsAboutCode, about_in}
-use Rattle.mscp_ported.specs.Passing.{figure_in}
 use Rattle.mscp_ported.proofs.Ending.{left_with}
 use Rattle.mscp_ported.proofs.Whole.{code_of}
 use Rattle.mscp_ported.proofs.Fitting.{FitsEnd}

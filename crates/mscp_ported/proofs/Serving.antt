@@ -1,46 +1,8 @@
 -- Whoever always asks for blocks has a step told between two polls of a command that waits.
-use Rattle.std.proofs.Common.{◌≡◌, ◌≢◌, ◌⊎◌, ◌∙◌, ◌≤◌, ◌&&◌, ◌∷◌, [], ℕ, Bool, true, false, cond, length, List, Option, None, Some, MatchOption, inl, inr, refl, ap, sym, subst, arith}
-use Rattle.std.specs.Prelude.{◌==◌, Result, Ok, Err, is_none, is_ok, slice_index}
-use Rattle.std.proofs.lemmas.Option.{none-some}
-use Rattle.mscp_packet.specs.Number.{num}
-unfoldable use Rattle.mscp_packet.specs.Commands.{command_of}
-use Rattle.mscp_packet.specs.declared.end.End.{End}
-use Rattle.mscp_drive.specs.declared.connection.Connection.TheVariants.{First}
-use Rattle.mscp_queue.specs.Figures.{figure_of_name}
-use Rattle.mscp_queue.specs.Names.{name_on}
-use Rattle.mscp_queue.specs.Records.{Record}
-use Rattle.mscp_controller.specs.Arrival.{refusal}
-use Rattle.mscp_controller.specs.Holdings.{Holdings, answer_to_message, balance_of, outstanding_of, sent_unless, taken_as}
-use Rattle.mscp_controller.specs.declared.entry.SendFault.{SendFault}
-use Rattle.mscp_controller.specs.declared.entry.Sent.{Sent}
+use Rattle.mscp_ported.proofs.Common.{Action, Answered, AsksBehindPolls, AsksForBlocks, Becomes, Bool, Call, Commands, Descriptor, End, Err, First, Hardware, Hears, Holdings, IsAsNew, IsMadeOf, IsReadingText, IsServedSince, IsStepping, List, LookAgain, MatchOption, Next, None, Ok, Option, Outgoing, Picking, Port, Protect, PutAside, ReadIp, Record, Responses, Result, SeesText, SendFault, Sends, Sent, ServesBetweenPolls, Side, Some, Stage, TakesPoll, Task, TellsStep, Tick, VolumeCame, VolumeWent, Wants, WasRead, Went, WriteIp, WriteSa, [], answer_to_message, answered_to, ap, arith, balance_of, bytes_read, command_of, cond, connection_in, eq-eqb, false, false≢true, figure_of_name, figure_on, handed, header_fault, inl, inr, is_dead, is_none, is_ok, is_owned, is_taken_text, length, length_in, name_on, none-some, none_or_some, num, outstanding_of, own_answer, own_end_of, read_size, refl, refusal, sent_unless, slice_index, subst, sym, taken_as, taken_by, true, volume_named, ℕ, ◌&&◌, ◌==◌, ◌∙◌, ◌∷◌, ◌≡◌, ◌≢◌, ◌≤◌, ◌⊎◌}
 use Rattle.mscp_controller.specs.declared.entry.Sent.TheVariants as sents
-use Rattle.mscp_port.specs.declared.action.Action.{Action}
-use Rattle.mscp_port.specs.declared.hardware.Hardware.{Hardware}
-use Rattle.mscp_port.specs.declared.port.Outgoing.{Outgoing}
-use Rattle.mscp_port.specs.declared.port.Port.{Port}
-use Rattle.mscp_port.specs.declared.rings.Side.{Side}
-use Rattle.mscp_port.specs.declared.rings.Side.TheVariants.{Responses, Commands}
-use Rattle.mscp_port.specs.declared.slot.Descriptor.{Descriptor}
-use Rattle.mscp_port.specs.declared.stage.Stage.{Stage}
 use Rattle.mscp_port.specs.declared.stage.Stage.TheVariants as stages
-use Rattle.mscp_port.specs.declared.task.Task.{Task}
 use Rattle.mscp_port.specs.declared.task.Task.TheVariants as tasks
-use Rattle.mscp_port.specs.Calls.{Hears, IsMadeOf, Wants}
-use Rattle.mscp_port.specs.Fair.{TellsStep}
-use Rattle.mscp_port.specs.Histories.{Answered, Becomes, Call, Picking, WriteIp, ReadIp, WriteSa, Next, PutAside, WasRead, Went, LookAgain, Tick, VolumeCame, VolumeWent, Protect}
-use Rattle.mscp_port.specs.Messages.{handed, own_end_of}
-use Rattle.mscp_port.specs.Moved.{IsStepping}
-use Rattle.mscp_port.specs.Ports.{IsAsNew, read_size, IsReadingText}
-use Rattle.mscp_port.specs.Seen.{SeesText, Sends, answered_to, bytes_read, connection_in, header_fault, length_in}
-use Rattle.mscp_port.specs.Slots.{is_owned}
-use Rattle.mscp_port.proofs.Common.{eq-eqb, false≢true}
-use Rattle.mscp_port.proofs.Said.{none_or_some}
-use Rattle.mscp_ported.specs.Answers.{own_answer, volume_named}
-use Rattle.mscp_ported.specs.Asking.{AsksBehindPolls, AsksForBlocks}
-use Rattle.mscp_ported.specs.Awaited.{is_taken_text, taken_by}
-use Rattle.mscp_ported.specs.Figures.{figure_on}
-use Rattle.mscp_ported.specs.Passing.{IsServedSince, ServesBetweenPolls, TakesPoll}
-use Rattle.mscp_ported.specs.Talk.{is_dead}
 use Rattle.mscp_ported.proofs.Answering.{handed_so, own_so, poll_command, poll_handed, polled}
 use Rattle.mscp_ported.proofs.Ended.{lived}
 use Rattle.mscp_ported.proofs.Owning.{and_false}

@@ -1,21 +1,8 @@
 -- Steps of the initialisation that the host has answered, and the communication area.
-use Rattle.std.proofs.Common.{◌≡◌, ◌≢◌, ◌⊎◌, ◌∙◌, ◌+◌, ◌/◌, ◌%◌, ◌<◌, ◌≤◌, ◌++◌, [], ℕ, true, false, map, List, Option, None, Some, IfSome, MatchOption, inl, inr, refl, ap, sym, subst, arith}
-use Rattle.std.specs.Prelude.{◌==◌, Ok}
-use Rattle.std.proofs.lemmas.Option.{none-some}
-use Rattle.mscp_queue.specs.declared.view.Choice.{Choice}
-use Rattle.mscp_port.specs.declared.action.Outcome.{Outcome}
-use Rattle.mscp_port.specs.declared.port.Port.{Port}
-use Rattle.mscp_port.specs.declared.stage.Stage.{Stage}
+use Rattle.mscp_ported.proofs.Common.{Choice, Clears, Due, Goes, Idle, IfSome, IsAsNew, List, MatchOption, None, Ok, Option, Outcome, Port, Rings, Said, Some, Stage, TakesStep, Talk, Task, Went, Wish, [], ap, arith, at_step, end_of, false, inl, inr, is_dead, map, message_text, none-some, refl, rings_named, start_of, step_answered, step_task, stepped, subst, sym, true, ℕ, ◌%◌, ◌++◌, ◌+◌, ◌/◌, ◌<◌, ◌==◌, ◌∙◌, ◌≡◌, ◌≢◌, ◌≤◌, ◌⊎◌}
 use Rattle.mscp_port.specs.declared.stage.Stage.TheVariants as stages
-use Rattle.mscp_port.specs.declared.task.Task.{Task}
 use Rattle.mscp_port.specs.declared.task.Task.TheVariants as tasks
-use Rattle.mscp_port.specs.Acted.{Clears, step_task}
-use Rattle.mscp_port.specs.Areas.{Rings, end_of, rings_named, start_of}
-use Rattle.mscp_port.specs.Calls.{Goes, TakesStep, step_answered}
-use Rattle.mscp_port.specs.Histories.{Went}
-use Rattle.mscp_port.specs.Ports.{IsAsNew}
-use Rattle.mscp_ported.specs.Talk.{Wish, Idle, Due, Talk, at_step, done_by, is_dead, stepped}
-use Rattle.mscp_ported.specs.Told.{Said, message_text}
+use Rattle.mscp_ported.specs.Talk.{done_by}
 use Rattle.mscp_ported.proofs.After.{After, same_stage}
 use Rattle.mscp_ported.proofs.Look.{Fits, InStep, IsAsked, IsClear, IsElse, IsOfRings, IsOpen, IsTelling, Names, NeedsOut, has_area, in_hand, is_early, is_loud, look}
 use Rattle.mscp_ported.proofs.Counting.{named_wide}

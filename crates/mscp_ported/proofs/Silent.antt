@@ -1,39 +1,7 @@
 -- While a message is read and nothing goes out, no end waits for the host.
-use Rattle.std.proofs.Common.{◌≡◌, ◌≢◌, ◌⊎◌, ◌∙◌, ◌≤◌, ◌<◌, ◌+◌, ◌/◌, ◌%◌, ◌∷◌, [], ℕ, Bool, true, false, cond, List, MatchOption, Option, None, Some, IfSome, inl, inr, refl, ap, sym, subst, arith}
-use Rattle.std.specs.Prelude.{◌==◌, Result, Ok, Err, slice_get}
-use Rattle.std.proofs.lemmas.Option.{none-some}
-use Rattle.mscp_packet.specs.Number.{num}
-use Rattle.mscp_packet.specs.declared.end.End.{End}
-use Rattle.mscp_controller.specs.Holdings.{Holdings}
-use Rattle.mscp_queue.specs.declared.name.Name.{Name}
-use Rattle.mscp_queue.specs.declared.view.Choice.{Choice}
-use Rattle.mscp_controller.specs.declared.entry.SendFault.{SendFault}
-use Rattle.mscp_controller.specs.declared.entry.Sent.{Sent}
-use Rattle.mscp_port.specs.declared.action.Action.{Action}
-use Rattle.mscp_port.specs.declared.action.Outcome.{Outcome}
-use Rattle.mscp_port.specs.declared.hardware.Hardware.{Hardware}
-use Rattle.mscp_port.specs.declared.port.Port.{Port}
-use Rattle.mscp_port.specs.declared.rings.Side.TheVariants.{Responses, Commands}
-use Rattle.mscp_port.specs.declared.slot.Descriptor.{Descriptor}
-use Rattle.mscp_port.specs.declared.stage.Stage.{Stage}
+use Rattle.mscp_ported.proofs.Common.{Action, Answered, Becomes, Bool, Call, Choice, Clears, Commands, Descriptor, Drops, End, Err, GivesBack, Goes, Hardware, Hears, Holdings, IfSome, IsAlive, IsAsNew, IsDue, IsMadeOf, IsOutcomeOf, Leaves, List, LookAgain, LooksForOut, MatchOption, Name, Next, None, Ok, Option, Outcome, Picking, Port, Protect, PutAside, ReadIp, Responses, Result, Rings, SeesText, SendFault, Sent, Some, Stage, TakesBegun, TakesBlock, TakesStep, Task, Tick, Verdict, Volume, VolumeCame, VolumeWent, Wants, WasRead, Went, WriteIp, WriteSa, [], answered_to, ap, arith, aside, block_begun, block_served, bytes_read, cond, connection_in, end_of, false, false≢true, header_fault, hears_of, inl, inr, is_owned, length_in, looks_or_not, none-some, none_or_not, num, own_end_of, place_in, read_again, read_size, refl, rings_named, slice_get, start_of, step_answered, step_at, step_task, subst, sym, true, vector_in, ℕ, ◌%◌, ◌+◌, ◌/◌, ◌<◌, ◌==◌, ◌∙◌, ◌∷◌, ◌≡◌, ◌≢◌, ◌≤◌, ◌⊎◌}
 use Rattle.mscp_port.specs.declared.stage.Stage.TheVariants as stages
-use Rattle.mscp_port.specs.declared.task.Task.{Task}
 use Rattle.mscp_port.specs.declared.task.Task.TheVariants as tasks
-use Rattle.mscp_port.specs.declared.verdict.Verdict.{Verdict}
-use Rattle.mscp_port.specs.declared.volumes.Volume.{Volume}
-use Rattle.mscp_port.specs.Acted.{Clears, GivesBack, hears_of, step_task, vector_in}
-use Rattle.mscp_port.specs.Areas.{Rings, end_of, rings_named, start_of}
-use Rattle.mscp_port.specs.Calls.{Goes, Hears, IsMadeOf, TakesStep, Wants, read_again, step_answered, step_at}
-use Rattle.mscp_port.specs.Histories.{Answered, Becomes, Call, Picking, WriteIp, ReadIp, WriteSa, Next, PutAside, WasRead, Went, LookAgain, Tick, VolumeCame, VolumeWent, Protect}
-use Rattle.mscp_port.specs.Moved.{TakesBegun, TakesBlock, block_begun, block_served}
-use Rattle.mscp_port.specs.Messages.{own_end_of}
-use Rattle.mscp_port.specs.Outgoings.{LooksForOut}
-use Rattle.mscp_port.specs.Ports.{Drops, IsAlive, IsAsNew, IsDue, IsOutcomeOf, Leaves, aside, read_size}
-use Rattle.mscp_port.specs.Seen.{SeesText, answered_to, bytes_read, connection_in, header_fault, length_in}
-use Rattle.mscp_port.specs.Slots.{is_owned}
-use Rattle.mscp_port.specs.Volumes.{place_in}
-use Rattle.mscp_port.proofs.Common.{false≢true}
-use Rattle.mscp_port.proofs.Loads.{looks_or_not, none_or_not}
 use Rattle.mscp_ported.proofs.Coming.{ends_of}
 use Rattle.mscp_ported.proofs.Doing.{done_or_not, free_or_not}
 use Rattle.mscp_ported.proofs.Wanting.{alive_or_dead}

@@ -1,15 +1,7 @@
 -- The one command of a number that waits, by each step.
-use Rattle.std.proofs.lemmas.List.Elements.{All-head, All-tail, filter-append}
-use Rattle.std.proofs.Common.{All, ◌≡◌, ◌⊎◌, ◌∙◌, ◌+◌, ◌<◌, ◌||◌, ◌++◌, ◌∷◌, [], ℕ, Bool, true, false, cond, drop, filter, length, map, take, List, Option, None, Some, inl, inr, refl, ap, sym, subst, arith}
-use Rattle.std.specs.Prelude.{find}
-use Rattle.std.specs.List.{list_any}
-use Rattle.mscp_packet.specs.declared.end.End.{End}
-use Rattle.mscp_drive.specs.declared.block.Block.{Block}
-use Rattle.mscp_queue.specs.declared.drive.Drive.{Drive}
-use Rattle.mscp_queue.specs.Records.{Record, advanced, no_record, passed_by, record_at, remains, step_charge}
-use Rattle.mscp_queue.specs.Serving.{end_given, waiting_after}
-use Rattle.mscp_port.proofs.Common.{drop_more, false≢true, none-some, same_Some, take-append-drop}
-use Rattle.mscp_port.proofs.Kept.{is_numbered}
+use Rattle.mscp_ported.proofs.Common.{All, All-head, All-tail, Block, Bool, Drive, End, List, None, Option, Record, Some, [], advanced, ap, arith, cond, drop, drop_more, end_given, false, false≢true, filter, filter-append, find, inl, inr, is_numbered, length, list_any, map, no_record, passed_by, record_at, refl, remains, step_charge, subst, sym, take, take-append-drop, true, waiting_after, ℕ, ◌++◌, ◌+◌, ◌<◌, ◌∙◌, ◌∷◌, ◌≡◌, ◌⊎◌}
+use Rattle.std.proofs.Common.{◌||◌}
+use Rattle.mscp_port.proofs.Common.{none-some, same_Some}
 
 module _ {X : Type 0} where
   abbrev first_in : X → List X → X

@@ -1,19 +1,7 @@
 -- What goes out is gone after ten actions.
-use Rattle.std.proofs.Common.{◌≡◌, ◌⊎◌, ◌∙◌, ◌∷◌, ◌++◌, ◌+◌, ◌≤◌, [], ℕ, List, Option, None, Some, inl, inr, refl, ap, sym, subst, arith}
-use Rattle.std.specs.Prelude.{Ok, Err}
-use Rattle.mscp_controller.specs.Holdings.{Holdings}
-use Rattle.mscp_port.specs.declared.hardware.Hardware.{Hardware}
-use Rattle.mscp_port.specs.declared.port.Outgoing.{Outgoing}
-use Rattle.mscp_port.specs.declared.port.Port.{Port}
-use Rattle.mscp_port.specs.declared.rings.Side.TheVariants.{Responses, Commands}
+use Rattle.mscp_ported.proofs.Common.{Answered, AreGiven, AsksAlways, Call, Commands, Err, Hardware, HasRoom, Holdings, IsForgotten, IsMadeOf, List, None, Ok, Option, Outgoing, Picking, Port, Responses, Some, Task, WasRead, Went, [], acts, ap, arith, gone, inl, inr, leaves, refl, subst, sym, ℕ, ◌++◌, ◌+◌, ◌∙◌, ◌∷◌, ◌≡◌, ◌≤◌, ◌⊎◌}
 use Rattle.mscp_port.specs.declared.stage.Stage.TheVariants as stages
-use Rattle.mscp_port.specs.declared.task.Task.{Task}
 use Rattle.mscp_port.specs.declared.task.Task.TheVariants as tasks
-use Rattle.mscp_port.specs.Calls.{IsMadeOf}
-use Rattle.mscp_port.specs.Departures.{IsForgotten, gone, leaves}
-use Rattle.mscp_port.specs.Histories.{Answered, Call, Picking, WasRead, Went}
-use Rattle.mscp_ported.specs.Soon.{AreGiven, HasRoom, acts}
-use Rattle.mscp_ported.specs.Talk.{AsksAlways}
 use Rattle.mscp_ported.proofs.Look.{IsClear}
 use Rattle.mscp_ported.proofs.Doing.{IsFreed, IsSaying, by_call, to_do}
 use Rattle.mscp_ported.proofs.Room.{heard_so, is_late, room, uncleared}

@@ -1,63 +1,13 @@
 -- The end of a transfer that says Success stands for blocks that were moved, each at its place.
-use Rattle.std.proofs.Common.{◌≡◌, ◌⊎◌, ◌∙◌, ◌+◌, ◌-◌, ◌*◌, ◌<◌, ◌≤◌, ◌&&◌, ◌++◌, ◌∷◌, [], ℕ, suc, Bool, true, false, cond, filter, length, min, nat_eq, nat_lt, List, Contains, MatchOption, Option, None, Some, inl, inr, refl, ap, sym, subst, arith}
-use Rattle.std.specs.Prelude.{Result, Ok, Err, find, option_map, slice_index}
-use Rattle.std.specs.List.{position}
-use Rattle.std.proofs.lemmas.List.{append-nil}
-use Rattle.std.proofs.lemmas.Option.{none-some, same_Some}
-use Rattle.mscp_packet.specs.Number.{num}
-use Rattle.mscp_packet.specs.Opcodes.{move_byte, opcode_of, opcodes, row_of}
-unfoldable use Rattle.mscp_packet.specs.Commands.{command_of}
+use Rattle.mscp_ported.proofs.Common.{Answered, AsksAlways, Block, Bool, Buffer, Call, Command, Connection, Contains, Drive, End, Err, Finish, Finishes, First, Hardware, Holdings, IsFinish, IsMadeOf, List, Made, Makes, MatchOption, MoveKind, Name, None, NotBegun, Ok, Option, Order, Outcome, Picking, Port, Record, Report, Result, Second, Shape, Some, StandsFor, TakesBegun, TakesBlock, Task, Upcoming, Verdict, Went, [], ap, append-nil, arith, asked, begun_step, block_begun, block_moved, block_served, block_told, block_touched, blocks_in, come, command_of, cond, done_by, drive_at, drive_of, end_brought, end_given, eqb-true, false, false≢true, filter, find, found_is, goes_on, good_status, has_name, inl, inr, is_begun, is_numbered, is_of, is_same, kept_found, left_of, length, min, move_byte, moved, name_of, name_on, nat_eq, nat_lt, none-some, num, of_first, opcode_of, opcodes, option_map, order_weight, outcome_at, outcome_body, outcome_status, position, record_at, refl, row_of, same_Some, same_is, served_name, slice_index, step_told, subst, suc, sym, touches, transfers, true, upcoming_begun, upcoming_of, wish, ℕ, ◌&&◌, ◌*◌, ◌++◌, ◌+◌, ◌-◌, ◌<◌, ◌∙◌, ◌∷◌, ◌≡◌, ◌≤◌, ◌⊎◌}
 use Rattle.mscp_packet.specs.declared.class.Opcode.TheVariants as codes
-use Rattle.mscp_packet.specs.declared.command.Command.{Command}
-use Rattle.mscp_packet.specs.declared.command.MoveKind.{MoveKind}
 use Rattle.mscp_packet.specs.declared.command.MoveKind.TheVariants as kinds
-use Rattle.mscp_packet.specs.declared.command.Order.{Order}
 use Rattle.mscp_packet.specs.declared.command.Order.TheVariants as orders
-use Rattle.mscp_packet.specs.declared.end.End.{End}
 use Rattle.mscp_packet.specs.declared.end.EndBody.TheVariants as bodies
-use Rattle.mscp_drive.specs.Shape.{Shape}
-use Rattle.mscp_drive.specs.Extent.{blocks as blocks_in}
-use Rattle.mscp_drive.specs.declared.block.Block.{Block}
 use Rattle.mscp_drive.specs.declared.block.Block.TheVariants as blocks
-use Rattle.mscp_drive.specs.declared.connection.Connection.{Connection}
-use Rattle.mscp_drive.specs.declared.connection.Connection.TheVariants.{First, Second}
-use Rattle.mscp_queue.specs.declared.drive.Drive.{Drive}
-use Rattle.mscp_queue.specs.declared.name.Name.{Name}
-use Rattle.mscp_queue.specs.declared.report.Report.{Report}
 use Rattle.mscp_queue.specs.declared.report.Report.TheVariants as reports
-use Rattle.mscp_queue.specs.declared.upcoming.Upcoming.{Upcoming}
-use Rattle.mscp_queue.specs.Drives.{drive_of}
-use Rattle.mscp_queue.specs.Names.{name_on}
-use Rattle.mscp_queue.specs.Orders.{order_weight}
-use Rattle.mscp_queue.specs.Outcomes.{block_touched, goes_on, good_status, outcome_at, outcome_body, outcome_status, touches}
-use Rattle.mscp_queue.specs.Records.{Record, drive_at, has_name, left_of, name_of, record_at}
-use Rattle.mscp_queue.specs.Serving.{end_given, is_begun, upcoming_begun, upcoming_of}
-use Rattle.mscp_queue.proofs.Named.{is_same, same_is}
-use Rattle.mscp_queue.proofs.Placed.{found_is}
-use Rattle.mscp_controller.specs.Calls.{Finish, Call as Made}
-use Rattle.mscp_controller.specs.declared.entry.NotBegun.{NotBegun}
-use Rattle.mscp_controller.specs.Holdings.{Finishes, Holdings, begun_step}
 use Rattle.mscp_port.specs.declared.action.Action.TheVariants as actions
-use Rattle.mscp_port.specs.declared.action.Outcome.{Outcome}
-use Rattle.mscp_port.specs.declared.buffers.Buffer.{Buffer}
-use Rattle.mscp_port.specs.declared.hardware.Hardware.{Hardware}
-use Rattle.mscp_port.specs.declared.port.Port.{Port}
-use Rattle.mscp_port.specs.declared.task.Task.{Task}
 use Rattle.mscp_port.specs.declared.task.Task.TheVariants as tasks
-use Rattle.mscp_port.specs.declared.verdict.Verdict.{Verdict}
-use Rattle.mscp_port.specs.Blocks.{block_told}
-use Rattle.mscp_port.specs.Buffers.{is_of}
-use Rattle.mscp_port.specs.Calls.{IsMadeOf}
-use Rattle.mscp_port.specs.Histories.{Answered, Call, Picking, Went}
-use Rattle.mscp_port.specs.Moved.{TakesBegun, TakesBlock, block_begun, block_served, end_brought}
-use Rattle.mscp_port.proofs.Common.{eqb-true, false≢true}
-use Rattle.mscp_port.proofs.Kept.{is_numbered}
-use Rattle.mscp_port.proofs.Said.{kept_found, of_first, served_name}
-use Rattle.mscp_ported.specs.Ends.{come}
-use Rattle.mscp_ported.specs.Making.{IsFinish, Makes, step_told}
-use Rattle.mscp_ported.specs.Moved.{block_moved}
-use Rattle.mscp_ported.specs.Talk.{AsksAlways, wish}
-use Rattle.mscp_ported.specs.Transfers.{StandsFor, asked, done_by, moved, transfers}
 use Rattle.mscp_ported.proofs.Coming.{brought_for, come_so, steps_bring}
 use Rattle.mscp_ported.proofs.Keeping.{are_owned}
 use Rattle.mscp_ported.proofs.Making.{transfer_so, verdict_so}

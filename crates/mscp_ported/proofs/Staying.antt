@@ -1,28 +1,8 @@
 -- Calls that leave the controller as it was.
-use Rattle.std.proofs.Common.{◌≡◌, ◌⊎◌, ◌∙◌, ℕ, Bool, List, Option, None, Some, MatchOption, IfSome, inl, inr, refl, ap, sym, subst, arith}
-use Rattle.std.specs.Prelude.{Ok, Err}
-use Rattle.std.proofs.lemmas.Option.{none-some}
-use Rattle.mscp_queue.specs.declared.view.Choice.{Choice}
-use Rattle.mscp_port.specs.declared.action.Outcome.{Outcome}
+use Rattle.mscp_ported.proofs.Common.{Becomes, Bool, Call, Choice, Clears, Dies, Err, GivesBack, Goes, IfSome, IsAsNew, List, LookAgain, MatchOption, Next, None, Ok, Option, Outcome, Picking, Port, Protect, PutAside, ReadIp, ReadsIp, Rings, Side, Some, Stage, TakesStep, Task, Tick, VolumeCame, VolumeWent, WasRead, Went, WriteIp, WriteSa, WritesOut, WritesSa, ap, arith, block_begun, cond, end_of, false, inl, inr, is_dead, nat_lt, none-some, refl, rings_named, start_of, step_answered, step_told, subst, sym, told_of, transfer_told, true, ℕ, ◌%◌, ◌+◌, ◌/◌, ◌<◌, ◌==◌, ◌∙◌, ◌≡◌, ◌≢◌, ◌≤◌, ◌⊎◌}
 use Rattle.mscp_port.specs.declared.action.Outcome.TheVariants as outcomes
-use Rattle.mscp_port.specs.declared.port.Port.{Port}
-use Rattle.mscp_port.specs.declared.rings.Side.{Side}
-use Rattle.mscp_port.specs.declared.stage.Stage.{Stage}
 use Rattle.mscp_port.specs.declared.stage.Stage.TheVariants as stages
-use Rattle.mscp_port.specs.declared.task.Task.{Task}
 use Rattle.mscp_port.specs.declared.task.Task.TheVariants as tasks
-use Rattle.mscp_port.specs.Acted.{Clears, GivesBack, WritesOut}
-use Rattle.mscp_port.specs.Calls.{Goes, TakesStep, step_answered}
-use Rattle.mscp_port.specs.Histories.{Call, Picking, WasRead, Went}
-use Rattle.mscp_port.specs.Moved.{block_begun}
-use Rattle.mscp_port.specs.Ports.{IsAsNew}
-use Rattle.mscp_ported.specs.Making.{step_told, told_of, transfer_told}
-use Rattle.std.proofs.Common.{◌≢◌, ◌+◌, ◌<◌, ◌≤◌, ◌/◌, ◌%◌, nat_lt, cond, true, false}
-use Rattle.std.specs.Prelude.{◌==◌}
-use Rattle.mscp_port.specs.Areas.{Rings, end_of, rings_named, start_of}
-use Rattle.mscp_port.specs.Calls.{Dies, ReadsIp, WritesSa}
-use Rattle.mscp_port.specs.Histories.{Becomes, Picking, WriteIp, ReadIp, WriteSa, Next, PutAside, LookAgain, Tick, VolumeCame, VolumeWent, Protect}
-use Rattle.mscp_ported.specs.Talk.{is_dead}
 
 -- the controller stays, what is decided of its ends, and the hardware; and there is no fatal error that wasn't there
 abbrev pub IsSame : {K : Type 0} → Port K → Port K → Type 0

@@ -1,32 +1,10 @@
 -- What is decided of an end, and the bytes with which it leaves, by either table.
-use Rattle.std.proofs.Common.{◌≡◌, ◌∙◌, ◌+◌, ℕ, Bool, true, false, cond, List, Option, None, Some, refl, ap}
-use Rattle.std.specs.Prelude.{◌==◌, ◌%◌, Result, Ok, Err}
-use Rattle.mscp_packet.specs.declared.command.MoveKind.{MoveKind}
-use Rattle.mscp_packet.specs.declared.end.End.{End}
-use Rattle.mscp_packet.specs.declared.end.EndBody.{EndBody}
+use Rattle.mscp_ported.proofs.Common.{Bool, Buffer, Decided, End, EndBody, Err, Fields, First, Hardware, List, MoveKind, None, Ok, Option, Outcome, Port, Result, Shape, Some, Upcoming, Verdict, Volume, answer_left, answer_of, ap, block_of, block_served, code_said, code_told, code_with, cond, controller_decided, end_decided, end_told, end_with_body, ends_nothing, false, fields_of_unit, fields_with, formal_status, found_decided, kept_of, part_now, part_served, refl, short_text, status_after, status_by, status_said, status_told, step_left, text_left, text_with, told_as, true, unit_found, verdict_of, verdict_with, volume_found, ℕ, ◌+◌, ◌==◌, ◌∙◌, ◌≡◌}
+use Rattle.std.specs.Prelude.{◌%◌}
 use Rattle.mscp_packet.specs.declared.end.EndBody.TheVariants as bodies
-use Rattle.mscp_drive.specs.Shape.{Shape}
-use Rattle.mscp_drive.specs.UnitList.{unit_found}
 use Rattle.mscp_drive.specs.declared.block.Block.TheVariants as blocks
-use Rattle.mscp_drive.specs.declared.connection.Connection.TheVariants.{First}
-use Rattle.mscp_queue.specs.declared.upcoming.Upcoming.{Upcoming}
-use Rattle.mscp_port.specs.declared.action.Outcome.{Outcome}
 use Rattle.mscp_port.specs.declared.action.Outcome.TheVariants as outcomes
-use Rattle.mscp_port.specs.declared.buffers.Buffer.{Buffer}
-use Rattle.mscp_port.specs.declared.decided.Decided.{Decided}
-use Rattle.mscp_port.specs.declared.hardware.Hardware.{Hardware}
-use Rattle.mscp_port.specs.declared.port.Port.{Port}
-use Rattle.mscp_port.specs.declared.verdict.Verdict.{Verdict}
 use Rattle.mscp_port.specs.declared.verdict.Verdict.TheVariants as verdicts
-use Rattle.mscp_port.specs.declared.volumes.Volume.{Volume}
-use Rattle.mscp_port.specs.Blocks.{block_of, kept_of}
-use Rattle.mscp_port.specs.Decided.{answer_of, controller_decided, end_decided, found_decided, status_after, status_told}
-use Rattle.mscp_port.specs.Formalities.{code_told, formal_status}
-use Rattle.mscp_port.specs.Leaving.{end_told, end_with_body}
-use Rattle.mscp_port.specs.Moved.{block_served, part_now, part_served}
-use Rattle.mscp_port.specs.Volumes.{volume_found}
-use Rattle.mscp_ported.specs.Ends.{Fields, answer_left, code_said, code_with, ends_nothing, fields_of_unit, fields_with, short_text, status_by, status_said, step_left, text_left, text_with, verdict_of, verdict_with}
-use Rattle.mscp_ported.specs.Making.{told_as}
 
 -- ---- what is decided
 

@@ -1,57 +1,13 @@
 -- The end of a transfer counts just the blocks that were moved.
-use Rattle.std.proofs.Common.{◌≡◌, ◌⊎◌, ◌∙◌, ◌+◌, ◌-◌, ◌*◌, ◌<◌, ◌≤◌, ◌&&◌, ◌++◌, ◌∷◌, [], ℕ, zero, suc, Bool, true, false, cond, drop, filter, length, min, List, Contains, MatchOption, Option, None, Some, inl, inr, refl, ap, sym, subst, arith}
-use Rattle.std.specs.Prelude.{Result, Ok, Err, find, option_map, slice_index}
-use Rattle.std.proofs.lemmas.List.{append-nil}
-use Rattle.std.proofs.lemmas.Option.{none-some, same_Some}
-use Rattle.mscp_packet.specs.Number.{num}
-use Rattle.mscp_packet.specs.Opcodes.{opcode_of}
+use Rattle.mscp_ported.proofs.Common.{Answered, AsksAlways, Block, Bool, Buffer, Call, Command, Contains, Counts, Drive, End, Err, Finishes, First, Hardware, Holdings, IsMadeOf, IsOfBlock, IsStepping, List, MatchOption, MoveKind, Name, None, NotBegun, Ok, Option, Order, Outcome, Picking, Port, Record, Report, Result, Shape, Some, TakesBegun, TakesBlock, Task, Upcoming, Verdict, Volume, Went, Wish, [], and_parts, ap, append-nil, arith, asked, asks_nothing, begun_step, begun_task, block_begun, block_served, block_told, block_touched, changed_verdict, come, cond, done_by, drive_at, drive_of, drop, end_brought, end_given, false, false≢true, filter, find, goes_on, good_step, has_changed, has_name, inl, inr, is_available, is_begun, is_done, is_good_block, is_moving, is_numbered, is_same, is_step_of, kept_of, known_task, left_of, length, min, move_of, move_task, moved, moved_by, moved_step, name_of, name_on, none-some, num, opcode_of, option_map, outcome_at, outcome_body, outcome_status, part_at, part_served, part_task, part_with, place_in, record_at, refl, same_Some, served_name, slice_index, subst, suc, sym, takes_any_volume, task_of, touches, transfers, true, upcoming_begun, upcoming_of, volume_at, wanted, wish, zero, ℕ, ◌&&◌, ◌*◌, ◌++◌, ◌+◌, ◌-◌, ◌<◌, ◌∙◌, ◌∷◌, ◌≡◌, ◌≤◌, ◌⊎◌}
 use Rattle.mscp_packet.specs.declared.class.Opcode.TheVariants as codes
-use Rattle.mscp_packet.specs.declared.command.Command.{Command}
-use Rattle.mscp_packet.specs.declared.command.MoveKind.{MoveKind}
-use Rattle.mscp_packet.specs.declared.command.Order.{Order}
 use Rattle.mscp_packet.specs.declared.command.Order.TheVariants as orders
-use Rattle.mscp_packet.specs.declared.end.End.{End}
 use Rattle.mscp_packet.specs.declared.end.EndBody.TheVariants as bodies
-use Rattle.mscp_drive.specs.Shape.{Shape}
-use Rattle.mscp_drive.specs.declared.block.Block.{Block}
 use Rattle.mscp_drive.specs.declared.block.Block.TheVariants as blocks
-use Rattle.mscp_drive.specs.declared.connection.Connection.TheVariants.{First}
-use Rattle.mscp_queue.specs.declared.drive.Drive.{Drive}
-use Rattle.mscp_queue.specs.declared.name.Name.{Name}
-use Rattle.mscp_queue.specs.declared.report.Report.{Report}
 use Rattle.mscp_queue.specs.declared.report.Report.TheVariants as reports
-use Rattle.mscp_queue.specs.declared.upcoming.Upcoming.{Upcoming}
-use Rattle.mscp_queue.specs.Drives.{drive_of}
-use Rattle.mscp_queue.specs.Names.{name_on}
-use Rattle.mscp_queue.specs.Outcomes.{block_touched, goes_on, is_good_block, outcome_at, outcome_body, outcome_status, touches}
-use Rattle.mscp_queue.specs.Records.{Record, drive_at, has_name, left_of, name_of, record_at}
-use Rattle.mscp_queue.specs.Serving.{end_given, is_begun, upcoming_begun, upcoming_of}
-use Rattle.mscp_queue.proofs.Named.{is_same}
-use Rattle.mscp_controller.specs.declared.entry.NotBegun.{NotBegun}
-use Rattle.mscp_controller.specs.Holdings.{Finishes, Holdings, begun_step}
 use Rattle.mscp_port.specs.declared.action.Action.TheVariants as actions
-use Rattle.mscp_port.specs.declared.action.Outcome.{Outcome}
 use Rattle.mscp_port.specs.declared.action.Outcome.TheVariants as outcomes
-use Rattle.mscp_port.specs.declared.buffers.Buffer.{Buffer}
-use Rattle.mscp_port.specs.declared.hardware.Hardware.{Hardware}
-use Rattle.mscp_port.specs.declared.port.Port.{Port}
-use Rattle.mscp_port.specs.declared.task.Task.{Task}
 use Rattle.mscp_port.specs.declared.task.Task.TheVariants as tasks
-use Rattle.mscp_port.specs.declared.verdict.Verdict.{Verdict}
-use Rattle.mscp_port.specs.declared.volumes.Volume.{Volume}
-use Rattle.mscp_port.specs.Blocks.{block_told, changed_verdict, good_step, has_changed, is_available, kept_of, move_of, move_task, moved_by, part_task, part_with, takes_any_volume, task_of}
-use Rattle.mscp_port.specs.Calls.{IsMadeOf}
-use Rattle.mscp_port.specs.Histories.{Answered, Call, Picking, Went}
-use Rattle.mscp_port.specs.Moved.{IsStepping, TakesBegun, TakesBlock, begun_task, block_begun, block_served, end_brought, known_task, moved_step, part_at, part_served}
-use Rattle.mscp_port.specs.Ports.{IsOfBlock}
-use Rattle.mscp_port.specs.Volumes.{place_in, volume_at}
-use Rattle.mscp_port.proofs.Common.{and_parts, false≢true}
-use Rattle.mscp_port.proofs.Kept.{is_numbered}
-use Rattle.mscp_port.proofs.Said.{served_name}
-use Rattle.mscp_ported.specs.Answers.{asks_nothing}
-use Rattle.mscp_ported.specs.Ends.{come}
-use Rattle.mscp_ported.specs.Talk.{AsksAlways, Wish, wish}
-use Rattle.mscp_ported.specs.Transfers.{Counts, asked, done_by, is_done, is_moving, is_step_of, moved, transfers, wanted}
 use Rattle.mscp_ported.proofs.Coming.{brought_for, come_so, ends_of, steps_bring}
 use Rattle.mscp_ported.proofs.Keeping.{are_owned, end_number}
 use Rattle.mscp_ported.proofs.Moving.{Steps, steps}

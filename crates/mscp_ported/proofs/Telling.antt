@@ -1,26 +1,11 @@
 -- While there is something to tell, one thing is gone for each seventeen actions.
-use Rattle.std.proofs.Common.{◌≡◌, ◌⊎◌, ◌∷◌, ◌+◌, ◌≤◌, [], ℕ, false, List, Option, None, Some, inl, inr, refl, ap, sym, subst, arith}
-use Rattle.std.specs.Prelude.{Ok, Err}
-use Rattle.mscp_controller.specs.Holdings.{Holdings}
-use Rattle.mscp_port.specs.declared.hardware.Hardware.{Hardware}
-use Rattle.mscp_port.specs.declared.port.Outgoing.{Outgoing}
-use Rattle.mscp_port.specs.declared.port.Port.{Port}
-use Rattle.mscp_port.specs.declared.rings.Side.TheVariants.{Responses, Commands}
+use Rattle.mscp_ported.proofs.Common.{Answered, AreGiven, AsksAlways, Becomes, Call, Commands, Err, Hardware, HasRoom, HasToTell, HaveToTell, Holdings, IsForgotten, IsGiven, IsMadeOf, List, None, Ok, Option, Outgoing, Picking, Port, Responses, Some, Task, WasRead, Went, [], acts, ap, arith, false, gone, inl, inr, leaves, length-append, refl, subst, sym, ℕ, ◌+◌, ◌∷◌, ◌≡◌, ◌≤◌, ◌⊎◌}
 use Rattle.mscp_port.specs.declared.stage.Stage.TheVariants as stages
-use Rattle.mscp_port.specs.declared.task.Task.{Task}
 use Rattle.mscp_port.specs.declared.task.Task.TheVariants as tasks
-use Rattle.mscp_port.specs.Calls.{IsMadeOf}
-use Rattle.mscp_port.specs.Departures.{IsForgotten, gone, leaves}
-use Rattle.mscp_port.specs.Histories.{Answered, Call, Picking, WasRead, Went}
-use Rattle.mscp_ported.specs.Soon.{AreGiven, HasRoom, acts}
-use Rattle.mscp_ported.specs.Talk.{AsksAlways}
 use Rattle.mscp_ported.proofs.Look.{IsClear}
 use Rattle.mscp_ported.proofs.Doing.{IsFreed, IsSaying, by_call, to_do}
 use Rattle.mscp_ported.proofs.Room.{heard_so, is_late, room}
-use Rattle.std.proofs.lemmas.List.{length-append}
 use Rattle.std.specs.Prelude.{◌*◌, ◌<◌, length}
-use Rattle.mscp_port.specs.Histories.{Becomes}
-use Rattle.mscp_ported.specs.Soon.{HasToTell, HaveToTell, IsGiven}
 use Rattle.mscp_ported.proofs.Coming.{ends_of}
 use Rattle.mscp_ported.proofs.Starting as starting
 use Rattle.mscp_ported.proofs.Starting.{IsWaiting, rest}

@@ -1,52 +1,11 @@
 -- What a step of a transfer moves that goes well.
-use Rattle.std.proofs.Common.{◌≡◌, ◌≢◌, ◌⊎◌, ◌∙◌, ◌+◌, ◌-◌, ◌*◌, ◌<◌, ◌≤◌, ◌&&◌, ◌∷◌, [], ℕ, Bool, true, false, cond, filter, length, min, nat_lt, List, Option, None, Some, inl, inr, refl, ap, sym, subst, arith}
-use Rattle.std.specs.Prelude.{Ok, find, option_map, slice_index}
-use Rattle.std.specs.List.{position}
-use Rattle.std.proofs.lemmas.Option.{none-some}
-use Rattle.mscp_packet.specs.Number.{num}
-unfoldable use Rattle.mscp_packet.specs.Commands.{command_of}
-use Rattle.mscp_packet.specs.Commands.{order_with, parameters}
-use Rattle.mscp_packet.specs.Opcodes.{least, opcode_of}
-use Rattle.mscp_packet.specs.Statuses.{invalid_length}
-use Rattle.mscp_packet.specs.declared.class.Opcode.{Opcode}
+use Rattle.mscp_ported.proofs.Common.{Action, Answered, Block, Bool, Buffer, Call, Command, Drive, First, Holdings, IsEmpty, List, MoveKind, Name, None, Ok, Opcode, Option, Order, Outcome, Picking, Port, Record, Some, Upcoming, Verdict, WasMoved, Went, Wish, [], ap, arith, begun_step, block_begun, block_moved, block_served, block_told, block_touched, buffer_in, command_of, cond, done_by, drive_of, end_given, false, false≢true, filter, find, found_is, has_name, inl, inr, invalid_length, is_done, is_good_block, is_moving, is_numbered, is_of, is_step_of, kept_found, least, left_of, length, min, name_of, name_on, nat_lt, none-some, num, of_first, opcode_of, option_map, order_with, outcome_at, parameters, position, refl, same_is, same_name, slice_index, step_told, subst, sym, touches, true, upcoming_begun, upcoming_of, wanted, wish, ℕ, ◌&&◌, ◌*◌, ◌+◌, ◌-◌, ◌<◌, ◌∙◌, ◌∷◌, ◌≡◌, ◌≢◌, ◌≤◌, ◌⊎◌}
 use Rattle.mscp_packet.specs.declared.class.Opcode.TheVariants as codes
-use Rattle.mscp_packet.specs.declared.command.Command.{Command}
-use Rattle.mscp_packet.specs.declared.command.MoveKind.{MoveKind}
-use Rattle.mscp_packet.specs.declared.command.Order.{Order}
 use Rattle.mscp_packet.specs.declared.command.Order.TheVariants as orders
-use Rattle.mscp_drive.specs.declared.block.Block.{Block}
 use Rattle.mscp_drive.specs.declared.block.Block.TheVariants as blocks
-use Rattle.mscp_drive.specs.declared.connection.Connection.TheVariants.{First}
-use Rattle.mscp_queue.specs.declared.drive.Drive.{Drive}
-use Rattle.mscp_queue.specs.declared.name.Name.{Name}
-use Rattle.mscp_queue.specs.declared.upcoming.Upcoming.{Upcoming}
-use Rattle.mscp_queue.specs.Drives.{drive_of}
-use Rattle.mscp_queue.specs.Names.{name_on, same_name}
-use Rattle.mscp_queue.specs.Outcomes.{block_touched, is_good_block, outcome_at, touches}
-use Rattle.mscp_queue.specs.Records.{Record, has_name, left_of, name_of}
-use Rattle.mscp_queue.specs.Serving.{end_given, upcoming_begun, upcoming_of}
-use Rattle.mscp_queue.proofs.Placed.{found_is}
-use Rattle.mscp_queue.proofs.Named.{same_is}
-use Rattle.mscp_controller.specs.Holdings.{Holdings, begun_step}
-use Rattle.mscp_port.specs.declared.action.Action.{Action}
 use Rattle.mscp_port.specs.declared.action.Action.TheVariants as actions
-use Rattle.mscp_port.specs.declared.action.Outcome.{Outcome}
 use Rattle.mscp_port.specs.declared.action.Outcome.TheVariants as outcomes
-use Rattle.mscp_port.specs.declared.buffers.Buffer.{Buffer}
-use Rattle.mscp_port.specs.declared.port.Port.{Port}
 use Rattle.mscp_port.specs.declared.task.Task.TheVariants as tasks
-use Rattle.mscp_port.specs.declared.verdict.Verdict.{Verdict}
-use Rattle.mscp_port.specs.Blocks.{block_told}
-use Rattle.mscp_port.specs.Buffers.{buffer_in, is_of}
-use Rattle.mscp_port.specs.Histories.{Answered, Call, Picking, Went}
-use Rattle.mscp_port.specs.Moved.{block_begun, block_served}
-use Rattle.mscp_port.proofs.Common.{false≢true}
-use Rattle.mscp_port.proofs.Kept.{is_numbered}
-use Rattle.mscp_port.proofs.Said.{kept_found, of_first}
-use Rattle.mscp_ported.specs.Making.{step_told}
-use Rattle.mscp_ported.specs.Moved.{IsEmpty, WasMoved, block_moved}
-use Rattle.mscp_ported.specs.Talk.{Wish, wish}
-use Rattle.mscp_ported.specs.Transfers.{done_by, is_done, is_moving, is_step_of, wanted}
 use Rattle.mscp_ported.proofs.Making.{transfer_so, verdict_so}
 use Rattle.mscp_ported.proofs.Moved.{moved_at}
 use Rattle.mscp_ported.proofs.Moving.{Steps}

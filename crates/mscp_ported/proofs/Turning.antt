@@ -1,31 +1,8 @@
 -- By which calls a port looks for no message of its host's, and reads none on.
-use Rattle.std.proofs.Common.{◌≡◌, ◌≢◌, ◌⊎◌, ◌∙◌, ◌+◌, ◌*◌, ◌/◌, ◌%◌, ◌<◌, ◌≤◌, ◌&&◌, ℕ, Bool, true, false, cond, not, length, List, Option, None, Some, IfSome, MatchOption, inl, inr, refl, ap, sym, subst, arith}
-use Rattle.std.specs.Prelude.{◌==◌, Result, Ok, Err}
-use Rattle.std.proofs.lemmas.Option.{none-some}
-use Rattle.mscp_packet.specs.Number.{num}
-use Rattle.mscp_controller.specs.declared.entry.SendFault.{SendFault}
-use Rattle.mscp_controller.specs.declared.entry.Sent.{Sent}
-use Rattle.mscp_queue.specs.declared.name.Name.{Name}
-use Rattle.mscp_port.specs.declared.action.Outcome.{Outcome}
+use Rattle.mscp_ported.proofs.Common.{Bool, Clears, Commands, Descriptor, Err, GivesBack, Goes, Hears, IfSome, IsAsNew, IsOutcomeOf, IsReadingText, List, MatchOption, Name, None, Ok, Option, Outcome, Outgoing, Port, Responses, Result, Rings, SeesText, SendFault, Sent, Side, Some, Stage, TakesBegun, TakesBlock, TakesStep, Task, Verdict, WritesOut, answered_to, ap, arith, aside, block_begun, block_served, bytes_read, cond, connection_in, false, header_fault, hears_of, inl, inr, is_flagged, is_owned, length, length_in, none-some, not, num, own_end_of, read_again, read_size, refl, rings_named, slots_of, step_again, step_answered, step_at, step_task, subst, sym, true, ℕ, ◌%◌, ◌&&◌, ◌*◌, ◌+◌, ◌/◌, ◌<◌, ◌==◌, ◌∙◌, ◌≡◌, ◌≢◌, ◌≤◌, ◌⊎◌}
 use Rattle.mscp_port.specs.declared.action.Outcome.TheVariants as outcomes
-use Rattle.mscp_port.specs.declared.port.Outgoing.{Outgoing}
-use Rattle.mscp_port.specs.declared.port.Port.{Port}
-use Rattle.mscp_port.specs.declared.rings.Side.{Side}
-use Rattle.mscp_port.specs.declared.rings.Side.TheVariants.{Responses, Commands}
-use Rattle.mscp_port.specs.declared.slot.Descriptor.{Descriptor}
-use Rattle.mscp_port.specs.declared.stage.Stage.{Stage}
 use Rattle.mscp_port.specs.declared.stage.Stage.TheVariants as stages
-use Rattle.mscp_port.specs.declared.task.Task.{Task}
 use Rattle.mscp_port.specs.declared.task.Task.TheVariants as tasks
-use Rattle.mscp_port.specs.declared.verdict.Verdict.{Verdict}
-use Rattle.mscp_port.specs.Acted.{Clears, GivesBack, WritesOut, hears_of, step_task}
-use Rattle.mscp_port.specs.Areas.{Rings, rings_named, slots_of}
-use Rattle.mscp_port.specs.Calls.{Goes, Hears, TakesStep, read_again, step_again, step_answered, step_at}
-use Rattle.mscp_port.specs.Messages.{own_end_of}
-use Rattle.mscp_port.specs.Moved.{TakesBegun, TakesBlock, block_begun, block_served}
-use Rattle.mscp_port.specs.Ports.{IsAsNew, IsOutcomeOf, IsReadingText, aside, read_size}
-use Rattle.mscp_port.specs.Seen.{SeesText, answered_to, bytes_read, connection_in, header_fault, length_in}
-use Rattle.mscp_port.specs.Slots.{is_flagged, is_owned}
 
 -- a message is looked for, or read
 abbrev pub IsHearing : Task → Type 0

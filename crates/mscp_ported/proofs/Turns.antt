@@ -1,22 +1,7 @@
 -- Which calls look for a message of a port's host, or read one on.
-use Rattle.std.proofs.Common.{◌≡◌, ◌≢◌, ◌⊎◌, ◌∙◌, ◌&&◌, [], ◌∷◌, ℕ, Bool, true, false, not, length, nat_eq, List, Some, IfSome, inl, inr, refl, ap, sym, subst, arith}
-use Rattle.std.specs.Prelude.{Ok, Err}
-use Rattle.std.proofs.lemmas.Option.{none-some}
-use Rattle.mscp_queue.specs.Records.{Record}
-use Rattle.mscp_port.specs.declared.action.Action.{Action}
-use Rattle.mscp_port.specs.declared.port.Port.{Port}
-use Rattle.mscp_port.specs.declared.rings.Side.TheVariants.{Commands}
-use Rattle.mscp_port.specs.declared.stage.Stage.{Stage}
+use Rattle.mscp_ported.proofs.Common.{Action, Becomes, Bool, Call, Commands, Err, IfSome, IsDue, List, LookAgain, Next, Ok, Picking, Port, Protect, PutAside, ReadIp, Record, Some, Stage, Task, Tick, VolumeCame, VolumeWent, Wants, WasRead, Went, WriteIp, WriteSa, [], ap, arith, aside, block_is_due, false, false≢true, in_hand, inl, inr, is_dead, length, nat_eq, none-some, none_or_not, not, place_in, read_again, refl, step_at, subst, sym, true, up_or_not, ℕ, ◌&&◌, ◌∙◌, ◌∷◌, ◌≡◌, ◌≢◌, ◌⊎◌}
 use Rattle.mscp_port.specs.declared.stage.Stage.TheVariants as stages
-use Rattle.mscp_ported.specs.Talk.{is_dead}
-use Rattle.mscp_port.specs.declared.task.Task.{Task}
 use Rattle.mscp_port.specs.declared.task.Task.TheVariants as tasks
-use Rattle.mscp_port.specs.Calls.{Wants, read_again, step_at}
-use Rattle.mscp_port.specs.Histories.{Becomes, Call, Picking, WriteIp, ReadIp, WriteSa, Next, PutAside, WasRead, Went, LookAgain, Tick, VolumeCame, VolumeWent, Protect}
-use Rattle.mscp_port.specs.Ports.{IsDue, aside, block_is_due, in_hand}
-use Rattle.mscp_port.specs.Volumes.{place_in}
-use Rattle.mscp_port.proofs.Common.{false≢true}
-use Rattle.mscp_port.proofs.Loads.{none_or_not, up_or_not}
 use Rattle.mscp_ported.proofs.Turning.{IsHearing, ReadsOn, again, anew, as_before, forgets, no_more, put, read_on, went_quiet}
 use Rattle.mscp_ported.proofs.Wanting.{alive_or_dead}
 

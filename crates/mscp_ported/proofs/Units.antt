@@ -1,22 +1,5 @@
 -- Which unit an end names: that of its message, unless that asks for the next unit.
-use Rattle.std.proofs.Common.{◌≡◌, ◌⊎◌, ◌∙◌, ◌+◌, ◌*◌, ◌^◌, ◌<◌, ◌≤◌, ◌++◌, ◌∷◌, ℕ, Bool, true, false, cond, drop, length, take, List, Option, None, Some, inl, inr, refl, sym, subst, arith}
-use Rattle.std.specs.Prelude.{slice_get, slice_index}
-use Rattle.byteorder.specs.Endian.{little_bytes}
-use Rattle.mscp_packet.proofs.Numbers.{two}
-unfoldable use Rattle.mscp_packet.specs.Commands.{command_of}
-use Rattle.mscp_packet.specs.Number.{num}
-use Rattle.mscp_packet.specs.declared.end.End.{End}
-use Rattle.mscp_packet.specs.declared.end.EndBody.{EndBody}
-use Rattle.mscp_drive.specs.Shape.{Shape}
-use Rattle.mscp_drive.specs.UnitList.{unit_found}
-use Rattle.mscp_port.specs.declared.decided.Decided.{Decided}
-use Rattle.mscp_port.specs.declared.hardware.Hardware.{Hardware}
-use Rattle.mscp_port.specs.declared.port.Port.{Port}
-use Rattle.mscp_port.specs.Formalities.{ends_formality, is_formality, stand_in}
-use Rattle.mscp_port.specs.Leaving.{end_left, end_with_body, head, told_end}
-use Rattle.mscp_port.specs.Messages.{asks_for_next, handed, next_unit}
-use Rattle.mscp_ported.specs.Answers.{asks_next}
-use Rattle.mscp_ported.specs.Fitting.{IsUnitFor}
+use Rattle.mscp_ported.proofs.Common.{Bool, Decided, End, EndBody, Hardware, IsUnitFor, List, None, Option, Port, Shape, Some, arith, asks_for_next, asks_next, command_of, cond, drop, end_left, end_with_body, ends_formality, false, handed, head, inl, inr, is_formality, length, little_bytes, next_unit, num, refl, slice_get, slice_index, stand_in, subst, sym, take, told_end, true, two, unit_found, ℕ, ◌*◌, ◌++◌, ◌+◌, ◌<◌, ◌^◌, ◌∙◌, ◌∷◌, ◌≡◌, ◌≤◌, ◌⊎◌}
 
 -- as the controller has it: of 16 bits
 abbrev pub IsUnitIn : ℕ → List ℕ → Type 0

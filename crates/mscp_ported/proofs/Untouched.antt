@@ -1,20 +1,8 @@
 -- Calls by which nothing changes that is kept of commands.
 use Rattle.mscp_port.specs.declared.task.Task.TheVariants as tasks
 use Rattle.mscp_port.specs.declared.stage.Stage.TheVariants as stages
-use Rattle.mscp_packet.specs.Number.{num}
-use Rattle.mscp_port.specs.Calls.{Dies, Hears}
-use Rattle.mscp_port.specs.Histories.{Becomes, Call, LookAgain, Next, Picking, Protect, PutAside, ReadIp, Tick, VolumeCame, VolumeWent, WasRead, Went, WriteIp, WriteSa}
-use Rattle.mscp_port.specs.Ports.{IsAsNew, IsReadingText, read_size}
-use Rattle.mscp_port.specs.Seen.{header_fault}
-use Rattle.mscp_port.specs.Slots.{is_owned}
-use Rattle.mscp_port.specs.declared.port.Port.{Port}
-use Rattle.mscp_port.specs.declared.rings.Side.{Side}
-use Rattle.mscp_port.specs.declared.rings.Side.TheVariants.{Commands, Responses}
-use Rattle.mscp_port.specs.declared.task.Task.{Task}
+use Rattle.mscp_ported.proofs.Common.{Becomes, Bool, Call, Commands, Dies, Err, Hears, IsAsNew, IsReadingText, List, LookAgain, MatchOption, Next, None, Ok, Option, Picking, Port, Protect, PutAside, ReadIp, Responses, Side, Some, Task, Tick, VolumeCame, VolumeWent, WasRead, Went, WriteIp, WriteSa, ap, cond, false, header_fault, inl, inr, is_owned, length, none-some, num, read_size, refl, subst, sym, true, ℕ, ◌∙◌, ◌≡◌, ◌⊎◌}
 use Rattle.mscp_ported.proofs.Staying.{IsPassive}
-use Rattle.std.proofs.Common.{ℕ, Bool, List, MatchOption, None, Option, Some, ap, cond, false, inl, inr, length, refl, subst, sym, true, ◌∙◌, ◌≡◌, ◌⊎◌}
-use Rattle.std.proofs.lemmas.Option.{none-some}
-use Rattle.std.specs.Prelude.{Err, Ok}
 
 pub passive_buffers : {K : Type 0} (picks : Picking K) (call : Call) (old new : Port K) → Becomes picks call old new
     → IsPassive call → (new.buffers ≡ old.buffers) ⊎ Dies old new

@@ -1,40 +1,9 @@
 -- Blocks are moved on the volume that was there as their command came, and with which the unit is online.
-use Rattle.std.proofs.Common.{◌≡◌, ◌∙◌, ◌<◌, ◌≤◌, ◌||◌, ◌∷◌, [], ℕ, Bool, true, false, cond, not, length, nat_eq, List, MatchOption, Option, None, Some, IfSome, inl, inr, refl, ap, sym, subst, arith}
-use Rattle.std.specs.Prelude.{◌==◌, Ok, Err, Result, option_map}
-use Rattle.std.proofs.lemmas.Option.{none-some, same_Some}
-use Rattle.mscp_packet.specs.declared.command.MoveKind.{MoveKind}
-use Rattle.mscp_drive.specs.Shape.{Shape, one_block}
-use Rattle.mscp_drive.specs.UnitList.{IsUnitList}
+use Rattle.mscp_ported.proofs.Common.{Action, Answered, AsksAlways, Bool, Buffer, Call, Connection, Err, Finish, Hardware, Holdings, IfSome, InRings, IsMadeOf, IsOfItsVolume, IsOnItsVolume, IsOnline, IsUnitList, IsWanted, List, Makes, MatchOption, MoveKind, Next, None, NotBegun, Ok, Option, Outcome, Picking, Port, Report, Result, Rings, Shape, Some, Task, Upcoming, Verdict, Volume, Went, [], ap, arith, begun_step, block_begun, changed, changed_verdict, cond, eqb-true, false, false≢true, has_changed, inl, inr, kept_of, length, move_of, move_wanted, moved_step, nat_eq, none-some, not, one_block, option_map, part_at, part_of, part_wanted, part_with, place_in, position-Some, refl, refusal_of, same_Some, settings_still, step_told, subst, sym, true, unless_fault, volume_at, wish, ℕ, ◌<◌, ◌==◌, ◌∙◌, ◌∷◌, ◌≡◌, ◌≤◌}
+use Rattle.std.proofs.Common.{◌||◌}
 use Rattle.mscp_drive.specs.declared.block.Block.TheVariants as blocks
-use Rattle.mscp_drive.specs.declared.connection.Connection.{Connection}
-use Rattle.mscp_queue.specs.declared.report.Report.{Report}
-use Rattle.mscp_queue.specs.declared.upcoming.Upcoming.{Upcoming}
-use Rattle.mscp_controller.specs.declared.entry.NotBegun.{NotBegun}
-use Rattle.mscp_controller.specs.Calls.{Finish}
-use Rattle.mscp_controller.specs.Holdings.{Holdings, begun_step}
-use Rattle.mscp_port.specs.declared.action.Action.{Action}
 use Rattle.mscp_port.specs.declared.action.Action.TheVariants as actions
-use Rattle.mscp_port.specs.declared.action.Outcome.{Outcome}
-use Rattle.mscp_port.specs.declared.buffers.Buffer.{Buffer}
-use Rattle.mscp_port.specs.declared.hardware.Hardware.{Hardware}
-use Rattle.mscp_port.specs.declared.port.Port.{Port}
-use Rattle.mscp_port.specs.declared.task.Task.{Task}
 use Rattle.mscp_port.specs.declared.task.Task.TheVariants as tasks
-use Rattle.mscp_port.specs.declared.verdict.Verdict.{Verdict}
-use Rattle.mscp_port.specs.declared.volumes.Volume.{Volume}
-use Rattle.mscp_port.specs.Areas.{Rings}
-use Rattle.mscp_port.specs.Blocks.{changed_verdict, has_changed, kept_of, move_of, part_with, refusal_of, unless_fault}
-use Rattle.mscp_port.specs.Buffers.{part_of}
-use Rattle.mscp_port.specs.Calls.{IsMadeOf}
-use Rattle.mscp_port.specs.Histories.{Answered, Call, Picking, Next, Went}
-use Rattle.mscp_port.specs.Moved.{block_begun, move_wanted, moved_step, part_at, part_wanted}
-use Rattle.mscp_port.specs.Volumes.{place_in, volume_at}
-use Rattle.mscp_port.specs.Wanted.{InRings, IsWanted}
-use Rattle.mscp_port.proofs.Common.{eqb-true, false≢true, position-Some}
-use Rattle.mscp_port.proofs.Credits.{settings_still}
-use Rattle.mscp_ported.specs.Making.{Makes, step_told}
-use Rattle.mscp_ported.specs.Mounts.{IsOfItsVolume, IsOnItsVolume, IsOnline, changed}
-use Rattle.mscp_ported.specs.Talk.{AsksAlways, wish}
 use Rattle.mscp_ported.proofs.Mounting.{online}
 use Rattle.mscp_ported.proofs.Changing.{SaidAgo, kept_ago, of_its_volume}
 use Rattle.mscp_ported.proofs.Moving.{Steps, steps}

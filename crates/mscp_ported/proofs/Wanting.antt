@@ -1,26 +1,8 @@
 -- What follows when something is wanted of a holder.
-use Rattle.std.proofs.Common.{◌≡◌, ◌≢◌, ◌⊎◌, ◌∙◌, ◌++◌, [], ℕ, Bool, true, false, map, List, Option, None, Some, inl, inr, refl, ap, sym, subst, arith}
-use Rattle.std.proofs.lemmas.List.{append-nil}
-use Rattle.std.proofs.lemmas.Option.{none-some}
-use Rattle.mscp_queue.specs.declared.view.Choice.{Choice}
-use Rattle.mscp_port.specs.declared.action.Action.{Action}
+use Rattle.mscp_ported.proofs.Common.{Action, Bool, Choice, Commands, HasNothingToSay, IsAlive, IsDue, IsOfBlock, IsOwed, IsWanted, List, Next, None, Option, Outgoing, Port, Responses, Said, Some, Stage, Talk, Task, Wants, Wish, [], ap, append-nil, arith, begins, block_is_due, bytes_wanted, false, inl, inr, is_dead, looks_or_not, map, message_text, none-some, refl, said_in, silence, stepped, subst, sym, true, ℕ, ◌++◌, ◌∙◌, ◌≡◌, ◌≢◌, ◌⊎◌}
 use Rattle.mscp_port.specs.declared.action.Action.TheVariants as actions
-use Rattle.mscp_port.specs.declared.port.Outgoing.{Outgoing}
-use Rattle.mscp_port.specs.declared.port.Port.{Port}
-use Rattle.mscp_port.specs.declared.rings.Side.TheVariants.{Responses, Commands}
-use Rattle.mscp_port.specs.declared.stage.Stage.{Stage}
 use Rattle.mscp_port.specs.declared.stage.Stage.TheVariants as stages
-use Rattle.mscp_port.specs.declared.task.Task.{Task}
 use Rattle.mscp_port.specs.declared.task.Task.TheVariants as tasks
-use Rattle.mscp_port.specs.Calls.{Wants}
-use Rattle.mscp_port.specs.Departures.{begins}
-use Rattle.mscp_port.specs.Histories.{Next}
-use Rattle.mscp_port.specs.Ports.{HasNothingToSay, IsAlive, IsDue, IsOfBlock, block_is_due}
-use Rattle.mscp_port.specs.Wanted.{IsWanted, bytes_wanted}
-use Rattle.mscp_port.proofs.Loads.{looks_or_not}
-use Rattle.mscp_ported.specs.Owed.{IsOwed}
-use Rattle.mscp_ported.specs.Talk.{Wish, Talk, is_dead, silence, stepped}
-use Rattle.mscp_ported.specs.Told.{Said, message_text, said_in}
 use Rattle.mscp_ported.proofs.After.{After, IsNoReset, alters, none_said, same_stage, say_on, unmoved}
 use Rattle.mscp_ported.proofs.Look.{AreTold, Counts, Fits, InStep, IsAsked, IsClear, IsOfRings, IsOpen, IsTelling, Names, NeedsOut, has_area, in_hand, is_loud, look}
 use Rattle.mscp_ported.proofs.Owing.{asked_of, owed_of}

@@ -1,27 +1,6 @@
 -- The text of an end that goes out: its number, its bytes, and that it is whole.
-use Rattle.mscp_drive.specs.UnitList.{unit_found}
-use Rattle.mscp_port.specs.Leaving.{head}
-use Rattle.mscp_packet.specs.Ends.{end_length, kind_of_body}
-use Rattle.std.proofs.Common.{length, nat_eq, ◌≡◌, ◌∙◌, ◌+◌, ◌*◌, ◌/◌, ◌%◌, ◌^◌, ◌<◌, ◌≤◌, ◌∷◌, [], ℕ, Bool, true, false, cond, List, Option, None, Some, refl, ap, sym, subst, arith}
-use Rattle.std.specs.Prelude.{find, option_map, slice_get, slice_index}
-use Rattle.std.specs.List.{AllByRecursion}
-use Rattle.std.proofs.lemmas.Option.{none-some, same_Some}
-use Rattle.mscp_packet.proofs.Numbers.{four}
-use Rattle.mscp_packet.specs.Number.{num}
-use Rattle.mscp_packet.specs.Ends.{IsOfKind, end_bytes, endcodes, kind_of_code}
-use Rattle.mscp_packet.specs.declared.end.BodyKind.{BodyKind}
-use Rattle.mscp_packet.specs.declared.end.BodyKind.TheVariants.{Moved}
-use Rattle.mscp_packet.specs.declared.end.End.{End}
-use Rattle.mscp_packet.specs.declared.end.EndBody.{EndBody}
+use Rattle.mscp_ported.proofs.Common.{AllByRecursion, BodyKind, Bool, Decided, End, EndBody, Hardware, IsOfKind, IsWhole, List, Moved, None, Option, Port, Shape, Some, [], ap, arith, cond, end_bytes, end_left, end_length, end_with_body, endcodes, ends_formality, false, false≢true, find, four, head, kind_of_body, kind_of_code, length, nat_eq, none-some, num, option_map, refl, same_Some, slice_get, slice_index, subst, sym, told_end, true, unit_found, ℕ, ◌%◌, ◌*◌, ◌+◌, ◌/◌, ◌<◌, ◌^◌, ◌∙◌, ◌∷◌, ◌≡◌, ◌≤◌}
 use Rattle.mscp_packet.specs.declared.end.EndBody.TheVariants as bodies
-use Rattle.mscp_drive.specs.Shape.{Shape}
-use Rattle.mscp_port.specs.declared.decided.Decided.{Decided}
-use Rattle.mscp_port.specs.declared.hardware.Hardware.{Hardware}
-use Rattle.mscp_port.specs.declared.port.Port.{Port}
-use Rattle.mscp_port.specs.Formalities.{ends_formality}
-use Rattle.mscp_port.specs.Leaving.{end_left, end_with_body, told_end}
-use Rattle.mscp_port.proofs.Common.{false≢true}
-use Rattle.mscp_ported.specs.Awaited.{IsWhole}
 use Rattle.mscp_ported.proofs.Numbered.{counted_in}
 
 -- ---- the text of an end

@@ -1,7 +1,4 @@
-use Rattle.std.proofs.Common.{map, subst, sym}
-use Rattle.mscp_port.specs.declared.rings.Side.TheVariants.{Commands}
-use Rattle.mscp_ported.specs.Talk.{talk_of}
-use Rattle.mscp_ported.specs.Told.{StandInOrder, accepted, message_slot}
+use Rattle.mscp_ported.proofs.Common.{Commands, StandInOrder, accepted, map, message_slot, subst, sym, talk_of}
 use Rattle.mscp_ported.proofs.Following.{accepted_so, in_step}
 use Rattle.mscp_ported.proofs.law.ports_hear_in_order.Goals as goal
 

@@ -1,8 +1,4 @@
-use Rattle.std.proofs.Common.{◌≡◌, ◌+◌, ◌-◌, ℕ, arith, map, subst, sym}
-use Rattle.mscp_port.specs.declared.rings.Side.TheVariants.{Responses}
-use Rattle.mscp_port.proofs.Credited.{all_but_one}
-use Rattle.mscp_ported.specs.Talk.{talk_of}
-use Rattle.mscp_ported.specs.Told.{StandInOrder, TellAll, packet_slot}
+use Rattle.mscp_ported.proofs.Common.{Responses, StandInOrder, TellAll, all_but_one, arith, map, packet_slot, subst, sym, talk_of, ℕ, ◌+◌, ◌-◌, ◌≡◌}
 use Rattle.mscp_ported.proofs.Following.{in_step}
 use Rattle.mscp_ported.proofs.law.ports_tell_in_order.Goals as goal
 
