@@ -8,22 +8,7 @@ use Rattle.mscp_packet.specs.declared.end.EndBody.TheVariants as bodies
 use Rattle.mscp_heard.proofs.Claims.{claim_of, claim_said, claims, claims_said, find_left, tally}
 use Rattle.mscp_heard.proofs.Keeping.{apart_left, every_told, every_without, gone, last_left}
 use Rattle.mscp_heard.proofs.Saying.{IsDone, answer_is}
-use Rattle.mscp_host.specs.Accounts.{Account, answered, is_about, is_about_polled, last_told, news_of_figure, news_with, outstanding_with, polled_is_outstanding, watch_after, with_told, without}
-use Rattle.mscp_host.specs.PortAccounts.{PortAccount, as_read, is_of, is_poll_of, is_too_much, news_said, without_by}
-use Rattle.mscp_host.specs.declared.asked.Asked.{Asked}
-use Rattle.mscp_host.specs.declared.heard.Heard.{Heard}
-use Rattle.mscp_host.specs.declared.watch.Watch.{Watch}
-use Rattle.mscp_packet.specs.Number.{num}
-use Rattle.mscp_packet.specs.declared.end.End.{End}
-use Rattle.mscp_port.proofs.Common.{eq-eqb, eqb-true}
-use Rattle.mscp_port.specs.declared.port.OutgoingKind.{OutgoingKind}
-use Rattle.mscp_ported.specs.Awaited.{has_number}
-use Rattle.mscp_ported.specs.Passing.{Pending, pending_in, pending_said}
-use Rattle.mscp_ported.specs.Told.{Said}
-use Rattle.std.proofs.Common.{ℕ, Bool, List, None, Option, Some, [], ap, arith, cond, false, filter, inl, inr, map, nat_eq, nat_lt, refl, subst, sym, true, ◌++◌, ◌+◌, ◌∙◌, ◌∷◌, ◌≡◌, ◌≢◌, ◌≤◌}
-use Rattle.std.proofs.lemmas.Option.{none-some, same_Some}
-use Rattle.std.specs.List.{AllByRecursion}
-use Rattle.std.specs.Prelude.{find, slice_index}
+use Rattle.mscp_heard.proofs.Common.{Account, AllByRecursion, Asked, Bool, End, Heard, List, None, Option, OutgoingKind, Pending, PortAccount, Said, Some, Watch, [], answered, ap, arith, as_read, cond, eq-eqb, eqb-true, false, filter, find, has_number, inl, inr, is_about, is_about_polled, is_of, is_poll_of, is_too_much, last_told, map, nat_eq, nat_lt, news_of_figure, news_said, news_with, none-some, num, outstanding_with, pending_in, pending_said, polled_is_outstanding, refl, same_Some, slice_index, subst, sym, true, watch_after, with_told, without, without_by, ℕ, ◌++◌, ◌+◌, ◌∙◌, ◌∷◌, ◌≡◌, ◌≢◌, ◌≤◌}
 
 find_other : (n m : ℕ) (xs : List Asked) (y : Asked) → AreApart xs → find (is_of n) (without_by (is_of m) xs) ≡ Some y
     → nat_eq n m ≡ false

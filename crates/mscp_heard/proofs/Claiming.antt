@@ -2,16 +2,8 @@
 use Rattle.mscp_port.specs.declared.port.OutgoingKind.TheVariants as kinds
 use Rattle.mscp_heard.proofs.Claims.{claim_of, claim_said, claims, claims_said, tally, tally_append}
 use Rattle.mscp_heard.proofs.Dealt.{Dealt}
-use Rattle.mscp_packet.specs.Number.{num}
-use Rattle.mscp_port.proofs.Common.{eqb-true}
-use Rattle.mscp_port.specs.declared.port.OutgoingKind.{OutgoingKind}
-use Rattle.mscp_ported.specs.Awaited.{has_number}
-use Rattle.mscp_ported.specs.Told.{Said}
-use Rattle.std.proofs.Common.{ℕ, List, [], ap, arith, cond, filter, inl, inr, map, nat_eq, not, sym, ◌++◌, ◌+◌, ◌∙◌, ◌∷◌, ◌≡◌}
-use Rattle.std.proofs.lemmas.List.{map-append}
+use Rattle.mscp_heard.proofs.Common.{AllByRecursion, List, OutgoingKind, Said, [], ap, arith, cond, eqb-true, filter, has_number, inl, inr, map, map-append, nat_eq, not, num, one_of, sym, ℕ, ◌++◌, ◌+◌, ◌∙◌, ◌∷◌, ◌≡◌}
 use Rattle.mscp_heard.proofs.Moving.{said_append, tally_one}
-use Rattle.mscp_ported.proofs.Dealing.{one_of}
-use Rattle.std.specs.List.{AllByRecursion}
 
 module _ (Took : List ℕ → Type 0) (texts : List (List ℕ)) (us : List Said) (ts ms : List (List ℕ)) (us' : List Said)
     (ts' ms' : List (List ℕ)) (d : Dealt Took texts us ts ms us' ts' ms') where

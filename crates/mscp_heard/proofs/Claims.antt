@@ -1,20 +1,7 @@
 -- What a host is owed: an end for each number, of no more than so many bytes.
-use Rattle.std.proofs.Common.{◌≡◌, ◌∙◌, ◌+◌, ◌≤◌, ◌++◌, ◌∷◌, [], ℕ, Bool, true, false, cond, map, nat_eq, List, Option, None, Some, refl, ap, sym, subst, arith}
-use Rattle.std.specs.Prelude.{find, slice_index}
-use Rattle.std.specs.List.{AllByRecursion}
-use Rattle.std.proofs.lemmas.Option.{none-some}
-use Rattle.mscp_packet.specs.Number.{num}
-use Rattle.mscp_packet.specs.Ends.{kind_of_code}
-use Rattle.mscp_packet.specs.declared.end.BodyKind.{BodyKind}
+use Rattle.mscp_heard.proofs.Common.{AllByRecursion, Asked, BodyKind, Bool, List, None, Option, OutgoingKind, Said, Some, [], ap, arith, bytes_in, cond, eq-eqb, eqb-true, every_append, every_weaker, false, false≢true, find, is_of, kind_of_code, map, nat_eq, none-some, num, refl, slice_index, subst, sym, true, without_by, ℕ, ◌++◌, ◌+◌, ◌∙◌, ◌∷◌, ◌≡◌, ◌≤◌}
 use Rattle.mscp_packet.specs.declared.end.BodyKind.TheVariants as bodykinds
-use Rattle.mscp_host.specs.declared.asked.Asked.{Asked}
-use Rattle.mscp_host.specs.PortAccounts.{is_of, without_by}
-use Rattle.mscp_port.specs.declared.port.OutgoingKind.{OutgoingKind}
 use Rattle.mscp_port.specs.declared.port.OutgoingKind.TheVariants as kinds
-use Rattle.mscp_port.proofs.Common.{eq-eqb, eqb-true, false≢true}
-use Rattle.mscp_queue.proofs.Lists.{every_append, every_weaker}
-use Rattle.mscp_ported.specs.Awaited.{bytes_in}
-use Rattle.mscp_ported.specs.Told.{Said}
 
 pub record Claim : Type 0 where
   pub number : ℕ

@@ -1,34 +1,10 @@
 -- What a call of a port makes of what its host may be told.
 use Rattle.mscp_port.specs.declared.port.OutgoingKind.TheVariants as kinds
-use Rattle.mscp_controller.specs.Calls.{AnsweredCalls, Call as Made}
-use Rattle.mscp_controller.specs.Holdings.{Holdings, fresh, outstanding_of}
-use Rattle.mscp_drive.specs.Settings.{IsValid, Settings}
-use Rattle.mscp_drive.specs.declared.connection.Connection.TheVariants.{First}
+use Rattle.mscp_heard.proofs.Common.{All, Answered, AnsweredCalls, AreJoined, AsksAlways, Call, Called, Deals, Deed, Did, First, Fits, Hardware, Holdings, IsAnswering, IsCopyOf, IsMadeOf, IsNextText, IsTaking, IsTextOf, IsValid, List, Made, None, Ok, Opened, Outgoing, Picking, Port, PortAccount, PortHostsKeepTheirHistory, PortsAnswerAsTheyMay, PortsEndByOpcode, PortsEndWhatTheyTook, PortsHearInOrder, PortsOpenWhatTheyAccept, PortsTellInOrder, ReadsBytes, ReadsInOrder, Said, Settings, Slot, Some, Talk, Turn, WasRead, [], accepted, accepted_by, ap, append-nil, arith, awaited, begins, bytes_small, calls_in, cond, did, drop, ends_said_by, filter, fresh, has_number, inl, inr, is_transfer, kind_answered, length, map, not, num, outstanding_of, own_answer, own_coded, refl, said, said_in, sent, slice_get, slice_index, subst, sym, taken_by, talk_of, volume_named, without_ends, ℕ, ◌++◌, ◌+◌, ◌<◌, ◌∙◌, ◌∷◌, ◌≡◌, ◌≢◌, ◌≤◌, ◌⊎◌}
 use Rattle.mscp_heard.proofs.Joined.{IsNext, next_of}
 use Rattle.mscp_heard.proofs.Moving.{drop_at, drop_beside}
 use Rattle.mscp_heard.proofs.Notes.{Noted, copy_answered, copy_taken, noted_end, noted_news}
-use Rattle.mscp_ported.proofs.Itself.{own_coded}
 use Rattle.mscp_heard.proofs.Owing.{begun_one, one_more, own_number}
-use Rattle.mscp_ported.proofs.Ended.{bytes_small}
-use Rattle.mscp_heard.specs.Deeds.{AreJoined, Called, Deed, Did, IsCopyOf, IsNextText, IsTextOf, ReadsInOrder, calls_in, did, sent}
-use Rattle.mscp_host.specs.PortAccounts.{PortAccount}
-use Rattle.mscp_host.specs.PortLaw.{PortHostsKeepTheirHistory}
-use Rattle.mscp_packet.specs.Number.{num}
-use Rattle.mscp_port.specs.Calls.{IsMadeOf}
-use Rattle.mscp_port.specs.Departures.{begins}
-use Rattle.mscp_port.specs.Histories.{Answered, Call, Picking, WasRead}
-use Rattle.mscp_port.specs.declared.hardware.Hardware.{Hardware}
-use Rattle.mscp_port.specs.declared.port.Outgoing.{Outgoing}
-use Rattle.mscp_port.specs.declared.port.Port.{Port}
-use Rattle.mscp_ported.specs.Answers.{kind_answered, PortsAnswerAsTheyMay, own_answer, volume_named}
-use Rattle.mscp_ported.specs.Awaited.{Deals, IsAnswering, IsTaking, PortsEndWhatTheyTook, ReadsBytes, awaited, has_number, is_transfer, taken_by, without_ends}
-use Rattle.mscp_ported.specs.Ends.{ends_said_by}
-use Rattle.mscp_ported.specs.Fitting.{Fits, PortsEndByOpcode}
-use Rattle.mscp_ported.specs.Talk.{AsksAlways, Opened, Slot, Talk, Turn, talk_of}
-use Rattle.mscp_ported.specs.Told.{PortsHearInOrder, PortsOpenWhatTheyAccept, PortsTellInOrder, Said, accepted, accepted_by, said, said_in}
-use Rattle.std.proofs.Common.{ℕ, All, List, None, Some, [], ap, arith, cond, drop, filter, inl, inr, length, map, not, refl, subst, sym, ◌++◌, ◌+◌, ◌<◌, ◌∙◌, ◌∷◌, ◌≡◌, ◌≢◌, ◌≤◌, ◌⊎◌}
-use Rattle.std.proofs.lemmas.List.{append-nil}
-use Rattle.std.specs.Prelude.{Ok, slice_get, slice_index}
 
 -- what was said and not heard, what is awaited, and what was sent and not read, before a call and behind it: nothing
 -- changes, or news are said, or a message's end, or the next message is taken, or answered

@@ -1,36 +1,13 @@
 -- What each moment of a host makes of the commands whose ends it hasn't heard.
-use Rattle.mscp_host.specs.PortAccounts.{end_says, ended, granted}
-use Rattle.std.proofs.Common.{◌≡◌, ◌⊎◌, ◌∙◌, ◌+◌, ◌^◌, ◌*◌, ◌/◌, ◌%◌, ◌<◌, ◌≤◌, ◌&&◌, ◌||◌, ◌++◌, ◌∷◌, [], ℕ, Bool, true, false, cond, map, nat_eq, List, Option, None, Some, inl, inr, refl, ap, sym, subst, arith}
-use Rattle.std.specs.Prelude.{Result, Ok, Err, find, is_some}
-use Rattle.std.specs.List.{list_any}
-use Rattle.std.proofs.lemmas.Option.{none-some}
-use Rattle.arrayvec.specs.ArrayVec.{ArrayVec}
-use Rattle.mscp_packet.proofs.Numbers.{four}
-use Rattle.mscp_packet.specs.Number.{num}
-use Rattle.mscp_packet.specs.Commands.{command_bytes, opcode_byte}
-use Rattle.mscp_packet.specs.declared.command.Command.{Command}
+use Rattle.mscp_heard.proofs.Common.{Account, ArrayVec, Asked, Bool, Command, End, Envelope, Err, HearFault, Heard, HostFault, List, Message, News, None, Ok, Option, Order, Poll, PortAccount, Result, Some, Submission, [], ap, arith, asked_of, asks, asks_unless, bytes_in, bytes_of, command_bytes, cond, credit_fault, end_says, ended, ends_of, false, find, four, granted, has_reference, heard_of, hears, inl, inr, is_of, is_some, is_to_poll, is_too_much, is_transfer, list_any, map, may_be_of, message_in, nat_eq, news_said, none-some, num, oldest, opcode_byte, poll_of, polled_with, polls_oldest, port_polls, port_submits, refl, refusal, submits, submits_unless, submits_unless_faulty, submitted_with, subst, sym, true, without_by, ℕ, ◌&&◌, ◌*◌, ◌++◌, ◌+◌, ◌/◌, ◌<◌, ◌^◌, ◌||◌, ◌∙◌, ◌∷◌, ◌≡◌, ◌≤◌, ◌⊎◌}
+use Rattle.std.proofs.Common.{◌%◌}
 use Rattle.mscp_packet.specs.declared.command.MoveKind.TheVariants as moves
-use Rattle.mscp_packet.specs.declared.command.Order.{Order}
 use Rattle.mscp_packet.specs.declared.command.Order.TheVariants as orders
-use Rattle.mscp_packet.specs.declared.end.End.{End}
-use Rattle.mscp_host.specs.declared.asked.Asked.{Asked}
-use Rattle.mscp_host.specs.declared.envelope.Envelope.{Envelope}
-use Rattle.mscp_host.specs.declared.heard.Heard.{Heard}
 use Rattle.mscp_host.specs.declared.heard.Heard.TheVariants as heards
-use Rattle.mscp_host.specs.declared.message.HearFault.{HearFault}
 use Rattle.mscp_host.specs.declared.message.HearFault.TheVariants as faults
-use Rattle.mscp_host.specs.declared.news.News.{News}
 use Rattle.mscp_host.specs.declared.news.News.TheVariants as news
-use Rattle.mscp_host.specs.declared.message.Message.{Message}
 use Rattle.mscp_host.specs.declared.message.Message.TheVariants as messages
-use Rattle.mscp_host.specs.declared.news.HostFault.{HostFault}
-use Rattle.mscp_host.specs.declared.news.Poll.{Poll}
 use Rattle.mscp_host.specs.declared.news.Poll.TheVariants as polls
-use Rattle.mscp_host.specs.declared.submission.Submission.{Submission}
-use Rattle.mscp_host.specs.Accounts.{Account, asks, asks_unless, has_reference, oldest, poll_of, polls_oldest, refusal, submits, submits_unless}
-use Rattle.mscp_host.specs.Messages.{message_in}
-use Rattle.mscp_host.specs.PortAccounts.{PortAccount, asked_of, bytes_of, credit_fault, ends_of, heard_of, hears, is_of, is_to_poll, is_too_much, news_said, may_be_of, polled_with, port_polls, port_submits, submits_unless_faulty, submitted_with, without_by}
-use Rattle.mscp_ported.specs.Awaited.{bytes_in, is_transfer}
 
 -- ---- the message of a command
 

@@ -1,42 +1,8 @@
 -- What a host is owed after each deed at its port.
-use Rattle.mscp_ported.specs.Told.{said as all_said}
-use Rattle.std.proofs.Common.{◌≡◌, ◌≢◌, ◌∙◌, ◌-◌, ◌≤◌, ◌++◌, ◌∷◌, [], ℕ, suc, Bool, true, false, cond, drop, filter, length, map, not, List, Some, inl, inr, refl, ap, sym, subst, arith}
-use Rattle.std.specs.Prelude.{◌%◌, Result, Ok, Err, find, slice_get, slice_index}
-use Rattle.std.specs.List.{AllByRecursion}
-use Rattle.std.proofs.lemmas.List.{append-nil, length-map}
-use Rattle.std.proofs.lemmas.Option.{none-some, same_Some}
-use Rattle.mscp_packet.specs.Number.{num}
-use Rattle.mscp_packet.specs.Ends.{kind_of_code}
-use Rattle.mscp_packet.specs.declared.end.End.{End}
-use Rattle.mscp_drive.specs.Settings.{IsValid, Settings}
-use Rattle.mscp_drive.specs.declared.connection.Connection.TheVariants.{First}
-use Rattle.mscp_controller.specs.Calls.{AnsweredCalls, Call as Made}
-use Rattle.mscp_controller.specs.Holdings.{Holdings, fresh, outstanding_of}
-use Rattle.mscp_host.specs.declared.asked.Asked.{Asked}
-use Rattle.mscp_host.specs.declared.envelope.Envelope.{Envelope}
-use Rattle.mscp_host.specs.declared.heard.Heard.{Heard}
-use Rattle.mscp_host.specs.declared.message.HearFault.{HearFault}
+use Rattle.mscp_heard.proofs.Common.{AllByRecursion, Answered, AnsweredCalls, AreJoined, Ask, Asked, AsksAlways, Bool, Call, Called, Deals, Deed, Did, End, Envelope, Err, First, Hardware, HasNumber, HaveNumbers, Hear, HearFault, Heard, HearsInOrder, HearsItsOwn, Holdings, IsAnswering, IsMadeOf, IsNextText, IsPacket, IsTaking, IsTextOf, IsValid, IsWhole, Likeness, List, Made, Ok, Opened, Other, OutgoingKind, Packet, Picking, Port, PortAccount, PortAnswered, PortAnswers, PortHistory, PortHostsKeepTheirHistory, PortMoment, PortsAnswerAsTheyMay, PortsEndWhatTheyTook, PortsHearInOrder, PortsOpenWhatTheyAccept, PortsTellInOrder, ReadsBytes, ReadsInOrder, Result, Resume, Settings, Slot, Some, Submit, Talk, WasRead, WriteIp, [], accepted, accepted_by, all_said, ap, append-nil, arith, awaited, begins, bytes_in, bytes_small, calls_in, cond, connection_told, did, drop, ends_said_by, envelope_in, false, filter, find, fresh, fresh_of_port, has_number, hearings, held, inl, inr, is_dead, is_for_utilities, is_hearing, is_of, is_too_much, kind_answered, kind_of_code, length, length-map, map, message_in, none-some, not, num, outstanding, outstanding_of, own_answer, refl, said, said_in, same_Some, seen, sent, sent_by, slice_get, slice_index, submission_at, subst, suc, sym, taken_by, talk_of, true, volume_named, without_ends, ℕ, ◌%◌, ◌++◌, ◌-◌, ◌∙◌, ◌∷◌, ◌≡◌, ◌≢◌, ◌≤◌}
 use Rattle.mscp_host.specs.declared.message.Message.TheVariants as messages
 use Rattle.mscp_host.specs.declared.news.Poll.TheVariants as polls
-use Rattle.mscp_host.specs.Histories.{outstanding, submission_at}
-use Rattle.mscp_host.specs.Messages.{envelope_in, message_in}
-use Rattle.mscp_host.specs.PortAccounts.{PortAccount, fresh_of_port, is_of, is_too_much}
-use Rattle.mscp_host.specs.PortHistories.{Ask, Hear, Other, PortAnswered, PortAnswers, PortHistory, PortMoment, Resume, Submit, seen}
-use Rattle.mscp_host.specs.PortLaw.{PortHostsKeepTheirHistory}
-use Rattle.mscp_port.specs.declared.hardware.Hardware.{Hardware}
-use Rattle.mscp_port.specs.declared.port.OutgoingKind.{OutgoingKind}
 use Rattle.mscp_port.specs.declared.port.OutgoingKind.TheVariants as kinds
-use Rattle.mscp_port.specs.declared.port.Port.{Port}
-use Rattle.mscp_port.specs.Calls.{IsMadeOf}
-use Rattle.mscp_port.specs.Departures.{begins}
-use Rattle.mscp_port.specs.Histories.{Answered, Call, Picking, WasRead, WriteIp}
-use Rattle.mscp_ported.specs.Answers.{own_answer, volume_named, PortsAnswerAsTheyMay, is_for_utilities, kind_answered}
-use Rattle.mscp_ported.specs.Awaited.{IsWhole, Deals, IsAnswering, IsTaking, PortsEndWhatTheyTook, ReadsBytes, awaited, bytes_in, has_number, taken_by, without_ends}
-use Rattle.mscp_ported.specs.Ends.{ends_said_by}
-use Rattle.mscp_ported.specs.Talk.{AsksAlways, Opened, Packet, Slot, Talk, is_dead, talk_of}
-use Rattle.mscp_ported.specs.Told.{PortsHearInOrder, PortsOpenWhatTheyAccept, PortsTellInOrder, accepted, accepted_by, connection_told, held, said, said_in}
-use Rattle.mscp_heard.specs.Deeds.{AreJoined, Called, Deed, Did, HasNumber, HaveNumbers, HearsInOrder, IsNextText, Likeness, IsPacket, IsTextOf, ReadsInOrder, calls_in, did, hearings, is_hearing, sent, sent_by}
-use Rattle.mscp_heard.specs.Hearing.{HearsItsOwn}
 use Rattle.mscp_heard.proofs.Moments.{answered_last, asked_before, heard_last, reads_before, same_numbers, sent_last}
 use Rattle.mscp_heard.proofs.Sending.{by_hearing, by_message, heard_own}
 use Rattle.mscp_heard.proofs.Telling.{IsHeard, counted, few_credits, first_part, size_of, tell_at}
@@ -44,7 +10,6 @@ use Rattle.mscp_heard.proofs.Hosts.{hears_refused, SameNumbers, hear_settles, he
 use Rattle.mscp_heard.proofs.Moving.{drop_at}
 use Rattle.mscp_heard.proofs.Packets.{IsMessage, IsRead, message_read}
 use Rattle.mscp_heard.proofs.Owing.{Inv, IsCoded, same_ok, inv_as, since_alive, moved_few, own_number, own_bytes, own_whole, by_news, by_end, by_text, by_answer, one_more, begun_one}
-use Rattle.mscp_ported.proofs.Ended.{bytes_small}
 
 module _ {K : Type 0} (picks : Picking K) (c : Settings) (picker : K) (ends : PortsEndWhatTheyTook picks picker)
     (hear : PortsHearInOrder picks) (tell : PortsTellInOrder picks) (open_so : PortsOpenWhatTheyAccept picks)

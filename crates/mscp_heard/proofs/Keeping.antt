@@ -5,24 +5,7 @@ use Rattle.mscp_heard.proofs.Claims.{Owes, claim_of, claims, claims_said, find_m
 use Rattle.mscp_heard.proofs.Hosts.{SameNumbers}
 use Rattle.mscp_heard.proofs.Noting.{IsReady}
 use Rattle.mscp_heard.proofs.Watching.{Found, Notes, found_submissions}
-use Rattle.mscp_host.specs.Accounts.{has_reference, last_told, told_of, with_told, without}
-use Rattle.mscp_host.specs.PortAccounts.{PortAccount, is_of, without_by}
-use Rattle.mscp_host.specs.declared.asked.Asked.{Asked}
-use Rattle.mscp_host.specs.declared.submission.Submission.{Submission}
-use Rattle.mscp_host.specs.declared.watch.Watch.{Watch}
-use Rattle.mscp_packet.specs.Number.{num}
-use Rattle.mscp_port.proofs.Common.{eq-eqb, eqb-true}
-use Rattle.mscp_ported.proofs.Numbered.{none_beside}
-use Rattle.mscp_ported.proofs.Sole.{sole_comes}
-use Rattle.mscp_ported.specs.Awaited.{has_number}
-use Rattle.mscp_ported.specs.Passing.{Pending}
-use Rattle.mscp_ported.specs.Told.{Said}
-use Rattle.mscp_queue.proofs.Lists.{every_append}
-use Rattle.std.proofs.Common.{ℕ, Bool, List, None, Option, Some, [], ap, arith, cond, false, filter, inl, inr, length, map, nat_eq, refl, subst, sym, true, ◌++◌, ◌+◌, ◌∙◌, ◌∷◌, ◌≡◌, ◌≤◌}
-use Rattle.std.proofs.lemmas.List.{map-append}
-use Rattle.std.proofs.lemmas.Option.{none-some, same_Some}
-use Rattle.std.specs.List.{AllByRecursion}
-use Rattle.std.specs.Prelude.{find, slice_index}
+use Rattle.mscp_heard.proofs.Common.{AllByRecursion, Asked, Bool, List, None, Option, Pending, PortAccount, Said, Some, Submission, Watch, [], ap, arith, cond, eq-eqb, eqb-true, every_append, false, filter, find, has_number, has_reference, inl, inr, is_of, last_told, length, map, map-append, nat_eq, none-some, none_beside, num, refl, same_Some, slice_index, sole_comes, subst, sym, told_of, true, with_told, without, without_by, ℕ, ◌++◌, ◌+◌, ◌∙◌, ◌∷◌, ◌≡◌, ◌≤◌}
 
 -- ---- commands
 

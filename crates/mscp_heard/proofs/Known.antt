@@ -1,20 +1,7 @@
 -- What is known of the figures that a host was told, and of the poll in flight.
 use Rattle.mscp_heard.proofs.Upcoming.{first_of, Before}
 use Rattle.mscp_heard.proofs.Claims.{claims, tally}
-use Rattle.mscp_host.specs.Accounts.{has_reference, last_told, told_of}
-use Rattle.mscp_host.specs.PortAccounts.{PortAccount, is_of}
-use Rattle.mscp_host.specs.declared.asked.Asked.{Asked}
-use Rattle.mscp_host.specs.declared.submission.Submission.{Submission}
-use Rattle.mscp_packet.specs.Number.{num}
-use Rattle.mscp_port.proofs.Common.{eqb-true}
-use Rattle.mscp_ported.specs.Awaited.{has_number}
-use Rattle.mscp_ported.specs.Passing.{Pending}
-use Rattle.mscp_ported.specs.Told.{Said}
-use Rattle.std.proofs.Common.{ℕ, Bool, List, None, Some, [], cond, false, filter, length, nat_eq, refl, true, ◌<◌, ◌∷◌, ◌≡◌, ◌≢◌, ◌≤◌, ◌⊎◌}
-use Rattle.std.proofs.lemmas.Option.{none-some}
-use Rattle.std.specs.List.{AllByRecursion}
-use Rattle.std.specs.Prelude.{find, slice_index}
-use Rattle.mscp_host.specs.declared.watch.Watch.{Watch}
+use Rattle.mscp_heard.proofs.Common.{AllByRecursion, Asked, Bool, List, None, Pending, PortAccount, Said, Some, Submission, Watch, [], cond, eqb-true, false, filter, find, has_number, has_reference, is_of, last_told, length, nat_eq, none-some, num, refl, slice_index, told_of, true, ℕ, ◌<◌, ◌∷◌, ◌≡◌, ◌≢◌, ◌≤◌, ◌⊎◌}
 
 -- ---- messages
 

@@ -1,3 +1,4 @@
+mod Common
 pub mod Claims
 pub mod Hosts
 pub mod Moving

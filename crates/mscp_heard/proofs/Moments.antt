@@ -1,17 +1,5 @@
 -- Lists of calls and of moments: what holds before the last one, and what the last one adds.
-use Rattle.std.proofs.Common.{◌≡◌, ◌∙◌, ◌+◌, ◌++◌, ◌∷◌, [], ℕ, suc, Bool, true, false, cond, filter, length, map, List, refl, ap, sym, subst, arith}
-use Rattle.std.specs.Prelude.{Ok}
-use Rattle.std.proofs.lemmas.Grind.{flat_map-append}
-use Rattle.std.proofs.lemmas.List.Elements.{filter-append}
-use Rattle.std.proofs.lemmas.List.{append-nil, length-append}
-use Rattle.mscp_host.specs.declared.asked.Asked.{Asked}
-use Rattle.mscp_host.specs.Histories.{History, submission_at}
-use Rattle.mscp_host.specs.PortAccounts.{PortAccount}
-use Rattle.mscp_host.specs.PortHistories.{PortAnswered, PortAnswers, PortHistory, PortMoment, asked_at}
-use Rattle.mscp_port.specs.Histories.{Call, WasRead, Went}
-use Rattle.mscp_ported.specs.Awaited.{ReadsBytes}
-use Rattle.mscp_ported.specs.Talk.{AsksAlways}
-use Rattle.mscp_heard.specs.Deeds.{hearings, is_hearing, sent, sent_by}
+use Rattle.mscp_heard.proofs.Common.{Asked, AsksAlways, Bool, Call, History, List, Ok, PortAccount, PortAnswered, PortAnswers, PortHistory, PortMoment, ReadsBytes, WasRead, Went, [], ap, append-nil, arith, asked_at, cond, false, filter, filter-append, flat_map-append, hearings, is_hearing, length, length-append, map, refl, sent, sent_by, submission_at, subst, suc, sym, true, ℕ, ◌++◌, ◌+◌, ◌∙◌, ◌∷◌, ◌≡◌}
 
 pub asked_before : (call : Call) (calls : List Call) → AsksAlways (call ∷ calls) → AsksAlways calls
 asked_before (WasRead bytes (Ok done)) calls asks = asks.1

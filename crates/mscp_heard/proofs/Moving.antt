@@ -1,19 +1,6 @@
 -- How what a host is owed moves through a port.
-use Rattle.std.proofs.Common.{◌≡◌, ◌∙◌, ◌+◌, ◌≤◌, ◌++◌, ◌∷◌, [], ℕ, zero, suc, Bool, true, false, cond, drop, filter, length, map, nat_eq, not, List, Some, refl, ap, sym, subst, arith, append_assoc}
-use Rattle.std.specs.Prelude.{find, slice_get, slice_index}
-use Rattle.std.specs.List.{AllByRecursion}
-use Rattle.std.proofs.lemmas.List.{append-nil, map-append}
-use Rattle.std.proofs.lemmas.Option.{none-some, same_Some}
-use Rattle.mscp_packet.specs.Number.{num}
-use Rattle.mscp_packet.specs.Ends.{kind_of_code}
-use Rattle.mscp_host.specs.declared.asked.Asked.{Asked}
-use Rattle.mscp_host.specs.PortAccounts.{is_of}
+use Rattle.mscp_heard.proofs.Common.{AllByRecursion, Asked, Bool, IsTextOf, List, Said, Some, [], ap, append-nil, append_assoc, arith, bytes_in, cond, drop, eqb-true, every_append, every_parts, false, filter, find, has_number, is_of, kind_of_code, length, map, map-append, nat_eq, none-some, not, num, refl, same_Some, slice_get, slice_index, subst, suc, sym, true, zero, ℕ, ◌++◌, ◌+◌, ◌∙◌, ◌∷◌, ◌≡◌, ◌≤◌}
 use Rattle.mscp_port.specs.declared.port.OutgoingKind.TheVariants as kinds
-use Rattle.mscp_port.proofs.Common.{eqb-true}
-use Rattle.mscp_queue.proofs.Lists.{every_append, every_parts}
-use Rattle.mscp_ported.specs.Awaited.{bytes_in, has_number}
-use Rattle.mscp_ported.specs.Told.{Said}
-use Rattle.mscp_heard.specs.Deeds.{IsTextOf}
 use Rattle.mscp_heard.proofs.Claims.{Claim, IsOwed, Owes, claim_of, claim_said, claims, claims_said, moved_in, owes_same, tally, tally_append}
 
 -- ---- lists

@@ -1,21 +1,7 @@
 -- What a host may be told fits what it keeps: by endcode, and that of a poll by the command that it is about.
 use Rattle.mscp_port.specs.declared.port.OutgoingKind.TheVariants as kinds
 use Rattle.mscp_heard.proofs.Claims.{Claim, claim_of, claim_said, claims, claims_said}
-use Rattle.mscp_heard.specs.Deeds.{IsCopyOf}
-use Rattle.mscp_host.specs.Accounts.{is_about, is_code_of}
-use Rattle.mscp_host.specs.PortAccounts.{PortAccount, is_of, is_poll_of}
-use Rattle.mscp_host.specs.declared.asked.Asked.{Asked}
-use Rattle.mscp_packet.specs.Number.{num}
-use Rattle.mscp_port.proofs.Common.{eqb-true}
-use Rattle.mscp_port.specs.declared.port.OutgoingKind.{OutgoingKind}
-use Rattle.mscp_ported.specs.Fitting.{Fits, IsCodeFor}
-use Rattle.mscp_ported.proofs.Dealing.{one_of}
-use Rattle.mscp_ported.specs.Awaited.{has_number}
-use Rattle.mscp_ported.specs.Told.{Said}
-use Rattle.mscp_queue.proofs.Lists.{every_append, every_kept, every_parts}
-use Rattle.std.proofs.Common.{ℕ, List, Some, [], ap, arith, filter, inl, inr, length, map, nat_eq, not, refl, subst, sym, true, ◌++◌, ◌+◌, ◌||◌, ◌∙◌, ◌∷◌, ◌≡◌, ◌≢◌, ◌≤◌, ◌⊎◌}
-use Rattle.std.specs.List.{AllByRecursion}
-use Rattle.std.specs.Prelude.{find, slice_index}
+use Rattle.mscp_heard.proofs.Common.{AllByRecursion, Asked, Fits, IsCodeFor, IsCopyOf, List, OutgoingKind, PortAccount, Said, Some, [], ap, arith, eqb-true, every_append, every_kept, every_parts, filter, find, has_number, inl, inr, is_about, is_code_of, is_of, is_poll_of, length, map, nat_eq, not, num, one_of, refl, slice_index, subst, sym, true, ℕ, ◌++◌, ◌+◌, ◌||◌, ◌∙◌, ◌∷◌, ◌≡◌, ◌≢◌, ◌≤◌, ◌⊎◌}
 
 -- ---- notes
 

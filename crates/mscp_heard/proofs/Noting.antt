@@ -2,18 +2,7 @@
 use Rattle.mscp_heard.proofs.Claims.{Claim, IsOwed, Owes, claims, find_left, find_more, find_new}
 use Rattle.mscp_heard.proofs.Notes.{FitsAsked, FitsNote, FitsText, Noted, noted_kept}
 use Rattle.mscp_heard.proofs.Watching.{AreSmall, Notes}
-use Rattle.mscp_host.specs.Accounts.{Account, is_about, is_code_of, watch_after}
-use Rattle.mscp_host.specs.PortAccounts.{PortAccount, is_of, is_poll_of, without_by}
-use Rattle.mscp_host.specs.declared.asked.Asked.{Asked}
-use Rattle.mscp_host.specs.declared.watch.Watch.{Watch}
-use Rattle.mscp_packet.specs.Number.{num}
-use Rattle.mscp_port.proofs.Common.{eq-eqb, eqb-true}
-use Rattle.mscp_ported.specs.Told.{Said}
-use Rattle.mscp_queue.proofs.Lists.{every_append, every_weaker}
-use Rattle.std.proofs.Common.{ℕ, Bool, List, None, Option, Some, [], ap, arith, cond, false, inl, inr, nat_eq, refl, subst, sym, true, ◌++◌, ◌+◌, ◌<◌, ◌^◌, ◌||◌, ◌∙◌, ◌∷◌, ◌≡◌, ◌≤◌}
-use Rattle.std.proofs.lemmas.Option.{none-some, same_Some}
-use Rattle.std.specs.List.{AllByRecursion}
-use Rattle.std.specs.Prelude.{find, slice_index}
+use Rattle.mscp_heard.proofs.Common.{Account, AllByRecursion, Asked, Bool, List, None, Option, PortAccount, Said, Some, Watch, [], ap, arith, cond, eq-eqb, eqb-true, every_append, every_weaker, false, find, inl, inr, is_about, is_code_of, is_of, is_poll_of, nat_eq, none-some, num, refl, same_Some, slice_index, subst, sym, true, watch_after, without_by, ℕ, ◌++◌, ◌+◌, ◌<◌, ◌^◌, ◌||◌, ◌∙◌, ◌∷◌, ◌≡◌, ◌≤◌}
 
 -- what a host keeps of its commands: the poll in flight is one of them, and their numbers fit their type
 pub record IsReady (host : PortAccount) : Type 0 where

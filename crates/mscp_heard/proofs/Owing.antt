@@ -1,20 +1,9 @@
 -- What a host is owed, and what a call of its port makes of that.
-use Rattle.std.proofs.Common.{◌≡◌, ◌∙◌, ◌≤◌, ◌++◌, ◌∷◌, [], ℕ, suc, drop, filter, length, not, List, Option, Some, refl, ap, sym, subst, arith}
-use Rattle.std.specs.Prelude.{Result, Ok, slice_get, slice_index}
-use Rattle.std.specs.List.{AllByRecursion}
-use Rattle.std.proofs.lemmas.List.{length-append}
-use Rattle.mscp_packet.specs.Number.{num}
-use Rattle.mscp_packet.specs.Ends.{kind_of_code}
-use Rattle.mscp_packet.specs.declared.end.BodyKind.{BodyKind}
+use Rattle.mscp_heard.proofs.Common.{AllByRecursion, Asked, BodyKind, IsTextOf, List, Ok, Option, Result, Said, Some, [], ap, arith, bytes_in, drop, every_append, filter, has_number, kind_of_code, length, length-append, not, num, refl, slice_get, slice_index, subst, suc, sym, ℕ, ◌++◌, ◌∙◌, ◌∷◌, ◌≡◌, ◌≤◌}
 use Rattle.mscp_packet.specs.declared.end.BodyKind.TheVariants as bodykinds
-use Rattle.mscp_host.specs.declared.asked.Asked.{Asked}
 use Rattle.mscp_port.specs.declared.port.OutgoingKind.TheVariants as kinds
-use Rattle.mscp_queue.proofs.Lists.{every_append}
-use Rattle.mscp_ported.specs.Awaited.{bytes_in, has_number}
 pub use Rattle.mscp_ported.proofs.Growing.{begun_one}
 pub use Rattle.mscp_ported.proofs.Itself.{moves_opcode, own_bytes, own_number, own_whole, since_alive}
-use Rattle.mscp_ported.specs.Told.{Said}
-use Rattle.mscp_heard.specs.Deeds.{IsTextOf}
 use Rattle.mscp_heard.proofs.Claims.{Owes, claim_said, claims, moved_in}
 use Rattle.mscp_heard.proofs.Moving.{drop_at, drop_beside, end_said, news_said, text_answered, text_taken}
 use Rattle.mscp_heard.proofs.Packets.{IsRead}

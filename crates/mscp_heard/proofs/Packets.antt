@@ -1,26 +1,12 @@
 -- What a host reads in a packet that a port told.
-use Rattle.std.proofs.Common.{◌≡◌, ◌∙◌, ◌+◌, ◌*◌, ◌<◌, ◌≤◌, ℕ, Bool, true, false, cond, length, min, nat_eq, nat_le, nat_lt, not, take, List, Option, None, Some, refl, ap, sym, subst, arith}
-use Rattle.std.specs.Prelude.{Result, Ok, Err, slice_index}
+use Rattle.mscp_heard.proofs.Common.{BodyKind, Bool, End, Envelope, Err, HearFault, IsWhole, List, Message, None, Ok, Option, OutgoingKind, Result, Some, any_end, ap, arith, bare_end, body_at, cond, end_at, end_in, end_length, false, get_or-take, is_too_much, kind_of_code, length, length-take, message_in, min, nat_eq, nat_le, nat_lt, not, num, reading_with, refl, sequential_in, slice_index, subst, sym, take, take_all, true, typed_in, ℕ, ◌*◌, ◌+◌, ◌<◌, ◌∙◌, ◌≡◌, ◌≤◌}
 use Rattle.std.specs.Prelude.{◌&&◌}
-use Rattle.std.proofs.lemmas.List.{take_all, get_or-take, length-take}
-use Rattle.mscp_packet.specs.Number.{num}
-use Rattle.mscp_packet.specs.Ends.{body_at, end_at, end_length, kind_of_code, reading_with}
-use Rattle.mscp_packet.specs.declared.end.BodyKind.{BodyKind}
 use Rattle.mscp_packet.specs.declared.end.BodyKind.TheVariants as bodykinds
-use Rattle.mscp_packet.specs.declared.end.End.{End}
 use Rattle.mscp_packet.specs.declared.end.EndBody.TheVariants as bodies
 use Rattle.mscp_packet.specs.declared.reading.EndFault.TheVariants as endfaults
-use Rattle.mscp_host.specs.declared.envelope.Envelope.{Envelope}
-use Rattle.mscp_host.specs.declared.message.HearFault.{HearFault}
 use Rattle.mscp_host.specs.declared.message.HearFault.TheVariants as faults
-use Rattle.mscp_port.specs.declared.port.OutgoingKind.{OutgoingKind}
 use Rattle.mscp_port.specs.declared.port.OutgoingKind.TheVariants as kinds
-use Rattle.mscp_ported.specs.Awaited.{IsWhole}
-use Rattle.mscp_host.specs.declared.message.Message.{Message}
 use Rattle.mscp_host.specs.declared.message.Message.TheVariants as messages
-use Rattle.mscp_host.specs.Accounts.{end_in}
-use Rattle.mscp_host.specs.Messages.{any_end, bare_end, message_in, sequential_in, typed_in}
-use Rattle.mscp_host.specs.PortAccounts.{is_too_much}
 use Rattle.mscp_heard.proofs.Claims.{moved_in}
 
 -- an end in a text

@@ -5,25 +5,14 @@ use Rattle.mscp_heard.proofs.Tracking.{knows_still}
 use Rattle.mscp_host.specs.declared.heard.Heard.TheVariants as heards
 use Rattle.mscp_host.specs.declared.news.Poll.TheVariants as polls
 use Rattle.mscp_packet.specs.declared.end.EndBody.TheVariants as bodies
-use Rattle.std.proofs.lemmas.List.{append-nil, drop-append-le}
+use Rattle.mscp_heard.proofs.Common.{All, AllByRecursion, Answered, AnsweredCalls, AreJoined, Ask, Asked, AsksAlways, Call, Called, Deals, Deed, Did, Envelope, Err, First, Hardware, HasNumber, HaveNumbers, Hear, HearFault, Heard, HearsInOrder, Holdings, HoldsAwaited, IsCopyOf, IsMadeOf, IsServedSince, IsValid, List, Made, Ok, Other, Pending, Picking, Port, PortAccount, PortAnswered, PortAnswers, PortHistory, PortHostsKeepTheirHistory, PortMoment, PortsAnswerAsTheyMay, PortsEndByOpcode, PortsEndWhatTheyTook, PortsHearInOrder, PortsHoldWhatIsAwaited, PortsLowerFigures, PortsOpenWhatTheyAccept, PortsPassEndsOn, PortsTellInOrder, ReadsBytes, ReadsInOrder, Result, Resume, Said, ServesBetweenPolls, Settings, Some, Submit, TakesPoll, TellsStep, WasRead, WriteIp, [], accepted, accepted_by, all_said, ap, append-nil, append_assoc, arith, awaited, begins, calls_in, cond, connection_told, did, drop, drop-append-le, eq-eqb, false, figure_on, flat_map, fresh, fresh_of_port, hearings, inl, inr, is_dead, is_hearing, length, map, message_in, none-some, num, of, outstanding_of, pending_held, pending_in, refl, said_in, sent, sent_by, slice_get, slice_index, subst, suc, sym, taken_by, talk_of, ℕ, ◌%◌, ◌++◌, ◌+◌, ◌<◌, ◌∙◌, ◌∷◌, ◌≡◌, ◌≢◌, ◌≤◌, ◌⊎◌}
 use Rattle.mscp_heard.proofs.Refusing.{owed_so, noted, by_call, end_kind, read_short, read_disk, small_size, refuses_nothing}
 use Rattle.mscp_heard.proofs.Keeping.{knows_sent}
 use Rattle.mscp_heard.proofs.Answered.{knows_news, knows_end, says_neither}
 use Rattle.mscp_heard.proofs.Packets.{is_end, IsMessage, message_read, end_read, end_heard, IsRead}
 use Rattle.mscp_heard.proofs.Watching.{Notes, submit_notes, poll_notes, submit_same, poll_same}
 use Rattle.mscp_heard.proofs.Saying.{IsHeardSo, hear_done}
-use Rattle.mscp_ported.specs.Passing.{PortsHoldWhatIsAwaited, PortsPassEndsOn, HoldsAwaited, IsServedSince, ServesBetweenPolls, TakesPoll, Pending, pending_held, pending_in}
-use Rattle.mscp_ported.specs.Figures.{PortsLowerFigures, figure_on}
-use Rattle.mscp_port.specs.Fair.{TellsStep}
-use Rattle.mscp_drive.specs.Both.{of}
 use Rattle.mscp_heard.proofs.Dealt.{Taken}
-use Rattle.std.specs.Prelude.{◌%◌, Result, Err, Ok, slice_get, slice_index, flat_map}
-use Rattle.mscp_host.specs.declared.heard.Heard.{Heard}
-use Rattle.mscp_host.specs.declared.message.HearFault.{HearFault}
-use Rattle.mscp_controller.specs.Calls.{AnsweredCalls, Call as Made}
-use Rattle.mscp_controller.specs.Holdings.{Holdings, fresh, outstanding_of}
-use Rattle.mscp_drive.specs.Settings.{IsValid, Settings}
-use Rattle.mscp_drive.specs.declared.connection.Connection.TheVariants.{First}
 use Rattle.mscp_heard.proofs.Claims.{claim_of, claims, claims_said, tally, tally_append}
 use Rattle.mscp_heard.proofs.Hosts.{SameNumbers}
 use Rattle.mscp_heard.proofs.Joined.{hears_said, none_told, numbered}
@@ -31,28 +20,6 @@ use Rattle.mscp_heard.proofs.Moments.{answered_last, asked_before, heard_last, r
 use Rattle.mscp_heard.proofs.Moving.{drop_at, drop_beside}
 use Rattle.mscp_heard.proofs.Noting.{IsReady}
 use Rattle.mscp_heard.proofs.Owing.{Inv, IsCoded, same_ok, since_alive}
-use Rattle.mscp_heard.specs.Deeds.{AreJoined, Called, Deed, Did, HasNumber, HaveNumbers, HearsInOrder, IsCopyOf, ReadsInOrder, calls_in, did, hearings, is_hearing, sent, sent_by}
-use Rattle.mscp_host.specs.Messages.{message_in}
-use Rattle.mscp_host.specs.PortAccounts.{PortAccount, fresh_of_port}
-use Rattle.mscp_host.specs.PortHistories.{Ask, Hear, Other, PortAnswered, PortAnswers, PortHistory, PortMoment, Resume, Submit}
-use Rattle.mscp_host.specs.PortLaw.{PortHostsKeepTheirHistory}
-use Rattle.mscp_host.specs.declared.asked.Asked.{Asked}
-use Rattle.mscp_host.specs.declared.envelope.Envelope.{Envelope}
-use Rattle.mscp_packet.specs.Number.{num}
-use Rattle.mscp_port.specs.Calls.{IsMadeOf}
-use Rattle.mscp_port.specs.Departures.{begins}
-use Rattle.mscp_port.specs.Histories.{Answered, Call, Picking, WriteIp, WasRead}
-use Rattle.mscp_port.specs.declared.hardware.Hardware.{Hardware}
-use Rattle.mscp_port.specs.declared.port.Port.{Port}
-use Rattle.mscp_ported.specs.Answers.{PortsAnswerAsTheyMay}
-use Rattle.mscp_ported.specs.Awaited.{Deals, PortsEndWhatTheyTook, ReadsBytes, awaited, taken_by}
-use Rattle.mscp_ported.specs.Fitting.{PortsEndByOpcode}
-use Rattle.mscp_ported.specs.Talk.{AsksAlways, is_dead, talk_of}
-use Rattle.mscp_ported.specs.Told.{PortsHearInOrder, PortsOpenWhatTheyAccept, PortsTellInOrder, Said, accepted, accepted_by, connection_told, said as all_said, said_in}
-use Rattle.std.proofs.Common.{ℕ, All, List, Some, [], ap, append_assoc, arith, cond, drop, false, inl, inr, length, map, refl, subst, suc, sym, ◌++◌, ◌<◌, ◌∙◌, ◌∷◌, ◌≡◌, ◌≢◌, ◌≤◌, ◌+◌, ◌⊎◌}
-use Rattle.std.proofs.lemmas.Option.{none-some}
-use Rattle.std.specs.List.{AllByRecursion}
-use Rattle.mscp_port.proofs.Common.{eq-eqb}
 
 -- ---- since a poll
 

@@ -1,19 +1,11 @@
 -- A host of a port refuses nothing, if the port reads its messages as it wrote them.
-use Rattle.std.specs.Prelude.{◌%◌, Result, find}
-use Rattle.mscp_host.specs.Accounts.{is_about, is_code_of}
-use Rattle.mscp_host.specs.declared.heard.Heard.{Heard}
-use Rattle.mscp_host.specs.declared.message.HearFault.{HearFault}
-use Rattle.mscp_host.specs.PortAccounts.{is_of, is_poll_of}
+use Rattle.mscp_heard.proofs.Common.{All, AllByRecursion, Answered, AnsweredCalls, AreJoined, Ask, Asked, AsksAlways, Call, Called, Deals, Deed, Did, End, Envelope, Err, First, Hardware, HasNumber, HaveNumbers, Hear, HearFault, Heard, HearsInOrder, Holdings, IsCopyOf, IsMadeOf, IsValid, List, Made, Ok, Other, OutgoingKind, Picking, Port, PortAccount, PortAnswered, PortAnswers, PortHistory, PortHostsKeepTheirHistory, PortMoment, PortsAnswerAsTheyMay, PortsEndByOpcode, PortsEndWhatTheyTook, PortsHearInOrder, PortsOpenWhatTheyAccept, PortsTellInOrder, ReadsBytes, ReadsInOrder, Result, Resume, Said, Settings, Some, Submit, WriteIp, [], accepted, accepted_by, all_said, ap, append-nil, append_assoc, arith, awaited, begins, calls_in, cond, connection_told, did, drop, ends_said_by, false, find, fresh, fresh_of_port, hearings, inl, inr, is_about, is_code_of, is_dead, is_hearing, is_of, is_poll_of, kind_of_code, length, map, message_in, nat_eq, none-some, num, outstanding_of, refl, said_in, sent, sent_by, slice_get, slice_index, subst, suc, sym, taken_by, talk_of, without_ends, ℕ, ◌%◌, ◌++◌, ◌<◌, ◌∙◌, ◌∷◌, ◌≡◌, ◌≢◌, ◌≤◌}
 use Rattle.mscp_heard.proofs.Packets.{IsMessage, end_read, message_read}
 use Rattle.mscp_heard.proofs.Sending.{heard_own}
 use Rattle.mscp_heard.proofs.Watching.{hears_ok, may_be}
 use Rattle.mscp_host.specs.declared.message.Message.TheVariants as messages
 use Rattle.mscp_port.specs.declared.port.OutgoingKind.TheVariants as kinds
 use Rattle.mscp_host.specs.declared.news.Poll.TheVariants as polls
-use Rattle.mscp_controller.specs.Calls.{AnsweredCalls, Call as Made}
-use Rattle.mscp_controller.specs.Holdings.{Holdings, fresh, outstanding_of}
-use Rattle.mscp_drive.specs.Settings.{IsValid, Settings}
-use Rattle.mscp_drive.specs.declared.connection.Connection.TheVariants.{First}
 use Rattle.mscp_heard.proofs.Claims.{Claim, Owes, claim_of, claim_said, claims, claims_said, moved_in, rest_apart}
 use Rattle.mscp_heard.proofs.Dealt.{Dealt, Taken, copied, deals_so, noted_dealt}
 use Rattle.mscp_heard.proofs.Hosts.{SameNumbers}
@@ -25,33 +17,6 @@ use Rattle.mscp_heard.proofs.Noting.{IsReady, heard_noted, heard_ready, same_not
 use Rattle.mscp_heard.proofs.Owing.{Inv, IsCoded, same_ok, since_alive}
 use Rattle.mscp_heard.proofs.Packets.{IsRead, end_heard}
 use Rattle.mscp_heard.proofs.Watching.{Notes, SettlesWatch, hear_watch, poll_notes, poll_same, submit_notes, submit_same}
-use Rattle.mscp_heard.specs.Deeds.{AreJoined, Called, Deed, Did, HasNumber, HaveNumbers, HearsInOrder, IsCopyOf, ReadsInOrder, calls_in, did, hearings, is_hearing, sent, sent_by}
-use Rattle.mscp_host.specs.Messages.{message_in}
-use Rattle.mscp_host.specs.PortAccounts.{PortAccount, fresh_of_port}
-use Rattle.mscp_host.specs.PortHistories.{Ask, Hear, Other, PortAnswered, PortAnswers, PortHistory, PortMoment, Resume, Submit}
-use Rattle.mscp_host.specs.PortLaw.{PortHostsKeepTheirHistory}
-use Rattle.mscp_host.specs.declared.asked.Asked.{Asked}
-use Rattle.mscp_host.specs.declared.envelope.Envelope.{Envelope}
-use Rattle.mscp_packet.specs.Ends.{kind_of_code}
-use Rattle.mscp_packet.specs.Number.{num}
-use Rattle.mscp_packet.specs.declared.end.End.{End}
-use Rattle.mscp_port.specs.Calls.{IsMadeOf}
-use Rattle.mscp_port.specs.Departures.{begins}
-use Rattle.mscp_port.specs.Histories.{Answered, Call, Picking, WriteIp}
-use Rattle.mscp_port.specs.declared.hardware.Hardware.{Hardware}
-use Rattle.mscp_port.specs.declared.port.OutgoingKind.{OutgoingKind}
-use Rattle.mscp_port.specs.declared.port.Port.{Port}
-use Rattle.mscp_ported.specs.Answers.{PortsAnswerAsTheyMay}
-use Rattle.mscp_ported.specs.Awaited.{Deals, PortsEndWhatTheyTook, ReadsBytes, awaited, taken_by, without_ends}
-use Rattle.mscp_ported.specs.Ends.{ends_said_by}
-use Rattle.mscp_ported.specs.Fitting.{PortsEndByOpcode}
-use Rattle.mscp_ported.specs.Talk.{AsksAlways, is_dead, talk_of}
-use Rattle.mscp_ported.specs.Told.{PortsHearInOrder, PortsOpenWhatTheyAccept, PortsTellInOrder, Said, accepted, accepted_by, connection_told, said as all_said, said_in}
-use Rattle.std.proofs.Common.{ℕ, All, List, Some, [], ap, append_assoc, arith, cond, drop, false, inl, inr, length, map, nat_eq, refl, subst, suc, sym, ◌++◌, ◌<◌, ◌∙◌, ◌∷◌, ◌≡◌, ◌≢◌, ◌≤◌}
-use Rattle.std.proofs.lemmas.List.{append-nil}
-use Rattle.std.proofs.lemmas.Option.{none-some}
-use Rattle.std.specs.List.{AllByRecursion}
-use Rattle.std.specs.Prelude.{Err, Ok, slice_get, slice_index}
 
 -- where an end is heard, what was said is one
 pub end_kind : (s : Said) (v : Envelope) (b : List ℕ) (e : End) → IsCoded s → b ≡ s.text

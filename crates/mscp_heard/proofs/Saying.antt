@@ -1,23 +1,10 @@
 -- What a host says of an end that it hears, and what it keeps of it.
 use Rattle.mscp_heard.proofs.Watching.{read_number}
-use Rattle.std.proofs.Common.{◌≡◌, ◌≢◌, ◌⊎◌, ◌∙◌, ◌&&◌, ℕ, Bool, true, false, cond, nat_eq, List, Option, None, Some, inl, inr, refl, ap, sym, arith}
-use Rattle.std.specs.Prelude.{Result, Ok, Err, find}
-use Rattle.std.proofs.lemmas.Option.{none-some, same_Some}
-use Rattle.mscp_packet.specs.declared.end.End.{End}
-use Rattle.mscp_packet.specs.declared.end.EndBody.{EndBody}
+use Rattle.mscp_heard.proofs.Common.{Asked, Bool, End, EndBody, Envelope, Err, HearFault, Heard, List, Message, None, Ok, Option, PortAccount, Result, Some, Watch, answered, ap, arith, as_read, cond, end_says, ended, ends_of, false, find, granted, heard_of, hears, inl, inr, is_about_polled, is_code_of, is_of, is_success, may_be_of, message_in, nat_eq, none-some, outstanding_with, refl, same_Some, sym, told_in, true, watch_after, without, without_by, ℕ, ◌&&◌, ◌∙◌, ◌≡◌, ◌≢◌, ◌⊎◌}
 use Rattle.mscp_packet.specs.declared.end.EndBody.TheVariants as bodies
-use Rattle.mscp_host.specs.declared.asked.Asked.{Asked}
-use Rattle.mscp_host.specs.declared.envelope.Envelope.{Envelope}
-use Rattle.mscp_host.specs.declared.heard.Heard.{Heard}
 use Rattle.mscp_host.specs.declared.heard.Heard.TheVariants as heards
-use Rattle.mscp_host.specs.declared.message.HearFault.{HearFault}
 use Rattle.mscp_host.specs.declared.message.HearFault.TheVariants as faults
-use Rattle.mscp_host.specs.declared.message.Message.{Message}
 use Rattle.mscp_host.specs.declared.message.Message.TheVariants as messages
-use Rattle.mscp_host.specs.declared.watch.Watch.{Watch}
-use Rattle.mscp_host.specs.Accounts.{answered, is_about_polled, is_code_of, outstanding_with, told_in, watch_after, without}
-use Rattle.mscp_host.specs.Messages.{message_in}
-use Rattle.mscp_host.specs.PortAccounts.{PortAccount, as_read, end_says, ended, ends_of, granted, heard_of, hears, is_of, is_success, may_be_of, without_by}
 
 -- it is of a command that is outstanding no more; and what the host keeps of it is its end
 pub record IsDone (old new : PortAccount) (e : End) (heard : Heard) : Type 0 where

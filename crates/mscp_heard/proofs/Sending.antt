@@ -1,19 +1,7 @@
 -- What a host is owed once it sent a message, or heard what a port said.
-use Rattle.std.proofs.Common.{◌≡◌, ◌∙◌, ◌≤◌, ◌++◌, ◌∷◌, [], ℕ, suc, false, drop, map, List, Some, inl, inr, refl, ap, sym, subst, arith, append_assoc}
-use Rattle.std.specs.Prelude.{Ok, find, slice_get, slice_index}
-use Rattle.std.specs.List.{AllByRecursion}
-use Rattle.std.proofs.lemmas.List.{length-append}
-use Rattle.mscp_packet.specs.Number.{num}
-use Rattle.mscp_packet.specs.Ends.{kind_of_code}
-use Rattle.mscp_packet.specs.declared.end.End.{End}
-use Rattle.mscp_host.specs.declared.asked.Asked.{Asked}
-use Rattle.mscp_host.specs.declared.envelope.Envelope.{Envelope}
+use Rattle.mscp_heard.proofs.Common.{AllByRecursion, Asked, End, Envelope, List, Ok, OutgoingKind, PortAccount, Said, Some, [], ap, append_assoc, arith, connection_told, drop, false, find, inl, inr, is_of, is_too_much, kind_of_code, length-append, map, message_in, num, refl, slice_get, slice_index, subst, suc, sym, ℕ, ◌++◌, ◌∙◌, ◌∷◌, ◌≡◌, ◌≤◌}
 use Rattle.mscp_host.specs.declared.message.Message.TheVariants as messages
-use Rattle.mscp_host.specs.Messages.{message_in}
-use Rattle.mscp_host.specs.PortAccounts.{PortAccount, is_of, is_too_much}
-use Rattle.mscp_port.specs.declared.port.OutgoingKind.{OutgoingKind}
 use Rattle.mscp_port.specs.declared.port.OutgoingKind.TheVariants as kinds
-use Rattle.mscp_ported.specs.Told.{Said, connection_told}
 use Rattle.mscp_heard.proofs.Claims.{Claim, IsOwed, Owes, claim_of, claim_said, claims, claims_said, moved_in, owes_less, owes_more, owes_rest}
 use Rattle.mscp_heard.proofs.Hosts.{Sends, Settles}
 use Rattle.mscp_heard.proofs.Moving.{drop_at, drop_beside}

@@ -1,13 +1,7 @@
 -- What a port told, as what it said is packed.
-use Rattle.std.proofs.Common.{◌≡◌, ◌∙◌, ◌+◌, ◌*◌, ◌++◌, ◌∷◌, [], ℕ, zero, suc, length, List, Some, inl, inr, refl, ap, sym, subst, arith}
-use Rattle.std.specs.Prelude.{◌%◌, ◌/◌, slice_get}
-use Rattle.std.proofs.lemmas.List.{length-map}
-use Rattle.std.proofs.lemmas.Option.{none-some, same_Some}
-use Rattle.mscp_host.specs.declared.envelope.Envelope.{Envelope}
-use Rattle.mscp_port.specs.declared.port.OutgoingKind.{OutgoingKind}
+use Rattle.mscp_heard.proofs.Common.{AreAccepted, Envelope, List, Opened, OutgoingKind, Packet, Said, Slot, Some, Talk, TellAll, Tells, [], ap, arith, connection_told, credits_in, inl, inr, left_after, length, length-map, message_text, none-some, refl, same_Some, slice_get, subst, suc, sym, zero, ℕ, ◌%◌, ◌*◌, ◌++◌, ◌+◌, ◌∙◌, ◌∷◌, ◌≡◌}
+use Rattle.std.specs.Prelude.{◌/◌}
 use Rattle.mscp_port.specs.declared.port.OutgoingKind.TheVariants as kinds
-use Rattle.mscp_ported.specs.Talk.{Opened, Packet, Slot, Talk}
-use Rattle.mscp_ported.specs.Told.{AreAccepted, Said, TellAll, Tells, connection_told, credits_in, left_after, message_text}
 
 pub counted : (t : Talk) (texts : List (List ℕ)) (slot : Slot) (header : ℕ) → t.turn ≡ Opened slot header
     → AreAccepted t.heard t.turn texts → length t.heard ≡ length texts

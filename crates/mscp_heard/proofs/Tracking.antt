@@ -5,23 +5,7 @@ use Rattle.mscp_heard.proofs.Claiming.{as_many}
 use Rattle.mscp_port.specs.declared.port.OutgoingKind.TheVariants as kinds
 use Rattle.mscp_heard.proofs.Claims.{claim_of, claims, claims_said, tally, tally_append}
 use Rattle.mscp_heard.proofs.Dealt.{Dealt}
-use Rattle.mscp_heard.specs.Deeds.{IsCopyOf}
-use Rattle.mscp_host.specs.Accounts.{last_told}
-use Rattle.mscp_host.specs.PortAccounts.{PortAccount, is_of}
-use Rattle.mscp_host.specs.declared.asked.Asked.{Asked}
-use Rattle.mscp_host.specs.declared.submission.Submission.{Submission}
-use Rattle.mscp_packet.specs.Number.{num}
-use Rattle.mscp_port.proofs.Common.{eq-eqb, eqb-true}
-use Rattle.mscp_ported.proofs.Numbered.{first_of_one, none_beside, none_of_it, none_stays}
-use Rattle.mscp_ported.specs.Awaited.{has_number}
-use Rattle.mscp_ported.specs.Passing.{Pending, pending_in, pending_said}
-use Rattle.mscp_ported.specs.Told.{Said}
-use Rattle.std.proofs.Common.{ℕ, Bool, List, None, Option, Some, [], ap, append_assoc, arith, cond, false, filter, inl, inr, length, map, nat_eq, not, refl, subst, sym, true, ◌++◌, ◌+◌, ◌<◌, ◌∙◌, ◌∷◌, ◌≡◌, ◌≢◌, ◌≤◌, ◌⊎◌}
-use Rattle.std.proofs.lemmas.Grind.{flat_map-append}
-use Rattle.std.proofs.lemmas.List.{append-nil}
-use Rattle.std.proofs.lemmas.Option.{none-some, same_Some}
-use Rattle.std.specs.List.{AllByRecursion}
-use Rattle.std.specs.Prelude.{find, flat_map, slice_index}
+use Rattle.mscp_heard.proofs.Common.{AllByRecursion, Asked, Bool, IsCopyOf, List, None, Option, Pending, PortAccount, Said, Some, Submission, [], ap, append-nil, append_assoc, arith, cond, eq-eqb, eqb-true, false, filter, find, first_of_one, flat_map, flat_map-append, has_number, inl, inr, is_of, last_told, length, map, nat_eq, none-some, none_beside, none_of_it, none_stays, not, num, pending_in, pending_said, refl, same_Some, slice_index, subst, sym, true, ℕ, ◌++◌, ◌+◌, ◌<◌, ◌∙◌, ◌∷◌, ◌≡◌, ◌≢◌, ◌≤◌, ◌⊎◌}
 
 cancel : {X : Type 0} (xs ys zs : List X) → xs ++ ys ≡ xs ++ zs → ys ≡ zs
 cancel [] ys zs e = e

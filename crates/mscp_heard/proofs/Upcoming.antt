@@ -1,22 +1,7 @@
 -- Ends that are to be heard: which comes first, and how often a number is claimed.
 use Rattle.mscp_port.specs.declared.port.OutgoingKind.TheVariants as kinds
 use Rattle.mscp_heard.proofs.Claims.{claim_of, claim_said, claims_said, tally, tally_append}
-use Rattle.mscp_packet.specs.Number.{num}
-use Rattle.mscp_port.proofs.Common.{eqb-true}
-use Rattle.mscp_port.specs.declared.port.OutgoingKind.{OutgoingKind}
-use Rattle.mscp_ported.specs.Awaited.{has_number}
-use Rattle.mscp_ported.specs.Passing.{Pending, pending_in, pending_said}
-use Rattle.mscp_ported.specs.Told.{Said}
-use Rattle.std.proofs.Common.{ℕ, Bool, List, None, Option, Some, [], ap, arith, cond, false, filter, inl, inr, length, map, nat_eq, refl, subst, sym, true, ◌++◌, ◌+◌, ◌∷◌, ◌≡◌, ◌≢◌, ◌≤◌, ◌⊎◌}
-use Rattle.std.proofs.lemmas.Option.{none-some}
-use Rattle.std.specs.List.{AllByRecursion}
-use Rattle.std.specs.Prelude.{flat_map}
-use Rattle.mscp_ported.specs.Passing.{Pending, pending_end, pending_in, pending_said}
-use Rattle.std.specs.Prelude.{flat_map}
-use Rattle.mscp_packet.specs.declared.end.End.{End}
-use Rattle.mscp_ported.specs.Told.{Said}
-use Rattle.std.proofs.Common.{ℕ, List, Some, [], ap, arith, cond, false, inl, inr, length, map, nat_eq, refl, subst, sym, ◌++◌, ◌∷◌, ◌≡◌, ◌≢◌, ◌≤◌, Bool, filter, true, ◌+◌, ◌⊎◌}
-use Rattle.std.proofs.lemmas.Option.{none-some}
+use Rattle.mscp_heard.proofs.Common.{AllByRecursion, Bool, End, List, None, Option, OutgoingKind, Pending, Said, Some, [], ap, arith, cond, eqb-true, false, filter, flat_map, has_number, inl, inr, length, map, nat_eq, none-some, num, pending_end, pending_in, pending_said, refl, subst, sym, true, ℕ, ◌++◌, ◌+◌, ◌∷◌, ◌≡◌, ◌≢◌, ◌≤◌, ◌⊎◌}
 
 -- ---- ends that are to be heard
 

@@ -1,32 +1,9 @@
 -- What each moment of a host makes of the poll in flight, and which ends a host takes.
-use Rattle.mscp_port.proofs.Common.{eq-eqb}
-use Rattle.std.proofs.Common.{◌≡◌, ◌⊎◌, ◌∙◌, ◌^◌, ◌<◌, ◌≤◌, ◌&&◌, ◌++◌, ◌∷◌, [], ℕ, Bool, true, false, cond, length, map, nat_eq, List, Option, None, Some, inl, inr, refl, ap, sym, subst, arith}
-use Rattle.std.specs.Prelude.{Result, Ok, Err, find, is_some, slice_index}
-use Rattle.std.specs.List.{AllByRecursion}
-use Rattle.std.proofs.lemmas.Option.{none-some, same_Some}
-use Rattle.arrayvec.specs.ArrayVec.{ArrayVec}
-use Rattle.mscp_packet.proofs.Numbers.{four}
-use Rattle.mscp_packet.specs.Number.{num}
-use Rattle.mscp_packet.specs.Commands.{command_bytes, opcode_byte}
-use Rattle.mscp_packet.specs.declared.command.Command.{Command}
-use Rattle.mscp_packet.specs.declared.end.End.{End}
-use Rattle.mscp_packet.specs.declared.end.EndBody.{EndBody}
+use Rattle.mscp_heard.proofs.Common.{Account, AllByRecursion, ArrayVec, Asked, Bool, Command, End, EndBody, Envelope, Err, HearFault, Heard, HostFault, List, Message, None, Ok, Option, Poll, PortAccount, Result, Some, Submission, Watch, [], answered, ap, arith, as_read, asked_of, asks, asks_unless, command_bytes, cond, credit_fault, end_says, ended, ends_of, eq-eqb, false, find, four, granted, has_reference, heard_of, hears, inl, inr, is_about, is_about_polled, is_code_of, is_immediate, is_of, is_poll_of, is_some, is_success, is_to_poll, length, map, may_be_of, message_in, nat_eq, none-some, noted_poll, num, oldest, opcode_byte, poll_of, polled_with, polls_oldest, port_polls, port_submits, refl, refusal, same_Some, slice_index, submission_of, submits_unless, submits_unless_faulty, submitted_with, subst, sym, told_in, true, watch_after, without_by, ℕ, ◌&&◌, ◌++◌, ◌<◌, ◌^◌, ◌∙◌, ◌∷◌, ◌≡◌, ◌≤◌, ◌⊎◌}
 use Rattle.mscp_packet.specs.declared.end.EndBody.TheVariants as bodies
-use Rattle.mscp_host.specs.declared.asked.Asked.{Asked}
-use Rattle.mscp_host.specs.declared.envelope.Envelope.{Envelope}
-use Rattle.mscp_host.specs.declared.heard.Heard.{Heard}
-use Rattle.mscp_host.specs.declared.message.HearFault.{HearFault}
 use Rattle.mscp_host.specs.declared.message.HearFault.TheVariants as faults
-use Rattle.mscp_host.specs.declared.message.Message.{Message}
 use Rattle.mscp_host.specs.declared.message.Message.TheVariants as messages
-use Rattle.mscp_host.specs.declared.news.HostFault.{HostFault}
-use Rattle.mscp_host.specs.declared.news.Poll.{Poll}
 use Rattle.mscp_host.specs.declared.news.Poll.TheVariants as polls
-use Rattle.mscp_host.specs.declared.submission.Submission.{Submission}
-use Rattle.mscp_host.specs.declared.watch.Watch.{Watch}
-use Rattle.mscp_host.specs.Accounts.{Account, answered, submission_of, asks, asks_unless, has_reference, is_about, is_about_polled, is_code_of, is_immediate, oldest, poll_of, polls_oldest, refusal, submits_unless, told_in, watch_after}
-use Rattle.mscp_host.specs.Messages.{message_in}
-use Rattle.mscp_host.specs.PortAccounts.{PortAccount, as_read, asked_of, credit_fault, end_says, ended, ends_of, granted, heard_of, hears, is_of, is_poll_of, is_success, is_to_poll, may_be_of, noted_poll, polled_with, port_polls, port_submits, submits_unless_faulty, submitted_with, without_by}
 use Rattle.mscp_heard.proofs.Hosts.{SameNumbers, is_ask, not_doubled, unused}
 
 -- ---- a message is sent
