@@ -85,10 +85,6 @@ sends old new message c small same free is asked =
       bytes = subst (λ b. bytes_in b ≤ bytes_of c.order) (sym is) (order_bytes c.reference c.unit c.order);
     }
 
-items_or : {E X : Type 0} → Result (ArrayVec ℕ) E × X → List ℕ
-items_or (Ok b, x) = b.items
-items_or (Err e, x) = []
-
 pub submit_sends : (old new : PortAccount) (c : Command) (message : ArrayVec ℕ) → c.reference < 2 ^ 32
     → SameNumbers old → port_submits old c ≡ (Ok message, new) → Sends old new message.items
 submit_sends old new c message small same e = by (credit_fault old.credits (opcode_byte c.order)) e

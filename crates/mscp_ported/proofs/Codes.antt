@@ -94,28 +94,6 @@ about_with (Some o) b other e = by (nat_lt (length b) (least o)) o e
     by false codes.SetUnit h = search (arith, h)
     by false (codes.Move kind) h = search (arith, h)
 
-about_command : (b : List ℕ) (other : ℕ) → (command_of b).order ≡ orders.Status other → other ≡ num b 12 4
-unfolding command_of
-about_command b other e = about_with (opcode_of (slice_index b 8)) b other e
-
--- what stands in for a formality is no poll
-not_stood_in : (b : List ℕ) (other : ℕ) → 12 ≤ length b → (command_of (stand_in b)).order ≡ orders.Status other → ⊥
-unfolding command_of
-not_stood_in (a ∷ b ∷ c ∷ d ∷ e ∷ f ∷ g ∷ h ∷ rest) other long is = search (arith, is)
-not_stood_in b other long is = search (arith, long)
-
-pub handed_about : (units : List Shape) (b : List ℕ) (other : ℕ) → 12 ≤ length b
-    → (command_of (handed units b)).order ≡ orders.Status other → other ≡ num b 12 4
-handed_about units b other long e = by (is_formality (slice_index b 8)) (asks_for_next b) e
-  where
-    by : (x y : Bool) → (command_of (cond x (stand_in b)
-        (cond y (take 4 b ++ little_bytes 2 (next_unit units (num b 4 2)) ++ drop 6 b) b))).order ≡ orders.Status other
-        → other ≡ num b 12 4
-    by true y h = absurd (not_stood_in b other long h)
-    by false true h = about_command (take 4 b ++ little_bytes 2 (next_unit units (num b 4 2)) ++ drop 6 b) other h
-        ∙ named_about b (next_unit units (num b 4 2)) long
-    by false false h = about_command b other h
-
 -- ---- an end that is answered at once
 
 -- the command that the body of an end is about: of an ABORT and of a poll

@@ -72,10 +72,6 @@ pub is_step_sole : {K : Type 0} (h : Holdings K) (n : ℕ) (name : Name) (r : Re
 is_step_sole h n name r begun named sole = begun_record h name r begun
     (subst (λ x. find (has_name x) h.waiting ≡ Some r) (sym named) (found_sole (is_numbered n) h.waiting r sole))
 
-pub step_of_number : (n : ℕ) (d : Drive) (r : Record) → is_numbered n r ≡ true
-    → is_step_of n (Some (upcoming_of d r)) ≡ true
-step_of_number n d r is = is
-
 -- how the step in hand went
 abbrev pub IsHow : {K : Type 0} → Port K → Outcome → Verdict → Type 0
 IsHow old outcome verdict = (old.task ≡ tasks.Step verdict)
