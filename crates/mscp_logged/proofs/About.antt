@@ -1,17 +1,7 @@
 -- Each end of an ABORT or a poll in a port's log succeeds, and is about the command that its message names.
-use Rattle.std.proofs.Common.{◌≡◌, ◌⊎◌, ◌∙◌, ◌+◌, ◌≤◌, ◌&&◌, ℕ, Bool, true, false, cond, length, nat_eq, not, List, None, Some, inl, inr, refl, ap, sym, arith}
-use Rattle.std.specs.Prelude.{◌%◌, nat_le, slice_index}
-use Rattle.std.proofs.lemmas.Bool.{le-leb}
-use Rattle.mscp_packet.specs.Ends.{kind_of_code}
-use Rattle.mscp_packet.specs.Number.{num}
+use Rattle.mscp_logged.proofs.Common.{Answer, Bool, First, Fits, IsCodeFor, IsWhole, List, None, Sent, Some, answer_by, ap, arith, cond, eq-eqb, eqb-true, false, false≢true, inl, inr, is_about, is_about_another, is_it, is_refused, kind_of_code, le-leb, length, nat_eq, nat_le, not, num, other_of, refl, sent_by, slice_index, succeeds, sym, true, ℕ, ◌%◌, ◌+◌, ◌∙◌, ◌≡◌, ◌≤◌, ◌⊎◌}
+use Rattle.std.proofs.Common.{◌&&◌}
 use Rattle.mscp_packet.specs.declared.end.BodyKind.TheVariants as bodykinds
-use Rattle.mscp_drive.specs.declared.connection.Connection.TheVariants.{First}
-use Rattle.mscp_port.proofs.Common.{eq-eqb, eqb-true, false≢true}
-use Rattle.mscp_ported.specs.Awaited.{IsWhole}
-use Rattle.mscp_ported.specs.Fitting.{Fits, IsCodeFor}
-use Rattle.mscp_wire.specs.Wire.{answer_by, is_about, is_about_another, is_it, is_refused, other_of, sent_by, succeeds}
-use Rattle.mscp_wire.specs.declared.answer.Answer.{Answer}
-use Rattle.mscp_wire.specs.declared.sent.Sent.{Sent}
 use Rattle.mscp_logged.proofs.Wired.{stem}
 
 -- the code of the end of such a command, if it is known

@@ -1,15 +1,5 @@
 -- What a port answers itself keeps the rules of statuses and of bytes, and tells nothing of the controller.
-use Rattle.byteorder.specs.Endian.{little_bytes}
-use Rattle.std.proofs.Common.{◌≡◌, ◌⊎◌, ◌∙◌, ◌+◌, ◌≤◌, ◌++◌, ◌∷◌, [], ℕ, Bool, true, false, cond, length, nat_eq, not, List, Option, None, Some, inl, inr, refl, ap, sym, subst, arith}
-use Rattle.std.specs.Prelude.{◌&&◌, ◌||◌, nat_le, nat_lt, replicate, slice_index}
-use Rattle.mscp_packet.specs.Number.{num}
-use Rattle.mscp_drive.specs.Settings.{Settings}
-use Rattle.mscp_drive.specs.declared.connection.Connection.TheVariants.{First}
-use Rattle.mscp_port.specs.declared.volumes.Volume.{Volume}
-use Rattle.mscp_port.proofs.Common.{and_parts, eqb-true, false≢true}
-use Rattle.mscp_ported.specs.Answers.{Own, own_answer, own_text}
-use Rattle.mscp_ported.proofs.Itself.{moves_opcode, own_cases}
-use Rattle.mscp_wire.specs.Wire.{answer_by, controller_in, count_of, has_code, has_count, has_status, is_plain, sent_by, status_code}
+use Rattle.mscp_logged.proofs.Common.{Bool, First, List, None, Option, Own, Settings, Some, Volume, [], and_parts, answer_by, ap, arith, cond, controller_in, count_of, eqb-true, false, false≢true, has_code, has_count, has_status, inl, inr, is_plain, length, little_bytes, moves_opcode, nat_eq, nat_le, nat_lt, not, num, own_answer, own_cases, own_text, refl, replicate, sent_by, slice_index, status_code, subst, sym, true, ℕ, ◌&&◌, ◌++◌, ◌+◌, ◌||◌, ◌∙◌, ◌∷◌, ◌≡◌, ◌≤◌, ◌⊎◌}
 use Rattle.mscp_logged.proofs.Suited.{IsKnown, IsSuited, formal_opcode, formal_suited}
 
 move_opcode : (P : ℕ → Type 0) → P 16 → P 18 → P 32 → P 33 → P 34 → (n : ℕ) → moves_opcode n ≡ true → P n

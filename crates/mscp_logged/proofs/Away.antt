@@ -1,18 +1,7 @@
 -- What ends say of whether a unit is online is borne out by those that come behind them: of one that they said isn't
 -- none says that it is, before one brought it online.
-use Rattle.std.proofs.Common.{◌≡◌, ◌⊎◌, ◌∙◌, ◌++◌, ◌∷◌, [], ℕ, Bool, true, false, cond, nat_eq, nat_le, not, List, Option, None, Some, inl, inr, refl, ap, sym}
-use Rattle.std.specs.Prelude.{◌%◌, ◌&&◌, ◌||◌, if◌then◌else◌}
-use Rattle.std.specs.List.{list_any}
-use Rattle.std.proofs.lemmas.Option.{none-some}
-use Rattle.mscp_drive.specs.declared.connection.Connection.TheVariants.{First}
-use Rattle.mscp_port.specs.declared.volumes.Volume.{Volume}
-use Rattle.mscp_port.proofs.Common.{and_parts, eqb-true, false≢true}
-use Rattle.mscp_wire.specs.Wire.{after_other, after_own, answer_by, brings, command_at, count_on, is_late, is_settled_at, is_turning, place_of, says_away, says_online, settles, told_after_end, turned, went}
-use Rattle.mscp_wire.specs.declared.answer.Answer.{Answer}
-use Rattle.mscp_wire.specs.declared.sent.Sent.{Sent}
-use Rattle.mscp_wire.specs.declared.told.State.{State}
-use Rattle.mscp_wire.specs.declared.told.State.TheVariants.{Away, Open, Shared}
-use Rattle.mscp_wire.specs.declared.told.Told.{Told}
+use Rattle.mscp_logged.proofs.Common.{Answer, Away, Bool, First, List, None, Open, Option, Sent, Shared, Some, State, Told, Volume, [], after_other, after_own, and_parts, answer_by, ap, brings, command_at, cond, count_on, eqb-true, false, false≢true, if◌then◌else◌, inl, inr, is_late, is_settled_at, is_turning, list_any, nat_eq, none-some, not, place_of, refl, says_away, says_online, settles, sym, told_after_end, true, turned, went, ℕ, ◌%◌, ◌&&◌, ◌++◌, ◌||◌, ◌∙◌, ◌∷◌, ◌≡◌, ◌⊎◌}
+use Rattle.std.proofs.Common.{nat_le}
 use Rattle.mscp_logged.proofs.Claims.{Claimed, claimed_as, claimed_more}
 use Rattle.mscp_logged.proofs.Describing.{IsAsWas, mine}
 

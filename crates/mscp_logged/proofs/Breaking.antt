@@ -1,17 +1,7 @@
 -- Which rules a moment can't break: those of which a test holds.
-use Rattle.std.proofs.Common.{◌≡◌, ◌∙◌, ◌+◌, ◌<◌, ℕ, Bool, true, false, drop, length, not, take, List, Option, None, Some, refl, ap, sym, arith}
-use Rattle.std.specs.Prelude.{is_some}
-use Rattle.mscp_drive.specs.declared.connection.Connection.{Connection}
-use Rattle.mscp_port.proofs.Common.{false≢true}
-use Rattle.mscp_wire.specs.Wire.{History, answer_by, broken, broken_at, broken_end, command_at, controller, count_of, fits, has_abort, has_count, has_endcode, has_figure, has_status, is_about, is_long, is_same_unit, moment_at, names_unit, other_of, outstanding, passes_none, place_of, polled_by, seen_of, succeeds, suits_state, told, unless}
-use Rattle.mscp_wire.specs.declared.answer.Answer.{Answer}
-use Rattle.mscp_wire.specs.declared.moment.Moment.{Moment}
+use Rattle.mscp_logged.proofs.Common.{Answer, Bool, Connection, History, Keeps, List, Moment, None, Option, Rule, Seen, Sent, Some, answer_by, ap, arith, broken, broken_at, broken_end, command_at, controller, count_of, drop, false, false≢true, fits, has_abort, has_count, has_endcode, has_figure, has_status, is_about, is_long, is_same_unit, is_some, length, moment_at, names_unit, not, other_of, outstanding, passes_none, place_of, polled_by, refl, seen_of, succeeds, suits_state, sym, take, told, true, unless, ℕ, ◌+◌, ◌<◌, ◌∙◌, ◌≡◌}
 use Rattle.mscp_wire.specs.declared.moment.Moment.TheVariants as moments
-use Rattle.mscp_wire.specs.declared.rule.Rule.{Rule}
 use Rattle.mscp_wire.specs.declared.rule.Rule.TheVariants as rules
-use Rattle.mscp_wire.specs.declared.sent.Sent.{Sent}
-use Rattle.mscp_wire.specs.declared.told.Seen.{Seen}
-use Rattle.mscp_logged.specs.Rules.{Keeps}
 
 -- ---- one after the other
 

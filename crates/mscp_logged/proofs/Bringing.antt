@@ -1,39 +1,6 @@
 -- By each call ends come behind those that are still to come, and tell of their units what is so.
-use Rattle.std.proofs.Common.{◌≡◌, ◌≢◌, ◌∙◌, ◌<◌, ◌++◌, ◌∷◌, [], ℕ, All, Bool, true, false, List, Option, None, Some, inl, inr, refl, ap, sym, subst, arith}
-use Rattle.std.specs.Prelude.{Ok}
-use Rattle.std.proofs.lemmas.List.{append-nil}
-use Rattle.mscp_drive.specs.Both.{of}
-use Rattle.mscp_drive.specs.Settings.{IsValid, Settings}
-use Rattle.mscp_drive.specs.UnitList.{unit_found}
-use Rattle.mscp_drive.specs.declared.connection.Connection.TheVariants.{First}
-use Rattle.mscp_controller.specs.Calls.{AnsweredCalls, Call as Made}
-use Rattle.mscp_controller.specs.Controllers.{ControllersKeepThePromise}
-use Rattle.mscp_controller.specs.Holdings.{Holdings, fresh, numbers, numbers_ended, outstanding_of, waiting_on}
-use Rattle.mscp_drive.specs.Shape.{Shape}
-use Rattle.mscp_port.specs.declared.action.Action.{Action}
-use Rattle.mscp_port.specs.declared.hardware.Hardware.{Hardware}
-use Rattle.mscp_port.specs.declared.port.Outgoing.{Outgoing}
-use Rattle.mscp_port.specs.declared.port.OutgoingKind.{OutgoingKind}
+use Rattle.mscp_logged.proofs.Common.{Action, All, Answered, AnsweredCalls, AsksAlways, Bool, Call, ControllersKeepThePromise, Deals, First, Hardware, History, Holdings, IsAnswering, IsMadeOf, IsPassive, IsValid, List, Made, Next, None, Ok, Option, Outgoing, OutgoingKind, Picking, Port, ReadsBytes, Settings, Shape, Some, TellsFaults, WasRead, Went, Whole, WriteIp, [], ap, append-nil, arith, asked_before, awaited, begins, came, end_kind, end_said, ends_begun, ends_of, ends_said, ends_said_by, false, few_ends, fresh, inl, inr, is_dead, logged, no_ends, nothing_two, numbers, numbers_ended, of, outstanding_of, own_answer, passive_stays, refl, said, steps, subst, sym, taken_by, true, unit_found, volume_found, volume_named, waiting_on, whole_kept, ℕ, ◌++◌, ◌<◌, ◌∙◌, ◌∷◌, ◌≡◌, ◌≢◌}
 use Rattle.mscp_port.specs.declared.port.OutgoingKind.TheVariants as kinds
-use Rattle.mscp_port.specs.declared.port.Port.{Port}
-use Rattle.mscp_port.specs.Calls.{IsMadeOf}
-use Rattle.mscp_port.specs.Departures.{begins}
-use Rattle.mscp_port.specs.Histories.{Answered, Call, Next, Picking, WasRead, Went, WriteIp}
-use Rattle.mscp_port.specs.Packets.{end_kind}
-use Rattle.mscp_port.specs.Volumes.{volume_found}
-use Rattle.mscp_ported.specs.Answers.{own_answer, volume_named}
-use Rattle.mscp_ported.specs.Awaited.{Deals, IsAnswering, ReadsBytes, awaited, taken_by}
-use Rattle.mscp_ported.specs.Ends.{came, end_said, ends_begun, ends_said, ends_said_by}
-use Rattle.mscp_ported.specs.Talk.{AsksAlways, is_dead}
-use Rattle.mscp_ported.specs.Told.{said}
-use Rattle.mscp_ported.proofs.Coming.{ends_of, few_ends}
-use Rattle.mscp_ported.proofs.Decided.{Whole, kept as whole_kept}
-use Rattle.mscp_ported.proofs.Ended.{no_ends, nothing_two}
-use Rattle.mscp_ported.proofs.Following.{asked_before}
-use Rattle.mscp_ported.proofs.Moving.{steps}
-use Rattle.mscp_ported.proofs.Staying.{IsPassive, passive_stays}
-use Rattle.mscp_wire.specs.Wire.{History}
-use Rattle.mscp_logged.specs.Logged.{logged}
 use Rattle.mscp_logged.proofs.Describing.{IsAsWas, IsTold}
 use Rattle.mscp_logged.proofs.Listening.{read_speaks}
 use Rattle.mscp_logged.proofs.Moored.{alive, found_as, next_volumes, passive_volumes}
@@ -43,7 +10,6 @@ use Rattle.mscp_logged.proofs.Replied.{own_told}
 use Rattle.mscp_logged.proofs.Speaking.{Each, Speaks}
 use Rattle.mscp_logged.proofs.Spoken.{went_speaks}
 use Rattle.mscp_logged.proofs.Texts.{Comes, next_comes, texts_of, waiting}
-use Rattle.mscp_logged.specs.Rules.{TellsFaults}
 use Rattle.mscp_logged.proofs.Away.{IsPlaced}
 use Rattle.mscp_logged.proofs.Driving.{driving, housed}
 use Rattle.mscp_logged.proofs.Stating.{own_placed}

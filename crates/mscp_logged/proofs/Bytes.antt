@@ -1,22 +1,7 @@
 -- A message as it is handed over says what it says itself, but for its unit.
-use Rattle.std.proofs.Common.{◌≡◌, ◌+◌, ◌*◌, ◌^◌, ◌<◌, ◌≤◌, ◌++◌, ◌∷◌, ◌%◌, ◌/◌, ℕ, zero, suc, Bool, true, false, cond, drop, length, take, List, inl, inr, refl, sym, subst, arith}
-use Rattle.std.specs.Prelude.{slice_index}
-use Rattle.byteorder.specs.Endian.{little_bytes}
-unfoldable use Rattle.mscp_packet.specs.Commands.{command_of}
-use Rattle.mscp_packet.specs.Number.{num}
-use Rattle.mscp_packet.specs.declared.command.Order.{Order}
+use Rattle.mscp_logged.proofs.Common.{AreBytes, Bool, First, IsLong, IsText, List, Order, Says, Sent, Shape, arith, asks_for_next, command_of, cond, drop, endcode, false, handed, inl, inr, is_formality, length, little_bytes, next_unit, num, refl, sent_by, sent_long, sent_says, slice_index, small_unit, stand_in, stand_unit, subst, suc, sym, take, true, zero, ℕ, ◌*◌, ◌++◌, ◌+◌, ◌<◌, ◌^◌, ◌∷◌, ◌≡◌, ◌≤◌}
+use Rattle.std.proofs.Common.{◌%◌, ◌/◌}
 use Rattle.mscp_packet.specs.declared.command.Order.TheVariants as orders
-use Rattle.mscp_drive.specs.Shape.{Shape}
-use Rattle.mscp_drive.specs.declared.connection.Connection.TheVariants.{First}
-use Rattle.mscp_queue.specs.Orders.{endcode}
-use Rattle.mscp_port.specs.Formalities.{is_formality, stand_in}
-use Rattle.mscp_port.specs.Messages.{asks_for_next, handed, next_unit}
-use Rattle.mscp_ported.proofs.Origins.{IsText}
-use Rattle.mscp_ported.proofs.Units.{small_unit, stand_unit}
-use Rattle.mscp_wire.specs.Wire.{sent_by}
-use Rattle.mscp_wire.specs.declared.sent.Sent.{Sent}
-use Rattle.mscp_shown.specs.Keeping.{AreBytes}
-use Rattle.mscp_shown.proofs.Saying.{IsLong, Says, sent_long, sent_says}
 
 -- the command of a message, of which this is the unit
 abbrev pub of_unit : List ℕ → ℕ → Sent

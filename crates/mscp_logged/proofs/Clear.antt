@@ -1,21 +1,6 @@
 -- No end of a controller's that waits has passed a command that it had to wait for.
-use Rattle.std.proofs.Common.{◌≡◌, ◌⊎◌, ◌∙◌, ◌++◌, ◌∷◌, [], ℕ, Bool, true, false, cond, filter, length, nat_eq, not, List, inl, inr, refl, ap, sym, subst, arith}
-use Rattle.std.specs.Prelude.{◌%◌, ◌||◌, drop, is_some}
-use Rattle.std.specs.List.{list_any}
-use Rattle.std.proofs.lemmas.List.Elements.{filter-append}
-use Rattle.mscp_packet.specs.Number.{num}
-use Rattle.mscp_packet.specs.declared.end.End.{End}
-use Rattle.mscp_drive.specs.Settings.{Settings}
-use Rattle.mscp_drive.specs.UnitList.{unit_found}
-use Rattle.mscp_queue.specs.Records.{Record, is_in_service}
-use Rattle.mscp_port.specs.declared.decided.Decided.{Decided}
-use Rattle.mscp_port.proofs.Common.{eq-eqb, eqb-true, false≢true, or_parts}
-use Rattle.mscp_port.proofs.Kept.{is_numbered}
-use Rattle.mscp_ported.specs.Awaited.{has_number}
-use Rattle.mscp_ported.proofs.Behind.{any_more}
-use Rattle.mscp_ported.proofs.Numbered.{ends_numbered, first_of_one, none_beside, some_none}
-use Rattle.mscp_ported.proofs.Sole.{sole_comes, sole_left}
-use Rattle.mscp_wire.specs.Wire.{is_apart}
+use Rattle.mscp_logged.proofs.Common.{Bool, Decided, End, List, Record, Settings, [], any_more, ap, arith, cond, ends_numbered, eq-eqb, eqb-true, false, false≢true, filter, filter-append, first_of_one, has_number, inl, inr, is_apart, is_in_service, is_numbered, is_some, length, list_any, nat_eq, none_beside, not, num, or_parts, refl, sole_comes, sole_left, some_none, subst, sym, true, unit_found, ℕ, ◌%◌, ◌++◌, ◌||◌, ◌∙◌, ◌∷◌, ◌≡◌, ◌⊎◌}
+use Rattle.std.specs.Prelude.{drop}
 use Rattle.mscp_logged.proofs.Passes.{any_fewer, keeps, overtakes, passes_beside, passes_fewer}
 use Rattle.mscp_logged.proofs.Queueing.{InOrder, NoneBehind, order_as, order_left, order_more}
 

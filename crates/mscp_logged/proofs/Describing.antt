@@ -1,17 +1,6 @@
 -- What ends say of what a unit is, while it is online, is borne out by those that come behind them.
-use Rattle.byteorder.specs.Endian.{little_bytes}
-use Rattle.std.proofs.Common.{◌≡◌, ◌⊎◌, ◌∙◌, ◌++◌, ◌∷◌, [], ℕ, Bool, true, false, cond, nat_eq, not, List, Option, None, Some, inl, inr, refl, ap, sym, subst}
-use Rattle.std.specs.Prelude.{◌%◌, ◌&&◌, ◌||◌, if◌then◌else◌}
-use Rattle.std.proofs.lemmas.Option.{none-some, same_Some}
-use Rattle.mscp_packet.specs.Number.{num}
-use Rattle.mscp_drive.specs.Shape.{Shape}
-use Rattle.mscp_drive.specs.declared.connection.Connection.TheVariants.{First}
-use Rattle.mscp_port.specs.declared.volumes.Volume.{Volume}
-use Rattle.mscp_port.proofs.Common.{and_parts, eq-eqb, eqb-true, false≢true, or_right}
-use Rattle.mscp_wire.specs.Wire.{after_other, after_own, agrees, answer_by, brings, describes, fits, is_known_unit, is_unsure, learns, leaves, tells_unit, told_after_end, was_online, is_single}
-use Rattle.mscp_wire.specs.declared.answer.Answer.{Answer}
-use Rattle.mscp_wire.specs.declared.identity.Identity.{Identity}
-use Rattle.mscp_wire.specs.declared.told.Told.{Told}
+use Rattle.mscp_logged.proofs.Common.{Answer, Bool, First, Identity, List, None, Option, Shape, Some, Told, Volume, [], after_other, after_own, agrees, and_parts, answer_by, ap, brings, cond, describes, eq-eqb, eqb-true, false, false≢true, fits, if◌then◌else◌, inl, inr, is_known_unit, is_single, is_unsure, learns, little_bytes, nat_eq, none-some, not, num, or_right, refl, same_Some, subst, sym, tells_unit, told_after_end, true, was_online, ℕ, ◌%◌, ◌&&◌, ◌++◌, ◌||◌, ◌∙◌, ◌∷◌, ◌≡◌, ◌⊎◌}
+use Rattle.mscp_wire.specs.Wire.{leaves}
 use Rattle.mscp_logged.proofs.Claims.{Claimed, claimed_as, claimed_more}
 
 -- ---- volumes

@@ -1,18 +1,6 @@
 -- A unit that is online with its volume is online in the controller, too: also behind a step.
-use Rattle.std.proofs.Common.{◌≡◌, ◌∙◌, ◌∷◌, [], ℕ, Bool, true, false, cond, nat_eq, List, Option, None, Some, refl, ap, sym, subst}
-use Rattle.std.specs.Prelude.{find, option_map, unwrap_or}
-use Rattle.std.proofs.lemmas.Option.{none-some}
-use Rattle.mscp_packet.specs.declared.end.End.{End}
-use Rattle.mscp_drive.specs.Shape.{Shape, one_block}
-use Rattle.mscp_drive.specs.declared.block.Block.{Block}
-use Rattle.mscp_queue.proofs.Placed.{found_is}
-use Rattle.mscp_queue.specs.Drives.{drive_of, fresh_drive, has_number, replaced}
-use Rattle.mscp_queue.specs.Records.{Record}
-use Rattle.mscp_queue.specs.Serving.{drive_after, state_left}
-use Rattle.mscp_queue.specs.declared.drive.Drive.{Drive}
-use Rattle.mscp_port.specs.Volumes.{volume_found}
-use Rattle.mscp_port.specs.declared.volumes.Volume.{Volume}
-use Rattle.mscp_port.proofs.Common.{eq-eqb, eqb-true, false≢true}
+use Rattle.mscp_logged.proofs.Common.{Block, Bool, Drive, End, List, None, Option, Record, Shape, Some, Volume, [], ap, cond, drive_after, drive_of, eq-eqb, eqb-true, false, false≢true, find, found_is, fresh_drive, nat_eq, none-some, one_block, option_map, refl, replaced, state_left, subst, sym, true, unwrap_or, volume_found, ℕ, ◌∙◌, ◌∷◌, ◌≡◌}
+use Rattle.mscp_queue.specs.Drives.{has_number}
 
 abbrev pub IsDriven : Volume → Drive → Type 0
 IsDriven v d = v.is_mounted ≡ true → d.online ≡ true

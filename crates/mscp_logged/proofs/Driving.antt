@@ -1,41 +1,9 @@
 -- Over a whole list of calls a unit that is online with its volume is online in the controller, too.
-use Rattle.std.proofs.Common.{◌≡◌, ◌⊎◌, ◌∙◌, ◌<◌, ◌∷◌, [], ℕ, All, Bool, true, false, cond, map, nat_eq, List, Option, None, Some, inl, inr, refl, ap, sym, subst, arith}
-use Rattle.std.specs.Prelude.{Ok, find, option_map}
-use Rattle.mscp_packet.specs.Commands.{command_of}
-use Rattle.mscp_drive.specs.Settings.{IsValid, Settings}
-use Rattle.mscp_drive.specs.Shape.{Shape, one_block}
-use Rattle.mscp_drive.specs.UnitList.{unit_found}
-use Rattle.mscp_drive.specs.declared.connection.Connection.TheVariants.{First}
+use Rattle.mscp_logged.proofs.Common.{All, Answered, AnsweredCalls, AsksAlways, Bool, Call, ControllersKeepThePromise, Dies, Drive, First, GoesOnWithBlock, Hardware, Hears, Holdings, IsAsNew, IsMadeOf, IsPassive, IsReadingText, IsValid, List, Made, Next, None, Ok, Option, Picking, Port, ReadsBytes, SendFault, Settings, Shape, Some, Stage, Task, Volume, Wants, WasRead, Went, WriteIp, [], aborting, after_message, answered_end, ap, arith, asked_before, awaited, balance_of, command_of, cond, drive_now, false, false≢true, few_ends, find, fresh, handed, held_unless, history, inl, inr, is_dead, is_queued, looks_or_not, map, nat_eq, none_or_some, one_block, option_map, outstanding_of, own_end_of, passive_stays, place_in, position-Some, queued, refl, refusal, steps, subst, sym, taken_or_not, true, unit_found, volume_at, volume_in_place, with_end, ℕ, ◌<◌, ◌∙◌, ◌∷◌, ◌≡◌, ◌⊎◌}
 use Rattle.mscp_queue.specs.Drives.{has_number}
-use Rattle.mscp_queue.specs.declared.drive.Drive.{Drive}
-use Rattle.mscp_controller.specs.Arrival.{is_queued, refusal}
-use Rattle.mscp_controller.specs.Calls.{AnsweredCalls, Call as Made, history}
-use Rattle.mscp_controller.specs.Controllers.{ControllersKeepThePromise, drive_now}
-use Rattle.mscp_controller.specs.Holdings.{Holdings, aborting, after_message, answered_end, balance_of, fresh, held_unless, outstanding_of, queued, with_end}
-use Rattle.mscp_controller.specs.declared.entry.SendFault.{SendFault}
-use Rattle.mscp_port.specs.declared.hardware.Hardware.{Hardware}
-use Rattle.mscp_port.specs.declared.port.Port.{Port}
-use Rattle.mscp_port.specs.declared.stage.Stage.{Stage}
 use Rattle.mscp_port.specs.declared.stage.Stage.TheVariants as stages
-use Rattle.mscp_port.specs.declared.task.Task.{Task}
 use Rattle.mscp_port.specs.declared.task.Task.TheVariants as tasks
-use Rattle.mscp_port.specs.declared.volumes.Volume.{Volume}
-use Rattle.mscp_port.specs.Calls.{Dies, Hears, IsMadeOf, Wants}
-use Rattle.mscp_port.specs.Histories.{Answered, Call, Next, Picking, WasRead, Went, WriteIp}
-use Rattle.mscp_port.specs.Messages.{handed, own_end_of}
-use Rattle.mscp_port.specs.Moved.{GoesOnWithBlock}
-use Rattle.mscp_port.specs.Ports.{IsAsNew, IsReadingText}
-use Rattle.mscp_port.specs.Volumes.{place_in, volume_at, volume_in_place}
-use Rattle.mscp_port.proofs.Begun.{taken_or_not}
-use Rattle.mscp_port.proofs.Common.{false≢true, none-some, position-Some}
-use Rattle.mscp_port.proofs.Loads.{looks_or_not}
-use Rattle.mscp_port.proofs.Said.{none_or_some}
-use Rattle.mscp_ported.specs.Awaited.{ReadsBytes, awaited}
-use Rattle.mscp_ported.specs.Talk.{AsksAlways, is_dead}
-use Rattle.mscp_ported.proofs.Coming.{few_ends}
-use Rattle.mscp_ported.proofs.Following.{asked_before}
-use Rattle.mscp_ported.proofs.Moving.{steps}
-use Rattle.mscp_ported.proofs.Staying.{IsPassive, passive_stays}
+use Rattle.mscp_port.proofs.Common.{none-some}
 use Rattle.mscp_logged.proofs.Driven.{AreDriven, driven_as}
 use Rattle.mscp_logged.proofs.Moored.{AreAsWere, found_as, next_volumes, passive_volumes, read_volumes, volumes_still}
 use Rattle.mscp_logged.proofs.Orderly.{fits, numbers_kept, ordering, promised}

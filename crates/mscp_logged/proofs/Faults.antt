@@ -1,37 +1,12 @@
 -- What a controller is told of a step is what a drive may tell, and a unit that isn't online ends no other command
 -- than a transfer.
-use Rattle.std.proofs.Common.{◌≡◌, ◌∙◌, ◌<◌, ◌≤◌, ◌^◌, ℕ, Bool, true, false, cond, List, Option, None, Some, inl, inr, refl, ap, sym, subst, arith}
-use Rattle.std.specs.Prelude.{◌%◌, ◌==◌, ◌&&◌, Result, Ok, Err, find, nat_le, not, option_map}
-use Rattle.mscp_packet.specs.declared.command.MoveKind.{MoveKind}
-use Rattle.mscp_packet.specs.declared.command.Order.{Order}
+use Rattle.mscp_logged.proofs.Common.{Bool, Buffer, Err, IsBegunStep, IsFault, IsFaultTold, IsHow, IsOfBlock, List, MoveKind, Name, None, Ok, Option, Order, Outcome, Port, Record, Result, Some, Task, Upcoming, Verdict, Volume, ap, arith, begun_step, begun_task, block_begun, block_of, block_served, block_told, changed_verdict, cond, drive_of, false, fault_with, faulted, find, has_changed, has_host_bytes, has_name, inl, inr, is_available, is_move, known_task, move_of, move_task, moved_by, moved_step, nat_le, option_map, part_at, part_of, part_served, part_task, part_with, place_in, refl, refusal_of, subst, sym, takes_any_volume, task_of, true, unless_fault, upcoming_begun, upcoming_of, volume_at, writes, ℕ, ◌%◌, ◌&&◌, ◌<◌, ◌==◌, ◌^◌, ◌∙◌, ◌≡◌, ◌≤◌}
+use Rattle.std.specs.Prelude.{not}
 use Rattle.mscp_packet.specs.declared.command.Order.TheVariants as orders
 use Rattle.mscp_drive.specs.declared.block.Block.TheVariants as blocks
-use Rattle.mscp_queue.specs.Drives.{drive_of}
-use Rattle.mscp_queue.specs.Orders.{is_move}
-use Rattle.mscp_queue.specs.Records.{Record, has_name}
-use Rattle.mscp_queue.specs.Serving.{upcoming_begun, upcoming_of}
-use Rattle.mscp_queue.specs.declared.name.Name.{Name}
-use Rattle.mscp_queue.specs.declared.upcoming.Upcoming.{Upcoming}
-use Rattle.mscp_controller.specs.Holdings.{begun_step}
-use Rattle.mscp_port.specs.Blocks.{block_of, block_told, changed_verdict, fault_with, faulted, has_changed, has_host_bytes, is_available, move_of, move_task, moved_by, part_task, part_with, refusal_of, takes_any_volume, task_of, unless_fault, writes}
-use Rattle.mscp_port.specs.Buffers.{part_of}
-use Rattle.mscp_port.specs.Moved.{begun_task, block_begun, block_served, known_task, moved_step, part_at, part_served}
-use Rattle.mscp_port.specs.Ports.{IsOfBlock}
-use Rattle.mscp_port.specs.Volumes.{place_in}
-use Rattle.mscp_port.specs.declared.action.Outcome.{Outcome}
 use Rattle.mscp_port.specs.declared.action.Outcome.TheVariants as outcomes
-use Rattle.mscp_port.specs.declared.buffers.Buffer.{Buffer}
-use Rattle.mscp_port.specs.declared.port.Port.{Port}
-use Rattle.mscp_port.specs.declared.task.Task.{Task}
 use Rattle.mscp_port.specs.declared.task.Task.TheVariants as tasks
-use Rattle.mscp_port.specs.declared.verdict.Verdict.{Verdict}
 use Rattle.mscp_port.specs.declared.verdict.Verdict.TheVariants as verdicts
-use Rattle.mscp_port.specs.declared.volumes.Volume.{Volume}
-use Rattle.mscp_port.specs.Volumes.{volume_at}
-use Rattle.mscp_ported.proofs.Moving.{IsBegunStep}
-use Rattle.mscp_ported.proofs.Transferring.{IsHow}
-use Rattle.mscp_shown.proofs.Suiting.{IsFault}
-use Rattle.mscp_logged.specs.Rules.{IsFaultTold}
 
 -- ---- a verdict
 

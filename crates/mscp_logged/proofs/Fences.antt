@@ -1,43 +1,12 @@
 -- Where a message keeps a later one back, no step serves the later one's command before that of the first ended; and a
 -- message that is answered at once waits for none, or ends with a status that may come at once.
-use Rattle.std.proofs.Common.{◌≡◌, ◌≢◌, ◌⊎◌, ◌∙◌, ◌+◌, ◌&&◌, ◌++◌, ◌∷◌, [], ℕ, Bool, true, false, cond, filter, nat_eq, not, List, Option, None, Some, inl, inr, refl, ap, sym, subst, arith}
-use Rattle.std.specs.Prelude.{◌%◌, ◌==◌, ◌||◌, is_none, slice_index}
-use Rattle.std.specs.List.{AllByRecursion, list_all, list_any}
-use Rattle.mscp_packet.specs.Commands.{command_of}
-use Rattle.mscp_packet.specs.Number.{num}
-use Rattle.mscp_packet.specs.Opcodes.{move_byte}
-use Rattle.mscp_packet.specs.declared.command.MoveKind.{MoveKind}
-use Rattle.mscp_packet.specs.declared.command.Order.{Order}
+use Rattle.mscp_logged.proofs.Common.{AllByRecursion, Block, Bool, IsCodeFor, IsOf, IsText, IsUnitIn, List, MoveKind, None, Option, Order, Record, Says, Sent, Settings, Some, Volume, [], and_parts, ap, arith, asks_next, command_of, cond, ends_formality, eq-eqb, eqb-true, false, false≢true, fault_of, fences, filter, first_of_one, formal_status, handed, has_number, inl, inr, is_apart, is_formality, is_immediate, is_none, is_numbered, is_queued, list_all, list_any, move_byte, nat_eq, not, num, number_of, or_right, other_one, own_end, own_end_with, queued_open, refl, refused_apart, slice_index, some_none, status_after, status_told, subst, sym, this_one, true, unit_state, valid_order, ℕ, ◌%◌, ◌++◌, ◌+◌, ◌==◌, ◌||◌, ◌∙◌, ◌∷◌, ◌≡◌, ◌≢◌, ◌⊎◌}
+use Rattle.std.proofs.Common.{◌&&◌}
 use Rattle.mscp_packet.specs.declared.command.Order.TheVariants as orders
-use Rattle.mscp_drive.specs.Settings.{Settings}
-use Rattle.mscp_drive.specs.declared.block.Block.{Block}
 use Rattle.mscp_drive.specs.declared.block.Block.TheVariants as blocks
 use Rattle.mscp_queue.specs.Orders as queue
-use Rattle.mscp_queue.specs.Records.{Record}
-use Rattle.mscp_queue.specs.Views.{fences}
-use Rattle.mscp_controller.specs.Arrival.{fault_of, is_immediate, is_queued}
-use Rattle.mscp_controller.specs.Outcomes.{own_end, own_end_with}
-use Rattle.mscp_controller.proofs.Basics.{queued_open}
-use Rattle.mscp_port.specs.Decided.{status_after, status_told, unit_state}
-use Rattle.mscp_port.specs.Formalities.{ends_formality, formal_status, is_formality}
-use Rattle.mscp_port.specs.Messages.{handed}
 use Rattle.mscp_port.specs.declared.verdict.Verdict.TheVariants as verdicts
-use Rattle.mscp_port.specs.declared.volumes.Volume.{Volume}
-use Rattle.mscp_port.proofs.Common.{and_parts, eq-eqb, eqb-true, false≢true, or_right}
-use Rattle.mscp_port.proofs.Kept.{is_numbered}
-use Rattle.mscp_ported.specs.Answers.{asks_next}
-use Rattle.mscp_ported.specs.Awaited.{has_number}
-use Rattle.mscp_ported.specs.Fitting.{IsCodeFor}
-use Rattle.mscp_ported.proofs.Numbered.{first_of_one, some_none}
-use Rattle.mscp_ported.proofs.Origins.{IsOf, IsText}
-use Rattle.mscp_ported.proofs.Owning.{number_of}
-use Rattle.mscp_ported.proofs.Sole.{other_one, this_one}
-use Rattle.mscp_ported.proofs.Units.{IsUnitIn}
 use Rattle.mscp_wire.specs.Wire as wire
-use Rattle.mscp_wire.specs.Wire.{is_apart, sent_by}
-use Rattle.mscp_wire.specs.declared.sent.Sent.{Sent}
-use Rattle.mscp_shown.proofs.Saying.{Says}
-use Rattle.mscp_shown.proofs.Suiting.{refused_apart, valid_order}
 use Rattle.mscp_logged.proofs.Bytes.{handed_says, of_unit}
 use Rattle.mscp_logged.proofs.Lined.{any_as}
 use Rattle.mscp_logged.proofs.Passes.{any_all, both_none, keeps, overtakes}

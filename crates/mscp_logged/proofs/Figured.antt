@@ -1,40 +1,7 @@
 -- What is known of the figures of a port's log, over a whole list of calls.
-use Rattle.std.proofs.Common.{◌≡◌, ◌≢◌, ◌⊎◌, ◌∙◌, ◌<◌, ◌≤◌, ◌++◌, ◌∷◌, [], ℕ, All, Bool, true, false, cond, filter, map, nat_eq, List, Option, None, Some, inl, inr, refl, ap, append_assoc, sym, subst, arith}
-use Rattle.std.specs.Prelude.{flat_map, option_to_list, slice_index}
-use Rattle.std.specs.List.{AllByRecursion, list_any}
-use Rattle.std.proofs.lemmas.List.{append-nil}
-use Rattle.mscp_packet.specs.Number.{num}
-use Rattle.mscp_drive.specs.Settings.{IsValid, Settings}
-use Rattle.mscp_drive.specs.declared.connection.Connection.TheVariants.{First}
-use Rattle.mscp_controller.specs.Calls.{AnsweredCalls, Call as Made}
-use Rattle.mscp_controller.specs.Holdings.{Holdings, fresh, outstanding_of}
-use Rattle.mscp_port.specs.declared.hardware.Hardware.{Hardware}
-use Rattle.mscp_port.specs.declared.port.Outgoing.{Outgoing}
-use Rattle.mscp_port.specs.declared.port.OutgoingKind.{OutgoingKind}
+use Rattle.mscp_logged.proofs.Common.{All, AllByRecursion, Answered, AnsweredCalls, AsksAlways, Bool, Call, Deals, First, Hardware, History, Holdings, HoldsAwaited, HostIsRight, IsAnswering, IsCodeFor, IsMadeOf, IsRight, IsServedSince, IsTaking, IsValid, List, Made, None, Option, Outgoing, OutgoingKind, PassesOn, Picking, Port, PortsEndWhatTheyTook, PortsHoldWhatIsAwaited, PortsLowerFigures, PortsPassEndsOn, PortsTellInOrder, ReadsBytes, Sent, ServesBetweenPolls, Settings, Some, TakesPoll, TellsStep, WriteIp, [], accepted_by, ap, append-nil, append_assoc, arith, asked_before, asking, awaited, begins, begun_one, cond, end_kind, end_of, end_said, ends_in, ends_said_by, false, figure_on, filter, flat_map, four_in, fresh, has_number, held, inl, inr, is_dead, is_foreign, is_message, is_new, leaves, list_any, logged, map, message_of, messages_by, nat_eq, none_beside, num, option_to_list, outstanding, outstanding_of, own_answer, pending_held, pending_in, pending_said, refl, said, said_in, seen_by, sent_by, since_alive, slice_index, subst, sym, taken_by, timed, timeout, true, volume_named, without_ends, ℕ, ◌++◌, ◌<◌, ◌∙◌, ◌∷◌, ◌≡◌, ◌≢◌, ◌≤◌, ◌⊎◌}
 use Rattle.mscp_port.specs.declared.port.OutgoingKind.TheVariants as kinds
-use Rattle.mscp_port.specs.declared.port.Port.{Port}
-use Rattle.mscp_port.specs.Calls.{IsMadeOf}
-use Rattle.mscp_port.specs.Departures.{begins, leaves}
-use Rattle.mscp_port.specs.Fair.{TellsStep}
-use Rattle.mscp_port.specs.Histories.{Answered, Call, Picking, WriteIp}
-use Rattle.mscp_port.specs.Packets.{end_kind}
-use Rattle.mscp_ported.specs.Answers.{own_answer, volume_named}
-use Rattle.mscp_ported.specs.Awaited.{Deals, IsAnswering, IsTaking, PortsEndWhatTheyTook, ReadsBytes, awaited, has_number, taken_by, without_ends}
-use Rattle.mscp_ported.specs.Ends.{end_said, ends_said_by}
-use Rattle.mscp_ported.specs.Fitting.{IsCodeFor}
-use Rattle.mscp_ported.specs.Figures.{PortsLowerFigures, figure_on}
-use Rattle.mscp_ported.specs.Passing.{HoldsAwaited, IsServedSince, PassesOn, PortsHoldWhatIsAwaited, PortsPassEndsOn, ServesBetweenPolls, TakesPoll, pending_held, pending_in, pending_said}
-use Rattle.mscp_ported.specs.Talk.{AsksAlways, is_dead}
-use Rattle.mscp_ported.specs.Told.{PortsTellInOrder, accepted_by, held, said, said_in}
-use Rattle.mscp_ported.proofs.Following.{asked_before}
-use Rattle.mscp_ported.proofs.Growing.{begun_one}
-use Rattle.mscp_ported.proofs.Itself.{since_alive}
-use Rattle.mscp_ported.proofs.Numbered.{none_beside}
-use Rattle.mscp_wire.specs.Wire.{History, IsRight, asking, four_in, is_new, outstanding, sent_by, timed, timeout}
 use Rattle.mscp_wire.specs.declared.moment.Moment.TheVariants as moments
-use Rattle.mscp_wire.specs.declared.sent.Sent.{Sent}
-use Rattle.mscp_logged.specs.Logged.{end_of, ends_in, is_foreign, logged, message_of, messages_by, seen_by}
-use Rattle.mscp_logged.specs.Rules.{HostIsRight, is_message}
 use Rattle.mscp_logged.proofs.Figuring.{coming, ending_lowers, lowers_by, not_poll, plain_figured, poll_figured, quiet_lowers, same_figured}
 use Rattle.mscp_logged.proofs.Figures.{Figured, apart_from, begun_of, end_figured, figured_as, four_is, goes_on, message_comes, no_step, out_of, takes_poll}
 use Rattle.mscp_logged.proofs.Logging.{small_of, taken_disk}

@@ -1,28 +1,8 @@
 -- What is known of the figures that a log tells, beside what comes.
-use Rattle.std.proofs.Common.{◌≡◌, ◌∙◌, ◌+◌, ◌<◌, ◌≤◌, ◌++◌, ◌∷◌, [], ℕ, Bool, true, false, cond, filter, length, map, nat_eq, nat_le, not, take, List, Option, None, Some, refl, ap, append_assoc, sym, subst, arith}
-use Rattle.std.specs.Prelude.{Ok, flat_map, option_to_list, slice_index}
-use Rattle.std.specs.List.{list_any}
-use Rattle.std.proofs.lemmas.Option.{none-some, same_Some}
-use Rattle.mscp_packet.specs.Number.{num}
-use Rattle.mscp_drive.specs.declared.connection.Connection.TheVariants.{First}
-use Rattle.mscp_queue.proofs.Placed.{each_push}
-use Rattle.mscp_port.specs.declared.port.Outgoing.{Outgoing}
+use Rattle.mscp_logged.proofs.Common.{Answer, Bool, Call, First, History, IsCodeFor, List, Moment, None, Ok, Option, Outgoing, Pending, Port, Said, Sent, Some, TakesPoll, TellsStep, WasRead, [], after_end, answer_by, ap, append_assoc, arith, begins, command_at, cond, each_push, end_of, eqb-true, false, false≢true, filter, flat_map, four_in, has_endcode, hears, is_known, is_required, length, list_any, map, message_of, moment_at, nat_eq, none-some, not, num, option_to_list, outstanding, pending_in, refl, said_in, same_Some, slice_index, subst, sym, take, taken_by, true, ℕ, ◌++◌, ◌+◌, ◌<◌, ◌∙◌, ◌∷◌, ◌≡◌, ◌≤◌}
+use Rattle.std.proofs.Common.{nat_le}
 use Rattle.mscp_port.specs.declared.port.OutgoingKind.TheVariants as kinds
-use Rattle.mscp_port.specs.declared.port.Port.{Port}
-use Rattle.mscp_port.specs.Departures.{begins}
-use Rattle.mscp_port.specs.Fair.{TellsStep}
-use Rattle.mscp_port.specs.Histories.{Call, WasRead}
-use Rattle.mscp_port.proofs.Common.{eqb-true, false≢true}
-use Rattle.mscp_ported.specs.Awaited.{taken_by}
-use Rattle.mscp_ported.specs.Fitting.{IsCodeFor}
-use Rattle.mscp_ported.specs.Passing.{Pending, TakesPoll, pending_in}
-use Rattle.mscp_ported.specs.Told.{Said, said_in}
-use Rattle.mscp_wire.specs.Wire.{History, after_end, answer_by, command_at, four_in, has_endcode, hears, is_known, is_required, moment_at, outstanding}
-use Rattle.mscp_wire.specs.declared.answer.Answer.{Answer}
-use Rattle.mscp_wire.specs.declared.moment.Moment.{Moment}
 use Rattle.mscp_wire.specs.declared.moment.Moment.TheVariants as moments
-use Rattle.mscp_wire.specs.declared.sent.Sent.{Sent}
-use Rattle.mscp_logged.specs.Logged.{end_of, message_of}
 use Rattle.mscp_logged.proofs.Coded.{endcode_right}
 use Rattle.mscp_logged.proofs.Heard.{IsShown, figured_left, is_shown}
 use Rattle.mscp_logged.proofs.Left.{end_leaves}

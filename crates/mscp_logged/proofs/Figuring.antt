@@ -1,32 +1,7 @@
 -- What is known of the figures of a port's log, by one call.
-use Rattle.std.proofs.Common.{◌≡◌, ◌≢◌, ◌⊎◌, ◌∙◌, ◌<◌, ◌≤◌, ◌++◌, ◌∷◌, [], ℕ, Bool, true, false, cond, filter, length, map, nat_eq, nat_le, not, List, Option, None, Some, inl, inr, refl, ap, sym, subst, arith}
-use Rattle.std.specs.Prelude.{◌||◌, flat_map, slice_index}
-use Rattle.std.specs.List.{AllByRecursion, list_any}
-use Rattle.std.proofs.lemmas.Option.{none-some}
-use Rattle.mscp_packet.specs.Number.{num}
-use Rattle.mscp_packet.specs.declared.end.End.{End}
-use Rattle.mscp_drive.specs.Both.{of}
-use Rattle.mscp_drive.specs.declared.connection.Connection.TheVariants.{First}
-use Rattle.mscp_queue.proofs.Lists.{every_append}
-use Rattle.mscp_port.specs.declared.port.OutgoingKind.{OutgoingKind}
+use Rattle.mscp_logged.proofs.Common.{AllByRecursion, Bool, Call, End, First, HoldsAwaited, HoldsEnd, List, None, Nothing, Option, OutgoingKind, Own, PassesOn, Pending, Port, Said, Sent, Some, Volume, [], and_parts, any_more, ap, arith, asked_by, asking, asks_nothing, asks_oldest, begins, cond, eq-eqb, eqb-true, every_append, false, false≢true, figure_on, filter, flat_map, four_in, has_number, held, inl, inr, length, list_any, map, may_be, nat_eq, none-some, none_of_it, not, num, of, other_number, own_answer, own_cases, pending_end, pending_held, pending_in, pending_said, refl, said_in, sent_by, slice_index, sole_left, some_none, subst, sym, timed, true, ℕ, ◌++◌, ◌<◌, ◌||◌, ◌∙◌, ◌∷◌, ◌≡◌, ◌≢◌, ◌≤◌, ◌⊎◌}
+use Rattle.std.proofs.Common.{nat_le}
 use Rattle.mscp_port.specs.declared.port.OutgoingKind.TheVariants as kinds
-use Rattle.mscp_port.specs.declared.port.Port.{Port}
-use Rattle.mscp_port.specs.declared.volumes.Volume.{Volume}
-use Rattle.mscp_port.specs.Departures.{begins}
-use Rattle.mscp_port.specs.Histories.{Call}
-use Rattle.mscp_port.proofs.Common.{and_parts, eq-eqb, eqb-true, false≢true}
-use Rattle.mscp_ported.specs.Answers.{Own, asks_nothing, own_answer}
-use Rattle.mscp_ported.specs.Awaited.{has_number}
-use Rattle.mscp_ported.specs.Figures.{figure_on}
-use Rattle.mscp_ported.specs.Passing.{HoldsAwaited, HoldsEnd, PassesOn, Pending, pending_end, pending_held, pending_in, pending_said}
-use Rattle.mscp_ported.specs.Told.{Said, held, said_in}
-use Rattle.mscp_ported.proofs.Behind.{any_more}
-use Rattle.mscp_ported.proofs.Itself.{own_cases}
-use Rattle.mscp_ported.proofs.Numbered.{none_of_it, other_number, some_none}
-use Rattle.mscp_ported.proofs.Sole.{sole_left}
-use Rattle.mscp_wire.specs.Wire.{asked_by, asking, asks_oldest, four_in, may_be, sent_by, timed}
-use Rattle.mscp_wire.specs.declared.sent.Asked.TheVariants.{Nothing}
-use Rattle.mscp_wire.specs.declared.sent.Sent.{Sent}
 use Rattle.mscp_logged.proofs.Polled.{AreFigured, IsBelow, IsFigured, IsPolled, Lowers, asked_right, figure_more, figure_of, figured_still}
 use Rattle.mscp_logged.proofs.Wired.{AreOwed, IsOwed, Wired, named, none_any as no_command}
 

@@ -1,17 +1,6 @@
 -- What is known of the commands that are outstanding once an end left: they heard its figure, if it told one.
-use Rattle.std.proofs.Common.{◌≡◌, ◌⊎◌, ◌∙◌, ◌+◌, ◌&&◌, ◌∷◌, [], ℕ, Bool, true, false, cond, filter, length, map, nat_eq, nat_le, not, List, Option, None, Some, inl, inr, refl, ap, sym, subst}
-use Rattle.std.specs.Prelude.{◌||◌, slice_index}
-use Rattle.std.specs.List.{AllByRecursion, list_any, position}
-use Rattle.std.proofs.lemmas.Option.{none-some, same_Some}
-use Rattle.mscp_packet.specs.Number.{num}
-use Rattle.mscp_drive.specs.declared.connection.Connection.TheVariants.{First}
-use Rattle.mscp_port.proofs.Common.{and_parts, eq-eqb, eqb-true, false≢true, or_right}
-use Rattle.mscp_ported.specs.Passing.{Pending}
-use Rattle.mscp_wire.specs.Wire.{answer_by, asks_oldest, command_at, four_in, has_figure, hears, is_it, is_known, is_long, is_named, is_polled, least_length, left, may_be, may_tell, polled_by, polls, same_connection, tells}
-use Rattle.mscp_wire.specs.declared.answer.Answer.{Answer}
-use Rattle.mscp_wire.specs.declared.sent.Asked.{Asked}
-use Rattle.mscp_wire.specs.declared.sent.Asked.TheVariants.{Gone, Nothing, Oldest}
-use Rattle.mscp_wire.specs.declared.sent.Sent.{Sent}
+use Rattle.mscp_logged.proofs.Common.{AllByRecursion, Answer, Asked, Bool, First, Gone, List, None, Nothing, Oldest, Option, Pending, Sent, Some, [], and_parts, answer_by, ap, asks_oldest, command_at, cond, eq-eqb, eqb-true, false, false≢true, filter, four_in, has_figure, hears, inl, inr, is_it, is_known, is_long, is_named, is_polled, least_length, left, length, list_any, map, may_be, may_tell, nat_eq, none-some, not, num, or_right, polled_by, polls, position, refl, same_Some, same_connection, slice_index, subst, sym, tells, true, ℕ, ◌+◌, ◌||◌, ◌∙◌, ◌∷◌, ◌≡◌, ◌⊎◌}
+use Rattle.std.proofs.Common.{◌&&◌, nat_le}
 use Rattle.mscp_logged.proofs.Polled.{AreFigured, IsBelow, IsFigured, IsPolled, Polls, at_place, figure_of, polled_so}
 use Rattle.mscp_logged.proofs.Queueing.{flipped}
 use Rattle.mscp_logged.proofs.Wired.{named}

@@ -1,67 +1,14 @@
 -- Behind a message that a port read no end that waits has passed a command that it had to wait for.
-use Rattle.std.proofs.Common.{◌≡◌, ◌≢◌, ◌⊎◌, ◌∙◌, ◌<◌, ◌^◌, ◌&&◌, ◌++◌, ◌∷◌, [], ℕ, All, Bool, true, false, cond, filter, map, nat_eq, not, List, Option, None, Some, inl, inr, refl, ap, sym, subst, arith, append_assoc}
-use Rattle.std.specs.Prelude.{◌%◌, ◌||◌, Ok, is_none, is_ok, is_some, option_map, option_to_list, slice_index}
-use Rattle.std.specs.List.{AllByRecursion}
-use Rattle.std.proofs.lemmas.Option.{none-some}
-use Rattle.mscp_packet.specs.Number.{num}
-unfoldable use Rattle.mscp_packet.specs.Commands.{command_of}
-use Rattle.mscp_packet.specs.declared.command.Command.{Command}
-use Rattle.mscp_packet.specs.declared.command.Order.{Order}
+use Rattle.mscp_logged.proofs.Common.{All, AllByRecursion, Bool, Command, Decided, Descriptor, End, First, Fitting, Grows, Hears, Holdings, IsCodeFor, IsLikeIt, IsNoReset, IsNothing, IsReadingText, IsSmall, IsText, IsValid, Kept, List, None, Ok, Option, Order, Port, Record, SeesText, SendFault, Sends, Settings, Shape, Some, Task, Verdict, WasRead, [], aborted_record, aborting, and_false, answer_told, answered_code, answered_end, answered_to, ap, apart_numbers, append_assoc, arith, arrives, balance_of, bare_same, bytes_small, come_so, command_of, cond, decided_code, drive_of, ends_formality, ends_of, eq-eqb, eqb-true, false, false≢true, fault_of, figure_polled, filter, formal_queued, fresh_record, handed, handed_coded, handed_like, has_number, held_unless, inl, inr, is_apart, is_formality, is_immediate, is_none, is_numbered, is_of, is_ok, is_queued, is_some, is_taken_text, map, nat_eq, none-some, none_of_it, none_or_some, none_so, none_taken, not, nothing_there, num, option_map, option_to_list, or_right, order_fault, others, outstanding_of, own_answer, own_end_of, own_number, own_so, place_in, queued, queued_open, read_stays, record_aborted, reference_aborted, refl, refusal, sent_unless, since, slice_index, sole_left, some_none, status_told, subst, sym, taken_as, taken_by, taken_is, text_grows, true, unaborted, unit_found, volume_at, volume_named, with_end, ℕ, ◌%◌, ◌++◌, ◌<◌, ◌^◌, ◌||◌, ◌∙◌, ◌∷◌, ◌≡◌, ◌≢◌, ◌⊎◌}
+use Rattle.std.proofs.Common.{◌&&◌}
 use Rattle.mscp_packet.specs.declared.command.Order.TheVariants as orders
-use Rattle.mscp_packet.specs.declared.end.End.{End}
-use Rattle.mscp_drive.specs.Settings.{IsValid, Settings}
-use Rattle.mscp_drive.specs.Shape.{Shape}
-use Rattle.mscp_drive.specs.UnitList.{unit_found}
 use Rattle.mscp_drive.specs.declared.block.Block.TheVariants as blocks
-use Rattle.mscp_drive.specs.declared.connection.Connection.TheVariants.{First}
-use Rattle.mscp_queue.specs.Records.{Record, aborted_record, fresh_record}
-use Rattle.mscp_controller.specs.Arrival.{fault_of, is_immediate, is_queued, order_fault, refusal}
-use Rattle.mscp_controller.specs.Holdings.{Holdings, aborting, answered_end, arrives, balance_of, figure_polled, held_unless, outstanding_of, queued, record_aborted, reference_aborted, sent_unless, taken_as, unaborted, with_end}
-use Rattle.mscp_controller.specs.declared.entry.SendFault.{SendFault}
 use Rattle.mscp_controller.specs.declared.entry.Sent.TheVariants as sents
-use Rattle.mscp_controller.proofs.Basics.{queued_open}
-use Rattle.mscp_queue.specs.Drives.{drive_of}
-use Rattle.mscp_port.specs.Buffers.{is_of}
-use Rattle.mscp_port.specs.Calls.{Hears}
-use Rattle.mscp_port.specs.Decided.{status_told}
-use Rattle.mscp_port.specs.Formalities.{ends_formality, is_formality}
-use Rattle.mscp_port.specs.Histories.{WasRead}
-use Rattle.mscp_port.specs.Messages.{handed, own_end, own_end_of}
-use Rattle.mscp_port.specs.Ports.{IsReadingText}
-use Rattle.mscp_port.specs.Seen.{SeesText, Sends, answered_to}
-use Rattle.mscp_port.specs.Volumes.{place_in, volume_at}
-use Rattle.mscp_port.specs.declared.decided.Decided.{Decided}
-use Rattle.mscp_port.specs.declared.port.Port.{Port}
-use Rattle.mscp_port.specs.declared.slot.Descriptor.{Descriptor}
-use Rattle.mscp_port.specs.declared.task.Task.{Task}
+use Rattle.mscp_port.specs.Messages.{own_end}
 use Rattle.mscp_port.specs.declared.task.Task.TheVariants as tasks
-use Rattle.mscp_port.specs.declared.verdict.Verdict.{Verdict}
 use Rattle.mscp_port.specs.declared.verdict.Verdict.TheVariants as verdicts
-use Rattle.mscp_port.proofs.Common.{eq-eqb, eqb-true, false≢true, or_right}
-use Rattle.mscp_port.proofs.Kept.{is_numbered}
-use Rattle.mscp_port.proofs.Said.{none_or_some}
-use Rattle.mscp_ported.specs.Answers.{own_answer, volume_named}
-use Rattle.mscp_ported.specs.Awaited.{has_number, is_taken_text, taken_by}
-use Rattle.mscp_ported.specs.Fitting.{IsCodeFor}
-use Rattle.mscp_ported.specs.Talk.{since}
-use Rattle.mscp_ported.proofs.Answering.{none_so, own_so}
-use Rattle.mscp_ported.proofs.Awaiting.{IsLikeIt, IsNoReset, IsSmall, Kept, handed_like, is_it, nothing_there, others, own_number}
-use Rattle.mscp_ported.proofs.Awaits.{none_taken, taken_is}
-use Rattle.mscp_ported.proofs.Codes.{answered_code, handed_coded}
-use Rattle.mscp_ported.proofs.Coming.{come_so, ends_of}
-use Rattle.mscp_ported.proofs.Decided.{read_stays}
-use Rattle.mscp_ported.proofs.Ended.{bytes_small}
-use Rattle.mscp_ported.proofs.Ending.{Grows}
-use Rattle.mscp_ported.proofs.Fitted.{Fitting}
-use Rattle.mscp_ported.proofs.Fitting.{answer_told, bare_same, decided_code}
-use Rattle.mscp_ported.proofs.Formal.{formal_queued}
-use Rattle.mscp_ported.proofs.Leaving.{text_grows}
-use Rattle.mscp_ported.proofs.Numbered.{IsNothing, none_of_it, some_none}
-use Rattle.mscp_ported.proofs.Origins.{IsText}
-use Rattle.mscp_ported.proofs.Owning.{and_false, apart_numbers}
-use Rattle.mscp_ported.proofs.Sole.{sole_left}
+use Rattle.mscp_ported.proofs.Awaiting.{is_it}
 use Rattle.mscp_ported.proofs.Tables.{answer_by}
-use Rattle.mscp_wire.specs.Wire.{is_apart}
 use Rattle.mscp_logged.proofs.Clear.{AreClear, IsClear, is_ended, none_ended, ordered_answered, ordered_as, ordered_queued, unended, without}
 use Rattle.mscp_logged.proofs.Fences.{aborted_apart, plain_code, reply_clear}
 use Rattle.mscp_logged.proofs.Ordering.{OrderedIn, became, stays, unchanged}

@@ -1,20 +1,7 @@
 -- Which rules of the wire a port keeps, if its host is right.
-use Rattle.std.proofs.Common.{◌≡◌, ◌∙◌, ◌+◌, ◌<◌, ◌∷◌, [], ℕ, zero, suc, Bool, nat_eq, not, true, false, drop, length, take, List, Option, None, Some, inl, inr, refl, ap, sym, subst, arith}
-use Rattle.std.specs.List.{AllByRecursion, list_any}
-use Rattle.std.specs.Prelude.{◌||◌, fold, is_some}
-use Rattle.mscp_drive.specs.Settings.{Settings}
-use Rattle.mscp_drive.specs.declared.connection.Connection.TheVariants.{First}
-use Rattle.mscp_port.proofs.Common.{eq-eqb, eqb-true}
-use Rattle.mscp_ported.specs.Told.{Said}
-use Rattle.mscp_wire.specs.Wire.{History, aborts, answer_by, command_at, controller, controller_after, controller_in, count_of, fits, has_abort, has_count, has_status, is_same_unit, later_of, moment_at, outstanding, status_code, suits_state}
-use Rattle.mscp_wire.specs.declared.answer.Answer.{Answer}
-use Rattle.mscp_wire.specs.declared.moment.Moment.{Moment}
+use Rattle.mscp_logged.proofs.Common.{AllByRecursion, Answer, Bool, First, History, HostIsRight, Keeps, List, Moment, None, Option, Rule, Said, Seen, Sent, Settings, Some, [], aborts, answer_by, ap, arith, command_at, controller, controller_after, controller_in, count_of, drop, eq-eqb, eqb-true, false, fits, fold, has_abort, has_count, has_status, inl, inr, is_of_drives, is_of_polls, is_same_unit, is_some, later_of, length, list_any, moment_at, nat_eq, not, outstanding, refl, status_code, subst, suc, suits_state, sym, take, true, zero, ℕ, ◌+◌, ◌<◌, ◌||◌, ◌∙◌, ◌∷◌, ◌≡◌}
 use Rattle.mscp_wire.specs.declared.moment.Moment.TheVariants as moments
-use Rattle.mscp_wire.specs.declared.rule.Rule.{Rule}
 use Rattle.mscp_wire.specs.declared.rule.Rule.TheVariants as rules
-use Rattle.mscp_wire.specs.declared.sent.Sent.{Sent}
-use Rattle.mscp_wire.specs.declared.told.Seen.{Seen}
-use Rattle.mscp_logged.specs.Rules.{HostIsRight, Keeps, is_of_drives, is_of_polls}
 use Rattle.mscp_logged.proofs.About.{about_right, success_right}
 use Rattle.mscp_logged.proofs.Breaking.{command_holds, end_holds, placed_holds, seen_at}
 use Rattle.mscp_logged.proofs.Coded.{endcode_right, unit_right}

@@ -1,21 +1,8 @@
 -- An end that leaves answers a command that is outstanding, and takes it away.
-use Rattle.std.proofs.Common.{◌≡◌, ◌∙◌, ◌+◌, ◌++◌, ◌∷◌, [], ℕ, true, false, cond, drop, filter, length, map, nat_eq, not, take, List, Some, inl, inr, refl, ap, sym, subst, arith}
-use Rattle.std.specs.List.{list_any, position}
-use Rattle.std.specs.Prelude.{slice_index_or}
-use Rattle.std.proofs.lemmas.List.Elements.{filter-append}
-use Rattle.mscp_packet.specs.Number.{num}
-use Rattle.mscp_drive.specs.declared.connection.Connection.TheVariants.{First}
-use Rattle.mscp_queue.proofs.Placed.{Found, find_cases, position_first}
+use Rattle.mscp_logged.proofs.Common.{Answer, First, Found, List, Said, Sent, Some, [], aborts, after_end, and_false, and_parts, answer_by, ap, arith, command_at, cond, drop, eqb-true, false, filter, filter-append, find_cases, hears, inl, inr, keeps_back, length, list_any, map, nat_eq, not, num, place_of, position, position_first, refl, same_connection, sent_by, slice_index_or, some_none, subst, sym, take, true, ℕ, ◌++◌, ◌+◌, ◌∙◌, ◌∷◌, ◌≡◌}
 use Rattle.mscp_port.specs.declared.port.OutgoingKind.TheVariants as kinds
-use Rattle.mscp_port.proofs.Common.{and_parts, eqb-true}
-use Rattle.mscp_ported.specs.Told.{Said}
-use Rattle.mscp_ported.proofs.Numbered.{some_none}
-use Rattle.mscp_ported.proofs.Owning.{and_false}
 use Rattle.mscp_logged.proofs.Lined.{all_left, behind, behind_aborts}
 use Rattle.mscp_logged.proofs.Passes.{passes, passes_found}
-use Rattle.mscp_wire.specs.Wire.{aborts, after_end, answer_by, command_at, hears, keeps_back, place_of, same_connection, sent_by}
-use Rattle.mscp_wire.specs.declared.answer.Answer.{Answer}
-use Rattle.mscp_wire.specs.declared.sent.Sent.{Sent}
 use Rattle.mscp_logged.proofs.Wired.{At, IsOwed, Wired, back_of, filter_map, front_of, named, none_front, same_or, stem}
 
 pub at_front : {X : Type 0} (front : List X) (x : X) (back : List X) (d : X)

@@ -1,3 +1,4 @@
+mod Common
 pub mod Wired
 pub mod Lined
 pub mod Left

@@ -1,20 +1,8 @@
 -- The commands that are outstanding stand in the order of their messages, and so an ABORT behind the command that it
 -- names.
-use Rattle.std.proofs.Common.{◌≡◌, ◌∙◌, ◌&&◌, ◌++◌, ◌∷◌, [], ℕ, Bool, true, false, cond, filter, length, map, nat_eq, not, List, None, Some, refl, ap, sym}
-use Rattle.std.specs.Prelude.{◌||◌, ◌%◌, nat_le, slice_index}
-use Rattle.std.specs.List.{AllByRecursion, list_any}
-use Rattle.mscp_packet.specs.Number.{num}
-use Rattle.mscp_drive.specs.declared.connection.Connection.{Connection}
-use Rattle.mscp_drive.specs.declared.connection.Connection.TheVariants.{First, Second}
-use Rattle.mscp_port.specs.declared.port.OutgoingKind.{OutgoingKind}
+use Rattle.mscp_logged.proofs.Common.{AllByRecursion, Bool, Connection, First, List, None, OutgoingKind, Said, Second, Sent, Some, [], aborts, aborts_behind, and_parts, any_more, ap, cond, eqb-true, false, false≢true, filter, has_number, is_abort, is_it, length, list_any, map, nat_eq, nat_le, not, num, refl, same_connection, sent_by, slice_index, some_none, sym, true, ℕ, ◌%◌, ◌++◌, ◌||◌, ◌∙◌, ◌∷◌, ◌≡◌}
+use Rattle.std.proofs.Common.{◌&&◌}
 use Rattle.mscp_port.specs.declared.port.OutgoingKind.TheVariants as kinds
-use Rattle.mscp_port.proofs.Common.{and_parts, eqb-true, false≢true}
-use Rattle.mscp_ported.specs.Awaited.{has_number}
-use Rattle.mscp_ported.specs.Told.{Said}
-use Rattle.mscp_ported.proofs.Behind.{aborts_behind, any_more, is_abort}
-use Rattle.mscp_ported.proofs.Numbered.{some_none}
-use Rattle.mscp_wire.specs.Wire.{aborts, is_it, same_connection, sent_by}
-use Rattle.mscp_wire.specs.declared.sent.Sent.{Sent}
 use Rattle.mscp_logged.proofs.Wired.{named, stem}
 
 -- each command is that of the message at its place

@@ -1,48 +1,10 @@
 -- By a message that is read the ends that come tell of their units what is so.
-use Rattle.std.proofs.Common.{◌≡◌, ◌≢◌, ◌∙◌, ◌^◌, ◌<◌, ◌&&◌, ◌++◌, ◌∷◌, [], ℕ, Bool, true, false, cond, length, map, List, Option, None, Some, inl, inr, refl, ap, append_assoc, sym, subst, arith}
-use Rattle.std.specs.Prelude.{Ok, is_none, is_ok, option_map, option_to_list, slice_index}
-use Rattle.std.proofs.lemmas.List.{append-nil}
-use Rattle.std.proofs.lemmas.Option.{none-some}
-use Rattle.mscp_packet.specs.Commands.{command_of}
-use Rattle.mscp_packet.specs.declared.command.Command.{Command}
-use Rattle.mscp_packet.specs.declared.end.End.{End}
-use Rattle.mscp_drive.specs.Settings.{Settings}
-use Rattle.mscp_drive.specs.UnitList.{unit_found}
+use Rattle.mscp_logged.proofs.Common.{Bool, Command, Descriptor, End, First, Grows, Hardware, Hears, Holdings, IsReadingText, IsSmall, Kept, List, None, Ok, Option, Port, Record, SeesText, SendFault, Settings, Some, Task, Volume, WasRead, [], aborted_record, aborting, answered_end, answered_to, ap, append-nil, append_assoc, arith, arrives, balance_of, bytes_small, come_so, command_of, cond, drive_of, ends_of, false, fault_of, figure_polled, handed, held_unless, inl, inr, is_dead, is_none, is_ok, is_queued, kept_of, length, map, none-some, none_or_some, none_owned, option_map, option_to_list, outstanding_of, own_end_of, own_end_with, queued, read_stays, record_aborted, reference_aborted, refl, refusal, sent_unless, slice_index, subst, sym, taken_as, taken_by, taken_is, text_grows, true, unit_found, volume_found, volume_named, with_end, ℕ, ◌++◌, ◌<◌, ◌^◌, ◌∙◌, ◌∷◌, ◌≡◌, ◌≢◌}
+use Rattle.std.proofs.Common.{◌&&◌}
 use Rattle.mscp_drive.specs.declared.block.Block.TheVariants as blocks
-use Rattle.mscp_drive.specs.declared.connection.Connection.TheVariants.{First}
-use Rattle.mscp_queue.specs.Drives.{drive_of}
-use Rattle.mscp_queue.specs.Records.{Record, aborted_record}
-use Rattle.mscp_controller.specs.Arrival.{fault_of, is_queued, refusal}
-use Rattle.mscp_controller.specs.Holdings.{Holdings, aborting, answered_end, arrives, balance_of, figure_polled, held_unless, outstanding_of, queued, record_aborted, reference_aborted, sent_unless, taken_as, with_end}
-use Rattle.mscp_controller.specs.Outcomes.{own_end_with}
-use Rattle.mscp_controller.specs.declared.entry.SendFault.{SendFault}
 use Rattle.mscp_controller.specs.declared.entry.Sent.TheVariants as sents
-use Rattle.mscp_port.specs.Blocks.{kept_of}
-use Rattle.mscp_port.specs.Calls.{Hears}
-use Rattle.mscp_port.specs.Histories.{WasRead}
-use Rattle.mscp_port.specs.Messages.{handed, own_end_of}
-use Rattle.mscp_port.specs.Ports.{IsReadingText}
-use Rattle.mscp_port.specs.Seen.{SeesText, answered_to}
-use Rattle.mscp_port.specs.Volumes.{volume_found}
-use Rattle.mscp_port.specs.declared.hardware.Hardware.{Hardware}
-use Rattle.mscp_port.specs.declared.port.Port.{Port}
-use Rattle.mscp_port.specs.declared.slot.Descriptor.{Descriptor}
-use Rattle.mscp_port.specs.declared.task.Task.{Task}
 use Rattle.mscp_port.specs.declared.task.Task.TheVariants as tasks
 use Rattle.mscp_port.specs.declared.verdict.Verdict.TheVariants as verdicts
-use Rattle.mscp_port.specs.declared.volumes.Volume.{Volume}
-use Rattle.mscp_port.proofs.Said.{none_or_some}
-use Rattle.mscp_ported.specs.Answers.{volume_named}
-use Rattle.mscp_ported.specs.Awaited.{taken_by}
-use Rattle.mscp_ported.specs.Talk.{is_dead}
-use Rattle.mscp_ported.proofs.Answering.{none_so as none_owned}
-use Rattle.mscp_ported.proofs.Awaiting.{IsSmall, Kept}
-use Rattle.mscp_ported.proofs.Awaits.{taken_is}
-use Rattle.mscp_ported.proofs.Coming.{come_so, ends_of}
-use Rattle.mscp_ported.proofs.Decided.{read_stays}
-use Rattle.mscp_ported.proofs.Ended.{bytes_small}
-use Rattle.mscp_ported.proofs.Ending.{Grows}
-use Rattle.mscp_ported.proofs.Leaving.{text_grows}
 use Rattle.mscp_ported.proofs.Tables.{answer_by}
 use Rattle.mscp_logged.proofs.Bytes.{handed_small}
 use Rattle.mscp_logged.proofs.Describing.{IsTold}

@@ -1,35 +1,9 @@
 -- What is known of a port's log, over a whole list of calls.
-use Rattle.std.proofs.Common.{◌≡◌, ◌≢◌, ◌∙◌, ◌<◌, ◌^◌, ◌&&◌, ◌++◌, ◌∷◌, [], ℕ, Bool, true, false, cond, filter, map, not, List, Option, None, Some, inl, inr, refl, ap, append_assoc, sym, subst, arith}
-use Rattle.std.specs.Prelude.{◌%◌, Ok, flat_map, is_none, is_ok, option_to_list, slice_index}
-use Rattle.std.specs.List.{AllByRecursion}
-use Rattle.std.proofs.lemmas.List.{append-nil}
-use Rattle.mscp_packet.specs.Number.{num}
-use Rattle.mscp_drive.specs.Settings.{IsValid, Settings}
-use Rattle.mscp_drive.specs.declared.connection.Connection.TheVariants.{First}
-use Rattle.mscp_controller.specs.Calls.{AnsweredCalls, Call as Made}
-use Rattle.mscp_controller.specs.Holdings.{Holdings, answer_to_message, fresh, outstanding_of}
-use Rattle.mscp_port.specs.declared.hardware.Hardware.{Hardware}
-use Rattle.mscp_port.specs.declared.port.Outgoing.{Outgoing}
+use Rattle.mscp_logged.proofs.Common.{AllByRecursion, Answered, AnsweredCalls, AsksAlways, Bool, Call, Deals, First, Hardware, History, Holdings, HostIsRight, IsAnswering, IsEnding, IsMadeOf, IsRight, IsTaking, IsValid, List, Made, None, Ok, Option, Outgoing, Picking, Port, PortsEndWhatTheyTook, PortsTellInOrder, ReadsBytes, Said, Settings, Some, Task, WasRead, WriteIp, [], aborts_behind, accepted_by, answer_to_message, ap, append-nil, append_assoc, arith, asked_before, awaited, begins, cond, end_kind, ends_in, ends_said_by, false, filter, flat_map, fresh, has_number, held, inl, inr, is_dead, is_foreign, is_message, is_new, is_none, is_ok, is_taken_text, leaves, logged, map, message_of, messages_by, not, num, option_to_list, outstanding, outstanding_of, own_answer, refl, said, said_in, seen_by, sent_by, since_alive, slice_index, subst, sym, taken_by, text_handed, true, volume_named, without_ends, ℕ, ◌%◌, ◌++◌, ◌<◌, ◌^◌, ◌∙◌, ◌∷◌, ◌≡◌, ◌≢◌}
+use Rattle.std.proofs.Common.{◌&&◌}
 use Rattle.mscp_port.specs.declared.port.OutgoingKind.TheVariants as kinds
-use Rattle.mscp_port.specs.declared.port.Port.{Port}
-use Rattle.mscp_port.specs.declared.task.Task.{Task}
 use Rattle.mscp_port.specs.declared.task.Task.TheVariants as tasks
-use Rattle.mscp_port.specs.Calls.{IsMadeOf}
-use Rattle.mscp_port.specs.Departures.{begins, leaves}
-use Rattle.mscp_port.specs.Histories.{Answered, Call, Picking, WasRead, WriteIp}
-use Rattle.mscp_port.specs.Packets.{end_kind}
-use Rattle.mscp_ported.specs.Answers.{own_answer, text_handed, volume_named}
-use Rattle.mscp_ported.specs.Awaited.{Deals, IsAnswering, IsEnding, IsTaking, PortsEndWhatTheyTook, ReadsBytes, awaited, has_number, is_taken_text, taken_by, without_ends}
-use Rattle.mscp_ported.specs.Ends.{ends_said_by}
-use Rattle.mscp_ported.specs.Talk.{AsksAlways, is_dead}
-use Rattle.mscp_ported.specs.Told.{PortsTellInOrder, Said, accepted_by, held, said, said_in}
-use Rattle.mscp_ported.proofs.Behind.{aborts_behind}
-use Rattle.mscp_ported.proofs.Following.{asked_before}
-use Rattle.mscp_ported.proofs.Itself.{since_alive}
-use Rattle.mscp_wire.specs.Wire.{History, IsRight, is_new, outstanding, sent_by}
 use Rattle.mscp_wire.specs.declared.moment.Moment.TheVariants as moments
-use Rattle.mscp_logged.specs.Logged.{ends_in, is_foreign, logged, message_of, messages_by, seen_by}
-use Rattle.mscp_logged.specs.Rules.{HostIsRight, is_message}
 use Rattle.mscp_logged.proofs.Own.{IsOwn, answers_so, own_named}
 use Rattle.mscp_logged.proofs.Passes.{keeps, overtakes}
 use Rattle.mscp_logged.proofs.Seen.{is_reset, last_is, no_message, none_held, reads_before, since_dead, since_reset}

@@ -1,41 +1,10 @@
 -- Each end of a port's log is as long as its endcode asks.
-use Rattle.std.proofs.Common.{◌≡◌, ◌≢◌, ◌∙◌, ◌≤◌, ◌++◌, ◌∷◌, [], ℕ, Bool, true, false, cond, length, map, nat_eq, List, Option, None, Some, inl, inr, refl, sym, subst, arith}
-use Rattle.std.specs.Prelude.{find, flat_map, nat_le, option_map, option_to_list, slice_index, take}
-use Rattle.std.specs.List.{AllByRecursion, list_all}
-use Rattle.std.proofs.lemmas.Bool.{and_from, and_parts, le-leb}
-use Rattle.std.proofs.lemmas.Option.{none-some, same_Some}
-use Rattle.std.proofs.lemmas.List.Elements.{All-from_recursion}
-use Rattle.mscp_packet.specs.Ends.{end_length, endcodes, kind_of_code}
-use Rattle.mscp_packet.specs.declared.end.BodyKind.{BodyKind}
-use Rattle.mscp_drive.specs.Settings.{IsValid, Settings}
-use Rattle.mscp_drive.specs.declared.connection.Connection.TheVariants.{First}
-use Rattle.mscp_queue.proofs.Lists.{every_append, every_parts}
-use Rattle.mscp_controller.specs.Calls.{AnsweredCalls, Call as Made}
-use Rattle.mscp_controller.specs.Holdings.{Holdings, fresh, outstanding_of}
-use Rattle.mscp_port.specs.declared.hardware.Hardware.{Hardware}
-use Rattle.mscp_port.specs.declared.port.Outgoing.{Outgoing}
-use Rattle.mscp_port.specs.declared.port.OutgoingKind.{OutgoingKind}
+use Rattle.mscp_logged.proofs.Common.{All-from_recursion, AllByRecursion, Answered, AnsweredCalls, AsksAlways, BodyKind, Bool, Call, Deals, First, Hardware, Holdings, IsMadeOf, IsValid, IsWhole, Keeps, List, Made, Moment, None, Option, Outgoing, OutgoingKind, Picking, Port, PortsEndWhatTheyTook, PortsTellInOrder, ReadsBytes, Said, Seen, Sent, Settings, Some, WriteIp, [], accepted_by, and_from, arith, asked_before, awaited, begins, begun_one, cond, end_length, end_of, end_said, endcodes, ends_in, eqb-true, every_append, every_parts, false, find, flat_map, fresh, held, inl, inr, is_dead, is_foreign, is_long, kind_of_code, le-leb, least_length, leaves, length, list_all, logged, map, message_of, messages_by, moment_at, nat_eq, nat_le, none-some, option_map, option_to_list, outstanding, outstanding_of, refl, said, said_in, same_Some, seen_by, since_alive, slice_index, subst, sym, true, ℕ, ◌++◌, ◌∙◌, ◌∷◌, ◌≡◌, ◌≢◌, ◌≤◌}
+use Rattle.std.specs.Prelude.{take}
+use Rattle.std.proofs.lemmas.Bool.{and_parts}
 use Rattle.mscp_port.specs.declared.port.OutgoingKind.TheVariants as kinds
-use Rattle.mscp_port.specs.declared.port.Port.{Port}
-use Rattle.mscp_port.specs.Calls.{IsMadeOf}
-use Rattle.mscp_port.specs.Departures.{begins, leaves}
-use Rattle.mscp_port.specs.Histories.{Answered, Call, Picking, WriteIp}
-use Rattle.mscp_port.proofs.Common.{eqb-true}
-use Rattle.mscp_ported.specs.Awaited.{Deals, IsWhole, PortsEndWhatTheyTook, ReadsBytes, awaited}
-use Rattle.mscp_ported.specs.Ends.{end_said}
-use Rattle.mscp_ported.specs.Talk.{AsksAlways, is_dead}
-use Rattle.mscp_ported.specs.Told.{PortsTellInOrder, Said, accepted_by, held, said, said_in}
-use Rattle.mscp_ported.proofs.Following.{asked_before}
-use Rattle.mscp_ported.proofs.Growing.{begun_one}
-use Rattle.mscp_ported.proofs.Itself.{since_alive}
-use Rattle.mscp_wire.specs.Wire.{is_long, least_length, moment_at, outstanding}
 use Rattle.mscp_wire.specs.declared.rule.Rule.TheVariants as rules
-use Rattle.mscp_wire.specs.declared.moment.Moment.{Moment}
 use Rattle.mscp_wire.specs.declared.moment.Moment.TheVariants as moments
-use Rattle.mscp_wire.specs.declared.sent.Sent.{Sent}
-use Rattle.mscp_wire.specs.declared.told.Seen.{Seen}
-use Rattle.mscp_logged.specs.Logged.{end_of, ends_in, is_foreign, logged, message_of, messages_by, seen_by}
-use Rattle.mscp_logged.specs.Rules.{Keeps}
 use Rattle.mscp_logged.proofs.Breaking.{keeps_so, moment_holds}
 use Rattle.mscp_logged.proofs.Own.{answers_so, own_is_whole}
 use Rattle.mscp_logged.proofs.Seen.{is_reset, reads_before, since_dead, since_reset}

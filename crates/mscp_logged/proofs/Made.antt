@@ -1,39 +1,11 @@
 -- An end suits its command, however it was made, and is told with a status that suits it.
-use Rattle.std.proofs.Common.{◌≡◌, ◌≢◌, ◌⊎◌, ◌∙◌, ◌+◌, ◌-◌, ◌<◌, ◌^◌, ℕ, Bool, true, false, cond, List, None, Some, inl, inr, refl, ap, sym, subst, arith}
-use Rattle.std.specs.Prelude.{◌%◌, ◌&&◌, nat_eq, slice_index}
-use Rattle.std.proofs.lemmas.Option.{none-some, same_Some}
-use Rattle.mscp_packet.specs.Commands.{command_of}
-use Rattle.mscp_packet.specs.Ends.{IsOfKind, kind_of_body, kind_of_code}
-use Rattle.mscp_packet.specs.declared.command.Command.{Command}
-use Rattle.mscp_packet.specs.declared.command.Order.{Order}
+use Rattle.mscp_logged.proofs.Common.{Block, BodyControls, Bool, Command, Drive, End, Ends, IsAborted, IsAnswer, IsBodyFit, IsMade, IsOf, IsOfKind, IsServed, IsSmallCommand, IsText, IsToldSo, Leaving, List, None, Order, Record, Says, Settings, Shape, Some, Verdict, aborted_ends, aborted_fit, ap, arith, block_told, command_of, cond, end_given, endcode, ended_small, ends_formality, false, formal_status, goes_on, handed, inl, inr, is_formality, is_good_block, is_immediate, is_move, kind_of_body, kind_of_code, left_of, none-some, order_weight, outcome_at, outcome_fine, outcome_fit, outcome_status, outcome_suits, own_ends, own_fit, queued_open, refl, same_Some, slice_index, small_command, status_after, subst, sym, touches, true, valid_order, ℕ, ◌%◌, ◌&&◌, ◌+◌, ◌-◌, ◌<◌, ◌^◌, ◌∙◌, ◌≡◌, ◌≢◌, ◌⊎◌}
+use Rattle.std.specs.Prelude.{nat_eq}
 use Rattle.mscp_packet.specs.declared.command.Order.TheVariants as orders
 use Rattle.mscp_packet.specs.declared.end.BodyKind.TheVariants as kinds
-use Rattle.mscp_packet.specs.declared.end.End.{End}
 use Rattle.mscp_packet.specs.declared.end.EndBody.TheVariants as bodies
-use Rattle.mscp_drive.specs.Settings.{Settings}
-use Rattle.mscp_drive.specs.Shape.{Shape}
-use Rattle.mscp_drive.specs.declared.block.Block.{Block}
 use Rattle.mscp_drive.specs.declared.block.Block.TheVariants as blocks
-use Rattle.mscp_queue.specs.Orders.{endcode, is_move, order_weight}
-use Rattle.mscp_queue.specs.Outcomes.{goes_on, is_good_block, outcome_at, outcome_status, touches}
-use Rattle.mscp_queue.specs.Records.{Record, left_of}
-use Rattle.mscp_queue.specs.Serving.{end_given}
-use Rattle.mscp_queue.specs.declared.drive.Drive.{Drive}
-use Rattle.mscp_controller.specs.Arrival.{is_immediate}
-use Rattle.mscp_controller.proofs.Basics.{queued_open}
-use Rattle.mscp_port.specs.Blocks.{block_told}
-use Rattle.mscp_port.specs.Decided.{status_after}
-use Rattle.mscp_port.specs.Formalities.{ends_formality, formal_status, is_formality}
-use Rattle.mscp_port.specs.Messages.{handed}
-use Rattle.mscp_port.specs.declared.verdict.Verdict.{Verdict}
 use Rattle.mscp_port.specs.declared.verdict.Verdict.TheVariants as verdicts
-use Rattle.mscp_ported.specs.Ends.{Leaving}
-use Rattle.mscp_ported.proofs.Origins.{IsAborted, IsAnswer, IsMade, IsOf, IsServed, IsText, IsToldSo}
-use Rattle.mscp_shown.proofs.Fitting.{IsSmallCommand, aborted_fit, ended_small, outcome_fit, own_fit, small_command}
-use Rattle.mscp_shown.proofs.Identity.{BodyControls}
-use Rattle.mscp_shown.proofs.Reading.{IsBodyFit}
-use Rattle.mscp_shown.proofs.Saying.{Says}
-use Rattle.mscp_shown.proofs.Suiting.{Ends, aborted_ends, outcome_fine, outcome_suits, own_ends, valid_order}
 use Rattle.mscp_logged.proofs.Bytes.{handed_bytes, handed_says, of_unit}
 use Rattle.mscp_logged.proofs.Faults.{IsToldOf}
 use Rattle.mscp_logged.proofs.Statuses.{IsApt, answer_apt, told_apt}

@@ -1,28 +1,5 @@
 -- A unit that is online after a call was so before, with the same volume, unless the call ended an ONLINE of it.
-use Rattle.std.proofs.Common.{◌≡◌, ◌⊎◌, ◌∙◌, ℕ, Bool, true, false, cond, length, nat_eq, set, List, Option, None, Some, inl, inr, refl, ap, sym, subst, arith}
-use Rattle.std.specs.Prelude.{◌==◌, ◌/◌, ◌%◌, Ok, Err, find}
-use Rattle.std.proofs.lemmas.Option.{none-some}
-use Rattle.mscp_packet.specs.declared.end.End.{End}
-use Rattle.mscp_drive.specs.Shape.{Shape}
-use Rattle.mscp_drive.specs.UnitList.{unit_found}
-use Rattle.mscp_queue.proofs.Placed.{find_cases, find_first, position_none}
-use Rattle.mscp_drive.specs.declared.connection.Connection.{Connection}
-use Rattle.mscp_port.specs.declared.buffers.Buffer.{Buffer}
-use Rattle.mscp_port.specs.declared.port.Outgoing.{Outgoing}
-use Rattle.mscp_port.specs.declared.port.Port.{Port}
-use Rattle.mscp_port.specs.declared.volumes.Volume.{Volume}
-use Rattle.mscp_port.specs.Blocks.{kept_of}
-use Rattle.mscp_port.specs.Calls.{Dies, Hears, Wants}
-use Rattle.mscp_port.specs.Histories.{Becomes, Call, Picking, WriteIp, ReadIp, WriteSa, Next, PutAside, WasRead, Went, LookAgain, Tick, VolumeCame, VolumeWent, Protect}
-use Rattle.mscp_port.specs.Moved.{place_heeded, volumes_after}
-use Rattle.mscp_port.specs.Outgoings.{IsNews, news_place}
-use Rattle.mscp_port.specs.Volumes.{brought_online, no_volume, place_in, volume_at, volume_changed, volume_found, volume_heeded, volume_in_place, volume_protected, volume_put, volumes_heeded, volumes_with}
-use Rattle.mscp_port.proofs.Common.{cases_eq, cases_lt, eq-eqb, false≢true, get_or-set_other, get_or-set_same, get_or_past, length-set}
-use Rattle.mscp_port.proofs.Loads.{looks_or_not}
-use Rattle.mscp_ported.specs.Talk.{is_dead}
-use Rattle.mscp_ported.proofs.Coming.{brought_for}
-use Rattle.mscp_ported.proofs.Mounting.{Ended, ended_so}
-use Rattle.mscp_ported.proofs.Staying.{IsPassive}
+use Rattle.mscp_logged.proofs.Common.{Becomes, Bool, Buffer, Call, Connection, Dies, End, Ended, Err, Hears, IsNews, IsPassive, List, LookAgain, Next, None, Ok, Option, Outgoing, Picking, Port, Protect, PutAside, ReadIp, Shape, Some, Tick, Volume, VolumeCame, VolumeWent, Wants, WasRead, Went, WriteIp, WriteSa, ap, arith, brought_for, brought_online, cases_eq, cases_lt, cond, ended_so, eq-eqb, false, false≢true, find, find_cases, find_first, get_or-set_other, get_or-set_same, get_or_past, inl, inr, is_dead, kept_of, length, length-set, looks_or_not, nat_eq, news_place, no_volume, none-some, place_heeded, place_in, position_none, refl, set, subst, sym, true, unit_found, volume_at, volume_changed, volume_found, volume_heeded, volume_in_place, volume_protected, volume_put, volumes_after, volumes_heeded, volumes_with, ℕ, ◌%◌, ◌/◌, ◌==◌, ◌∙◌, ◌≡◌, ◌⊎◌}
 use Rattle.mscp_logged.proofs.Describing.{IsAsWas, IsSame, same_volume}
 
 abbrev pub AreAsWere : List Volume → List Volume → Type 0

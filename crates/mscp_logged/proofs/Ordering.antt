@@ -1,65 +1,8 @@
 -- After each call of a port no end that waits has passed a command that it had to wait for.
-use Rattle.std.proofs.Common.{◌≡◌, ◌⊎◌, ◌∙◌, ◌+◌, ◌≤◌, ◌++◌, ◌∷◌, [], ℕ, Bool, true, false, cond, drop, filter, length, map, nat_eq, nat_lt, not, take, List, MatchOption, Option, None, Some, inl, inr, refl, ap, sym, subst, arith, append_assoc}
-use Rattle.std.specs.Prelude.{Ok, Err, Result, is_some}
-use Rattle.std.specs.List.{AllByRecursion, list_all}
-use Rattle.std.proofs.lemmas.List.{append-nil}
-use Rattle.std.proofs.lemmas.List.Elements.{filter-append}
-use Rattle.std.proofs.lemmas.Option.{none-some}
-use Rattle.mscp_packet.specs.Number.{num}
-use Rattle.mscp_packet.specs.declared.command.Command.{Command}
-use Rattle.mscp_packet.specs.declared.end.End.{End}
-use Rattle.mscp_drive.specs.Settings.{Settings}
-use Rattle.mscp_drive.specs.UnitList.{unit_found}
-use Rattle.mscp_drive.specs.declared.block.Block.{Block}
-use Rattle.mscp_drive.specs.declared.connection.Connection.{Connection}
-use Rattle.mscp_drive.specs.declared.connection.Connection.TheVariants.{First, Second}
-use Rattle.mscp_queue.proofs.Named.{is_same}
-use Rattle.mscp_queue.specs.Names.{name_on}
-use Rattle.mscp_queue.specs.Records.{Record, advanced, drive_at, is_in_service, name_of, no_record, record_at, step_charge}
-use Rattle.mscp_queue.specs.Serving.{IsServable, end_given, waiting_after}
-use Rattle.mscp_queue.specs.Views.{fences, is_affordable}
-use Rattle.mscp_queue.specs.declared.drive.Drive.{Drive}
-use Rattle.mscp_queue.specs.declared.name.Name.{Name}
-use Rattle.mscp_queue.specs.declared.report.Report.{Report}
+use Rattle.mscp_logged.proofs.Common.{Action, AllByRecursion, At, Block, Bool, Call, Command, Connection, Decided, Dies, Drive, End, Err, Finishes, First, Fitting, Goes, Grows, HeedsStep, Holdings, IsNoReset, IsOf, IsServable, IsUnitIn, Kept, List, MatchOption, MayBegin, Name, Next, None, NotBegun, Ok, Option, Outcome, Port, Record, Report, Result, Second, Settings, Some, Stays, TakesBegun, TakesBlock, TakesEnd, Task, Verdict, Wants, Went, [], advanced, alive_or_dead, and_parts, ap, append-nil, append_assoc, arith, begun, begun_same, block_begun, block_served, block_told, brought_for, come_so, cond, decided_by, drive_at, drop, drop_more, end_brought, end_given, end_number, ended_none, ends_begun, ends_of, ends_said_by, eq-eqb, false, false≢true, fences, filter, filter-append, first_of_one, has_number, inl, inr, is_affordable, is_dead, is_in_service, is_numbered, is_same, is_some, length, list_all, looks_or_not, map, name_of, name_on, named, nat_eq, news_none, news_place, no_record, none-some, not, nothing_two, num, record_at, refl, served_goes_on, served_itself, served_name, served_other, served_waits, since, some_none, step_charge, step_grows, steps_bring, still_none, subst, sym, take, take-append-drop, taken_by, this_one, told_end, true, unit_found, waiting_after, went_stays, whole, without_ends, ℕ, ◌++◌, ◌+◌, ◌∙◌, ◌∷◌, ◌≡◌, ◌≤◌, ◌⊎◌}
+use Rattle.std.proofs.Common.{nat_lt}
 use Rattle.mscp_queue.specs.declared.report.Report.TheVariants as reports
-use Rattle.mscp_controller.specs.Holdings.{Finishes, Holdings}
-use Rattle.mscp_controller.specs.declared.entry.NotBegun.{NotBegun}
-use Rattle.mscp_port.specs.Blocks.{block_told}
-use Rattle.mscp_port.specs.Calls.{Dies, Goes, Wants}
-use Rattle.mscp_port.specs.Histories.{Call, Next, Went}
-use Rattle.mscp_port.specs.Leaving.{told_end}
-use Rattle.mscp_port.specs.Moved.{HeedsStep, TakesBegun, TakesBlock, block_begun, block_served, end_brought}
-use Rattle.mscp_port.specs.Outgoings.{MayBegin, TakesEnd, news_place}
-use Rattle.mscp_port.specs.declared.action.Action.{Action}
-use Rattle.mscp_port.specs.declared.action.Outcome.{Outcome}
-use Rattle.mscp_port.specs.declared.decided.Decided.{Decided}
-use Rattle.mscp_port.specs.declared.port.Port.{Port}
-use Rattle.mscp_port.specs.declared.task.Task.{Task}
 use Rattle.mscp_port.specs.declared.task.Task.TheVariants as tasks
-use Rattle.mscp_port.specs.declared.verdict.Verdict.{Verdict}
-use Rattle.mscp_port.proofs.Common.{and_parts, drop_more, eq-eqb, false≢true, take-append-drop}
-use Rattle.mscp_port.proofs.Kept.{is_numbered}
-use Rattle.mscp_port.proofs.Loads.{looks_or_not}
-use Rattle.mscp_port.proofs.Said.{served_name}
-use Rattle.mscp_ported.specs.Awaited.{has_number, taken_by, without_ends}
-use Rattle.mscp_ported.specs.Ends.{ends_begun, ends_said_by}
-use Rattle.mscp_ported.specs.Talk.{is_dead, since}
-use Rattle.mscp_ported.proofs.Awaiting.{IsNoReset, Kept}
-use Rattle.mscp_ported.proofs.Coming.{brought_for, come_so, ends_of, steps_bring}
-use Rattle.mscp_ported.proofs.Dealing.{begun, begun_same, named, news_none, whole}
-use Rattle.mscp_ported.proofs.Ended.{nothing_two}
-use Rattle.mscp_ported.proofs.Ending.{Grows}
-use Rattle.mscp_ported.proofs.Fitted.{Fitting}
-use Rattle.mscp_ported.proofs.Keeping.{end_number}
-use Rattle.mscp_ported.proofs.Leaving.{step_grows}
-use Rattle.mscp_ported.proofs.Numbered.{At, first_of_one, some_none}
-use Rattle.mscp_ported.proofs.Numbering.{ended_none, served_waits, still_none}
-use Rattle.mscp_ported.proofs.Origins.{IsOf}
-use Rattle.mscp_ported.proofs.Sole.{served_goes_on, served_itself, served_other, this_one}
-use Rattle.mscp_ported.proofs.Staying.{Stays, went_stays}
-use Rattle.mscp_ported.proofs.Tables.{decided_by}
-use Rattle.mscp_ported.proofs.Units.{IsUnitIn}
-use Rattle.mscp_ported.proofs.Wanting.{alive_or_dead}
 use Rattle.mscp_logged.proofs.Clear.{AreClear, IsGood, Ordered, is_ended, nothing_ordered, ordered_as, ordered_forgotten, ordered_stepped, ordered_taken, some_ended, unended}
 use Rattle.mscp_logged.proofs.Fences.{IsWaiting, serves_free}
 use Rattle.mscp_logged.proofs.Passes.{overtakes}

@@ -1,49 +1,6 @@
 -- No end of a port's passes a command that it has to wait for, over a whole list of calls.
-use Rattle.std.proofs.Common.{◌≡◌, ◌⊎◌, ◌∙◌, ◌+◌, ◌<◌, ◌&&◌, ◌∷◌, [], ℕ, All, Bool, true, false, cond, drop, filter, nat_eq, List, Option, None, Some, inl, inr, refl, ap, sym, subst, arith}
-use Rattle.std.specs.Prelude.{◌%◌, Ok, is_some, nat_le, nat_lt, option_map, slice_get}
-use Rattle.std.specs.List.{AllByRecursion, position}
-use Rattle.std.proofs.lemmas.Option.{none-some, same_Some}
-use Rattle.mscp_packet.specs.Number.{num}
-use Rattle.mscp_packet.specs.declared.end.End.{End}
-use Rattle.mscp_drive.specs.Settings.{IsValid, Settings}
-use Rattle.mscp_drive.specs.Shape.{Shape}
-use Rattle.mscp_drive.specs.UnitList.{unit_found}
-use Rattle.mscp_drive.specs.Extent.{blocks}
-use Rattle.mscp_drive.specs.declared.connection.Connection.TheVariants.{First}
-use Rattle.mscp_queue.proofs.Placed.{find_cases, find_none, position_first}
-use Rattle.mscp_queue.specs.Records.{Record}
-use Rattle.mscp_controller.specs.Calls.{AnsweredCalls, Call as Made}
-use Rattle.mscp_controller.specs.Controllers.{ControllersKeepThePromise, KeepsPromise}
-use Rattle.mscp_controller.specs.Holdings.{Holdings, fresh, outstanding_of}
-use Rattle.mscp_port.specs.Calls.{IsMadeOf, Wants}
-use Rattle.mscp_port.specs.Histories.{Answered, Call, Next, Picking, WasRead, Went, WriteIp}
-use Rattle.mscp_port.specs.Leaving.{told_end}
-use Rattle.mscp_port.specs.Outgoings.{TakesEnd, news_place}
-use Rattle.mscp_port.specs.Volumes.{place_in, volume_at}
-use Rattle.mscp_port.specs.declared.action.Action.{Action}
-use Rattle.mscp_port.specs.declared.decided.Decided.{Decided}
-use Rattle.mscp_port.specs.declared.hardware.Hardware.{Hardware}
-use Rattle.mscp_port.specs.declared.port.Port.{Port}
-use Rattle.mscp_port.specs.declared.verdict.Verdict.{Verdict}
-use Rattle.mscp_port.specs.declared.volumes.Volume.{Volume}
-use Rattle.mscp_port.proofs.Common.{false≢true}
-use Rattle.mscp_port.proofs.Kept.{is_numbered}
-use Rattle.mscp_port.proofs.Loads.{looks_or_not}
-use Rattle.mscp_ported.specs.Answers.{Own, moves_data, own_answer, own_refusal, own_text, volume_named}
-use Rattle.mscp_ported.specs.Awaited.{ReadsBytes, awaited}
-use Rattle.mscp_ported.specs.Ends.{ends_begun, ends_said_by}
-use Rattle.mscp_ported.proofs.Awaiting.{IsNoReset, Kept}
-use Rattle.mscp_ported.proofs.ByOpcode.{fitting}
-use Rattle.mscp_ported.proofs.Coming.{ends_of, few_ends}
-use Rattle.mscp_ported.proofs.Dealing.{begun, begun_same, named, news_none, passive_taken, whole}
-use Rattle.mscp_ported.proofs.Decided.{passive_said}
-use Rattle.mscp_ported.proofs.Ended.{kept}
-use Rattle.mscp_ported.proofs.Fitted.{Fitting}
-use Rattle.mscp_ported.proofs.Itself.{own_refused}
-use Rattle.mscp_ported.proofs.Numbered.{At, first_of_one, some_none}
-use Rattle.mscp_ported.proofs.Promised.{knows}
-use Rattle.mscp_ported.proofs.Staying.{IsPassive, passive_stays}
-use Rattle.mscp_wire.specs.Wire.{is_apart}
+use Rattle.mscp_logged.proofs.Common.{Action, All, AllByRecursion, Answered, AnsweredCalls, At, Bool, Call, ControllersKeepThePromise, Decided, End, First, Fitting, Hardware, Holdings, IsMadeOf, IsNoReset, IsPassive, IsValid, KeepsPromise, Kept, List, Made, Next, None, Ok, Option, Own, Picking, Port, ReadsBytes, Record, Settings, Shape, Some, TakesEnd, Verdict, Volume, Wants, WasRead, Went, WriteIp, [], ap, arith, awaited, begun, begun_same, blocks, cond, drop, ends_begun, ends_of, ends_said_by, false, false≢true, few_ends, filter, find_cases, find_none, first_of_one, fitting, fresh, inl, inr, is_apart, is_numbered, is_some, kept, knows, looks_or_not, moves_data, named, nat_eq, nat_le, nat_lt, news_none, news_place, none-some, num, option_map, outstanding_of, own_answer, own_refusal, own_refused, own_text, passive_said, passive_stays, passive_taken, place_in, position, position_first, refl, same_Some, slice_get, some_none, subst, sym, told_end, true, unit_found, volume_at, volume_named, whole, ℕ, ◌%◌, ◌+◌, ◌<◌, ◌∙◌, ◌∷◌, ◌≡◌, ◌⊎◌}
+use Rattle.std.proofs.Common.{◌&&◌}
 use Rattle.mscp_logged.proofs.Clear.{IsClear, Ordered, clear_forgotten, ordered_as, nothing_ordered, unended, unended_none}
 use Rattle.mscp_logged.proofs.Fences.{IsWaiting, same_unit, unit_earlier}
 use Rattle.mscp_logged.proofs.Hearing.{read_ordered}

@@ -1,30 +1,9 @@
 -- What begins to go out as a port answers a message itself.
-use Rattle.std.proofs.Common.{◌≡◌, ◌≤◌, ◌∙◌, ◌∷◌, [], ℕ, Bool, true, false, length, List, Option, None, Some, IsSomeAnd, inl, inr, refl, ap, sym, subst, arith}
-use Rattle.std.specs.Prelude.{Ok, slice_index, ◌<◌, ◌^◌}
-use Rattle.std.proofs.lemmas.Option.{none-some}
-use Rattle.mscp_packet.specs.Ends.{end_bytes}
-use Rattle.mscp_packet.specs.Number.{num}
-use Rattle.mscp_packet.specs.declared.end.End.{End}
-use Rattle.mscp_port.specs.declared.port.Outgoing.{Outgoing}
+use Rattle.mscp_logged.proofs.Common.{Answered, AnswersItself, Becomes, Bool, Call, Descriptor, End, Hardware, Hears, Holdings, IsAnswering, IsMadeOf, IsSomeAnd, IsWhole, List, None, Ok, Option, Outgoing, Own, Picking, Port, Some, WasRead, [], ap, arith, bytes_small, end_bytes, end_kind, ends_of, false, inl, inr, is_foreign, length, none-some, none_waits, num, own_answer, own_end_of, own_so, own_text, own_whole, refl, slice_index, subst, sym, true, volume_named, ℕ, ◌∙◌, ◌∷◌, ◌≡◌, ◌≤◌}
+use Rattle.std.specs.Prelude.{◌<◌, ◌^◌}
 use Rattle.mscp_port.specs.declared.port.OutgoingKind.TheVariants as kinds
-use Rattle.mscp_port.specs.declared.port.Port.{Port}
-use Rattle.mscp_port.specs.declared.slot.Descriptor.{Descriptor}
 use Rattle.mscp_port.specs.declared.task.Task.TheVariants as tasks
-use Rattle.mscp_controller.specs.Holdings.{Holdings}
-use Rattle.mscp_port.specs.Calls.{Hears, IsMadeOf}
-use Rattle.mscp_port.specs.declared.hardware.Hardware.{Hardware}
-use Rattle.mscp_port.specs.Histories.{Answered, Becomes, Call, Picking, WasRead}
-use Rattle.mscp_port.specs.Messages.{own_end_of}
-use Rattle.mscp_port.specs.Outgoings.{AnswersItself}
-use Rattle.mscp_port.specs.Packets.{end_kind}
-use Rattle.mscp_ported.specs.Answers.{Own, own_answer, own_text, volume_named}
-use Rattle.mscp_ported.specs.Awaited.{IsAnswering, IsWhole}
-use Rattle.mscp_ported.proofs.Answering.{own_so}
-use Rattle.mscp_ported.proofs.Coming.{ends_of}
-use Rattle.mscp_ported.proofs.Ended.{bytes_small}
-use Rattle.mscp_ported.proofs.Silent.{none_waits}
-use Rattle.mscp_ported.proofs.Itself.{own_number, own_whole}
-use Rattle.mscp_logged.specs.Logged.{is_foreign}
+use Rattle.mscp_ported.proofs.Itself.{own_number}
 
 -- it has the number of its message, is an end of the disk's just if that is for the disks, and is whole then
 pub record IsOwn {K : Type 0} (old : Port K) (text : List ℕ) (o : Outgoing) : Type 0 where

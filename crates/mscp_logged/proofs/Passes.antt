@@ -1,14 +1,6 @@
 -- Whether one of a list that passes a test has another in front of it that keeps it back.
-use Rattle.std.proofs.Common.{◌≡◌, ◌∙◌, ◌&&◌, ◌++◌, ◌∷◌, [], ℕ, Bool, true, false, cond, filter, List, refl, ap, sym}
-use Rattle.std.specs.Prelude.{◌||◌}
-use Rattle.std.specs.List.{AllByRecursion, list_any}
-use Rattle.mscp_drive.specs.declared.connection.Connection.TheVariants.{First}
-use Rattle.mscp_port.proofs.Common.{false≢true, or_parts}
-use Rattle.mscp_ported.specs.Awaited.{has_number}
-use Rattle.mscp_ported.proofs.Numbered.{some_none}
-use Rattle.mscp_ported.proofs.Owning.{and_false}
-use Rattle.mscp_wire.specs.Wire.{keeps_back, sent_by}
-use Rattle.mscp_wire.specs.declared.sent.Sent.{Sent}
+use Rattle.mscp_logged.proofs.Common.{AllByRecursion, Bool, First, List, Sent, [], and_false, ap, cond, false, false≢true, filter, has_number, keeps_back, list_any, or_parts, refl, sent_by, some_none, sym, true, ℕ, ◌++◌, ◌||◌, ◌∙◌, ◌∷◌, ◌≡◌}
+use Rattle.std.proofs.Common.{◌&&◌}
 use Rattle.mscp_logged.proofs.Lined.{AreLined}
 use Rattle.mscp_logged.proofs.Wired.{named, stem}
 

@@ -1,14 +1,6 @@
 -- Which rules all ends of a port's log keep, by the command that each answers and its tie to that.
-use Rattle.std.proofs.Common.{◌≡◌, ◌∙◌, ◌<◌, ℕ, true, length, take, List, Option, None, Some, refl, sym, subst}
-use Rattle.arrayvec.specs.ArrayVec.{ArrayVec}
-use Rattle.mscp_drive.specs.declared.connection.Connection.TheVariants.{First}
-use Rattle.mscp_port.proofs.Common.{false≢true}
-use Rattle.mscp_ported.specs.Told.{Said}
-use Rattle.mscp_wire.specs.Wire.{History, broken_by, moment_at, outstanding}
-use Rattle.mscp_wire.specs.declared.moment.Moment.{Moment}
+use Rattle.mscp_logged.proofs.Common.{ArrayVec, First, History, HostIsRight, Keeps, List, Moment, None, Option, Rule, Said, Some, broken_by, false≢true, is_message, length, moment_at, outstanding, refl, subst, sym, take, true, ℕ, ◌<◌, ◌∙◌, ◌≡◌}
 use Rattle.mscp_wire.specs.declared.moment.Moment.TheVariants as moments
-use Rattle.mscp_wire.specs.declared.rule.Rule.{Rule}
-use Rattle.mscp_logged.specs.Rules.{HostIsRight, Keeps, is_message}
 use Rattle.mscp_logged.proofs.Breaking.{end_holds, moment_fails, none_never, seen_at}
 use Rattle.mscp_logged.proofs.Stated.{IsSeen, IsTied, Stated}
 

@@ -1,32 +1,9 @@
 -- An end that a step gives says that its unit is online, or that it isn't, only if that is so.
-use Rattle.std.proofs.Common.{◌≡◌, ◌≢◌, ◌⊎◌, ◌≤◌, ◌∙◌, ℕ, Bool, true, false, cond, nat_eq, List, inl, inr, refl, ap, sym, subst, arith}
-use Rattle.std.specs.Prelude.{◌%◌, ◌/◌, ◌&&◌, ◌||◌, is_some}
-use Rattle.mscp_packet.specs.declared.command.MoveKind.{MoveKind}
+use Rattle.mscp_logged.proofs.Common.{Answer, Block, Bool, Decided, End, First, Hardware, IsFault, List, MoveKind, Order, Shape, Verdict, Volume, and_parts, answer_by, ap, arith, bad_status, block_told, block_touched, brings, cond, end_with_body, endcode, ends_formality, eqb-true, false, false≢true, inl, inr, is_immediate, is_moved, is_of_unit, is_some, moved_by, nat_eq, outcome_status, refl, says_away, says_online, status_after, subst, sym, true, unit_found, was_online, ℕ, ◌%◌, ◌&&◌, ◌/◌, ◌||◌, ◌∙◌, ◌≡◌, ◌≢◌, ◌≤◌, ◌⊎◌}
 use Rattle.mscp_packet.specs.declared.command.MoveKind.TheVariants as moves
-use Rattle.mscp_packet.specs.declared.command.Order.{Order}
 use Rattle.mscp_packet.specs.declared.command.Order.TheVariants as orders
-use Rattle.mscp_packet.specs.declared.end.End.{End}
-use Rattle.mscp_drive.specs.Shape.{Shape}
-use Rattle.mscp_drive.specs.UnitList.{unit_found}
-use Rattle.mscp_drive.specs.declared.block.Block.{Block}
 use Rattle.mscp_drive.specs.declared.block.Block.TheVariants as blocks
-use Rattle.mscp_drive.specs.declared.connection.Connection.TheVariants.{First}
-use Rattle.mscp_queue.specs.Orders.{endcode}
-use Rattle.mscp_queue.specs.Outcomes.{bad_status, block_touched, outcome_status}
-use Rattle.mscp_controller.specs.Arrival.{is_immediate}
-use Rattle.mscp_port.specs.Blocks.{block_told, moved_by}
-use Rattle.mscp_port.specs.Decided.{status_after}
-use Rattle.mscp_port.specs.Formalities.{ends_formality}
-use Rattle.mscp_port.specs.Leaving.{end_with_body}
-use Rattle.mscp_port.specs.declared.decided.Decided.{Decided}
-use Rattle.mscp_port.specs.declared.hardware.Hardware.{Hardware}
-use Rattle.mscp_port.specs.declared.verdict.Verdict.{Verdict}
 use Rattle.mscp_port.specs.declared.verdict.Verdict.TheVariants as verdicts
-use Rattle.mscp_port.specs.declared.volumes.Volume.{Volume}
-use Rattle.mscp_port.proofs.Common.{and_parts, eqb-true, false≢true}
-use Rattle.mscp_wire.specs.Wire.{answer_by, brings, is_moved, is_of_unit, says_away, says_online, was_online}
-use Rattle.mscp_wire.specs.declared.answer.Answer.{Answer}
-use Rattle.mscp_shown.proofs.Suiting.{IsFault}
 use Rattle.mscp_logged.proofs.Away.{Says}
 use Rattle.mscp_logged.proofs.Describing.{IsAsWas}
 use Rattle.mscp_logged.proofs.Stepped.{IsDecided, IsGivenEnd, online_told}

@@ -1,18 +1,7 @@
 -- What is known of each command that is outstanding: its figure isn't above the one that was told of it last; and of a
 -- poll which figure comes, and that it may be told.
-use Rattle.std.proofs.Common.{◌≡◌, ◌⊎◌, ◌∙◌, ◌<◌, ◌≤◌, ◌&&◌, ◌++◌, ◌∷◌, [], ℕ, Bool, true, false, cond, find, length, nat_eq, nat_lt, not, List, Option, None, Some, inl, inr, refl, ap, sym, subst, arith}
-use Rattle.std.specs.Prelude.{◌||◌}
-use Rattle.std.specs.List.{AllByRecursion, list_any, position}
-use Rattle.std.proofs.lemmas.Option.{none-some, same_Some}
-use Rattle.mscp_drive.specs.declared.connection.Connection.TheVariants.{First}
-use Rattle.mscp_queue.proofs.Placed.{find_cases, position_first, position_none}
-use Rattle.mscp_port.proofs.Common.{and_parts, eq-eqb, eqb-true, false≢true, or_left, or_right}
-use Rattle.mscp_ported.specs.Passing.{Pending}
-use Rattle.mscp_wire.specs.Wire.{asked_about, asked_by, asks_oldest, command_at, is_known, is_named, is_refused, may_ask, may_be, polled_by, same_connection, sent_by}
-use Rattle.mscp_wire.specs.declared.answer.Answer.{Answer}
-use Rattle.mscp_wire.specs.declared.sent.Asked.{Asked}
-use Rattle.mscp_wire.specs.declared.sent.Asked.TheVariants.{Nothing, Oldest}
-use Rattle.mscp_wire.specs.declared.sent.Sent.{Sent}
+use Rattle.mscp_logged.proofs.Common.{AllByRecursion, Answer, Asked, Bool, First, List, None, Nothing, Oldest, Option, Pending, Sent, Some, [], and_parts, ap, arith, asked_about, asked_by, asks_oldest, command_at, cond, eq-eqb, eqb-true, false, false≢true, find_cases, inl, inr, is_known, is_named, is_refused, length, list_any, may_ask, may_be, nat_eq, none-some, not, or_left, or_right, polled_by, position, position_first, position_none, refl, same_Some, same_connection, sent_by, subst, sym, true, ℕ, ◌++◌, ◌<◌, ◌||◌, ◌∙◌, ◌∷◌, ◌≡◌, ◌≤◌, ◌⊎◌}
+use Rattle.std.proofs.Common.{◌&&◌, find, nat_lt}
 use Rattle.mscp_logged.proofs.Left.{at_front}
 use Rattle.mscp_logged.proofs.Wired.{named}
 

@@ -1,13 +1,5 @@
 -- Commands wait in the order of their messages.
-use Rattle.std.proofs.Common.{◌≡◌, ◌∙◌, ◌++◌, ◌∷◌, [], ℕ, Bool, true, false, cond, filter, map, nat_eq, List, Option, None, Some, refl, ap, sym, subst}
-use Rattle.std.specs.List.{list_any}
-use Rattle.mscp_packet.specs.Number.{num}
-use Rattle.mscp_packet.specs.declared.end.End.{End}
-use Rattle.mscp_queue.specs.Records.{Record, advanced, passed_by, remains}
-use Rattle.mscp_port.proofs.Common.{eq-eqb, eqb-true, false≢true, or_parts}
-use Rattle.mscp_port.proofs.Kept.{is_numbered}
-use Rattle.mscp_ported.specs.Awaited.{has_number}
-use Rattle.mscp_ported.proofs.Numbered.{none_beside, none_stays, some_none}
+use Rattle.mscp_logged.proofs.Common.{Bool, End, List, None, Option, Record, Some, [], advanced, ap, cond, eq-eqb, eqb-true, false, false≢true, filter, has_number, is_numbered, list_any, map, nat_eq, none_beside, none_stays, num, or_parts, passed_by, refl, remains, some_none, subst, sym, true, ℕ, ◌++◌, ◌∙◌, ◌∷◌, ◌≡◌}
 use Rattle.mscp_logged.proofs.Passes.{any_beside, any_of_fewer}
 
 -- behind a command of one number none of another waits

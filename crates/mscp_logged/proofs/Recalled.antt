@@ -1,23 +1,7 @@
 -- What was told of a unit, as a log tells it, is borne out by the ends in the log, and by those that are still to come.
-use Rattle.std.proofs.Common.{◌≡◌, ◌∙◌, ◌<◌, ◌&&◌, ◌++◌, ◌∷◌, [], ℕ, Bool, true, false, cond, length, map, nat_eq, not, take, List, Option, None, Some, refl, ap, append_assoc, sym, subst, arith}
-use Rattle.std.proofs.lemmas.List.{append-nil}
-use Rattle.std.proofs.lemmas.List.Sums.{fold_push}
-use Rattle.mscp_packet.specs.Number.{num}
-use Rattle.mscp_drive.specs.Shape.{Shape}
-use Rattle.mscp_drive.specs.UnitList.{unit_found}
-use Rattle.mscp_drive.specs.declared.connection.Connection.TheVariants.{First}
-use Rattle.mscp_queue.proofs.Placed.{each_push}
-use Rattle.mscp_port.specs.declared.volumes.Volume.{Volume}
-use Rattle.mscp_port.specs.Volumes.{volume_found}
-use Rattle.mscp_port.proofs.Common.{eq-eqb}
-use Rattle.mscp_wire.specs.Wire.{History, answer_by, is_known_unit, is_same_unit, moment_at, outstanding, sent_by, settles, standing_after, standing_first, suits_state, told, told_after, told_after_message, told_nothing, unit_before}
-use Rattle.mscp_wire.specs.declared.identity.Identity.{Identity}
-use Rattle.mscp_wire.specs.declared.moment.Moment.{Moment}
+use Rattle.mscp_logged.proofs.Common.{Away, Bool, First, History, Identity, List, Moment, None, Open, Option, Shape, Shared, Some, State, Told, Volume, [], answer_by, ap, append-nil, append_assoc, arith, cond, each_push, end_of, eq-eqb, false, fold_push, is_known_unit, is_same_unit, length, map, message_of, moment_at, nat_eq, not, num, outstanding, refl, sent_by, settles, standing_after, standing_first, subst, suits_state, sym, take, told, told_after, told_after_message, told_nothing, true, unit_before, unit_found, volume_found, ℕ, ◌++◌, ◌<◌, ◌∙◌, ◌∷◌, ◌≡◌}
+use Rattle.std.proofs.Common.{◌&&◌}
 use Rattle.mscp_wire.specs.declared.moment.Moment.TheVariants as moments
-use Rattle.mscp_wire.specs.declared.told.State.{State}
-use Rattle.mscp_wire.specs.declared.told.State.TheVariants.{Away, Open, Shared}
-use Rattle.mscp_wire.specs.declared.told.Told.{Told}
-use Rattle.mscp_logged.specs.Logged.{end_of, message_of}
 use Rattle.mscp_logged.proofs.Away.{Denies, IsAway, Placed, away_after, opens, takes_away, told_away}
 use Rattle.mscp_logged.proofs.Claims.{claim_bears, claimed_left}
 use Rattle.mscp_logged.proofs.Describing.{Bears, Holds, Known, claim, identity_after, voids}

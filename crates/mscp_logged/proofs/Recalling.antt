@@ -1,35 +1,10 @@
 -- What was told of units is borne out over a whole list of calls.
-use Rattle.std.proofs.Common.{◌≡◌, ◌≢◌, ◌∙◌, ◌<◌, ◌++◌, ◌∷◌, [], ℕ, All, Bool, true, false, cond, map, List, Option, None, Some, inl, inr, refl, ap, append_assoc, sym, arith}
-use Rattle.std.specs.Prelude.{flat_map, option_to_list}
-use Rattle.std.proofs.lemmas.List.{append-nil}
-use Rattle.mscp_drive.specs.Settings.{IsValid, Settings}
-use Rattle.mscp_drive.specs.UnitList.{unit_found}
-use Rattle.mscp_drive.specs.declared.connection.Connection.TheVariants.{First}
-use Rattle.mscp_controller.specs.Calls.{AnsweredCalls, Call as Made}
-use Rattle.mscp_controller.specs.Controllers.{ControllersKeepThePromise}
-use Rattle.mscp_controller.specs.Holdings.{Holdings, fresh, outstanding_of}
-use Rattle.mscp_port.specs.declared.hardware.Hardware.{Hardware}
-use Rattle.mscp_port.specs.declared.port.Outgoing.{Outgoing}
-use Rattle.mscp_port.specs.declared.port.Port.{Port}
-use Rattle.mscp_port.specs.Calls.{IsMadeOf}
-use Rattle.mscp_port.specs.Departures.{begins, leaves}
-use Rattle.mscp_port.specs.Histories.{Answered, Call, Picking, WriteIp}
-use Rattle.mscp_port.specs.Volumes.{volume_found}
-use Rattle.mscp_ported.specs.Awaited.{PortsEndWhatTheyTook, ReadsBytes}
-use Rattle.mscp_ported.specs.Ends.{came, end_said, ends_begun, ends_said}
-use Rattle.mscp_ported.specs.Talk.{AsksAlways, is_dead}
-use Rattle.mscp_ported.specs.Told.{PortsTellInOrder, Said, accepted_by, held, said, said_in}
-use Rattle.mscp_ported.proofs.Coming.{ends_of}
-use Rattle.mscp_ported.proofs.Ending.{Ends, zipped}
-use Rattle.mscp_ported.proofs.Following.{asked_before}
-use Rattle.mscp_ported.proofs.Itself.{since_alive}
-use Rattle.mscp_wire.specs.Wire.{History, told}
-use Rattle.mscp_logged.specs.Logged.{end_of, ends_in, is_foreign, logged, message_of, messages_by, seen_by}
+use Rattle.mscp_logged.proofs.Common.{All, Answered, AnsweredCalls, AsksAlways, Bool, Call, ControllersKeepThePromise, First, Hardware, History, Holdings, IsMadeOf, IsValid, List, Made, None, Option, Outgoing, Picking, Port, PortsEndWhatTheyTook, PortsTellInOrder, ReadsBytes, Said, Settings, Some, TellsFaults, WriteIp, [], accepted_by, ap, append-nil, append_assoc, arith, asked_before, begins, came, cond, end_of, end_said, ends_begun, ends_in, ends_of, ends_said, false, flat_map, fresh, held, inl, inr, is_dead, is_foreign, leaves, logged, map, message_of, messages_by, option_to_list, outstanding_of, refl, said, said_in, seen_by, since_alive, sym, told, true, unit_found, volume_found, zipped, ℕ, ◌++◌, ◌<◌, ◌∙◌, ◌∷◌, ◌≡◌, ◌≢◌}
+use Rattle.mscp_ported.proofs.Ending.{Ends}
 use Rattle.mscp_logged.proofs.Recalled.{Recalled, ends_recalled, messages_recalled, nothing_recalled, recalled_as, volumes_recalled}
 use Rattle.mscp_logged.proofs.Seen.{is_reset, last_is, none_held, reads_before, since_dead, since_reset}
 use Rattle.mscp_logged.proofs.Speaking.{known_goes, placed_goes}
 use Rattle.mscp_logged.proofs.Texts.{out_texts, texts_none, to_come, waiting}
-use Rattle.mscp_logged.specs.Rules.{TellsFaults}
 use Rattle.mscp_logged.proofs.Away.{told_away}
 use Rattle.mscp_logged.proofs.Bringing.{Brings, brings, whole}
 use Rattle.mscp_logged.proofs.Tied.{faults_before}

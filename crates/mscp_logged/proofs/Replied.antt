@@ -1,36 +1,9 @@
 -- An end that answers a message, or that of a command which is aborted, tells of its unit what is so.
-use Rattle.byteorder.specs.Endian.{little_bytes}
-use Rattle.std.proofs.Common.{◌≡◌, ◌⊎◌, ◌∙◌, ◌+◌, ◌<◌, ◌^◌, ℕ, Bool, true, false, cond, List, Option, None, Some, inl, inr, refl, ap, sym, subst, arith}
-use Rattle.std.specs.Prelude.{◌%◌, ◌==◌, ◌&&◌, ◌||◌, not, slice_index}
-use Rattle.mscp_packet.specs.Commands.{command_of}
-use Rattle.mscp_packet.specs.Number.{num}
-use Rattle.mscp_packet.specs.declared.command.Command.{Command}
-use Rattle.mscp_packet.specs.declared.command.Order.{Order}
+use Rattle.mscp_logged.proofs.Common.{Answer, Bool, Command, Decided, End, First, Hardware, IsPast, List, None, Option, Order, Own, Record, Settings, Shape, Some, Volume, aborted_record, answer_by, ap, arith, brings, command_of, cond, describes, end_with_body, endcode, ends_formality, eqb-true, false, fault_of, inl, inr, is_queued, little_bytes, num, or_right, order_fault, own_answer, own_cases, own_end, own_end_with, own_formal, own_refused, own_text, refl, refused_apart, sent_by, sent_says, slice_index, status_after, subst, sym, tells_unit, true, unit_fault, unit_found, unit_shape, unit_state, unit_status, ℕ, ◌%◌, ◌&&◌, ◌+◌, ◌<◌, ◌==◌, ◌^◌, ◌||◌, ◌∙◌, ◌≡◌, ◌⊎◌}
+use Rattle.std.specs.Prelude.{not}
 use Rattle.mscp_packet.specs.declared.command.Order.TheVariants as orders
-use Rattle.mscp_packet.specs.declared.end.End.{End}
-use Rattle.mscp_drive.specs.Settings.{Settings, unit_shape}
-use Rattle.mscp_drive.specs.Shape.{Shape}
-use Rattle.mscp_drive.specs.UnitList.{unit_found}
 use Rattle.mscp_drive.specs.declared.block.Block.TheVariants as blocks
-use Rattle.mscp_drive.specs.declared.connection.Connection.TheVariants.{First}
-use Rattle.mscp_queue.specs.Orders.{endcode}
-use Rattle.mscp_queue.specs.Records.{Record, aborted_record}
-use Rattle.mscp_controller.specs.Arrival.{fault_of, is_queued, order_fault, unit_fault}
-use Rattle.mscp_controller.specs.Outcomes.{own_end, own_end_with, unit_status}
-use Rattle.mscp_port.specs.Decided.{status_after, unit_state}
-use Rattle.mscp_port.specs.Formalities.{ends_formality}
-use Rattle.mscp_port.specs.Leaving.{end_with_body}
-use Rattle.mscp_port.specs.declared.decided.Decided.{Decided}
-use Rattle.mscp_port.specs.declared.hardware.Hardware.{Hardware}
 use Rattle.mscp_port.specs.declared.verdict.Verdict.TheVariants as verdicts
-use Rattle.mscp_port.specs.declared.volumes.Volume.{Volume}
-use Rattle.mscp_port.proofs.Common.{eqb-true, or_right}
-use Rattle.mscp_ported.specs.Answers.{Own, own_answer, own_text}
-use Rattle.mscp_ported.proofs.Itself.{IsPast, own_cases, own_formal, own_refused}
-use Rattle.mscp_wire.specs.Wire.{answer_by, brings, describes, sent_by, tells_unit}
-use Rattle.mscp_wire.specs.declared.answer.Answer.{Answer}
-use Rattle.mscp_shown.proofs.Saying.{sent_says}
-use Rattle.mscp_shown.proofs.Suiting.{refused_apart}
 use Rattle.mscp_logged.proofs.Describing.{IsAsWas, IsIdentityOf, IsTold, Tells, identity_of, mine, same_volume, sizeless}
 use Rattle.mscp_logged.proofs.Stepped.{IsDecided, IsTelling, formal_telling}
 use Rattle.mscp_logged.proofs.Suited.{formal_opcode}

@@ -1,18 +1,9 @@
 -- Rows of the log, worked by hand: what goes out and is gone, and what it shows; and what may be told of a block.
-use Rattle.std.proofs.Common.{◌≡◌, ◌∷◌, [], ℕ, true, false, List, None, Some, refl, arith}
-use Rattle.std.specs.Prelude.{Ok, flat_map}
-use Rattle.mscp_drive.specs.declared.connection.Connection.TheVariants.{First}
+use Rattle.mscp_logged.proofs.Common.{Descriptor, First, List, None, Ok, Outgoing, OutgoingKind, Some, TellsFaults, Went, [], arith, ends_in, false, flat_map, is_foreign, leaves, refl, true, ℕ, ◌∷◌, ◌≡◌}
 use Rattle.mscp_port.specs.declared.action.Outcome.TheVariants as outcomes
-use Rattle.mscp_port.specs.declared.port.Outgoing.{Outgoing}
-use Rattle.mscp_port.specs.declared.port.OutgoingKind.{OutgoingKind}
 use Rattle.mscp_port.specs.declared.port.OutgoingKind.TheVariants as kinds
-use Rattle.mscp_port.specs.declared.slot.Descriptor.{Descriptor}
 use Rattle.mscp_port.specs.declared.task.Task.TheVariants as tasks
-use Rattle.mscp_port.specs.Departures.{leaves}
-use Rattle.mscp_port.specs.Histories.{Went}
 use Rattle.mscp_wire.specs.declared.moment.Moment.TheVariants as moments
-use Rattle.mscp_logged.specs.Logged.{ends_in, is_foreign}
-use Rattle.mscp_logged.specs.Rules.{TellsFaults}
 
 -- the end of a FLUSH: number 7, unit 0, code 0x93, Success
 flush : List ℕ

@@ -1,13 +1,5 @@
 -- What a port's log shows: the ends in it are those that go out, and each answers a command that is outstanding.
-use Rattle.std.proofs.Common.{◌≡◌, ◌≢◌, ◌⊎◌, ◌∙◌, ◌++◌, ◌∷◌, [], ℕ, Bool, true, false, cond, map, List, Option, None, Some, inl, inr, refl, ap, sym, arith}
-use Rattle.mscp_port.specs.declared.port.Outgoing.{Outgoing}
-use Rattle.mscp_port.specs.declared.port.Port.{Port}
-use Rattle.mscp_port.specs.declared.stage.Stage.{Stage}
-use Rattle.mscp_port.specs.Departures.{begins}
-use Rattle.mscp_port.specs.Histories.{Call, WasRead, WriteIp}
-use Rattle.mscp_ported.specs.Awaited.{ReadsBytes}
-use Rattle.mscp_ported.specs.Talk.{is_dead, since}
-use Rattle.mscp_logged.specs.Logged.{is_foreign, message_of}
+use Rattle.mscp_logged.proofs.Common.{Bool, Call, List, None, Option, Outgoing, Port, ReadsBytes, Some, Stage, WasRead, WriteIp, [], ap, arith, begins, cond, false, inl, inr, is_dead, is_foreign, map, message_of, refl, since, sym, true, ℕ, ◌++◌, ◌∙◌, ◌∷◌, ◌≡◌, ◌≢◌, ◌⊎◌}
 
 -- ---- since all was forgotten
 

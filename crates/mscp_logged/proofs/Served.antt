@@ -1,43 +1,5 @@
 -- The end that a step gives to the host tells of its unit what is so, and says whether that is online as that is so.
-use Rattle.std.proofs.Common.{◌≡◌, ◌≢◌, ◌⊎◌, ◌∙◌, ◌+◌, ◌^◌, ◌<◌, ◌∷◌, [], ℕ, Bool, true, false, cond, filter, List, Some, inl, inr, refl, ap, sym, subst, arith}
-use Rattle.std.specs.Prelude.{◌%◌, ◌&&◌, find, is_some}
-use Rattle.mscp_packet.specs.Number.{num}
-use Rattle.mscp_packet.specs.declared.command.Command.{Command}
-use Rattle.mscp_packet.specs.declared.end.End.{End}
-use Rattle.mscp_drive.specs.Settings.{Settings}
-use Rattle.mscp_drive.specs.Shape.{Shape}
-use Rattle.mscp_drive.specs.UnitList.{unit_found}
-use Rattle.mscp_drive.specs.declared.block.Block.{Block}
-use Rattle.mscp_drive.specs.declared.connection.Connection.TheVariants.{First}
-use Rattle.mscp_queue.specs.Orders.{endcode}
-use Rattle.mscp_queue.specs.Outcomes.{is_good_block, touches}
-use Rattle.mscp_queue.specs.Records.{Record, has_name}
-use Rattle.mscp_queue.specs.Serving.{end_given, touched}
-use Rattle.mscp_queue.specs.declared.drive.Drive.{Drive}
-use Rattle.mscp_queue.specs.declared.name.Name.{Name}
-use Rattle.mscp_controller.proofs.Basics.{queued_open}
-use Rattle.mscp_port.specs.Blocks.{block_told, kept_of, moved_by}
-use Rattle.mscp_port.specs.Buffers.{is_of}
-use Rattle.mscp_port.specs.Formalities.{code_told, ends_formality, is_formality}
-use Rattle.mscp_port.specs.Moved.{volumes_after}
-use Rattle.mscp_port.specs.Volumes.{volume_found}
-use Rattle.mscp_port.specs.declared.action.Outcome.{Outcome}
-use Rattle.mscp_port.specs.declared.buffers.Buffer.{Buffer}
-use Rattle.mscp_port.specs.declared.decided.Decided.{Decided}
-use Rattle.mscp_port.specs.declared.hardware.Hardware.{Hardware}
-use Rattle.mscp_port.specs.declared.port.Port.{Port}
-use Rattle.mscp_port.specs.declared.verdict.Verdict.{Verdict}
-use Rattle.mscp_port.specs.declared.volumes.Volume.{Volume}
-use Rattle.mscp_port.proofs.Common.{eq-eqb, eqb-true, false≢true}
-use Rattle.mscp_ported.proofs.Buffered.{FitsBuffer}
-use Rattle.mscp_ported.proofs.Coming.{brought_for}
-use Rattle.mscp_ported.proofs.Fitting.{decided_code, given_plain as given_of, kept_one, IsPlainEnd}
-use Rattle.mscp_ported.proofs.Mounting.{Ended, one_ended}
-use Rattle.mscp_ported.proofs.Moving.{IsBegunStep}
-use Rattle.mscp_ported.proofs.Origins.{IsOf}
-use Rattle.mscp_ported.proofs.Tables.{decided_by}
-use Rattle.mscp_ported.proofs.Transferring.{IsHow}
-use Rattle.mscp_shown.proofs.Suiting.{valid_order}
+use Rattle.mscp_logged.proofs.Common.{Block, Bool, Buffer, Command, Decided, Drive, End, Ended, First, FitsBuffer, Hardware, IsBegunStep, IsFaultTold, IsHow, IsOf, IsPlainEnd, List, Name, Order, Outcome, Port, Record, Settings, Shape, Some, Verdict, Volume, [], answer_by, ap, arith, block_told, brought_for, code_told, cond, decided_by, decided_code, drive_after, drive_of, end_given, endcode, ends_formality, eq-eqb, eqb-true, false, false≢true, filter, find, given_of, has_name, inl, inr, is_formality, is_good_block, is_immediate, is_of, is_some, is_success, kept_of, kept_one, moved_by, num, one_ended, queued_open, refl, replaced, state_after, state_left, subst, sym, touched, touches, true, unit_found, valid_order, volume_found, volumes_after, ℕ, ◌%◌, ◌&&◌, ◌+◌, ◌<◌, ◌^◌, ◌∙◌, ◌∷◌, ◌≡◌, ◌≢◌, ◌⊎◌}
 use Rattle.mscp_logged.proofs.Bytes.{handed_small, stood_code}
 use Rattle.mscp_logged.proofs.Describing.{IsAsWas, IsTold, mine, Tells}
 use Rattle.mscp_logged.proofs.Made.{given_is}
@@ -45,15 +7,9 @@ use Rattle.mscp_logged.proofs.Moored.{heeded, Heeded}
 use Rattle.mscp_logged.proofs.Stepped.{IsGivenEnd, decided_so, given_plain, step_tells, IsDecided}
 use Rattle.mscp_logged.proofs.Sure.{told_sure, IsSure}
 use Rattle.mscp_logged.proofs.Texts.{text_with}
-use Rattle.mscp_wire.specs.Wire.{answer_by}
 use Rattle.mscp_logged.proofs.Worded.{text_unit}
-use Rattle.mscp_packet.specs.declared.command.Order.{Order}
 use Rattle.mscp_packet.specs.declared.command.Order.TheVariants as orders
-use Rattle.mscp_queue.specs.Drives.{drive_of, has_number, replaced}
-use Rattle.mscp_queue.specs.Outcomes.{is_success, state_after}
-use Rattle.mscp_queue.specs.Serving.{drive_after, state_left}
-use Rattle.mscp_controller.specs.Arrival.{is_immediate}
-use Rattle.mscp_logged.specs.Rules.{IsFaultTold}
+use Rattle.mscp_queue.specs.Drives.{has_number}
 use Rattle.mscp_logged.proofs.Away.{IsPlaced, Says}
 use Rattle.mscp_logged.proofs.Driven.{AreDriven, brought_driven, still_driven}
 use Rattle.mscp_logged.proofs.Faults.{told_fine}

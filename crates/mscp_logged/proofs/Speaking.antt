@@ -1,13 +1,5 @@
 -- What ends that come tell of units, and so what is known of those goes on.
-use Rattle.std.proofs.Common.{◌≡◌, ◌++◌, ◌∷◌, [], ℕ, List, Option, append_assoc, sym, subst}
-use Rattle.std.proofs.lemmas.List.{append-nil}
-use Rattle.mscp_drive.specs.Shape.{Shape}
-use Rattle.mscp_drive.specs.UnitList.{unit_found}
-use Rattle.mscp_port.specs.Volumes.{volume_found}
-use Rattle.mscp_port.specs.declared.hardware.Hardware.{Hardware}
-use Rattle.mscp_port.specs.declared.port.Port.{Port}
-use Rattle.mscp_port.specs.declared.volumes.Volume.{Volume}
-use Rattle.mscp_wire.specs.declared.identity.Identity.{Identity}
+use Rattle.mscp_logged.proofs.Common.{Hardware, Identity, List, Option, Port, Shape, Volume, [], append-nil, append_assoc, subst, sym, unit_found, volume_found, ℕ, ◌++◌, ◌∷◌, ◌≡◌}
 use Rattle.mscp_logged.proofs.Away.{IsPlaced, Placed, placed_more, placed_still}
 use Rattle.mscp_logged.proofs.Describing.{IsAsWas, IsTold, Known, known_more, known_still}
 use Rattle.mscp_logged.proofs.Texts.{waiting}

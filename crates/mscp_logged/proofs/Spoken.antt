@@ -1,67 +1,14 @@
 -- By a step the end that comes tells of its unit what is so, and each other unit stays as it is.
-use Rattle.std.proofs.Common.{◌≡◌, ◌∙◌, ◌<◌, ◌≤◌, ◌++◌, ◌∷◌, [], ℕ, Bool, true, false, cond, filter, length, map, List, MatchOption, Option, None, Some, inl, inr, refl, ap, sym, subst, arith}
-use Rattle.std.specs.Prelude.{◌%◌, Ok, Err, Result, find, is_some}
-use Rattle.std.proofs.lemmas.List.{append-nil}
-use Rattle.std.proofs.lemmas.Option.{none-some}
-use Rattle.mscp_packet.specs.declared.end.End.{End}
-use Rattle.mscp_drive.specs.Settings.{Settings}
-use Rattle.mscp_drive.specs.Shape.{Shape}
-use Rattle.mscp_drive.specs.UnitList.{unit_found}
-use Rattle.mscp_drive.specs.declared.block.Block.{Block}
-use Rattle.mscp_drive.specs.declared.connection.Connection.{Connection}
-use Rattle.mscp_drive.specs.declared.connection.Connection.TheVariants.{First, Second}
-use Rattle.mscp_queue.proofs.Named.{is_same}
-use Rattle.mscp_queue.specs.Names.{name_on}
-use Rattle.mscp_queue.specs.Orders.{endcode}
-use Rattle.mscp_queue.specs.Records.{Record, drive_at, has_name, name_of, record_at}
-use Rattle.mscp_queue.specs.Serving.{end_given}
-use Rattle.mscp_queue.specs.declared.drive.Drive.{Drive}
-use Rattle.mscp_queue.specs.declared.name.Name.{Name}
-use Rattle.mscp_queue.specs.declared.report.Report.{Report}
+use Rattle.mscp_logged.proofs.Common.{At, Block, Bool, Connection, Drive, End, Ended, Err, Finishes, First, FitsBuffer, Fitting, Goes, Grows, Hardware, HeedsStep, Holdings, IsBegunStep, IsFaultTold, IsHow, IsPlainEnd, IsStepping, Kept, List, MatchOption, Name, None, NotBegun, Ok, Option, Order, Outcome, Port, Record, Report, Result, Second, Settings, Shape, Some, Stays, TakesBegun, TakesBlock, Task, Verdict, Volume, [], ap, append-nil, arith, block_begun, block_served, block_told, brought_for, come_so, cond, decided_by, drive_after, drive_at, drive_of, drives_after, end_brought, end_given, endcode, ends_of, eqb-true, false, false≢true, filter, find, found_sole, given_of, has_name, inl, inr, is_dead, is_numbered, is_same, is_some, is_success, length, map, name_of, name_on, none-some, record_at, refl, replaced, served_itself, served_name, served_waits, state_left, step_grows, steps_bring, subst, sym, true, unit_found, volume_found, volumes_after, went_stays, ℕ, ◌%◌, ◌++◌, ◌<◌, ◌∙◌, ◌∷◌, ◌≡◌, ◌≤◌}
 use Rattle.mscp_queue.specs.declared.report.Report.TheVariants as reports
-use Rattle.mscp_controller.specs.Holdings.{Finishes, Holdings}
-use Rattle.mscp_controller.specs.declared.entry.NotBegun.{NotBegun}
-use Rattle.mscp_port.specs.Blocks.{block_told}
-use Rattle.mscp_port.specs.Calls.{Goes}
-use Rattle.mscp_port.specs.Moved.{HeedsStep, IsStepping, TakesBegun, TakesBlock, block_begun, block_served, end_brought, volumes_after}
-use Rattle.mscp_port.specs.Volumes.{volume_found}
-use Rattle.mscp_port.specs.declared.action.Outcome.{Outcome}
-use Rattle.mscp_port.specs.declared.hardware.Hardware.{Hardware}
-use Rattle.mscp_port.specs.declared.port.Port.{Port}
-use Rattle.mscp_port.specs.declared.task.Task.{Task}
 use Rattle.mscp_port.specs.declared.task.Task.TheVariants as tasks
-use Rattle.mscp_port.specs.declared.verdict.Verdict.{Verdict}
-use Rattle.mscp_port.specs.declared.volumes.Volume.{Volume}
-use Rattle.mscp_port.proofs.Common.{eqb-true, false≢true}
-use Rattle.mscp_port.proofs.Kept.{is_numbered}
-use Rattle.mscp_port.proofs.Said.{served_name}
-use Rattle.mscp_ported.specs.Talk.{is_dead}
-use Rattle.mscp_ported.proofs.Awaiting.{Kept}
-use Rattle.mscp_ported.proofs.Buffered.{FitsBuffer}
-use Rattle.mscp_ported.proofs.Coming.{brought_for, come_so, ends_of, steps_bring}
-use Rattle.mscp_ported.proofs.Ending.{Grows}
-use Rattle.mscp_ported.proofs.Fitted.{Fitting}
-use Rattle.mscp_ported.proofs.Fitting.{given_plain as given_of, IsPlainEnd}
-use Rattle.mscp_ported.proofs.Leaving.{step_grows}
-use Rattle.mscp_ported.proofs.Mounting.{Ended}
-use Rattle.mscp_ported.proofs.Moving.{IsBegunStep}
-use Rattle.mscp_ported.proofs.Numbered.{At}
-use Rattle.mscp_ported.proofs.Numbering.{served_waits}
-use Rattle.mscp_ported.proofs.Sole.{found_sole, served_itself}
-use Rattle.mscp_ported.proofs.Staying.{Stays, went_stays}
-use Rattle.mscp_ported.proofs.Tables.{decided_by}
-use Rattle.mscp_ported.proofs.Transferring.{IsHow}
 use Rattle.mscp_logged.proofs.Describing.{IsAsWas}
 use Rattle.mscp_logged.proofs.Moored.{found_as, heeded, volumes_still, Heeded}
 use Rattle.mscp_logged.proofs.Ordering.{OrderedIn}
 use Rattle.mscp_logged.proofs.Speaking.{Speaks}
 use Rattle.mscp_logged.proofs.Texts.{text_with, waiting, texts_of, texts_more}
-use Rattle.mscp_packet.specs.declared.command.Order.{Order}
 use Rattle.mscp_packet.specs.declared.command.Order.TheVariants as orders
-use Rattle.mscp_queue.specs.Drives.{drive_of, has_number, replaced}
-use Rattle.mscp_queue.specs.Outcomes.{is_success}
-use Rattle.mscp_queue.specs.Serving.{drive_after, drives_after, state_left}
-use Rattle.mscp_logged.specs.Rules.{IsFaultTold}
+use Rattle.mscp_queue.specs.Drives.{has_number}
 use Rattle.mscp_logged.proofs.Driven.{AreDriven, driven_as, still_driven}
 use Rattle.mscp_logged.proofs.Moored.{available_off}
 use Rattle.mscp_logged.proofs.Served.{IsServed, served_driven, served_placed, served_told}

@@ -1,29 +1,8 @@
 -- What is known of a log: each end in it has a tie to the command that it answers.
-use Rattle.std.proofs.Common.{◌≡◌, ◌∙◌, ◌+◌, ◌<◌, ◌++◌, ◌∷◌, [], ℕ, Bool, true, false, cond, drop, filter, length, map, nat_eq, not, take, List, Option, None, Some, refl, ap, sym, subst, arith}
-use Rattle.std.specs.Prelude.{◌%◌, flat_map, option_to_list, slice_index_or}
-use Rattle.std.proofs.lemmas.List.{append-nil, get_or_append_left, length-append, take-append-le}
-use Rattle.mscp_packet.specs.Number.{num}
-use Rattle.mscp_drive.specs.declared.connection.Connection.TheVariants.{First}
-use Rattle.mscp_queue.proofs.Placed.{each_push}
-use Rattle.mscp_port.specs.declared.port.Outgoing.{Outgoing}
-use Rattle.mscp_port.specs.declared.port.OutgoingKind.{OutgoingKind}
+use Rattle.mscp_logged.proofs.Common.{AllByRecursion, Bool, First, History, IsRight, List, Moment, None, Option, Outgoing, OutgoingKind, Rule, Said, Sent, Some, [], aborts, aborts_behind, answer_by, ap, append-nil, arith, begins, broken_message, command_at, cond, drop, each_push, end_of, end_said, ends_in, eq-eqb, eqb-true, false, filter, filter-append, flat_map, get_or_append_left, has_number, is_new, leaves, length, length-append, list_any, map, message_of, moment_at, nat_eq, not, num, option_to_list, outstanding, passes_none, place_of, refl, said_in, sent_by, slice_index_or, some_none, subst, sym, take, take-append-le, true, unless, ℕ, ◌%◌, ◌++◌, ◌+◌, ◌<◌, ◌∙◌, ◌∷◌, ◌≡◌}
 use Rattle.mscp_port.specs.declared.port.OutgoingKind.TheVariants as kinds
-use Rattle.mscp_port.specs.Departures.{begins, leaves}
-use Rattle.mscp_ported.specs.Awaited.{has_number}
-use Rattle.mscp_ported.specs.Ends.{end_said}
-use Rattle.mscp_ported.specs.Told.{Said, said_in}
-use Rattle.mscp_ported.proofs.Behind.{aborts_behind}
-use Rattle.mscp_ported.proofs.Numbered.{some_none}
-use Rattle.mscp_port.proofs.Common.{eq-eqb, eqb-true}
-use Rattle.std.specs.List.{AllByRecursion, list_any}
-use Rattle.std.proofs.lemmas.List.Elements.{filter-append}
-use Rattle.mscp_wire.specs.Wire.{aborts, History, IsRight, answer_by, broken_message, command_at, controller, is_new, moment_at, outstanding, passes_none, place_of, seen_of, sent_by, told, unless}
-use Rattle.mscp_wire.specs.declared.moment.Moment.{Moment}
 use Rattle.mscp_wire.specs.declared.moment.Moment.TheVariants as moments
-use Rattle.mscp_wire.specs.declared.rule.Rule.{Rule}
 use Rattle.mscp_wire.specs.declared.rule.Rule.TheVariants as rules
-use Rattle.mscp_wire.specs.declared.sent.Sent.{Sent}
-use Rattle.mscp_logged.specs.Logged.{end_of, ends_in, message_of}
 use Rattle.mscp_logged.proofs.Left.{at_front, end_leaves}
 use Rattle.mscp_logged.proofs.Lined.{AreLate, AreLined, all_left, late_more, left_by, lined_behind, lined_left, lined_map, lined_more, without_held}
 use Rattle.mscp_logged.proofs.Passes.{keeps, overtakes}

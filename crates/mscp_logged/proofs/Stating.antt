@@ -1,37 +1,12 @@
 -- An end that answers a message, or that of a command which is aborted, says that its unit is online, or that it isn't,
 -- only if that is so.
-use Rattle.std.proofs.Common.{◌≡◌, ◌⊎◌, ⊎_elim, ◌∙◌, ◌+◌, ◌<◌, ◌^◌, ℕ, Bool, true, false, cond, List, Option, None, Some, inl, inr, refl, ap, sym, subst, arith}
-use Rattle.std.specs.Prelude.{◌%◌, ◌/◌, ◌==◌, ◌&&◌, ◌||◌, not, slice_index}
-use Rattle.mscp_packet.specs.Commands.{command_of}
-use Rattle.mscp_packet.specs.Number.{num}
-use Rattle.mscp_packet.specs.declared.command.Command.{Command}
-use Rattle.mscp_packet.specs.declared.command.Order.{Order}
+use Rattle.mscp_logged.proofs.Common.{Answer, AsksFor, Bool, Command, Decided, End, First, Hardware, IsPast, List, None, Option, Order, Own, Record, Sent, Settings, Shape, Some, Volume, aborted_record, answer_by, ap, arith, command_of, cond, end_with_body, endcode, ends_formality, eqb-true, false, false≢true, fault_of, inl, inr, is_queued, move_fault, num, order_fault, own_answer, own_cases, own_end, own_end_with, own_refused, own_text, refl, refused_apart, sent_by, sent_says, slice_index, status_after, subst, sym, true, unit_fault, unit_state, ℕ, ⊎_elim, ◌%◌, ◌&&◌, ◌+◌, ◌/◌, ◌<◌, ◌==◌, ◌^◌, ◌||◌, ◌∙◌, ◌≡◌, ◌⊎◌}
+use Rattle.std.specs.Prelude.{not}
 use Rattle.mscp_packet.specs.declared.command.Order.TheVariants as orders
-use Rattle.mscp_packet.specs.declared.end.End.{End}
-use Rattle.mscp_drive.specs.Settings.{Settings, unit_found}
-use Rattle.mscp_drive.specs.Shape.{Shape}
+use Rattle.mscp_drive.specs.Settings.{unit_found}
 use Rattle.mscp_drive.specs.UnitList as list
 use Rattle.mscp_drive.specs.declared.block.Block.TheVariants as blocks
-use Rattle.mscp_drive.specs.declared.connection.Connection.TheVariants.{First}
-use Rattle.mscp_queue.specs.Orders.{endcode}
-use Rattle.mscp_queue.specs.Records.{Record, aborted_record}
-use Rattle.mscp_controller.specs.Arrival.{fault_of, is_queued, move_fault, order_fault, unit_fault}
-use Rattle.mscp_controller.specs.Outcomes.{own_end, own_end_with}
-use Rattle.mscp_port.specs.Decided.{status_after, unit_state}
-use Rattle.mscp_port.specs.Formalities.{ends_formality}
-use Rattle.mscp_port.specs.Leaving.{end_with_body}
-use Rattle.mscp_port.specs.declared.decided.Decided.{Decided}
-use Rattle.mscp_port.specs.declared.hardware.Hardware.{Hardware}
 use Rattle.mscp_port.specs.declared.verdict.Verdict.TheVariants as verdicts
-use Rattle.mscp_port.specs.declared.volumes.Volume.{Volume}
-use Rattle.mscp_port.proofs.Common.{eqb-true, false≢true}
-use Rattle.mscp_ported.specs.Answers.{Own, own_answer, own_text}
-use Rattle.mscp_ported.proofs.Itself.{IsPast, own_cases, own_refused}
-use Rattle.mscp_wire.specs.Wire.{answer_by, sent_by}
-use Rattle.mscp_wire.specs.declared.answer.Answer.{Answer}
-use Rattle.mscp_wire.specs.declared.sent.Sent.{Sent}
-use Rattle.mscp_shown.proofs.Saying.{Says as AsksFor, sent_says}
-use Rattle.mscp_shown.proofs.Suiting.{refused_apart}
 use Rattle.mscp_logged.proofs.Away.{IsPlaced, Says}
 use Rattle.mscp_logged.proofs.Describing.{IsAsWas, mine, same_volume}
 use Rattle.mscp_logged.proofs.Placing.{IsAwayCode, IsOnlineCode, away_parts, formal_away, formal_online, online_parts}

@@ -1,23 +1,9 @@
 -- The status with which an end is told suits its command, as that does with which the controller made it.
-use Rattle.std.proofs.Common.{◌≡◌, ◌≢◌, ◌∙◌, ◌⊎◌, ◌<◌, ◌^◌, ℕ, Bool, true, false, cond, inl, inr, refl, ap, sym, subst, arith}
-use Rattle.std.specs.Prelude.{◌==◌, ◌&&◌, ◌||◌, not}
-use Rattle.mscp_packet.specs.Opcodes.{move_byte}
-use Rattle.mscp_packet.specs.declared.command.MoveKind.{MoveKind}
+use Rattle.mscp_logged.proofs.Common.{Block, Bool, EndBody, IsFine, MoveKind, Order, Says, Sent, Suits, Verdict, Volume, ap, arith, cond, endcode, false, inl, inr, is_immediate, is_move, may_have, move_byte, refl, status_after, subst, sym, true, unit_state, ℕ, ◌&&◌, ◌<◌, ◌==◌, ◌^◌, ◌||◌, ◌∙◌, ◌≡◌, ◌≢◌, ◌⊎◌}
+use Rattle.std.specs.Prelude.{not}
 use Rattle.mscp_packet.specs.declared.command.MoveKind.TheVariants as kinds
-use Rattle.mscp_packet.specs.declared.command.Order.{Order}
 use Rattle.mscp_packet.specs.declared.command.Order.TheVariants as orders
-use Rattle.mscp_packet.specs.declared.end.EndBody.{EndBody}
-use Rattle.mscp_drive.specs.declared.block.Block.{Block}
-use Rattle.mscp_queue.specs.Orders.{endcode, is_move}
-use Rattle.mscp_controller.specs.Arrival.{is_immediate}
-use Rattle.mscp_port.specs.Decided.{status_after, unit_state}
-use Rattle.mscp_port.specs.declared.verdict.Verdict.{Verdict}
 use Rattle.mscp_port.specs.declared.verdict.Verdict.TheVariants as verdicts
-use Rattle.mscp_port.specs.declared.volumes.Volume.{Volume}
-use Rattle.mscp_wire.specs.Wire.{may_have}
-use Rattle.mscp_wire.specs.declared.sent.Sent.{Sent}
-use Rattle.mscp_shown.proofs.Saying.{Says}
-use Rattle.mscp_shown.proofs.Suited.{IsFine, Suits}
 
 -- a status of 16 bits suits an order
 pub record IsApt (o : Order) (status : ℕ) (body : EndBody) : Type 0 where

@@ -1,35 +1,9 @@
 -- An end that a step gives tells of its unit what is so, of the volume that is there then.
-use Rattle.byteorder.specs.Endian.{little_bytes}
-use Rattle.std.proofs.Common.{◌≡◌, ◌≢◌, ◌⊎◌, ◌∙◌, ℕ, Bool, true, false, cond, nat_eq, List, Option, Some, inl, inr, refl, ap, sym, subst, arith}
-use Rattle.std.specs.Prelude.{◌%◌, ◌/◌, ◌==◌, ◌||◌, is_some}
-use Rattle.mscp_packet.specs.Number.{num}
-use Rattle.mscp_packet.specs.declared.command.MoveKind.{MoveKind}
-use Rattle.mscp_packet.specs.declared.command.Order.{Order}
+use Rattle.mscp_logged.proofs.Common.{Answer, Bool, Buffer, Decided, End, First, Hardware, List, MoveKind, Option, Order, Shape, Some, Verdict, Volume, answer_by, ap, arith, block_told, brings, code_told, cond, controller_decided, decided_code, decided_status, describes, end_decided, end_with_body, endcode, ends_formality, eqb-true, false, false≢true, formal_status, found_decided, inl, inr, is_immediate, is_some, is_success, little_bytes, moved_by, nat_eq, num, online_body, outcome_body, outcome_status, refl, status_after, status_told, subst, sym, told_same, true, unit_found, ℕ, ◌%◌, ◌/◌, ◌==◌, ◌||◌, ◌∙◌, ◌≡◌, ◌≢◌, ◌⊎◌}
 use Rattle.mscp_packet.specs.declared.command.Order.TheVariants as orders
-use Rattle.mscp_packet.specs.declared.end.End.{End}
 use Rattle.mscp_packet.specs.declared.end.EndBody.TheVariants as bodies
-use Rattle.mscp_drive.specs.Shape.{Shape}
-use Rattle.mscp_drive.specs.UnitList.{unit_found}
 use Rattle.mscp_drive.specs.declared.block.Block.TheVariants as blocks
-use Rattle.mscp_drive.specs.declared.connection.Connection.TheVariants.{First}
-use Rattle.mscp_queue.specs.Orders.{endcode}
-use Rattle.mscp_queue.specs.Outcomes.{is_success, online_body, outcome_body, outcome_status}
-use Rattle.mscp_controller.specs.Arrival.{is_immediate}
-use Rattle.mscp_port.specs.Blocks.{block_told, moved_by}
-use Rattle.mscp_port.specs.Decided.{controller_decided, end_decided, found_decided, status_after, status_told}
-use Rattle.mscp_port.specs.Formalities.{code_told, ends_formality, formal_status}
-use Rattle.mscp_port.specs.Leaving.{end_with_body}
-use Rattle.mscp_port.specs.declared.buffers.Buffer.{Buffer}
-use Rattle.mscp_port.specs.declared.decided.Decided.{Decided}
-use Rattle.mscp_port.specs.declared.hardware.Hardware.{Hardware}
-use Rattle.mscp_port.specs.declared.verdict.Verdict.{Verdict}
 use Rattle.mscp_port.specs.declared.verdict.Verdict.TheVariants as verdicts
-use Rattle.mscp_port.specs.declared.volumes.Volume.{Volume}
-use Rattle.mscp_port.proofs.Common.{eqb-true, false≢true}
-use Rattle.mscp_ported.proofs.Fitting.{decided_code, decided_status}
-use Rattle.mscp_ported.proofs.Origins.{told_same}
-use Rattle.mscp_wire.specs.Wire.{answer_by, brings, describes}
-use Rattle.mscp_wire.specs.declared.answer.Answer.{Answer}
 use Rattle.mscp_logged.proofs.Describing.{IsAsWas, IsIdentityOf, IsSame, Tells, identity_of}
 use Rattle.mscp_logged.proofs.Sure.{IsSure}
 use Rattle.mscp_logged.proofs.Texts.{text_with}

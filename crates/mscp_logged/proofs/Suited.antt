@@ -1,45 +1,11 @@
 -- An end of the controller's as it goes out keeps the rules of statuses and of bytes, and tells no other identifier of
 -- the controller than its own.
-use Rattle.byteorder.specs.Endian.{little_bytes}
-use Rattle.std.proofs.Common.{◌≡◌, ◌⊎◌, ◌∙◌, ◌+◌, ◌<◌, ◌≤◌, ◌^◌, ℕ, Bool, true, false, cond, length, nat_eq, not, List, Option, None, Some, inl, inr, refl, ap, sym, subst, arith}
-use Rattle.std.specs.Prelude.{◌%◌, ◌*◌, ◌/◌, ◌&&◌, ◌||◌, nat_le, nat_lt, slice_index}
-use Rattle.std.proofs.lemmas.Option.{same_Some}
-use Rattle.mscp_packet.proofs.Numbers.{four, two}
-use Rattle.mscp_packet.specs.Commands.{command_of}
-use Rattle.mscp_packet.specs.Ends.{end_bytes, kind_of_body, kind_of_code}
-use Rattle.mscp_packet.specs.Number.{num}
+use Rattle.mscp_logged.proofs.Common.{Answer, BodyReads, Bool, Decided, End, EndBody, First, Hardware, IsBodyFit, IsCodeFor, IsMade, IsSaid, IsToldSo, Leaving, List, None, Option, Port, Record, Settings, Shape, Some, Verdict, Volume, answer_by, ap, arith, block_told, code_of, command_of, cond, controller_end, controller_in, count_of, end_bytes, end_left, end_with_body, ends_formality, eqb-true, false, false≢true, formal_status, four, handed, has_code, has_count, has_status, head, inl, inr, is_formality, is_plain, keeps, kind_of_body, kind_of_code, left_with, length, little_bytes, nat_eq, nat_le, nat_lt, not, num, points_into, refl, same_Some, sent_by, slice_index, status_after, status_code, status_told, subst, sym, true, two, unit_found, unit_state, ℕ, ◌%◌, ◌&&◌, ◌+◌, ◌/◌, ◌<◌, ◌^◌, ◌||◌, ◌∙◌, ◌≡◌, ◌≤◌, ◌⊎◌}
+use Rattle.std.specs.Prelude.{◌*◌}
 use Rattle.mscp_packet.specs.declared.end.BodyKind.TheVariants as kinds
-use Rattle.mscp_packet.specs.declared.end.End.{End}
-use Rattle.mscp_packet.specs.declared.end.EndBody.{EndBody}
 use Rattle.mscp_packet.specs.declared.end.EndBody.TheVariants as bodies
-use Rattle.mscp_drive.specs.Settings.{Settings}
-use Rattle.mscp_drive.specs.Shape.{Shape}
-use Rattle.mscp_drive.specs.UnitList.{unit_found}
 use Rattle.mscp_drive.specs.declared.block.Block.TheVariants as blocks
-use Rattle.mscp_drive.specs.declared.connection.Connection.TheVariants.{First}
-use Rattle.mscp_queue.specs.Records.{Record}
-use Rattle.mscp_port.specs.Blocks.{block_told}
-use Rattle.mscp_port.specs.Decided.{status_after, status_told, unit_state}
-use Rattle.mscp_port.specs.Formalities.{ends_formality, formal_status, is_formality}
-use Rattle.mscp_port.specs.Leaving.{controller_end, end_left, end_with_body, head}
-use Rattle.mscp_port.specs.Messages.{handed}
-use Rattle.mscp_port.specs.declared.decided.Decided.{Decided}
-use Rattle.mscp_port.specs.declared.hardware.Hardware.{Hardware}
-use Rattle.mscp_port.specs.declared.port.Port.{Port}
-use Rattle.mscp_port.specs.declared.verdict.Verdict.{Verdict}
 use Rattle.mscp_port.specs.declared.verdict.Verdict.TheVariants as verdicts
-use Rattle.mscp_port.specs.declared.volumes.Volume.{Volume}
-use Rattle.mscp_port.proofs.Common.{eqb-true, false≢true}
-use Rattle.mscp_ported.specs.Ends.{Leaving}
-use Rattle.mscp_ported.specs.Fitting.{IsCodeFor}
-use Rattle.mscp_ported.proofs.Ending.{left_with}
-use Rattle.mscp_ported.proofs.Opcodes.{IsSaid}
-use Rattle.mscp_ported.proofs.Origins.{IsMade, IsToldSo}
-use Rattle.mscp_ported.proofs.Whole.{code_of}
-use Rattle.mscp_wire.specs.Wire.{answer_by, controller_in, count_of, has_code, has_count, has_status, is_plain, points_into, sent_by, status_code}
-use Rattle.mscp_wire.specs.declared.answer.Answer.{Answer}
-use Rattle.mscp_shown.proofs.Keeping.{keeps}
-use Rattle.mscp_shown.proofs.Reading.{BodyReads, IsBodyFit}
 use Rattle.mscp_shown.proofs.Suited.{Keeps}
 use Rattle.mscp_logged.proofs.Bytes.{handed_long, handed_says, of_unit, stood_code}
 use Rattle.mscp_logged.proofs.Faults.{IsToldOf}

@@ -1,34 +1,11 @@
 -- How a step went that ended otherwise than its drive told: its unit isn't online with its volume. And a transfer goes
 -- well only while it is.
-use Rattle.std.proofs.Common.{◌≡◌, ◌⊎◌, ◌≤◌, ◌∙◌, ℕ, Bool, true, false, cond, List, Option, None, Some, inl, inr, refl, ap, sym, subst, arith}
-use Rattle.std.specs.Prelude.{◌%◌, ◌==◌, ◌&&◌, Result, Ok, Err, find, is_some, nat_le, not, option_map}
-use Rattle.mscp_packet.specs.declared.command.MoveKind.{MoveKind}
-use Rattle.mscp_packet.specs.declared.command.Order.{Order}
+use Rattle.mscp_logged.proofs.Common.{Block, Bool, Buffer, Err, IsBegunStep, IsHow, IsOfBlock, List, MoveKind, Name, None, Ok, Option, Order, Outcome, Port, Record, Result, Some, Task, Upcoming, Verdict, Volume, and_parts, ap, arith, begun_record, begun_step, begun_task, block_begun, block_of, block_served, changed_verdict, cond, drive_of, false, false≢true, fault_with, faulted, find, has_changed, has_host_bytes, has_name, inl, inr, is_available, is_some, kept_of, known_task, move_of, move_task, moved_by, moved_step, nat_le, option_map, part_at, part_of, part_served, part_task, part_with, place_in, refl, refusal_of, subst, sym, takes_any_volume, task_of, true, unless_fault, upcoming_of, volume_at, volume_found, volume_in_place, writes, ℕ, ◌%◌, ◌&&◌, ◌==◌, ◌∙◌, ◌≡◌, ◌≤◌, ◌⊎◌}
+use Rattle.std.specs.Prelude.{not}
 use Rattle.mscp_packet.specs.declared.command.Order.TheVariants as orders
-use Rattle.mscp_drive.specs.declared.block.Block.{Block}
 use Rattle.mscp_drive.specs.declared.block.Block.TheVariants as blocks
-use Rattle.mscp_queue.specs.Drives.{drive_of}
-use Rattle.mscp_queue.specs.Records.{Record, has_name}
-use Rattle.mscp_queue.specs.Serving.{upcoming_of}
-use Rattle.mscp_queue.specs.declared.name.Name.{Name}
-use Rattle.mscp_queue.specs.declared.upcoming.Upcoming.{Upcoming}
-use Rattle.mscp_controller.specs.Holdings.{begun_step}
-use Rattle.mscp_port.specs.Blocks.{block_of, changed_verdict, fault_with, faulted, has_changed, has_host_bytes, is_available, kept_of, move_of, move_task, part_task, part_with, refusal_of, moved_by, takes_any_volume, task_of, unless_fault, writes}
-use Rattle.mscp_port.specs.Buffers.{part_of}
-use Rattle.mscp_port.specs.Moved.{begun_task, block_begun, block_served, known_task, moved_step, part_at, part_served}
-use Rattle.mscp_port.specs.Ports.{IsOfBlock}
-use Rattle.mscp_port.specs.Volumes.{place_in, volume_at, volume_found, volume_in_place}
-use Rattle.mscp_port.specs.declared.action.Outcome.{Outcome}
-use Rattle.mscp_port.specs.declared.buffers.Buffer.{Buffer}
-use Rattle.mscp_port.specs.declared.port.Port.{Port}
-use Rattle.mscp_port.specs.declared.task.Task.{Task}
 use Rattle.mscp_port.specs.declared.task.Task.TheVariants as tasks
-use Rattle.mscp_port.specs.declared.verdict.Verdict.{Verdict}
 use Rattle.mscp_port.specs.declared.verdict.Verdict.TheVariants as verdicts
-use Rattle.mscp_port.specs.declared.volumes.Volume.{Volume}
-use Rattle.mscp_ported.proofs.Moving.{IsBegunStep}
-use Rattle.mscp_ported.proofs.Transferring.{IsHow, begun_record}
-use Rattle.mscp_port.proofs.Common.{and_parts, false≢true}
 
 -- ---- a verdict
 

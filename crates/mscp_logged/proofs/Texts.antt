@@ -1,26 +1,6 @@
 -- The texts of the disk's ends that are still to come: of what goes out, and behind it of those that wait in the
 -- controller, each with what was decided of it. By each call more come behind them.
-use Rattle.std.proofs.Common.{◌≡◌, ◌∙◌, ◌++◌, ◌∷◌, [], ℕ, Bool, drop, length, map, List, Option, None, Some, inl, inr, refl, ap, sym, arith}
-use Rattle.std.specs.Prelude.{slice_get}
-use Rattle.std.proofs.lemmas.List.{append-nil}
-use Rattle.std.proofs.lemmas.Option.{none-some, same_Some}
-use Rattle.mscp_packet.specs.declared.end.End.{End}
-use Rattle.mscp_drive.specs.Shape.{Shape}
-use Rattle.mscp_drive.specs.UnitList.{unit_found}
-use Rattle.mscp_controller.specs.Holdings.{Holdings}
-use Rattle.mscp_port.specs.declared.action.Action.{Action}
-use Rattle.mscp_port.specs.declared.decided.Decided.{Decided}
-use Rattle.mscp_port.specs.declared.hardware.Hardware.{Hardware}
-use Rattle.mscp_port.specs.declared.port.Outgoing.{Outgoing}
-use Rattle.mscp_port.specs.declared.port.Port.{Port}
-use Rattle.mscp_port.specs.Calls.{Wants}
-use Rattle.mscp_port.specs.Leaving.{end_left, end_told, told_end}
-use Rattle.mscp_port.specs.Outgoings.{IsNews, MayBegin, TakesEnd, news_place}
-use Rattle.mscp_port.proofs.Loads.{looks_or_not}
-use Rattle.mscp_ported.specs.Ends.{end_said, ends_begun}
-use Rattle.mscp_ported.proofs.Coming.{ends_of}
-use Rattle.mscp_ported.proofs.Ending.{zipped}
-use Rattle.mscp_ported.proofs.Wanting.{alive_or_dead}
+use Rattle.mscp_logged.proofs.Common.{Action, Bool, Decided, End, Hardware, Holdings, IsNews, List, MayBegin, None, Option, Outgoing, Port, Shape, Some, TakesEnd, Wants, [], alive_or_dead, ap, append-nil, arith, drop, end_left, end_said, end_told, ends_begun, ends_of, inl, inr, length, looks_or_not, map, news_place, none-some, refl, same_Some, slice_get, sym, told_end, unit_found, zipped, ℕ, ◌++◌, ◌∙◌, ◌∷◌, ◌≡◌}
 
 -- what waits, with what was decided of each
 module _ (h : Hardware) (units : List Shape) where

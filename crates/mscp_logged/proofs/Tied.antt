@@ -1,53 +1,8 @@
 -- What ties each end of a port's log to the command that it answers.
-use Rattle.std.proofs.Common.{◌≡◌, ◌⊎◌, ◌∙◌, ◌∷◌, ◌<◌, ◌^◌, [], ℕ, All, Bool, true, false, drop, List, None, Option, Some, inl, inr, refl, ap, arith, sym, subst}
-use Rattle.std.specs.Prelude.{◌%◌, Ok, find, slice_index}
-use Rattle.std.specs.List.{AllByRecursion}
-use Rattle.mscp_drive.specs.Settings.{IsValid, Settings}
-use Rattle.mscp_drive.specs.declared.connection.Connection.TheVariants.{First}
-use Rattle.mscp_queue.specs.Records.{Record, has_name}
-use Rattle.mscp_queue.specs.declared.name.Name.{Name}
-use Rattle.mscp_controller.specs.Calls.{AnsweredCalls, Call as Made}
-use Rattle.mscp_controller.specs.Controllers.{ControllersKeepThePromise}
-use Rattle.mscp_controller.specs.Holdings.{Holdings, fresh, outstanding_of}
-use Rattle.mscp_port.specs.Calls.{IsMadeOf}
-use Rattle.mscp_port.specs.Histories.{Answered, Call, Picking, Went}
-use Rattle.mscp_port.specs.declared.action.Outcome.{Outcome}
-use Rattle.mscp_port.specs.declared.hardware.Hardware.{Hardware}
-use Rattle.mscp_port.specs.declared.port.Outgoing.{Outgoing}
+use Rattle.mscp_logged.proofs.Common.{All, AllByRecursion, Answered, AnsweredCalls, AsksAlways, Block, Bool, Call, ControllersKeepThePromise, End, First, Fits, Hardware, Holdings, IsAnswering, IsEnding, IsFault, IsFollowed, IsHow, IsMade, IsMadeOf, IsPast, IsReply, IsSaid, IsStepped, IsValid, IsWhole, List, Made, Name, None, Ok, Option, Order, Outcome, Outgoing, Picking, Port, ReadsBytes, Record, Settings, Some, TellsFaults, Verdict, Went, [], aborts_behind, answer_status, ap, arith, asked_before, awaited, block_told, command_of, controller_in, drop, ends_of, false, fault_of, find, fresh, has_name, inl, inr, is_apart, left_with, num, outcome_status, outstanding_of, own_answer, own_cases, own_end_with, own_refused, own_text, refl, refused_apart, said_fits, sent_by, sent_says, slice_index, steps, subst, sym, true, volume_named, ℕ, ◌%◌, ◌<◌, ◌^◌, ◌∙◌, ◌∷◌, ◌≡◌, ◌⊎◌}
 use Rattle.mscp_port.specs.declared.port.OutgoingKind.TheVariants as kinds
-use Rattle.mscp_port.specs.declared.port.Port.{Port}
-use Rattle.mscp_port.specs.declared.verdict.Verdict.{Verdict}
-use Rattle.mscp_ported.specs.Answers.{own_answer, volume_named}
-use Rattle.mscp_ported.specs.Awaited.{IsAnswering, IsEnding, IsWhole, ReadsBytes, awaited}
-use Rattle.mscp_packet.specs.Commands.{command_of}
-use Rattle.mscp_packet.specs.Number.{num}
-use Rattle.mscp_packet.specs.declared.command.Order.{Order}
-use Rattle.mscp_packet.specs.declared.end.End.{End}
-use Rattle.mscp_drive.specs.declared.block.Block.{Block}
-use Rattle.mscp_queue.specs.Outcomes.{outcome_status}
-use Rattle.mscp_controller.specs.Arrival.{fault_of}
-use Rattle.mscp_controller.specs.Outcomes.{answer_status, own_end_with}
-use Rattle.mscp_port.specs.Blocks.{block_told}
-use Rattle.mscp_ported.specs.Answers.{own_text}
-use Rattle.mscp_ported.proofs.Behind.{aborts_behind}
-use Rattle.mscp_ported.proofs.Coming.{ends_of}
-use Rattle.mscp_ported.proofs.Followed.{IsFollowed, IsReply, IsStepped}
-use Rattle.mscp_ported.proofs.Itself.{IsPast, own_cases, own_refused}
-use Rattle.mscp_wire.specs.Wire.{is_apart, sent_by}
-use Rattle.mscp_shown.proofs.Saying.{sent_says}
-use Rattle.mscp_shown.proofs.Suiting.{IsFault, refused_apart}
 use Rattle.mscp_logged.proofs.Made.{given_is}
-use Rattle.mscp_ported.specs.Fitting.{Fits}
-use Rattle.mscp_ported.specs.Talk.{AsksAlways}
 use Rattle.mscp_ported.proofs.ByOpcode.{ends_said}
-use Rattle.mscp_ported.proofs.Ending.{left_with}
-use Rattle.mscp_ported.proofs.Following.{asked_before}
-use Rattle.mscp_ported.proofs.Moving.{steps}
-use Rattle.mscp_ported.proofs.Opcodes.{IsSaid, said_fits}
-use Rattle.mscp_ported.proofs.Origins.{IsMade}
-use Rattle.mscp_ported.proofs.Transferring.{IsHow}
-use Rattle.mscp_wire.specs.Wire.{controller_in}
-use Rattle.mscp_logged.specs.Rules.{TellsFaults}
 use Rattle.mscp_logged.proofs.Answered.{own_suited}
 use Rattle.mscp_logged.proofs.Coded.{own_fits}
 use Rattle.mscp_logged.proofs.Faults.{IsToldOf, told_fine}

@@ -1,13 +1,6 @@
 -- An end that goes out says that its status may come at once, or its command passes none that is outstanding.
-use Rattle.std.proofs.Common.{◌≡◌, ◌⊎◌, ◌∙◌, ◌++◌, ◌∷◌, [], ℕ, Bool, true, false, filter, not, take, List, inl, inr, refl, ap}
-use Rattle.std.specs.Prelude.{◌%◌, ◌||◌}
-use Rattle.std.specs.List.{AllByRecursion, list_any}
-use Rattle.mscp_packet.specs.Number.{num}
-use Rattle.mscp_drive.specs.declared.connection.Connection.TheVariants.{First}
+use Rattle.mscp_logged.proofs.Common.{AllByRecursion, Bool, First, List, Said, Sent, [], answer_by, ap, command_at, false, filter, inl, inr, is_apart, keeps_back, list_any, not, num, passes_none, refl, sent_by, take, true, ℕ, ◌%◌, ◌++◌, ◌||◌, ◌∙◌, ◌∷◌, ◌≡◌, ◌⊎◌}
 use Rattle.mscp_port.specs.declared.port.OutgoingKind.TheVariants as kinds
-use Rattle.mscp_ported.specs.Told.{Said}
-use Rattle.mscp_wire.specs.Wire.{answer_by, command_at, is_apart, keeps_back, passes_none, sent_by}
-use Rattle.mscp_wire.specs.declared.sent.Sent.{Sent}
 use Rattle.mscp_logged.proofs.Lined.{AreLined}
 use Rattle.mscp_logged.proofs.Passes.{keeps, lined_passes, overtakes, passes, passes_beside, passes_new}
 use Rattle.mscp_logged.proofs.Wired.{named, stem}

@@ -1,21 +1,6 @@
 -- Which commands are outstanding on the wire, beside the messages whose ends a port owes.
-use Rattle.std.proofs.Common.{◌≡◌, ◌⊎◌, ◌∙◌, ◌+◌, ◌++◌, ◌∷◌, [], ℕ, suc, Bool, true, false, cond, drop, filter, length, map, nat_eq, not, take, List, None, inl, inr, refl, ap, sym, subst, arith}
-use Rattle.std.specs.Prelude.{◌||◌}
-use Rattle.std.specs.List.{AllByRecursion, list_any}
-use Rattle.std.proofs.lemmas.List.Elements.{filter-append}
-use Rattle.std.proofs.lemmas.List.Sums.{fold_push}
-use Rattle.mscp_packet.specs.Number.{num}
-use Rattle.mscp_drive.specs.declared.connection.Connection.TheVariants.{First}
+use Rattle.mscp_logged.proofs.Common.{AllByRecursion, Bool, First, History, List, Moment, None, Nothing, Said, Sent, [], after, ap, arith, cond, drop, eq-eqb, eqb-true, false, filter, filter-append, fold_push, has_number, inl, inr, is_named, length, list_any, map, nat_eq, none_beside, none_of_it, not, num, other_number, outstanding, refl, sent_by, sole_left, some_none, standing_after, standing_first, subst, suc, sym, take, timeout, true, ℕ, ◌++◌, ◌+◌, ◌||◌, ◌∙◌, ◌∷◌, ◌≡◌, ◌⊎◌}
 use Rattle.mscp_port.specs.declared.port.OutgoingKind.TheVariants as kinds
-use Rattle.mscp_port.proofs.Common.{eq-eqb, eqb-true}
-use Rattle.mscp_ported.specs.Awaited.{has_number}
-use Rattle.mscp_ported.specs.Told.{Said}
-use Rattle.mscp_ported.proofs.Numbered.{none_beside, none_of_it, other_number, some_none}
-use Rattle.mscp_ported.proofs.Sole.{sole_left}
-use Rattle.mscp_wire.specs.Wire.{History, after, is_named, outstanding, sent_by, standing_after, standing_first, timeout}
-use Rattle.mscp_wire.specs.declared.moment.Moment.{Moment}
-use Rattle.mscp_wire.specs.declared.sent.Asked.TheVariants.{Nothing}
-use Rattle.mscp_wire.specs.declared.sent.Sent.{Sent}
 
 -- ---- commands
 

@@ -1,24 +1,6 @@
 -- What the text of an end says of its code, its status, its unit and what that is, as whoever judges the wire reads it.
-use Rattle.byteorder.specs.Endian.{little_bytes}
-use Rattle.std.proofs.Common.{◌≡◌, ◌⊎◌, ◌∙◌, ◌+◌, ◌*◌, ◌<◌, ◌^◌, ℕ, Bool, true, false, cond, nat_eq, List, Option, None, Some, inl, inr, refl, ap, sym, arith}
-use Rattle.std.specs.Prelude.{◌%◌, ◌/◌, ◌==◌, ◌&&◌, ◌||◌}
-use Rattle.mscp_packet.proofs.Numbers.{two}
-use Rattle.mscp_packet.specs.Number.{num}
-use Rattle.mscp_packet.specs.declared.end.End.{End}
+use Rattle.mscp_logged.proofs.Common.{Answer, Bool, Decided, End, First, Hardware, Identity, List, None, Option, Shape, Some, and_parts, answer_by, ap, arith, body_unit, brings, code_of, cond, describes, end_with_body, ends_formality, eq-eqb, eqb-true, false, false≢true, head, identity_in, inl, inr, is_unsure, little_bytes, nat_eq, num, online_end, plain_end, refl, sym, tells_of_unit, tells_unit, true, two, unit_found, unit_status_end, was_online, ℕ, ◌%◌, ◌&&◌, ◌*◌, ◌+◌, ◌/◌, ◌<◌, ◌==◌, ◌^◌, ◌||◌, ◌∙◌, ◌≡◌, ◌⊎◌}
 use Rattle.mscp_packet.specs.declared.end.EndBody.TheVariants as bodies
-use Rattle.mscp_drive.specs.Shape.{Shape}
-use Rattle.mscp_drive.specs.UnitList.{unit_found}
-use Rattle.mscp_drive.specs.declared.connection.Connection.TheVariants.{First}
-use Rattle.mscp_port.specs.Formalities.{ends_formality}
-use Rattle.mscp_port.specs.Leaving.{end_with_body, head, online_end, plain_end, tells_unit as tells_of_unit, unit_status_end}
-use Rattle.mscp_port.specs.declared.decided.Decided.{Decided}
-use Rattle.mscp_port.specs.declared.hardware.Hardware.{Hardware}
-use Rattle.mscp_port.proofs.Common.{and_parts, eq-eqb, eqb-true, false≢true}
-use Rattle.mscp_ported.proofs.Units.{body_unit}
-use Rattle.mscp_ported.proofs.Whole.{code_of}
-use Rattle.mscp_wire.specs.Wire.{answer_by, brings, describes, identity_in, is_unsure, tells_unit, was_online}
-use Rattle.mscp_wire.specs.declared.answer.Answer.{Answer}
-use Rattle.mscp_wire.specs.declared.identity.Identity.{Identity}
 use Rattle.mscp_logged.proofs.Suited.{body_bits, low_bits}
 use Rattle.mscp_logged.proofs.Texts.{text_with}
 

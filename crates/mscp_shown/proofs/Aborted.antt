@@ -1,15 +1,6 @@
 -- An aborted command's end stands before that of its ABORT, which is outstanding until then.
-use Rattle.mscp_controller.proofs.Basics.{◌≡◌, ◌≢◌, ◌⊎◌, inl, ⊎_elim, zero, ℕ, ◌<◌, Bool, true, false, ◌||◌, List, [], ◌∷◌, ◌++◌, length, drop, map, get_or, suc, refl, ap, sym, ◌∙◌, arith, filter, list_any, Option, Some, None, AllByRecursion, true≢false, Block, Connection, Command, Order, End, Settings, Trace, Name, command, name, name_on, reference, waiting, aborted_unless, aborted_end, good, own_end, fault_of, every_weaker, every_from, every_filter, same_name, same_is}
-use Rattle.std.proofs.Common.{inr}
-use Rattle.std.specs.Prelude.{◌%◌}
+use Rattle.mscp_shown.proofs.Common.{AllByRecursion, Answer, Block, Bool, Command, Connection, End, List, Name, None, Option, Order, Pairs, Sent, Settings, Some, Trace, [], aborted_end, aborted_unless, answer_status, ap, arith, command, drop, every_filter, every_from, every_weaker, false, fault_of, filter, get_or, good, inl, inr, is_named, length, list_any, map, name, name_on, outcome_status, own_end, own_end_with, pairs_append, reference, refl, same_is, same_name, suc, sym, true, true≢false, waiting, zero, ℕ, ⊎_elim, ◌%◌, ◌++◌, ◌<◌, ◌||◌, ◌∙◌, ◌∷◌, ◌≡◌, ◌≢◌, ◌⊎◌}
 use Rattle.mscp_packet.specs.declared.command.Order.TheVariants as orders
-use Rattle.mscp_queue.proofs.Lists.{pairs_append}
-use Rattle.mscp_queue.specs.Outcomes.{outcome_status}
-use Rattle.mscp_queue.specs.Pairs.{Pairs}
-use Rattle.mscp_controller.specs.Outcomes.{answer_status, own_end_with}
-use Rattle.mscp_wire.specs.Wire.{is_named}
-use Rattle.mscp_wire.specs.declared.answer.Answer.{Answer}
-use Rattle.mscp_wire.specs.declared.sent.Sent.{Sent}
 use Rattle.mscp_shown.proofs.Strict.{after_end}
 use Rattle.mscp_shown.proofs.Ordering.{pairs_after}
 use Rattle.mscp_shown.proofs.Owners.{IsOnly, only_after, only_push}

@@ -1,12 +1,10 @@
 -- Lists of outstanding commands that differ only in times, in what was told of them, and in what polls ask, keep the
 -- same rules.
+use Rattle.mscp_shown.proofs.Common.{Nothing, Sent, nat_lt, position, position_or_len}
 use Rattle.std.proofs.Common.{◌≡◌, ℕ, zero, suc, ◌+◌, Bool, false, cond, not, ◌||◌, List, [], ◌∷◌, length, get_or, take, drop, refl, ap, sym, ◌∙◌, Some, None}
-use Rattle.std.specs.Prelude.{count_by, nat_lt}
-use Rattle.std.specs.List.{list_any, position}
+use Rattle.std.specs.Prelude.{count_by}
+use Rattle.std.specs.List.{list_any}
 use Rattle.std.proofs.lemmas.List.Sums.{sum_by-cons}
-use Rattle.std.specs.List.{position_or_len}
-use Rattle.mscp_wire.specs.declared.sent.Asked.TheVariants.{Nothing}
-use Rattle.mscp_wire.specs.declared.sent.Sent.{Sent}
 
 -- a command, without what was told of it, what it asks, what ended beside it, and times
 abbrev pub bare : Sent → Sent

@@ -1,14 +1,8 @@
 -- What a message that is answered when it comes, and a step, change of what is outstanding: each ends as many as it
 -- takes away, and an answered message is one more.
-use Rattle.mscp_controller.proofs.Basics.{◌≡◌, ◌≢◌, ℕ, ◌+◌, Bool, true, false, cond, not, ◌&&◌, List, [], ◌∷◌, refl, ap, sym, ◌∙◌, subst, arith, filter, if◌then◌else◌, count_by, slice_get, Option, Some, None, is_some, option_map, Ok, AllByRecursion, Connection, Command, Order, End, Settings, Trace, Moment, Service, sent_bytes, service_name, command_of, command, connection, name, name_on, reference, waiting, waiting_by, aborts, aborted, aborted_unless, aborted_reference, answer, ends_in, ends_at, own_end, fault_of, map, good, Name, same_connection, same_name, is_same, same_is, is_differ, differ_is, every_weaker, every_from, every_filter, filter_all, filter_filter, filter_on, Event, Block, Step, outcome}
+use Rattle.mscp_shown.proofs.Common.{AllByRecursion, Block, Bool, Command, Connection, End, Entry, Event, List, Moment, Name, None, Ok, Option, Order, Service, Settings, Some, Step, Trace, [], aborted, aborted_unless, aborts, answer, ap, arith, command, command_of, cond, connection, count_by, differ_is, ends_at, ends_in, ends_served, every_filter, every_from, every_weaker, false, fault_of, figure_asked, filter, filter_all, filter_filter, filter_on, good, if◌then◌else◌, is_differ, is_online, is_same, is_some, kept_own, map, name, name_on, not, option_map, outcome, own_end, own_end_with, reference, refl, same_connection, same_is, same_name, sent_bytes, service_name, slice_get, subst, sum_by_map, sum_by_push, sym, true, waiting, waiting_by, ℕ, ◌&&◌, ◌+◌, ◌∙◌, ◌∷◌, ◌≡◌, ◌≢◌}
+use Rattle.mscp_controller.proofs.Basics.{aborted_reference}
 use Rattle.mscp_controller.specs.declared.entry.Sent.{Sent}
-use Rattle.mscp_controller.specs.declared.entry.Entry.{Entry}
-use Rattle.mscp_controller.specs.Outcomes.{own_end_with}
-use Rattle.mscp_controller.specs.Units.{is_online}
-use Rattle.mscp_controller.specs.Ends.{figure_asked}
-use Rattle.mscp_controller.proofs.Promise.Served.{ends_served, kept_own}
-use Rattle.mscp_queue.proofs.Placed.{sum_by_map}
-use Rattle.std.proofs.lemmas.List.Sums.{sum_by_push}
 use Rattle.mscp_queue.specs.Outcomes.{aborted_end}
 use Rattle.mscp_shown.proofs.Counts.{one_gone, parted}
 use Rattle.mscp_shown.proofs.Owed.{kept, one_if}

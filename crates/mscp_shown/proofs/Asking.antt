@@ -1,10 +1,6 @@
 -- The answer to a poll has one end, which tells the figure of the command that the poll is about.
-use Rattle.mscp_controller.proofs.Basics.{◌≡◌, ℕ, Bool, false, List, [], ◌∷◌, ◌++◌, refl, ap, sym, ◌∙◌, subst, Option, Some, None, Connection, Command, Order, End, Settings, Trace, command, command_of, aborted, aborted_unless, answer, own_end, fault_of, figure_of, is_queued, name_on, map, aborted_end, good, AllByRecursion, every_append}
-use Rattle.mscp_controller.specs.Ends.{figure_asked}
-use Rattle.mscp_controller.specs.Units.{is_online}
+use Rattle.mscp_shown.proofs.Common.{AllByRecursion, Bool, Command, Connection, End, List, None, Option, Order, Sent, Settings, Some, Trace, [], aborted, aborted_end, aborted_unless, answer, ap, command, command_of, every_append, false, fault_of, figure_asked, figure_of, good, is_online, is_queued, map, name_on, own_end, refl, sent_by, subst, sym, ℕ, ◌++◌, ◌∙◌, ◌∷◌, ◌≡◌}
 use Rattle.mscp_packet.specs.declared.command.Order.TheVariants as orders
-use Rattle.mscp_wire.specs.Wire.{sent_by}
-use Rattle.mscp_wire.specs.declared.sent.Sent.{Sent}
 use Rattle.mscp_shown.proofs.Making.{Facts, aborted_silent}
 use Rattle.mscp_shown.proofs.Owners.{IsNew}
 use Rattle.mscp_shown.proofs.Owning.{Owners}

@@ -1,7 +1,5 @@
 -- What the ends that weren't taken will tell of a command: each figure is lower than the one before.
-use Rattle.mscp_controller.proofs.Basics.{◌≡◌, ℕ, ◌<◌, Bool, true, false, ◌&&◌, ◌||◌, List, [], ◌∷◌, ◌++◌, refl, ap, sym, ◌∙◌, subst, arith, if◌then◌else◌, list_any, nat_eq, Option, Some, None, AllByRecursion, true≢false, false≢true, Connection, End}
-use Rattle.mscp_wire.specs.Wire.{is_below, is_it, is_named}
-use Rattle.mscp_wire.specs.declared.sent.Sent.{Sent}
+use Rattle.mscp_shown.proofs.Common.{AllByRecursion, Bool, Connection, End, List, None, Option, Sent, Some, [], ap, arith, false, false≢true, if◌then◌else◌, is_below, is_it, is_named, list_any, nat_eq, refl, subst, sym, true, true≢false, ℕ, ◌&&◌, ◌++◌, ◌<◌, ◌||◌, ◌∙◌, ◌∷◌, ◌≡◌}
 use Rattle.mscp_shown.proofs.Polling.{figure_told, poll_of}
 
 -- an end's command is among these

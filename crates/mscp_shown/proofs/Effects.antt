@@ -1,17 +1,7 @@
 -- What the ends that a controller makes say of the states of their units.
-use Rattle.mscp_controller.proofs.Basics.{◌≡◌, ◌≢◌, ⊎_elim, ℕ, ◌≤◌, Bool, true, false, ◌&&◌, ◌||◌, refl, ap, sym, ◌∙◌, arith, if◌then◌else◌, nat_eq, Option, Some, None, is_some, true≢false, false≢true, Command, Order, Block, Settings, Shape, unit_found, fault_of, is_queued, queued_open, own_end, aborted_end, some_same, state_after}
+use Rattle.mscp_shown.proofs.Common.{Bad, Block, Bool, Command, Good, MoveKind, None, Option, Order, Sent, Settings, Shape, Some, aborted_end, answer_status, ap, arith, bit_or, endcode, false, false≢true, fault_of, if◌then◌else◌, is_immediate, is_moved, is_of_unit, is_queued, is_some, move_byte, move_fault, nat_eq, order_fault, outcome_of, outcome_status, own_end, own_end_with, queued_open, refl, some_same, state_after, sym, true, true≢false, unit_fault, unit_found, ℕ, ⊎_elim, ◌%◌, ◌&&◌, ◌/◌, ◌||◌, ◌∙◌, ◌≡◌, ◌≢◌, ◌≤◌}
 use Rattle.std.proofs.lemmas.Bool.{and_parts, eqb-true}
-use Rattle.std.specs.Prelude.{◌/◌, ◌%◌, bit_or}
-use Rattle.mscp_packet.specs.Opcodes.{move_byte}
-use Rattle.mscp_packet.specs.declared.command.MoveKind.{MoveKind}
 use Rattle.mscp_packet.specs.declared.command.Order.TheVariants as orders
-use Rattle.mscp_drive.specs.declared.block.Block.TheVariants.{Bad, Good}
-use Rattle.mscp_queue.specs.Orders.{endcode}
-use Rattle.mscp_queue.specs.Outcomes.{outcome_status}
-use Rattle.mscp_controller.specs.Arrival.{is_immediate, move_fault, order_fault, unit_fault}
-use Rattle.mscp_controller.specs.Outcomes.{answer_status, outcome_of, own_end_with}
-use Rattle.mscp_wire.specs.Wire.{is_moved, is_of_unit}
-use Rattle.mscp_wire.specs.declared.sent.Sent.{Sent}
 use Rattle.mscp_shown.proofs.Saying.{Says}
 use Rattle.mscp_shown.proofs.Suiting.{IsFault, refused_apart, valid_order}
 

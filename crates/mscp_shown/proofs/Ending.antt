@@ -1,17 +1,9 @@
 -- A take keeps all that holds, and the end that it shows keeps its rules.
-use Rattle.mscp_controller.proofs.Basics.{◌≡◌, ℕ, ◌+◌, ◌<◌, ◌≤◌, Bool, true, false, cond, not, ◌&&◌, List, [], ◌∷◌, ◌++◌, length, take, drop, refl, ap, sym, ◌∙◌, subst, append-nil, arith, count_by, nat_eq, Some, AllByRecursion, false≢true, ArrayVec, Connection, End, IsOfKind, Settings, Trace, Moment, connection, name, reference, waiting, waiting_by, ends_in, untaken, end_bytes, every_from, every_weaker, own_side, one_side, same_connection, Event, IsRight, eq-eqb, First, get_or, untaken_more, list_any, and_parts, eqb-true}
-use Rattle.mscp_controller.specs.declared.entry.Entry.{Entry}
-use Rattle.std.specs.List.{position}
-use Rattle.std.proofs.lemmas.List.Quantifiers.{position-Some}
-use Rattle.mscp_controller.proofs.Promise.Known.{Known}
-use Rattle.mscp_packet.specs.Number.{num}
-use Rattle.mscp_wire.specs.Wire.{History, answer_by, command_at, has_abort, is_it, is_long, is_named, moment_at, place_of, sent_by, status_code}
+use Rattle.mscp_shown.proofs.Common.{AllByRecursion, Answered, ArrayVec, Bool, Connection, End, EndBody, Entry, Event, IsOfKind, IsRight, Known, List, Moment, Out, Settings, Some, Trace, [], and_parts, answer_by, ap, append-nil, arith, cases_lt, command_at, cond, connection, count_by, drop, end_bytes, ends_in, eq-eqb, eqb-true, every_from, every_weaker, false, false≢true, get_or, get_or-take, has_abort, inr, is_apart, is_it, is_long, is_named, keeps_back, length, length-take-le, list_any, name, nat_eq, not, num, one_side, own_side, passes_none, place_of, polled_by, position, position-Some, reference, refl, same_connection, sent_by, shown, status_code, subst, sym, take, true, untaken, untaken_more, waiting, waiting_by, ℕ, ◌%◌, ◌&&◌, ◌++◌, ◌+◌, ◌<◌, ◌∙◌, ◌∷◌, ◌≡◌, ◌≤◌}
+use Rattle.mscp_controller.proofs.Basics.{First}
 use Rattle.mscp_wire.specs.Wire as wire
-use Rattle.mscp_wire.specs.declared.sent.Sent.{Sent as Out}
-use Rattle.std.specs.Prelude.{◌%◌, ◌||◌, if◌then◌else◌}
-use Rattle.mscp_wire.specs.declared.answer.Answer.{Answer as Answered}
+use Rattle.std.specs.Prelude.{◌||◌, if◌then◌else◌}
 use Rattle.mscp_wire.specs.declared.moment.Moment.TheVariants as moments
-use Rattle.mscp_shown.specs.Shown.{shown}
 use Rattle.mscp_shown.proofs.Strict.{after_end, outstanding}
 use Rattle.mscp_shown.proofs.Aborted.{Aborts, EndsAbort, IsAbort, IsBehind, aborts_after, aborts_rest, any_behind, any_out}
 use Rattle.mscp_shown.proofs.Counts.{each_counted, some_place}
@@ -24,12 +16,8 @@ use Rattle.mscp_shown.proofs.Owning.{Owners, waits_more}
 use Rattle.mscp_shown.proofs.Reading.{IsFit, reads}
 use Rattle.mscp_shown.proofs.Shown.{placed, tally, tally_end}
 use Rattle.mscp_shown.proofs.Taking.{Takes, long_end, reference_read}
-use Rattle.std.proofs.Common.{⊎_elim, ◌⊎◌, inl, inr, suc}
-use Rattle.std.proofs.lemmas.Bool.{cases_lt}
-use Rattle.std.proofs.lemmas.List.{get_or-take, length-take-le}
-use Rattle.mscp_packet.specs.declared.end.EndBody.{EndBody}
+use Rattle.std.proofs.Common.{⊎_elim, ◌⊎◌, inl, suc}
 use Rattle.mscp_packet.specs.declared.end.EndBody.TheVariants as bodies
-use Rattle.mscp_wire.specs.Wire.{polled_by}
 use Rattle.mscp_shown.proofs.Heeded.{figure_right, heard_took}
 use Rattle.mscp_shown.proofs.Listening.{Heard}
 use Rattle.mscp_shown.proofs.Polling.{figure_by, figure_told, poll_by, poll_of}
@@ -40,7 +28,6 @@ use Rattle.mscp_shown.proofs.Ordering.{Clear, IsClearOf, Ordered}
 use Rattle.mscp_shown.proofs.Staying.{orders_took}
 use Rattle.mscp_shown.proofs.Waiting.{Orders}
 use Rattle.mscp_shown.proofs.Pairing.{index_pairs, every_index, none_of}
-use Rattle.mscp_wire.specs.Wire.{is_apart, keeps_back, passes_none}
 
 -- an ABORT isn't aborted
 abort_apart : (y : Out) (a : Answered) → y.opcode ≡ 1 → status_code a ≡ 2 → wire.has_status y a ≡ true → ⊥

@@ -1,8 +1,5 @@
 -- The figure of a command that waits falls between two moments with a step between them.
-use Rattle.mscp_controller.proofs.Basics.{◌≡◌, ℕ, zero, suc, ◌+◌, ◌<◌, ◌≤◌, true, length, take, ap, sym, subst, arith, Settings, Trace, moment, is_step, is_waiting, figure, Promise, ◌-◌}
-use Rattle.std.proofs.lemmas.List.{length-take-le, take_all}
-use Rattle.mscp_controller.proofs.Promise.Known.{more_at}
-use Rattle.mscp_controller.proofs.Promise.Progress.{waits_in}
+use Rattle.mscp_shown.proofs.Common.{Promise, Settings, Trace, ap, arith, figure, is_step, is_waiting, length, length-take-le, moment, more_at, subst, suc, sym, take, take_all, true, waits_in, zero, ℕ, ◌+◌, ◌-◌, ◌<◌, ◌≡◌, ◌≤◌}
 use Rattle.mscp_shown.proofs.Placing.{waited}
 
 module _ (c : Settings) (t : Trace) (x : ℕ) (w : is_waiting t x ≡ true) (promise : Promise c t) where

@@ -1,20 +1,9 @@
 -- The numbers of the ends that a controller makes fit their places, where its messages are bytes.
-use Rattle.mscp_controller.proofs.Basics.{◌≡◌, ℕ, ◌+◌, ◌<◌, Bool, true, false, cond, ◌&&◌, List, length, refl, subst, arith, if◌then◌else◌, Option, Some, None, Command, Order, Block, Settings, Shape, fault_of, own_end, aborted_end, unit_found, unit_shape, command_of, is_queued, queued_open, some_same}
-use Rattle.std.specs.Prelude.{◌%◌, ◌^◌, nat_lt, slice_index}
-use Rattle.mscp_packet.specs.Commands.{order_with, parameters}
-use Rattle.mscp_packet.specs.Ends.{refused_body, zero_body, kind_of_code}
-use Rattle.mscp_packet.specs.Opcodes.{least, opcode_of}
-use Rattle.mscp_packet.specs.declared.class.Opcode.{Opcode}
+use Rattle.mscp_shown.proofs.Common.{AreBytes, Block, BodyKind, Bool, Command, List, None, Opcode, Option, Order, Settings, Shape, Some, aborted_end, answer_body, answer_status, arith, command_of, cond, endcode, false, fault_of, if◌then◌else◌, is_good_block, is_queued, is_success, kind_of_code, least, length, move_fault, moved_body, nat_lt, opcode_of, order_fault, order_with, outcome_body, outcome_of, outcome_status, own_end, own_end_with, parameters, queued_open, refl, refused_body, slice_index, some_same, subst, touches, true, unit_fault, unit_found, unit_shape, version_fault, zero_body, ℕ, ◌%◌, ◌&&◌, ◌+◌, ◌<◌, ◌^◌, ◌≡◌}
 use Rattle.mscp_packet.specs.declared.class.Opcode.TheVariants as codes
 use Rattle.mscp_packet.specs.declared.command.Order.TheVariants as orders
-use Rattle.mscp_packet.specs.declared.end.BodyKind.{BodyKind}
 use Rattle.mscp_packet.specs.declared.end.BodyKind.TheVariants as kinds
 use Rattle.mscp_packet.specs.declared.end.EndBody.TheVariants as bodies
-use Rattle.mscp_queue.specs.Orders.{endcode}
-use Rattle.mscp_queue.specs.Outcomes.{is_good_block, is_success, moved_body, outcome_body, outcome_status, touches}
-use Rattle.mscp_controller.specs.Arrival.{move_fault, order_fault, unit_fault, version_fault}
-use Rattle.mscp_controller.specs.Outcomes.{answer_body, answer_status, outcome_of, own_end_with}
-use Rattle.mscp_shown.specs.Keeping.{AreBytes}
 use Rattle.mscp_shown.proofs.Reading.{IsBodyFit, IsFit}
 use Rattle.mscp_shown.proofs.Suiting.{IsFault, valid_order}
 use Rattle.mscp_shown.proofs.Telling.{answer_controls, answer_tells, immediate, never_success, outcome_controls, outcome_tells}

@@ -1,12 +1,6 @@
 -- What hosts will hear of each outstanding command, and what each moment keeps of that.
-use Rattle.mscp_controller.proofs.Basics.{◌≡◌, ◌⊎◌, inl, ⊎_elim, ℕ, ◌<◌, ◌≤◌, Bool, true, false, ◌||◌, List, [], ◌∷◌, ◌++◌, length, take, ap, sym, ◌∙◌, subst, arith, append-nil, append_assoc, list_any-append, nat_eq, Option, Some, None, AllByRecursion, true≢false, Connection, End, Name, Settings, Trace, Moment, moment, figure, every_weaker, take-append-le}
-use Rattle.std.proofs.Common.{inr}
-use Rattle.std.proofs.lemmas.List.{length_push}
-use Rattle.mscp_controller.proofs.Promise.Grows.{moment_before}
-use Rattle.mscp_wire.specs.Wire.{command_at, is_below, is_it, is_named, polled_by}
+use Rattle.mscp_shown.proofs.Common.{AllByRecursion, Bool, Connection, End, List, Moment, Name, None, Option, Polls, Sent, Settings, Some, Trace, [], ap, append-nil, append_assoc, arith, every_weaker, false, figure, inl, inr, is_named, length, length_push, list_any-append, moment, moment_before, nat_eq, subst, sym, take, take-append-le, true, true≢false, ℕ, ⊎_elim, ◌++◌, ◌<◌, ◌||◌, ◌∙◌, ◌∷◌, ◌≡◌, ◌≤◌, ◌⊎◌}
 use Rattle.mscp_wire.specs.Wire as wire
-use Rattle.mscp_wire.specs.declared.sent.Sent.{Sent}
-use Rattle.mscp_shown.specs.Keeping.{Polls}
 use Rattle.mscp_shown.proofs.Chaining.{Chain, chain_append, chain_same, chain_silent, heard, is_over, last_append, last_same, last_silent, last_told, silent_last, silent_of, tells}
 use Rattle.mscp_shown.proofs.Polling.{figure_told, poll_of}
 use Rattle.mscp_shown.proofs.Shown.{tally}

@@ -1,12 +1,7 @@
 -- A take keeps what hosts will hear, and its own figure is right.
-use Rattle.mscp_controller.proofs.Basics.{◌≡◌, ⊎_elim, ℕ, suc, ◌+◌, ◌<◌, ◌≤◌, Bool, true, false, ◌&&◌, ◌||◌, List, [], ◌∷◌, ◌++◌, length, map, take, drop, get_or, refl, ap, sym, ◌∙◌, subst, arith, append-nil, append_assoc, drop_more, list_any-append, find, count_by, sum_by, sum_by-cons, list_any, nat_eq, nat_lt, Option, Some, None, AllByRecursion, true≢false, and_parts, eq-eqb, eqb-true, lt-ltb, take-append-drop, Connection, End, Name, name_on, Settings, Trace, Moment, is_waiting, name, connection, reference, queues, takes, ends, ends_at, untaken, untaken_more, every_parts, every_mapped, every_weaker, one_side, own_side, same_connection}
-use Rattle.mscp_controller.proofs.Promise.Grows.{name_before}
-use Rattle.mscp_drive.specs.declared.connection.Connection.TheVariants.{First}
-use Rattle.mscp_queue.proofs.Placed.{find_cases, find_first, find_none}
-use Rattle.mscp_wire.specs.Wire.{command_at, is_below, is_it, is_named, place_of, polled_by, sent_by}
+use Rattle.mscp_shown.proofs.Common.{AllByRecursion, Answer, Bool, Connection, End, First, List, Moment, Name, None, Option, Sent, Settings, Some, Trace, [], and_parts, ap, append-nil, append_assoc, arith, command_at, connection, count_by, drop, drop_more, ends, ends_at, eq-eqb, eqb-true, every_mapped, every_parts, every_weaker, false, find_cases, find_first, find_none, get_or, is_below, is_it, is_named, is_waiting, length, list_any, list_any-append, lt-ltb, map, name, name_before, name_on, nat_eq, one_side, own_side, place_of, polled_by, queues, reference, refl, same_connection, sent_by, subst, suc, sum_by, sum_by-cons, sym, take, take-append-drop, takes, true, true≢false, untaken, untaken_more, ℕ, ⊎_elim, ◌&&◌, ◌++◌, ◌+◌, ◌<◌, ◌||◌, ◌∙◌, ◌∷◌, ◌≡◌, ◌≤◌}
+use Rattle.mscp_controller.proofs.Basics.{find, nat_lt}
 use Rattle.mscp_wire.specs.Wire as wire
-use Rattle.mscp_wire.specs.declared.answer.Answer.{Answer}
-use Rattle.mscp_wire.specs.declared.sent.Sent.{Sent}
 use Rattle.mscp_shown.proofs.Strict.{after_end, has_figure, hears, may_tell}
 use Rattle.mscp_shown.proofs.Chaining.{goes_told, heard, tells}
 use Rattle.mscp_shown.proofs.Counts.{none_passes}

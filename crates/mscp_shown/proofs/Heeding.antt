@@ -1,10 +1,7 @@
 -- What hosts hear of the other commands when they take an end.
-use Rattle.mscp_controller.proofs.Basics.{◌≡◌, inl, ⊎_elim, ℕ, zero, suc, ◌+◌, ◌<◌, Bool, true, false, ◌&&◌, ◌||◌, List, [], ◌∷◌, ◌++◌, length, map, take, drop, get_or, refl, ap, sym, ◌∙◌, subst, arith, if◌then◌else◌, list_any, nat_eq, Option, Some, None, AllByRecursion, true≢false, and_parts, eq-eqb, eqb-true, eqb-false, ne_eqb, or_parts, Connection, End, every_weaker}
-use Rattle.std.proofs.Common.{inr}
-use Rattle.mscp_wire.specs.Wire.{is_it, is_named}
+use Rattle.mscp_shown.proofs.Common.{AllByRecursion, Answer, Bool, Connection, End, List, None, Option, Sent, Some, [], and_parts, ap, arith, drop, eq-eqb, eqb-false, eqb-true, every_weaker, false, get_or, if◌then◌else◌, inl, inr, is_it, is_named, length, list_any, map, nat_eq, ne_eqb, refl, subst, suc, sym, take, true, true≢false, zero, ℕ, ⊎_elim, ◌&&◌, ◌++◌, ◌+◌, ◌<◌, ◌||◌, ◌∙◌, ◌∷◌, ◌≡◌}
+use Rattle.mscp_controller.proofs.Basics.{or_parts}
 use Rattle.mscp_wire.specs.Wire as wire
-use Rattle.mscp_wire.specs.declared.answer.Answer.{Answer}
-use Rattle.mscp_wire.specs.declared.sent.Sent.{Sent}
 use Rattle.mscp_shown.proofs.Strict.{hears}
 use Rattle.mscp_shown.proofs.Chaining.{Chain, chain_same, goes_by, goes_told, heard, is_over, last_same, last_told, tells}
 use Rattle.mscp_shown.proofs.Hearing.{Chains, Lasts, Stands}

@@ -1,26 +1,16 @@
 -- What an end tells of its unit, and how the rules of the wire read it.
+use Rattle.mscp_shown.proofs.Common.{Answer, Away, BodyKind, EndBody, History, Identity, Noted, Open, Sent, Shared, State, Told, agrees, answer_by, brings, fits, is_known_unit, is_same_unit, is_single, is_unsure, kind_of_body, kind_of_code, later_of, learns, leaves, little_bytes, nat_le, noted_other, noted_own, num, says_away, shares, status_code, tells_unit, told, told_after_end, told_after_message, turned, was_online}
 use Rattle.std.proofs.Common.{◌≡◌, ℕ, ◌%◌, arith, Bool, true, false, not, ◌&&◌, ◌||◌, refl, ap, sym, ◌∙◌, subst, List, length, Option, Some, None}
-use Rattle.std.specs.Prelude.{if◌then◌else◌, nat_eq, nat_le}
+use Rattle.std.specs.Prelude.{if◌then◌else◌, nat_eq}
 use Rattle.std.proofs.lemmas.Bool.{and_parts, eq-eqb, eqb-true, false≢true}
-use Rattle.mscp_packet.specs.Common.{little_bytes}
-use Rattle.mscp_packet.specs.Ends.{IsOfKind, end_bytes, kind_of_body, kind_of_code}
-use Rattle.mscp_packet.specs.Number.{num}
-use Rattle.mscp_packet.specs.declared.end.BodyKind.{BodyKind}
+use Rattle.mscp_packet.specs.Ends.{IsOfKind, end_bytes}
 use Rattle.mscp_packet.specs.declared.end.BodyKind.TheVariants as kinds
 use Rattle.mscp_packet.specs.declared.end.End.{End}
-use Rattle.mscp_packet.specs.declared.end.EndBody.{EndBody}
 use Rattle.mscp_packet.specs.declared.end.EndBody.TheVariants as bodies
 use Rattle.mscp_drive.specs.Shape.{Shape}
 use Rattle.mscp_drive.specs.Settings.{Settings, unit_shape}
 use Rattle.mscp_drive.specs.declared.connection.Connection.{Connection}
-use Rattle.mscp_wire.specs.Wire.{History, agrees, answer_by, brings, fits, is_known_unit, is_same_unit, is_single, is_unsure, later_of, learns, leaves, noted_other, noted_own, same_connection, says_away, shares, status_code, tells_unit, told, told_after_end, told_after_message, turned, was_online}
-use Rattle.mscp_wire.specs.declared.answer.Answer.{Answer}
-use Rattle.mscp_wire.specs.declared.identity.Identity.{Identity}
-use Rattle.mscp_wire.specs.declared.noted.Noted.{Noted}
-use Rattle.mscp_wire.specs.declared.sent.Sent.{Sent}
-use Rattle.mscp_wire.specs.declared.told.State.{State}
-use Rattle.mscp_wire.specs.declared.told.State.TheVariants.{Away, Open, Shared}
-use Rattle.mscp_wire.specs.declared.told.Told.{Told}
+use Rattle.mscp_wire.specs.Wire.{same_connection}
 
 -- a body tells of a unit what it is
 abbrev pub BodyTells : Shape → EndBody → Type 0

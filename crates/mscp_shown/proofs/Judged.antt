@@ -1,22 +1,15 @@
 -- All that keeps the stricter rules of figures is right to the judge of the wire.
+use Rattle.mscp_shown.proofs.Common.{Answer, Asked, Gone, History, Nothing, Oldest, Seen, Sent, Standing, Told, answer_by, command_at, find, find_none, fold_push, has_credit, is_below, is_named, is_polled, limit_of, moment_at, nat_lt, or_parts, pairs_append, place_of, polled_by, sent_by}
 use Rattle.std.proofs.Common.{◌≡◌, ℕ, zero, suc, ◌+◌, ◌<◌, ◌≤◌, Bool, true, false, cond, not, ◌&&◌, ◌||◌, List, [], ◌∷◌, ◌++◌, length, get_or, take, drop, map, refl, ap, sym, ◌∙◌, subst, arith, Option, Some, None}
-use Rattle.std.specs.Prelude.{find, if◌then◌else◌, nat_eq, nat_lt}
+use Rattle.std.specs.Prelude.{if◌then◌else◌, nat_eq}
 use Rattle.std.specs.List.{AllByRecursion, list_any}
-use Rattle.std.proofs.lemmas.Bool.{false≢true, or_parts}
-use Rattle.std.proofs.lemmas.List.Sums.{fold_push}
-use Rattle.mscp_queue.proofs.Lists.{every_from, every_weaker, pairs_append}
-use Rattle.mscp_queue.proofs.Placed.{find_none}
+use Rattle.std.proofs.lemmas.Bool.{false≢true}
+use Rattle.mscp_queue.proofs.Lists.{every_from, every_weaker}
 use Rattle.mscp_wire.specs.Wire as wire
-use Rattle.mscp_wire.specs.Wire.{History, Standing, answer_by, command_at, has_credit, is_below, is_immediate, is_named, is_polled, limit_of, moment_at, place_of, polled_by, same_connection, sent_by}
-use Rattle.mscp_wire.specs.declared.answer.Answer.{Answer}
+use Rattle.mscp_wire.specs.Wire.{is_immediate, same_connection}
 use Rattle.mscp_wire.specs.declared.moment.Moment.{Moment}
 use Rattle.mscp_wire.specs.declared.moment.Moment.TheVariants as moments
 use Rattle.mscp_wire.specs.declared.rule.Rule.TheVariants as rules
-use Rattle.mscp_wire.specs.declared.sent.Asked.{Asked}
-use Rattle.mscp_wire.specs.declared.sent.Asked.TheVariants.{Gone, Nothing, Oldest}
-use Rattle.mscp_wire.specs.declared.sent.Sent.{Sent}
-use Rattle.mscp_wire.specs.declared.told.Seen.{Seen}
-use Rattle.mscp_wire.specs.declared.told.Told.{Told}
 use Rattle.mscp_drive.specs.declared.connection.Connection.{Connection}
 use Rattle.mscp_shown.proofs.Alike.{Alike, alike_any, alike_at, alike_count, alike_drop, alike_position, alike_take, bare}
 use Rattle.mscp_shown.proofs.Lenient.{Falls, apart_at, apart_from, falls_found, falls_one, hears_bare, linked_end, named_turned, pairs_take}

@@ -1,19 +1,11 @@
 -- An end that suits what a command asks for keeps the rules that look at that command alone.
-use Rattle.std.proofs.Common.{◌≡◌, ◌≢◌, ◌⊎◌, inl, inr, ⊎_elim, ℕ, ◌+◌, ◌/◌, ◌%◌, ◌<◌, ◌≤◌, Bool, true, false, not, ◌&&◌, ◌||◌, refl, ap, sym, ◌∙◌, subst, arith, Option, Some, None}
-use Rattle.std.proofs.lemmas.Bool.{cases_lt, eq-eqb, eqb-true, le-leb, lt-ltb}
-use Rattle.std.specs.Prelude.{bit_or, is_some, if◌then◌else◌, nat_eq, nat_le, nat_lt}
-use Rattle.mscp_packet.specs.Ends.{refused_body}
-use Rattle.mscp_packet.specs.Opcodes.{move_byte, row_of}
-use Rattle.mscp_packet.specs.declared.class.Opcode.{Opcode}
+use Rattle.mscp_shown.proofs.Common.{Answer, EndBody, MoveKind, Opcode, Sent, bit_or, cases_lt, count_of, endcode, has_code, has_count, has_status, inr, is_about, is_about_another, is_counted, is_it, is_known, is_plain, is_refused, is_required, is_short, is_transfer, is_unknown, is_whole, le-leb, least_message, may_have, move_byte, moves, names_unit, nat_le, nat_lt, points_into, refused_body, row_of, status_code, succeeds, was_online}
+use Rattle.std.proofs.Common.{◌≡◌, ◌≢◌, ◌⊎◌, inl, ⊎_elim, ℕ, ◌+◌, ◌/◌, ◌%◌, ◌<◌, ◌≤◌, Bool, true, false, not, ◌&&◌, ◌||◌, refl, ap, sym, ◌∙◌, subst, arith, Option, Some, None}
+use Rattle.std.proofs.lemmas.Bool.{eq-eqb, eqb-true, lt-ltb}
+use Rattle.std.specs.Prelude.{is_some, if◌then◌else◌, nat_eq}
 use Rattle.mscp_packet.specs.declared.class.Opcode.TheVariants as codes
-use Rattle.mscp_packet.specs.declared.command.MoveKind.{MoveKind}
 use Rattle.mscp_packet.specs.declared.command.Order.{Order}
 use Rattle.mscp_packet.specs.declared.command.Order.TheVariants as orders
-use Rattle.mscp_packet.specs.declared.end.EndBody.{EndBody}
-use Rattle.mscp_queue.specs.Orders.{endcode}
-use Rattle.mscp_wire.specs.Wire.{count_of, is_counted, has_code, has_count, has_status, is_about, is_about_another, is_it, is_known, is_plain, is_refused, is_required, is_short, is_transfer, is_unknown, is_whole, least_message, may_have, moves, names_unit, points_into, status_code, succeeds, was_online}
-use Rattle.mscp_wire.specs.declared.answer.Answer.{Answer}
-use Rattle.mscp_wire.specs.declared.sent.Sent.{Sent}
 use Rattle.mscp_shown.proofs.Reading.{BodyReads}
 use Rattle.mscp_shown.proofs.Saying.{IsLong, IsShort, Says}
 use Rattle.mscp_shown.proofs.Suited.{IsApt, IsFine, Keeps, Suits}

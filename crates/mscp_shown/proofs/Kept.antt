@@ -1,23 +1,13 @@
 -- What holds after each part of a legal trace, and what a moment has to keep of it.
-use Rattle.mscp_controller.proofs.Basics.{End}
-use Rattle.mscp_controller.proofs.Basics.{◌≡◌, ℕ, ◌+◌, ◌<◌, Bool, true, false, not, List, [], ◌∷◌, ◌++◌, length, refl, ap, sym, ◌∙◌, subst, append-nil, arith, Option, Some, None, AllByRecursion, true≢false, false≢true, Connection, Command, Settings, Trace, Moment, takes, command, name, waiting, waiting_by, ends_in, ends_at, ends, untaken, every_from, same_connection, is_queued, IsRight, each_push, taken_when, All-from_recursion, queues, get_or}
+use Rattle.mscp_shown.proofs.Common.{All-from_recursion, AllByRecursion, Bool, Command, Connection, End, History, Identity, IsRight, Known, List, Moment, None, Option, Settings, Some, Told, Trace, Wired, [], aborted_reference, ap, append-nil, arith, command, each_push, ends, ends_at, ends_in, every_from, false, false≢true, get_or, is_queued, length, name, not, queues, refl, same_connection, shown, shown_by, subst, sym, taken_when, takes, told, told_after, told_push, true, true≢false, untaken, waiting, waiting_by, ℕ, ◌++◌, ◌+◌, ◌<◌, ◌∙◌, ◌∷◌, ◌≡◌}
 use Rattle.mscp_controller.specs.declared.entry.Sent.{Sent}
-use Rattle.mscp_controller.proofs.Promise.Known.{Known}
-use Rattle.mscp_controller.specs.Credits.{aborted_reference}
-use Rattle.mscp_wire.specs.Wire.{History, answer_by, command_at, has_abort, is_it, is_long, is_named, moment_at, place_of, sent_by, status_code}
 use Rattle.mscp_wire.specs.Wire as wire
-use Rattle.mscp_wire.specs.declared.moment.Moment.{Moment as Wired}
 use Rattle.mscp_wire.specs.declared.moment.Moment.TheVariants as moments
 use Rattle.mscp_shown.proofs.Strict as strict
 use Rattle.mscp_shown.proofs.Strict.{AreRight, after, after_end, outstanding}
 use Rattle.mscp_shown.proofs.Messages.{HasRoom}
-use Rattle.mscp_wire.specs.Wire.{told, told_after}
-use Rattle.mscp_wire.proofs.Passing.{told_push}
-use Rattle.mscp_wire.specs.declared.identity.Identity.{Identity}
-use Rattle.mscp_wire.specs.declared.told.Told.{Told}
 use Rattle.mscp_drive.specs.Settings.{unit_shape}
 use Rattle.mscp_shown.proofs.Identity.{AreTold, IsOf}
-use Rattle.mscp_shown.specs.Shown.{shown, shown_by}
 use Rattle.mscp_shown.proofs.Aborted.{Aborts}
 use Rattle.mscp_shown.proofs.Owed.{came, owed, owed_more, quiet}
 use Rattle.mscp_shown.proofs.Making.{IsEven}

@@ -1,18 +1,14 @@
 -- A history that keeps the stricter rules of figures keeps those of the judge of the wire.
+use Rattle.mscp_shown.proofs.Common.{Answer, Asked, Gone, Nothing, Oldest, Pairs, Sent, find, is_below, is_it, is_named, is_polled, nat_lt, or_parts, polled_by}
 use Rattle.std.proofs.Common.{◌≡◌, ℕ, zero, suc, ◌<◌, Bool, true, false, cond, ◌&&◌, ◌||◌, List, [], ◌∷◌, ◌++◌, length, get_or, take, drop, map, refl, ap, sym, ◌∙◌, subst, arith, Option, Some, None}
-use Rattle.std.specs.Prelude.{find, if◌then◌else◌, nat_eq, nat_lt}
+use Rattle.std.specs.Prelude.{if◌then◌else◌, nat_eq}
 use Rattle.std.specs.List.{AllByRecursion, list_any}
-use Rattle.std.proofs.lemmas.Bool.{and_parts, eqb-true, eq-eqb, false≢true, or_parts, true≢false}
+use Rattle.std.proofs.lemmas.Bool.{and_parts, eqb-true, eq-eqb, false≢true, true≢false}
 use Rattle.std.proofs.lemmas.List.Folds.{list_any-append}
 use Rattle.mscp_queue.proofs.Lists.{every_append, every_parts, every_weaker}
-use Rattle.mscp_queue.specs.Pairs.{Pairs}
 use Rattle.mscp_drive.specs.declared.connection.Connection.{Connection}
 use Rattle.mscp_wire.specs.Wire as wire
-use Rattle.mscp_wire.specs.Wire.{is_below, is_immediate, is_it, is_named, is_polled, left, polled_by, same_connection}
-use Rattle.mscp_wire.specs.declared.answer.Answer.{Answer}
-use Rattle.mscp_wire.specs.declared.sent.Asked.{Asked}
-use Rattle.mscp_wire.specs.declared.sent.Asked.TheVariants.{Gone, Nothing, Oldest}
-use Rattle.mscp_wire.specs.declared.sent.Sent.{Sent}
+use Rattle.mscp_wire.specs.Wire.{is_immediate, left, same_connection}
 use Rattle.mscp_shown.proofs.Alike.{bare}
 use Rattle.mscp_shown.proofs.Linking.{Alone, AsksOf, IsLow, Linked, Lower, Same, lower_same, lower_told, none_behind}
 use Rattle.mscp_shown.proofs.Owners.{every_drop, every_take}

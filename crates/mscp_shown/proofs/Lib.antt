@@ -1,3 +1,4 @@
+mod Common
 mod Counts
 mod Shown
 mod Taking

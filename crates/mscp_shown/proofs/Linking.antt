@@ -1,16 +1,12 @@
 -- What the judge of the wire keeps of outstanding commands, beside what stricter rules of figures keep of them.
+use Rattle.mscp_shown.proofs.Common.{Asked, First, Gone, Nothing, Oldest, Pairs, Sent, asked_about, asked_by, asking, find, has_number, is_below, is_hasty, is_named, is_oldest, ltb-true, may_ask, sent_by, timed, waits_on}
 use Rattle.std.proofs.Common.{◌≡◌, ℕ, zero, suc, ◌≤◌, Bool, true, false, cond, not, ◌&&◌, ◌||◌, List, [], ◌∷◌, ◌++◌, get_or, take, refl, ap, sym, ◌∙◌, subst, arith, append-nil, append_assoc, Option, Some, None}
-use Rattle.std.specs.Prelude.{find, if◌then◌else◌, nat_eq}
+use Rattle.std.specs.Prelude.{if◌then◌else◌, nat_eq}
 use Rattle.std.specs.List.{AllByRecursion, list_any}
-use Rattle.std.proofs.lemmas.Bool.{and_parts, eqb-true, false≢true, lt-ltb, ltb-true}
+use Rattle.std.proofs.lemmas.Bool.{and_parts, eqb-true, false≢true, lt-ltb}
 use Rattle.mscp_queue.proofs.Lists.{every_weaker}
-use Rattle.mscp_queue.specs.Pairs.{Pairs}
 use Rattle.mscp_drive.specs.declared.connection.Connection.{Connection}
-use Rattle.mscp_drive.specs.declared.connection.Connection.TheVariants.{First}
-use Rattle.mscp_wire.specs.Wire.{asked_about, asked_by, asking, has_number, is_below, is_hasty, is_immediate, is_named, is_oldest, may_ask, same_connection, sent_by, timed, waits_on}
-use Rattle.mscp_wire.specs.declared.sent.Asked.{Asked}
-use Rattle.mscp_wire.specs.declared.sent.Asked.TheVariants.{Gone, Nothing, Oldest}
-use Rattle.mscp_wire.specs.declared.sent.Sent.{Sent}
+use Rattle.mscp_wire.specs.Wire.{is_immediate, same_connection}
 use Rattle.mscp_shown.proofs.Alike.{Alike, alike_any, bare}
 use Rattle.mscp_shown.proofs.Shown.{one_side}
 

@@ -1,15 +1,7 @@
 -- Each moment keeps what hosts will hear: figures that are at least 1 and fall.
-use Rattle.mscp_controller.proofs.Basics.{◌≡◌, ◌⊎◌, inl, ⊎_elim, ℕ, ◌<◌, ◌≤◌, Bool, true, false, cond, ◌&&◌, List, [], ◌∷◌, ◌++◌, length, take, refl, ap, sym, ◌∙◌, subst, arith, find, if◌then◌else◌, count_by, sum_by, sum_by-append, sum_by-cons, nat_eq, Option, Some, None, AllByRecursion, true≢false, and_parts, eq-eqb, eqb-true, cases_lt, Connection, End, Name, name_on, Settings, Trace, Moment, moment, waiting, waiting_by, is_waiting, name, connection, reference, queues, takes, ends, ends_at, untaken, untaken_more, figure, figure_of, Promise, is_step, same_name, same_is, every_weaker, one_side, own_side, same_connection, take_at, waiting_waits, Contains, lt-ltb, some_same}
-use Rattle.std.proofs.Common.{inr}
-use Rattle.std.proofs.lemmas.List.{length_push, take_all}
-use Rattle.mscp_controller.proofs.Promise.Apart.{name_last, queued_name}
-use Rattle.mscp_controller.proofs.Promise.Grows.{moment_before, moment_last, name_before}
-use Rattle.mscp_controller.proofs.Promise.Progress.{waits_in}
-use Rattle.mscp_controller.specs.Figures.{figure_found}
-use Rattle.mscp_wire.specs.Wire.{command_at, is_below, is_it, is_named, place_of, polled_by, sent_by}
+use Rattle.mscp_shown.proofs.Common.{AllByRecursion, Bool, Connection, Contains, End, IsPatient, List, Moment, Name, None, Option, Polls, Promise, Sent, Settings, Some, Trace, [], and_parts, ap, arith, cond, connection, count_by, ends, ends_at, eq-eqb, eqb-true, every_weaker, false, figure, figure_found, figure_of, if◌then◌else◌, inl, inr, is_below, is_it, is_named, is_step, is_waiting, length, length_push, lt-ltb, moment, moment_before, moment_last, name, name_before, name_last, name_on, nat_eq, one_side, own_side, queued_name, queues, reference, refl, same_connection, same_is, same_name, sent_by, some_same, subst, sum_by, sum_by-append, sum_by-cons, sym, take, take_all, take_at, takes, true, true≢false, untaken, untaken_more, waiting, waiting_by, waiting_waits, waits_in, ℕ, ⊎_elim, ◌&&◌, ◌++◌, ◌<◌, ◌∙◌, ◌∷◌, ◌≡◌, ◌≤◌, ◌⊎◌}
+use Rattle.mscp_controller.proofs.Basics.{find, cases_lt}
 use Rattle.mscp_wire.specs.Wire as wire
-use Rattle.mscp_wire.specs.declared.sent.Sent.{Sent}
-use Rattle.mscp_shown.specs.Keeping.{IsPatient, Polls}
 use Rattle.mscp_shown.proofs.Chaining.{Chain, Goes, chain_silent, is_over, last_silent, last_told, silent_of, tells}
 use Rattle.mscp_shown.proofs.Counts.{none_any, none_passes}
 use Rattle.mscp_shown.proofs.Falling.{falls_since}

@@ -1,16 +1,6 @@
 -- The ends that a moment makes: each fits the command that is outstanding under its name.
-use Rattle.mscp_controller.proofs.Basics.{Promise, ◌≡◌, ◌≢◌, ℕ, ◌+◌, ◌<◌, Bool, true, false, cond, not, ◌&&◌, List, [], ◌∷◌, ◌++◌, length, map, refl, ap, sym, ◌∙◌, subst, arith, filter, if◌then◌else◌, count_by, Option, Some, None, is_some, AllByRecursion, false≢true, and-false, Block, Connection, Order, End, Report, Event, Settings, Trace, Moment, moment, Service, sent_bytes, command_of, command, connection, name, name_on, unit, order, reference, waiting, queues, ends_in, answer, aborted, aborted_unless, aborted_end, good, done, left, serves_in, is_good, own_end, fault_of, is_queued, end_of, outcome, every_append, every_both, every_weaker, get_or, First, every_filter, every_parts, same_name, same_is, waiting_more, waiting_below, good_before, done_before, done_last, drop_last, IsRight, IsServed, cut, waits_below, some_same, Name, figure_of}
-use Rattle.std.specs.Prelude.{◌%◌, ◌^◌}
-use Rattle.mscp_controller.specs.declared.entry.Entry.{Entry}
-use Rattle.mscp_controller.specs.Ends.{figure_asked}
-use Rattle.mscp_controller.specs.Units.{is_online}
-use Rattle.mscp_drive.specs.declared.block.Block.TheVariants.{Bad, Good}
-use Rattle.mscp_queue.proofs.Lists.{pairs_append}
-use Rattle.mscp_queue.specs.Outcomes.{goes_on}
-use Rattle.mscp_queue.specs.Pairs.{Pairs}
-use Rattle.mscp_wire.specs.Wire.{is_named, sent_by}
-use Rattle.mscp_wire.specs.declared.sent.Sent.{Sent}
-use Rattle.mscp_shown.specs.Keeping.{AreBytes}
+use Rattle.mscp_shown.proofs.Common.{AllByRecursion, AreBytes, Bad, Block, Bool, Connection, End, Entry, Event, Good, IsRight, IsServed, List, Moment, Name, None, Option, Order, Pairs, Promise, Report, Sent, Service, Settings, Some, Trace, [], aborted, aborted_end, aborted_unless, and-false, answer, ap, arith, command, command_of, cond, connection, count_by, cut, done, done_before, done_last, drop_last, end_of, ends_in, every_append, every_both, every_filter, every_parts, every_weaker, false, false≢true, fault_of, figure_asked, figure_of, filter, get_or, goes_on, good, good_before, if◌then◌else◌, is_good, is_named, is_online, is_queued, is_some, left, length, map, moment, name, name_on, not, order, outcome, own_end, pairs_append, queues, reference, refl, same_is, same_name, sent_by, sent_bytes, serves_in, some_same, subst, sym, true, unit, waiting, waiting_below, waiting_more, waits_below, ℕ, ◌%◌, ◌&&◌, ◌++◌, ◌+◌, ◌<◌, ◌^◌, ◌∙◌, ◌∷◌, ◌≡◌, ◌≢◌}
+use Rattle.mscp_controller.proofs.Basics.{First}
 use Rattle.mscp_shown.proofs.Aborted.{Aborts, EndsAbort, IsAbort, IsBehind, aborts_answer, named_each, outcome_apart, own_apart}
 use Rattle.mscp_shown.proofs.Answering.{own_number}
 use Rattle.mscp_shown.proofs.Fitting.{IsSmallCommand, aborted_fit, own_fit, served_fit, small_command}

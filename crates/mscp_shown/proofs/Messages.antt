@@ -1,14 +1,7 @@
 -- A message that a controller takes keeps each rule of a host.
-use Rattle.mscp_controller.proofs.Basics.{◌≡◌, ℕ, ◌+◌, ◌-◌, ◌≤◌, Bool, true, false, cond, not, ◌&&◌, ◌||◌, List, length, map, ap, sym, ◌∙◌, subst, arith, ⊎_elim, count_by, sum_by, nat_eq, nat_lt, Option, Some, None, Connection, End, Settings, Trace, credits_of, waiting_by, reference, untaken, balance, outstanding, holds, sum_by-append, sum_on, every_from, le-ltb, lt-ltb, eq-eqb, eqb-false, cases_lt}
-use Rattle.std.proofs.lemmas.Bool.{le-leb}
-use Rattle.mscp_queue.proofs.Placed.{sum_by_map}
-use Rattle.mscp_controller.proofs.Promise.Arrivals.{IsTaken}
-use Rattle.mscp_packet.specs.Number.{num}
-use Rattle.mscp_wire.specs.Wire.{count_on, has_credit, has_one_of, is_immediate, is_named, limit_of, same_connection, sent_by}
-use Rattle.mscp_wire.specs.declared.sent.Sent.{Sent}
-use Rattle.mscp_drive.specs.Settings.{IsValid}
-use Rattle.mscp_drive.specs.declared.connection.Connection.TheVariants.{First, Second}
-use Rattle.mscp_shown.specs.Keeping.{Covers}
+use Rattle.mscp_shown.proofs.Common.{Bool, Connection, Covers, End, First, IsTaken, IsValid, List, None, Option, Second, Sent, Settings, Some, Trace, ap, arith, balance, cond, count_by, count_on, credits_of, eq-eqb, eqb-false, every_from, false, has_credit, has_one_of, holds, is_named, le-leb, le-ltb, length, limit_of, lt-ltb, map, nat_eq, not, num, outstanding, reference, sent_by, subst, sum_by, sum_by-append, sum_by_map, sum_on, sym, true, untaken, waiting_by, ℕ, ⊎_elim, ◌&&◌, ◌+◌, ◌-◌, ◌||◌, ◌∙◌, ◌≡◌, ◌≤◌}
+use Rattle.mscp_controller.proofs.Basics.{nat_lt, cases_lt}
+use Rattle.mscp_wire.specs.Wire.{is_immediate, same_connection}
 use Rattle.mscp_shown.proofs.Counts.{all_pass, none_any, none_passes}
 use Rattle.mscp_shown.proofs.Owed.{owed}
 use Rattle.mscp_shown.proofs.Shown.{tally}

@@ -1,23 +1,14 @@
 -- Each moment of a legal trace keeps what its parts keep, so that the whole trace does.
-use Rattle.mscp_controller.proofs.Basics.{◌≡◌, ℕ, All, zero, suc, ◌+◌, ◌<◌, ◌≤◌, true, [], ◌∷◌, ◌++◌, length, take, drop, refl, ap, sym, ◌∙◌, subst, arith, count_by, Option, Some, None, Ok, Err, AllByRecursion, recursion_from_All, Connection, End, IsOfKind, Settings, IsValid, Trace, Moment, moment, takes, collect, ends, ends_at, untaken, waiting, every_append, every_parts, Event, Report, First, IsRight, IsLegal, ends_more, ArrayVec, Block, Command, Name, name, same_name, figure, figure_of, bound, find, is_queued, each_queued, waits_below, is_step, is_waiting, connection, reference, Bool, true, false, false≢true, if◌then◌else◌, append-nil, answer, arrival, arrives, command_of, one_side, same_connection}
-use Rattle.std.specs.Prelude.{◌^◌}
-use Rattle.mscp_controller.specs.Figures.{figure_found}
-use Rattle.mscp_controller.proofs.Promise.Progress.{progress}
+use Rattle.mscp_shown.proofs.Common.{All, AllByRecursion, ArrayVec, Bad, Block, Bool, Command, Connection, Covers, End, Entry, Err, Event, Good, IsLegal, IsOfKind, IsPatient, IsPossible, IsRight, Known, LegalTracesAreRight, Moment, Name, None, Ok, Option, Polls, Report, Settings, Some, Trace, [], answer, ap, append-nil, arith, arrival, arrives, bound, collect, command_of, connection, count_by, drop, each_queued, ends, ends_at, ends_more, every_append, every_parts, false, false≢true, figure, figure_found, figure_of, get_or-take, if◌then◌else◌, is_online_empty, is_queued, is_step, is_waiting, known, length, length-take-le, moment, more_at, name, one_side, progress, recursion_from_All, reference, refl, same_connection, same_name, shaped, shown, subst, suc, sym, take, take-take, take_all, takes, true, untaken, waiting, waits_below, zero, ℕ, ◌++◌, ◌+◌, ◌<◌, ◌^◌, ◌∙◌, ◌∷◌, ◌≡◌, ◌≤◌}
+use Rattle.mscp_controller.proofs.Basics.{IsValid, First, find}
 use Rattle.mscp_controller.specs.declared.entry.Sent.{Sent}
-use Rattle.mscp_controller.specs.declared.entry.Entry.{Entry}
-use Rattle.std.proofs.lemmas.List.{get_or-take, length-take-le, take-append-drop, take-take, take_all}
-use Rattle.mscp_controller.proofs.Promise.Known.{Known, known, more_at}
-use Rattle.mscp_controller.proofs.Promise.Shaped.{shaped}
-use Rattle.mscp_controller.proofs.Promise.States.{is_online_empty}
-use Rattle.mscp_drive.specs.declared.block.Block.TheVariants.{Bad, Good}
-use Rattle.mscp_shown.specs.Keeping.{Covers, IsPatient, IsPossible, LegalTracesAreRight, Polls}
+use Rattle.std.proofs.lemmas.List.{take-append-drop}
 use Rattle.mscp_shown.proofs.Judged.{lenient}
 use Rattle.mscp_shown.proofs.Standing.{Stands, message_stands, quiet_stands}
 use Rattle.mscp_shown.proofs.Stepping.{step_stands}
 use Rattle.mscp_shown.proofs.Strict.{AreRight, AreStated}
 use Rattle.mscp_shown.proofs.Taken.{Holds, answer_effects, take_stands}
 use Rattle.mscp_shown.proofs.Messages.{has_room}
-use Rattle.mscp_shown.specs.Shown.{shown}
 use Rattle.mscp_shown.proofs.Ending.{took_more}
 use Rattle.mscp_shown.proofs.Kept.{Inv, More, isnt_queued, stills}
 use Rattle.mscp_shown.proofs.Sending.{answered_more, queued_more}

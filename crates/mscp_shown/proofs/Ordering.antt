@@ -1,13 +1,6 @@
 -- Of a unit no command ends before an earlier one that it waits for.
-use Rattle.mscp_controller.proofs.Basics.{◌≡◌, ◌⊎◌, inl, ⊎_elim, ℕ, Bool, true, false, ◌&&◌, ◌||◌, List, [], ◌∷◌, ◌++◌, map, refl, ap, sym, ◌∙◌, subst, arith, append-nil, append_assoc, if◌then◌else◌, list_any, nat_eq, Option, Some, None, AllByRecursion, true≢false, false≢true, and_parts, eq-eqb, eqb-true, Connection, End, Trace, command, aborted_end, good, every_from}
-use Rattle.std.proofs.Common.{inr}
-use Rattle.std.specs.Prelude.{◌%◌}
-use Rattle.mscp_queue.proofs.Lists.{pairs_append}
-use Rattle.mscp_queue.specs.Pairs.{Pairs}
-use Rattle.mscp_wire.specs.Wire.{command_at, is_apart, is_named, keeps_back, polled_by}
+use Rattle.mscp_shown.proofs.Common.{AllByRecursion, Answer, Bool, Connection, End, List, None, Option, Pairs, Sent, Some, Trace, [], aborted_end, and_parts, ap, append-nil, append_assoc, arith, command, command_at, eq-eqb, eqb-true, every_from, false, false≢true, good, if◌then◌else◌, inl, inr, is_apart, is_named, keeps_back, list_any, map, nat_eq, pairs_append, polled_by, refl, subst, sym, true, true≢false, ℕ, ⊎_elim, ◌%◌, ◌&&◌, ◌++◌, ◌||◌, ◌∙◌, ◌∷◌, ◌≡◌, ◌⊎◌}
 use Rattle.mscp_wire.specs.Wire as wire
-use Rattle.mscp_wire.specs.declared.answer.Answer.{Answer}
-use Rattle.mscp_wire.specs.declared.sent.Sent.{Sent}
 use Rattle.mscp_shown.proofs.Strict.{after_end, hears}
 use Rattle.mscp_shown.proofs.Pairing.{pairs_first, pairs_out, pairs_weaker}
 use Rattle.mscp_shown.proofs.Shown.{one_side as side_of}

@@ -1,11 +1,6 @@
 -- Which command it is that is outstanding under a name: the one that waits or ended under it.
-use Rattle.mscp_controller.proofs.Basics.{◌≡◌, ℕ, zero, suc, ◌+◌, Bool, true, false, cond, List, [], ◌∷◌, ◌++◌, map, take, drop, refl, ap, sym, ◌∙◌, arith, filter, if◌then◌else◌, count_by, nat_eq, Option, Some, None, AllByRecursion, true≢false, and_parts, eqb-true, eq-eqb, Connection, End, Settings, Trace, moment, sent_bytes, connection, reference, waiting, waiting_by, untaken, end_bytes, every_append, every_weaker, same_connection, own_side, balance, outstanding, sum_by-cons}
-use Rattle.mscp_controller.proofs.Promise.Arrivals.{IsTaken}
-use Rattle.mscp_packet.specs.Number.{num}
-use Rattle.mscp_wire.specs.Wire.{answer_by, command_at, is_named, polled_by, sent_by}
+use Rattle.mscp_shown.proofs.Common.{AllByRecursion, Answer, Bool, Connection, End, IsTaken, List, None, Option, Sent, Settings, Some, Trace, [], and_parts, answer_by, ap, arith, balance, command_at, cond, connection, count_by, drop, end_bytes, eq-eqb, eqb-true, every_append, every_weaker, false, filter, if◌then◌else◌, is_named, map, moment, nat_eq, num, outstanding, own_side, polled_by, reference, refl, same_connection, sent_by, sent_bytes, suc, sum_by-cons, sym, take, true, true≢false, untaken, waiting, waiting_by, zero, ℕ, ◌++◌, ◌+◌, ◌∙◌, ◌∷◌, ◌≡◌}
 use Rattle.mscp_wire.specs.Wire as wire
-use Rattle.mscp_wire.specs.declared.answer.Answer.{Answer}
-use Rattle.mscp_wire.specs.declared.sent.Sent.{Sent}
 use Rattle.mscp_shown.proofs.Strict.{after_end, hears}
 use Rattle.mscp_shown.proofs.Suited.{Keeps}
 use Rattle.mscp_shown.proofs.Polling.{poll_of}

@@ -1,8 +1,5 @@
 -- Each moment keeps it that a name on the wire is that of the command that waits or ended under it.
-use Rattle.mscp_controller.proofs.Basics.{◌≡◌, ℕ, ◌<◌, ◌≤◌, Bool, true, false, cond, not, List, [], ◌∷◌, ◌++◌, length, refl, sym, ◌∙◌, subst, arith, filter, count_by, AllByRecursion, true≢false, Connection, End, Settings, Trace, Moment, sent_bytes, connection_of, takes, command_of, command, connection, name, reference, waiting, queues, ends_in, ends_at, ends, untaken, end_bytes, every_append, every_both, every_from, every_weaker, every_kept, same_connection, one_side, waiting_more, waiting_below, untaken_more}
-use Rattle.mscp_controller.proofs.Promise.Grows.{moment_before, moment_last}
-use Rattle.mscp_wire.specs.Wire.{answer_by, is_named, sent_by}
-use Rattle.mscp_wire.specs.declared.sent.Sent.{Sent}
+use Rattle.mscp_shown.proofs.Common.{AllByRecursion, Bool, Connection, End, List, Moment, Sent, Settings, Trace, [], answer_by, arith, command, command_of, cond, connection, connection_of, count_by, end_bytes, ends, ends_at, ends_in, every_append, every_both, every_from, every_kept, every_weaker, false, filter, is_named, length, moment_before, moment_last, name, not, one_side, queues, reference, refl, same_connection, sent_by, sent_bytes, subst, sym, takes, true, true≢false, untaken, untaken_more, waiting, waiting_below, waiting_more, ℕ, ◌++◌, ◌<◌, ◌∙◌, ◌∷◌, ◌≡◌, ◌≤◌}
 use Rattle.mscp_shown.proofs.Aborted.{Aborts, aborts_append, aborts_push}
 use Rattle.mscp_shown.proofs.Keeping.{keeps}
 use Rattle.mscp_shown.proofs.Owners.{Fits, IsNew, IsOnly, IsOwed, IsOwn, message, only_push, same_sides, untold}

@@ -1,13 +1,6 @@
 -- In which order commands are outstanding, and which of them waits for none before it.
-use Rattle.mscp_controller.proofs.Basics.{◌≡◌, ◌≢◌, ◌⊎◌, inl, ⊎_elim, ℕ, ◌+◌, ◌<◌, Bool, true, false, cond, not, ◌&&◌, ◌||◌, [], ◌∷◌, ◌++◌, length, refl, ap, sym, ◌∙◌, subst, arith, nat_eq, nat_lt, Option, Some, None, AllByRecursion, true≢false, false≢true, and_parts, lt-ltb, cases_lt, Block, Command, Settings, Trace, Moment, Service, Apart, alone, cut, waits_below, waiting, is_waiting, in_service, done, name, serves_in, service_in, service_name, queues, ends_in, is_free, is_startable, startable_parts, earlier, IsRight, IsServed, is_waiting_before, done_before, done_last, command_before, every_append, every_parts, every_weaker, same_is, step_right}
-use Rattle.mscp_controller.proofs.Promise.Grows.{is_waiting_last}
-use Rattle.mscp_controller.specs.Commands.{service_is}
-use Rattle.std.proofs.Common.{inr}
-use Rattle.std.proofs.lemmas.Bool.{or_cases}
-use Rattle.std.proofs.lemmas.List.{length_push}
-use Rattle.mscp_controller.specs.Passing.{fences}
-use Rattle.mscp_queue.proofs.Lists.{every_of}
-use Rattle.mscp_queue.specs.Orders.{is_sequential}
+use Rattle.mscp_shown.proofs.Common.{AllByRecursion, Apart, Block, Bool, Command, IsRight, IsServed, Moment, None, Option, Service, Settings, Some, Trace, [], alone, and_parts, ap, arith, command_before, cond, cut, done, done_before, done_last, earlier, ends_in, every_append, every_of, every_parts, every_weaker, false, false≢true, fences, in_service, inl, inr, is_free, is_sequential, is_startable, is_waiting, is_waiting_before, is_waiting_last, length, length_push, lt-ltb, name, nat_eq, not, or_cases, queues, refl, same_is, serves_in, service_in, service_is, service_name, startable_parts, step_right, subst, sym, true, true≢false, waiting, waits_below, ℕ, ⊎_elim, ◌&&◌, ◌++◌, ◌+◌, ◌<◌, ◌||◌, ◌∙◌, ◌∷◌, ◌≡◌, ◌≢◌, ◌⊎◌}
+use Rattle.mscp_controller.proofs.Basics.{nat_lt, cases_lt}
 use Rattle.mscp_shown.proofs.Owners.{each_passing}
 
 -- what holds of all that wait holds of one

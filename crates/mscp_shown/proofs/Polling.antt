@@ -1,21 +1,8 @@
 -- Which ends are those of polls, and what they tell.
-use Rattle.mscp_controller.proofs.Basics.{◌≡◌, ◌≢◌, ⊎_elim, ℕ, ◌+◌, Bool, true, false, cond, not, ◌&&◌, refl, ap, sym, ◌∙◌, arith, if◌then◌else◌, nat_eq, Option, Some, None, eqb-true, Block, Command, Order, End, Shape, Settings, unit_shape, fault_of, own_end, aborted_end, is_queued, queued_open, true≢false}
-use Rattle.std.specs.Prelude.{◌%◌}
-use Rattle.mscp_packet.specs.Ends.{refused_body}
-use Rattle.mscp_packet.specs.Opcodes.{move_byte}
-use Rattle.mscp_packet.specs.declared.class.Opcode.{Opcode}
+use Rattle.mscp_shown.proofs.Common.{Answer, Block, Bool, Command, End, EndBody, MoveKind, None, Opcode, Option, Order, Sent, Settings, Shape, Some, aborted_end, answer_body, answer_status, ap, arith, cond, endcode, eqb-true, false, fault_of, if◌then◌else◌, is_good_block, is_immediate, is_known, is_queued, is_refused, is_success, move_byte, moved_body, nat_eq, not, order_fault, outcome_body, outcome_of, outcome_status, own_end, own_end_with, polled_by, queued_open, refl, refused_body, sym, touches, true, true≢false, unit_shape, ℕ, ⊎_elim, ◌%◌, ◌&&◌, ◌+◌, ◌∙◌, ◌≡◌, ◌≢◌}
 use Rattle.mscp_packet.specs.declared.class.Opcode.TheVariants as codes
-use Rattle.mscp_packet.specs.declared.command.MoveKind.{MoveKind}
 use Rattle.mscp_packet.specs.declared.command.Order.TheVariants as orders
-use Rattle.mscp_packet.specs.declared.end.EndBody.{EndBody}
 use Rattle.mscp_packet.specs.declared.end.EndBody.TheVariants as bodies
-use Rattle.mscp_queue.specs.Orders.{endcode}
-use Rattle.mscp_queue.specs.Outcomes.{is_good_block, is_success, moved_body, outcome_body, outcome_status, touches}
-use Rattle.mscp_controller.specs.Arrival.{is_immediate, order_fault}
-use Rattle.mscp_controller.specs.Outcomes.{answer_body, answer_status, outcome_of, own_end_with}
-use Rattle.mscp_wire.specs.Wire.{is_known, is_refused, polled_by}
-use Rattle.mscp_wire.specs.declared.answer.Answer.{Answer}
-use Rattle.mscp_wire.specs.declared.sent.Sent.{Sent}
 use Rattle.mscp_shown.proofs.Suited.{Suits}
 use Rattle.mscp_shown.proofs.Saying.{IsShort, Says}
 use Rattle.mscp_shown.proofs.Suiting.{refused_apart, valid_order}

@@ -1,14 +1,11 @@
 -- An end as the rules of the wire read its bytes.
+use Rattle.mscp_shown.proofs.Common.{Answer, EndBody, answer_by, four, two}
 use Rattle.std.proofs.Common.{◌≡◌, ℕ, ◌^◌, ◌<◌, refl, ap, Some}
-use Rattle.mscp_packet.proofs.Numbers.{four, two}
 use Rattle.mscp_packet.specs.Ends.{end_bytes}
 use Rattle.mscp_packet.specs.declared.end.End.{End}
-use Rattle.mscp_packet.specs.declared.end.EndBody.{EndBody}
 use Rattle.mscp_packet.specs.declared.end.EndBody.TheVariants as bodies
 use Rattle.mscp_drive.specs.declared.connection.Connection.{Connection}
 use Rattle.mscp_drive.specs.Settings.{Settings}
-use Rattle.mscp_wire.specs.Wire.{answer_by}
-use Rattle.mscp_wire.specs.declared.answer.Answer.{Answer}
 use Rattle.mscp_shown.proofs.Identity.{Controls, Tells}
 
 -- the numbers of a body that the rules read fit their places

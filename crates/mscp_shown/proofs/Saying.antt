@@ -1,19 +1,13 @@
 -- What a message says on the wire, by what it asks for.
-use Rattle.std.proofs.Common.{◌≡◌, ◌⊎◌, inl, inr, ℕ, ◌<◌, ◌≤◌, Bool, true, false, List, length, refl, ap, sym, ◌∙◌, subst, arith, Option, Some, None}
-use Rattle.std.proofs.lemmas.Bool.{eqb-true, false≢true, le-leb, le-ltb, lt-ltb, ltb-false, ltb-true}
-use Rattle.std.specs.Prelude.{find, if◌then◌else◌, nat_eq, nat_le, nat_lt, slice_index}
-use Rattle.mscp_packet.specs.Commands.{command_of, order_with, parameters}
-use Rattle.mscp_packet.specs.Number.{num}
-use Rattle.mscp_packet.specs.Opcodes.{least, move_byte, opcode_of, opcodes, row_of}
-use Rattle.mscp_packet.specs.Statuses.{invalid_length, invalid_opcode}
-use Rattle.mscp_packet.specs.declared.class.Opcode.{Opcode}
+use Rattle.mscp_shown.proofs.Common.{Opcode, Sent, find, found_is, inr, invalid_length, invalid_opcode, is_about_another, is_required, is_short, le-leb, least, least_message, ltb-false, ltb-true, move_byte, nat_le, nat_lt, num, opcode_of, opcodes, order_with, parameters, row_of, sent_by, slice_index}
+use Rattle.std.proofs.Common.{◌≡◌, ◌⊎◌, inl, ℕ, ◌<◌, ◌≤◌, Bool, true, false, List, length, refl, ap, sym, ◌∙◌, subst, arith, Option, Some, None}
+use Rattle.std.proofs.lemmas.Bool.{eqb-true, false≢true, le-ltb, lt-ltb}
+use Rattle.std.specs.Prelude.{if◌then◌else◌, nat_eq}
+use Rattle.mscp_packet.specs.Commands.{command_of}
 use Rattle.mscp_packet.specs.declared.class.Opcode.TheVariants as codes
 use Rattle.mscp_packet.specs.declared.command.Order.{Order}
 use Rattle.mscp_packet.specs.declared.command.Order.TheVariants as orders
 use Rattle.mscp_drive.specs.declared.connection.Connection.{Connection}
-use Rattle.mscp_queue.proofs.Placed.{found_is}
-use Rattle.mscp_wire.specs.Wire.{is_about_another, is_required, is_short, least_message, sent_by}
-use Rattle.mscp_wire.specs.declared.sent.Sent.{Sent}
 
 -- it is shorter than its opcode asks
 pub record IsShort (o : Opcode) (number fault : ℕ) (s : Sent) : Type 0 where

@@ -1,17 +1,9 @@
 -- A message keeps all that holds.
-use Rattle.mscp_controller.proofs.Basics.{◌≡◌, ℕ, ◌+◌, Bool, true, false, cond, not, ◌&&◌, List, [], ◌∷◌, ◌++◌, refl, ap, sym, ◌∙◌, subst, append-nil, arith, if◌then◌else◌, count_by, nat_eq, Option, Some, None, Ok, AllByRecursion, false≢true, ArrayVec, Connection, End, Settings, Trace, Moment, command_of, connection, name, reference, waiting, waiting_by, ends_in, ends_at, untaken, answer, every_from, every_weaker, every_filter, own_side, one_side, same_connection, is_queued, arrives, Event, arrival}
+use Rattle.mscp_shown.proofs.Common.{AllByRecursion, AreBytes, ArrayVec, Bool, Connection, End, Entry, Event, IsPatient, IsTaken, Known, List, Moment, None, Ok, Option, Settings, Some, Trace, [], aborted_reference, answer, ap, append-nil, arith, arrival, arrives, command_of, cond, connection, count_by, ends_at, ends_in, every_filter, every_from, every_weaker, false, false≢true, if◌then◌else◌, is_queued, name, nat_eq, not, num, one_side, outstanding_in, own_side, reference, refl, same_connection, sent_by, shown, subst, sym, true, untaken, waiting, waiting_by, ℕ, ◌&&◌, ◌++◌, ◌+◌, ◌∙◌, ◌∷◌, ◌≡◌}
 use Rattle.mscp_controller.specs.declared.entry.Sent.{Sent}
-use Rattle.mscp_controller.specs.declared.entry.Entry.{Entry}
-use Rattle.mscp_controller.proofs.Promise.Known.{Known}
-use Rattle.mscp_controller.proofs.Promise.Arrivals.{IsTaken}
-use Rattle.mscp_controller.specs.Account.{balance, outstanding as outstanding_in}
-use Rattle.mscp_controller.specs.Credits.{aborted_reference}
-use Rattle.mscp_packet.specs.Number.{num}
-use Rattle.mscp_wire.specs.Wire.{History, answer_by, command_at, has_abort, is_it, is_long, is_named, moment_at, place_of, sent_by, status_code}
+use Rattle.mscp_controller.specs.Account.{balance}
 use Rattle.mscp_wire.specs.Wire as wire
 use Rattle.mscp_wire.specs.declared.moment.Moment.TheVariants as moments
-use Rattle.mscp_shown.specs.Keeping.{AreBytes}
-use Rattle.mscp_shown.specs.Shown.{shown}
 use Rattle.mscp_shown.proofs.Strict.{outstanding}
 use Rattle.mscp_shown.proofs.Aborted.{Aborts}
 use Rattle.mscp_shown.proofs.Answering.{Answer, answered}
@@ -24,7 +16,6 @@ use Rattle.mscp_shown.proofs.Owning.{Owners, only_new, own_last, owners_more, st
 use Rattle.mscp_shown.proofs.Reading.{IsFit}
 use Rattle.mscp_shown.proofs.Shown.{tally_sent}
 use Rattle.mscp_queue.specs.Names.{name_on}
-use Rattle.mscp_shown.specs.Keeping.{IsPatient}
 use Rattle.mscp_shown.proofs.Asking.{asked_order, its_end, poll_about, poll_answer, poll_figure, silent_answer}
 use Rattle.mscp_shown.proofs.Listening.{Heard, Tells, heard_sent, tells_none, tells_poll}
 use Rattle.mscp_shown.proofs.Polling.{asked_by, poll_of}
@@ -32,7 +23,6 @@ use Rattle.mscp_shown.proofs.Kept.{Inv, More, isnt_queued, none_more, shows_one,
 use Rattle.mscp_shown.proofs.Ordering.{Ordered}
 use Rattle.mscp_shown.proofs.Staying.{answered_placed, orders_sent, queued_placed}
 use Rattle.mscp_shown.proofs.Waiting.{Orders}
-use Rattle.mscp_wire.specs.Wire.{is_apart, keeps_back, passes_none}
 
 -- ---- a message
 module _ (c : Settings) (t : Trace) (own : Connection) (b : ArrayVec ℕ) (k : Known c t) where

@@ -1,11 +1,5 @@
 -- A step keeps all that holds.
-use Rattle.mscp_controller.proofs.Basics.{◌≡◌, ◌≢◌, ℕ, Bool, true, false, not, ◌&&◌, List, [], ◌∷◌, ◌++◌, refl, ap, sym, ◌∙◌, subst, arith, if◌then◌else◌, Option, Some, None, AllByRecursion, false≢true, Connection, End, Settings, Trace, Moment, Service, service_in, connection, name, reference, waiting_by, ends_in, ends_at, untaken, every_from, every_weaker, one_side, same_connection, Event, Report, IsRight, step_right, Block, Name, same_name, service_name, is_some, option_to_list, IsServed}
-use Rattle.mscp_controller.specs.declared.entry.Entry.{Entry}
-use Rattle.mscp_controller.proofs.Promise.Served.{ends_served}
-use Rattle.mscp_controller.proofs.Promise.Known.{Known}
-use Rattle.mscp_wire.specs.declared.sent.Sent.{Sent as Out}
-use Rattle.std.specs.Prelude.{◌%◌}
-use Rattle.mscp_shown.specs.Shown.{shown, shown_by}
+use Rattle.mscp_shown.proofs.Common.{AllByRecursion, Block, Bool, Connection, End, Entry, Event, IsRight, IsServed, Known, List, Moment, Name, None, Option, Out, Report, Service, Settings, Some, Trace, [], ap, arith, connection, ends_at, ends_in, ends_served, every_from, every_weaker, false, false≢true, if◌then◌else◌, inr, is_some, name, not, one_side, option_to_list, reference, refl, same_connection, same_name, service_in, service_name, shown, shown_by, step_right, subst, sym, true, untaken, waiting_by, ℕ, ◌%◌, ◌&&◌, ◌++◌, ◌∙◌, ◌∷◌, ◌≡◌, ◌≢◌}
 use Rattle.mscp_shown.proofs.Strict.{outstanding}
 use Rattle.mscp_shown.proofs.Aborted.{Aborts, one_aborts}
 use Rattle.mscp_shown.proofs.Answering.{goes}
@@ -15,7 +9,6 @@ use Rattle.mscp_shown.proofs.Owners.{IsOwed}
 use Rattle.mscp_shown.proofs.Owning.{owners_more}
 use Rattle.mscp_shown.proofs.Reading.{IsFit}
 use Rattle.mscp_shown.proofs.Suiting.{IsFault}
-use Rattle.std.proofs.Common.{inr}
 use Rattle.mscp_shown.proofs.Polling.{poll_of}
 use Rattle.mscp_shown.proofs.Placing.{served_free}
 use Rattle.mscp_shown.proofs.Listening.{heard_still}

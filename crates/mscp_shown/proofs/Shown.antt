@@ -1,19 +1,11 @@
 -- What is outstanding on the wire after one more moment.
+use Rattle.mscp_shown.proofs.Common.{Answer, First, History, Sent, Wired, command_at, flat_map-append, fold_push, is_named, num, place_of, polled_by, position-Some, sent_by, shown, shown_by, sum_by_push}
 use Rattle.std.proofs.Common.{◌≡◌, ℕ, ◌+◌, ◌<◌, Bool, true, cond, ◌&&◌, List, [], ◌∷◌, ◌++◌, length, refl, ap, sym, ◌∙◌, append-nil, arith, Option, Some, None}
 use Rattle.std.proofs.lemmas.Bool.{and_parts, eqb-true, false≢true}
-use Rattle.std.proofs.lemmas.Grind.{flat_map-append}
-use Rattle.std.proofs.lemmas.List.Quantifiers.{position-Some}
-use Rattle.std.proofs.lemmas.List.Sums.{fold_push, sum_by_push}
 use Rattle.std.specs.Prelude.{count_by}
-use Rattle.mscp_packet.specs.Number.{num}
 use Rattle.mscp_drive.specs.declared.connection.Connection.{Connection}
-use Rattle.mscp_drive.specs.declared.connection.Connection.TheVariants.{First}
 use Rattle.mscp_controller.specs.History.{Moment, Trace}
-use Rattle.mscp_wire.specs.Wire.{History, command_at, is_named, place_of, polled_by, same_connection, sent_by}
-use Rattle.mscp_wire.specs.declared.answer.Answer.{Answer}
-use Rattle.mscp_wire.specs.declared.moment.Moment.{Moment as Wired}
-use Rattle.mscp_wire.specs.declared.sent.Sent.{Sent}
-use Rattle.mscp_shown.specs.Shown.{shown, shown_by}
+use Rattle.mscp_wire.specs.Wire.{same_connection}
 use Rattle.mscp_shown.proofs.Strict.{after, after_end, hears, outstanding}
 use Rattle.mscp_shown.proofs.Counts.{removed}
 

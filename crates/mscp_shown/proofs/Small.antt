@@ -1,6 +1,5 @@
 -- The messages of a trace are of bytes.
-use Rattle.mscp_controller.proofs.Basics.{ℕ, zero, suc, [], ◌∷◌, arith, AllByRecursion, Trace, Moment, moment, sent_bytes, Event, every_weaker}
-use Rattle.mscp_shown.specs.Keeping.{AreBytes, IsPossible}
+use Rattle.mscp_shown.proofs.Common.{AllByRecursion, AreBytes, Event, IsPossible, Moment, Trace, [], arith, every_weaker, moment, sent_bytes, suc, zero, ℕ, ◌∷◌}
 
 -- a moment's message is of bytes, if it has one
 abbrev pub IsOfBytes : Moment → Type 0

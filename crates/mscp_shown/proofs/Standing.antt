@@ -1,28 +1,15 @@
 -- Each moment of a legal trace keeps it that what hosts are told of the states of units suits how they are.
-use Rattle.mscp_controller.proofs.Basics.{Some, ◌≡◌, ⊎_elim, ℕ, ◌<◌, Bool, true, false, cond, not, ◌&&◌, [], ◌∷◌, ◌++◌, length, filter, refl, ap, sym, ◌∙◌, subst, append-nil, if◌then◌else◌, nat_eq, None, AllByRecursion, false≢true, eqb-true, eq-eqb, ArrayVec, Connection, End, Event, Settings, Trace, Moment, moment, sent_bytes, connection_of, service_in, command_of, name, order, unit, waiting, queues, ends_in, ends_at, untaken, takes, every_append, every_both, every_kept, every_weaker, same_connection, waiting_below, waiting_more, unit_found, each_push, untaken_more}
-use Rattle.std.proofs.lemmas.List.Sums.{fold_push}
-use Rattle.mscp_controller.proofs.Promise.Grows.{moment_before, moment_last}
-use Rattle.mscp_controller.proofs.Promise.Known.{Known}
-use Rattle.mscp_controller.proofs.Promise.States.{is_online_kept}
-use Rattle.mscp_controller.specs.Arrival.{unit_fault}
-use Rattle.mscp_controller.specs.Units.{is_online}
-use Rattle.mscp_packet.specs.Number.{num}
+use Rattle.mscp_shown.proofs.Common.{AllByRecursion, ArrayVec, Bool, Connection, End, Event, History, Known, Moment, None, Settings, Shared, Some, Told, Trace, Wired, [], ap, append-nil, command_of, cond, connection_of, controller_after, controller_of, each_push, ends_at, ends_in, eq-eqb, eqb-true, every_append, every_both, every_kept, every_weaker, false, false≢true, filter, fold_push, if◌then◌else◌, is_online, is_online_kept, length, moment, moment_before, moment_last, name, nat_eq, not, num, order, queues, refl, same_connection, sent_by, sent_bytes, service_in, shares, shown, shown_by, subst, sym, takes, told, told_after_message, told_push, true, unit, unit_fault, unit_found, untaken, untaken_more, waiting, waiting_below, waiting_more, ℕ, ⊎_elim, ◌&&◌, ◌++◌, ◌<◌, ◌∙◌, ◌∷◌, ◌≡◌}
 use Rattle.mscp_packet.specs.declared.command.Order.{Order}
 use Rattle.mscp_packet.specs.declared.command.Order.TheVariants as orders
 use Rattle.mscp_wire.specs.Wire as wire
-use Rattle.mscp_wire.specs.Wire.{History, answer_by, sent_by, shares, suits_state, told, told_after, told_after_end, told_after_message, controller as controller_of, controller_after}
-use Rattle.mscp_wire.specs.declared.moment.Moment.{Moment as Wired}
 use Rattle.mscp_wire.specs.declared.moment.Moment.TheVariants as moments
-use Rattle.mscp_wire.specs.declared.told.State.TheVariants.{Shared}
-use Rattle.mscp_wire.specs.declared.told.Told.{Told}
-use Rattle.mscp_shown.specs.Shown.{shown, shown_by}
 use Rattle.mscp_shown.proofs.Effects.{Effects}
 use Rattle.mscp_shown.proofs.Identity.{own_identifier}
 use Rattle.mscp_shown.proofs.Kept.{same_sides}
 use Rattle.mscp_shown.proofs.Saying.{Says, sent_says}
 use Rattle.mscp_shown.proofs.Shown.{shown_more}
 use Rattle.mscp_shown.proofs.Stating.{IsShared, Stated, message_state, shared_message, shared_stated, stated_append}
-use Rattle.mscp_wire.proofs.Passing.{told_push}
 use Rattle.mscp_shown.proofs.Strict.{AreStated, IsStated, told_at}
 
 -- the command of a moment is no ONLINE, or its unit is shared to the other host

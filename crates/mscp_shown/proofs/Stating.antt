@@ -1,12 +1,6 @@
 -- What hosts are told of the states of units suits what the ends that they haven't taken yet say.
-use Rattle.mscp_controller.proofs.Basics.{◌≡◌, ◌||◌, ◌&&◌, ◌⊎◌, inl, ⊎_elim, ℕ, Bool, true, false, not, List, [], ◌∷◌, ◌++◌, refl, ap, sym, ◌∙◌, subst, append-nil, append_assoc, arith, if◌then◌else◌, nat_eq, None, AllByRecursion, true≢false, false≢true, Connection, End, Settings, unit, end_bytes, own_side}
-use Rattle.std.proofs.Common.{inr}
+use Rattle.mscp_shown.proofs.Common.{AllByRecursion, Answer, Away, Bool, Connection, End, History, List, None, Open, Settings, Shared, State, Told, [], after_other, after_own, answer_by, ap, append-nil, append_assoc, arith, brings, end_bytes, false, false≢true, if◌then◌else◌, inl, inr, nat_eq, not, own_side, refl, says_away, says_online, sent_by, shares, subst, suits_state, sym, told, told_after_end, told_after_message, true, true≢false, turned, unit, ℕ, ⊎_elim, ◌&&◌, ◌++◌, ◌||◌, ◌∙◌, ◌∷◌, ◌≡◌, ◌⊎◌}
 use Rattle.mscp_wire.specs.Wire as wire
-use Rattle.mscp_wire.specs.Wire.{History, after_own, after_other, answer_by, brings, says_away, says_online, sent_by, shares, suits_state, told, told_after, told_after_end, told_after_message, told_nothing, turned}
-use Rattle.mscp_wire.specs.declared.answer.Answer.{Answer}
-use Rattle.mscp_wire.specs.declared.told.State.{State}
-use Rattle.mscp_wire.specs.declared.told.State.TheVariants.{Away, Open, Shared}
-use Rattle.mscp_wire.specs.declared.told.Told.{Told}
 use Rattle.mscp_shown.proofs.Effects.{Effects, away_of, brings_of, online_of}
 use Rattle.mscp_shown.proofs.Kept.{same_sides}
 use Rattle.mscp_shown.proofs.Reading.{IsFit, reads}

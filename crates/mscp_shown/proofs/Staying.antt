@@ -1,15 +1,6 @@
 -- Each moment keeps what is known of the order of all that is outstanding.
-use Rattle.mscp_controller.proofs.Basics.{◌≡◌, ⊎_elim, ℕ, ◌<◌, ◌≤◌, Bool, true, false, ◌&&◌, List, [], ◌∷◌, ◌++◌, length, drop, get_or, refl, ap, sym, ◌∙◌, subst, arith, append-nil, count_by, nat_eq, Some, AllByRecursion, true≢false, and_parts, eq-eqb, eqb-true, Connection, End, Name, Settings, Trace, Moment, IsRight, Apart, waiting, is_waiting, name, name_on, connection, reference, queues, takes, ends, ends_at, untaken, untaken_more, every_from, every_weaker, one_side, own_side, same_connection}
-use Rattle.mscp_drive.specs.declared.connection.Connection.TheVariants.{First}
-use Rattle.mscp_controller.proofs.Promise.Apart.{name_last, queued_name}
-use Rattle.mscp_controller.proofs.Promise.Grows.{name_before}
-use Rattle.mscp_packet.specs.Number.{num}
-use Rattle.mscp_queue.proofs.Lists.{pairs_append}
-use Rattle.mscp_queue.specs.Pairs.{Pairs}
-use Rattle.mscp_wire.specs.Wire.{is_named, keeps_back, place_of, sent_by}
+use Rattle.mscp_shown.proofs.Common.{AllByRecursion, Answer, Apart, Bool, Connection, End, First, IsRight, List, Moment, Name, Pairs, Sent, Settings, Some, Trace, [], and_parts, ap, append-nil, arith, connection, count_by, drop, ends, ends_at, eq-eqb, eqb-true, every_from, every_weaker, false, get_or, is_named, is_waiting, length, name, name_before, name_last, name_on, nat_eq, num, one_side, own_side, pairs_append, place_of, queued_name, queues, reference, refl, same_connection, sent_by, subst, sym, takes, true, true≢false, untaken, untaken_more, waiting, ℕ, ⊎_elim, ◌&&◌, ◌++◌, ◌<◌, ◌∙◌, ◌∷◌, ◌≡◌, ◌≤◌}
 use Rattle.mscp_wire.specs.Wire as wire
-use Rattle.mscp_wire.specs.declared.answer.Answer.{Answer}
-use Rattle.mscp_wire.specs.declared.sent.Sent.{Sent}
 use Rattle.mscp_shown.proofs.Strict.{after_end}
 use Rattle.mscp_shown.proofs.Counts.{none_passes}
 use Rattle.mscp_shown.proofs.Ordering.{Ordered, ordered_after, ordered_append, ordered_gone, ordered_push, pairs_after}

@@ -1,16 +1,7 @@
 -- A step keeps it that what hosts are told of the states of units suits how they are.
-use Rattle.mscp_controller.proofs.Basics.{◌≡◌, ◌≢◌, ◌⊎◌, inl, ⊎_elim, ℕ, Bool, true, false, List, [], ◌∷◌, ◌++◌, refl, ap, sym, ◌∙◌, subst, append-nil, arith, if◌then◌else◌, nat_eq, Option, Some, None, AllByRecursion, false≢true, eqb-true, eqb-false, Block, Connection, End, IsServed, Settings, Trace, Moment, Service, Step, moment, service_in, command, order, unit, waiting, queues, ends_at, untaken, takes, good, outcome, option_to_list, same_connection, one_side, unit_found, is_queued, is_some, left, queued_open, state_after, some_same, untaken_more, alone, changes, cut, name_on, waits_below}
-use Rattle.std.proofs.Common.{inr}
-use Rattle.mscp_controller.proofs.Promise.Known.{Known}
-use Rattle.mscp_controller.proofs.Promise.Served.{Serves}
-use Rattle.mscp_controller.proofs.Promise.States.{is_online_ended, is_online_other, is_online_unended}
-use Rattle.mscp_controller.specs.Arrival.{order_fault, unit_fault}
-use Rattle.mscp_controller.specs.Units.{is_online}
+use Rattle.mscp_shown.proofs.Common.{AllByRecursion, Block, Bool, Connection, End, IsServed, Known, List, Moment, None, Option, Serves, Service, Settings, Some, Step, Trace, [], alone, ap, append-nil, arith, changes, command, controller_of, cut, ends_at, eqb-false, eqb-true, false, false≢true, goes_on, good, if◌then◌else◌, inl, inr, is_online, is_online_ended, is_online_other, is_online_unended, is_queued, is_some, is_success, left, moment, name_on, nat_eq, one_side, option_to_list, order, order_fault, outcome, queued_open, queues, refl, same_connection, service_in, shown, shown_by, some_same, state_after, subst, sym, takes, told, true, unit, unit_fault, unit_found, untaken, untaken_more, waiting, waits_below, ℕ, ⊎_elim, ◌++◌, ◌∙◌, ◌∷◌, ◌≡◌, ◌≢◌, ◌⊎◌}
 use Rattle.mscp_packet.specs.declared.command.Order.{Order}
 use Rattle.mscp_packet.specs.declared.command.Order.TheVariants as orders
-use Rattle.mscp_queue.specs.Outcomes.{goes_on, is_success}
-use Rattle.mscp_wire.specs.Wire.{controller as controller_of, told}
-use Rattle.mscp_shown.specs.Shown.{shown, shown_by}
 use Rattle.mscp_shown.proofs.Effects.{Effects, served_effects}
 use Rattle.mscp_shown.proofs.Placing.{at_waiting}
 use Rattle.mscp_shown.proofs.Shown.{shown_more}

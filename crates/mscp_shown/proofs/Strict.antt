@@ -1,16 +1,13 @@
 -- Stricter rules of figures than the manual's, which a legal trace keeps: the figure of each command that a poll finds
 -- is at least 1, and falls from poll to poll, whichever is the oldest and whatever unit is named. All else is as the
 -- judge of the wire has it, but that nothing is asked of the states of units and of the controller.
-use Rattle.std.specs.Prelude.{◌≡◌, ℕ, ◌+◌, ◌<◌, Bool, true, false, nat_eq, nat_lt, ◌&&◌, ◌||◌, if◌then◌else◌, List, [], ◌∷◌, ◌++◌, length, map, find, take, drop, fold, Option, Some, None}
+use Rattle.mscp_shown.proofs.Common.{Answer, History, Seen, Sent, Told, answer_by, command_at, find, fold, is_below, is_named, nat_lt, place_of, polled_by, sent_by}
+use Rattle.std.specs.Prelude.{◌≡◌, ℕ, ◌+◌, ◌<◌, Bool, true, false, nat_eq, ◌&&◌, ◌||◌, if◌then◌else◌, List, [], ◌∷◌, ◌++◌, length, map, take, drop, Option, Some, None}
 use Rattle.std.specs.List.{list_any}
 use Rattle.mscp_wire.specs.Wire as wire
-use Rattle.mscp_wire.specs.Wire.{History, answer_by, command_at, is_below, is_immediate, is_named, place_of, polled_by, sent_by}
-use Rattle.mscp_wire.specs.declared.answer.Answer.{Answer}
+use Rattle.mscp_wire.specs.Wire.{is_immediate}
 use Rattle.mscp_wire.specs.declared.moment.Moment.{Moment}
 use Rattle.mscp_wire.specs.declared.moment.Moment.TheVariants as moments
-use Rattle.mscp_wire.specs.declared.sent.Sent.{Sent}
-use Rattle.mscp_wire.specs.declared.told.Seen.{Seen}
-use Rattle.mscp_wire.specs.declared.told.Told.{Told}
 use Rattle.mscp_drive.specs.declared.connection.Connection.{Connection}
 
 -- a command, once a figure was told of it, if it is the one that the poll is about

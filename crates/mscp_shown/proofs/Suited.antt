@@ -1,16 +1,10 @@
 -- What an end owes to its command alone: the rules that look at no other command, and the statuses and bodies that suit
 -- an order.
+use Rattle.mscp_shown.proofs.Common.{Answer, EndBody, Sent, count_of, endcode, has_count, has_endcode, has_status, is_about, is_plain, is_whole, may_have, move_byte, names_unit, other_of, points_into, refused_body, succeeds}
 use Rattle.std.proofs.Common.{◌≡◌, ◌≢◌, ℕ, ◌/◌, ◌%◌, ◌<◌, ◌≤◌, true}
-use Rattle.mscp_packet.specs.Ends.{refused_body}
-use Rattle.mscp_packet.specs.Opcodes.{move_byte}
 use Rattle.mscp_packet.specs.declared.command.Order.{Order}
 use Rattle.mscp_packet.specs.declared.command.Order.TheVariants as orders
-use Rattle.mscp_packet.specs.declared.end.EndBody.{EndBody}
 use Rattle.mscp_packet.specs.declared.end.EndBody.TheVariants as bodies
-use Rattle.mscp_queue.specs.Orders.{endcode}
-use Rattle.mscp_wire.specs.Wire.{count_of, has_count, has_endcode, has_status, is_about, is_plain, is_whole, may_have, names_unit, other_of, points_into, succeeds}
-use Rattle.mscp_wire.specs.declared.answer.Answer.{Answer}
-use Rattle.mscp_wire.specs.declared.sent.Sent.{Sent}
 
 -- the rules that look at the end and its command alone
 pub record Keeps (s : Sent) (a : Answer) : Type 0 where

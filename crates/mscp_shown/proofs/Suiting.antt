@@ -1,23 +1,9 @@
 -- The ends that a controller makes suit their commands.
-use Rattle.mscp_controller.proofs.Basics.{◌≡◌, ◌≢◌, ◌⊎◌, ⊎_elim, ℕ, ◌+◌, ◌-◌, ◌*◌, ◌<◌, ◌≤◌, Bool, true, false, cond, ◌&&◌, refl, ap, sym, ◌∙◌, arith, Option, Some, None, subst, true≢false, Command, Order, Block, Settings, Shape, End, unit_found, unit_shape, fault_of, is_queued, own_end, aborted_end, queued_open, some_same}
-use Rattle.std.proofs.lemmas.Bool.{ltb-false}
-use Rattle.std.proofs.lemmas.Bool.Decides.{nat_tests}
-use Rattle.std.specs.Prelude.{◌/◌, ◌%◌, ◌^◌, min, nat_lt}
-use Rattle.mscp_packet.specs.Opcodes.{move_byte}
-use Rattle.mscp_packet.specs.declared.command.MoveKind.{MoveKind}
+use Rattle.mscp_shown.proofs.Common.{Bad, Block, Bool, Command, End, EndBody, Good, MoveKind, None, Option, Order, Sent, Settings, Shape, Some, aborted_end, answer_body, answer_status, ap, arith, cond, endcode, false, fault_of, goes_on, inr, is_good_block, is_immediate, is_queued, ltb-false, may_have, min, move_byte, move_fault, moved_body, nat_lt, nat_tests, order_fault, order_weight, outcome_body, outcome_of, outcome_status, own_end, own_end_with, queued_open, refl, refused_body, some_same, subst, sym, touches, true, true≢false, unit_fault, unit_found, unit_shape, version_fault, ℕ, ⊎_elim, ◌%◌, ◌&&◌, ◌*◌, ◌+◌, ◌-◌, ◌/◌, ◌<◌, ◌^◌, ◌∙◌, ◌≡◌, ◌≢◌, ◌≤◌, ◌⊎◌}
 use Rattle.mscp_packet.specs.declared.command.Order.TheVariants as orders
-use Rattle.mscp_packet.specs.declared.end.EndBody.{EndBody}
 use Rattle.mscp_packet.specs.declared.end.EndBody.TheVariants as bodies
-use Rattle.mscp_packet.specs.Ends.{refused_body}
-use Rattle.mscp_drive.specs.declared.block.Block.TheVariants.{Bad, Good}
 use Rattle.mscp_drive.specs.Extent as extent
-use Rattle.mscp_queue.specs.Orders.{endcode, order_weight}
-use Rattle.mscp_queue.specs.Outcomes.{goes_on, is_good_block, moved_body, outcome_body, outcome_status, touches}
-use Rattle.mscp_controller.specs.Arrival.{is_immediate, move_fault, order_fault, unit_fault, version_fault}
-use Rattle.mscp_controller.specs.Outcomes.{answer_body, answer_status, outcome_of, own_end_with}
-use Rattle.mscp_wire.specs.Wire.{may_have}
-use Rattle.std.proofs.Common.{inl, inr}
-use Rattle.mscp_wire.specs.declared.sent.Sent.{Sent}
+use Rattle.std.proofs.Common.{inl}
 use Rattle.mscp_shown.proofs.Saying.{Says}
 use Rattle.mscp_shown.proofs.Suited.{IsFine, Suits}
 

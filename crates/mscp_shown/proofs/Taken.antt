@@ -1,21 +1,8 @@
 -- So does an answer, and what a host takes.
-use Rattle.mscp_controller.proofs.Basics.{◌≡◌, ℕ, Option, arith, eqb-true, ◌&&◌, ◌||◌, Bool, true, false, not, nat_eq, true≢false, List, [], ◌∷◌, ◌++◌, map, refl, ap, sym, ◌∙◌, subst, append-nil, Some, None, IsOfKind, AllByRecursion, false≢true, eq-eqb, ArrayVec, Connection, End, Event, Settings, Trace, Moment, moment, sent_bytes, command, command_of, unit, waiting, untaken, answer, aborted_end, good, own_end, end_bytes, every_append, every_weaker, same_connection, one_side, own_side, is_queued, each_push, aborted, untaken_more, drop}
-use Rattle.std.proofs.lemmas.List.Sums.{fold_push}
-use Rattle.mscp_controller.proofs.Promise.Known.{Known}
-use Rattle.mscp_controller.proofs.Promise.States.{is_online_kept}
-use Rattle.mscp_controller.specs.Ends.{figure_asked}
-use Rattle.mscp_controller.specs.Units.{is_online}
-use Rattle.mscp_controller.specs.declared.entry.Entry.{Entry}
-use Rattle.mscp_packet.specs.Number.{num}
+use Rattle.mscp_shown.proofs.Common.{AllByRecursion, Answer, ArrayVec, Bool, Connection, End, Entry, Event, IsOfKind, Known, List, Moment, None, Option, Sent, Settings, Some, Told, Trace, Wired, [], aborted, aborted_end, answer, answer_by, ap, append-nil, arith, brings, command, command_at, command_of, controller_after, controller_of, drop, each_push, end_bytes, eq-eqb, eqb-true, every_append, every_weaker, false, false≢true, figure_asked, fold_push, good, is_late, is_online, is_online_kept, is_queued, is_settled_at, map, moment, nat_eq, not, num, one_side, own_end, own_side, place_of, refl, same_connection, says_away, sent_by, sent_bytes, settles, shown, status_code, subst, suits_state, sym, told, told_after_end, told_push, true, true≢false, unit, untaken, untaken_more, waiting, went, ℕ, ◌&&◌, ◌++◌, ◌||◌, ◌∙◌, ◌∷◌, ◌≡◌}
 use Rattle.mscp_wire.specs.Wire as wire
-use Rattle.mscp_wire.specs.Wire.{answer_by, brings, command_at, is_late, is_settled_at, outstanding, place_of, sent_by, says_away, settles, status_code, suits_state, told, went, told_after_end, controller as controller_of, controller_after}
-use Rattle.mscp_wire.specs.declared.answer.Answer.{Answer}
-use Rattle.mscp_wire.specs.declared.sent.Sent.{Sent}
-use Rattle.mscp_wire.proofs.Passing.{told_push}
-use Rattle.mscp_wire.specs.declared.moment.Moment.{Moment as Wired}
+use Rattle.mscp_wire.specs.Wire.{outstanding}
 use Rattle.mscp_wire.specs.declared.moment.Moment.TheVariants as moments
-use Rattle.mscp_wire.specs.declared.told.Told.{Told}
-use Rattle.mscp_shown.specs.Shown.{shown}
 use Rattle.mscp_shown.proofs.Effects.{Effects, aborted_effects, brings_of, own_effects}
 use Rattle.mscp_shown.proofs.Identity.{controller_read, fits_controller, later_controller, own_identifier}
 use Rattle.mscp_shown.proofs.Owed.{untaken_took}

@@ -1,17 +1,11 @@
 -- An end that a host takes, as the rules of the wire read it.
+use Rattle.mscp_shown.proofs.Common.{AreBytes, BodyKind, and_from, cases_lt, end_length, endcodes, find, four, get_or_past, is_long, kind_of_body, le-leb, least_length, length_span, nat_le, num, slice_index}
 use Rattle.std.proofs.Common.{◌≡◌, ℕ, ◌+◌, ◌^◌, ◌<◌, true, ◌&&◌, List, [], ◌∷◌, length, refl, ap, sym, subst, arith, ⊎_elim, Option, Some, None}
-use Rattle.std.proofs.lemmas.Bool.{and_from, cases_lt, eqb-true, le-leb}
-use Rattle.std.proofs.lemmas.List.{get_or_past}
-use Rattle.std.specs.Prelude.{find, nat_eq, nat_le, option_map, slice_get, slice_index}
+use Rattle.std.proofs.lemmas.Bool.{eqb-true}
+use Rattle.std.specs.Prelude.{nat_eq, option_map, slice_get}
 use Rattle.arrayvec.specs.ArrayVec.{ArrayVec}
-use Rattle.mscp_packet.proofs.Ends.{length_span}
-use Rattle.mscp_packet.proofs.Numbers.{four}
-use Rattle.mscp_packet.specs.Ends.{IsOfKind, end_bytes, end_length, endcodes, kind_of_body}
-use Rattle.mscp_packet.specs.Number.{num}
-use Rattle.mscp_packet.specs.declared.end.BodyKind.{BodyKind}
+use Rattle.mscp_packet.specs.Ends.{IsOfKind, end_bytes}
 use Rattle.mscp_packet.specs.declared.end.End.{End}
-use Rattle.mscp_wire.specs.Wire.{is_long, least_length}
-use Rattle.mscp_shown.specs.Keeping.{AreBytes}
 use Rattle.mscp_shown.proofs.Counts.{found_passes}
 
 -- ---- numbers

@@ -1,12 +1,8 @@
 -- The ends that a controller makes tell of a unit what it is.
-use Rattle.mscp_controller.proofs.Basics.{◌≡◌, ◌≢◌, ⊎_elim, ℕ, ◌<◌, Bool, true, false, refl, ap, arith, if◌then◌else◌, Some, None, Command, Order, Settings, Shape, unit_found, unit_shape, fault_of, is_queued, true≢false, some_same}
-use Rattle.std.specs.Prelude.{◌%◌}
+use Rattle.mscp_shown.proofs.Common.{Bool, Command, None, Order, Settings, Shape, Some, answer_body, ap, arith, false, fault_of, if◌then◌else◌, is_immediate, is_queued, is_success, order_fault, outcome_body, refl, some_same, true, true≢false, unit_found, unit_shape, ℕ, ⊎_elim, ◌%◌, ◌<◌, ◌≡◌, ◌≢◌}
 use Rattle.std.proofs.lemmas.Bool.{eq-eqb}
 use Rattle.mscp_packet.specs.declared.command.Order.TheVariants as orders
 use Rattle.mscp_packet.specs.declared.end.EndBody.TheVariants as bodies
-use Rattle.mscp_queue.specs.Outcomes.{is_success, outcome_body}
-use Rattle.mscp_controller.specs.Arrival.{is_immediate, order_fault}
-use Rattle.mscp_controller.specs.Outcomes.{answer_body}
 use Rattle.mscp_shown.proofs.Identity.{BodyControls, BodyTells}
 use Rattle.mscp_shown.proofs.Suiting.{move_refused, unit_refused, version_refused}
 

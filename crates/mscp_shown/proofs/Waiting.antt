@@ -1,23 +1,10 @@
 -- What is known of the order of all that is outstanding, and what each moment keeps of it.
-use Rattle.mscp_controller.proofs.Basics.{◌≡◌, ◌≢◌, ◌⊎◌, inl, ⊎_elim, ℕ, ◌<◌, ◌≤◌, Bool, true, false, ◌&&◌, ◌||◌, List, [], ◌∷◌, ◌++◌, length, get_or, refl, ap, sym, ◌∙◌, subst, arith, count_by, list_any, nat_eq, Option, Some, None, AllByRecursion, true≢false, false≢true, eq-eqb, eqb-true, Connection, Command, Order, End, Settings, Trace, waiting, waiting_by, is_waiting, unit, order, command, connection, reference, untaken, is_queued, every_filter, every_from, one_side, own_side, queued_open, command_of, sent_bytes, moment, waiting_waits, fault_of, own_end}
-use Rattle.std.proofs.Common.{inr}
-use Rattle.std.proofs.lemmas.List.Quantifiers.{position-Some}
-use Rattle.std.proofs.lemmas.List.Sums.{get_or-le-sum_by}
-use Rattle.std.specs.Prelude.{◌%◌}
-use Rattle.mscp_drive.specs.declared.connection.Connection.TheVariants.{First}
+use Rattle.mscp_shown.proofs.Common.{AllByRecursion, Bool, Command, Connection, End, First, List, MoveKind, None, Option, Order, Pairs, Sent, Settings, Some, Trace, [], ap, arith, command, command_of, connection, count_by, eq-eqb, eqb-true, every_filter, every_from, false, false≢true, fault_of, get_or, get_or-le-sum_by, inl, inr, is_apart, is_immediate, is_named, is_queued, is_waiting, keeps_back, length, list_any, moment, move_byte, nat_eq, one_side, order, own_end, own_end_with, own_side, pairs_append, position-Some, queued_open, reference, refl, sent_by, sent_bytes, subst, sym, true, true≢false, unit, untaken, waiting, waiting_by, waiting_waits, ℕ, ⊎_elim, ◌%◌, ◌&&◌, ◌++◌, ◌<◌, ◌||◌, ◌∙◌, ◌∷◌, ◌≡◌, ◌≢◌, ◌≤◌, ◌⊎◌}
 use Rattle.mscp_packet.specs.declared.command.Order.TheVariants as orders
-use Rattle.mscp_packet.specs.Opcodes.{move_byte}
-use Rattle.mscp_packet.specs.declared.command.MoveKind.{MoveKind}
-use Rattle.mscp_controller.specs.Arrival.{is_immediate}
-use Rattle.mscp_controller.specs.Outcomes.{own_end_with}
 use Rattle.mscp_controller.specs.Passing as passing
-use Rattle.mscp_queue.proofs.Lists.{pairs_append}
 use Rattle.mscp_queue.specs.Names.{same_connection}
 use Rattle.mscp_queue.specs.Orders as queue
-use Rattle.mscp_queue.specs.Pairs.{Pairs}
-use Rattle.mscp_wire.specs.Wire.{is_apart, is_named, keeps_back, sent_by}
 use Rattle.mscp_wire.specs.Wire as wire
-use Rattle.mscp_wire.specs.declared.sent.Sent.{Sent}
 use Rattle.mscp_shown.proofs.Counts.{none_passes, some_place}
 use Rattle.mscp_shown.proofs.Messages.{IsTallied}
 use Rattle.mscp_shown.proofs.Ordering.{Clear, IsClearOf, Ordered, fences, kept_side}

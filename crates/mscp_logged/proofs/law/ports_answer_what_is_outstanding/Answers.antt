@@ -1,5 +1,4 @@
-use Rattle.std.proofs.Common.{ap}
-use Rattle.std.specs.Prelude.{is_some}
+use Rattle.mscp_logged.proofs.Common.{ap, is_some}
 use Rattle.mscp_wire.specs.declared.rule.Rule.TheVariants as rules
 use Rattle.mscp_logged.proofs.Logging.{stated}
 use Rattle.mscp_logged.proofs.Placed.{Any, keeps_rule}

@@ -1,5 +1,4 @@
-use Rattle.std.proofs.Common.{⊎_elim}
-use Rattle.mscp_logged.specs.Rules.{TellsFaults}
+use Rattle.mscp_logged.proofs.Common.{TellsFaults, ⊎_elim}
 use Rattle.mscp_logged.proofs.Figured.{known}
 use Rattle.mscp_logged.proofs.Kept.{keeps_rules}
 use Rattle.mscp_logged.proofs.Logging.{stated}
