@@ -343,7 +343,7 @@ is_kept() {
 build() {
     local round=0
     SECONDS=0 told=0 minute=60
-    say "proving and building $what: from nothing, allow 10 minutes on four processors"
+    say "proving and building $what: from nothing, allow 12 minutes on four processors"
     mkdir -p -- "$top/out" && exec {lock}>>"$top/out/lock" || refuse "$top/out can't be written"
     flock -n "$lock" || { say 'waiting for another build' && flock "$lock"; } || refuse "$top/out/lock can't be locked"
     # Nobody else builds now, so a room that is there was left by a build that was killed.

@@ -16,5 +16,6 @@ pub mod Timing
 pub mod Wired
 pub mod Found
 pub mod Told
+pub mod Foreign
 pub mod Showing
 pub mod Common

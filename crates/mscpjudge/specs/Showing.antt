@@ -1,5 +1,5 @@
 -- What is written of a log of the wire that is shown: each line that says something, in words.
-use Rattle.std.specs.Prelude.{◌≡◌, ℕ, ◌+◌, nat_lt, List, [], ◌∷◌, ◌++◌, codes, length, if◌then◌else◌, Option, Result, Ok, Err}
+use Rattle.std.specs.Prelude.{◌≡◌, ℕ, ◌+◌, nat_lt, List, [], ◌∷◌, ◌++◌, codes, length, if◌then◌else◌, Option, Some, None, Result, Ok, Err}
 use Rattle.std.specs.Fmt.{decimal}
 use Rattle.std.specs.Io.KnownBytes.{Appends}
 use Rattle.hex.specs.Hex.{encode_lower}
@@ -19,6 +19,7 @@ use Rattle.mscp_wire.specs.declared.line.Said.TheVariants as says
 use Rattle.mscp_wire.specs.declared.moment.Moment.{Moment}
 use Rattle.mscp_wire.specs.declared.moment.Moment.TheVariants as moments
 use Rattle.mscp_drive.specs.declared.connection.Connection.{Connection}
+use Rattle.mscpjudge.specs.Foreign.{foreign_of, foreign_text}
 use Rattle.mscpjudge.specs.Ports.{line_kind}
 use Rattle.mscpjudge.specs.Times.{at_text, line_time}
 use Rattle.mscpjudge.specs.Wired.{connection_name}
@@ -44,8 +45,16 @@ packet_text digits (Err faults_of_text.Hex) = unread_text (codes "hex") digits
 packet_text digits (Err faults_of_text.OutOfMemory) = []
 
 -- the same of these bytes
-unfoldable pub bytes_text : List ℕ → List ℕ
-bytes_text b = packet_text (encode_lower b) (shown (encode_lower b))
+unfoldable pub known_text : List ℕ → List ℕ
+known_text b = packet_text (encode_lower b) (shown (encode_lower b))
+
+-- the line of these bytes, of an opcode that packets don't know or of another
+abbrev pub text_by : Option ℕ → List ℕ → List ℕ
+text_by (Some opcode) b = foreign_text b opcode
+text_by None b = known_text b
+
+abbrev pub bytes_text : List ℕ → List ℕ
+bytes_text b = text_by (foreign_of b) b
 
 -- what the controller sent a connection's host
 abbrev pub sent_text : Connection → List ℕ → List ℕ

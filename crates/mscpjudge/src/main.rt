@@ -11,6 +11,7 @@ mod envelopes;
 mod explaining;
 mod fault;
 mod finding;
+mod foreign;
 mod hearing;
 mod judging;
 mod lengths;

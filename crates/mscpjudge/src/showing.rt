@@ -4,9 +4,10 @@ ghost use Rattle.std.specs.Prelude.{◌≡◌, ◌≤◌, ◌++◌, [], false, O
 ghost use Rattle.mscp_reader.specs.Lexical as lexical;
 ghost use Rattle.mscp_reader.specs.Outcome.{Tells};
 ghost use Rattle.mscpjudge.specs.Common.{WritesOnce};
-ghost use Rattle.mscpjudge.specs.Showing.{ShowsLine, TellsShown, bytes_text, line_shown, lines_shown, log_shown, moment_text, named_text, number_text, read_shown, said_text, sent_text, unread_text};
+ghost use Rattle.mscpjudge.specs.Showing.{ShowsLine, TellsShown, bytes_text, known_text, line_shown, lines_shown, log_shown, moment_text, named_text, number_text, read_shown, said_text, sent_text, unread_text};
 
 use crate::fault::Fault;
+use crate::foreign::{foreign_of, put_foreign};
 use crate::judging::Outcome;
 use crate::ports::{Kind, line_kind};
 use crate::time::{line_time, put_at};
@@ -28,10 +29,10 @@ fn put_unread(text: &mut Vec<u8>, fault: &str, digits: &str) -> Result<(), Alloc
     put(text, "\n")
 }
 
-/// Appends the line of the packet in these bytes, or why it isn't one.
-#[tactic(auto, unfolding(crate::specs::Showing::bytes_text))]
-fn put_packet(alloc: Global, text: &mut Vec<u8>, bytes: &[u8]) -> Result<(), AllocError>
-    ensures { OnOk result (text.new.items ≡ text.old.items ++ bytes_text bytes.now) }
+/// Appends the line of the packet in these bytes, or why they are none.
+#[tactic(auto, unfolding(crate::specs::Showing::known_text))]
+fn put_known(alloc: Global, text: &mut Vec<u8>, bytes: &[u8]) -> Result<(), AllocError>
+    ensures { OnOk result (text.new.items ≡ text.old.items ++ known_text bytes.now) }
 {
     let word = hex::encode(alloc, bytes)?;
     match show_packet(alloc, word.as_str()) {
@@ -42,6 +43,16 @@ fn put_packet(alloc: Global, text: &mut Vec<u8>, bytes: &[u8]) -> Result<(), All
         Err(ShowFault::Code) => put_unread(text, "code", word.as_str()),
         Err(ShowFault::Length) => put_unread(text, "length", word.as_str()),
         Err(ShowFault::OutOfMemory) => Err(AllocError),
+    }
+}
+
+/// Appends the line of a command or an end, or why bytes are none.
+fn put_packet(alloc: Global, text: &mut Vec<u8>, bytes: &[u8]) -> Result<(), AllocError>
+    ensures { OnOk result (text.new.items ≡ text.old.items ++ bytes_text bytes.now) }
+{
+    match foreign_of(bytes) {
+        Some(opcode) => put_foreign(text, bytes, opcode),
+        None => put_known(alloc, text, bytes),
     }
 }
 

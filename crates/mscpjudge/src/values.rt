@@ -2,6 +2,7 @@
 // hexadecimal are told so.
 
 ghost use Rattle.std.specs.Prelude.{◌≡◌, ◌≤◌, ◌++◌, length, slice_index, OnOk};
+ghost use Rattle.hex.specs.Hex.{encode_lower};
 ghost use Rattle.mscpjudge.specs.Values as values;
 
 use crate::lengths::put_length;
@@ -11,16 +12,24 @@ use mscp_text::{put, put_field, write_hex};
 use mscp_wire::{Answer, Asked, Identity, Moment, Rule, Seen, Sent, Wrong};
 use std::alloc::{AllocError, Allocator};
 
+/// Appends bytes as two lower case hexadecimal digits each.
+pub fn put_digits<A: Allocator>(text: &mut Vec<u8, A>, bytes: &[u8]) -> Result<(), AllocError>
+    requires { length bytes.now ≤ 8 }
+    ensures { OnOk result (text.new.items ≡ text.old.items ++ encode_lower bytes.now) }
+{
+    let mut room = [0u8; 16];
+    let digits = &mut room[..2 * bytes.len()];
+    write_hex(bytes, digits);
+    text.extend_from_slice(digits)
+}
+
 /// Appends bytes in hexadecimal.
 fn put_hex<A: Allocator>(text: &mut Vec<u8, A>, bytes: &[u8]) -> Result<(), AllocError>
     requires { length bytes.now ≤ 8 }
     ensures { OnOk result (text.new.items ≡ text.old.items ++ values.hex_text bytes.now) }
 {
-    let mut room = [0u8; 16];
-    let digits = &mut room[..2 * bytes.len()];
-    write_hex(bytes, digits);
     put(text, "0x")?;
-    text.extend_from_slice(digits)
+    put_digits(text, bytes)
 }
 
 /// Appends a byte in hexadecimal.

@@ -135,7 +135,7 @@ fn rule_text(rule: Rule) -> &'static str
 }
 
 /// Whether an opcode has a name.
-fn has_name(opcode: u8) -> bool
+pub fn has_name(opcode: u8) -> bool
     ensures { result ≡ commands.has_name opcode }
 {
     matches!(opcode, 1..=4 | 8..=11 | 16..=20 | 32..=34 | 47)

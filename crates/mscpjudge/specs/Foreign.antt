@@ -1,0 +1,41 @@
+-- The line of a command that this project's controller doesn't know and others serve, as FLUSH, and of its end.
+use Rattle.std.specs.Prelude.{ℕ, ◌%◌, ◌&&◌, nat_le, nat_lt, if◌then◌else◌, List, [], ◌∷◌, ◌++◌, codes, length, slice_index, Bool, Option, Some, None}
+use Rattle.std.specs.Fmt.{decimal}
+use Rattle.std.specs.Int.{to_be_bytes, w16}
+use Rattle.hex.specs.Hex.{encode_lower}
+use Rattle.mscp_packet.specs.Number.{num}
+use Rattle.mscp_wire.specs.Messages.{is_unknown}
+use Rattle.mscpjudge.specs.Commands.{has_name}
+use Rattle.mscpjudge.specs.Counted.{opcode_name}
+
+-- an opcode has a name, and no line of a packet knows it (profile)
+abbrev pub is_foreign : ℕ → Bool
+is_foreign opcode = has_name opcode && is_unknown opcode
+
+-- the opcode of a command or an end of 12 to 64 bytes, if it is such a one: the top bit of byte 8 tells an end (manual,
+-- "End Messages")
+abbrev pub foreign_of : List ℕ → Option ℕ
+foreign_of b =
+    if nat_le 12 (length b) && nat_le (length b) 64 && is_foreign (slice_index b 8 % 0x80)
+    then Some (slice_index b 8 % 0x80)
+    else None
+
+-- its number and its unit, behind a word
+abbrev pub about_text : List ℕ → List ℕ → List ℕ
+about_text word b = (word ++ decimal (num b 0 4)) ++ (codes " unit " ++ decimal (num b 4 2))
+
+-- the endcode and the status of an end, in hexadecimal
+abbrev pub told_text : List ℕ → List ℕ
+told_text b =
+    codes " code " ++ encode_lower (slice_index b 8 ∷ []) ++ codes " status "
+    ++ encode_lower (to_be_bytes w16 (num b 10 2))
+
+-- what a command or an end of this opcode is, without its name
+abbrev pub unnamed_text : List ℕ → List ℕ
+unnamed_text b =
+    if nat_lt (slice_index b 8) 0x80 then about_text (codes "command ") b
+    else about_text (codes "end ") b ++ told_text b
+
+-- its line
+unfoldable pub foreign_text : List ℕ → ℕ → List ℕ
+foreign_text b opcode = unnamed_text b ++ codes " " ++ opcode_name opcode ++ codes "\n"
