@@ -1,5 +1,5 @@
-use Rattle.std.proofs.Common.{ap, sym, ◌∙◌, subst}
-use Rattle.std.specs.Prelude.{IsSome}
+use Rattle.std.proofs.Common.{ap, set, sym, ◌∙◌, subst}
+use Rattle.std.specs.Prelude.{IsSome, None}
 use Rattle.std.specs.List.{remove}
 use Rattle.mscp_wire.specs.Kept.{IsKept, cell, place, sents}
 use Rattle.mscp_wire.specs.Wire.{command_at}
@@ -31,3 +31,9 @@ returns-clause-others g c =
     ap sents c.put.ensures
     ∙ sents_remove xs c.args.at h
     ∙ ap (λ ys. remove (sents ys) (place ys c.args.at)) c.self.view_is
+
+pub returns-clause-gone : goal.returns-clause-gone
+returns-clause-gone g c = c.at-sent.ensures
+
+pub returns-clause-cells : goal.returns-clause-cells
+returns-clause-cells g c = c.put.ensures ∙ ap (λ xs. set xs c.args.at None) c.self.view_is
