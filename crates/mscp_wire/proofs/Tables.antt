@@ -26,6 +26,12 @@ padded d [] (suc n) more q few = all more q
 padded d (x ∷ xs) (suc n) more zero few = refl
 padded d (x ∷ xs) (suc n) more (suc q) few = padded d xs n more q (omega (arith, few))
 
+pub resized : (d v : Pair) (xs ys : List Pair) (n more q : ℕ) → ys ≡ take n xs ++ replicate more v → v ≡ d
+    → length xs < n → get_or ys q d ≡ get_or xs q d
+resized d v xs ys n more q is same few =
+    ap (λ zs. get_or zs q d) is
+    ∙ (ap (λ z. get_or (take n xs ++ replicate more z) q d) same ∙ padded d xs n more q few)
+
 -- ---- numbers beside a row
 no_numbers_told : (i : Option Identity) (s t : Option ℕ) → (is_some i || is_some s || is_some t) ≡ false
     → no_numbers ≡ record { identity = i; size = s; table = t }

@@ -2,7 +2,7 @@
 use Rattle.std.proofs.Common.{◌≡◌, ⊎_elim, ◌⊎◌, ℕ, zero, suc, ◌+◌, ◌-◌, ◌%◌, ◌<◌, ◌≤◌, if◌then◌else◌, Bool, true, false, cond, not, ◌&&◌, ◌||◌, List, [], ◌∷◌, ◌++◌, length, drop, get_or, set, refl, ap, sym, ◌∙◌, arith, length-append, length-take-le, Option, Some, None}
 use Rattle.std.specs.Prelude.{is_some, nat_eq, take}
 use Rattle.std.proofs.lemmas.Bool.{cases_eq, cases_lt}
-use Rattle.std.proofs.lemmas.List.{get_or-drop, get_or-set_other, get_or-take, length-drop, length-set, length-take}
+use Rattle.std.proofs.lemmas.List.{get_or_default, get_or-drop, get_or-set_other, get_or-take, length-drop, length-set, length-take}
 use Rattle.std.proofs.Math.ListN.{get_or-append}
 use Rattle.std.proofs.lemmas.Grind.{get_or-set_at}
 use Rattle.std.proofs.lemmas.Bool.{eqb-true}
@@ -188,6 +188,13 @@ none_further p cells from at end h k i low high = ⊎_elim
     (λ above. k i above high)
     (cases_lt i at)
 
+-- whether one stands in a cell that is read
+pub read_in : (p : Sent → Bool) (cells xs : List (Option Sent)) (at : ℕ) (o : Option Sent) (b : Bool)
+    → at < length cells → cells ≡ xs → o ≡ get_or cells at o → b ≡ stands p o → b ≡ stands p (cell xs at)
+read_in p cells xs at o b l same is h =
+    h ∙ (ap (stands p) (is ∙ get_or_default cells at o None l) ∙ ap (λ ys. stands p (cell ys at)) same)
+
+-- none in one cell
 pub none_one : (p : Sent → Bool) (cells : List (Option Sent)) (at : ℕ) → stands p (cell cells at) ≡ false
     → NoneIn p cells at (at + 1)
 none_one p cells at h i low high = ap (λ j. stands p (cell cells j)) (omega (arith, low, high)) ∙ h

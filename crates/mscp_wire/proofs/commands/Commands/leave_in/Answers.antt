@@ -1,8 +1,8 @@
-use Rattle.std.proofs.Common.{ap, set, sym, ◌∙◌, if◌then◌else◌, Some}
+use Rattle.std.proofs.Common.{ap, sym, ◌∙◌, if◌then◌else◌, Some}
 use Rattle.std.specs.Prelude.{option_map}
 use Rattle.mscp_wire.specs.Kept.{cell, leaves}
 use Rattle.mscp_wire.specs.Wire.{left}
-use Rattle.mscp_wire.proofs.Placed.{empty_stays, kept_put, same_in}
+use Rattle.mscp_wire.proofs.Placed.{empty_stays, kept_put, put_over, same_in}
 use Rattle.mscp_wire.proofs.commands.Commands.leave_in.Goals as goal
 
 pub invariant_of-self : goal.invariant_of-self
@@ -17,11 +17,9 @@ invariant_of-self g c =
 
 pub returns-then-polls : goal.returns-then-polls
 returns-then-polls g c =
-    let f = option_map (leaves c.args.ended.now) in
-    let here = sym (ap (λ xs. cell xs c.args.at) (c.as_slice.ensures ∙ c.self.view_is)) ∙ c.in-Some.is in
-    c.put.ensures
-    ∙ (ap (set c.self.inside.cells c.args.at) (ap (λ t. Some t) c.leaves.ensures ∙ sym (ap f here))
-    ∙ ap (λ xs. set xs c.args.at (f (cell c.args.self.now c.args.at))) c.self.view_is)
+    put_over (leaves c.args.ended.now) c.self.inside.cells c.args.self.now c.put.new.self c.args.at c.in-Some.other
+    c.leaves.result c.self.view_is (sym (ap (λ ys. cell ys c.args.at) c.as_slice.ensures) ∙ c.in-Some.is)
+    c.leaves.ensures c.put.ensures
 
 pub returns-else-polls : goal.returns-else-polls
 returns-else-polls g c =

@@ -1,8 +1,8 @@
-use Rattle.std.proofs.Common.{◌≡◌, ap, not, set, sym, ◌&&◌, ◌∙◌, if◌then◌else◌, Some, false, true}
+use Rattle.std.proofs.Common.{◌≡◌, ap, not, sym, ◌&&◌, ◌∙◌, if◌then◌else◌, Some, false, true}
 use Rattle.std.specs.Prelude.{option_map}
 use Rattle.mscp_wire.specs.Kept.{besides, cell}
 use Rattle.mscp_wire.specs.Wire.{turns_beside}
-use Rattle.mscp_wire.proofs.Placed.{empty_stays, kept_put, same_in}
+use Rattle.mscp_wire.proofs.Placed.{empty_stays, kept_put, put_over, same_in}
 use Rattle.mscp_wire.proofs.Marking.{never_turned, unmarked}
 use Rattle.mscp_wire.proofs.commands.Commands.mark_in.Goals.{else-not-other-via-then-not-other+else-turns_beside, else-not-other-via-else-not-other}
 use Rattle.mscp_wire.proofs.commands.Commands.mark_in.Goals as goal
@@ -35,11 +35,9 @@ invariant_of-self g c =
 
 pub returns-then-turns_beside : goal.returns-then-turns_beside
 returns-then-turns_beside g c =
-    let f = option_map (besides c.args.ended.now) in
-    let here = sym (ap (λ xs. cell xs c.args.at) (c.as_slice.ensures ∙ c.self.view_is)) ∙ c.in-Some.is in
-    c.put.ensures
-    ∙ (ap (set c.self.inside.cells c.args.at) (ap (λ t. Some t) c.marked.ensures ∙ sym (ap f here))
-    ∙ ap (λ xs. set xs c.args.at (f (cell c.args.self.now c.args.at))) c.self.view_is)
+    put_over (besides c.args.ended.now) c.self.inside.cells c.args.self.now c.put.new.self c.args.at c.in-Some.other
+    c.marked.result c.self.view_is (sym (ap (λ ys. cell ys c.args.at) c.as_slice.ensures) ∙ c.in-Some.is)
+    c.marked.ensures c.put.ensures
 
 pub returns-in_default : goal.returns-in_default
 returns-in_default g c =

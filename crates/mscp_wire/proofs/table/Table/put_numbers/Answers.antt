@@ -4,7 +4,7 @@ use Rattle.std.proofs.lemmas.Bool.{eqb-false, not-false, not-true}
 use Rattle.mscp_wire.specs.Rows.{no_pair}
 use Rattle.mscp_wire.specs.declared.row.Row.{Row}
 use Rattle.mscp_wire.specs.declared.table.Table.{Table}
-use Rattle.mscp_wire.proofs.Tables.{padded, with_numbers, without_numbers}
+use Rattle.mscp_wire.proofs.Tables.{resized, with_numbers, without_numbers}
 use Rattle.mscp_wire.proofs.table.Table.put_numbers.Goals.{then-len-place+in_ok-resize, else-len-place}
 use Rattle.mscp_wire.proofs.table.Table.put_numbers.Goals as goal
 
@@ -40,8 +40,9 @@ returns-clause-others g c = λ other apart.
     elim c.if-len-place.branch [
       | then-len-place+in_ok-resize w ↦
           ap (λ (t : Table g.row.A.Denot). get_or t.pairs.items other no_pair) w.self-is
-          ∙ (ap (λ xs. get_or xs other no_pair) (rw w.none.ensures at w.in_ok-resize.ensures.items)
-          ∙ padded no_pair old (c.args.place + 1) _ other (omega (arith, w.if-len-place.true, c.len.ensures)))
+          ∙ resized no_pair _ old w.resize.new.self.items (c.args.place + 1) _ other w.in_ok-resize.ensures.items
+          w.none.ensures
+          (omega (arith, w.if-len-place.true, c.len.ensures))
       | else-len-place w ↦ ap (λ (t : Table g.row.A.Denot). get_or t.pairs.items other no_pair) w.self-is
     ] in
     get_or-set_other c.if-len-place.self.pairs.items c.args.place other c.of-2.result no_pair
