@@ -1,9 +1,9 @@
-use Rattle.std.proofs.Common.{ap, set, sym, ◌∙◌, subst}
-use Rattle.std.specs.Prelude.{IsSome, None}
+use Rattle.std.proofs.Common.{ap, sym, ◌∙◌, subst}
+use Rattle.std.specs.Prelude.{IsSome}
 use Rattle.std.specs.List.{remove}
 use Rattle.mscp_wire.specs.Kept.{IsKept, cell, place, sents}
 use Rattle.mscp_wire.specs.Wire.{command_at}
-use Rattle.mscp_wire.proofs.Placed.{place_less, sents_remove}
+use Rattle.mscp_wire.proofs.Placed.{cell_less, place_less, sents_remove}
 use Rattle.mscp_wire.proofs.Names.{kept_counted}
 use Rattle.mscp_wire.proofs.commands.Commands.remove.Goals as goal
 
@@ -32,8 +32,6 @@ returns-clause-others g c =
     ∙ sents_remove xs c.args.at h
     ∙ ap (λ ys. remove (sents ys) (place ys c.args.at)) c.self.view_is
 
-pub returns-clause-gone : goal.returns-clause-gone
-returns-clause-gone g c = c.at-sent.ensures
-
-pub returns-clause-cells : goal.returns-clause-cells
-returns-clause-cells g c = c.put.ensures ∙ ap (λ xs. set xs c.args.at None) c.self.view_is
+pub put-requires : goal.put-requires
+put-requires g c = cell_less c.self.inside.cells c.args.at
+    (subst (λ ys. IsSome (cell ys c.args.at)) (sym c.self.view_is) c.requires)
