@@ -37,8 +37,3 @@ invariant_of-self g c =
     (ap (λ xs. map (tells c.args.name.0 c.args.name.1 c.args.figure c.args.time) (sents xs)) c.self.view_is
     ∙ sym (returns-in-Some g c))
     (kept_tells c.args.name.0 c.args.name.1 c.args.figure c.args.time _ _ c.self.invariant)
-
-pub returns : goal.returns
-returns g c =
-    c.tell_all.ensures
-    ∙ ap (λ xs. map (tells c.args.name.0 c.args.name.1 c.args.figure c.args.time) (sents xs)) c.self.view_is

@@ -1,5 +1,4 @@
 use Rattle.std.proofs.Common.{◌≡◌, ◌∙◌, Some, ap, if◌then◌else◌, refl, subst, sym}
-use Rattle.std.proofs.lemmas.Result.{err_from_is_err_and}
 use Rattle.mscp_wire.specs.Log.{spared, with_either, with_moment, with_stranger}
 use Rattle.mscp_wire.specs.Right.{IsAfter}
 use Rattle.mscp_wire.specs.Wire.{command_of}
@@ -79,20 +78,3 @@ returns-in-Some-2-clause-after g c = λ log s.
           ∙ seen_then c.args.self.now.judge c.step.new.self m _ _ _
           (kept_then _ _ _ _ c.in-Some-2.is stepped.unchanged) s.commands s.units s.controller;
     }
-
-pub returns-in_err-stepped-clause-after : goal.returns-in_err-stepped-clause-after
-returns-in_err-stepped-clause-after g c = λ log s.
-    let p = err_from_is_err_and c.from_residual.result c.from_residual.ensures.1 in
-    rw (p.1, p.2) tt
-
-pub returns-in_err-add-in-None-clause-after : goal.returns-in_err-add-in-None-clause-after
-returns-in_err-add-in-None-clause-after g c = λ log s.
-    let q = c.from_residual-in_err-add-in-None in
-    let p = err_from_is_err_and q.result q.ensures.1 in
-    rw (p.1, p.2) tt
-
-pub returns-in_err-spare-in-Some-clause-after : goal.returns-in_err-spare-in-Some-clause-after
-returns-in_err-spare-in-Some-clause-after g c = λ log s.
-    let q = c.from_residual-in_err-spare-in-Some in
-    let p = err_from_is_err_and q.result q.ensures.1 in
-    rw (p.1, p.2) tt

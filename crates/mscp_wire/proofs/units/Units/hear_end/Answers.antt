@@ -1,5 +1,4 @@
 use Rattle.std.proofs.Common.{ap, if◌then◌else◌, ◌∙◌}
-use Rattle.std.proofs.lemmas.Result.{IfOk-from_err}
 use Rattle.mscp_wire.specs.Wire.{after_other, after_own, kept}
 use Rattle.mscp_wire.proofs.Keys.{heard_end}
 use Rattle.mscp_wire.proofs.units.Units.hear_end.Goals as goal
@@ -13,17 +12,3 @@ returns-clause-told g c = λ via unit.
     (c.after_end-own.ensures ∙ ap (λ t. if c.args.settled then after_own t e else after_other t e) c.told.ensures)
     c.other_side-other.ensures
     (c.after_other-others.ensures ∙ ap (λ t. after_other t e) c.told-2.ensures) c.in_ok-put.ensures.told via unit
-
-pub returns-in_err-put-clause-told : goal.returns-in_err-put-clause-told
-returns-in_err-put-clause-told g c = IfOk-from_err c.from_residual.result _ c.from_residual.ensures.0
-
-pub returns-in_err-put-clause-called : goal.returns-in_err-put-clause-called
-returns-in_err-put-clause-called g c = IfOk-from_err c.from_residual.result _ c.from_residual.ensures.0
-
-pub returns-in_err-hear_call-clause-told : goal.returns-in_err-hear_call-clause-told
-returns-in_err-hear_call-clause-told g c =
-    IfOk-from_err c.from_residual-in_err-hear_call.result _ c.from_residual-in_err-hear_call.ensures.0
-
-pub returns-in_err-hear_call-clause-called : goal.returns-in_err-hear_call-clause-called
-returns-in_err-hear_call-clause-called g c =
-    IfOk-from_err c.from_residual-in_err-hear_call.result _ c.from_residual-in_err-hear_call.ensures.0
