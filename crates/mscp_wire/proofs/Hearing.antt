@@ -1,8 +1,8 @@
 -- Which rule a message and an end break.
-use Rattle.std.proofs.Common.{◌≡◌, ℕ, ◌≤◌, List, length, sym, ap, ◌∙◌, if◌then◌else◌, Bool, Option, Result, Ok, Err, true}
+use Rattle.std.proofs.Common.{◌≡◌, ℕ, ◌≤◌, List, length, sym, ap, ◌∙◌, if◌then◌else◌, Bool, Option, None, Result, Ok, Err, true}
 use Rattle.std.proofs.lemmas.Bool.{le-leb}
 use Rattle.arrayvec.specs.ArrayVec.{ArrayVec}
-use Rattle.std.specs.Result.{IfOk}
+use Rattle.std.specs.Result.{IfOk, OnOk}
 use Rattle.mscp_drive.specs.declared.connection.Connection.{Connection}
 use Rattle.mscp_wire.specs.Wire.{answer_by, broken, broken_at, broken_message, is_long, is_message, is_settled_at, place_of, sent_by, seen_of, told_nothing, unit_before, unless}
 use Rattle.mscp_wire.specs.declared.moment.Moment.{Moment}
@@ -61,3 +61,13 @@ stepped_end (Ok o) credits xs units known via b bytes m is same h =
     (place_of xs (answer_by via l)))) same
     ∙ sym (ap (λ z. broken credits xs (seen_of xs units known z) z) is))
 stepped_end (Err e) credits xs units known via b bytes m is same h = h
+
+-- what always holds does so of a value
+pub on_ok : {T E P : Type 0} (r : Result T E) → P → OnOk r P
+on_ok (Ok x) p = p
+on_ok (Err e) p = tt
+
+-- and of what comes of a moment that breaks no rule
+pub if_right : {E P : Type 0} (r : Result Stepped E) → P → IfOk r (λ o. o.rule ≡ None → P)
+if_right (Ok o) p = λ e. p
+if_right (Err e) p = tt

@@ -189,6 +189,22 @@ pub same_in : (f : Option Sent → Option Sent) (xs : List (Option Sent)) (i : �
     → xs ≡ set xs i (f (cell xs i))
 same_in f xs i h = sym (ap (set xs i) h ∙ set-get_or xs i None)
 
+-- and so does an empty one of which commands change
+pub empty_stays : (f : Sent → Sent) (xs : List (Option Sent)) (i : ℕ) → ((s : Sent) → cell xs i ≡ Some s → ⊥)
+    → xs ≡ set xs i (option_map f (cell xs i))
+empty_stays f xs i none = same_in (option_map f) xs i (stays (cell xs i) none)
+  where
+    stays : (c : Option Sent) → ((s : Sent) → c ≡ Some s → ⊥) → option_map f c ≡ c
+    stays None h = refl
+    stays (Some s) h = absurd (h s refl)
+
+-- or changes, if one is put there
+pub put_over : (f : Sent → Sent) (cells xs zs : List (Option Sent)) (i : ℕ) (s t : Sent) → cells ≡ xs
+    → cell cells i ≡ Some s → t ≡ f s → zs ≡ set cells i (Some t) → zs ≡ set xs i (option_map f (cell xs i))
+put_over f cells xs zs i s t same is put h =
+    h ∙ (ap (set cells i) (ap (λ x. Some x) put ∙ sym (ap (option_map f) is))
+    ∙ ap (λ ys. set ys i (option_map f (cell ys i))) same)
+
 -- or changes, after what stands in those before it
 pub over_more : (f : Option Sent → Option Sent) (xs ys zs : List (Option Sent)) (i : ℕ) → i < length xs
     → length ys ≡ length xs → ys ≡ map f (take i xs) ++ drop i xs → zs ≡ set ys i (f (cell ys i))

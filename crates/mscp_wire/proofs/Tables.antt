@@ -2,20 +2,60 @@
 use Rattle.std.proofs.Common.{◌≡◌, ℕ, zero, suc, ◌<◌, Bool, true, false, refl, sym, ap, ◌∙◌, arith, if◌then◌else◌, List, [], ◌∷◌, ◌++◌, length, get_or, set, take, Option, None, Some}
 use Rattle.std.proofs.lemmas.List.{get_or-set_same, get_or-set_other}
 use Rattle.std.proofs.lemmas.Option.{slice_get_past, slice_get_read}
-use Rattle.std.proofs.lemmas.Bool.{eqb-true, eqb-false}
+use Rattle.std.proofs.lemmas.Bool.{eqb-true, eqb-false, or_parts, true≢false}
 use Rattle.std.proofs.lemmas.Bool.Decides.{nat_tests}
-use Rattle.std.proofs.lemmas.Grind.{common_steps}
-use Rattle.std.specs.Prelude.{nat_eq, replicate}
+use Rattle.std.specs.Prelude.{◌||◌, is_some, nat_eq, replicate}
 use Rattle.std.specs.List.{slice_get}
-use Rattle.mscp_wire.specs.Rows.{counted, entry_with, kept_in, no_pair, pair_of, row_of}
+use Rattle.mscp_wire.specs.Rows.{counted, entry_with, has_any, kept_in, no_numbers, no_pair, pair_has_any, pair_of, row_of}
 use Rattle.mscp_wire.specs.declared.row.Entry.{Entry}
+use Rattle.mscp_wire.specs.declared.identity.Identity.{Identity}
+use Rattle.mscp_wire.specs.declared.row.Numbers.{Numbers}
 use Rattle.mscp_wire.specs.declared.row.Pair.{Pair}
 use Rattle.mscp_wire.specs.declared.row.Row.{Row}
 
--- more places, which lead to the first row, are what is read behind the last one
-pub padded : (xs : List ℕ) (n more q : ℕ) → length xs < n
-    → get_or (take n xs ++ replicate more 0) q 0 ≡ get_or xs q 0
-padded xs n more q few = grind (arith, common_steps)
+-- more of what is read behind the last one changes nothing that is read
+pub padded : {A : Type 0} (d : A) (xs : List A) (n more q : ℕ) → length xs < n
+    → get_or (take n xs ++ replicate more d) q d ≡ get_or xs q d
+padded d xs zero more q few = absurd (omega (arith, few))
+padded d [] (suc n) more q few = all more q
+  where
+    all : (m i : ℕ) → get_or (replicate m d) i d ≡ d
+    all zero i = refl
+    all (suc m) zero = refl
+    all (suc m) (suc i) = all m i
+padded d (x ∷ xs) (suc n) more zero few = refl
+padded d (x ∷ xs) (suc n) more (suc q) few = padded d xs n more q (omega (arith, few))
+
+pub resized : (d v : Pair) (xs ys : List Pair) (n more q : ℕ) → ys ≡ take n xs ++ replicate more v → v ≡ d
+    → length xs < n → get_or ys q d ≡ get_or xs q d
+resized d v xs ys n more q is same few =
+    ap (λ zs. get_or zs q d) is
+    ∙ (ap (λ z. get_or (take n xs ++ replicate more z) q d) same ∙ padded d xs n more q few)
+
+-- ---- numbers beside a row
+no_numbers_told : (i : Option Identity) (s t : Option ℕ) → (is_some i || is_some s || is_some t) ≡ false
+    → no_numbers ≡ record { identity = i; size = s; table = t }
+no_numbers_told None None None h = refl
+no_numbers_told None None (Some t) h = absurd (true≢false h)
+no_numbers_told None (Some s) t h = absurd (true≢false h)
+no_numbers_told (Some i) s t h = absurd (true≢false h)
+
+no_pair_told : (p : Pair) → pair_has_any p ≡ false → no_pair ≡ p
+no_pair_told p h =
+    let parts = or_parts (has_any p.first) (has_any p.second) h in
+    ap (λ (n : Numbers). record no_pair { first = n })
+    (no_numbers_told p.first.identity p.first.size p.first.table parts.0)
+    ∙ ap (λ (n : Numbers). record p { second = n })
+    (no_numbers_told p.second.identity p.second.size p.second.table parts.1)
+
+-- an entry has none, or those that stand there
+pub without_numbers : (e : Entry) (pair : Pair) → pair_has_any (pair_of e) ≡ false
+    → counted (row_of e) pair ≡ pair_of e
+without_numbers e pair h = ap (λ b. if b then pair else no_pair) h ∙ no_pair_told (pair_of e) h
+
+pub with_numbers : (e : Entry) (pair : Pair) → pair_has_any (pair_of e) ≡ true → pair ≡ pair_of e
+    → counted (row_of e) pair ≡ pair_of e
+with_numbers e pair h is = ap (λ b. if b then pair else no_pair) h ∙ is
 
 -- ---- tests of numbers
 apart : (n : ℕ) → nat_eq (suc n) zero ≡ false

@@ -1,8 +1,8 @@
 -- A command that is sought has the tag by which it is sought.
 use Rattle.std.proofs.Common.{◌≡◌, ⊎_elim, ◌⊎◌, ℕ, zero, suc, ◌+◌, ◌-◌, ◌%◌, ◌<◌, ◌≤◌, if◌then◌else◌, Bool, true, false, cond, not, ◌&&◌, ◌||◌, List, [], ◌∷◌, ◌++◌, length, drop, get_or, set, refl, ap, sym, ◌∙◌, arith, length-append, length-take-le, Option, Some, None}
 use Rattle.std.specs.Prelude.{is_some, nat_eq, take}
-use Rattle.std.proofs.lemmas.Bool.{cases_lt}
-use Rattle.std.proofs.lemmas.List.{get_or-drop, get_or-set_other, get_or-take, length-drop, length-set, length-take}
+use Rattle.std.proofs.lemmas.Bool.{cases_eq, cases_lt}
+use Rattle.std.proofs.lemmas.List.{get_or_default, get_or-drop, get_or-set_other, get_or-take, length-drop, length-set, length-take}
 use Rattle.std.proofs.Math.ListN.{get_or-append}
 use Rattle.std.proofs.lemmas.Grind.{get_or-set_at}
 use Rattle.std.proofs.lemmas.Bool.{eqb-true}
@@ -188,6 +188,17 @@ none_further p cells from at end h k i low high = ⊎_elim
     (λ above. k i above high)
     (cases_lt i at)
 
+-- whether one stands in a cell that is read
+pub read_in : (p : Sent → Bool) (cells xs : List (Option Sent)) (at : ℕ) (o : Option Sent) (b : Bool)
+    → at < length cells → cells ≡ xs → o ≡ get_or cells at o → b ≡ stands p o → b ≡ stands p (cell xs at)
+read_in p cells xs at o b l same is h =
+    h ∙ (ap (stands p) (is ∙ get_or_default cells at o None l) ∙ ap (λ ys. stands p (cell ys at)) same)
+
+-- none in one cell
+pub none_one : (p : Sent → Bool) (cells : List (Option Sent)) (at : ℕ) → stands p (cell cells at) ≡ false
+    → NoneIn p cells at (at + 1)
+none_one p cells at h i low high = ap (λ j. stands p (cell cells j)) (omega (arith, low, high)) ∙ h
+
 pub found_further : (p : Sent → Bool) (cells : List (Option Sent)) (from at end last n : ℕ) → NoneIn p cells from at
     → from ≤ at → end ≤ last → IsFound p cells at end n → IsFound p cells from last n
 found_further p cells from at end last n h l m k = record {
@@ -239,6 +250,19 @@ pushed cells tags s t l h e = record {
         ∙ h.each at x (sym (get_or-append cells (Some s ∷ []) None at low) ∙ is))
         (λ high. last cells tags at x l high is)
         c
+
+-- another stands in a cell, or none
+pub put_in : (cells : List (Option Sent)) (tags : List ℕ) (n : ℕ) (o : Option Sent) (t : ℕ) → n < length cells
+    → AreTagged cells tags → t ≡ tag_if o → AreTagged (set cells n o) (set tags n t)
+put_in cells tags n o t l h e = record {
+  many = omega (arith, h.many, length-set cells n o, length-set tags n t);
+  each = λ at s is. ⊎_elim
+      (λ same. get_or-set_at tags n at t 0 same (omega (arith, l, h.many))
+      ∙ (e ∙ ap tag_if (sym (get_or-set_at cells n at o None same l) ∙ is)))
+      (λ other. get_or-set_other tags n at t 0 other
+      ∙ h.each at s (sym (get_or-set_other cells n at o None other) ∙ is))
+      (cases_eq at n);
+}
 
 -- as many cells as are said
 pub shorter : (cells : List (Option Sent)) (tags : List ℕ) (n : ℕ) → AreTagged cells tags

@@ -1,4 +1,5 @@
-use Rattle.std.proofs.Common.{ap, sym, take, [], ◌∷◌, ◌++◌, ◌∙◌}
+use Rattle.std.proofs.Common.{ap, arith, sym, take, take_all, [], ◌∷◌, ◌++◌, ◌∙◌}
+use Rattle.std.proofs.lemmas.Result.{IfOk-from_err}
 use Rattle.mscp_wire.specs.Kept.{sents}
 use Rattle.mscp_wire.proofs.Placed.{one_taken}
 use Rattle.mscp_wire.proofs.held.list_of.Goals as goal
@@ -10,3 +11,10 @@ loop-at-preserved g c =
     ∙ ap (λ ys. ys ++ sents (c.command_in.result ∷ [])) c.loop-at.invariant
     ∙ ap (λ o. sents (take c.loop-at.at xs) ++ sents (o ∷ [])) c.command_in.ensures
     ∙ sym (one_taken xs c.loop-at.at)
+
+pub returns-in_err-push_if : goal.returns-in_err-push_if
+returns-in_err-push_if g c = IfOk-from_err c.from_residual.result _ c.from_residual.ensures.0
+
+pub returns : goal.returns
+returns g c =
+    c.loop-at.invariant ∙ ap sents (take_all c.loop-at.at c.args.cells.now (omega (arith, c.loop-at-test.false)))

@@ -1,4 +1,5 @@
 use Rattle.std.proofs.Common.{◌∙◌, sym}
+use Rattle.std.proofs.lemmas.Result.{IfOk-from_err}
 use Rattle.mscp_wire.proofs.Middles.{middle_more, of_some}
 use Rattle.mscp_wire.proofs.middle.hear_if.Goals as goal
 
@@ -9,3 +10,6 @@ returns-in_ok-hear g c = λ number log i.
       middle_more log.begun log.moments c.args.moment.now rest ∙ p.0,
       c.in_ok-hear.ensures log.moments log.strangers p.1 rest,
     )
+
+pub returns-in_err-hear : goal.returns-in_err-hear
+returns-in_err-hear g c = IfOk-from_err c.from_residual.result _ c.from_residual.ensures.0

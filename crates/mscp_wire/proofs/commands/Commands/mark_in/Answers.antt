@@ -2,7 +2,7 @@ use Rattle.std.proofs.Common.{◌≡◌, ap, not, sym, ◌&&◌, ◌∙◌, if�
 use Rattle.std.specs.Prelude.{option_map}
 use Rattle.mscp_wire.specs.Kept.{besides, cell}
 use Rattle.mscp_wire.specs.Wire.{turns_beside}
-use Rattle.mscp_wire.proofs.Placed.{kept_put, same_in}
+use Rattle.mscp_wire.proofs.Placed.{empty_stays, kept_put, put_over, same_in}
 use Rattle.mscp_wire.proofs.Marking.{never_turned, unmarked}
 use Rattle.mscp_wire.proofs.commands.Commands.mark_in.Goals.{else-not-other-via-then-not-other+else-turns_beside, else-not-other-via-else-not-other}
 use Rattle.mscp_wire.proofs.commands.Commands.mark_in.Goals as goal
@@ -32,3 +32,14 @@ invariant_of-self g c =
     (c.marked.ensures ∙ ap (λ b. if b then record s { beside = true } else s)
     (sym c.turns_beside.ensures ∙ c.if-turns_beside.true))
     c.put.ensures c.mark.ensures c.self.invariant
+
+pub returns-then-turns_beside : goal.returns-then-turns_beside
+returns-then-turns_beside g c =
+    put_over (besides c.args.ended.now) c.self.inside.cells c.args.self.now c.put.new.self c.args.at c.in-Some.other
+    c.marked.result c.self.view_is (sym (ap (λ ys. cell ys c.args.at) c.as_slice.ensures) ∙ c.in-Some.is)
+    c.marked.ensures c.put.ensures
+
+pub returns-in_default : goal.returns-in_default
+returns-in_default g c =
+    empty_stays (besides c.args.ended.now) c.args.self.now c.args.at
+    (λ s e. c.in_default.not-Some s (ap (λ xs. cell xs c.args.at) (c.as_slice.ensures ∙ c.self.view_is) ∙ e))

@@ -3,7 +3,7 @@ use Rattle.std.specs.Prelude.{IsSome}
 use Rattle.std.specs.List.{remove}
 use Rattle.mscp_wire.specs.Kept.{IsKept, cell, place, sents}
 use Rattle.mscp_wire.specs.Wire.{command_at}
-use Rattle.mscp_wire.proofs.Placed.{place_less, sents_remove}
+use Rattle.mscp_wire.proofs.Placed.{cell_less, place_less, sents_remove}
 use Rattle.mscp_wire.proofs.Names.{kept_counted}
 use Rattle.mscp_wire.proofs.commands.Commands.remove.Goals as goal
 
@@ -31,3 +31,7 @@ returns-clause-others g c =
     ap sents c.put.ensures
     ∙ sents_remove xs c.args.at h
     ∙ ap (λ ys. remove (sents ys) (place ys c.args.at)) c.self.view_is
+
+pub put-requires : goal.put-requires
+put-requires g c = cell_less c.self.inside.cells c.args.at
+    (subst (λ ys. IsSome (cell ys c.args.at)) (sym c.self.view_is) c.requires)

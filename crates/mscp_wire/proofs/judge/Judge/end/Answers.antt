@@ -30,3 +30,46 @@ returns-else-is_none-clause-rule g c =
     (sym c.is_long.ensures ∙ c.if-not-is_long.false) c.of-answer.ensures c.settles-settled.ensures
     c.seen_by-seen.ensures refl
     c.cell_of-at.ensures.place c.broken_answer-rule.ensures
+
+pub returns-in_ok-ended-clause-command : goal.returns-in_ok-ended-clause-command
+returns-in_ok-ended-clause-command g c =
+    rw (sym c.is_long.ensures ∙ c.if-not-is_long.false)
+    (rw (c.cell_of-at.ensures.place, c.of-answer.ensures) at c.command_if-command.ensures)
+
+pub returns-in_ok-ended-clause-fall : goal.returns-in_ok-ended-clause-fall
+returns-in_ok-ended-clause-fall g c =
+    rw (sym c.is_long.ensures ∙ c.if-not-is_long.false)
+    (rw (c.command_if-command.ensures, c.cell_of-at.ensures.place, c.of-answer.ensures) at c.fall_found-fall.ensures)
+
+pub returns-in_ok-ended-clause-doubtful : goal.returns-in_ok-ended-clause-doubtful
+returns-in_ok-ended-clause-doubtful g c =
+    rw (sym c.is_long.ensures ∙ c.if-not-is_long.false)
+    (rw (c.command_if-command.ensures, c.cell_of-at.ensures.place, c.of-answer.ensures) at c.doubtful_found-doubtful.ensures)
+
+pub returns-else-is_none-clause-command : goal.returns-else-is_none-clause-command
+returns-else-is_none-clause-command g c =
+    rw (sym c.is_long.ensures ∙ c.if-not-is_long.false)
+    (rw (c.cell_of-at.ensures.place, c.of-answer.ensures) at c.command_if-command.ensures)
+
+pub returns-else-is_none-clause-fall : goal.returns-else-is_none-clause-fall
+returns-else-is_none-clause-fall g c =
+    rw (sym c.is_long.ensures ∙ c.if-not-is_long.false)
+    (rw (c.command_if-command.ensures, c.cell_of-at.ensures.place, c.of-answer.ensures) at c.fall_found-fall.ensures)
+
+pub returns-else-is_none-clause-doubtful : goal.returns-else-is_none-clause-doubtful
+returns-else-is_none-clause-doubtful g c =
+    rw (sym c.is_long.ensures ∙ c.if-not-is_long.false)
+    (rw (c.command_if-command.ensures, c.cell_of-at.ensures.place, c.of-answer.ensures) at c.doubtful_found-doubtful.ensures)
+
+pub returns-in_ok-ended-clause-after : goal.returns-in_ok-ended-clause-after
+returns-in_ok-ended-clause-after g c =
+    λ none. rw (c.cell_of-at.ensures.place, c.of-answer.ensures) at c.in_ok-ended.ensures.after
+
+pub returns-in_ok-ended-clause-called : goal.returns-in_ok-ended-clause-called
+returns-in_ok-ended-clause-called g c = λ none. rw c.of-answer.ensures at c.in_ok-ended.ensures.called
+
+pub returns-in_ok-ended-clause-controller : goal.returns-in_ok-ended-clause-controller
+returns-in_ok-ended-clause-controller g c = λ none. rw c.of-answer.ensures at c.in_ok-ended.ensures.controller
+
+pub returns-in_ok-ended-clause-timeout : goal.returns-in_ok-ended-clause-timeout
+returns-in_ok-ended-clause-timeout g c = λ none. rw c.of-answer.ensures at c.in_ok-ended.ensures.timeout

@@ -1,4 +1,5 @@
 use Rattle.std.proofs.Common.{◌∙◌, ap, sym}
+use Rattle.std.proofs.lemmas.Result.{IfOk-from_err}
 use Rattle.mscp_wire.specs.Wire.{answer_by}
 use Rattle.mscp_wire.proofs.Middles.{ended_shows, sent_shows}
 use Rattle.mscp_wire.proofs.middle.Middle.hear.Goals as goal
@@ -25,3 +26,14 @@ returns-in_ok-put-in-Message g c = λ h strangers s rest.
     c.args.self.now c.put.new.self c.meet.new.self s c.as_slice.ensures.value c.four_at.ensures put.units put.first
     put.second met.names met.units met.first met.second c.in-Message.field-2 c.args.moment.now c.in-Message.is
     put.names
+
+pub returns-in_err-put-in-Message : goal.returns-in_err-put-in-Message
+returns-in_err-put-in-Message g c = IfOk-from_err c.from_residual.result _ c.from_residual.ensures.0
+
+pub returns-in_err-put-in-End : goal.returns-in_err-put-in-End
+returns-in_err-put-in-End g c =
+    IfOk-from_err c.from_residual-in_err-put-in-End.result _ c.from_residual-in_err-put-in-End.ensures.0
+
+pub returns-in_err-turn-in-End : goal.returns-in_err-turn-in-End
+returns-in_err-turn-in-End g c =
+    IfOk-from_err c.from_residual-in_err-turn-in-End.result _ c.from_residual-in_err-turn-in-End.ensures.0

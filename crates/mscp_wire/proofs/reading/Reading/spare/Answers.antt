@@ -1,5 +1,6 @@
 use Rattle.std.proofs.Common.{◌∙◌, ap, if◌then◌else◌, subst, sym}
 use Rattle.std.proofs.lemmas.Bool.{false≢true}
+use Rattle.std.proofs.lemmas.Result.{IfOk-from_err}
 use Rattle.mscp_wire.specs.Doubts.{doubtful}
 use Rattle.mscp_wire.specs.Kept.{sents}
 use Rattle.mscp_wire.specs.Log.{spared, with_moment, with_stranger}
@@ -61,3 +62,14 @@ pub returns-else-counts-clause-after : goal.returns-else-counts-clause-after
 returns-else-counts-clause-after g c = λ log s broken spares of.
     absurd (false≢true (sym c.if-counts.false ∙ c.counts.ensures
     ∙ spared_counts log c.args.moment.now c.args.rule (sents c.args.self.now.judge.commands) spares))
+
+pub returns-in_err-hear_stranger-clause-after : goal.returns-in_err-hear_stranger-clause-after
+returns-in_err-hear_stranger-clause-after g c = IfOk-from_err c.from_residual.result _ c.from_residual.ensures.0
+
+pub returns-in_err-accept-clause-after : goal.returns-in_err-accept-clause-after
+returns-in_err-accept-clause-after g c =
+    IfOk-from_err c.from_residual-in_err-accept.result _ c.from_residual-in_err-accept.ensures.0
+
+pub returns-in_err-add-clause-after : goal.returns-in_err-add-clause-after
+returns-in_err-add-clause-after g c =
+    IfOk-from_err c.from_residual-in_err-add.result _ c.from_residual-in_err-add.ensures.0

@@ -1,6 +1,7 @@
 use Rattle.std.proofs.Common.{ap, arith, get_or, if◌then◌else◌, set, Some, [], ◌∷◌, ◌++◌, ◌∙◌}
 use Rattle.std.proofs.lemmas.Grind.{get_or_default_zero}
 use Rattle.std.specs.Prelude.{nat_eq}
+use Rattle.std.proofs.lemmas.Result.{IfOk-from_err}
 use Rattle.mscp_wire.specs.Rows.{row_of}
 use Rattle.mscp_wire.specs.declared.row.Entry.{Entry}
 use Rattle.mscp_wire.proofs.Tables.{at_place, found_pushed, found_set}
@@ -42,3 +43,17 @@ returns g c = λ other.
     (omega (arith, c.ranges.number.fits, c.in_ok-begin.ensures.places)) (omega (arith, c.len-last.ensures))
     c.in_ok-put_numbers-2.ensures.own c.in_ok-put_numbers-2.ensures.others other
     ∙ ap (λ o. if nat_eq c.args.number other then Some e else o) (c.begin.ensures.same other)
+
+pub returns-in_err-begin : goal.returns-in_err-begin
+returns-in_err-begin g c = IfOk-from_err c.from_residual.result _ c.from_residual.ensures.0
+
+pub returns-in_err-put_numbers : goal.returns-in_err-put_numbers
+returns-in_err-put_numbers g c =
+    IfOk-from_err c.from_residual-in_err-put_numbers.result _ c.from_residual-in_err-put_numbers.ensures.0
+
+pub returns-in_err-put_numbers-2 : goal.returns-in_err-put_numbers-2
+returns-in_err-put_numbers-2 g c =
+    IfOk-from_err c.from_residual-in_err-put_numbers-2.result _ c.from_residual-in_err-put_numbers-2.ensures.0
+
+pub returns-in_err-push : goal.returns-in_err-push
+returns-in_err-push g c = IfOk-from_err c.from_residual-in_err-push.result _ c.from_residual-in_err-push.ensures.0
