@@ -1,23 +1,5 @@
 -- What came of the lines so far, once a moment more counts.
-use Rattle.std.proofs.Common.{◌≡◌, ℕ, Bool, true, false, ◌&&◌, ◌++◌, ◌∷◌, [], refl, sym, ap, ◌∙◌, Option, None}
-use Rattle.mscp_drive.specs.declared.connection.Connection.{Connection}
-use Rattle.mscp_wire.specs.Begun.{is_about_sent, is_figure, is_middle, is_slow}
-use Rattle.mscp_wire.specs.Course.{IsOn, counts, mention_after, mention_of, mentions_counted, with_counted}
-use Rattle.mscp_wire.specs.Doubts.{doubtful, doubts_with}
-use Rattle.mscp_wire.specs.Kept.{sents}
-use Rattle.mscp_wire.specs.Log.{Log, with_moment}
-use Rattle.mscp_wire.specs.Middle.{IsMiddleOf}
-use Rattle.mscp_wire.specs.Right.{IsAfter, IsOf}
-use Rattle.mscp_wire.specs.Totals.{fall_after, totals_of}
-use Rattle.mscp_wire.specs.Wire.{after, broken_by, called, called_after, command_of, controller_after, kept, kept_called, outstanding, timeout_after, told, told_after}
-use Rattle.mscp_wire.specs.declared.course.Course.{Course}
-use Rattle.mscp_wire.specs.declared.doubts.Doubtful.{Doubtful}
-use Rattle.mscp_wire.specs.declared.judge.Judge.{Judge}
-use Rattle.mscp_wire.specs.declared.judge.Stepped.{Stepped}
-use Rattle.mscp_wire.specs.declared.mentions.Mention.{Mention}
-use Rattle.mscp_wire.specs.declared.moment.Moment.{Moment}
-use Rattle.mscp_wire.specs.declared.reading.Reading.{Reading}
-use Rattle.mscp_wire.specs.declared.sent.Sent.{Sent}
+use Rattle.mscp_wire.proofs.Common.{Bool, Connection, Course, Doubtful, IsAfter, IsMiddleOf, IsOf, IsOn, Judge, Log, Mention, Moment, None, Option, Reading, Sent, Stepped, [], after, ap, broken_by, called, called_after, command_of, controller_after, counts, doubtful, doubts_with, fall_after, false, is_about_sent, is_figure, is_middle, is_slow, kept, kept_called, mention_after, mention_of, mentions_counted, outstanding, refl, sents, sym, timeout_after, told, told_after, totals_of, true, with_counted, with_moment, ℕ, ◌&&◌, ◌++◌, ◌∙◌, ◌∷◌, ◌≡◌}
 use Rattle.mscp_wire.proofs.Doubting.{called_more, doubtful_same, doubts_kept, lines_kept, not_slow}
 use Rattle.mscp_wire.proofs.Going.{advanced}
 use Rattle.mscp_wire.proofs.Passing.{controller_more, pushed, timeout_more, told_more}

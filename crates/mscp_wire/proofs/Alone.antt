@@ -1,19 +1,5 @@
 -- Which questions about the commands that are outstanding have their answer in one count.
-use Rattle.std.proofs.Common.{◌≡◌, ℕ, zero, suc, ◌+◌, ◌≤◌, ◌<◌, if◌then◌else◌, Bool, true, false, cond, ◌&&◌, ◌||◌, List, [], ◌∷◌, length, get_or, set, take, drop, map, refl, ap, sym, ◌∙◌, arith, take-append-drop, Option, Some, None}
-use Rattle.std.specs.Prelude.{count_by, nat_eq}
-use Rattle.std.specs.List.{list_any, position}
-use Rattle.std.proofs.lemmas.Bool.{eqb-true}
-use Rattle.std.proofs.lemmas.Bool.Decides.{nat_tests}
-use Rattle.std.proofs.lemmas.List.{drop_more}
-use Rattle.std.proofs.lemmas.List.Sums.{sum_by-append, sum_by-cons}
-use Rattle.mscp_drive.specs.declared.connection.Connection.{Connection}
-use Rattle.mscp_drive.specs.declared.connection.Connection.TheVariants.{First}
-use Rattle.mscp_wire.specs.Kept.{IsTally, asks, by_asked, by_fence, by_line, by_name, heard, leaves, slot_if, slot, slot_of, tells, with_figure}
-use Rattle.mscp_wire.specs.Wire.{asks_oldest, command_at, is_it, is_polled, polled_by, is_named, is_ordered, is_sequential, keeps_back, left, polls, same_connection, sent_by}
-use Rattle.mscp_wire.specs.declared.answer.Answer.{Answer}
-use Rattle.mscp_wire.specs.declared.sent.Asked.{Asked}
-use Rattle.mscp_wire.specs.declared.sent.Asked.TheVariants.{Gone, Nothing, Oldest}
-use Rattle.mscp_wire.specs.declared.sent.Sent.{Sent}
+use Rattle.mscp_wire.proofs.Common.{Answer, Asked, Bool, Connection, First, Gone, IsTally, List, None, Nothing, Oldest, Option, Sent, Some, [], ap, arith, asks, asks_oldest, by_asked, by_fence, by_line, by_name, command_at, cond, count_by, drop, drop_more, eqb-true, false, get_or, heard, if◌then◌else◌, is_it, is_named, is_ordered, is_polled, is_sequential, keeps_back, leaves, left, length, list_any, map, nat_eq, nat_tests, polled_by, polls, position, refl, same_connection, sent_by, set, slot, slot_if, slot_of, suc, sum_by-append, sum_by-cons, sym, take, take-append-drop, tells, true, with_figure, zero, ℕ, ◌&&◌, ◌+◌, ◌<◌, ◌||◌, ◌∙◌, ◌∷◌, ◌≡◌, ◌≤◌}
 use Rattle.mscp_wire.proofs.Keys.{same_key}
 use Rattle.mscp_wire.proofs.Names.{count_at, place_at}
 

@@ -1,10 +1,5 @@
 -- A connection that closes takes its commands away, and no other.
-use Rattle.std.proofs.Common.{◌≡◌, ℕ, zero, suc, ◌<◌, Bool, true, false, not, cond, ◌||◌, List, [], ◌∷◌, length, refl, ap, arith}
-use Rattle.std.specs.List.{list_any, remove}
-use Rattle.mscp_drive.specs.declared.connection.Connection.{Connection}
-use Rattle.mscp_wire.specs.Kept.{is_on}
-use Rattle.mscp_wire.specs.Wire.{command_at, others_of}
-use Rattle.mscp_wire.specs.declared.sent.Sent.{Sent}
+use Rattle.mscp_wire.proofs.Common.{Bool, Connection, List, Sent, [], ap, arith, command_at, cond, false, is_on, length, list_any, not, others_of, refl, remove, suc, true, zero, ℕ, ◌<◌, ◌||◌, ◌∷◌, ◌≡◌}
 
 -- one of its commands is away
 pub others_removed : (via : Connection) (xs : List Sent) (i : ℕ) → i < length xs → is_on via (command_at xs i) ≡ true

@@ -1,16 +1,6 @@
 -- What a moment that breaks a rule is compared with: the judge is the same then as before it.
-use Rattle.std.proofs.Common.{◌≡◌, ℕ, refl, ap, ◌∙◌, subst, if◌then◌else◌, List, Option, Some}
-use Rattle.std.specs.Prelude.{IfSome}
-use Rattle.mscp_drive.specs.declared.connection.Connection.{Connection}
-use Rattle.mscp_wire.specs.Kept.{sents}
-use Rattle.mscp_wire.specs.Wire.{answer_by, is_long, kept, passed_of, seen_before, seen_nothing, settles, told_nothing, unit_before}
-use Rattle.mscp_wire.specs.declared.judge.Judge.{Judge}
-use Rattle.mscp_wire.specs.declared.moment.Moment.{Moment}
+use Rattle.mscp_wire.proofs.Common.{Connection, IfSome, Judge, List, Moment, Option, Rule, Seen, Sent, Some, Told, answer_by, ap, if◌then◌else◌, is_long, kept, passed_of, refl, seen_before, seen_nothing, sents, settles, subst, told_nothing, unit_before, ℕ, ◌∙◌, ◌≡◌}
 use Rattle.mscp_wire.specs.declared.moment.Moment.TheVariants as moments
-use Rattle.mscp_wire.specs.declared.rule.Rule.{Rule}
-use Rattle.mscp_wire.specs.declared.sent.Sent.{Sent}
-use Rattle.mscp_wire.specs.declared.told.Seen.{Seen}
-use Rattle.mscp_wire.specs.declared.told.Told.{Told}
 
 pub kept_then : {X : Type 0} (old new : X) (broken : Option Rule) (rule : Rule) → broken ≡ Some rule
     → IfSome broken (λ r. new ≡ old) → new ≡ old

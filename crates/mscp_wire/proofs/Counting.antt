@@ -1,17 +1,6 @@
 -- How one moment more changes the totals.
-use Rattle.std.proofs.Common.{◌≡◌, ⊎_elim, ℕ, zero, suc, ◌+◌, ◌-◌, ◌<◌, ◌≤◌, Bool, false, cond, List, [], ◌∷◌, ◌++◌, length, take, arith, refl, sym, ap, ◌∙◌, length-append, set, get_or, Option, Some, None}
-use Rattle.std.specs.Prelude.{count_by, max, nat_eq, replicate}
-use Rattle.std.proofs.lemmas.Bool.{cases_lt}
-use Rattle.std.proofs.lemmas.Bool.Decides.{nat_tests}
-use Rattle.std.proofs.lemmas.List.{get_or-append_right, set-append_left, set-append_right, set_past, take-append-le, take_all}
-use Rattle.std.proofs.Math.ListN.{get_or-append}
-use Rattle.std.proofs.lemmas.List.Sums.{sum_by-append}
-use Rattle.mscp_wire.specs.Wire.{History, is_it, outstanding}
-use Rattle.mscp_wire.specs.Totals.{code_told, counted_at, counts_of, fall, fall_after, falls_of, greatest, least, lesser, longest, opcode_sent, tally, totals_of}
-use Rattle.mscp_wire.specs.declared.falls.Falls.{Falls}
-use Rattle.mscp_wire.specs.declared.totals.Totals.{Totals}
-use Rattle.mscp_wire.specs.declared.moment.Moment.{Moment}
-use Rattle.mscp_wire.specs.declared.moment.Moment.TheVariants.{Reset}
+use Rattle.mscp_wire.proofs.Common.{Bool, Falls, History, List, Moment, None, Option, Reset, Some, Totals, [], ap, arith, cases_lt, code_told, cond, count_by, counted_at, counts_of, fall, fall_after, falls_of, false, get_or, get_or-append, get_or-append_right, greatest, is_it, least, length, length-append, lesser, longest, max, nat_eq, nat_tests, opcode_sent, outstanding, refl, replicate, set, set-append_left, set-append_right, set_past, suc, sum_by-append, sym, take, take-append-le, tally, totals_of, zero, ℕ, ⊎_elim, ◌++◌, ◌+◌, ◌-◌, ◌<◌, ◌∙◌, ◌∷◌, ◌≡◌, ◌≤◌}
+use Rattle.std.proofs.lemmas.List.{take_all}
 
 -- ---- tallies
 length_tally : (number : Moment → Option ℕ) (n : ℕ) (h : History) → length (tally number n h) ≡ n

@@ -1,22 +1,7 @@
 -- How one moment more changes the doubts of a log.
-use Rattle.std.proofs.Common.{◌≡◌, ℕ, zero, suc, ◌+◌, ◌-◌, ◌<◌, ◌≤◌, Bool, true, false, cond, List, [], ◌∷◌, ◌++◌, length, take, arith, refl, sym, ap, ◌∙◌, length-append, if◌then◌else◌, get_or, Option, Some, None}
-use Rattle.std.proofs.lemmas.List.{get_or-append_right, take-append-le, take_all}
-use Rattle.std.proofs.Math.ListN.{get_or-append}
-use Rattle.std.proofs.lemmas.List.Sums.{fold_push}
-use Rattle.mscp_drive.specs.declared.connection.Connection.{Connection}
-use Rattle.mscp_drive.specs.declared.connection.Connection.TheVariants.{First, Second}
-use Rattle.mscp_wire.specs.Begun.{is_slow}
-use Rattle.mscp_wire.specs.Log.{Log, nothing, with_moment}
-use Rattle.mscp_wire.specs.Wire.{History, answer_by, answered_by, called, called_after, called_in, command_of, is_long, moment_at, outstanding, told}
-use Rattle.mscp_wire.specs.Doubts.{doubt_of, doubt_with, doubtful, doubtful_at, doubtful_end, doubtful_found, doubts_at, doubts_of, doubts_with, first_of, found_at, is_called_twice, is_held_by_another, is_another, is_odd, is_past, many, no_doubt, or_last, skips, slow_at, writes_protected}
-use Rattle.mscp_wire.specs.declared.answer.Answer.{Answer}
-use Rattle.mscp_wire.specs.declared.doubts.Doubtful.{Doubtful}
-use Rattle.mscp_wire.specs.declared.doubts.Doubts.{Doubts}
-use Rattle.mscp_wire.specs.declared.doubts.Found.{Found}
-use Rattle.mscp_wire.specs.declared.moment.Moment.{Moment}
+use Rattle.mscp_wire.proofs.Common.{Answer, Bool, Connection, Doubtful, Doubts, First, Found, History, List, Log, Moment, None, Option, Second, Sent, Some, Told, [], answer_by, answered_by, ap, arith, called, called_after, called_in, command_of, cond, doubt_of, doubt_with, doubtful, doubtful_at, doubtful_end, doubtful_found, doubts_at, doubts_of, doubts_with, false, first_of, fold_push, found_at, get_or, get_or-append, get_or-append_right, if◌then◌else◌, is_another, is_called_twice, is_held_by_another, is_long, is_odd, is_past, is_slow, length, length-append, many, moment_at, no_doubt, nothing, or_last, outstanding, refl, skips, slow_at, suc, sym, take, take-append-le, told, true, with_moment, writes_protected, zero, ℕ, ◌++◌, ◌+◌, ◌-◌, ◌<◌, ◌∙◌, ◌∷◌, ◌≡◌, ◌≤◌}
+use Rattle.std.proofs.lemmas.List.{take_all}
 use Rattle.mscp_wire.specs.declared.moment.Moment.TheVariants as moments
-use Rattle.mscp_wire.specs.declared.sent.Sent.{Sent}
-use Rattle.mscp_wire.specs.declared.told.Told.{Told}
 
 -- ---- what was told is the same at each unit, so what is doubtful is
 

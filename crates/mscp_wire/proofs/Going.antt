@@ -1,29 +1,10 @@
 -- What counts as told, and what a log tells once such a moment came.
-use Rattle.std.proofs.Common.{◌≡◌, ℕ, ◌+◌, ◌≤◌, Bool, true, false, cond, ◌&&◌, ◌||◌, nat_eq, nat_lt, if◌then◌else◌, List, [], ◌∷◌, ◌++◌, length, length-append, arith, refl, sym, ap, subst, ◌∙◌, Option, Some, None, Ok, Err}
-use Rattle.std.specs.Prelude.{is_none}
-use Rattle.std.specs.Ordering.{is_eq, nat_cmp}
-use Rattle.std.proofs.lemmas.Bool.{le-leb}
-use Rattle.std.proofs.lemmas.Bool.Decides.{nat_tests}
-use Rattle.arrayvec.specs.ArrayVec.{ArrayVec}
-use Rattle.mscp_drive.specs.declared.connection.Connection.{Connection}
-use Rattle.mscp_packet.specs.Steps.{◌>>=◌}
-use Rattle.mscp_reader.specs.Outcome.{in_line}
-use Rattle.mscp_reader.specs.declared.fault.Cause.{Cause}
+use Rattle.mscp_wire.proofs.Common.{ArrayVec, Bool, Cause, Connection, Course, Err, Finding, Findings, History, IsMiddleOf, IsOn, List, Log, Mention, Moment, None, Ok, Option, Seen, Sent, Some, [], after, answer_by, ap, arith, broken, broken_at, broken_by, called_after, cond, controller, controller_after, count_on, counts, false, findings_with, first_in, first_or, four_in, has_credit, has_name, has_place, has_room, if◌then◌else◌, in_line, is_eq, is_first, is_fresh, is_immediate, is_long, is_message, is_named_in, is_new, is_none, is_stranger, kept, kept_called, key, le-leb, length, length-append, limit_of, line_says, mention_after, mention_of, mentions_after, mentions_counted, nat_cmp, nat_lt, nat_tests, or_no_mention, outstanding, place_of, refl, same_connection, seen_of, sent_by, sents, subst, sym, tells_of, timeout_after, told, told_after, told_in, true, unless, with_counted, with_moment, with_told, ℕ, ◌&&◌, ◌++◌, ◌+◌, ◌>>=◌, ◌||◌, ◌∙◌, ◌∷◌, ◌≡◌, ◌≤◌}
+use Rattle.std.proofs.Common.{nat_eq}
 use Rattle.mscp_reader.specs.declared.fault.Cause.TheVariants as causes
-use Rattle.mscp_wire.specs.Course.{Findings, IsOn, counts, findings_with, first_in, first_or, has_name, has_place, has_room, is_named_in, mention_after, mention_of, mentions_after, mentions_counted, or_no_mention, tells_of, told_in, with_counted, with_told}
-use Rattle.mscp_wire.specs.Kept.{sents}
-use Rattle.mscp_wire.specs.Log.{Log, is_first, is_fresh, is_stranger, line_says, with_moment}
-use Rattle.mscp_wire.specs.Middle.{IsMiddleOf}
 use Rattle.mscp_wire.specs.declared.line.Said.TheVariants as says
-use Rattle.mscp_wire.specs.Wire.{History, after, answer_by, broken, broken_at, broken_by, called_after, controller, controller_after, count_on, four_in, has_credit, is_immediate, is_long, is_message, is_new, kept, kept_called, key, limit_of, outstanding, place_of, same_connection, seen_of, sent_by, timeout_after, told, told_after, unless}
-use Rattle.mscp_wire.specs.declared.course.Course.{Course}
-use Rattle.mscp_wire.specs.declared.course.Finding.{Finding}
-use Rattle.mscp_wire.specs.declared.mentions.Mention.{Mention}
-use Rattle.mscp_wire.specs.declared.moment.Moment.{Moment}
 use Rattle.mscp_wire.specs.declared.moment.Moment.TheVariants as moments
 use Rattle.mscp_wire.specs.declared.rule.Rule.TheVariants as rules
-use Rattle.mscp_wire.specs.declared.sent.Sent.{Sent}
-use Rattle.mscp_wire.specs.declared.told.Seen.{Seen}
 use Rattle.mscp_wire.proofs.Doubting.{called_more}
 use Rattle.mscp_wire.proofs.Keys.{same_key}
 use Rattle.mscp_wire.proofs.Passing.{controller_more, pushed, timeout_more, told_more}

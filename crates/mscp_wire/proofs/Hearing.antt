@@ -1,19 +1,7 @@
 -- Which rule a message and an end break.
-use Rattle.std.proofs.Common.{◌≡◌, ℕ, ◌≤◌, List, length, sym, ap, ◌∙◌, if◌then◌else◌, Bool, Option, None, Result, Ok, Err, true}
-use Rattle.std.proofs.lemmas.Bool.{le-leb}
-use Rattle.arrayvec.specs.ArrayVec.{ArrayVec}
-use Rattle.std.specs.Result.{IfOk, OnOk}
-use Rattle.mscp_drive.specs.declared.connection.Connection.{Connection}
-use Rattle.mscp_wire.specs.Wire.{answer_by, broken, broken_at, broken_message, is_long, is_message, is_settled_at, place_of, sent_by, seen_of, told_nothing, unit_before, unless}
-use Rattle.mscp_wire.specs.declared.moment.Moment.{Moment}
+use Rattle.mscp_wire.proofs.Common.{Answer, ArrayVec, Bool, Connection, Err, IfOk, List, Moment, None, Ok, OnOk, Option, Result, Rule, Seen, Sent, Stepped, Told, answer_by, ap, broken, broken_at, broken_message, if◌then◌else◌, is_long, is_message, is_settled_at, le-leb, length, place_of, seen_of, sent_by, sym, told_nothing, true, unit_before, unless, ℕ, ◌∙◌, ◌≡◌, ◌≤◌}
 use Rattle.mscp_wire.specs.declared.moment.Moment.TheVariants as moments
-use Rattle.mscp_wire.specs.declared.rule.Rule.{Rule}
 use Rattle.mscp_wire.specs.declared.rule.Rule.TheVariants as rules
-use Rattle.mscp_wire.specs.declared.answer.Answer.{Answer}
-use Rattle.mscp_wire.specs.declared.judge.Stepped.{Stepped}
-use Rattle.mscp_wire.specs.declared.sent.Sent.{Sent}
-use Rattle.mscp_wire.specs.declared.told.Seen.{Seen}
-use Rattle.mscp_wire.specs.declared.told.Told.{Told}
 
 -- a message that is long enough breaks the rule that its command breaks
 pub long_message : (via : Connection) (b : List ℕ) (credits : Option ℕ) (xs ys : List Sent) (s : Sent)

@@ -1,19 +1,8 @@
 -- What is kept of units is what was told of them once an end or a command came.
-use Rattle.std.proofs.Common.{◌≡◌, ℕ, Bool, true, false, cond, not, ◌&&◌, refl, sym, ap, ◌∙◌, arith, if◌then◌else◌, Option, Some}
-use Rattle.std.specs.Prelude.{nat_eq}
-use Rattle.std.proofs.lemmas.Bool.{eqb-true}
-use Rattle.std.proofs.lemmas.Bool.Decides.{nat_tests}
-use Rattle.mscp_drive.specs.declared.connection.Connection.{Connection}
-use Rattle.mscp_drive.specs.declared.connection.Connection.TheVariants.{First, Second}
-use Rattle.mscp_wire.specs.Units.{after_other, after_own, key, other_side, told_after_end, told_after_message, told_to}
+use Rattle.mscp_wire.proofs.Common.{Answer, Bool, Connection, Entry, First, Option, Second, Sent, Shared, Some, State, Told, after_other, after_own, ap, arith, cond, eqb-true, false, if◌then◌else◌, nat_eq, nat_tests, not, other_side, refl, sym, told_after_end, told_after_message, told_to, true, ℕ, ◌&&◌, ◌∙◌, ◌≡◌}
+use Rattle.mscp_wire.specs.Units.{key}
 use Rattle.mscp_wire.specs.Messages.{same_connection}
 use Rattle.mscp_wire.specs.Polls.{is_it}
-use Rattle.mscp_wire.specs.declared.answer.Answer.{Answer}
-use Rattle.mscp_wire.specs.declared.sent.Sent.{Sent}
-use Rattle.mscp_wire.specs.declared.row.Entry.{Entry}
-use Rattle.mscp_wire.specs.declared.told.State.{State}
-use Rattle.mscp_wire.specs.declared.told.State.TheVariants.{Shared}
-use Rattle.mscp_wire.specs.declared.told.Told.{Told}
 
 -- a host was told the same of a unit, but of its state
 abbrev pub with_state : State → Told → Told

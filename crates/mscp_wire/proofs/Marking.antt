@@ -1,19 +1,5 @@
 -- What is counted stays so when a GET UNIT STATUS hears that its unit may have another state, and which ones hear it.
-use Rattle.std.proofs.Common.{◌≡◌, ℕ, suc, ◌+◌, ◌<◌, if◌then◌else◌, Bool, true, false, cond, not, ◌&&◌, ◌||◌, List, [], ◌∷◌, ◌++◌, length, get_or, set, take, drop, map, refl, ap, sym, ◌∙◌, arith, Option, Some, None}
-use Rattle.std.specs.Prelude.{count_by, nat_eq}
-use Rattle.std.specs.List.{list_any, remove}
-use Rattle.std.proofs.lemmas.Bool.{eqb-true}
-use Rattle.std.proofs.lemmas.Bool.Decides.{nat_tests}
-use Rattle.std.proofs.lemmas.List.Sums.{sum_by-remove, sum_by-set}
-use Rattle.mscp_drive.specs.declared.connection.Connection.{Connection}
-use Rattle.mscp_drive.specs.declared.connection.Connection.TheVariants.{First, Second}
-use Rattle.mscp_wire.specs.Kept.{IsKept, IsTally, asks, besides, by_asked, by_fence, by_line, by_name, by_next, by_status, fewer, heard, is_on, slot, slot_if, slot_of}
-use Rattle.mscp_wire.specs.Wire.{command_at, hears, is_it, is_sequential, is_turning, left, same_connection, sent_by, turns, turns_beside}
-use Rattle.mscp_wire.specs.declared.answer.Answer.{Answer}
-use Rattle.mscp_wire.specs.declared.sent.Asked.{Asked}
-use Rattle.mscp_wire.specs.declared.sent.Asked.TheVariants.{Gone, Nothing, Oldest}
-use Rattle.mscp_wire.specs.declared.sent.Sent.{Sent}
-use Rattle.mscp_wire.specs.declared.tallies.Tallies.{Tallies}
+use Rattle.mscp_wire.proofs.Common.{Answer, Asked, Bool, Connection, First, Gone, IsKept, IsTally, List, None, Nothing, Oldest, Option, Second, Sent, Some, Tallies, [], ap, arith, asks, besides, by_asked, by_fence, by_line, by_name, by_next, by_status, command_at, cond, count_by, drop, eqb-true, false, fewer, get_or, heard, hears, if◌then◌else◌, is_it, is_on, is_sequential, is_turning, left, length, list_any, map, nat_eq, nat_tests, not, refl, remove, same_connection, sent_by, set, slot, slot_if, slot_of, suc, sum_by-remove, sum_by-set, sym, take, true, turns, turns_beside, ℕ, ◌&&◌, ◌++◌, ◌+◌, ◌<◌, ◌||◌, ◌∙◌, ◌∷◌, ◌≡◌}
 use Rattle.mscp_wire.proofs.Alone.{count_none, none_counted}
 use Rattle.mscp_wire.proofs.Keys.{same_key}
 use Rattle.mscp_wire.proofs.Names.{tally_remove}

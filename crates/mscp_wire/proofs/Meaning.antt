@@ -1,12 +1,6 @@
 -- What the lines of a log tell, and that of a right log those before some lines are right, and those are.
-use Rattle.std.proofs.Common.{◌≡◌, ℕ, suc, ◌+◌, List, [], ◌∷◌, ◌++◌, length, arith, refl, sym, ap, subst, ◌∙◌, inr, None, Result, Ok, Err}
-use Rattle.mscp_packet.specs.Steps.{◌>>=◌}
-use Rattle.mscp_reader.specs.declared.fault.Cause.{Cause}
-use Rattle.mscp_reader.specs.declared.fault.ReadFault.{ReadFault}
+use Rattle.mscp_wire.proofs.Common.{AreRightLines, Cause, Err, Goes, Judges, List, Log, None, Ok, Reaches, ReadFault, Reading, Result, [], ap, arith, broken_said, inr, length, line_says, nothing, refl, subst, suc, sym, with_line, with_lines, with_said, ℕ, ◌++◌, ◌+◌, ◌>>=◌, ◌∙◌, ◌∷◌, ◌≡◌}
 use Rattle.mscp_reader.specs.declared.fault.ReadFault.TheVariants as reads
-use Rattle.mscp_wire.specs.Log.{AreRightLines, Log, broken_said, line_says, nothing, with_line, with_lines, with_said}
-use Rattle.mscp_wire.specs.Right.{Goes, Judges, Reaches}
-use Rattle.mscp_wire.specs.declared.reading.Reading.{Reading}
 
 -- ---- lines
 

@@ -1,21 +1,10 @@
 -- What is kept of a log that begins in the middle, once a packet more came.
-use Rattle.std.proofs.Common.{◌≡◌, ℕ, Bool, true, false, not, ◌||◌, ◌&&◌, nat_eq, if◌then◌else◌, ◌≤◌, List, [], ◌∷◌, ◌++◌, length, refl, sym, ap, subst, ◌∙◌, Option, Some, None}
+use Rattle.mscp_wire.proofs.Common.{Answer, ArrayVec, Bool, Connection, First, History, IsMiddle, List, Middle, Moment, None, Option, Rule, Second, Shows, Some, [], answer_by, ap, broken_by, eqb-true, false, false≢true, has_met, has_other, has_sent, has_turned, if◌then◌else◌, is_about_sent, is_figure, is_initial, is_middle, is_slow, is_some, is_sure, is_unnamed, keeps_unit, kept_name, key, le-leb, length, list_any, name_in, name_with, names, not, num, refl, same_connection, sends, spares, spares_end, subst, sym, true, turns_unit, ℕ, ◌&&◌, ◌++◌, ◌||◌, ◌∙◌, ◌∷◌, ◌≡◌, ◌≤◌}
+use Rattle.std.proofs.Common.{nat_eq}
 use Rattle.std.specs.HashMap as hashed
-use Rattle.std.specs.Prelude.{is_some}
-use Rattle.std.specs.List.{list_any}
-use Rattle.std.proofs.lemmas.Bool.{eqb-true, false≢true, le-leb}
-use Rattle.arrayvec.specs.ArrayVec.{ArrayVec}
-use Rattle.mscp_drive.specs.declared.connection.Connection.{Connection}
-use Rattle.mscp_drive.specs.declared.connection.Connection.TheVariants.{First, Second}
-use Rattle.mscp_packet.specs.Number.{num}
-use Rattle.mscp_wire.specs.Begun.{has_met, has_sent, has_turned, is_about_sent, is_figure, is_initial, is_middle, is_on, is_slow, is_sure, is_unnamed, names, sends, spares, spares_end, turns_unit}
-use Rattle.mscp_wire.specs.Middle.{IsMiddle, Shows, has_other, keeps_unit, kept_name, name_in, name_with}
-use Rattle.mscp_wire.specs.Wire.{History, answer_by, broken_by, key, other_side, same_connection}
-use Rattle.mscp_wire.specs.declared.answer.Answer.{Answer}
-use Rattle.mscp_wire.specs.declared.middle.Middle.{Middle}
-use Rattle.mscp_wire.specs.declared.moment.Moment.{Moment}
+use Rattle.mscp_wire.specs.Begun.{is_on}
+use Rattle.mscp_wire.specs.Wire.{other_side}
 use Rattle.mscp_wire.specs.declared.moment.Moment.TheVariants as moments
-use Rattle.mscp_wire.specs.declared.rule.Rule.{Rule}
 use Rattle.mscp_wire.specs.declared.rule.Rule.TheVariants as rules
 
 -- one more may be what is sought

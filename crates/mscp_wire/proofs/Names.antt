@@ -1,19 +1,8 @@
 -- What is kept beside the commands that are outstanding: it stays so when one comes, ends, or hears a figure, and says
 -- which questions have their answer at once.
-use Rattle.std.proofs.Common.{◌≡◌, ℕ, zero, suc, ◌+◌, ◌-◌, ◌≤◌, ◌<◌, nat_eq, Bool, true, false, cond, not, ◌&&◌, ◌||◌, List, [], ◌∷◌, ◌++◌, length, get_or, take, map, refl, ap, sym, ◌∙◌, arith, if◌then◌else◌, Option, Some, None}
-use Rattle.std.specs.Prelude.{count_by, find, is_some, nat_le, nat_lt}
-use Rattle.std.specs.List.{list_any, position, position_or_len, remove}
-use Rattle.std.proofs.lemmas.Bool.{lt-ltb, or_parts}
-use Rattle.std.proofs.lemmas.List.Folds.{list_any_more}
-use Rattle.mscp_drive.specs.declared.connection.Connection.{Connection}
-use Rattle.mscp_drive.specs.declared.connection.Connection.TheVariants.{First, Second}
-use Rattle.std.proofs.lemmas.Bool.Decides.{nat_tests}
-use Rattle.std.proofs.lemmas.List.Sums.{sum_by-cons, sum_by_push, sum_by-remove}
-use Rattle.mscp_wire.specs.Kept.{IsCounted, IsKept, IsTally, asks, by_asked, by_fence, by_line, by_name, by_next, by_status, fewer, is_on, more, slot_if, slot_of, tells, with_figure}
-use Rattle.mscp_wire.specs.Wire.{command_at, command_at_place, is_it, is_named, is_ordered, is_sequential, same_connection, sent_by}
-use Rattle.mscp_wire.specs.declared.sent.Asked.{Asked}
-use Rattle.mscp_wire.specs.declared.sent.Sent.{Sent}
-use Rattle.mscp_wire.specs.declared.tallies.Tallies.{Tallies}
+use Rattle.mscp_wire.proofs.Common.{Asked, Bool, Connection, First, IsCounted, IsKept, IsTally, List, None, Option, Second, Sent, Some, Tallies, [], ap, arith, asks, by_asked, by_fence, by_line, by_name, by_next, by_status, command_at, command_at_place, cond, count_by, false, fewer, find, get_or, if◌then◌else◌, is_it, is_named, is_on, is_ordered, is_sequential, is_some, length, list_any, list_any_more, lt-ltb, map, more, nat_le, nat_tests, not, or_parts, position, position_or_len, refl, remove, same_connection, sent_by, slot_if, slot_of, suc, sum_by-cons, sum_by-remove, sum_by_push, sym, take, tells, true, with_figure, zero, ℕ, ◌&&◌, ◌++◌, ◌+◌, ◌-◌, ◌<◌, ◌||◌, ◌∙◌, ◌∷◌, ◌≡◌, ◌≤◌}
+use Rattle.std.proofs.Common.{nat_eq}
+use Rattle.std.specs.Prelude.{nat_lt}
 
 -- ---- counts
 

@@ -1,17 +1,8 @@
 -- One thing comes of a log: the first line that can't be right is one line, and a log that is right has none.
-use Rattle.std.proofs.Common.{◌≡◌, ◌⊎◌, ⊎_elim, inl, inr, ℕ, ◌+◌, List, [], ◌∷◌, ◌++◌, length, arith, refl, sym, ap, subst, ◌∙◌, Some, None, Result, Ok, Err}
-use Rattle.mscp_packet.specs.Steps.{◌>>=◌}
-use Rattle.mscp_reader.specs.declared.fault.Cause.{Cause}
-use Rattle.mscp_reader.specs.declared.fault.ReadFault.{ReadFault}
+use Rattle.mscp_wire.proofs.Common.{AreRightLines, Cause, Comes, Err, IsFirstFault, IsFirstWrong, IsRightLog, IsTooLarge, Judges, List, Log, None, Ok, Reaches, ReadFault, Result, Says, ScriptFault, Some, Tell, Verdict, Wrong, [], ap, arith, broken_in, broken_said, command_of, controller, inl, inr, length, line_says, nothing, outstanding, passed_of, refl, seen_before, subst, sym, told, with_either, with_line, with_lines, with_said, ℕ, ⊎_elim, ◌++◌, ◌+◌, ◌>>=◌, ◌∙◌, ◌∷◌, ◌≡◌, ◌⊎◌}
 use Rattle.mscp_reader.specs.declared.fault.ReadFault.TheVariants as reads
-use Rattle.mscp_reader.specs.declared.fault.ScriptFault.{ScriptFault}
-use Rattle.mscp_wire.specs.Wire.{command_of, controller, outstanding, passed_of, seen_before, told}
-use Rattle.mscp_wire.specs.Log.{AreRightLines, Log, broken_in, broken_said, line_says, nothing, with_either, with_line, with_lines, with_said}
-use Rattle.mscp_wire.specs.Right.{Comes, IsFirstFault, IsFirstWrong, IsRightLog, IsTooLarge, Judges, Reaches, Says, Tell}
 use Rattle.mscp_wire.specs.declared.line.Said.TheVariants as says
-use Rattle.mscp_wire.specs.declared.log.Verdict.{Verdict}
 use Rattle.mscp_wire.specs.declared.log.Verdict.TheVariants as verdicts
-use Rattle.mscp_wire.specs.declared.wrong.Wrong.{Wrong}
 use Rattle.mscp_wire.proofs.Meaning.{lines_split, right_split}
 
 -- a log stops at this line: no log that is right comes of it

@@ -1,25 +1,8 @@
 -- What comes of the lines of a log.
-use Rattle.std.proofs.Common.{◌≡◌, ◌≢◌, ◌⊎◌, ℕ, Bool, true, false, List, [], ◌∷◌, ◌++◌, arith, refl, sym, ap, ◌∙◌, if◌then◌else◌, Option, Some, None, Result, Ok, Err}
-use Rattle.std.specs.Prelude.{is_some}
-use Rattle.std.proofs.lemmas.Bool.Decides.{nat_tests}
-use Rattle.std.proofs.lemmas.List.Sums.{fold_push}
-use Rattle.mscp_packet.specs.Steps.{◌>>=◌}
-use Rattle.mscp_reader.specs.Outcome.{in_line}
-use Rattle.mscp_reader.specs.declared.fault.Cause.{Cause}
+use Rattle.mscp_wire.proofs.Common.{Bool, Cause, Connection, Err, History, List, Log, Moment, None, Ok, Option, Result, Rule, Said, ScriptFault, Sent, Some, Standing, Told, Totals, [], after, answer_by, ap, arith, broken, broken_by, controller, controller_after, false, fold_push, if◌then◌else◌, in_line, is_some, nat_tests, outstanding, refl, seen_of, settles, standing_after, standing_first, sym, timeout, timeout_after, told, told_after, told_nothing, totals_of, true, unit_before, with_said, ℕ, ◌++◌, ◌>>=◌, ◌∙◌, ◌∷◌, ◌≡◌, ◌≢◌, ◌⊎◌}
 use Rattle.mscp_reader.specs.declared.fault.Cause.TheVariants as causes
-use Rattle.mscp_reader.specs.declared.fault.ScriptFault.{ScriptFault}
-use Rattle.mscp_wire.specs.Wire.{History, Standing, after, answer_by, broken, broken_by, controller, controller_after, outstanding, seen_of, settles, standing_after, standing_first, timeout, timeout_after, told, told_after, told_nothing, unit_before}
-use Rattle.mscp_drive.specs.declared.connection.Connection.{Connection}
 use Rattle.mscp_wire.specs.declared.moment.Moment.TheVariants as moments
-use Rattle.mscp_wire.specs.declared.rule.Rule.{Rule}
-use Rattle.mscp_wire.specs.Log.{Log, with_said}
-use Rattle.mscp_wire.specs.Totals.{totals_of}
-use Rattle.mscp_wire.specs.declared.line.Said.{Said}
 use Rattle.mscp_wire.specs.declared.line.Said.TheVariants as says
-use Rattle.mscp_wire.specs.declared.moment.Moment.{Moment}
-use Rattle.mscp_wire.specs.declared.sent.Sent.{Sent}
-use Rattle.mscp_wire.specs.declared.told.Told.{Told}
-use Rattle.mscp_wire.specs.declared.totals.Totals.{Totals}
 
 -- what is kept of units is what was told after a history
 abbrev pub AreTold : (Connection → ℕ → Told) → History → Type 0

@@ -1,19 +1,7 @@
 -- Where commands stand: those in cells are a list, in which each has its place.
-use Rattle.std.proofs.Common.{◌≡◌, ℕ, zero, suc, ◌+◌, ◌<◌, ◌≤◌, Bool, true, false, cond, ◌||◌, List, [], ◌∷◌, ◌++◌, length, set, take, drop, map, take_all, refl, ap, subst, sym, ◌∙◌, arith, rules, ◌-◌, Option, Some, None}
-use Rattle.std.specs.Prelude.{IfSome, IsSome, count_by, find, is_some, option_map}
-use Rattle.std.proofs.lemmas.Bool.{or_parts}
-use Rattle.std.specs.List.{filter, list_any, position, remove}
-use Rattle.std.proofs.lemmas.List.{get_or-take, get_or_default, length-set, set-get_or}
-use Rattle.std.proofs.lemmas.List.Edits.{map_over_more}
-use Rattle.std.proofs.lemmas.List.Sums.{sum_by-cons}
-use Rattle.mscp_drive.specs.declared.connection.Connection.{Connection}
-use Rattle.mscp_drive.specs.declared.connection.Connection.TheVariants.{First, Second}
-use Rattle.mscp_wire.specs.Kept.{IsFound, IsKept, IsNext, NoneIn, cell, is_on, place, place_if, sents, stands}
+use Rattle.mscp_wire.proofs.Common.{Bool, Connection, First, IfSome, IsFound, IsKept, IsNext, IsSome, List, None, NoneIn, Option, Second, Sent, Some, Tallies, [], ap, arith, cell, command_at, cond, count_by, drop, false, filter, find, get_or-take, get_or_default, is_on, is_some, length, length-set, list_any, map, map_over_more, option_map, or_parts, place, place_if, position, refl, remove, rules, sents, set, set-get_or, stands, subst, suc, sum_by-cons, sym, take, take_all, true, zero, ℕ, ◌++◌, ◌+◌, ◌-◌, ◌<◌, ◌||◌, ◌∙◌, ◌∷◌, ◌≡◌, ◌≤◌}
 use Rattle.mscp_wire.specs.Messages.{same_connection}
-use Rattle.mscp_wire.specs.Wire.{command_at}
 use Rattle.mscp_wire.proofs.Names.{place_at, place_none}
-use Rattle.mscp_wire.specs.declared.sent.Sent.{Sent}
-use Rattle.mscp_wire.specs.declared.tallies.Tallies.{Tallies}
 
 -- nothing stands in an empty cell
 pub empty : (P : Type 0) → false ≡ true → P

@@ -1,15 +1,7 @@
 -- Which moments are spared: those that break a rule which isn't asked of them.
-use Rattle.std.proofs.Common.{◌≡◌, Bool, true, false, ◌&&◌, refl, sym, ap, ◌∙◌, List, Some, None, if◌then◌else◌}
-use Rattle.std.proofs.lemmas.Bool.{false≢true}
-use Rattle.mscp_wire.specs.Begun.{is_middle, spares, spares_end}
-use Rattle.mscp_wire.specs.Course.{counts}
-use Rattle.mscp_wire.specs.Log.{Log, broken_in, broken_unless, is_outstanding, is_strange, is_stranger, spared}
-use Rattle.mscp_wire.specs.Wire.{answer_by, broken_by, is_message}
-use Rattle.mscp_wire.specs.declared.moment.Moment.{Moment}
+use Rattle.mscp_wire.proofs.Common.{Bool, List, Log, Moment, None, Rule, Sent, Some, answer_by, ap, broken_by, broken_in, broken_unless, counts, false, false≢true, if◌then◌else◌, is_message, is_middle, is_outstanding, is_strange, is_stranger, refl, spared, spares, spares_end, sym, true, ◌&&◌, ◌∙◌, ◌≡◌}
 use Rattle.mscp_wire.specs.declared.moment.Moment.TheVariants as moments
-use Rattle.mscp_wire.specs.declared.rule.Rule.{Rule}
 use Rattle.mscp_wire.specs.declared.rule.Rule.TheVariants as rules
-use Rattle.mscp_wire.specs.declared.sent.Sent.{Sent}
 
 module _ (log : Log) (m : Moment) where
   -- of a moment that breaks no rule, or one that is asked of it

@@ -1,15 +1,6 @@
 -- A log that begins in the middle says so first.
-use Rattle.std.proofs.Common.{◌≡◌, ℕ, Bool, true, false, not, ◌&&◌, nat_eq, [], ◌∷◌, length, refl, sym, ap, subst, ◌∙◌, arith, Option, Some, None}
-use Rattle.std.specs.Prelude.{is_none, is_some}
-use Rattle.std.proofs.lemmas.Bool.{eqb-true}
-use Rattle.std.proofs.lemmas.Bool.Decides.{nat_tests}
-use Rattle.mscp_wire.specs.Begun.{is_middle}
-use Rattle.mscp_wire.specs.Log.{Log, is_first, is_fresh}
-use Rattle.mscp_wire.specs.Middle.{IsMiddle, IsMiddleOf, Shows}
-use Rattle.mscp_wire.specs.Totals.{totals_of}
-use Rattle.mscp_wire.specs.Wire.{History}
-use Rattle.mscp_wire.specs.declared.middle.Middle.{Middle}
-use Rattle.mscp_wire.specs.declared.totals.Totals.{Totals}
+use Rattle.mscp_wire.proofs.Common.{Bool, History, IsMiddle, IsMiddleOf, Log, Middle, None, Option, Shows, Some, Totals, [], ap, arith, eqb-true, false, is_first, is_fresh, is_middle, is_none, is_some, length, nat_tests, not, refl, subst, sym, totals_of, true, ℕ, ◌&&◌, ◌∙◌, ◌∷◌, ◌≡◌}
+use Rattle.std.proofs.Common.{nat_eq}
 use Rattle.mscp_wire.proofs.Sparing.{both_true}
 
 empty_of : (h : History) → length h ≡ 0 → h ≡ []

@@ -1,17 +1,6 @@
 -- What is found in a table of units once one is put there.
-use Rattle.std.proofs.Common.{◌≡◌, ℕ, zero, suc, ◌<◌, Bool, true, false, refl, sym, ap, ◌∙◌, arith, if◌then◌else◌, List, [], ◌∷◌, ◌++◌, length, get_or, set, take, Option, None, Some}
-use Rattle.std.proofs.lemmas.List.{get_or-set_same, get_or-set_other}
-use Rattle.std.proofs.lemmas.Option.{slice_get_past, slice_get_read}
-use Rattle.std.proofs.lemmas.Bool.{eqb-true, eqb-false, or_parts, true≢false}
-use Rattle.std.proofs.lemmas.Bool.Decides.{nat_tests}
-use Rattle.std.specs.Prelude.{◌||◌, is_some, nat_eq, replicate}
-use Rattle.std.specs.List.{slice_get}
-use Rattle.mscp_wire.specs.Rows.{counted, entry_with, has_any, kept_in, no_numbers, no_pair, pair_has_any, pair_of, row_of}
-use Rattle.mscp_wire.specs.declared.row.Entry.{Entry}
-use Rattle.mscp_wire.specs.declared.identity.Identity.{Identity}
-use Rattle.mscp_wire.specs.declared.row.Numbers.{Numbers}
-use Rattle.mscp_wire.specs.declared.row.Pair.{Pair}
-use Rattle.mscp_wire.specs.declared.row.Row.{Row}
+use Rattle.mscp_wire.proofs.Common.{Bool, Entry, Identity, List, None, Numbers, Option, Pair, Row, Some, [], ap, arith, counted, entry_with, eqb-false, eqb-true, false, get_or, get_or-set_other, get_or-set_same, has_any, if◌then◌else◌, is_some, kept_in, length, nat_eq, nat_tests, no_numbers, no_pair, or_parts, pair_has_any, pair_of, refl, replicate, row_of, set, slice_get, slice_get_past, slice_get_read, suc, sym, take, true, true≢false, zero, ℕ, ◌++◌, ◌<◌, ◌∙◌, ◌∷◌, ◌≡◌}
+use Rattle.std.specs.Prelude.{◌||◌}
 
 -- more of what is read behind the last one changes nothing that is read
 pub padded : {A : Type 0} (d : A) (xs : List A) (n more q : ℕ) → length xs < n

@@ -1,17 +1,6 @@
 -- A command that is sought has the tag by which it is sought.
-use Rattle.std.proofs.Common.{◌≡◌, ⊎_elim, ◌⊎◌, ℕ, zero, suc, ◌+◌, ◌-◌, ◌%◌, ◌<◌, ◌≤◌, if◌then◌else◌, Bool, true, false, cond, not, ◌&&◌, ◌||◌, List, [], ◌∷◌, ◌++◌, length, drop, get_or, set, refl, ap, sym, ◌∙◌, arith, length-append, length-take-le, Option, Some, None}
-use Rattle.std.specs.Prelude.{is_some, nat_eq, take}
-use Rattle.std.proofs.lemmas.Bool.{cases_eq, cases_lt}
-use Rattle.std.proofs.lemmas.List.{get_or_default, get_or-drop, get_or-set_other, get_or-take, length-drop, length-set, length-take}
-use Rattle.std.proofs.Math.ListN.{get_or-append}
-use Rattle.std.proofs.lemmas.Grind.{get_or-set_at}
-use Rattle.std.proofs.lemmas.Bool.{eqb-true}
-use Rattle.std.proofs.lemmas.Bool.Decides.{nat_tests}
-use Rattle.mscp_drive.specs.declared.connection.Connection.{Connection}
-use Rattle.mscp_drive.specs.declared.connection.Connection.TheVariants.{First, Second}
-use Rattle.mscp_wire.specs.Kept.{AreTagged, IsFound, NoneIn, about, aside, cell, is_lined, stands, tag, tag_if, tag_of}
-use Rattle.mscp_wire.specs.Wire.{aborts, is_immediate, is_it, is_ordered, is_sequential, is_turning, keeps_back, polls, same_connection, turns, turns_beside, waits_on}
-use Rattle.mscp_wire.specs.declared.sent.Sent.{Sent}
+use Rattle.mscp_wire.proofs.Common.{AreTagged, Bool, Connection, First, IsFound, List, None, NoneIn, Option, Second, Sent, Some, [], aborts, about, ap, arith, aside, cases_eq, cases_lt, cell, cond, drop, eqb-true, false, get_or, get_or-append, get_or-drop, get_or-set_at, get_or-set_other, get_or-take, get_or_default, if◌then◌else◌, is_immediate, is_it, is_lined, is_ordered, is_sequential, is_some, is_turning, keeps_back, length, length-append, length-drop, length-set, length-take, length-take-le, nat_eq, nat_tests, not, polls, refl, same_connection, set, stands, suc, sym, tag, tag_if, tag_of, true, turns, turns_beside, waits_on, zero, ℕ, ⊎_elim, ◌%◌, ◌&&◌, ◌++◌, ◌+◌, ◌-◌, ◌<◌, ◌||◌, ◌∙◌, ◌∷◌, ◌≡◌, ◌≤◌, ◌⊎◌}
+use Rattle.std.specs.Prelude.{take}
 use Rattle.mscp_wire.proofs.Placed.{cell_less}
 
 same_side : (a b : Connection) → same_connection a b ≡ true → a ≡ b

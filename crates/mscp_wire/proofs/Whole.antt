@@ -1,22 +1,8 @@
 -- Of a log that doesn't begin in the middle each moment is right after those before it.
-use Rattle.std.proofs.Common.{◌≡◌, ℕ, ◌+◌, Bool, true, false, ◌&&◌, if◌then◌else◌, List, [], ◌∷◌, ◌++◌, length, arith, refl, sym, ap, subst, ◌∙◌, length-append, ⊎_elim, Option, Some, None, Result, Ok, Err}
-use Rattle.std.proofs.lemmas.Bool.{cases_lt, false≢true}
-use Rattle.std.proofs.lemmas.Bool.Decides.{nat_tests}
-use Rattle.std.proofs.lemmas.List.{take-append-le}
-use Rattle.std.proofs.Math.ListN.{get_or-append}
-use Rattle.std.proofs.Math.Seq.{get_or-append_seam, take-append_seam}
-use Rattle.mscp_packet.specs.Steps.{◌>>=◌}
-use Rattle.mscp_reader.specs.declared.fault.Cause.{Cause}
+use Rattle.mscp_wire.proofs.Common.{AreRight, AreRightLines, Bool, Cause, Err, History, IsRight, IsRightLog, List, Log, Moment, None, Ok, Option, Result, Rule, Said, Some, [], ap, arith, broken_by, broken_in, broken_said, cases_lt, false, false≢true, get_or-append, get_or-append_seam, if◌then◌else◌, is_first, is_fresh, is_middle, is_outstanding, is_strange, is_stranger, length, length-append, line_says, nat_tests, nothing, refl, spared, spares, subst, sym, take-append-le, take-append_seam, true, with_line, with_lines, with_moment, with_said, with_stranger, ℕ, ⊎_elim, ◌&&◌, ◌++◌, ◌+◌, ◌>>=◌, ◌∙◌, ◌∷◌, ◌≡◌}
 use Rattle.mscp_reader.specs.declared.fault.Cause.TheVariants as causes
-use Rattle.mscp_wire.specs.Begun.{is_middle, spares}
-use Rattle.mscp_wire.specs.Log.{AreRightLines, Log, broken_in, broken_said, is_first, is_fresh, is_outstanding, is_strange, is_stranger, line_says, nothing, spared, with_line, with_lines, with_moment, with_said, with_stranger}
-use Rattle.mscp_wire.specs.Right.{IsRightLog}
-use Rattle.mscp_wire.specs.Wire.{AreRight, History, IsRight, broken_by}
-use Rattle.mscp_wire.specs.declared.line.Said.{Said}
 use Rattle.mscp_wire.specs.declared.line.Said.TheVariants as says
-use Rattle.mscp_wire.specs.declared.moment.Moment.{Moment}
 use Rattle.mscp_wire.specs.declared.moment.Moment.TheVariants as moments
-use Rattle.mscp_wire.specs.declared.rule.Rule.{Rule}
 use Rattle.mscp_wire.proofs.Meaning.{step_on}
 
 -- ---- histories

@@ -1,7 +1,4 @@
-use Rattle.std.proofs.Common.{◌++◌, ◌∷◌, [], refl, sym, ap, subst, ◌∙◌, Ok, Err}
-use Rattle.mscp_reader.specs.Lexical.{lines}
-use Rattle.mscp_wire.specs.Course.{GoesOn, first_in, no_findings, places_by}
-use Rattle.mscp_wire.specs.Log.{line_says}
+use Rattle.mscp_wire.proofs.Common.{Err, GoesOn, Ok, [], ap, first_in, line_says, lines, no_findings, places_by, refl, subst, sym, ◌++◌, ◌∙◌, ◌∷◌}
 use Rattle.mscp_wire.proofs.Going.{first_faults, first_found, first_more, first_none}
 use Rattle.mscp_wire.proofs.course.places_of.Goals as goal
 

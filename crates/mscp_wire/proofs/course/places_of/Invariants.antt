@@ -1,6 +1,4 @@
-use Rattle.std.proofs.Common.{◌≡◌, [], length}
-use Rattle.mscp_reader.specs.Lexical.{lines}
-use Rattle.mscp_wire.specs.Course.{Findings, IsOn, first_in, no_findings}
+use Rattle.mscp_wire.proofs.Common.{Findings, IsOn, [], first_in, length, lines, no_findings, ◌≡◌}
 use Rattle.mscp_wire.proofs.course.places_of.Given as goal
 
 abbrev pub invariant-loop-line : goal.invariant-loop-line

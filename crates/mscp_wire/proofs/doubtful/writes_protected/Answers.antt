@@ -1,5 +1,4 @@
-use Rattle.std.proofs.Common.{arith}
-use Rattle.std.proofs.lemmas.Bool.Decides.{nat_tests}
+use Rattle.mscp_wire.proofs.Common.{arith, nat_tests}
 use Rattle.mscp_wire.proofs.doubtful.writes_protected.Goals as goal
 
 pub returns-then-is_single : goal.returns-then-is_single

@@ -1,7 +1,4 @@
-use Rattle.std.proofs.Common.{ap, sym, subst, ◌∙◌}
-use Rattle.std.specs.Prelude.{IfSome, IsSome}
-use Rattle.mscp_wire.specs.Kept.{cell, place_if, sents}
-use Rattle.mscp_wire.specs.Wire.{command_at_place}
+use Rattle.mscp_wire.proofs.Common.{IfSome, IsSome, ap, cell, command_at_place, place_if, sents, subst, sym, ◌∙◌}
 use Rattle.mscp_wire.proofs.Placed.{cell_is}
 use Rattle.mscp_wire.proofs.held.command_if.Goals as goal
 

@@ -1,6 +1,4 @@
-use Rattle.std.proofs.Common.{ap, arith, sym, take, take_all, [], ◌∷◌, ◌++◌, ◌∙◌}
-use Rattle.std.proofs.lemmas.Result.{IfOk-from_err}
-use Rattle.mscp_wire.specs.Kept.{sents}
+use Rattle.mscp_wire.proofs.Common.{IfOk-from_err, [], ap, arith, sents, sym, take, take_all, ◌++◌, ◌∙◌, ◌∷◌}
 use Rattle.mscp_wire.proofs.Placed.{one_taken}
 use Rattle.mscp_wire.proofs.held.list_of.Goals as goal
 

@@ -1,5 +1,4 @@
-use Rattle.std.proofs.Common.{◌≡◌, take}
-use Rattle.mscp_wire.specs.Kept.{sents}
+use Rattle.mscp_wire.proofs.Common.{sents, take, ◌≡◌}
 use Rattle.mscp_wire.proofs.held.list_of.Given as goal
 
 abbrev pub invariant-loop-at : goal.invariant-loop-at

@@ -1,8 +1,4 @@
-use Rattle.std.proofs.Common.{◌≡◌, ◌+◌, length, None, ◌++◌, ◌∷◌, [], length-append, append_assoc, arith, refl, sym, ap, subst, ◌∙◌, Ok, Err}
-use Rattle.std.proofs.lemmas.Result.{err_from_is_err_and}
-use Rattle.mscp_reader.specs.Lexical.{lines}
-use Rattle.mscp_wire.specs.Log.{broken_said, line_says, nothing}
-use Rattle.mscp_wire.specs.Right.{Goes, Judges}
+use Rattle.mscp_wire.proofs.Common.{Err, Goes, Judges, None, Ok, [], ap, append_assoc, arith, broken_said, err_from_is_err_and, length, length-append, line_says, lines, nothing, refl, subst, sym, ◌++◌, ◌+◌, ◌∙◌, ◌∷◌, ◌≡◌}
 use Rattle.mscp_wire.proofs.Meaning.{line_faults, lines_more, lines_none, right_more, right_none, zero_more}
 use Rattle.mscp_wire.proofs.log.judge_lines.Goals as goal
 

@@ -1,7 +1,4 @@
-use Rattle.std.proofs.Common.{◌≡◌, ◌+◌, ◌++◌, List, ℕ, length, Ok}
-use Rattle.mscp_reader.specs.Lexical.{lines}
-use Rattle.mscp_wire.specs.Log.{AreRightLines, Log, nothing, with_lines}
-use Rattle.mscp_wire.specs.Right.{HasFew, IsAfter}
+use Rattle.mscp_wire.proofs.Common.{AreRightLines, HasFew, IsAfter, List, Log, Ok, length, lines, nothing, with_lines, ℕ, ◌++◌, ◌+◌, ◌≡◌}
 use Rattle.mscp_wire.proofs.log.judge_lines.Given as goal
 
 abbrev pub invariant-loop-bytes : goal.invariant-loop-bytes

@@ -1,5 +1,4 @@
-use Rattle.std.proofs.Common.{◌∙◌, sym}
-use Rattle.std.proofs.lemmas.Result.{IfOk-from_err}
+use Rattle.mscp_wire.proofs.Common.{IfOk-from_err, sym, ◌∙◌}
 use Rattle.mscp_wire.proofs.Middles.{middle_more, of_some}
 use Rattle.mscp_wire.proofs.middle.hear_if.Goals as goal
 

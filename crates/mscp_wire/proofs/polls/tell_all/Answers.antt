@@ -1,7 +1,4 @@
-use Rattle.std.proofs.Common.{arith, ap, length, ◌∙◌}
-use Rattle.std.proofs.lemmas.List.{length-set}
-use Rattle.std.specs.Prelude.{option_map}
-use Rattle.mscp_wire.specs.Kept.{tells, sents}
+use Rattle.mscp_wire.proofs.Common.{ap, arith, length, length-set, option_map, sents, tells, ◌∙◌}
 use Rattle.mscp_wire.proofs.Placed.{over_all, over_more, sents_map}
 use Rattle.mscp_wire.proofs.polls.tell_all.Goals as goal
 

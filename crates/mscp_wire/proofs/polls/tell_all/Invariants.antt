@@ -1,6 +1,4 @@
-use Rattle.std.proofs.Common.{◌≡◌, ◌++◌, drop, length, map, take}
-use Rattle.std.specs.Prelude.{option_map}
-use Rattle.mscp_wire.specs.Kept.{tells}
+use Rattle.mscp_wire.proofs.Common.{drop, length, map, option_map, take, tells, ◌++◌, ◌≡◌}
 use Rattle.mscp_wire.proofs.polls.tell_all.Given as goal
 
 abbrev pub invariant-loop-at : goal.invariant-loop-at

@@ -1,5 +1,4 @@
-use Rattle.std.proofs.Common.{◌≡◌, ℕ, ◌<◌, false, get_or}
-use Rattle.std.specs.Prelude.{nat_eq}
+use Rattle.mscp_wire.proofs.Common.{false, get_or, nat_eq, ℕ, ◌<◌, ◌≡◌}
 use Rattle.mscp_wire.proofs.tags.have.Given as goal
 
 abbrev pub invariant-loop-at : goal.invariant-loop-at

@@ -1,7 +1,4 @@
-use Rattle.std.proofs.Common.{ap, sym, true, ◌∙◌, ◌||◌}
-use Rattle.std.specs.Prelude.{nat_eq}
-use Rattle.mscp_wire.specs.Kept.{tag, tag_of}
-use Rattle.mscp_wire.specs.Sought.{is_sought}
+use Rattle.mscp_wire.proofs.Common.{ap, is_sought, nat_eq, sym, tag, tag_of, true, ◌||◌, ◌∙◌}
 use Rattle.mscp_wire.proofs.Tagged.{aborting, beside, has_two, keeping, polling, turning}
 use Rattle.mscp_wire.proofs.tags.tags_of.Goals as goal
 

@@ -1,7 +1,4 @@
-use Rattle.std.proofs.Common.{ap, rules, ◌∙◌}
-use Rattle.std.proofs.lemmas.Fn.{filter_same}
-use Rattle.std.specs.Prelude.{is_some}
-use Rattle.std.specs.List.{filter}
+use Rattle.mscp_wire.proofs.Common.{ap, filter, filter_same, is_some, rules, ◌∙◌}
 use Rattle.mscp_wire.proofs.cells.Cells.close_up.Goals as goal
 
 pub returns : goal.returns

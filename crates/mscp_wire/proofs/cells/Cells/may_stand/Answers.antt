@@ -1,6 +1,4 @@
-use Rattle.std.proofs.Common.{ap, sym, ◌∙◌, ◌%◌, ◌||◌}
-use Rattle.std.specs.Prelude.{nat_eq}
-use Rattle.mscp_wire.specs.Sought.{is_sought}
+use Rattle.mscp_wire.proofs.Common.{ap, is_sought, nat_eq, sym, ◌%◌, ◌||◌, ◌∙◌}
 use Rattle.mscp_wire.proofs.Tagged.{by_tags, equal, waiting}
 use Rattle.mscp_wire.proofs.cells.Cells.may_stand.Goals as goal
 

@@ -1,5 +1,4 @@
-use Rattle.std.proofs.Common.{arith}
-use Rattle.mscp_wire.specs.Sought.{is_sought}
+use Rattle.mscp_wire.proofs.Common.{arith, is_sought}
 use Rattle.mscp_wire.proofs.Tagged.{found_further, none_further}
 use Rattle.mscp_wire.proofs.cells.Cells.next.Goals as goal
 

@@ -1,5 +1,4 @@
-use Rattle.std.proofs.Common.{length, ap, arith, sym, ◌∙◌}
-use Rattle.mscp_wire.specs.Sought.{is_sought}
+use Rattle.mscp_wire.proofs.Common.{ap, arith, is_sought, length, sym, ◌∙◌}
 use Rattle.mscp_wire.proofs.Tagged.{none_further, none_one, read_in}
 use Rattle.mscp_wire.proofs.cells.Cells.next_of_few.Goals as goal
 

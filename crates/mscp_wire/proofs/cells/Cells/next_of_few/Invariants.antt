@@ -1,6 +1,4 @@
-use Rattle.std.proofs.Common.{◌≤◌}
-use Rattle.mscp_wire.specs.Kept.{NoneIn}
-use Rattle.mscp_wire.specs.Sought.{is_sought}
+use Rattle.mscp_wire.proofs.Common.{NoneIn, is_sought, ◌≤◌}
 use Rattle.mscp_wire.proofs.cells.Cells.next_of_few.Given as goal
 
 abbrev pub invariant-loop-at : goal.invariant-loop-at

@@ -1,7 +1,5 @@
-use Rattle.std.proofs.Common.{[], ◌∷◌, ◌++◌, ap, arith, length-take-le, subst, sym, take, ◌∙◌}
+use Rattle.mscp_wire.proofs.Common.{AreTagged, IfOk-from_err, MatchResult-from_err, [], ap, arith, length-take-le, subst, sym, take, ◌++◌, ◌∙◌, ◌∷◌}
 use Rattle.std.specs.Prelude.{Some}
-use Rattle.std.proofs.lemmas.Result.{IfOk-from_err, MatchResult-from_err}
-use Rattle.mscp_wire.specs.Kept.{AreTagged}
 use Rattle.mscp_wire.proofs.Tagged.{cut, padded, pushed}
 use Rattle.mscp_wire.proofs.cells.Cells.push.Goals as goal
 

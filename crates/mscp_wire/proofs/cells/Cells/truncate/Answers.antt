@@ -1,5 +1,4 @@
-use Rattle.std.proofs.Common.{subst, sym}
-use Rattle.mscp_wire.specs.Kept.{AreTagged}
+use Rattle.mscp_wire.proofs.Common.{AreTagged, subst, sym}
 use Rattle.mscp_wire.proofs.Tagged.{shorter}
 use Rattle.mscp_wire.proofs.cells.Cells.truncate.Goals as goal
 

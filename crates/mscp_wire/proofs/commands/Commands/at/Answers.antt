@@ -1,5 +1,4 @@
-use Rattle.std.proofs.Common.{ap, sym, ◌∙◌}
-use Rattle.mscp_wire.specs.Kept.{cell}
+use Rattle.mscp_wire.proofs.Common.{ap, cell, sym, ◌∙◌}
 use Rattle.mscp_wire.proofs.Placed.{command_of}
 use Rattle.mscp_wire.proofs.commands.Commands.at.Goals as goal
 

@@ -1,6 +1,4 @@
-use Rattle.std.proofs.Common.{ap, sym}
-use Rattle.mscp_wire.specs.Kept.{place, sents}
-use Rattle.mscp_wire.specs.Wire.{is_named}
+use Rattle.mscp_wire.proofs.Common.{ap, is_named, place, sents, sym}
 use Rattle.mscp_wire.proofs.Alone.{named_alone, named_none}
 use Rattle.mscp_wire.proofs.Placed.{place_less}
 use Rattle.mscp_wire.proofs.Names.{place_none}

@@ -1,6 +1,5 @@
-use Rattle.std.proofs.Common.{◌≡◌, List, [], ◌∷◌, length, refl, arith}
+use Rattle.mscp_wire.proofs.Common.{List, Sent, [], arith, length, refl, ◌∷◌, ◌≡◌}
 use Rattle.std.specs.Prelude.{Option}
-use Rattle.mscp_wire.specs.declared.sent.Sent.{Sent}
 use Rattle.mscp_wire.proofs.commands.Commands.clear.Goals as goal
 
 none : (xs : List (Option Sent)) → length xs ≡ 0 → xs ≡ []

@@ -1,6 +1,4 @@
-use Rattle.std.proofs.Common.{◌≡◌, ◌∙◌, ap, arith, length, subst, sym, take_all}
-use Rattle.mscp_wire.specs.Kept.{NoneIn, is_on, sents}
-use Rattle.std.specs.List.{list_any}
+use Rattle.mscp_wire.proofs.Common.{NoneIn, ap, arith, is_on, length, list_any, sents, subst, sym, take_all, ◌∙◌, ◌≡◌}
 use Rattle.mscp_wire.proofs.Alone.{none_counted}
 use Rattle.mscp_wire.proofs.Closing.{others_all}
 use Rattle.mscp_wire.proofs.Placed.{none_taken_from}

@@ -1,6 +1,4 @@
-use Rattle.std.proofs.Common.{◌≡◌, ◌≤◌, length}
-use Rattle.mscp_wire.specs.Kept.{NoneIn, is_on, sents}
-use Rattle.mscp_wire.specs.Wire.{others_of}
+use Rattle.mscp_wire.proofs.Common.{NoneIn, is_on, length, others_of, sents, ◌≡◌, ◌≤◌}
 use Rattle.mscp_wire.proofs.commands.Commands.close.Given as goal
 
 abbrev pub invariant-loop-at : goal.invariant-loop-at

@@ -1,7 +1,4 @@
-use Rattle.std.proofs.Common.{◌∙◌, ap, sym}
-use Rattle.std.specs.Prelude.{is_some}
-use Rattle.mscp_wire.specs.Kept.{cell, is_on, place, sents}
-use Rattle.mscp_wire.specs.Wire.{others_of}
+use Rattle.mscp_wire.proofs.Common.{ap, cell, is_on, is_some, others_of, place, sents, sym, ◌∙◌}
 use Rattle.mscp_wire.proofs.Closing.{others_removed}
 use Rattle.mscp_wire.proofs.Placed.{command_of, place_less}
 use Rattle.mscp_wire.proofs.commands.Commands.close_in.Goals as goal

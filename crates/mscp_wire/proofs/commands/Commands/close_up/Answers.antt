@@ -1,5 +1,4 @@
-use Rattle.std.proofs.Common.{ap, subst, sym, ◌∙◌}
-use Rattle.mscp_wire.specs.Kept.{IsKept, sents}
+use Rattle.mscp_wire.proofs.Common.{IsKept, ap, sents, subst, sym, ◌∙◌}
 use Rattle.mscp_wire.proofs.Placed.{sents_filter}
 use Rattle.mscp_wire.proofs.commands.Commands.close_up.Goals as goal
 

@@ -1,6 +1,4 @@
-use Rattle.std.proofs.Common.{◌≡◌, ap, arith, sym, ◌∙◌}
-use Rattle.mscp_drive.specs.declared.connection.Connection.TheVariants.{First, Second}
-use Rattle.mscp_wire.specs.Kept.{sents}
+use Rattle.mscp_wire.proofs.Common.{First, Second, ap, arith, sents, sym, ◌∙◌, ◌≡◌}
 use Rattle.mscp_wire.specs.Wire as wire
 use Rattle.mscp_wire.proofs.Placed.{both_few}
 use Rattle.mscp_wire.proofs.commands.Commands.count_on.Goals.{in-First, in-Second}

@@ -1,6 +1,4 @@
-use Rattle.std.proofs.Common.{ap, ◌∙◌}
-use Rattle.mscp_wire.specs.Kept.{sents}
-use Rattle.mscp_wire.specs.Wire.{command_at_place, is_named}
+use Rattle.mscp_wire.proofs.Common.{ap, command_at_place, is_named, sents, ◌∙◌}
 use Rattle.mscp_wire.proofs.Names.{found_at}
 use Rattle.mscp_wire.proofs.commands.Commands.find_named.Goals as goal
 

@@ -1,8 +1,4 @@
-use Rattle.std.proofs.Common.{◌≡◌, arith, subst, take_all, ◌∙◌}
-use Rattle.std.specs.Prelude.{IfSome, IsSome}
-use Rattle.std.specs.List.{position}
-use Rattle.mscp_wire.specs.Kept.{cell, place_if, sents}
-use Rattle.mscp_wire.specs.Sought.{is_sought}
+use Rattle.mscp_wire.proofs.Common.{IfSome, IsSome, arith, cell, is_sought, place_if, position, sents, subst, take_all, ◌∙◌, ◌≡◌}
 use Rattle.mscp_wire.proofs.commands.Commands.first.Goals as goal
 
 pub returns-clause-place : goal.returns-clause-place

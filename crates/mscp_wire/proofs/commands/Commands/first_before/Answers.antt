@@ -1,8 +1,4 @@
-use Rattle.std.proofs.Common.{ap, take, ◌∙◌}
-use Rattle.std.specs.Prelude.{find}
-use Rattle.mscp_wire.specs.Kept.{place, place_if, sents}
-use Rattle.mscp_wire.specs.Sought.{is_sought}
-use Rattle.mscp_wire.specs.Wire.{command_at_place}
+use Rattle.mscp_wire.proofs.Common.{ap, command_at_place, find, is_sought, place, place_if, sents, take, ◌∙◌}
 use Rattle.mscp_wire.proofs.Names.{found_at}
 use Rattle.mscp_wire.proofs.Placed.{sents_take}
 use Rattle.mscp_wire.proofs.commands.Commands.first_before.Goals as goal

@@ -1,6 +1,4 @@
-use Rattle.std.proofs.Common.{◌≡◌, ap, sym, true, ◌∙◌}
-use Rattle.mscp_wire.specs.Kept.{cell, stands}
-use Rattle.mscp_wire.specs.Sought.{is_sought}
+use Rattle.mscp_wire.proofs.Common.{ap, cell, is_sought, stands, sym, true, ◌∙◌, ◌≡◌}
 use Rattle.mscp_wire.proofs.Placed.{is_full, stands_at}
 use Rattle.mscp_wire.proofs.commands.Commands.guessed.Goals as goal
 

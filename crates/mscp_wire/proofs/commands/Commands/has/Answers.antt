@@ -1,7 +1,4 @@
-use Rattle.std.proofs.Common.{ap, ◌∙◌}
-use Rattle.std.specs.Prelude.{is_some}
-use Rattle.mscp_wire.specs.Kept.{sents}
-use Rattle.mscp_wire.specs.Sought.{is_sought}
+use Rattle.mscp_wire.proofs.Common.{ap, is_some, is_sought, sents, ◌∙◌}
 use Rattle.mscp_wire.proofs.Placed.{some_place_if}
 use Rattle.mscp_wire.proofs.Names.{some_place}
 use Rattle.mscp_wire.proofs.commands.Commands.has.Goals as goal

@@ -1,7 +1,4 @@
-use Rattle.std.proofs.Common.{ap, take, ◌∙◌}
-use Rattle.std.specs.Prelude.{is_some}
-use Rattle.mscp_wire.specs.Kept.{place, sents}
-use Rattle.mscp_wire.specs.Sought.{is_sought}
+use Rattle.mscp_wire.proofs.Common.{ap, is_some, is_sought, place, sents, take, ◌∙◌}
 use Rattle.mscp_wire.proofs.Placed.{some_found}
 use Rattle.mscp_wire.proofs.commands.Commands.has_before.Goals as goal
 

@@ -1,8 +1,4 @@
-use Rattle.std.proofs.Common.{◌+◌, ap, drop, subst, sym, ◌∙◌}
-use Rattle.std.specs.Prelude.{IsSome}
-use Rattle.std.specs.List.{list_any}
-use Rattle.mscp_wire.specs.Kept.{IsNext, cell, place, sents}
-use Rattle.mscp_wire.specs.Sought.{is_sought}
+use Rattle.mscp_wire.proofs.Common.{IsNext, IsSome, ap, cell, drop, is_sought, list_any, place, sents, subst, sym, ◌+◌, ◌∙◌}
 use Rattle.mscp_wire.proofs.Placed.{some_behind}
 use Rattle.mscp_wire.proofs.commands.Commands.has_behind.Goals as goal
 

@@ -1,5 +1,4 @@
-use Rattle.std.proofs.Common.{ap, sym}
-use Rattle.mscp_wire.specs.Kept.{sents}
+use Rattle.mscp_wire.proofs.Common.{ap, sents, sym}
 use Rattle.mscp_wire.proofs.Alone.{named_none}
 use Rattle.mscp_wire.proofs.commands.Commands.has_named.Goals as goal
 

@@ -1,5 +1,4 @@
-use Rattle.std.proofs.Common.{ap, sym, ◌∙◌}
-use Rattle.mscp_wire.specs.Kept.{sents, slot_of}
+use Rattle.mscp_wire.proofs.Common.{ap, sents, slot_of, sym, ◌∙◌}
 use Rattle.mscp_wire.proofs.Marking.{none_turning}
 use Rattle.mscp_wire.proofs.commands.Commands.has_turning.Goals as goal
 

@@ -1,5 +1,4 @@
-use Rattle.std.proofs.Common.{sym, ◌∙◌}
-use Rattle.mscp_wire.specs.Kept.{sents}
+use Rattle.mscp_wire.proofs.Common.{sents, sym, ◌∙◌}
 use Rattle.mscp_wire.proofs.Alone.{heard_both}
 use Rattle.mscp_wire.proofs.commands.Commands.hear.Goals as goal
 

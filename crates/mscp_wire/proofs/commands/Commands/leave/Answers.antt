@@ -1,5 +1,4 @@
-use Rattle.std.proofs.Common.{ap}
-use Rattle.mscp_wire.specs.Kept.{sents}
+use Rattle.mscp_wire.proofs.Common.{ap, sents}
 use Rattle.mscp_wire.proofs.Alone.{left_none}
 use Rattle.mscp_wire.proofs.commands.Commands.leave.Goals as goal
 

@@ -1,7 +1,4 @@
-use Rattle.std.proofs.Common.{◌≡◌, ap, false, length, subst, ◌∙◌, if◌then◌else◌}
-use Rattle.mscp_wire.specs.Kept.{IsFound, NoneIn, leaves}
-use Rattle.mscp_wire.specs.Wire.{left, polls}
-use Rattle.mscp_wire.specs.declared.sent.Sent.{Sent}
+use Rattle.mscp_wire.proofs.Common.{IsFound, NoneIn, Sent, ap, false, if◌then◌else◌, leaves, left, length, polls, subst, ◌∙◌, ◌≡◌}
 use Rattle.mscp_wire.proofs.Placed.{changed_all, changed_next}
 use Rattle.mscp_wire.proofs.commands.Commands.leave_all.Goals as goal
 

@@ -1,5 +1,4 @@
-use Rattle.std.proofs.Common.{◌-◌, length}
-use Rattle.mscp_wire.specs.Kept.{leaves}
+use Rattle.mscp_wire.proofs.Common.{leaves, length, ◌-◌}
 use Rattle.mscp_wire.proofs.Placed.{AreChanged}
 use Rattle.mscp_wire.proofs.commands.Commands.leave_all.Given as goal
 

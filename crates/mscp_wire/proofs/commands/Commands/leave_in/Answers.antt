@@ -1,7 +1,4 @@
-use Rattle.std.proofs.Common.{ap, sym, ◌∙◌, if◌then◌else◌, Some}
-use Rattle.std.specs.Prelude.{option_map}
-use Rattle.mscp_wire.specs.Kept.{cell, leaves}
-use Rattle.mscp_wire.specs.Wire.{left}
+use Rattle.mscp_wire.proofs.Common.{Some, ap, cell, if◌then◌else◌, leaves, left, option_map, sym, ◌∙◌}
 use Rattle.mscp_wire.proofs.Placed.{empty_stays, kept_put, put_over, same_in}
 use Rattle.mscp_wire.proofs.commands.Commands.leave_in.Goals as goal
 

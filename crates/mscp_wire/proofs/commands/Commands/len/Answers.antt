@@ -1,5 +1,4 @@
-use Rattle.std.proofs.Common.{ap, arith, length}
-use Rattle.mscp_wire.specs.Kept.{sents}
+use Rattle.mscp_wire.proofs.Common.{ap, arith, length, sents}
 use Rattle.mscp_wire.proofs.Placed.{both_few}
 use Rattle.mscp_wire.proofs.commands.Commands.len.Goals as goal
 

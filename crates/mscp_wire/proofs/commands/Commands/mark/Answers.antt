@@ -1,5 +1,4 @@
-use Rattle.std.proofs.Common.{ap, sym, ◌∙◌}
-use Rattle.mscp_wire.specs.Kept.{sents}
+use Rattle.mscp_wire.proofs.Common.{ap, sents, sym, ◌∙◌}
 use Rattle.mscp_wire.proofs.Marking.{none_marked, still}
 use Rattle.mscp_wire.proofs.commands.Commands.mark.Goals.{then-not-turns-via-then-not-turns, then-not-turns-via-else-not-turns+then-has_no_status}
 use Rattle.mscp_wire.proofs.commands.Commands.mark.Goals as goal

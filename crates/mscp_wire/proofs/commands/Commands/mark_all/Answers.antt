@@ -1,7 +1,4 @@
-use Rattle.std.proofs.Common.{◌≡◌, ap, false, length, subst, true, ◌∙◌, if◌then◌else◌}
-use Rattle.mscp_wire.specs.Kept.{IsFound, NoneIn, besides}
-use Rattle.mscp_wire.specs.Wire.{turns_beside}
-use Rattle.mscp_wire.specs.declared.sent.Sent.{Sent}
+use Rattle.mscp_wire.proofs.Common.{IsFound, NoneIn, Sent, ap, besides, false, if◌then◌else◌, length, subst, true, turns_beside, ◌∙◌, ◌≡◌}
 use Rattle.mscp_wire.proofs.Placed.{changed_all, changed_next}
 use Rattle.mscp_wire.proofs.commands.Commands.mark_all.Goals as goal
 

@@ -1,5 +1,4 @@
-use Rattle.std.proofs.Common.{◌-◌, length}
-use Rattle.mscp_wire.specs.Kept.{besides}
+use Rattle.mscp_wire.proofs.Common.{besides, length, ◌-◌}
 use Rattle.mscp_wire.proofs.Placed.{AreChanged}
 use Rattle.mscp_wire.proofs.commands.Commands.mark_all.Given as goal
 

@@ -1,7 +1,4 @@
-use Rattle.std.proofs.Common.{◌≡◌, ap, not, sym, ◌&&◌, ◌∙◌, if◌then◌else◌, Some, false, true}
-use Rattle.std.specs.Prelude.{option_map}
-use Rattle.mscp_wire.specs.Kept.{besides, cell}
-use Rattle.mscp_wire.specs.Wire.{turns_beside}
+use Rattle.mscp_wire.proofs.Common.{Some, ap, besides, cell, false, if◌then◌else◌, not, option_map, sym, true, turns_beside, ◌&&◌, ◌∙◌, ◌≡◌}
 use Rattle.mscp_wire.proofs.Placed.{empty_stays, kept_put, put_over, same_in}
 use Rattle.mscp_wire.proofs.Marking.{never_turned, unmarked}
 use Rattle.mscp_wire.proofs.commands.Commands.mark_in.Goals.{else-not-other-via-then-not-other+else-turns_beside, else-not-other-via-else-not-other}

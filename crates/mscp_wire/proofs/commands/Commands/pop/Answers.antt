@@ -1,5 +1,4 @@
-use Rattle.std.proofs.Common.{◌-◌, ap, arith, length, subst, sym, ◌∙◌}
-use Rattle.mscp_wire.specs.Kept.{IsKept, cell, sents}
+use Rattle.mscp_wire.proofs.Common.{IsKept, ap, arith, cell, length, sents, subst, sym, ◌-◌, ◌∙◌}
 use Rattle.mscp_wire.proofs.Placed.{none_taken}
 use Rattle.mscp_wire.proofs.commands.Commands.pop.Goals as goal
 

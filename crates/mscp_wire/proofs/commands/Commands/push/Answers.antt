@@ -1,7 +1,5 @@
-use Rattle.std.proofs.Common.{[], ◌∷◌, ◌++◌, ap, arith, subst, sym, ◌∙◌}
+use Rattle.mscp_wire.proofs.Common.{IsKept, [], ap, arith, filter_map-append, sents, subst, sym, ◌++◌, ◌∙◌, ◌∷◌}
 use Rattle.std.specs.Prelude.{Some}
-use Rattle.std.proofs.lemmas.List.Elements.{filter_map-append}
-use Rattle.mscp_wire.specs.Kept.{IsKept, sents}
 use Rattle.mscp_wire.proofs.Placed.{both_few}
 use Rattle.mscp_wire.proofs.commands.Commands.push.Goals as goal
 

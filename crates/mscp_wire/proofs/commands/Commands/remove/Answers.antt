@@ -1,8 +1,4 @@
-use Rattle.std.proofs.Common.{ap, sym, ◌∙◌, subst}
-use Rattle.std.specs.Prelude.{IsSome}
-use Rattle.std.specs.List.{remove}
-use Rattle.mscp_wire.specs.Kept.{IsKept, cell, place, sents}
-use Rattle.mscp_wire.specs.Wire.{command_at}
+use Rattle.mscp_wire.proofs.Common.{IsKept, IsSome, ap, cell, command_at, place, remove, sents, subst, sym, ◌∙◌}
 use Rattle.mscp_wire.proofs.Placed.{cell_less, place_less, sents_remove}
 use Rattle.mscp_wire.proofs.Names.{kept_counted}
 use Rattle.mscp_wire.proofs.commands.Commands.remove.Goals as goal

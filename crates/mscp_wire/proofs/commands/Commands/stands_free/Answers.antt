@@ -1,6 +1,4 @@
-use Rattle.std.proofs.Common.{ap, sym, ◌∙◌}
-use Rattle.std.proofs.lemmas.Bool.{eqb-true}
-use Rattle.mscp_wire.specs.Kept.{place, sents, slot_of}
+use Rattle.mscp_wire.proofs.Common.{ap, eqb-true, place, sents, slot_of, sym, ◌∙◌}
 use Rattle.mscp_wire.proofs.Placed.{place_less}
 use Rattle.mscp_wire.proofs.Alone.{alone_in_line, never_kept_back, none_in_line}
 use Rattle.mscp_wire.proofs.commands.Commands.stands_free.Goals as goal

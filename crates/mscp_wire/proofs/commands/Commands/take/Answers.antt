@@ -1,7 +1,4 @@
-use Rattle.std.proofs.Common.{ap, map, ◌∙◌}
-use Rattle.std.specs.List.{remove}
-use Rattle.mscp_wire.specs.Kept.{besides, heard, place, sents}
-use Rattle.mscp_wire.specs.Wire.{command_at, hears}
+use Rattle.mscp_wire.proofs.Common.{ap, besides, command_at, heard, hears, map, place, remove, sents, ◌∙◌}
 use Rattle.mscp_wire.proofs.Marking.{heard_all, removed}
 use Rattle.mscp_wire.proofs.commands.Commands.take.Goals as goal
 

@@ -1,6 +1,4 @@
-use Rattle.std.proofs.Common.{ap, map, set, subst, sym, ◌∙◌}
-use Rattle.std.specs.Prelude.{IsSome}
-use Rattle.mscp_wire.specs.Kept.{IsKept, cell, place, sents, tells}
+use Rattle.mscp_wire.proofs.Common.{IsKept, IsSome, ap, cell, map, place, sents, set, subst, sym, tells, ◌∙◌}
 use Rattle.mscp_wire.proofs.Alone.{told_alone, told_none}
 use Rattle.mscp_wire.proofs.Placed.{place_less, sents_put}
 use Rattle.mscp_wire.proofs.Names.{kept_tells}

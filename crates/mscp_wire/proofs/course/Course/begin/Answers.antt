@@ -1,5 +1,4 @@
-use Rattle.std.proofs.Common.{◌∙◌, sym, true, []}
-use Rattle.std.proofs.lemmas.List.{append-nil}
+use Rattle.mscp_wire.proofs.Common.{[], append-nil, sym, true, ◌∙◌}
 use Rattle.mscp_wire.proofs.Going.{begun_first}
 use Rattle.mscp_wire.proofs.Starting.{begun_kept, first_by}
 use Rattle.mscp_wire.proofs.course.Course.begin.Goals as goal

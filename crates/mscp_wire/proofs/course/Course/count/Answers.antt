@@ -1,5 +1,4 @@
-use Rattle.std.proofs.Common.{◌∙◌, ap, sym}
-use Rattle.mscp_wire.specs.Course.{counts}
+use Rattle.mscp_wire.proofs.Common.{ap, counts, sym, ◌∙◌}
 use Rattle.mscp_wire.proofs.Added.{course_more}
 use Rattle.mscp_wire.proofs.course.Course.count.Goals as goal
 

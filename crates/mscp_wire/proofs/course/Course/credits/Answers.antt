@@ -1,5 +1,4 @@
-use Rattle.std.proofs.Common.{refl, sym, Some}
-use Rattle.std.proofs.lemmas.List.{append-nil}
+use Rattle.mscp_wire.proofs.Common.{Some, append-nil, refl, sym}
 use Rattle.mscp_wire.proofs.Going.{credits_first}
 use Rattle.mscp_wire.proofs.course.Course.credits.Goals as goal
 

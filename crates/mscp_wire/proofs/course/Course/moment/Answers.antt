@@ -1,7 +1,4 @@
-use Rattle.std.proofs.Common.{◌≡◌, ◌++◌, Some, refl, sym, ap, ◌∙◌, subst}
-use Rattle.mscp_wire.specs.Course.{IsOn, finding_by, findings_after, listed, mentions_counted, with_counted}
-use Rattle.mscp_wire.specs.Log.{spared}
-use Rattle.mscp_wire.specs.Wire.{command_of}
+use Rattle.mscp_wire.proofs.Common.{IsOn, Some, ap, command_of, finding_by, findings_after, listed, mentions_counted, refl, spared, subst, sym, with_counted, ◌++◌, ◌∙◌, ◌≡◌}
 use Rattle.mscp_wire.proofs.Added.{course_more}
 use Rattle.mscp_wire.proofs.Contradicted.{kept_then}
 use Rattle.mscp_wire.proofs.Going.{counted_told, right_told}

@@ -1,5 +1,4 @@
-use Rattle.std.proofs.Common.{◌∙◌, ap, sym}
-use Rattle.mscp_wire.specs.Log.{spared}
+use Rattle.mscp_wire.proofs.Common.{ap, spared, sym, ◌∙◌}
 use Rattle.mscp_wire.proofs.Sparing.{outstanding_is, spared_strange}
 use Rattle.mscp_wire.proofs.course.Course.spare.Goals as goal
 

@@ -1,7 +1,4 @@
-use Rattle.std.proofs.Common.{[], ◌∷◌, ◌++◌, ap, ◌∙◌}
-use Rattle.std.proofs.lemmas.Result.{IfOk-equal}
-use Rattle.mscp_wire.specs.Kept.{sents}
-use Rattle.mscp_wire.specs.Wire.{asking, sent_by, timed}
+use Rattle.mscp_wire.proofs.Common.{IfOk-equal, [], ap, asking, sent_by, sents, timed, ◌++◌, ◌∙◌, ◌∷◌}
 use Rattle.mscp_wire.proofs.Hearing.{on_ok}
 use Rattle.mscp_wire.proofs.judge.Judge.accept.Goals as goal
 

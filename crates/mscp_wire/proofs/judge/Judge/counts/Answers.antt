@@ -1,5 +1,4 @@
-use Rattle.std.proofs.Common.{arith}
-use Rattle.mscp_wire.specs.Kept.{sents}
+use Rattle.mscp_wire.proofs.Common.{arith, sents}
 use Rattle.mscp_wire.proofs.Going.{counts_long}
 use Rattle.mscp_wire.proofs.judge.Judge.counts.Goals as goal
 

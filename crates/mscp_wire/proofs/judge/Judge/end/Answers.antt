@@ -1,6 +1,5 @@
-use Rattle.std.proofs.Common.{refl, sym, ap, ◌∙◌}
-use Rattle.mscp_wire.specs.Kept.{sents}
-use Rattle.mscp_wire.specs.Wire.{is_settled_at, kept, settles, told_after_end}
+use Rattle.mscp_wire.proofs.Common.{ap, is_settled_at, kept, refl, sents, settles, sym, ◌∙◌}
+use Rattle.mscp_wire.specs.Wire.{told_after_end}
 use Rattle.mscp_wire.proofs.Hearing.{ended_rule}
 use Rattle.mscp_wire.proofs.judge.Judge.end.Goals as goal
 

@@ -1,5 +1,4 @@
-use Rattle.std.proofs.Common.{arith, refl}
-use Rattle.mscp_wire.specs.Kept.{sents}
+use Rattle.mscp_wire.proofs.Common.{arith, refl, sents}
 use Rattle.mscp_wire.proofs.Hearing.{long_message}
 use Rattle.mscp_wire.proofs.judge.Judge.message.Goals as goal
 

@@ -1,5 +1,4 @@
-use Rattle.mscp_wire.specs.Kept.{sents}
-use Rattle.mscp_wire.specs.Wire.{kept}
+use Rattle.mscp_wire.proofs.Common.{kept, sents}
 use Rattle.mscp_wire.proofs.Hearing.{if_right, stepped_end}
 use Rattle.mscp_wire.proofs.judge.Judge.step.Goals as goal
 

@@ -1,6 +1,4 @@
-use Rattle.std.proofs.Common.{◌∙◌, ap, sym}
-use Rattle.std.proofs.lemmas.Result.{IfOk-from_err}
-use Rattle.mscp_wire.specs.Wire.{answer_by}
+use Rattle.mscp_wire.proofs.Common.{IfOk-from_err, answer_by, ap, sym, ◌∙◌}
 use Rattle.mscp_wire.proofs.Middles.{ended_shows, sent_shows}
 use Rattle.mscp_wire.proofs.middle.Middle.hear.Goals as goal
 

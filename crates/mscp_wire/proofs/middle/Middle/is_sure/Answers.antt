@@ -1,8 +1,6 @@
-use Rattle.std.proofs.Common.{◌∙◌, ap, refl, sym, not, ◌&&◌, nat_eq}
+use Rattle.mscp_wire.proofs.Common.{ap, has_other, is_some, key, not, refl, sym, ◌&&◌, ◌∙◌}
+use Rattle.std.proofs.Common.{nat_eq}
 use Rattle.std.specs.HashMap as hashed
-use Rattle.std.specs.Prelude.{is_some}
-use Rattle.mscp_wire.specs.Middle.{has_other}
-use Rattle.mscp_wire.specs.Wire.{key}
 use Rattle.mscp_wire.proofs.Middles.{sure_by}
 use Rattle.mscp_wire.proofs.middle.Middle.is_sure.Goals as goal
 

@@ -1,5 +1,4 @@
-use Rattle.std.proofs.Common.{◌∙◌, ap, sym, not}
-use Rattle.mscp_wire.specs.Begun.{spares_end}
+use Rattle.mscp_wire.proofs.Common.{ap, not, spares_end, sym, ◌∙◌}
 use Rattle.mscp_wire.proofs.Middles.{unnamed_by}
 use Rattle.mscp_wire.proofs.middle.Middle.spares_end.Goals as goal
 

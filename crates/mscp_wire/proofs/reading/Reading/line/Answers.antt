@@ -1,5 +1,4 @@
-use Rattle.std.proofs.Common.{arith, sym, ◌∙◌}
-use Rattle.std.proofs.lemmas.Result.{err_from_is_err_and}
+use Rattle.mscp_wire.proofs.Common.{arith, err_from_is_err_and, sym, ◌∙◌}
 use Rattle.mscp_wire.proofs.Passing.{line_fails, line_goes}
 use Rattle.mscp_wire.proofs.reading.Reading.line.Goals as goal
 

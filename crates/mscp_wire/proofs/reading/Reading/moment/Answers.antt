@@ -1,7 +1,4 @@
-use Rattle.std.proofs.Common.{◌≡◌, ◌∙◌, Some, ap, if◌then◌else◌, refl, subst, sym}
-use Rattle.mscp_wire.specs.Log.{spared, with_either, with_moment, with_stranger}
-use Rattle.mscp_wire.specs.Right.{IsAfter}
-use Rattle.mscp_wire.specs.Wire.{command_of}
+use Rattle.mscp_wire.proofs.Common.{IsAfter, Some, ap, command_of, if◌then◌else◌, refl, spared, subst, sym, with_either, with_moment, with_stranger, ◌∙◌, ◌≡◌}
 use Rattle.mscp_wire.proofs.Added.{Heard, outstanding_now, reading_more, right_found, step_of}
 use Rattle.mscp_wire.proofs.Contradicted.{kept_then, passed_then, seen_then}
 use Rattle.mscp_wire.proofs.Passing.{broken_after}

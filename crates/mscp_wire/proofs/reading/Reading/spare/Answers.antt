@@ -1,12 +1,4 @@
-use Rattle.std.proofs.Common.{◌∙◌, ap, if◌then◌else◌, subst, sym}
-use Rattle.std.proofs.lemmas.Bool.{false≢true}
-use Rattle.std.proofs.lemmas.Result.{IfOk-from_err}
-use Rattle.mscp_wire.specs.Doubts.{doubtful}
-use Rattle.mscp_wire.specs.Kept.{sents}
-use Rattle.mscp_wire.specs.Log.{spared, with_moment, with_stranger}
-use Rattle.mscp_wire.specs.Right.{IsAfter}
-use Rattle.mscp_wire.specs.Wire.{called, outstanding, told}
-use Rattle.mscp_wire.specs.declared.doubts.Doubtful.{Doubtful}
+use Rattle.mscp_wire.proofs.Common.{Doubtful, IfOk-from_err, IsAfter, ap, called, doubtful, false≢true, if◌then◌else◌, outstanding, sents, spared, subst, sym, told, with_moment, with_stranger, ◌∙◌}
 use Rattle.mscp_wire.proofs.Added.{Heard, outstanding_now, reading_more}
 use Rattle.mscp_wire.proofs.Sparing.{outstanding_is, spared_counts, spared_strange}
 use Rattle.mscp_wire.proofs.reading.Reading.spare.Goals as goal

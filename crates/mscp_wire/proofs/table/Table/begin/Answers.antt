@@ -1,5 +1,4 @@
-use Rattle.std.proofs.Common.{ap, arith, get_or, ◌∙◌}
-use Rattle.mscp_wire.specs.Rows.{kept_at}
+use Rattle.mscp_wire.proofs.Common.{ap, arith, get_or, kept_at, ◌∙◌}
 use Rattle.mscp_wire.proofs.Tables.{padded}
 use Rattle.mscp_wire.proofs.table.Table.begin.Goals as goal
 

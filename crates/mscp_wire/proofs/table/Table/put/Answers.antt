@@ -1,9 +1,4 @@
-use Rattle.std.proofs.Common.{ap, arith, get_or, if◌then◌else◌, set, Some, [], ◌∷◌, ◌++◌, ◌∙◌}
-use Rattle.std.proofs.lemmas.Grind.{get_or_default_zero}
-use Rattle.std.specs.Prelude.{nat_eq}
-use Rattle.std.proofs.lemmas.Result.{IfOk-from_err}
-use Rattle.mscp_wire.specs.Rows.{row_of}
-use Rattle.mscp_wire.specs.declared.row.Entry.{Entry}
+use Rattle.mscp_wire.proofs.Common.{Entry, IfOk-from_err, Some, [], ap, arith, get_or, get_or_default_zero, if◌then◌else◌, nat_eq, row_of, set, ◌++◌, ◌∙◌, ◌∷◌}
 use Rattle.mscp_wire.proofs.Tables.{at_place, found_pushed, found_set}
 use Rattle.mscp_wire.proofs.table.Table.put.Goals as goal
 

@@ -1,9 +1,4 @@
-use Rattle.std.proofs.Common.{◌≡◌, ◌+◌, ◌<◌, length, get_or, ap, arith, sym, ◌∙◌}
-use Rattle.std.proofs.lemmas.List.{get_or-set_other, get_or-set_same}
-use Rattle.std.proofs.lemmas.Bool.{eqb-false, not-false, not-true}
-use Rattle.mscp_wire.specs.Rows.{no_pair}
-use Rattle.mscp_wire.specs.declared.row.Row.{Row}
-use Rattle.mscp_wire.specs.declared.table.Table.{Table}
+use Rattle.mscp_wire.proofs.Common.{Row, Table, ap, arith, eqb-false, get_or, get_or-set_other, get_or-set_same, length, no_pair, not-false, not-true, sym, ◌+◌, ◌<◌, ◌∙◌, ◌≡◌}
 use Rattle.mscp_wire.proofs.Tables.{resized, with_numbers, without_numbers}
 use Rattle.mscp_wire.proofs.table.Table.put_numbers.Goals.{then-len-place+in_ok-resize, else-len-place}
 use Rattle.mscp_wire.proofs.table.Table.put_numbers.Goals as goal

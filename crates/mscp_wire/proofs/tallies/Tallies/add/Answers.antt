@@ -1,5 +1,4 @@
-use Rattle.mscp_drive.specs.declared.connection.Connection.TheVariants.{First, Second}
-use Rattle.mscp_wire.specs.Kept.{by_asked, by_fence, by_line, by_name, by_next, by_status, is_on}
+use Rattle.mscp_wire.proofs.Common.{First, Second, by_asked, by_fence, by_line, by_name, by_next, by_status, is_on}
 use Rattle.mscp_wire.proofs.Names.{counted_more, tally_push}
 use Rattle.mscp_wire.proofs.tallies.Tallies.add.Goals as goal
 

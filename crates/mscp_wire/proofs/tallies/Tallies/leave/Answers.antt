@@ -1,5 +1,4 @@
-use Rattle.std.proofs.Common.{ap, refl, sym, ◌∙◌}
-use Rattle.mscp_wire.specs.Kept.{asks}
+use Rattle.mscp_wire.proofs.Common.{ap, asks, refl, sym, ◌∙◌}
 use Rattle.mscp_wire.proofs.Marking.{asked_less, asked_more, kept_left}
 use Rattle.mscp_wire.proofs.tallies.Tallies.leave.Goals as goal
 

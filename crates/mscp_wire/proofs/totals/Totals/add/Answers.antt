@@ -1,5 +1,4 @@
-use Rattle.std.proofs.Common.{ap, ◌∙◌}
-use Rattle.mscp_wire.specs.Totals.{counted_at}
+use Rattle.mscp_wire.proofs.Common.{ap, counted_at, ◌∙◌}
 use Rattle.mscp_wire.proofs.Counting.{totals_more}
 use Rattle.mscp_wire.proofs.totals.Totals.add.Goals as goal
 

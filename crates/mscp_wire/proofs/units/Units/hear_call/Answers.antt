@@ -1,6 +1,5 @@
 use Rattle.std.specs.HashMap as hashed
-use Rattle.std.specs.Prelude.{nat_eq}
-use Rattle.std.proofs.Common.{sym, ◌∙◌}
+use Rattle.mscp_wire.proofs.Common.{nat_eq, sym, ◌∙◌}
 use Rattle.mscp_wire.proofs.Keys.{put_called}
 use Rattle.mscp_wire.proofs.units.Units.hear_call.Goals as goal
 

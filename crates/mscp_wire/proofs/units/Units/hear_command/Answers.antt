@@ -1,7 +1,4 @@
-use Rattle.std.proofs.Common.{ap, arith}
-use Rattle.std.proofs.lemmas.Bool.Decides.{nat_tests}
-use Rattle.mscp_wire.specs.Wire.{kept}
-use Rattle.mscp_wire.specs.declared.told.State.TheVariants.{Shared}
+use Rattle.mscp_wire.proofs.Common.{Shared, ap, arith, kept, nat_tests}
 use Rattle.mscp_wire.proofs.Keys.{heard_online, with_state}
 use Rattle.mscp_wire.proofs.units.Units.hear_command.Goals as goal
 

@@ -1,9 +1,5 @@
-use Rattle.std.proofs.Common.{ap, if◌then◌else◌, sym, ◌∙◌}
-use Rattle.std.specs.Prelude.{nat_eq}
-use Rattle.mscp_drive.specs.declared.connection.Connection.TheVariants.{First, Second}
+use Rattle.mscp_wire.proofs.Common.{First, Second, ap, found, if◌then◌else◌, kept, nat_eq, sym, ◌∙◌}
 use Rattle.mscp_wire.specs.Messages.{same_connection}
-use Rattle.mscp_wire.specs.Rows.{found}
-use Rattle.mscp_wire.specs.Wire.{kept}
 use Rattle.mscp_wire.proofs.Keys.{put_told}
 use Rattle.mscp_wire.proofs.units.Units.put.Goals as goal
 
