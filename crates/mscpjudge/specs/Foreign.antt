@@ -24,11 +24,16 @@ foreign_of b =
 abbrev pub about_text : List ℕ → List ℕ → List ℕ
 about_text word b = (word ++ decimal (num b 0 4)) ++ (codes " unit " ++ decimal (num b 4 2))
 
--- the endcode and the status of an end, in hexadecimal
+-- an endcode and a status, in hexadecimal
+unfoldable pub code_text : ℕ → List ℕ
+code_text code = encode_lower (code ∷ [])
+
+unfoldable pub status_text : ℕ → List ℕ
+status_text status = encode_lower (to_be_bytes w16 status)
+
+-- those of an end
 abbrev pub told_text : List ℕ → List ℕ
-told_text b =
-    codes " code " ++ encode_lower (slice_index b 8 ∷ []) ++ codes " status "
-    ++ encode_lower (to_be_bytes w16 (num b 10 2))
+told_text b = codes " code " ++ code_text (slice_index b 8) ++ codes " status " ++ status_text (num b 10 2)
 
 -- what a command or an end of this opcode is, without its name
 abbrev pub unnamed_text : List ℕ → List ℕ

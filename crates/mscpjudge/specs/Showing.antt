@@ -48,12 +48,13 @@ packet_text digits (Err faults_of_text.OutOfMemory) = []
 unfoldable pub known_text : List ℕ → List ℕ
 known_text b = packet_text (encode_lower b) (shown (encode_lower b))
 
--- the line of these bytes, of an opcode that packets don't know or of another
+-- the line of these bytes, if their opcode is one of those that packets don't know, or if it isn't
 abbrev pub text_by : Option ℕ → List ℕ → List ℕ
 text_by (Some opcode) b = foreign_text b opcode
 text_by None b = known_text b
 
-abbrev pub bytes_text : List ℕ → List ℕ
+-- what is said of these bytes
+unfoldable pub bytes_text : List ℕ → List ℕ
 bytes_text b = text_by (foreign_of b) b
 
 -- what the controller sent a connection's host

@@ -46,17 +46,33 @@ fn put_about(text: &mut Vec<u8>, word: &str, bytes: &[u8]) -> Result<(), AllocEr
     put_field(text, " unit ", two_at(bytes, 4))
 }
 
+/// Appends an endcode.
+#[tactic(auto, unfolding(crate::specs::Foreign::code_text))]
+fn put_code(text: &mut Vec<u8>, code: u8) -> Result<(), AllocError>
+    ensures { OnOk result (text.new.items ≡ text.old.items ++ foreign.code_text code) }
+{
+    let bytes = [code];
+    put_digits(text, bytes.as_slice())
+}
+
+/// Appends a status.
+#[tactic(auto, unfolding(crate::specs::Foreign::status_text))]
+fn put_status(text: &mut Vec<u8>, status: u16) -> Result<(), AllocError>
+    ensures { OnOk result (text.new.items ≡ text.old.items ++ foreign.status_text status) }
+{
+    let bytes = status.to_be_bytes();
+    put_digits(text, bytes.as_slice())
+}
+
 /// Appends the endcode and the status of an end.
 fn put_told(text: &mut Vec<u8>, bytes: &[u8]) -> Result<(), AllocError>
     requires { 12 ≤ length bytes.now }
     ensures { OnOk result (text.new.items ≡ text.old.items ++ foreign.told_text bytes.now) }
 {
-    let code = [bytes[8]];
-    let status = two_at(bytes, 10).to_be_bytes();
     put(text, " code ")?;
-    put_digits(text, code.as_slice())?;
+    put_code(text, bytes[8])?;
     put(text, " status ")?;
-    put_digits(text, status.as_slice())
+    put_status(text, two_at(bytes, 10))
 }
 
 /// Appends what a command or an end is, without its name.

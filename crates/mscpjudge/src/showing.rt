@@ -47,6 +47,7 @@ fn put_known(alloc: Global, text: &mut Vec<u8>, bytes: &[u8]) -> Result<(), Allo
 }
 
 /// Appends the line of a command or an end, or why bytes are none.
+#[tactic(auto, unfolding(crate::specs::Showing::bytes_text))]
 fn put_packet(alloc: Global, text: &mut Vec<u8>, bytes: &[u8]) -> Result<(), AllocError>
     ensures { OnOk result (text.new.items ≡ text.old.items ++ bytes_text bytes.now) }
 {
