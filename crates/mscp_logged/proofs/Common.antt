@@ -1,5 +1,5 @@
 -- What the lemmas of this crate take from elsewhere.
-pub use Rattle.std.proofs.Common.{All, Bool, IsSomeAnd, List, MatchOption, None, Option, Some, [], ap, append_assoc, arith, cond, drop, false, filter, inl, inr, length, map, nat_eq, not, refl, set, subst, suc, sym, take, true, zero, ℕ, ⊎_elim, ◌*◌, ◌++◌, ◌+◌, ◌-◌, ◌<◌, ◌^◌, ◌∙◌, ◌∷◌, ◌≡◌, ◌≢◌, ◌≤◌, ◌⊎◌}
+pub use Rattle.std.proofs.Common.{All, Bool, IsSomeAnd, List, None, Option, Some, [], ap, append_assoc, arith, cond, drop, false, filter, inl, inr, length, map, nat_eq, not, refl, set, subst, suc, sym, take, true, zero, ℕ, ⊎_elim, ◌*◌, ◌++◌, ◌+◌, ◌-◌, ◌<◌, ◌^◌, ◌∙◌, ◌∷◌, ◌≡◌, ◌≢◌, ◌≤◌, ◌⊎◌}
 pub use Rattle.std.proofs.lemmas.Bool.{and_from, le-leb}
 pub use Rattle.std.proofs.lemmas.List.{append-nil, get_or_append_left, length-append, take-append-le}
 pub use Rattle.std.proofs.lemmas.List.Elements.{All-from_recursion, filter-append}
@@ -13,9 +13,8 @@ pub use Rattle.mscp_controller.proofs.Basics.{queued_open}
 pub use Rattle.mscp_controller.specs.Arrival.{fault_of, is_immediate, is_queued, move_fault, order_fault, refusal, unit_fault}
 pub use Rattle.mscp_controller.specs.Calls.{AnsweredCalls, Call as Made, history}
 pub use Rattle.mscp_controller.specs.Controllers.{ControllersKeepThePromise, KeepsPromise, drive_now}
-pub use Rattle.mscp_controller.specs.Holdings.{Finishes, Holdings, aborting, after_message, answer_to_message, answered_end, arrives, balance_of, begun_step, figure_polled, fresh, held_unless, numbers, numbers_ended, outstanding_of, queued, record_aborted, reference_aborted, sent_unless, taken_as, unaborted, waiting_on, with_end}
+pub use Rattle.mscp_controller.specs.Holdings.{Holdings, aborting, after_message, answer_to_message, answered_end, balance_of, begun_step, figure_polled, fresh, held_unless, numbers, numbers_ended, outstanding_of, queued, record_aborted, unaborted, waiting_on, with_end}
 pub use Rattle.mscp_controller.specs.Outcomes.{answer_status, own_end, own_end_with, unit_status}
-pub use Rattle.mscp_controller.specs.declared.entry.NotBegun.{NotBegun}
 pub use Rattle.mscp_controller.specs.declared.entry.SendFault.{SendFault}
 pub use Rattle.mscp_drive.specs.Both.{of}
 pub use Rattle.mscp_drive.specs.Extent.{blocks}
@@ -42,7 +41,7 @@ pub use Rattle.mscp_port.proofs.Begun.{taken_or_not}
 pub use Rattle.mscp_port.proofs.Common.{and_parts, cases_eq, cases_lt, drop_more, eq-eqb, eqb-true, false≢true, get_or-set_other, get_or-set_same, get_or_past, length-set, or_left, or_parts, or_right, position-Some, take-append-drop}
 pub use Rattle.mscp_port.proofs.Kept.{is_numbered}
 pub use Rattle.mscp_port.proofs.Loads.{looks_or_not}
-pub use Rattle.mscp_port.proofs.Said.{none_or_some, served_name}
+pub use Rattle.mscp_port.proofs.Said.{none_or_some}
 pub use Rattle.mscp_port.specs.Blocks.{block_of, block_told, changed_verdict, fault_with, faulted, has_changed, has_host_bytes, is_available, kept_of, move_of, move_task, moved_by, part_task, part_with, refusal_of, takes_any_volume, task_of, unless_fault, writes}
 pub use Rattle.mscp_port.specs.Buffers.{is_of, part_of}
 pub use Rattle.mscp_port.specs.Calls.{Dies, Goes, Hears, IsMadeOf, Wants}
@@ -53,11 +52,10 @@ pub use Rattle.mscp_port.specs.Formalities.{code_told, ends_formality, formal_st
 pub use Rattle.mscp_port.specs.Histories.{Answered, Becomes, Call, LookAgain, Next, Picking, Protect, PutAside, ReadIp, Tick, VolumeCame, VolumeWent, WasRead, Went, WriteIp, WriteSa}
 pub use Rattle.mscp_port.specs.Leaving.{controller_end, end_left, end_told, end_with_body, head, online_end, plain_end, tells_unit as tells_of_unit, told_end, unit_status_end}
 pub use Rattle.mscp_port.specs.Messages.{asks_for_next, handed, next_unit, own_end_of}
-pub use Rattle.mscp_port.specs.Moved.{GoesOnWithBlock, HeedsStep, IsStepping, TakesBegun, TakesBlock, begun_task, block_begun, block_served, end_brought, known_task, moved_step, part_at, part_served, place_heeded, volumes_after}
-pub use Rattle.mscp_port.specs.Outgoings.{AnswersItself, IsNews, MayBegin, TakesEnd, news_place}
+pub use Rattle.mscp_port.specs.Moved.{GoesOnWithBlock, begun_task, block_begun, block_served, known_task, moved_step, part_at, part_served, place_heeded, volumes_after}
+pub use Rattle.mscp_port.specs.Outgoings.{AnswersItself, IsNews, TakesEnd, news_place}
 pub use Rattle.mscp_port.specs.Packets.{end_kind}
 pub use Rattle.mscp_port.specs.Ports.{IsAsNew, IsOfBlock, IsReadingText}
-pub use Rattle.mscp_port.specs.Seen.{SeesText, Sends, answered_to}
 pub use Rattle.mscp_port.specs.Volumes.{brought_online, no_volume, place_in, volume_at, volume_changed, volume_found, volume_heeded, volume_in_place, volume_protected, volume_put, volumes_heeded, volumes_with}
 pub use Rattle.mscp_port.specs.declared.action.Action.{Action}
 pub use Rattle.mscp_port.specs.declared.action.Outcome.{Outcome}
@@ -72,18 +70,18 @@ pub use Rattle.mscp_port.specs.declared.stage.Stage.{Stage}
 pub use Rattle.mscp_port.specs.declared.task.Task.{Task}
 pub use Rattle.mscp_port.specs.declared.verdict.Verdict.{Verdict}
 pub use Rattle.mscp_port.specs.declared.volumes.Volume.{Volume}
-pub use Rattle.mscp_ported.proofs.Answering.{none_so, none_so as none_owned, own_so}
-pub use Rattle.mscp_ported.proofs.Awaiting.{IsLikeIt, IsNoReset, IsSmall, Kept, handed_like, nothing_there, others, own_number}
-pub use Rattle.mscp_ported.proofs.Awaits.{none_taken, taken_is}
+pub use Rattle.mscp_ported.proofs.Answering.{own_so}
+pub use Rattle.mscp_ported.proofs.Awaiting.{IsNoReset, Kept}
+pub use Rattle.mscp_ported.proofs.Awaits.{served_found, served_own}
 pub use Rattle.mscp_ported.proofs.Behind.{aborts_behind, any_more, is_abort}
 pub use Rattle.mscp_ported.proofs.Buffered.{FitsBuffer}
 pub use Rattle.mscp_ported.proofs.ByOpcode.{fitting}
 pub use Rattle.mscp_ported.proofs.Codes.{answered_code, handed_coded}
-pub use Rattle.mscp_ported.proofs.Coming.{brought_for, come_so, ends_of, few_ends, steps_bring}
-pub use Rattle.mscp_ported.proofs.Dealing.{begun, begun_same, named, news_none, passive_taken, whole}
-pub use Rattle.mscp_ported.proofs.Decided.{Whole, kept as whole_kept, passive_said, read_stays}
+pub use Rattle.mscp_ported.proofs.Coming.{brought_for, ends_of, few_ends}
+pub use Rattle.mscp_ported.proofs.Dealing.{left_awaited, named, passive_taken, whole}
+pub use Rattle.mscp_ported.proofs.Decided.{Whole, kept as whole_kept, passive_said}
 pub use Rattle.mscp_ported.proofs.Ended.{bytes_small, kept, no_ends, nothing_two}
-pub use Rattle.mscp_ported.proofs.Ending.{Grows, left_with, zipped}
+pub use Rattle.mscp_ported.proofs.Ending.{left_with, zipped}
 pub use Rattle.mscp_ported.proofs.Fitted.{Fitting}
 pub use Rattle.mscp_ported.proofs.Fitting.{IsPlainEnd, answer_told, bare_same, decided_code, decided_status, given_plain as given_of, kept_one}
 pub use Rattle.mscp_ported.proofs.Followed.{IsFollowed, IsReply, IsStepped}
@@ -92,7 +90,6 @@ pub use Rattle.mscp_ported.proofs.Formal.{formal_queued}
 pub use Rattle.mscp_ported.proofs.Growing.{begun_one}
 pub use Rattle.mscp_ported.proofs.Itself.{IsPast, moves_opcode, own_cases, own_coded, own_formal, own_refused, own_whole, since_alive}
 pub use Rattle.mscp_ported.proofs.Keeping.{end_number}
-pub use Rattle.mscp_ported.proofs.Leaving.{step_grows, text_grows}
 pub use Rattle.mscp_ported.proofs.Mounting.{Ended, ended_so, one_ended}
 pub use Rattle.mscp_ported.proofs.Moving.{IsBegunStep, steps}
 pub use Rattle.mscp_ported.proofs.Numbered.{At, IsNothing, ends_numbered, first_of_one, none_beside, none_of_it, none_stays, other_number, some_none}
@@ -101,13 +98,15 @@ pub use Rattle.mscp_ported.proofs.Opcodes.{IsSaid, said_fits}
 pub use Rattle.mscp_ported.proofs.Origins.{IsAborted, IsAnswer, IsMade, IsOf, IsServed, IsText, IsToldSo, told_same}
 pub use Rattle.mscp_ported.proofs.Owning.{and_false, apart_numbers, number_of}
 pub use Rattle.mscp_ported.proofs.Promised.{knows}
+pub use Rattle.mscp_ported.proofs.Reading.{Answers, Gets, Queues, answer_decided, answer_ends, end_named, its_own, no_other, no_such, read_is}
 pub use Rattle.mscp_ported.proofs.Silent.{none_waits}
-pub use Rattle.mscp_ported.proofs.Sole.{found_sole, other_one, served_goes_on, served_itself, served_other, sole_comes, sole_left, this_one}
-pub use Rattle.mscp_ported.proofs.Staying.{IsPassive, Stays, passive_stays, went_stays}
+pub use Rattle.mscp_ported.proofs.Sole.{other_one, served_goes_on, served_itself, served_other, sole_comes, sole_left, this_one}
+pub use Rattle.mscp_ported.proofs.Staying.{IsPassive, Stays, passive_stays}
+pub use Rattle.mscp_ported.proofs.Stepping.{IsHow, Serves, drive_in, end_served, serves_grow, went_is}
 pub use Rattle.mscp_ported.proofs.Tables.{decided_by}
-pub use Rattle.mscp_ported.proofs.Transferring.{IsHow, begun_record}
+pub use Rattle.mscp_ported.proofs.Taking.{begun_end, says_is}
+pub use Rattle.mscp_ported.proofs.Transferring.{begun_record}
 pub use Rattle.mscp_ported.proofs.Units.{IsUnitIn, body_unit, small_unit, stand_unit}
-pub use Rattle.mscp_ported.proofs.Wanting.{alive_or_dead}
 pub use Rattle.mscp_ported.proofs.Whole.{code_of}
 pub use Rattle.mscp_ported.specs.Answers.{Own, asks_next, asks_nothing, moves_data, own_answer, own_refusal, own_text, text_handed, volume_named}
 pub use Rattle.mscp_ported.specs.Awaited.{Deals, IsAnswering, IsEnding, IsTaking, IsWhole, PortsEndWhatTheyTook, ReadsBytes, awaited, has_number, is_taken_text, taken_by, without_ends}
@@ -124,12 +123,11 @@ pub use Rattle.mscp_queue.specs.Drives.{drive_of, fresh_drive, replaced}
 pub use Rattle.mscp_queue.specs.Names.{name_on}
 pub use Rattle.mscp_queue.specs.Orders.{endcode, is_move, order_weight}
 pub use Rattle.mscp_queue.specs.Outcomes.{bad_status, block_touched, goes_on, is_good_block, is_success, online_body, outcome_at, outcome_body, outcome_status, state_after, touches}
-pub use Rattle.mscp_queue.specs.Records.{Record, aborted_record, advanced, drive_at, fresh_record, has_name, is_in_service, left_of, name_of, no_record, passed_by, record_at, remains, step_charge}
-pub use Rattle.mscp_queue.specs.Serving.{IsServable, drive_after, drives_after, end_given, state_left, touched, upcoming_begun, upcoming_of, waiting_after}
+pub use Rattle.mscp_queue.specs.Records.{Record, aborted_record, advanced, fresh_record, has_name, is_in_service, left_of, name_of, no_record, passed_by, record_at, remains, step_charge}
+pub use Rattle.mscp_queue.specs.Serving.{IsServable, drive_after, end_given, state_left, touched, upcoming_begun, upcoming_of, waiting_after}
 pub use Rattle.mscp_queue.specs.Views.{fences, is_affordable}
 pub use Rattle.mscp_queue.specs.declared.drive.Drive.{Drive}
 pub use Rattle.mscp_queue.specs.declared.name.Name.{Name}
-pub use Rattle.mscp_queue.specs.declared.report.Report.{Report}
 pub use Rattle.mscp_queue.specs.declared.upcoming.Upcoming.{Upcoming}
 pub use Rattle.mscp_shown.proofs.Fitting.{IsSmallCommand, aborted_fit, ended_small, outcome_fit, own_fit, small_command}
 pub use Rattle.mscp_shown.proofs.Identity.{BodyControls}

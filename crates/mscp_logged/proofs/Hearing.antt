@@ -1,17 +1,13 @@
 -- Behind a message that a port read no end that waits has passed a command that it had to wait for.
-use Rattle.mscp_logged.proofs.Common.{All, AllByRecursion, Bool, Command, Decided, Descriptor, End, First, Fitting, Grows, Hears, Holdings, IsCodeFor, IsLikeIt, IsNoReset, IsNothing, IsReadingText, IsSmall, IsText, IsValid, Kept, List, None, Ok, Option, Order, Port, Record, SeesText, SendFault, Sends, Settings, Shape, Some, Task, Verdict, WasRead, [], aborted_record, aborting, and_false, answer_told, answered_code, answered_end, answered_to, ap, apart_numbers, append_assoc, arith, arrives, balance_of, bare_same, bytes_small, come_so, command_of, cond, decided_code, drive_of, ends_formality, ends_of, eq-eqb, eqb-true, false, false≢true, fault_of, figure_polled, filter, formal_queued, fresh_record, handed, handed_coded, handed_like, has_number, held_unless, inl, inr, is_apart, is_formality, is_immediate, is_none, is_numbered, is_of, is_ok, is_queued, is_some, is_taken_text, map, nat_eq, none-some, none_of_it, none_or_some, none_so, none_taken, not, nothing_there, num, option_map, option_to_list, or_right, order_fault, others, outstanding_of, own_answer, own_end_of, own_number, own_so, place_in, queued, queued_open, read_stays, record_aborted, reference_aborted, refl, refusal, sent_unless, since, slice_index, sole_left, some_none, status_told, subst, sym, taken_as, taken_by, taken_is, text_grows, true, unaborted, unit_found, volume_at, volume_named, with_end, ℕ, ◌%◌, ◌++◌, ◌<◌, ◌^◌, ◌||◌, ◌∙◌, ◌∷◌, ◌≡◌, ◌≢◌, ◌⊎◌}
-use Rattle.std.proofs.Common.{◌&&◌}
+use Rattle.mscp_logged.proofs.Common.{All, AllByRecursion, Answers, Bool, Command, Decided, End, First, Fitting, Gets, Hears, Holdings, IsCodeFor, IsNoReset, IsNothing, IsText, IsValid, Kept, List, None, Ok, Option, Order, Port, Queues, Record, Settings, Shape, Some, Verdict, WasRead, [], aborted_record, answer_decided, answer_ends, answer_told, answered_code, answered_end, ap, apart_numbers, arith, bare_same, command_of, decided_code, drive_of, end_named, ends_formality, ends_of, eq-eqb, eqb-true, false, false≢true, fault_of, figure_polled, filter, formal_queued, fresh_record, handed, handed_coded, has_number, inl, inr, is_apart, is_formality, is_immediate, is_numbered, is_of, is_queued, is_some, its_own, map, nat_eq, no_other, no_such, none_of_it, not, num, option_map, option_to_list, or_right, order_fault, place_in, queued_open, read_is, record_aborted, refl, since, slice_index, sole_left, some_none, status_told, subst, sym, taken_by, true, unaborted, unit_found, volume_at, ℕ, ◌%◌, ◌++◌, ◌<◌, ◌^◌, ◌||◌, ◌∙◌, ◌∷◌, ◌≡◌, ◌⊎◌}
 use Rattle.mscp_packet.specs.declared.command.Order.TheVariants as orders
 use Rattle.mscp_drive.specs.declared.block.Block.TheVariants as blocks
-use Rattle.mscp_controller.specs.declared.entry.Sent.TheVariants as sents
 use Rattle.mscp_port.specs.Messages.{own_end}
-use Rattle.mscp_port.specs.declared.task.Task.TheVariants as tasks
 use Rattle.mscp_port.specs.declared.verdict.Verdict.TheVariants as verdicts
-use Rattle.mscp_ported.proofs.Awaiting.{is_it}
 use Rattle.mscp_ported.proofs.Tables.{answer_by}
 use Rattle.mscp_logged.proofs.Clear.{AreClear, IsClear, is_ended, none_ended, ordered_answered, ordered_as, ordered_queued, unended, without}
 use Rattle.mscp_logged.proofs.Fences.{aborted_apart, plain_code, reply_clear}
-use Rattle.mscp_logged.proofs.Ordering.{OrderedIn, became, stays, unchanged}
+use Rattle.mscp_logged.proofs.Ordering.{OrderedIn, became, died, stays}
 use Rattle.mscp_logged.proofs.Passes.{Unplaced, all_fewer, keeps, none_any, passes_unplaced, unplaced_new}
 use Rattle.mscp_logged.proofs.Queueing.{NoneBehind, behind_left}
 
@@ -70,15 +66,10 @@ module _ {c : Settings} {Told : Verdict → Record → Type 0} {K : Type 0} (byt
   abbrev Fits : Type 0
   Fits = OrderedIn c new (aw ++ bytes ∷ [])
 
-  few : IsSmall bytes
-  few = bytes_small bytes small
-
-  module _ (slot : Descriptor) (size : ℕ) (foreign : Bool) (at : old.task ≡ tasks.Text slot size foreign) where
+  -- the controller took it
+  module _ (g : Gets bytes done old new) where
     abbrev h : Holdings K
     h = old.controller
-
-    abbrev sent : List ℕ
-    sent = handed old.controller.settings.units bytes
 
     abbrev command : Command
     command = command_of (handed old.controller.settings.units bytes)
@@ -86,225 +77,129 @@ module _ {c : Settings} {Told : Verdict → Record → Type 0} {K : Type 0} (byt
     abbrev n : ℕ
     n = num bytes 0 4
 
-    abbrev refused : Option SendFault
-    refused = refusal (balance_of First old.controller) (outstanding_of First old.controller) sent
+    is_text : IsText bytes
+    is_text = record { long = g.long; small = small }
 
-    sees : SeesText slot foreign bytes old new
-    sees = (r.sees refl).text slot size foreign at
+    nothing : IsNothing aw h.waiting (ends_of h) n
+    nothing = no_such g k
 
-    still : taken_by (WasRead bytes (Ok done)) old ≡ [] → new.controller ≡ old.controller
-        → new.decided.items ≡ old.decided.items → After
-    still none whole decided = unchanged (WasRead bytes (Ok done)) old new aw o calm refl none
-        (ap (λ (x : Holdings K). x.waiting) whole) (ap (λ (x : Holdings K). ends_of x) whole) decided
+    no_end : is_ended (ends_of h) bytes ≡ false
+    no_end = none_ended bytes (ends_of h) nothing.2
 
-    answered : (e : End) → own_end_of old foreign bytes ≡ Some e → After
-    answered e own =
-        let some : own_end_of old foreign bytes ≢ None = λ none. none-some e (sym none ∙ own) in
-        let z = own_so foreign (volume_named old bytes) bytes e own in
-        let none : taken_by (WasRead bytes (Ok done)) old ≡ [] =
-        none_taken bytes done old new aw k r few slot size foreign at
-        (ap (λ x. is_none x && is_ok (answered_to old bytes)) z.1) in
-        elim (none_or_some old.outgoing) [
-          | inl nothing ↦ still none (r.own slot size foreign at some)
-              (ap (λ (q : Port K). q.decided.items) (sees.own some nothing).0)
-          | inr out ↦ still none (r.own slot size foreign at some)
-              (ap (λ (q : Port K). q.decided.items)
-              (sees.own_waits some (λ nothing. none-some out.0 (sym nothing ∙ out.1))))
-        ]
+    -- it is queued
+    queued_so : Queues g.slot bytes old new → Fits
+    queued_so q =
+        ordered_as c (aw ++ bytes ∷ []) (h.waiting ++ fresh_record First command ∷ []) new.controller.waiting
+        (ends_of h) (ends_of new.controller) old.decided.items new.decided.items
+        (ap (λ (x : Holdings K). x.waiting) q.holds) (ap (λ (x : Holdings K). ends_of x) q.holds) q.sends.decided
+        (ordered_queued c aw h.waiting (ends_of h) old.decided.items o bytes no_end (fresh_record First command)
+        nothing.1 (none_any (has_number n) aw nothing.0) (its_own g k) (no_other g k) refl
+        (subst (λ s. is_some (unit_found s.units command.unit) ≡ true) settings
+        (known_unit h.settings command.unit command.order (queued_open h.settings command q.later).waits
+        (queued_open h.settings command q.later).sound)))
 
-    waits : (fault : SendFault) → own_end_of old foreign bytes ≡ None → refused ≡ Some fault → After
-    waits fault none e =
-        let answer = ap (sent_unless First h command) e in
-        still (none_taken bytes done old new aw k r few slot size foreign at
-        (and_false (is_none (own_answer foreign (volume_named old bytes) bytes)) (is_ok (answered_to old bytes))
-        (ap is_ok answer)))
-        (r.handed slot size foreign at refl none ∙ ap (held_unless First h command) e)
-        (ap (λ (q : Port K). q.decided.items) (sees.waits fault none answer))
+    -- or it is answered at once
+    module _ (a : Answers g.slot bytes old new) where
+      abbrev own : End
+      own = answered_end First h command
 
-    -- the controller takes it
-    module _ (none : own_end_of old foreign bytes ≡ None) (new_is : refused ≡ None) where
-      answer : answered_to old bytes ≡ Ok (taken_as First h command)
-      answer = ap (sent_unless First h command) new_is
+      abbrev aborted : Option Record → List End
+      aborted x = option_to_list (option_map aborted_record x)
 
-      gets : new.controller ≡ arrives First h command
-      gets = r.handed slot size foreign at refl none ∙ ap (held_unless First h command) new_is
+      abbrev made : End → Decided
+      made = answer_by old new
 
-      one : taken_by (WasRead bytes (Ok done)) old ≡ bytes ∷ []
-      one = taken_is bytes done old new aw k r few slot size foreign at
-          ∙ ap (λ x. cond (is_none x && is_ok (answered_to old bytes)) (bytes ∷ []) [])
-          (none_so foreign (volume_named old bytes) bytes none) ∙ ap (λ x. cond (is_ok x) (bytes ∷ []) []) answer
+      own_named : own.reference ≡ n
+      own_named = end_named g
 
-      like : IsLikeIt sent bytes
-      like = handed_like old.controller.settings.units bytes sees.long
+      bare : filter (is_of First own.reference) old.buffers.items ≡ []
+      bare = ap (λ m. filter (is_of First m) old.buffers.items) own_named ∙ (f.kept n).none nothing.1
 
-      is_text : IsText bytes
-      is_text = record { long = sees.long; small = small }
+      own_code : (answer_by old new own).code ≡ own.code
+      own_code = decided_code _ _ own new.controller.settings.units new.flags _
+          ∙ bare_same old.buffers.items own bytes bare
 
-      named : command.reference ≡ n
-      unfolding command_of
-      named = like.number
+      plain : is_formality (slice_index bytes 8) ≡ false
+      plain = by (is_formality (slice_index bytes 8)) refl
+        where
+          by : (x : Bool) → is_formality (slice_index bytes 8) ≡ x → x ≡ false
+          by false e = refl
+          by true e = search (
+            arith,
+            a.immediate,
+            subst (λ s. is_queued s (command_of (handed s.units bytes)) ≡ true) (sym settings)
+                (formal_queued c g.foreign (volume_at old.volumes) bytes valid sizes g.long
+                (subst (λ s. own_end g.foreign (option_map (volume_at old.volumes)
+                (place_in s.units (num bytes 4 2))) bytes ≡ None) settings g.none) e),
+          )
 
-      nothing : IsNothing aw h.waiting (ends_of h) n
-      nothing = nothing_there h aw bytes sent sees.long like new_is k.each
+      informal : ends_formality own.code ≡ false
+      informal = plain_code own.code bytes plain
+          (subst (λ x. IsCodeFor x bytes) (sym (answered_code h.settings _ _ command (fault_of h.settings command)))
+          (handed_coded old.controller.settings.units bytes g.long plain))
 
-      no_end : is_ended (ends_of h) bytes ≡ false
-      no_end = none_ended bytes (ends_of h) nothing.2
+      -- it waits for none, or says what may be said at once
+      own_clear : (ts : List (List ℕ) → List (List ℕ))
+          → ((P : List ℕ → Type 0) → AllByRecursion P (aw ++ bytes ∷ [])
+          → AllByRecursion P (ts (aw ++ bytes ∷ [])))
+          → IsClear (ts (aw ++ bytes ∷ [])) own (made own)
+      own_clear ts all = by (reply_clear h.settings (drive_of h.drives command.unit).online
+          (figure_polled h.settings First h.waiting command.order) bytes is_text plain a.immediate own.code informal
+          (answer_told old new own).0)
+        where
+          by : (is_apart (status_told (verdicts.Served blocks.Good) own.code own.status
+              (answer_told old new own).0 % 32) ≡ true) ⊎ ((u : List ℕ) → keeps bytes u ≡ false)
+              → IsClear (ts (aw ++ bytes ∷ [])) own (made own)
+          by (inl apart) = inl (ap (λ x. is_apart (x % 32)) ((answer_told old new own).1
+              ∙ ap (λ x. status_told (verdicts.Served blocks.Good) x own.status (answer_told old new own).0) own_code)
+              ∙ apart)
+          by (inr free) = inr (passes_unplaced (has_number own.reference) keeps (ts (aw ++ bytes ∷ []))
+              (all (Unplaced (has_number own.reference) keeps) (unplaced_new (has_number own.reference) keeps aw bytes
+              (ap (λ m. filter (has_number m) aw) own_named ∙ nothing.0) free)))
 
-      -- it is queued
-      queued_so : is_queued h.settings command ≡ true → new.controller ≡ queued First h command
-          → (reference : ℕ) → answered_to old bytes ≡ Ok (sents.Queued reference) → Fits
-      queued_so q is reference ok =
-          ordered_as c (aw ++ bytes ∷ []) (h.waiting ++ fresh_record First command ∷ []) new.controller.waiting
-          (ends_of h) (ends_of new.controller) old.decided.items new.decided.items
-          (ap (λ (x : Holdings K). x.waiting) is) (ap (λ (x : Holdings K). ends_of x) is)
-          (sees.sent (sents.Queued reference) none ok).decided
-          (ordered_queued c aw h.waiting (ends_of h) old.decided.items o bytes no_end (fresh_record First command)
-          nothing.1 (none_any (has_number n) aw nothing.0)
-          (is_it h aw bytes sent sees.long like new_is k.each (fresh_record First command) refl named)
-          (others h aw bytes sent sees.long like new_is k.each (fresh_record First command) named) refl
-          (subst (λ s. is_some (unit_found s.units command.unit) ≡ true) settings
-          (known_unit h.settings command.unit command.order (queued_open h.settings command q).waits
-          (queued_open h.settings command q).sound)))
-
-      -- or it is answered at once
-      module _ (immediate : is_queued h.settings command ≡ false)
-          (is : new.controller ≡ with_end First (aborting First h command.order) (answered_end First h command))
-          (s : Sends slot (sents.Answered command.reference (reference_aborted First h.waiting command.order)) bytes
-          old new) where
-        abbrev own : End
-        own = answered_end First h command
-
-        abbrev aborted : Option Record → List End
-        aborted x = option_to_list (option_map aborted_record x)
-
-        abbrev made : End → Decided
-        made = answer_by old new
-
-        g : Grows old new (answer_by old new)
-        g = text_grows slot size foreign bytes done old new at r f.long
-
-        own_named : own.reference ≡ n
-        own_named = own_number h.settings _ _ command (fault_of h.settings command) ∙ named
-
-        bare : filter (is_of First own.reference) old.buffers.items ≡ []
-        bare = ap (λ m. filter (is_of First m) old.buffers.items) own_named ∙ (f.kept n).none nothing.1
-
-        own_code : (answer_by old new own).code ≡ own.code
-        own_code = decided_code _ _ own new.controller.settings.units new.flags _
-            ∙ bare_same old.buffers.items own bytes bare
-
-        plain : is_formality (slice_index bytes 8) ≡ false
-        plain = by (is_formality (slice_index bytes 8)) refl
-          where
-            by : (x : Bool) → is_formality (slice_index bytes 8) ≡ x → x ≡ false
-            by false e = refl
-            by true e = search (
-              arith,
-              immediate,
-              subst (λ s. is_queued s (command_of (handed s.units bytes)) ≡ true) (sym settings)
-                  (formal_queued c foreign (volume_at old.volumes) bytes valid sizes sees.long
-                  (subst (λ s. own_end foreign (option_map (volume_at old.volumes)
-                  (place_in s.units (num bytes 4 2))) bytes ≡ None) settings none) e),
-            )
-
-        informal : ends_formality own.code ≡ false
-        informal = plain_code own.code bytes plain
-            (subst (λ x. IsCodeFor x bytes) (sym (answered_code h.settings _ _ command (fault_of h.settings command)))
-            (handed_coded old.controller.settings.units bytes sees.long plain))
-
-        -- it waits for none, or says what may be said at once
-        own_clear : (ts : List (List ℕ) → List (List ℕ))
-            → ((P : List ℕ → Type 0) → AllByRecursion P (aw ++ bytes ∷ [])
-            → AllByRecursion P (ts (aw ++ bytes ∷ [])))
-            → IsClear (ts (aw ++ bytes ∷ [])) own (made own)
-        own_clear ts all = by (reply_clear h.settings (drive_of h.drives command.unit).online
-            (figure_polled h.settings First h.waiting command.order) bytes is_text plain immediate own.code informal
-            (answer_told old new own).0)
-          where
-            by : (is_apart (status_told (verdicts.Served blocks.Good) own.code own.status
-                (answer_told old new own).0 % 32) ≡ true) ⊎ ((u : List ℕ) → keeps bytes u ≡ false)
-                → IsClear (ts (aw ++ bytes ∷ [])) own (made own)
-            by (inl apart) = inl (ap (λ x. is_apart (x % 32)) ((answer_told old new own).1
-                ∙ ap (λ x. status_told (verdicts.Served blocks.Good) x own.status (answer_told old new own).0) own_code)
-                ∙ apart)
-            by (inr free) = inr (passes_unplaced (has_number own.reference) keeps (ts (aw ++ bytes ∷ []))
-                (all (Unplaced (has_number own.reference) keeps) (unplaced_new (has_number own.reference) keeps aw bytes
-                (ap (λ m. filter (has_number m) aw) own_named ∙ nothing.0) free)))
-
-        all_clear : (x : Option Record) → AreClear (unended (ends_of h) (aw ++ bytes ∷ [])) (aborted x ++ own ∷ [])
-            (map made (aborted x ++ own ∷ []))
-        all_clear None = (
-          own_clear (unended (ends_of h))
-              (λ P all. all_fewer P (λ t. not (is_ended (ends_of h) t)) (aw ++ bytes ∷ []) all),
+      all_clear : (x : Option Record) → AreClear (unended (ends_of h) (aw ++ bytes ∷ [])) (aborted x ++ own ∷ [])
+          (map made (aborted x ++ own ∷ []))
+      all_clear None = (
+        own_clear (unended (ends_of h))
+            (λ P all. all_fewer P (λ t. not (is_ended (ends_of h) t)) (aw ++ bytes ∷ []) all),
+        tt,
+      )
+      all_clear (Some x) = (
+        inl (ap (λ x. is_apart (x % 32)) (answer_told old new (aborted_record x)).1
+            ∙ aborted_apart (made (aborted_record x)).code (answer_told old new (aborted_record x)).0),
+        (
+          own_clear (λ ts. without x.command.reference (unended (ends_of h) ts))
+              (λ P all. all_fewer P (λ t. not (has_number x.command.reference t))
+              (unended (ends_of h) (aw ++ bytes ∷ []))
+              (all_fewer P (λ t. not (is_ended (ends_of h) t)) (aw ++ bytes ∷ []) all)),
           tt,
-        )
-        all_clear (Some x) = (
-          inl (ap (λ x. is_apart (x % 32)) (answer_told old new (aborted_record x)).1
-              ∙ aborted_apart (made (aborted_record x)).code (answer_told old new (aborted_record x)).0),
-          (
-            own_clear (λ ts. without x.command.reference (unended (ends_of h) ts))
-                (λ P all. all_fewer P (λ t. not (has_number x.command.reference t))
-                (unended (ends_of h) (aw ++ bytes ∷ []))
-                (all_fewer P (λ t. not (is_ended (ends_of h) t)) (aw ++ bytes ∷ []) all)),
-            tt,
-          ),
-        )
+        ),
+      )
 
-        ends_now : ends_of new.controller
-            ≡ ends_of h ++ (aborted (record_aborted First h.waiting command.order) ++ own ∷ [])
-        ends_now = ap (λ (x : Holdings K). ends_of x) is
-            ∙ append_assoc (ends_of h) (aborted (record_aborted First h.waiting command.order)) (own ∷ [])
+      own_ended : (xs ys : List End) → is_ended (xs ++ (ys ++ own ∷ [])) bytes ≡ true
+      own_ended [] [] = ap (λ b. b || false) (eq-eqb n own.reference (sym own_named))
+      own_ended [] (y ∷ ys) = or_right (has_number y.reference bytes) _ (own_ended [] ys)
+      own_ended (x ∷ xs) ys = or_right (has_number x.reference bytes) _ (own_ended xs ys)
 
-        own_ended : (xs ys : List End) → is_ended (xs ++ (ys ++ own ∷ [])) bytes ≡ true
-        own_ended [] [] = ap (λ b. b || false) (eq-eqb n own.reference (sym own_named))
-        own_ended [] (y ∷ ys) = or_right (has_number y.reference bytes) _ (own_ended [] ys)
-        own_ended (x ∷ xs) ys = or_right (has_number x.reference bytes) _ (own_ended xs ys)
+      answered_so : Fits
+      answered_so =
+          let x = record_aborted First h.waiting command.order in
+          ordered_as c (aw ++ bytes ∷ []) (unaborted First h.waiting command.order) new.controller.waiting
+          (ends_of h ++ (aborted x ++ own ∷ [])) (ends_of new.controller)
+          (old.decided.items ++ map made (aborted x ++ own ∷ [])) new.decided.items
+          (ap (λ (y : Holdings K). y.waiting) a.holds) (answer_ends a)
+          (answer_decided a f.long)
+          (ordered_answered c aw h.waiting (ends_of h) old.decided.items o (unaborted First h.waiting command.order)
+          (aborted x ++ own ∷ []) (map made (aborted x ++ own ∷ [])) f.long (left_behind h.waiting command.order)
+          (λ m z e. o.own m z (left_before h.waiting command.order m z e)) bytes no_end
+          (own_ended (ends_of h) (aborted x)) (all_clear x))
 
-        answered_so : Fits
-        answered_so =
-            let x = record_aborted First h.waiting command.order in
-            ordered_as c (aw ++ bytes ∷ []) (unaborted First h.waiting command.order) new.controller.waiting
-            (ends_of h ++ (aborted x ++ own ∷ [])) (ends_of new.controller)
-            (old.decided.items ++ map made (aborted x ++ own ∷ [])) new.decided.items
-            (ap (λ (y : Holdings K). y.waiting) is) ends_now
-            (g.decided ∙ ap (λ xs. old.decided.items ++ map made xs)
-            (sym (come_so old new g.brought g.ends) ∙ come_so old new (aborted x ++ own ∷ []) ends_now))
-            (ordered_answered c aw h.waiting (ends_of h) old.decided.items o (unaborted First h.waiting command.order)
-            (aborted x ++ own ∷ []) (map made (aborted x ++ own ∷ [])) f.long (left_behind h.waiting command.order)
-            (λ m z e. o.own m z (left_before h.waiting command.order m z e)) bytes no_end
-            (own_ended (ends_of h) (aborted x)) (all_clear x))
-
-      taken : (q : Bool) → is_queued h.settings command ≡ q → Fits
-      taken true e = queued_so e (gets ∙ ap (λ b. cond b (queued First h command)
-          (with_end First (aborting First h command.order) (answered_end First h command))) e) command.reference
-          (answer ∙ ap (λ b. Ok (cond b (sents.Queued command.reference) (sents.Answered command.reference
-          (reference_aborted First h.waiting command.order)))) e)
-      taken false e = answered_so e (gets ∙ ap (λ b. cond b (queued First h command)
-          (with_end First (aborting First h command.order) (answered_end First h command))) e)
-          (sees.sent (sents.Answered command.reference (reference_aborted First h.waiting command.order)) none
-          (answer ∙ ap (λ b. Ok (cond b (sents.Queued command.reference) (sents.Answered command.reference
-          (reference_aborted First h.waiting command.order)))) e))
-
-      handed_so : After
-      handed_so = became (WasRead bytes (Ok done)) old new aw o calm (aw ++ bytes ∷ []) (ap (λ xs. aw ++ xs) one)
-          (taken (is_queued h.settings command) refl)
-
-    judged : (x : Option SendFault) → refused ≡ x → own_end_of old foreign bytes ≡ None → After
-    judged None e none = handed_so none e
-    judged (Some fault) e none = waits fault none e
-
-    text_so : After
-    text_so = elim (none_or_some (own_end_of old foreign bytes)) [
-      | inr own ↦ answered own.0 own.1
-      | inl none ↦ judged refused refl none
-    ]
+    gets_so : After
+    gets_so = became (WasRead bytes (Ok done)) old new aw o calm (aw ++ bytes ∷ []) (ap (λ xs. aw ++ xs) g.taken)
+        (elim g.how [ inl q ↦ queued_so q | inr a ↦ answered_so a ])
 
   pub read_ordered : After
-  read_ordered = by old.task refl
-    where
-      by : (t : Task) → old.task ≡ t → After
-      by (tasks.Text slot size foreign) e = text_so slot size foreign e
-      by t e =
-          let other : IsReadingText old.task → ⊥ = λ h. subst (λ x. IsReadingText x) e h in
-          stays (WasRead bytes (Ok done)) old new aw o calm refl
-          (ap (λ x. cond (is_taken_text old bytes x) (bytes ∷ []) []) e) (read_stays bytes done old new r other)
+  read_ordered = elim (read_is bytes done old new r) [
+    | inl s ↦ stays (WasRead bytes (Ok done)) old new aw o calm refl s.1 (inl s.0)
+    | inr more ↦ elim more [ inl g ↦ gets_so g | inr d ↦ died (WasRead bytes (Ok done)) old new aw o calm d ]
+  ]

@@ -1,8 +1,6 @@
 -- After each call of a port no end that waits has passed a command that it had to wait for.
-use Rattle.mscp_logged.proofs.Common.{Action, AllByRecursion, At, Block, Bool, Call, Command, Connection, Decided, Dies, Drive, End, Err, Finishes, First, Fitting, Goes, Grows, HeedsStep, Holdings, IsNoReset, IsOf, IsServable, IsUnitIn, Kept, List, MatchOption, MayBegin, Name, Next, None, NotBegun, Ok, Option, Outcome, Port, Record, Report, Result, Second, Settings, Some, Stays, TakesBegun, TakesBlock, TakesEnd, Task, Verdict, Wants, Went, [], advanced, alive_or_dead, and_parts, ap, append-nil, append_assoc, arith, begun, begun_same, block_begun, block_served, block_told, brought_for, come_so, cond, decided_by, drive_at, drop, drop_more, end_brought, end_given, end_number, ended_none, ends_begun, ends_of, ends_said_by, eq-eqb, false, false≢true, fences, filter, filter-append, first_of_one, has_number, inl, inr, is_affordable, is_dead, is_in_service, is_numbered, is_same, is_some, length, list_all, looks_or_not, map, name_of, name_on, named, nat_eq, news_none, news_place, no_record, none-some, not, nothing_two, num, record_at, refl, served_goes_on, served_itself, served_name, served_other, served_waits, since, some_none, step_charge, step_grows, steps_bring, still_none, subst, sym, take, take-append-drop, taken_by, this_one, told_end, true, unit_found, waiting_after, went_stays, whole, without_ends, ℕ, ◌++◌, ◌+◌, ◌∙◌, ◌∷◌, ◌≡◌, ◌≤◌, ◌⊎◌}
+use Rattle.mscp_logged.proofs.Common.{Action, AllByRecursion, At, Block, Bool, Call, Command, Connection, Decided, Dies, Drive, End, First, Fitting, Goes, Holdings, IsNoReset, IsOf, IsServable, IsUnitIn, Kept, List, Next, None, Ok, Option, Outcome, Port, Record, Second, Serves, Settings, Some, Stays, TakesEnd, Verdict, Wants, Went, [], advanced, and_parts, ap, append-nil, append_assoc, arith, block_told, brought_for, cond, decided_by, drive_in, drop, drop_more, end_given, end_number, end_served, ended_none, ends_begun, ends_of, ends_said_by, eq-eqb, false, false≢true, fences, filter, filter-append, first_of_one, has_number, inl, inr, is_affordable, is_dead, is_in_service, is_numbered, is_same, is_some, left_awaited, length, list_all, map, name_of, name_on, nat_eq, no_record, not, nothing_two, num, record_at, refl, said, says_is, served_goes_on, served_itself, served_other, served_waits, serves_grow, since, some_none, step_charge, still_none, subst, sym, take, take-append-drop, taken_by, this_one, true, unit_found, waiting_after, went_is, whole, without_ends, ℕ, ◌++◌, ◌+◌, ◌∙◌, ◌∷◌, ◌≡◌, ◌≤◌, ◌⊎◌}
 use Rattle.std.proofs.Common.{nat_lt}
-use Rattle.mscp_queue.specs.declared.report.Report.TheVariants as reports
-use Rattle.mscp_port.specs.declared.task.Task.TheVariants as tasks
 use Rattle.mscp_logged.proofs.Clear.{AreClear, IsGood, Ordered, is_ended, nothing_ordered, ordered_as, ordered_forgotten, ordered_stepped, ordered_taken, some_ended, unended}
 use Rattle.mscp_logged.proofs.Fences.{IsWaiting, serves_free}
 use Rattle.mscp_logged.proofs.Passes.{overtakes}
@@ -86,7 +84,7 @@ module _ {c : Settings} {K : Type 0} (call : Call) (old new : Port K) (aw : List
       by true = ordered_forgotten c xs new.controller.waiting (ends_of new.controller) new.decided.items x
       by false = subst (λ z. OrderedIn c new z) (sym e) x
 
-  died : Dies old new → So
+  pub died : Dies old new → So
   died d = ordered_as c _ [] new.controller.waiting [] (ends_of new.controller) new.decided.items new.decided.items
       (ap (λ (h : Holdings K). h.waiting) d.1.controller) (ap (λ (h : Holdings K). ends_of h) d.1.controller) refl
       (nothing_ordered c _ new.decided.items)
@@ -119,20 +117,13 @@ module _ {c : Settings} {Told : Verdict → Record → Type 0} {K : Type 0} (blo
   calm : IsNoReset (Next blocks action bytes)
   calm = record { texts = λ s xs ys. refl }
 
-  still : ends_begun old.outgoing new.outgoing ≡ [] → MayBegin old.controller new.controller
-      → new.decided ≡ old.decided → Then
-  still none may decided = unchanged (Next blocks action bytes) old new aw o calm none refl
-      (ap (λ (h : Holdings K). h.waiting) may) (ap (λ (h : Holdings K). ends_of h) may) (ap (λ d. d.items) decided)
-
   taken : TakesEnd old new → Then
   taken t =
       let e = t.out.0 in
       let es = drop 1 (ends_of old.controller) in
-      let is : ends_of old.controller ≡ e ∷ es = whole blocks action bytes old new aw k picks r t in
+      let is : ends_of old.controller ≡ e ∷ es = whole k t in
       became (Next blocks action bytes) old new aw o calm (filter (λ x. not (has_number e.reference x)) aw)
-      (ap (λ xs. without_ends xs aw ++ []) (begun blocks action bytes old new aw k picks r t)
-      ∙ append-nil (filter (λ x. not (has_number (num (told_end old e) 0 4) x)) aw)
-      ∙ ap (λ n. filter (λ x. not (has_number n x)) aw) (named blocks action bytes old new aw k picks r t))
+      (left_awaited k t)
       (ordered_as c (filter (λ x. not (has_number e.reference x)) aw) old.controller.waiting new.controller.waiting es
       (ends_of new.controller) (drop 1 old.decided.items) new.decided.items
       (ap (λ (h : Holdings K). h.waiting) t.controller) (ap (λ (h : Holdings K). ends_of h) t.controller) t.decided
@@ -140,26 +131,11 @@ module _ {c : Settings} {Told : Verdict → Record → Type 0} {K : Type 0} (blo
       (subst (λ xs. Ordered c aw old.controller.waiting xs old.decided.items) is o)))
 
   pub next_ordered : Then
-  next_ordered = elim (alive_or_dead old old.stage refl) [
-    | inr d ↦
-        let e = (r.dead d.0 d.1).1 in
-        still (ap (ends_begun old.outgoing) (ap (λ (q : Port K). q.outgoing) e)
-        ∙ begun_same blocks action bytes old new aw k picks r old.outgoing)
-        (ap (λ (q : Port K). q.controller) e
-        ∙ ap (λ b. record old.controller { begun = b }) (sym (ap (λ (q : Port K). q.controller.begun) e)))
-        (ap (λ (q : Port K). q.decided) e)
-    | inl alive ↦ elim (looks_or_not old) [
-      | inl looks ↦ elim (r.says.looks looks) [
-        | inl t ↦ taken t
-        | inr n ↦ still (ap (λ o. ends_begun o new.outgoing) n.nothing
-            ∙ news_none blocks action bytes old new aw k picks r new.volumes old.volumes old.controller.settings.units
-            (news_place old) new.outgoing n.out) n.controller n.decided
-      ]
-      | inr never ↦
-          let q = r.says.keeps never in
-          still (ap (ends_begun old.outgoing) q.outgoing
-          ∙ begun_same blocks action bytes old new aw k picks r old.outgoing) q.controller q.decided
-    ]
+  next_ordered = elim (says_is old new r.says) [
+    | inl x ↦ taken x.0
+    | inr n ↦ unchanged (Next blocks action bytes) old new aw o calm n.begun refl
+        (ap (λ (h : Holdings K). h.waiting) n.controller) (ap (λ (h : Holdings K). ends_of h) n.controller)
+        (ap (λ d. d.items) n.decided)
   ]
 
 -- ---- a step
@@ -264,69 +240,24 @@ module _ {c : Settings} {Told : Verdict → Record → Type 0} {K : Type 0} (pic
   calm_went : IsNoReset (Went outcome (Ok done))
   calm_went = record { texts = λ s xs ys. refl }
 
-  taken_step : (verdict : Verdict) → TakesBegun picks verdict old new → Behind
-  taken_step verdict takes = by old.controller.begun refl takes
-    where
-      g : Grows old new (decided_by verdict old new)
-      g = step_grows picks verdict old new takes f.long few
-
-      took : (name : Name) → old.controller.begun ≡ Some name → (result : Result Report NotBegun)
-          → Finishes picks (name_on name.connection name.reference) (block_told verdict) old.controller result
-          new.controller → HeedsStep name.connection verdict (end_brought result) old new → Behind
-      took name was (Err not_begun) x h = unchanged (Went outcome (Ok done)) old new aw o calm_went refl refl
-          (ap (λ (h : Holdings K). h.waiting) x.1) (ap (λ (h : Holdings K). ends_of h) x.1) h.decided
-      took name was (Ok reports.Idle) x h = absurd (none-some name (sym x.1.serves.1 ∙ was))
-      took name was (Ok (reports.Served other number unit lbn started seek ended)) x h =
-          became (Went outcome (Ok done)) old new aw o calm_went aw (append-nil aw)
-          (ordered_as c aw (waiting_after b d rs0 place) new.controller.waiting
-          (ends_of old.controller ++ brought_for r1.connection (end_given b d r1)) (ends_of new.controller)
-          (old.decided.items ++ map (decided_by verdict old new) (brought_for r1.connection (end_given b d r1)))
-          new.decided.items (ap (λ l. l.waiting) x.1.serves.1.left)
-          (ends ∙ ap (λ xs. ends_of old.controller ++ xs) brought)
-          (g.decided ∙ ap (λ xs. old.decided.items ++ map (decided_by verdict old new) xs)
-          (sym (come_so old new g.brought g.ends)
-          ∙ come_so old new (brought_for name.connection ended) ends ∙ brought))
-          (step_ordered old aw k f o b d old.controller.settings.budget place x.1.serves.1.next.servable
-          (decided_by verdict old new)))
-        where
-          place : ℕ
-          place = x.1.serves.0
-
-          rs0 : List Record
-          rs0 = old.controller.waiting
-
-          r1 : Record
-          r1 = record_at rs0 place
-
-          b : Block
-          b = block_told verdict
-
-          d : Drive
-          d = drive_at old.controller.drives rs0 place
-
-          is : name_of r1 ≡ name_on name.connection name.reference
-          is = served_name old.controller.begun (name_on name.connection name.reference) r1 x.0 x.1.serves.1.next.same
-
-          ends : ends_of new.controller ≡ ends_of old.controller ++ brought_for name.connection ended
-          ends = steps_bring picks name.connection name.reference b old.controller new.controller
-              (Ok (reports.Served other number unit lbn started seek ended)) x
-
-          brought : brought_for name.connection ended ≡ brought_for r1.connection (end_given b d r1)
-          brought = ap (λ y. brought_for name.connection (end_brought (Ok y))) x.1.serves.1.told
-              ∙ ap (λ (n : Name). brought_for n.connection (end_given b d r1)) (sym is)
-
-      by : (x : Option Name) → old.controller.begun ≡ x → MatchOption x (new ≡ record old { task = tasks.Free })
-          (λ name. TakesBlock picks name.connection name.reference verdict old new) → Behind
-      by None e h = unchanged (Went outcome (Ok done)) old new aw o calm_went refl refl
-          (ap (λ (q : Port K). q.controller.waiting) h) (ap (λ (q : Port K). ends_of q.controller) h)
-          (ap (λ (q : Port K). q.decided.items) h)
-      by (Some name) e h = took name e h.finished.0 h.finished.1 h.finished.2
+  serves_so : (verdict : Verdict) → Serves verdict old new → Behind
+  serves_so verdict s =
+      let d = drive_in old s.place in
+      let r = record_at old.controller.waiting s.place in
+      let brought = brought_for r.connection (end_served verdict old s.place) in
+      became (Went outcome (Ok done)) old new aw o calm_went aw (append-nil aw)
+      (ordered_as c aw (waiting_after (block_told verdict) d old.controller.waiting s.place) new.controller.waiting
+      (ends_of old.controller ++ brought) (ends_of new.controller)
+      (old.decided.items ++ map (decided_by verdict old new) brought) new.decided.items s.waiting s.ends
+      (serves_grow s f.long few).decided
+      (step_ordered old aw k f o (block_told verdict) d old.controller.settings.budget s.place s.servable
+      (decided_by verdict old new)))
 
   pub went_ordered : Behind
-  went_ordered = by old.task refl
-    where
-      by : (t : Task) → old.task ≡ t → Behind
-      by (tasks.Step verdict) at = taken_step verdict ((r.moves refl).step verdict at)
-      by tasks.Transfer at = taken_step (block_served old outcome (block_begun old)) ((r.moves refl).transfer at)
-      by t at = stays (Went outcome (Ok done)) old new aw o calm_went refl refl
-          (went_stays picks outcome old new t done at r refl)
+  went_ordered = elim (went_is picks outcome done old new r) [
+    | inl s ↦ serves_so s.0 s.2
+    | inr more ↦ elim more [
+      | inl n ↦ stays (Went outcome (Ok done)) old new aw o calm_went refl refl (inl n.0)
+      | inr d ↦ died (Went outcome (Ok done)) old new aw o calm_went d
+    ]
+  ]

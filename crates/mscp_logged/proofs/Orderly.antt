@@ -1,5 +1,5 @@
 -- No end of a port's passes a command that it has to wait for, over a whole list of calls.
-use Rattle.mscp_logged.proofs.Common.{Action, All, AllByRecursion, Answered, AnsweredCalls, At, Bool, Call, ControllersKeepThePromise, Decided, End, First, Fitting, Hardware, Holdings, IsMadeOf, IsNoReset, IsPassive, IsValid, KeepsPromise, Kept, List, Made, Next, None, Ok, Option, Own, Picking, Port, ReadsBytes, Record, Settings, Shape, Some, TakesEnd, Verdict, Volume, Wants, WasRead, Went, WriteIp, [], ap, arith, awaited, begun, begun_same, blocks, cond, drop, ends_begun, ends_of, ends_said_by, false, false≢true, few_ends, filter, find_cases, find_none, first_of_one, fitting, fresh, inl, inr, is_apart, is_numbered, is_some, kept, knows, looks_or_not, moves_data, named, nat_eq, nat_le, nat_lt, news_none, news_place, none-some, num, option_map, outstanding_of, own_answer, own_refusal, own_refused, own_text, passive_said, passive_stays, passive_taken, place_in, position, position_first, refl, same_Some, slice_get, some_none, subst, sym, told_end, true, unit_found, volume_at, volume_named, whole, ℕ, ◌%◌, ◌+◌, ◌<◌, ◌∙◌, ◌∷◌, ◌≡◌, ◌⊎◌}
+use Rattle.mscp_logged.proofs.Common.{Action, All, AllByRecursion, Answered, AnsweredCalls, At, Bool, Call, ControllersKeepThePromise, Decided, End, First, Fitting, Hardware, Holdings, IsMadeOf, IsNoReset, IsPassive, IsValid, KeepsPromise, Kept, List, Made, Next, None, Ok, Option, Own, Picking, Port, ReadsBytes, Record, Settings, Shape, Some, TakesEnd, Verdict, Volume, Wants, WasRead, Went, WriteIp, [], ap, arith, awaited, begun_end, blocks, cond, drop, ends_begun, ends_of, ends_said_by, false, false≢true, few_ends, filter, find_cases, find_none, first_of_one, fitting, fresh, inl, inr, is_apart, is_numbered, is_some, kept, knows, moves_data, named, nat_eq, nat_le, nat_lt, none-some, num, option_map, outstanding_of, own_answer, own_refusal, own_refused, own_text, passive_said, passive_stays, passive_taken, place_in, position, position_first, refl, said, same_Some, says_is, slice_get, some_none, subst, sym, told_end, true, unit_found, volume_at, volume_named, whole, ℕ, ◌%◌, ◌+◌, ◌<◌, ◌∙◌, ◌∷◌, ◌≡◌, ◌⊎◌}
 use Rattle.std.proofs.Common.{◌&&◌}
 use Rattle.mscp_logged.proofs.Clear.{IsClear, Ordered, clear_forgotten, ordered_as, nothing_ordered, unended, unended_none}
 use Rattle.mscp_logged.proofs.Fences.{IsWaiting, same_unit, unit_earlier}
@@ -23,10 +23,10 @@ module _ {c : Settings} {K : Type 0} (blocks : Bool) (action : Action) (bytes : 
   clear_of : (text : List ℕ) → TakesEnd old new → ends_begun old.outgoing new.outgoing ≡ text ∷ []
       → (is_apart (d.status % 32) ≡ true) ⊎ (overtakes (num text 0 4) aw ≡ false)
   clear_of text t said =
-      let is = whole blocks action bytes old new aw k picks r t in
+      let is = whole k t in
       let same : told_end old t.out.0 ≡ text =
-      (first_of_one (told_end old t.out.0) text [] (sym (begun blocks action bytes old new aw k picks r t) ∙ said)).0 in
-      by (sym (ap (λ x. num x 0 4) same) ∙ named blocks action bytes old new aw k picks r t)
+      (first_of_one (told_end old t.out.0) text [] (sym (begun_end old new t) ∙ said)).0 in
+      by (sym (ap (λ x. num x 0 4) same) ∙ named k t)
       (first_clear c aw old.controller.waiting t.out.0 (drop 1 (ends_of old.controller)) old.decided.items d some
       (subst (λ xs. Ordered c aw old.controller.waiting xs old.decided.items) is o))
     where
@@ -37,15 +37,9 @@ module _ {c : Settings} {K : Type 0} (blocks : Bool) (action : Action) (bytes : 
 
   pub said_clear : (text : List ℕ) → ends_begun old.outgoing new.outgoing ≡ text ∷ []
       → (is_apart (d.status % 32) ≡ true) ⊎ (overtakes (num text 0 4) aw ≡ false)
-  said_clear text said = elim (looks_or_not old) [
-    | inl looks ↦ elim (r.says.looks looks) [
-      | inl t ↦ clear_of text t said
-      | inr n ↦ absurd (none_said (sym (ap (λ o. ends_begun o new.outgoing) n.nothing
-          ∙ news_none blocks action bytes old new aw k picks r new.volumes old.volumes old.controller.settings.units
-          (news_place old) new.outgoing n.out) ∙ said))
-    ]
-    | inr never ↦ absurd (none_said (sym (ap (ends_begun old.outgoing) (r.says.keeps never).outgoing
-        ∙ begun_same blocks action bytes old new aw k picks r old.outgoing) ∙ said))
+  said_clear text said = elim (says_is old new r.says) [
+    | inl x ↦ clear_of text x.0 said
+    | inr n ↦ absurd (none_said (sym n.begun ∙ said))
   ]
     where
       none_said : [] ≡ text ∷ [] → ⊥

@@ -1,6 +1,6 @@
 -- The texts of the disk's ends that are still to come: of what goes out, and behind it of those that wait in the
 -- controller, each with what was decided of it. By each call more come behind them.
-use Rattle.mscp_logged.proofs.Common.{Action, Bool, Decided, End, Hardware, Holdings, IsNews, List, MayBegin, None, Option, Outgoing, Port, Shape, Some, TakesEnd, Wants, [], alive_or_dead, ap, append-nil, arith, drop, end_left, end_said, end_told, ends_begun, ends_of, inl, inr, length, looks_or_not, map, news_place, none-some, refl, same_Some, slice_get, sym, told_end, unit_found, zipped, ℕ, ◌++◌, ◌∙◌, ◌∷◌, ◌≡◌}
+use Rattle.mscp_logged.proofs.Common.{Action, Bool, Decided, End, Hardware, Holdings, List, None, Option, Outgoing, Port, Shape, Some, TakesEnd, Wants, [], ap, append-nil, arith, begun_end, drop, end_left, end_said, end_told, ends_begun, ends_of, inl, inr, length, map, none-some, refl, same_Some, says_is, slice_get, sym, told_end, unit_found, zipped, ℕ, ◌++◌, ◌∙◌, ◌∷◌, ◌≡◌}
 
 -- what waits, with what was decided of each
 module _ (h : Hardware) (units : List Shape) where
@@ -37,13 +37,6 @@ module _ (h : Hardware) (units : List Shape) where
     abbrev pub Comes : List (List ℕ) → Type 0
     Comes more = ends_begun old.outgoing new.outgoing ++ waiting new ≡ waiting old ++ more
 
-    begun_none : (o : Option Outgoing) → ends_begun o o ≡ []
-    begun_none None = refl
-    begun_none (Some x) = refl
-
-    pub still_begun : new.outgoing ≡ old.outgoing → ends_begun old.outgoing new.outgoing ≡ []
-    still_begun same = ap (ends_begun old.outgoing) same ∙ begun_none old.outgoing
-
     pub none_come : ends_begun old.outgoing new.outgoing ≡ [] → ends_of new.controller ≡ ends_of old.controller
         → new.decided.items ≡ old.decided.items → Comes []
     none_come none ends decided = ap (λ xs. xs ++ waiting new) none
@@ -77,40 +70,20 @@ module _ (h : Hardware) (units : List Shape) where
           ∙ ap (λ us. end_told e d (unit_found us e.unit) old.hardware) settings
           ∙ ap (end_told e d (unit_found units e.unit)) hardware
 
-      news_none : (volumes before : _) (place : Option ℕ) (o : Option Outgoing)
-          → IsNews old.controller.settings.units before place o volumes → ends_begun None o ≡ []
-      news_none volumes before place o n = grind (arith, none-some)
-
-      may : ends_begun old.outgoing new.outgoing ≡ [] → MayBegin old.controller new.controller
-          → new.decided ≡ old.decided → Comes []
-      may none begin decided =
-          none_come none (ap (λ (c : Holdings K). ends_of c) begin) (ap (λ d. d.items) decided)
-
       takes : TakesEnd old new → Comes []
       takes t =
           let e = t.out.0 in
           let x = taken (ends_of old.controller) old.decided.items long e t.out.1 in
-          ap (λ xs. xs ++ waiting new) (ap (λ o. ends_begun o new.outgoing) t.nothing
-          ∙ ap (ends_begun None) t.out.2 ∙ ap (λ y. y ∷ []) (text_is e x.0 x.1))
+          ap (λ xs. xs ++ waiting new) (begun_end old new t ∙ ap (λ y. y ∷ []) (text_is e x.0 x.1))
           ∙ ap (λ xs. text_with e x.0 ∷ xs) (ap (λ (c : Holdings K). texts_of (ends_of c) new.decided.items)
           t.controller ∙ ap (texts_of (drop 1 (ends_of old.controller))) t.decided)
           ∙ sym x.2 ∙ sym (append-nil (waiting old))
 
       pub next_comes : Comes []
-      next_comes = elim (alive_or_dead old old.stage refl) [
-        | inr d ↦
-            let e = (r.dead d.0 d.1).1 in
-            none_come (still_begun (ap (λ (q : Port K). q.outgoing) e))
-            (ap (λ (q : Port K). ends_of q.controller) e) (ap (λ (q : Port K). q.decided.items) e)
-        | inl alive ↦ elim (looks_or_not old) [
-          | inl looks ↦ elim (r.says.looks looks) [
-            | inl t ↦ takes t
-            | inr n ↦ may (ap (λ o. ends_begun o new.outgoing) n.nothing
-                ∙ news_none new.volumes old.volumes (news_place old) new.outgoing n.out) n.controller n.decided
-          ]
-          | inr never ↦
-              let q = r.says.keeps never in may (still_begun q.outgoing) q.controller q.decided
-        ]
+      next_comes = elim (says_is old new r.says) [
+        | inl x ↦ takes x.0
+        | inr n ↦
+            none_come n.begun (ap (λ (c : Holdings K). ends_of c) n.controller) (ap (λ d. d.items) n.decided)
       ]
 
 -- ---- with what goes out

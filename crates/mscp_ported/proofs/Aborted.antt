@@ -7,7 +7,7 @@ use Rattle.mscp_controller.specs.declared.entry.Sent.TheVariants as sents
 use Rattle.mscp_port.specs.declared.task.Task.TheVariants as tasks
 use Rattle.mscp_ported.proofs.Answering.{handed_so}
 use Rattle.mscp_ported.proofs.Coming.{come_so, ends_of}
-use Rattle.mscp_ported.proofs.Decided.{read_stays}
+use Rattle.mscp_ported.proofs.Staying.{read_stays}
 use Rattle.mscp_ported.proofs.Keeping.{are_owned}
 use Rattle.mscp_ported.proofs.Owning.{Own, and_false, number_of, parts_of}
 use Rattle.mscp_ported.proofs.Sole.{found_sole, none_passes}

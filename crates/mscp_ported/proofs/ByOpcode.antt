@@ -1,6 +1,6 @@
 -- Each end that goes out fits its message, over a whole list of calls.
 use Rattle.mscp_ported.proofs.Holding.{small_figure}
-use Rattle.mscp_ported.proofs.Untouched.{passive_buffers}
+use Rattle.mscp_ported.proofs.Stepping.{IsHow}
 use Rattle.mscp_ported.proofs.Common.{All, AllByRecursion, Answered, AnsweredCalls, Call, ControllersKeepThePromise, First, Hardware, Holdings, IsMadeOf, IsValid, KeepsPromise, List, Made, Name, Next, Ok, Outcome, Picking, Port, ReadsBytes, Record, Settings, Some, Verdict, WasRead, Went, WriteIp, [], ap, arith, awaited, ends_said_by, filter, find, fresh, has_name, has_number, is_of, length, num, numbers, numbers_ended, of, outstanding_of, refl, subst, sym, waiting_on, ℕ, ◌<◌, ◌∙◌, ◌∷◌, ◌≡◌}
 use Rattle.mscp_ported.proofs.Awaiting.{IsNoReset, Kept}
 use Rattle.mscp_ported.proofs.Coming.{ends_of, few_ends}
@@ -16,7 +16,6 @@ use Rattle.mscp_ported.proofs.Numbered.{some_none}
 use Rattle.mscp_ported.proofs.Opcodes.{IsSaid, next_fits, said_is, went_fits}
 use Rattle.mscp_ported.proofs.Promised.{knows}
 use Rattle.mscp_ported.proofs.Staying.{IsPassive, passive_stays}
-use Rattle.mscp_ported.proofs.Transferring.{IsHow}
 
 reads_before : (call : Call) (calls : List Call) → ReadsBytes (call ∷ calls) → ReadsBytes calls
 reads_before (WasRead bytes result) calls reads = reads.1
@@ -49,7 +48,6 @@ module _ {K : Type 0} (picks : Picking K) (c : Settings) (picker : K)
       → Fitting c Told p (awaited picks start p (call ∷ calls) a)
   passive_fits p call calls a is f = stays call a.0 p (awaited picks start a.0 calls a.1) f (calm call is)
       (passive_said call a.0 p is) (passive_taken call a.0 is) (passive_stays picks call a.0 p a.2 is)
-      (passive_buffers picks call a.0 p a.2 is)
     where
       calm : (call : Call) → IsPassive call → IsNoReset call
       calm WriteIp is = absurd is

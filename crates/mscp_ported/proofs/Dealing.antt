@@ -1,15 +1,16 @@
 -- What each call of a port deals with.
-use Rattle.mscp_ported.proofs.Common.{Action, AllByRecursion, Becomes, Bool, Call, Deals, Descriptor, End, Err, First, Hears, Holdings, IsEnding, IsOfKind, List, LookAgain, MayBegin, Next, None, Ok, Option, Outcome, Outgoing, Picking, Port, Protect, PutAside, ReadIp, Result, SeesText, SendFault, Sent, Shape, Some, TakesEnd, Task, TellsOf, Tick, Volume, VolumeCame, VolumeWent, Wants, WasRead, Went, WriteIp, WriteSa, [], accepted_by, accepted_text, accepts, answer_to_message, answered_to, ap, append-nil, arith, attention, begins, bytes_in, cond, drop, end_bytes, ends_begun, every_kept, false, filter, has_number, inl, inr, is_dead, is_none, is_ok, is_taken_text, looks_or_not, news_place, none-some, none_or_some, not, num, option_map, own_answer, own_end_of, refl, same_Some, since, slice_get, subst, sym, taken_by, told_end, true, volume_at, volume_named, without_ends, ℕ, ◌&&◌, ◌++◌, ◌<◌, ◌^◌, ◌∙◌, ◌∷◌, ◌≡◌, ◌≢◌, ◌≤◌, ◌⊎◌}
+use Rattle.mscp_ported.proofs.Common.{Action, AllByRecursion, Becomes, Bool, Call, Deals, Descriptor, End, Err, Hears, Holdings, IsEnding, IsOfKind, IsReadingText, IsSomeAnd, List, LookAgain, Next, None, Ok, Option, Outcome, Outgoing, Picking, Port, Protect, PutAside, ReadIp, Result, SeesText, SendFault, Sent, Shape, Some, TakesEnd, Task, TellsOf, Tick, Volume, VolumeCame, VolumeWent, Wants, WasRead, Went, WriteIp, WriteSa, [], accepted_by, accepted_text, accepts, answered_to, ap, append-nil, arith, attention, begins, blocks, bytes_in, cond, drop, end_bytes, end_kind, ends_begun, eqb-true, every_kept, false, filter, has_number, heard, heeded, inl, inr, is_dead, is_none, is_ok, is_taken_text, looks_or_not, news_place, none-some, none_or_some, not, num, option_map, own_answer, own_end_of, refl, same_Some, since, slice_get, subst, sym, taken_by, told_end, true, volume_at, volume_named, without_ends, ℕ, ◌&&◌, ◌++◌, ◌<◌, ◌^◌, ◌∙◌, ◌∷◌, ◌≡◌, ◌≢◌, ◌≤◌, ◌⊎◌}
 use Rattle.mscp_port.specs.declared.port.OutgoingKind.TheVariants as kinds
 use Rattle.mscp_port.specs.declared.task.Task.TheVariants as tasks
-use Rattle.mscp_ported.proofs.Answering.{handed_so, none_so, own_so}
+use Rattle.mscp_ported.proofs.Answering.{none_so, own_so}
 use Rattle.mscp_ported.proofs.Awaiting.{IsNoReset, IsSmall, Kept, lives_so, same_so}
 use Rattle.mscp_ported.proofs.Coming.{ends_of}
 use Rattle.mscp_ported.proofs.Decided.{passive_said}
 use Rattle.mscp_ported.proofs.Numbered.{AtEach, counted_in, end_awaited, takes_end}
 use Rattle.mscp_ported.proofs.Owning.{and_false}
 use Rattle.mscp_ported.proofs.Staying.{IsPassive}
-use Rattle.mscp_ported.proofs.Wanting.{alive_or_dead}
+use Rattle.mscp_ported.proofs.Reading.{taken_is}
+use Rattle.mscp_ported.proofs.Taking.{begun_end, begun_same, says_is}
 use Rattle.mscp_ported.proofs.Whole.{told_counts, told_number, told_whole}
 
 -- ---- what goes out
@@ -101,18 +102,10 @@ module _ {K : Type 0} (bytes : List ℕ) (done : Unit) (old new : Port K) (aw : 
         ≡ cond (accepts (own_end_of old foreign bytes) old.outgoing (answered_to old bytes)) (bytes ∷ []) []
     accepted_is = ap (λ t. accepted_text old t bytes) at
 
-    taken_is : taken_by (WasRead bytes (Ok done)) old
-        ≡ cond (is_none (own_answer foreign (volume_named old bytes) bytes) && is_ok (answered_to old bytes))
-        (bytes ∷ []) []
-    taken_is = ap (λ t. cond (is_taken_text old bytes t) (bytes ∷ []) []) at
-        ∙ ap (λ b. cond (is_none (own_answer foreign (volume_named old bytes) bytes)
-        && is_ok (answer_to_message First old.controller b)) (bytes ∷ []) [])
-        (sym (handed_so old.controller.settings.units bytes))
-
     own_taken : (e : End) → own_end_of old foreign bytes ≡ Some e → taken_by (WasRead bytes (Ok done)) old ≡ []
     own_taken e own =
         let o = own_so foreign (volume_named old bytes) bytes e own in
-        taken_is ∙ ap (λ b. cond (is_none b && is_ok (answered_to old bytes)) (bytes ∷ []) []) o.1
+        taken_is bytes done old new r slot size foreign at ∙ ap (λ b. cond (is_none b && is_ok (answered_to old bytes)) (bytes ∷ []) []) o.1
 
     own_deals : (e : End) → own_end_of old foreign bytes ≡ Some e → (o : Option Outgoing) → old.outgoing ≡ o → Said_so
     own_deals e own None none =
@@ -153,7 +146,7 @@ module _ {K : Type 0} (bytes : List ℕ) (done : Unit) (old new : Port K) (aw : 
           ∙ heeded_out s));
       accepted = accepted_is ∙ ap (λ x. cond (accepts x old.outgoing (answered_to old bytes)) (bytes ∷ []) []) none
           ∙ ap (λ x. cond (accepts None old.outgoing x) (bytes ∷ []) []) answer;
-      taken = taken_is ∙ ap (λ x. cond (is_none x && is_ok (answered_to old bytes)) (bytes ∷ []) [])
+      taken = taken_is bytes done old new r slot size foreign at ∙ ap (λ x. cond (is_none x && is_ok (answered_to old bytes)) (bytes ∷ []) [])
           (none_so foreign (volume_named old bytes) bytes none) ∙ ap (λ x. cond (is_ok x) (bytes ∷ []) []) answer;
       ended = refl;
     }))))
@@ -165,7 +158,7 @@ module _ {K : Type 0} (bytes : List ℕ) (done : Unit) (old new : Port K) (aw : 
         (begins_same old.outgoing new.outgoing (inl (ap (λ (q : Port K). q.outgoing) (sees.waits fault none answer))))
         (accepted_is ∙ ap (λ x. cond (accepts x old.outgoing (answered_to old bytes)) (bytes ∷ []) []) none
         ∙ ap (λ x. cond (accepts None old.outgoing x) (bytes ∷ []) []) answer)
-        (taken_is ∙ ap (λ x. cond x (bytes ∷ []) []) (and_false (is_none (own_answer foreign (volume_named old bytes)
+        (taken_is bytes done old new r slot size foreign at ∙ ap (λ x. cond x (bytes ∷ []) []) (and_false (is_none (own_answer foreign (volume_named old bytes)
         bytes)) (is_ok (answered_to old bytes)) (ap is_ok answer)))
 
     text_deals : Said_so
@@ -210,6 +203,38 @@ head_so : (es : List End) (e : End) → slice_get es 0 ≡ Some e → es ≡ e �
 head_so [] e h = absurd (none-some e h)
 head_so (x ∷ es) e h = ap (λ y. y ∷ es) (same_Some x e h)
 
+-- the end that is taken
+module _ {K : Type 0} {old new : Port K} {aw : List (List ℕ)} (k : Kept old aw) (t : TakesEnd old new) where
+  abbrev e : End
+  e = t.out.0
+
+  abbrev es : List End
+  es = drop 1 (ends_of old.controller)
+
+  pub whole : ends_of old.controller ≡ e ∷ es
+  whole = head_so (ends_of old.controller) e t.out.1
+
+  at : AtEach aw old.controller.waiting (e ∷ es)
+  at = subst (λ xs. AtEach aw old.controller.waiting xs) whole k.each
+
+  pub own : (text : List ℕ) × (filter (has_number e.reference) aw ≡ text ∷ []) × (counted_in e.body ≤ bytes_in text)
+  own = end_awaited aw old.controller.waiting e es at
+
+  small : e.reference < 2 ^ 32
+  small =
+      let x = one_of IsSmall (has_number e.reference) aw own.0 k.small own.1 in
+      subst (λ n. n < 2 ^ 32) (Rattle.mscp_port.proofs.Common.eqb-true (num own.0 0 4) e.reference x.1) x.0
+
+  pub named : num (told_end old e) 0 4 ≡ e.reference
+  named = told_number old e small
+
+  -- its message is awaited no more
+  pub left_awaited : without_ends (ends_begun old.outgoing new.outgoing) aw ++ []
+      ≡ filter (λ x. not (has_number e.reference x)) aw
+  left_awaited = ap (λ xs. without_ends xs aw ++ []) (begun_end old new t)
+      ∙ append-nil (filter (λ x. not (has_number (num (told_end old e) 0 4) x)) aw)
+      ∙ ap (λ n. filter (λ x. not (has_number n x)) aw) named
+
 -- a call by which something is wanted: what there is then, and what it deals with
 module _ {K : Type 0} (blocks : Bool) (action : Action) (bytes : List ℕ) (old new : Port K) (aw : List (List ℕ))
     (k : Kept old aw) (picks : List _ → ℕ → Type 0) (r : Wants picks blocks old action new) where
@@ -223,91 +248,38 @@ module _ {K : Type 0} (blocks : Bool) (action : Action) (bytes : List ℕ) (old 
   stage : new.stage ≡ old.stage
   stage = ap (λ (q : Port K). q.stage) r.frame
 
-  pub begun_same : (o : Option Outgoing) → ends_begun o o ≡ []
-  begun_same None = refl
-  begun_same (Some o) = refl
-
-  pub news_none : (volumes before : List Volume) (units : List Shape) (place : Option ℕ) (o : Option Outgoing)
-      → TellsOf units before place o volumes → ends_begun None o ≡ []
-  news_none volumes before units place o n = grind (arith, none-some)
-
-  still : ends_begun old.outgoing new.outgoing ≡ [] → MayBegin old.controller new.controller → After_it
-  still none may = same_so (Next blocks action bytes) old new aw k calm none refl
-      (ap (λ (h : Holdings K). h.waiting) may) (ap (λ (h : Holdings K). ends_of h) may)
-      (λ d. sym (ap is_dead stage) ∙ d)
-
-  module _ (t : TakesEnd old new) where
-    abbrev e : End
-    e = t.out.0
-
-    abbrev es : List End
-    es = drop 1 (ends_of old.controller)
-
-    pub whole : ends_of old.controller ≡ e ∷ es
-    whole = head_so (ends_of old.controller) e t.out.1
-
-    at : AtEach aw old.controller.waiting (e ∷ es)
-    at = subst (λ xs. AtEach aw old.controller.waiting xs) whole k.each
-
-    pub own : (text : List ℕ) × (filter (has_number e.reference) aw ≡ text ∷ []) × (counted_in e.body ≤ bytes_in text)
-    own = end_awaited aw old.controller.waiting e es at
-
-    small : e.reference < 2 ^ 32
-    small =
-        let x = one_of IsSmall (has_number e.reference) aw own.0 k.small own.1 in
-        subst (λ n. n < 2 ^ 32) (Rattle.mscp_port.proofs.Common.eqb-true (num own.0 0 4) e.reference x.1) x.0
-
-    pub named : num (told_end old e) 0 4 ≡ e.reference
-    named = told_number old e small
-
-    pub begun : ends_begun old.outgoing new.outgoing ≡ told_end old e ∷ []
-    begun = ap (λ o. ends_begun o new.outgoing) t.nothing ∙ ap (ends_begun None) t.out.2
-
-    taken_end : is_dead old.stage ≡ false → After_it
-    taken_end lives = lives_so (Next blocks action bytes) old new aw k calm
-        (filter (λ x. not (has_number e.reference x)) aw) (ap is_dead stage ∙ lives)
-        (ap (λ xs. without_ends xs aw ++ []) begun
-        ∙ append-nil (filter (λ x. not (has_number (num (told_end old e) 0 4) x)) aw)
-        ∙ ap (λ n. filter (λ x. not (has_number n x)) aw) named)
-        (subst (λ (h : Holdings K). AtEach (filter (λ x. not (has_number e.reference x)) aw) h.waiting (ends_of h))
-        (sym t.controller) (takes_end aw old.controller.waiting e es at))
-        (every_kept IsSmall (λ x. not (has_number e.reference x)) aw k.small)
-
-    ends_it : IsOfKind e → IsEnding aw (Next blocks action bytes) old new
-    ends_it shaped = record {
-      out = record { bytes = record { items = told_end old e }; kind = kinds.End };
-      nothing = t.nothing;
-      begun = t.out.2;
-      kind = refl;
-      accepted = refl;
-      taken = refl;
-      ended = begun;
-      message = own.0;
-      only = ap (λ n. filter (has_number n) aw) named ∙ own.1;
-      counts = told_counts old e (bytes_in own.0) shaped own.2;
-      whole = told_whole old e shaped;
-    }
-
   -- after which something is kept
   pub next_so : After_it
-  next_so = elim (alive_or_dead old old.stage refl) [
-    | inr d ↦
-        let e = (r.dead d.0 d.1).1 in
-        still (ap (ends_begun old.outgoing) (ap (λ (q : Port K). q.outgoing) e) ∙ begun_same old.outgoing)
-        (ap (λ (q : Port K). q.controller) e
-        ∙ ap (λ b. record old.controller { begun = b }) (sym (ap (λ (q : Port K). q.controller.begun) e)))
-    | inl alive ↦ elim (looks_or_not old) [
-      | inl looks ↦ elim (r.says.looks looks) [
-        | inl t ↦ taken_end t (ap is_dead looks.up)
-        | inr n ↦ still (ap (λ o. ends_begun o new.outgoing) n.nothing
-            ∙ news_none new.volumes old.volumes old.controller.settings.units (news_place old) new.outgoing n.out)
-            n.controller
-      ]
-      | inr never ↦
-          let q = r.says.keeps never in
-          still (ap (ends_begun old.outgoing) q.outgoing ∙ begun_same old.outgoing) q.controller
-    ]
+  next_so = elim (says_is old new r.says) [
+    | inl x ↦
+        let t = x.0 in
+        let e = t.out.0 in
+        lives_so (Next blocks action bytes) old new aw k calm (filter (λ x. not (has_number e.reference x)) aw)
+        (ap is_dead (stage ∙ x.1)) (left_awaited k t)
+        (subst (λ (h : Holdings K). AtEach (filter (λ x. not (has_number e.reference x)) aw) h.waiting (ends_of h))
+        (sym t.controller) (takes_end aw old.controller.waiting e (drop 1 (ends_of old.controller)) (at k t)))
+        (every_kept IsSmall (λ x. not (has_number e.reference x)) aw k.small)
+    | inr n ↦ same_so (Next blocks action bytes) old new aw k calm n.begun refl
+        (ap (λ (h : Holdings K). h.waiting) n.controller) (ap (λ (h : Holdings K). ends_of h) n.controller)
+        (λ d. sym (ap is_dead stage) ∙ d)
   ]
+
+  ends_it : (t : TakesEnd old new) → IsOfKind t.out.0 → IsEnding aw (Next blocks action bytes) old new
+  ends_it t shaped =
+      let e = t.out.0 in
+      record {
+        out = record { bytes = record { items = told_end old e }; kind = kinds.End };
+        nothing = t.nothing;
+        begun = t.out.2;
+        kind = refl;
+        accepted = refl;
+        taken = refl;
+        ended = begun_end old new t;
+        message = (own k t).0;
+        only = ap (λ n. filter (has_number n) aw) (named k t) ∙ (own k t).1;
+        counts = told_counts old e (bytes_in (own k t).0) shaped (own k t).2;
+        whole = told_whole old e shaped;
+      }
 
   quiet_next : (new.outgoing ≡ old.outgoing) → Deals aw (Next blocks action bytes) old new
   quiet_next same = inl (record {

@@ -1,12 +1,13 @@
 -- Each end goes out with what was decided of it as it came.
-use Rattle.mscp_ported.proofs.Common.{Answered, AnsweredCalls, Bool, Call, Commands, ControllersKeepThePromise, Dies, End, Err, First, Hardware, Hears, Holdings, IsAlive, IsAsNew, IsMadeOf, IsReadingText, IsValid, KeepsPromise, Leaving, List, Made, MatchOption, Name, Next, None, Ok, Option, Outcome, Outgoing, Picking, Port, Responses, Settings, Shape, Side, Some, Stage, TakesBegun, TakesBlock, Task, Verdict, WasRead, Went, WriteIp, [], answer_left, ap, append-nil, arith, block_begun, block_served, came, came_by, come, cond, end_text, ends_begun, ends_said, ends_said_by, false, fresh, header_fault, inl, inr, is_dead, is_owned, length, map, none-some, num, of, read_size, refl, since, step_left, step_told, subst, sym, true, verdict_in, ℕ, ◌++◌, ◌∙◌, ◌∷◌, ◌≡◌, ◌≤◌}
+use Rattle.mscp_ported.proofs.Common.{Answered, AnsweredCalls, Bool, Call, ControllersKeepThePromise, Dies, End, Err, First, Hardware, Holdings, IsAlive, IsMadeOf, IsValid, KeepsPromise, Leaving, List, Made, Next, None, Ok, Option, Outcome, Outgoing, Picking, Port, Settings, Shape, Some, Stage, Verdict, WasRead, Went, WriteIp, [], answer_left, ap, append-nil, arith, block_begun, blocks, came, came_by, come, cond, end_text, ends_begun, ends_said, ends_said_by, false, fresh, inl, inr, is_dead, length, map, of, refl, since, step_left, subst, sym, true, verdict_in, ℕ, ◌++◌, ◌∙◌, ◌∷◌, ◌≡◌, ◌≤◌}
 use Rattle.mscp_port.specs.declared.stage.Stage.TheVariants as stages
-use Rattle.mscp_port.specs.declared.task.Task.TheVariants as tasks
 use Rattle.mscp_ported.proofs.Coming.{ends_of, few_ends}
 use Rattle.mscp_ported.proofs.Ending.{Ends, Grows, grows, left_with, none_come, none_left, stays, zip_ends, zipped}
-use Rattle.mscp_ported.proofs.Leaving.{goes_out, step_grows, text_grows}
+use Rattle.mscp_ported.proofs.Leaving.{goes_out}
+use Rattle.mscp_ported.proofs.Reading.{answer_grows, heard_same, read_is}
+use Rattle.mscp_ported.proofs.Stepping.{IsHow, serves_grow, served_stage, went_is}
 use Rattle.mscp_ported.proofs.Promised.{Knows, knows}
-use Rattle.mscp_ported.proofs.Staying.{IsPassive, Stays, passive_stays, went_stays}
+use Rattle.mscp_ported.proofs.Staying.{IsPassive, Stays, alike, same_as, passive_stays}
 use Rattle.mscp_ported.proofs.Tables.{answer_by, answer_so, decided_by, step_fields, verdict_so}
 use Rattle.mscp_ported.proofs.Wanting.{alive_or_dead}
 
@@ -30,7 +31,7 @@ pub passive_said : {K : Type 0} (call : Call) (old new : Port K) → IsPassive c
 passive_said (Next blocks action bytes) old new is = absurd is
 passive_said call old new is = refl
 
-is_alive : {K : Type 0} (p : Port K) → IsAlive p → is_dead p.stage ≡ false
+pub is_alive : {K : Type 0} (p : Port K) → IsAlive p → is_dead p.stage ≡ false
 is_alive p alive = by p.stage refl
   where
     by : (s : Stage) → p.stage ≡ s → is_dead p.stage ≡ false
@@ -88,53 +89,6 @@ module _ {K : Type 0} (h : Hardware) (units : List Shape) (call : Call) (old new
       ∙ ap (λ b. cond b [] (ys ++ ends_said_by call old new)) alive ∙ ap (λ zs. ys ++ zs) none ∙ append-nil ys)
       (grows h units old new xs ys k.ends f g r same alive) hardware
 
--- ---- what was read
-
--- a slot, the slot in front, or a header
-pub read_stays : {K : Type 0} (bytes : List ℕ) (done : Unit) (old new : Port K) → Hears bytes old (Ok done) new
-    → (IsReadingText old.task → ⊥) → Stays old new
-read_stays {K} bytes done old new r other = by old.task refl
-  where
-    same_so : new.decided ≡ old.decided → Stays old new
-    same_so decided = elim (r.nothing_else other) [
-      | inl same ↦ elim r.frame [
-        | inl e ↦ inl (
-          same,
-          decided,
-          ap (λ (p : Port K). p.hardware) e,
-          λ d. sym (ap is_dead (ap (λ (p : Port K). p.stage) e)) ∙ d,
-        )
-        | inr d ↦ inr d
-      ]
-      | inr d ↦ inr d
-    ]
-
-    slot_decided : (side : Side) → old.task ≡ tasks.Slot side → new.decided ≡ old.decided
-    slot_decided Responses at = cases (is_owned (num bytes 0 4)) ((r.sees refl).slot Responses at)
-      where
-        cases : (b : Bool) → new ≡ cond b (record old { task = tasks.Packet (record { word = num bytes 0 4 }) })
-            (record old { is_full = true; task = tasks.Free }) → new.decided ≡ old.decided
-        cases true e = ap (λ (p : Port K). p.decided) e
-        cases false e = ap (λ (p : Port K). p.decided) e
-    slot_decided Commands at = cases (is_owned (num bytes 0 4)) ((r.sees refl).slot Commands at)
-      where
-        cases : (b : Bool) → new ≡ cond b (record old { task = tasks.Header (record { word = num bytes 0 4 }) })
-            (record old { is_polled = false; task = tasks.Free }) → new.decided ≡ old.decided
-        cases true e = ap (λ (p : Port K). p.decided) e
-        cases false e = ap (λ (p : Port K). p.decided) e
-
-    header_or : (t : Task) (o : Option ℕ)
-        → MatchOption o (new ≡ record old { task = t }) (λ code. IsAsNew (stages.Dead code) old new) → Stays old new
-    header_or t None e = same_so (ap (λ (p : Port K). p.decided) e)
-    header_or t (Some code) n = inr (code, n)
-
-    by : (task : Task) → old.task ≡ task → Stays old new
-    by (tasks.Slot side) at = same_so (slot_decided side at)
-    by (tasks.Neighbour side) at = same_so (ap (λ (p : Port K). p.decided) ((r.sees refl).neighbour side at))
-    by (tasks.Header slot) at = header_or _ (header_fault (num bytes 0 4)) ((r.sees refl).header slot at)
-    by (tasks.Text slot size foreign) at = absurd (other (subst (λ x. IsReadingText x) (sym at) tt))
-    by task at = absurd (none-some (length bytes) (sym (ap read_size at) ∙ r.only refl))
-
 -- ---- the law
 
 module _ {K : Type 0} (picks : Picking K) (c : Settings) (picker : K)
@@ -183,12 +137,7 @@ module _ {K : Type 0} (picks : Picking K) (c : Settings) (picker : K)
         let e = (a.2.0.dead d.0 d.1).1 in
         stays_so hardware c.units (Next blocks action bytes) a.0 p xs ys k calm refl
         (ap (ends_begun a.0.outgoing) (ap (λ (q : Port K). q.outgoing) e) ∙ begun_same a.0.outgoing)
-        (inl (
-          ap (λ (q : Port K). q.controller) e,
-          ap (λ (q : Port K). q.decided) e,
-          ap (λ (q : Port K). q.hardware) e,
-          λ dead. sym (ap is_dead (ap (λ (q : Port K). q.stage) e)) ∙ dead,
-        ))
+        (same_as e (alike a.0))
   ]
     where
       xs : List Leaving
@@ -204,10 +153,28 @@ module _ {K : Type 0} (picks : Picking K) (c : Settings) (picker : K)
       begun_same None = refl
       begun_same (Some o) = refl
 
+  -- while there is no fatal error
+  still_alive : (old new : Port K) → ((code : ℕ) → old.stage ≡ stages.Dead code → ⊥)
+      → (is_dead new.stage ≡ true → is_dead old.stage ≡ true) → is_dead new.stage ≡ false
+  still_alive old new alive dead = by (is_dead new.stage) dead
+    where
+      by : (b : Bool) → (b ≡ true → is_dead old.stage ≡ true) → b ≡ false
+      by true d = absurd (search (arith, d refl, is_alive old alive))
+      by false d = refl
+
   read_kept : (p : Port K) (calls : List Call) (bytes : List ℕ) (done : Unit)
       (a : Answered picks start (WasRead bytes (Ok done) ∷ calls) p)
       → Kept a.0 calls a.1 → Kept p (WasRead bytes (Ok done) ∷ calls) a
-  read_kept p calls bytes done a k = by a.0.task refl
+  read_kept p calls bytes done a k = elim (read_is bytes done a.0 p a.2) [
+    | inl s ↦ grown (none_come a.0 p (answer_by a.0 p) (ap (λ h. ends_of h) s.0.0) (ap (λ d. d.items) s.0.1)) s.0.3 s.0.2
+    | inr more ↦ elim more [
+      | inl g ↦ grown (elim g.how [
+        | inl q ↦ none_come a.0 p (answer_by a.0 p) (ap (λ h. ends_of h) q.holds) q.sends.decided
+        | inr x ↦ answer_grows x k.ends.long
+      ]) (λ d. sym (ap is_dead (heard_same g).0) ∙ d) (heard_same g).1
+      | inr d ↦ dies_so hardware c.units (WasRead bytes (Ok done)) a.0 p xs ys k calm d
+    ]
+  ]
     where
       xs : List Leaving
       xs = came picks start a.0 calls a.1
@@ -218,54 +185,26 @@ module _ {K : Type 0} (picks : Picking K) (c : Settings) (picker : K)
       calm : IsNoReset (WasRead bytes (Ok done))
       calm = record { came = λ s xs ys. refl; said = λ s xs ys. refl }
 
-      lives : is_dead a.0.stage ≡ false
-      lives = is_alive a.0 (λ code e. search (arith, a.2.dead code e))
-
-      others : (IsReadingText a.0.task → ⊥) → Kept p (WasRead bytes (Ok done) ∷ calls) a
-      others other = elim (read_stays bytes done a.0 p a.2 other) [
-        | inl same ↦ grows_so hardware c.units (WasRead bytes (Ok done)) a.0 p xs ys k calm (answer_by a.0 p)
-            (answer_left a.0 p)
-            (none_come a.0 p (answer_by a.0 p) (ap (λ h. ends_of h) same.0) (ap (λ d. d.items) same.1))
-            (λ e. ap (λ f. record { end = e; fields = f }) (answer_so a.0 p e)) (still same.3) refl refl same.2
-        | inr d ↦ dies_so hardware c.units (WasRead bytes (Ok done)) a.0 p xs ys k calm d
-      ]
-        where
-          still : (is_dead p.stage ≡ true → is_dead a.0.stage ≡ true) → is_dead p.stage ≡ false
-          still f = cases (is_dead p.stage) f
-            where
-              cases : (b : Bool) → (b ≡ true → is_dead a.0.stage ≡ true) → b ≡ false
-              cases true g = absurd (search (arith, g refl, lives))
-              cases false g = refl
-
-      by : (task : Task) → a.0.task ≡ task → Kept p (WasRead bytes (Ok done) ∷ calls) a
-      by (tasks.Text slot size foreign) at = elim a.2.frame [
-        | inl e ↦ grows_so hardware c.units (WasRead bytes (Ok done)) a.0 p xs ys k calm (answer_by a.0 p)
-            (answer_left a.0 p)
-            (text_grows slot size foreign bytes done a.0 p at a.2 k.ends.long)
-            (λ e. ap (λ f. record { end = e; fields = f }) (answer_so a.0 p e))
-            (ap is_dead (ap (λ (q : Port K). q.stage) e) ∙ lives) refl refl (ap (λ (q : Port K). q.hardware) e)
-        | inr d ↦ dies_so hardware c.units (WasRead bytes (Ok done)) a.0 p xs ys k calm d
-      ]
-      by task at = others (λ h. subst (λ x. IsReadingText x) at h)
-
-  -- a step that is told of keeps stage and hardware
-  pub step_frame : (verdict : Verdict) (old new : Port K) → TakesBegun (picks old.controller.picker) verdict old new
-      → (new.stage ≡ old.stage) × (new.hardware ≡ old.hardware)
-  step_frame verdict old new takes = by old.controller.begun takes
-    where
-      by : (o : Option Name) → MatchOption o (new ≡ record old { task = tasks.Free })
-          (λ name. TakesBlock (picks old.controller.picker) name.connection name.reference verdict old new)
-          → (new.stage ≡ old.stage) × (new.hardware ≡ old.hardware)
-      by None e = (ap (λ (q : Port K). q.stage) e, ap (λ (q : Port K). q.hardware) e)
-      by (Some name) b = (
-        ap (λ (q : Port K). q.stage) b.finished.2.frame,
-        ap (λ (q : Port K). q.hardware) b.finished.2.frame,
-      )
+      grown : Grows a.0 p (answer_by a.0 p) → (is_dead p.stage ≡ true → is_dead a.0.stage ≡ true)
+          → p.hardware ≡ a.0.hardware → Kept p (WasRead bytes (Ok done) ∷ calls) a
+      grown g dead = grows_so hardware c.units (WasRead bytes (Ok done)) a.0 p xs ys k calm (answer_by a.0 p)
+          (answer_left a.0 p) g (λ e. ap (λ f. record { end = e; fields = f }) (answer_so a.0 p e))
+          (still_alive a.0 p (λ code e. search (arith, a.2.dead code e)) dead) refl refl
 
   went_kept : (p : Port K) (calls : List Call) (outcome : Outcome) (done : Unit)
       (a : Answered picks start (Went outcome (Ok done) ∷ calls) p)
       → Kept a.0 calls a.1 → Kept p (Went outcome (Ok done) ∷ calls) a
-  went_kept p calls outcome done a k = by a.0.task refl
+  went_kept p calls outcome done a k = elim (went_is (picks a.0.controller.picker) outcome done a.0 p a.2) [
+    | inl s ↦ grown s.0 (verdict_is s.0 s.1)
+        (serves_grow s.2 k.ends.long (few p (Went outcome (Ok done) ∷ calls) a))
+        (λ d. sym (ap is_dead (served_stage s.2)) ∙ d) (ap (λ (q : Port K). q.hardware) s.2.heeds.frame)
+    | inr more ↦ elim more [
+      | inl n ↦ grown (verdict_in a.0 outcome a.0.task) refl
+          (none_come a.0 p (decided_by (verdict_in a.0 outcome a.0.task) a.0 p) (ap (λ h. ends_of h) n.0.0)
+          (ap (λ d. d.items) n.0.1)) n.0.3 n.0.2
+      | inr d ↦ dies_so hardware c.units (Went outcome (Ok done)) a.0 p xs ys k calm d
+    ]
+  ]
     where
       xs : List Leaving
       xs = came picks start a.0 calls a.1
@@ -276,43 +215,19 @@ module _ {K : Type 0} (picks : Picking K) (c : Settings) (picker : K)
       calm : IsNoReset (Went outcome (Ok done))
       calm = record { came = λ s xs ys. refl; said = λ s xs ys. refl }
 
-      lives : is_dead a.0.stage ≡ false
-      lives = is_alive a.0 (λ code e. search (arith, a.2.dead code e))
+      verdict_is : (verdict : Verdict) → IsHow a.0 outcome verdict → verdict_in a.0 outcome a.0.task ≡ verdict
+      verdict_is verdict (inl at) = ap (verdict_in a.0 outcome) at
+      verdict_is verdict (inr h) =
+          ap (verdict_in a.0 outcome) h.0 ∙ sym (verdict_so a.0 outcome (block_begun a.0)) ∙ sym h.1
 
-      step_so : (verdict : Verdict) → verdict_in a.0 outcome a.0.task ≡ verdict
-          → TakesBegun (picks a.0.controller.picker) verdict a.0 p → Kept p (Went outcome (Ok done) ∷ calls) a
-      step_so verdict is takes =
-          let f = step_frame verdict a.0 p takes in
-          grows_so hardware c.units (Went outcome (Ok done)) a.0 p xs ys k calm (decided_by verdict a.0 p)
-          (step_left verdict a.0 p)
-          (step_grows (picks a.0.controller.picker) verdict a.0 p takes k.ends.long
-          (few p (Went outcome (Ok done) ∷ calls) a))
-          (λ e. ap (λ f. record { end = e; fields = f }) (step_fields verdict a.0 p e)) (ap is_dead f.0 ∙ lives)
-          (ap (λ v. map (step_left v a.0 p) (come a.0 p)) is) refl f.1
-
-      others : (task : Task) → a.0.task ≡ task → step_told a.0 outcome task ≡ None
-          → Kept p (Went outcome (Ok done) ∷ calls) a
-      others task at none = elim (went_stays (picks a.0.controller.picker) outcome a.0 p task done at a.2 none) [
-        | inl same ↦ grows_so hardware c.units (Went outcome (Ok done)) a.0 p xs ys k calm
-            (decided_by (verdict_in a.0 outcome a.0.task) a.0 p) (step_left (verdict_in a.0 outcome a.0.task) a.0 p)
-            (none_come a.0 p (decided_by (verdict_in a.0 outcome a.0.task) a.0 p) (ap (λ h. ends_of h) same.0)
-            (ap (λ d. d.items) same.1))
-            (λ e. ap (λ f. record { end = e; fields = f }) (step_fields (verdict_in a.0 outcome a.0.task) a.0 p e))
-            (still (is_dead p.stage) same.3) refl refl same.2
-        | inr d ↦ dies_so hardware c.units (Went outcome (Ok done)) a.0 p xs ys k calm d
-      ]
-        where
-          still : (b : Bool) → (b ≡ true → is_dead a.0.stage ≡ true) → b ≡ false
-          still true g = absurd (search (arith, g refl, lives))
-          still false g = refl
-
-      by : (task : Task) → a.0.task ≡ task → Kept p (Went outcome (Ok done) ∷ calls) a
-      by (tasks.Step verdict) at = step_so verdict (ap (verdict_in a.0 outcome) at) ((a.2.moves refl).step verdict at)
-      by tasks.Transfer at =
-          step_so (block_served a.0 outcome (block_begun a.0))
-          (ap (verdict_in a.0 outcome) at ∙ sym (verdict_so a.0 outcome (block_begun a.0)))
-          ((a.2.moves refl).transfer at)
-      by task at = others task at refl
+      grown : (verdict : Verdict) → verdict_in a.0 outcome a.0.task ≡ verdict
+          → Grows a.0 p (decided_by verdict a.0 p) → (is_dead p.stage ≡ true → is_dead a.0.stage ≡ true)
+          → p.hardware ≡ a.0.hardware → Kept p (Went outcome (Ok done) ∷ calls) a
+      grown verdict is g dead = grows_so hardware c.units (Went outcome (Ok done)) a.0 p xs ys k calm
+          (decided_by verdict a.0 p) (step_left verdict a.0 p) g
+          (λ e. ap (λ f. record { end = e; fields = f }) (step_fields verdict a.0 p e))
+          (still_alive a.0 p (λ code e. search (arith, a.2.dead code e)) dead)
+          (ap (λ v. map (step_left v a.0 p) (come a.0 p)) is) refl
 
   pub kept : (p : Port K) (calls : List Call) (a : Answered picks start calls p) → Kept p calls a
   kept p [] a = record {

@@ -1,5 +1,5 @@
 -- Each end that waits fits the message whose end it is, after each call of a port.
-use Rattle.mscp_ported.proofs.Common.{AllByRecursion, Bool, Buffer, Call, Decided, Dies, End, First, Holdings, Leaving, List, Port, Record, Settings, Verdict, [], ap, append-nil, arith, cond, ends_said_by, every_append, false, filter, inl, inr, is_dead, is_numbered, is_of, length, length-append, length-map, map, refl, since, subst, sym, taken_by, true, without_ends, ℕ, ◌++◌, ◌∙◌, ◌∷◌, ◌≡◌, ◌⊎◌}
+use Rattle.mscp_ported.proofs.Common.{AllByRecursion, Bool, Buffer, Call, Decided, Dies, End, First, Holdings, Leaving, List, Port, Record, Settings, Verdict, [], ap, append-nil, arith, cond, ends_said_by, every_append, false, filter, inl, inr, is_dead, is_numbered, is_of, length, length-append, length-map, map, refl, since, subst, sym, taken_by, true, without_ends, ℕ, ◌++◌, ◌∙◌, ◌∷◌, ◌≡◌}
 use Rattle.mscp_ported.proofs.Awaiting.{IsNoReset}
 use Rattle.mscp_ported.proofs.Buffered.{IsKeptEach}
 use Rattle.mscp_ported.proofs.Coming.{ends_of}
@@ -80,15 +80,11 @@ module _ {c : Settings} {Told : Verdict → Record → Type 0} {K : Type 0} (cal
         followed = subst (λ es. AreFollowed Told aw es) (sym ends) k.followed;
       })
 
-  pub stays : ends_said_by call old new ≡ [] → taken_by call old ≡ [] → Stays old new
-      → (new.buffers ≡ old.buffers) ⊎ Dies old new → So
-  stays said taken either kept = elim either [
+  pub stays : ends_said_by call old new ≡ [] → taken_by call old ≡ [] → Stays old new → So
+  stays said taken either = elim either [
     | inr d ↦ died d
-    | inl s ↦ elim kept [
-      | inr d ↦ died d
-      | inl buffers ↦ unchanged said taken (ap (λ (h : Holdings K). h.waiting) s.0)
-          (ap (λ (h : Holdings K). ends_of h) s.0) (ap (λ d. d.items) s.1) (ap (λ b. b.items) buffers)
-    ]
+    | inl s ↦ unchanged said taken (ap (λ (h : Holdings K). h.waiting) s.0) (ap (λ (h : Holdings K). ends_of h) s.0)
+        (ap (λ d. d.items) s.1) (ap (λ b. b.items) s.4)
   ]
 
 -- ---- ends come, with what is decided of each

@@ -1,11 +1,12 @@
 -- What is kept of a command after each call: its blocks so far were moved at their places.
 use Rattle.mscp_ported.proofs.Common.{Action, Answered, AsksAlways, Block, Bool, Buffer, Call, Connection, Contains, Drive, End, Err, Finishes, First, Hardware, HeedsStep, Holdings, IsMadeOf, IsReadingText, IsStepping, List, LookAgain, MatchOption, MoveKind, Name, Next, None, NotBegun, Ok, Option, Order, Outcome, Picking, Port, Protect, PutAside, ReadIp, Record, Report, Result, Says, Some, TakesBegun, TakesBlock, Task, Tick, Verdict, VolumeCame, VolumeWent, WasRead, Went, WriteIp, WriteSa, [], advanced, ap, arith, asked, begun_step, block_begun, block_served, block_told, buffer_in, comes, cond, done_by, drive_at, end_brought, end_given, false, false≢true, filter, goes_on, inl, inr, is_begun, is_done, is_first, is_moving, is_numbered, is_of, is_queued_text, is_same, is_step_of, kept_after, left_of, length, looks_or_not, min, moved, name_of, name_on, none-some, not_of, num, order_weight, outcome_at, record_at, refl, same_Some, same_is, same_name, served_name, subst, suc, sym, transfers, true, upcoming_begun, waiting_after, wanted, wish, without_among, ℕ, ◌*◌, ◌++◌, ◌+◌, ◌-◌, ◌<◌, ◌==◌, ◌∙◌, ◌∷◌, ◌≡◌, ◌≢◌, ◌≤◌}
+use Rattle.mscp_ported.proofs.Stepping.{IsHow}
 use Rattle.mscp_packet.specs.declared.command.MoveKind.TheVariants as moves
 use Rattle.mscp_packet.specs.declared.command.Order.TheVariants as orders
 use Rattle.mscp_queue.specs.declared.report.Report.TheVariants as reports
 use Rattle.mscp_port.specs.declared.action.Action.TheVariants as actions
 use Rattle.mscp_port.specs.declared.task.Task.TheVariants as tasks
-use Rattle.mscp_ported.proofs.Transferring.{IsHow, goes_on_so, moves_so, no_done, none_moving, other_step, told_so}
+use Rattle.mscp_ported.proofs.Transferring.{goes_on_so, moves_so, no_done, none_moving, other_step, told_so}
 use Rattle.mscp_ported.proofs.Moving.{Steps, steps}
 use Rattle.mscp_ported.proofs.Owning.{AreOwned, Own, Owned, and_false, carries, nothing_kept, number_of, parts_of, quiet, text_owned}
 use Rattle.mscp_ported.proofs.Sole.{served_goes_on, served_itself, served_other}

@@ -47,6 +47,9 @@ pub mod Numbered
 pub mod Counted
 pub mod Numbering
 pub mod Awaiting
+pub mod Taking
+pub mod Reading
+pub mod Stepping
 pub mod Awaits
 pub mod Whole
 pub mod Dealing
@@ -60,7 +63,6 @@ pub mod Buffered
 pub mod Fitting
 pub mod Saying
 pub mod Fitted
-pub mod Untouched
 pub mod Units
 pub mod Formal
 pub mod Opcodes

@@ -1,5 +1,6 @@
 -- The end of a transfer that says Success stands for blocks that were moved, each at its place.
 use Rattle.mscp_ported.proofs.Common.{Answered, AsksAlways, Block, Bool, Buffer, Call, Command, Connection, Contains, Drive, End, Err, Finish, Finishes, First, Hardware, Holdings, IsFinish, IsMadeOf, List, Made, Makes, MatchOption, MoveKind, Name, None, NotBegun, Ok, Option, Order, Outcome, Picking, Port, Record, Report, Result, Second, Shape, Some, StandsFor, TakesBegun, TakesBlock, Task, Upcoming, Verdict, Went, [], ap, append-nil, arith, asked, begun_step, block_begun, block_moved, block_served, block_told, block_touched, blocks_in, come, command_of, cond, done_by, drive_at, drive_of, end_brought, end_given, eqb-true, false, false≢true, filter, find, found_is, goes_on, good_status, has_name, inl, inr, is_begun, is_numbered, is_of, is_same, kept_found, left_of, length, min, move_byte, moved, name_of, name_on, nat_eq, nat_lt, none-some, num, of_first, opcode_of, opcodes, option_map, order_weight, outcome_at, outcome_body, outcome_status, position, record_at, refl, row_of, same_Some, same_is, served_name, slice_index, step_told, subst, suc, sym, touches, transfers, true, upcoming_begun, upcoming_of, wish, ℕ, ◌&&◌, ◌*◌, ◌++◌, ◌+◌, ◌-◌, ◌<◌, ◌∙◌, ◌∷◌, ◌≡◌, ◌≤◌, ◌⊎◌}
+use Rattle.mscp_ported.proofs.Stepping.{IsHow}
 use Rattle.mscp_packet.specs.declared.class.Opcode.TheVariants as codes
 use Rattle.mscp_packet.specs.declared.command.MoveKind.TheVariants as kinds
 use Rattle.mscp_packet.specs.declared.command.Order.TheVariants as orders
@@ -15,7 +16,7 @@ use Rattle.mscp_ported.proofs.Moved.{moved_at}
 use Rattle.mscp_ported.proofs.Moving.{Steps, steps}
 use Rattle.mscp_ported.proofs.Owning.{AreOwned, Own, number_of, parts_of}
 use Rattle.mscp_ported.proofs.Sole.{found_sole, served_itself, sole_passes}
-use Rattle.mscp_ported.proofs.Transferring.{IsHow, moves_so}
+use Rattle.mscp_ported.proofs.Transferring.{moves_so}
 
 -- ---- tables
 

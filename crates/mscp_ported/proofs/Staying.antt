@@ -1,13 +1,14 @@
 -- Calls that leave the controller as it was.
-use Rattle.mscp_ported.proofs.Common.{Becomes, Bool, Call, Choice, Clears, Dies, Err, GivesBack, Goes, IfSome, IsAsNew, List, LookAgain, MatchOption, Next, None, Ok, Option, Outcome, Picking, Port, Protect, PutAside, ReadIp, ReadsIp, Rings, Side, Some, Stage, TakesStep, Task, Tick, VolumeCame, VolumeWent, WasRead, Went, WriteIp, WriteSa, WritesOut, WritesSa, ap, arith, block_begun, cond, end_of, false, inl, inr, is_dead, nat_lt, none-some, refl, rings_named, start_of, step_answered, step_told, subst, sym, told_of, transfer_told, true, ℕ, ◌%◌, ◌+◌, ◌/◌, ◌<◌, ◌==◌, ◌∙◌, ◌≡◌, ◌≢◌, ◌≤◌, ◌⊎◌}
+use Rattle.mscp_ported.proofs.Common.{Becomes, Bool, Call, Choice, Clears, Commands, Dies, Err, GivesBack, Goes, Hears, IfSome, IsAsNew, IsReadingText, List, LookAgain, MatchOption, Next, None, Ok, Option, Outcome, Picking, Port, Protect, PutAside, ReadIp, ReadsIp, Responses, Rings, Side, Some, Stage, TakesStep, Task, Tick, VolumeCame, VolumeWent, WasRead, Went, WriteIp, WriteSa, WritesOut, WritesSa, ap, arith, block_begun, cond, end_of, false, header_fault, inl, inr, is_dead, is_owned, length, nat_lt, none-some, num, read_size, refl, rings_named, start_of, step_answered, step_told, subst, sym, told_of, transfer_told, true, ℕ, ◌%◌, ◌+◌, ◌/◌, ◌<◌, ◌==◌, ◌∙◌, ◌≡◌, ◌≢◌, ◌≤◌, ◌⊎◌}
 use Rattle.mscp_port.specs.declared.action.Outcome.TheVariants as outcomes
 use Rattle.mscp_port.specs.declared.stage.Stage.TheVariants as stages
 use Rattle.mscp_port.specs.declared.task.Task.TheVariants as tasks
 
--- the controller stays, what is decided of its ends, and the hardware; and there is no fatal error that wasn't there
+-- the controller stays, what is decided of its ends, the hardware, and what is kept of commands; and there is no fatal
+-- error that wasn't there
 abbrev pub IsSame : {K : Type 0} → Port K → Port K → Type 0
 IsSame old new = (new.controller ≡ old.controller) × (new.decided ≡ old.decided) × (new.hardware ≡ old.hardware)
-    × (is_dead new.stage ≡ true → is_dead old.stage ≡ true)
+    × (is_dead new.stage ≡ true → is_dead old.stage ≡ true) × (new.buffers ≡ old.buffers)
 
 -- or there is one now
 abbrev pub Stays : {K : Type 0} → Port K → Port K → Type 0
@@ -16,24 +17,16 @@ Stays old new = IsSame old new ⊎ Dies old new
 pub died : {K : Type 0} (code : ℕ) (old new : Port K) → IsAsNew (stages.Dead code) old new → Stays old new
 died code old new d = inr (code, d)
 
+pub same_as : {K : Type 0} {old new x : Port K} → new ≡ x → IsSame old x → Stays old new
+same_as {K} {old} e same = inl (subst (λ y. IsSame old y) (sym e) same)
+
+pub alike : {K : Type 0} (old : Port K) → IsSame old old
+alike old = (refl, refl, refl, (λ d. d), refl)
+
+moved : {K : Type 0} (old : Port K) (s : Stage) → is_dead s ≡ false → IsSame old (record old { stage = s })
+moved old s alive = (refl, refl, refl, (λ d. search (arith, d, alive)), refl)
+
 -- ---- how an action went
-
-pub same_by : {K : Type 0} (old new : Port K) → new.controller ≡ old.controller → new.decided ≡ old.decided
-    → new.hardware ≡ old.hardware → new.stage ≡ old.stage → IsSame old new
-same_by old new c d h s = (c, d, h, λ dead. sym (ap is_dead s) ∙ dead)
-
-alive_by : {K : Type 0} (old new : Port K) (s : Stage) → new.controller ≡ old.controller → new.decided ≡ old.decided
-    → new.hardware ≡ old.hardware → new.stage ≡ s → is_dead s ≡ false → IsSame old new
-alive_by old new s c d h e alive = (c, d, h, λ dead. absurd (search (arith, ap is_dead e, dead, alive)))
-
-same_so : {K : Type 0} (old new : Port K) → new ≡ old → Stays old new
-same_so {K} old new e = inl (same_by old new (ap (λ (p : Port K). p.controller) e) (ap (λ (p : Port K). p.decided) e)
-    (ap (λ (p : Port K). p.hardware) e) (ap (λ (p : Port K). p.stage) e))
-
--- the stage becomes this one
-moved_so : {K : Type 0} (old new : Port K) (s : Stage) → new.controller ≡ old.controller → new.decided ≡ old.decided
-    → new.hardware ≡ old.hardware → new.stage ≡ s → is_dead s ≡ false → Stays old new
-moved_so old new s c d h e alive = inl (alive_by old new s c d h e alive)
 
 word_stays : {K : Type 0} (word : ℕ) (old new : Port K) → TakesStep word old new → Stays old new
 word_stays {K} word old new r = by old.stage refl
@@ -47,38 +40,19 @@ word_stays {K} word old new r = by old.stage refl
     named_or : (o : Option Rings) → rings_named old.words.first old.words.second word ≡ o → old.stage ≡ stages.Third
         → word < 0x8000 → Stays old new
     named_or None none at low = died 7 old new (r.nowhere at low none)
-    named_or (Some area) some at low =
-        let e = r.clear at low (λ none. none-some area (sym none ∙ some)) in
-        moved_so old new stages.Clearing (ap (λ (p : Port K). p.controller) e) (ap (λ (p : Port K). p.decided) e)
-        (ap (λ (p : Port K). p.hardware) e) (ap (λ (p : Port K). p.stage) e) refl
+    named_or (Some area) some at low = same_as (r.clear at low (λ none. none-some area (sym none ∙ some))) (moved old stages.Clearing refl)
 
     by : (s : Stage) → old.stage ≡ s → Stays old new
     by stages.First at = elim (is_one (word / 0x4000 % 2)) [
-      | inl wraps ↦
-          let e = r.wrap at wraps in
-          moved_so old new (stages.Wrapped word) (ap (λ (p : Port K). p.controller) e) (ap (λ
-          (p : Port K). p.decided) e)
-          (ap (λ (p : Port K). p.hardware) e) (ap (λ (p : Port K). p.stage) e) refl
-      | inr plain ↦
-          let e = r.first at plain in
-          moved_so old new stages.Second (ap (λ (p : Port K). p.controller) e) (ap (λ (p : Port K). p.decided) e)
-          (ap (λ (p : Port K). p.hardware) e) (ap (λ (p : Port K). p.stage) e) refl
+      | inl wraps ↦ same_as (r.wrap at wraps) (moved old (stages.Wrapped word) refl)
+      | inr plain ↦ same_as (r.first at plain) (moved old stages.Second refl)
     ]
-    by stages.Second at =
-        let e = r.second at in
-        moved_so old new stages.Third (ap (λ (p : Port K). p.controller) e) (ap (λ (p : Port K). p.decided) e)
-        (ap (λ (p : Port K). p.hardware) e) (ap (λ (p : Port K). p.stage) e) refl
+    by stages.Second at = same_as (r.second at) (moved old stages.Third refl)
     by stages.Third at = elim (is_low word) [
-      | inl high ↦
-          let e = r.probe at high in
-          moved_so old new stages.Purging (ap (λ (p : Port K). p.controller) e) (ap (λ (p : Port K). p.decided) e)
-          (ap (λ (p : Port K). p.hardware) e) (ap (λ (p : Port K). p.stage) e) refl
+      | inl high ↦ same_as (r.probe at high) (moved old stages.Purging refl)
       | inr low ↦ named_or (rings_named old.words.first old.words.second word) refl at low
     ]
-    by s at =
-        let e = r.elsewhere (λ e. search (arith, at, e)) (λ e. search (arith, at, e)) (λ e. search (arith, at, e)) in
-        inl (same_by old new (ap (λ (p : Port K). p.controller) e) (ap (λ (p : Port K). p.decided) e)
-        (ap (λ (p : Port K). p.hardware) e) (ap (λ (p : Port K). p.stage) e))
+    by s at = same_as (r.elsewhere (λ e. search (arith, at, e)) (λ e. search (arith, at, e)) (λ e. search (arith, at, e))) (alike old)
 
 clear_stays : {K : Type 0} (outcome : Outcome) (done : ℕ) (old new : Port K) (r : Rings)
     → Clears outcome r done old new → Stays old new
@@ -89,14 +63,8 @@ clear_stays {K} outcome done old new r c = by outcome refl
 
     by : (o : Outcome) → outcome ≡ o → Stays old new
     by outcomes.Done is = elim (by_size (end_of r) (start_of r (old.words.second % 2 == 1) + (done + 64))) [
-      | inl more ↦
-          let e = c.on is more in
-          inl (same_by old new (ap (λ (p : Port K). p.controller) e) (ap (λ (p : Port K). p.decided) e)
-          (ap (λ (p : Port K). p.hardware) e) (ap (λ (p : Port K). p.stage) e))
-      | inr last ↦
-          let e = c.last is last in
-          moved_so old new stages.Last (ap (λ (p : Port K). p.controller) e) (ap (λ (p : Port K). p.decided) e)
-          (ap (λ (p : Port K). p.hardware) e) (ap (λ (p : Port K). p.stage) e) refl
+      | inl more ↦ same_as (c.on is more) (alike old)
+      | inr last ↦ same_as (c.last is last) (moved old stages.Last refl)
     ]
     by o is = died 7 old new (c.missing (λ e. search (arith, is, e)))
 
@@ -149,6 +117,35 @@ went_stays picks outcome old new (tasks.Step verdict) done at r none = absurd (n
 went_stays picks outcome old new tasks.Transfer done at r none =
     absurd (none-some (transfer_told old outcome (block_begun old)) (sym none))
 
+-- ---- what was read is no text of a command
+
+pub read_stays : {K : Type 0} (bytes : List ℕ) (done : Unit) (old new : Port K) → Hears bytes old (Ok done) new
+    → (IsReadingText old.task → ⊥) → Stays old new
+read_stays bytes done old new r other = by old.task refl
+  where
+    header_stays : (t : Task) (o : Option ℕ)
+        → MatchOption o (new ≡ record old { task = t }) (λ code. IsAsNew (stages.Dead code) old new) → Stays old new
+    header_stays t None e = same_as e (alike old)
+    header_stays t (Some code) d = inr (code, d)
+
+    responses : (b : Bool) → new ≡ cond b (record old { task = tasks.Packet (record { word = num bytes 0 4 }) })
+        (record old { is_full = true; task = tasks.Free }) → Stays old new
+    responses true e = same_as e (alike old)
+    responses false e = same_as e (alike old)
+
+    commands : (b : Bool) → new ≡ cond b (record old { task = tasks.Header (record { word = num bytes 0 4 }) })
+        (record old { is_polled = false; task = tasks.Free }) → Stays old new
+    commands true e = same_as e (alike old)
+    commands false e = same_as e (alike old)
+
+    by : (task : Task) → old.task ≡ task → Stays old new
+    by (tasks.Slot Responses) at = responses (is_owned (num bytes 0 4)) ((r.sees refl).slot Responses at)
+    by (tasks.Slot Commands) at = commands (is_owned (num bytes 0 4)) ((r.sees refl).slot Commands at)
+    by (tasks.Neighbour side) at = same_as ((r.sees refl).neighbour side at) (alike old)
+    by (tasks.Header slot) at = header_stays _ (header_fault (num bytes 0 4)) ((r.sees refl).header slot at)
+    by (tasks.Text slot size foreign) at = absurd (other (subst (λ x. IsReadingText x) (sym at) tt))
+    by task at = absurd (none-some (length bytes) (sym (ap read_size at) ∙ r.only refl))
+
 -- ---- calls that tell of no action
 
 reads_ip : {K : Type 0} (old new : Port K) → ReadsIp old new → Stays old new
@@ -156,55 +153,41 @@ reads_ip {K} old new r = by old.stage refl
   where
     rings_or : old.stage ≡ stages.Probing → (o : Option Rings) → old.rings ≡ o → Stays old new
     rings_or at None none = died 7 old new (r.nowhere at none)
-    rings_or at (Some area) some =
-        let e = r.probed at (λ none. none-some area (sym none ∙ some)) in
-        inl (alive_by old new stages.Clearing (ap (λ (p : Port K). p.controller) e) (ap (λ (p : Port K). p.decided) e)
-        (ap (λ (p : Port K). p.hardware) e) (ap (λ (p : Port K). p.stage) e) refl)
+    rings_or at (Some area) some = same_as (r.probed at (λ none. none-some area (sym none ∙ some))) (moved old stages.Clearing refl)
 
     by : (s : Stage) → old.stage ≡ s → Stays old new
-    by stages.Up at =
-        let e = r.up at in
-        inl (same_by old new (ap (λ (p : Port K). p.controller) e) (ap (λ (p : Port K). p.decided) e)
-        (ap (λ (p : Port K). p.hardware) e) (ap (λ (p : Port K). p.stage) e))
+    by stages.Up at = same_as (r.up at) (alike old)
     by stages.Probing at = rings_or at old.rings refl
-    by s at = same_so old new (r.elsewhere (λ e. search (arith, at, e)) (λ e. search (arith, at, e)))
+    by s at = same_as (r.elsewhere (λ e. search (arith, at, e)) (λ e. search (arith, at, e))) (alike old)
 
 writes_sa : {K : Type 0} (word : ℕ) (old new : Port K) → WritesSa word old new → Stays old new
 writes_sa {K} word old new r = by old.stage refl
   where
-    written : new ≡ record old { written = Some word } → Stays old new
-    written e = inl (same_by old new (ap (λ (p : Port K). p.controller) e) (ap (λ (p : Port K). p.decided) e)
-        (ap (λ (p : Port K). p.hardware) e) (ap (λ (p : Port K). p.stage) e))
-
-    moved : (s : Stage) → is_dead s ≡ false → new ≡ record old { stage = s } → Stays old new
-    moved s alive e = inl (alive_by old new s (ap (λ (p : Port K). p.controller) e) (ap (λ (p : Port K). p.decided) e)
-        (ap (λ (p : Port K). p.hardware) e) (ap (λ (p : Port K). p.stage) e) alive)
-
     first_or : (b : Bool) → new ≡ cond b old (record old { written = Some word }) → Stays old new
-    first_or true e = same_so old new e
-    first_or false e = written e
+    first_or true e = same_as e (alike old)
+    first_or false e = same_as e (alike old)
 
     last_or : (b : Bool) → new ≡ cond b (record old { stage = stages.Up }) old → Stays old new
-    last_or true e = moved stages.Up refl e
-    last_or false e = same_so old new e
+    last_or true e = same_as e (moved old stages.Up refl)
+    last_or false e = same_as e (alike old)
 
     is_zero : (n : ℕ) → (n ≡ 0) ⊎ (n ≢ 0)
     is_zero n = search arith
 
     by : (s : Stage) → old.stage ≡ s → Stays old new
     by stages.First at = first_or (nat_lt word 0x8000) (r.first at)
-    by stages.Second at = written (r.second at)
-    by stages.Third at = written (r.third at)
-    by (stages.Wrapped other) at = moved (stages.Wrapped word) refl (r.wrapped other at)
+    by stages.Second at = same_as (r.second at) (alike old)
+    by stages.Third at = same_as (r.third at) (alike old)
+    by (stages.Wrapped other) at = same_as (r.wrapped other at) (moved old (stages.Wrapped word) refl)
     by stages.Purging at = elim (is_zero word) [
-      | inl z ↦ moved stages.Probing refl (r.purged at z)
+      | inl z ↦ same_as (r.purged at z) (moved old stages.Probing refl)
       | inr z ↦ died 21 old new (r.not_purged at z)
     ]
     by stages.Last at = last_or (word % 2 == 1) (r.last at)
-    by stages.Probing at = same_so old new (r.probing at)
-    by stages.Clearing at = same_so old new (r.clearing at)
-    by stages.Up at = same_so old new (r.up at)
-    by (stages.Dead code) at = same_so old new (r.dead code at)
+    by stages.Probing at = same_as (r.probing at) (alike old)
+    by stages.Clearing at = same_as (r.clearing at) (alike old)
+    by stages.Up at = same_as (r.up at) (alike old)
+    by (stages.Dead code) at = same_as (r.dead code at) (alike old)
 
 -- neither a write of IP, nor something that is wanted, nor a report that was taken
 abbrev pub IsPassive : Call → Type 0
@@ -222,25 +205,17 @@ passive_stays picks (WasRead bytes (Ok done)) old new r is = absurd is
 passive_stays picks (Went outcome (Ok done)) old new r is = absurd is
 passive_stays picks ReadIp old new r is = reads_ip old new r
 passive_stays picks (WriteSa word) old new r is = writes_sa word old new r
-passive_stays {K} picks PutAside old new r is = inl (same_by old new (ap (λ (p : Port K). p.controller) r)
-    (ap (λ (p : Port K). p.decided) r) (ap (λ (p : Port K). p.hardware) r) (ap (λ (p : Port K). p.stage) r))
-passive_stays picks (WasRead bytes (Err unasked)) old new r is = same_so old new r.unasked
-passive_stays picks (Went outcome (Err unasked)) old new r is = same_so old new r.unasked
-passive_stays {K} picks LookAgain old new r is = inl (same_by old new (ap (λ (p : Port K). p.controller) r)
-    (ap (λ (p : Port K). p.decided) r) (ap (λ (p : Port K). p.hardware) r) (ap (λ (p : Port K). p.stage) r))
-passive_stays {K} picks Tick old new r is = elim r.either [
-  | inl e ↦ inl (same_by old new (ap (λ (p : Port K). p.controller) e) (ap (λ (p : Port K). p.decided) e)
-      (ap (λ (p : Port K). p.hardware) e) (ap (λ (p : Port K). p.stage) e))
+passive_stays picks PutAside old new r is = same_as r (alike old)
+passive_stays picks (WasRead bytes (Err unasked)) old new r is = same_as r.unasked (alike old)
+passive_stays picks (Went outcome (Err unasked)) old new r is = same_as r.unasked (alike old)
+passive_stays picks LookAgain old new r is = same_as r (alike old)
+passive_stays picks Tick old new r is = elim r.either [
+  | inl e ↦ same_as e (alike old)
   | inr n ↦ died 9 old new n
 ]
-passive_stays {K} picks (VolumeCame m unit (Ok done)) old new r is =
-    let e = r.came refl in
-    inl (same_by old new (ap (λ (p : Port K). p.controller) e) (ap (λ (p : Port K). p.decided) e)
-    (ap (λ (p : Port K). p.hardware) e) (ap (λ (p : Port K). p.stage) e))
-passive_stays picks (VolumeCame m unit (Err fault)) old new r is = same_so old new r.refused
-passive_stays {K} picks (VolumeWent unit result) old new r is =
-    inl (same_by old new (ap (λ (p : Port K). p.controller) r.frame) (ap (λ (p : Port K). p.decided) r.frame)
-    (ap (λ (p : Port K). p.hardware) r.frame) (ap (λ (p : Port K). p.stage) r.frame))
-passive_stays {K} picks (Protect protected unit result) old new r is =
-    inl (same_by old new (ap (λ (p : Port K). p.controller) r.frame) (ap (λ (p : Port K). p.decided) r.frame)
-    (ap (λ (p : Port K). p.hardware) r.frame) (ap (λ (p : Port K). p.stage) r.frame))
+passive_stays picks (VolumeCame m unit (Ok done)) old new r is = same_as (r.came refl) (alike old)
+passive_stays picks (VolumeCame m unit (Err fault)) old new r is = same_as r.refused (alike old)
+passive_stays picks (VolumeWent unit result) old new r is =
+    same_as r.frame (alike old)
+passive_stays picks (Protect protected unit result) old new r is =
+    same_as r.frame (alike old)

@@ -1,5 +1,6 @@
 -- The end of a transfer counts just the blocks that were moved.
 use Rattle.mscp_ported.proofs.Common.{Answered, AsksAlways, Block, Bool, Buffer, Call, Command, Contains, Counts, Drive, End, Err, Finishes, First, Hardware, Holdings, IsMadeOf, IsOfBlock, IsStepping, List, MatchOption, MoveKind, Name, None, NotBegun, Ok, Option, Order, Outcome, Picking, Port, Record, Report, Result, Shape, Some, TakesBegun, TakesBlock, Task, Upcoming, Verdict, Volume, Went, Wish, [], and_parts, ap, append-nil, arith, asked, asks_nothing, begun_step, begun_task, block_begun, block_served, block_told, block_touched, changed_verdict, come, cond, done_by, drive_at, drive_of, drop, end_brought, end_given, false, false≢true, filter, find, goes_on, good_step, has_changed, has_name, inl, inr, is_available, is_begun, is_done, is_good_block, is_moving, is_numbered, is_same, is_step_of, kept_of, known_task, left_of, length, min, move_of, move_task, moved, moved_by, moved_step, name_of, name_on, none-some, num, opcode_of, option_map, outcome_at, outcome_body, outcome_status, part_at, part_served, part_task, part_with, place_in, record_at, refl, same_Some, served_name, slice_index, subst, suc, sym, takes_any_volume, task_of, touches, transfers, true, upcoming_begun, upcoming_of, volume_at, wanted, wish, zero, ℕ, ◌&&◌, ◌*◌, ◌++◌, ◌+◌, ◌-◌, ◌<◌, ◌∙◌, ◌∷◌, ◌≡◌, ◌≤◌, ◌⊎◌}
+use Rattle.mscp_ported.proofs.Stepping.{IsHow}
 use Rattle.mscp_packet.specs.declared.class.Opcode.TheVariants as codes
 use Rattle.mscp_packet.specs.declared.command.Order.TheVariants as orders
 use Rattle.mscp_packet.specs.declared.end.EndBody.TheVariants as bodies
@@ -14,7 +15,7 @@ use Rattle.mscp_ported.proofs.Moving.{Steps, steps}
 use Rattle.mscp_ported.proofs.Owning.{AreOwned, Own, parts_of}
 use Rattle.mscp_ported.proofs.Sole.{found_sole, served_itself}
 use Rattle.mscp_ported.proofs.Standing.{brought_one, ended_so, step_name}
-use Rattle.mscp_ported.proofs.Transferring.{IsHow, kept_address, move_fields, moves_so, none_moving, told_so}
+use Rattle.mscp_ported.proofs.Transferring.{kept_address, move_fields, moves_so, none_moving, told_so}
 
 -- ---- a block that went well
 

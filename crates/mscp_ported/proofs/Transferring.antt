@@ -1,11 +1,11 @@
 -- What a step of a transfer moves that goes well.
-use Rattle.mscp_ported.proofs.Common.{Action, Answered, Block, Bool, Buffer, Call, Command, Drive, First, Holdings, IsEmpty, List, MoveKind, Name, None, Ok, Opcode, Option, Order, Outcome, Picking, Port, Record, Some, Upcoming, Verdict, WasMoved, Went, Wish, [], ap, arith, begun_step, block_begun, block_moved, block_served, block_told, block_touched, buffer_in, command_of, cond, done_by, drive_of, end_given, false, false≢true, filter, find, found_is, has_name, inl, inr, invalid_length, is_done, is_good_block, is_moving, is_numbered, is_of, is_step_of, kept_found, least, left_of, length, min, name_of, name_on, nat_lt, none-some, num, of_first, opcode_of, option_map, order_with, outcome_at, parameters, position, refl, same_is, same_name, slice_index, step_told, subst, sym, touches, true, upcoming_begun, upcoming_of, wanted, wish, ℕ, ◌&&◌, ◌*◌, ◌+◌, ◌-◌, ◌<◌, ◌∙◌, ◌∷◌, ◌≡◌, ◌≢◌, ◌≤◌, ◌⊎◌}
+use Rattle.mscp_ported.proofs.Common.{Action, Answered, Block, Bool, Buffer, Call, Command, Drive, First, Holdings, IsEmpty, List, MoveKind, Name, None, Ok, Opcode, Option, Order, Outcome, Picking, Port, Record, Some, Upcoming, Verdict, WasMoved, Went, Wish, [], ap, arith, begun_step, block_begun, block_moved, block_told, block_touched, buffer_in, command_of, cond, done_by, drive_of, end_given, false, false≢true, filter, find, found_is, has_name, inl, inr, invalid_length, is_done, is_good_block, is_moving, is_numbered, is_of, is_step_of, kept_found, least, left_of, length, min, name_of, name_on, nat_lt, none-some, num, of_first, opcode_of, option_map, order_with, outcome_at, parameters, position, refl, same_is, same_name, slice_index, step_told, subst, sym, touches, true, upcoming_begun, upcoming_of, wanted, wish, ℕ, ◌&&◌, ◌*◌, ◌+◌, ◌-◌, ◌<◌, ◌∙◌, ◌∷◌, ◌≡◌, ◌≢◌, ◌≤◌, ◌⊎◌}
+use Rattle.mscp_ported.proofs.Stepping.{IsHow}
 use Rattle.mscp_packet.specs.declared.class.Opcode.TheVariants as codes
 use Rattle.mscp_packet.specs.declared.command.Order.TheVariants as orders
 use Rattle.mscp_drive.specs.declared.block.Block.TheVariants as blocks
 use Rattle.mscp_port.specs.declared.action.Action.TheVariants as actions
 use Rattle.mscp_port.specs.declared.action.Outcome.TheVariants as outcomes
-use Rattle.mscp_port.specs.declared.task.Task.TheVariants as tasks
 use Rattle.mscp_ported.proofs.Making.{transfer_so, verdict_so}
 use Rattle.mscp_ported.proofs.Moved.{moved_at}
 use Rattle.mscp_ported.proofs.Moving.{Steps}
@@ -71,11 +71,6 @@ pub is_step_sole : {K : Type 0} (h : Holdings K) (n : ℕ) (name : Name) (r : Re
     → begun_step h ≡ Some (upcoming_of (drive_of h.drives r.command.unit) r)
 is_step_sole h n name r begun named sole = begun_record h name r begun
     (subst (λ x. find (has_name x) h.waiting ≡ Some r) (sym named) (found_sole (is_numbered n) h.waiting r sole))
-
--- how the step in hand went
-abbrev pub IsHow : {K : Type 0} → Port K → Outcome → Verdict → Type 0
-IsHow old outcome verdict = (old.task ≡ tasks.Step verdict)
-    ⊎ ((old.task ≡ tasks.Transfer) × (verdict ≡ block_served old outcome (block_begun old)))
 
 -- what is told of a step
 pub told_so : {K : Type 0} (old : Port K) (outcome : Outcome) (verdict : Verdict) → IsHow old outcome verdict

@@ -1,0 +1,235 @@
+-- What becomes of a message that a port reads.
+use Rattle.mscp_ported.proofs.Common.{Bool, Command, Descriptor, Dies, End, First, Hears, Holdings, IsReadingText, List, None, Ok, Option, Port, SeesText, SendFault, Sends, Some, Task, WasRead, [], aborted_record, aborting, accepted_by, accepted_text, accepts, answer_to_message, answered_end, answered_to, ap, append_assoc, balance_of, command_of, cond, drop, drop-append_seam, false, fault_of, fresh_record, handed, held_unless, inl, inr, is_none, is_numbered, is_ok, is_queued, is_taken_text, length, map, nat_eq, none-some, none_or_some, num, option_map, option_to_list, outstanding_of, own_answer, own_end_of, queued, record_aborted, reference_aborted, refl, refusal, sent_unless, subst, sym, taken_as, taken_by, true, volume_named, with_end, ℕ, ◌&&◌, ◌++◌, ◌∙◌, ◌∷◌, ◌≡◌, ◌≢◌, ◌≤◌, ◌⊎◌}
+use Rattle.mscp_controller.specs.declared.entry.Sent.{Sent}
+use Rattle.mscp_controller.specs.declared.entry.Sent.TheVariants as sents
+use Rattle.mscp_port.specs.declared.task.Task.TheVariants as tasks
+use Rattle.mscp_ported.proofs.Answering.{handed_so, none_so, own_so}
+use Rattle.mscp_ported.proofs.Awaiting.{IsLikeIt, Kept, handed_like, is_it, nothing_there, others, own_number}
+use Rattle.mscp_ported.proofs.Coming.{ends_of}
+use Rattle.mscp_ported.proofs.Staying.{IsSame, Stays, alike, read_stays, same_as}
+use Rattle.mscp_ported.proofs.Ending.{Grows}
+use Rattle.mscp_ported.proofs.Numbered.{IsNothing}
+use Rattle.mscp_ported.proofs.Owning.{and_false}
+use Rattle.mscp_ported.proofs.Tables.{answer_by}
+
+-- its command, as the controller gets it
+abbrev pub command_in : {K : Type 0} → Port K → List ℕ → Command
+command_in p bytes = command_of (handed p.controller.settings.units bytes)
+
+-- the end of the command that it aborts
+abbrev pub ends_aborted : {K : Type 0} → Port K → List ℕ → List End
+ends_aborted p bytes =
+    option_to_list (option_map aborted_record (record_aborted First p.controller.waiting (command_in p bytes).order))
+
+abbrev pub own_end_in : {K : Type 0} → Port K → List ℕ → End
+own_end_in p bytes = answered_end First p.controller (command_in p bytes)
+
+-- it is queued
+pub record Queues {K : Type 0} (slot : Descriptor) (bytes : List ℕ) (old new : Port K) : Type 0 where
+  pub later : is_queued old.controller.settings (command_in old bytes) ≡ true
+  pub holds : new.controller ≡ queued First old.controller (command_in old bytes)
+  pub answer : answered_to old bytes ≡ Ok (sents.Queued (command_in old bytes).reference)
+  pub sends : Sends slot (sents.Queued (command_in old bytes).reference) bytes old new
+
+-- or answered at once
+pub record Answers {K : Type 0} (slot : Descriptor) (bytes : List ℕ) (old new : Port K) : Type 0 where
+  pub immediate : is_queued old.controller.settings (command_in old bytes) ≡ false
+  pub holds : new.controller
+      ≡ with_end First (aborting First old.controller (command_in old bytes).order) (own_end_in old bytes)
+  pub answer : answered_to old bytes ≡ Ok (sents.Answered (command_in old bytes).reference
+      (reference_aborted First old.controller.waiting (command_in old bytes).order))
+  pub sends : Sends slot (sents.Answered (command_in old bytes).reference
+      (reference_aborted First old.controller.waiting (command_in old bytes).order)) bytes old new
+
+-- by the controller
+pub record Gets {K : Type 0} (bytes : List ℕ) (done : Unit) (old new : Port K) : Type 0 where
+  pub slot : Descriptor
+  pub size : ℕ
+  pub foreign : Bool
+  pub at : old.task ≡ tasks.Text slot size foreign
+  pub long : 12 ≤ length bytes
+  pub none : own_end_of old foreign bytes ≡ None
+  pub is_new : refusal (balance_of First old.controller) (outstanding_of First old.controller)
+      (handed old.controller.settings.units bytes) ≡ None
+  pub taken : taken_by (WasRead bytes (Ok done)) old ≡ bytes ∷ []
+  pub how : Queues slot bytes old new ⊎ Answers slot bytes old new
+
+module _ {K : Type 0} (bytes : List ℕ) (done : Unit) (old new : Port K) (r : Hears bytes old (Ok done) new) where
+  abbrev So : Type 0
+  So = (IsSame old new × (taken_by (WasRead bytes (Ok done)) old ≡ [])) ⊎ Gets bytes done old new ⊎ Dies old new
+
+  module _ (slot : Descriptor) (size : ℕ) (foreign : Bool) (at : old.task ≡ tasks.Text slot size foreign) where
+    abbrev refused : Option SendFault
+    refused = refusal (balance_of First old.controller) (outstanding_of First old.controller)
+        (handed old.controller.settings.units bytes)
+
+    sees : SeesText slot foreign bytes old new
+    sees = (r.sees refl).text slot size foreign at
+
+    pub taken_is : taken_by (WasRead bytes (Ok done)) old
+        ≡ cond (is_none (own_answer foreign (volume_named old bytes) bytes) && is_ok (answered_to old bytes))
+        (bytes ∷ []) []
+    taken_is = ap (λ t. cond (is_taken_text old bytes t) (bytes ∷ []) []) at
+        ∙ ap (λ b. cond (is_none (own_answer foreign (volume_named old bytes) bytes)
+        && is_ok (answer_to_message First old.controller b)) (bytes ∷ []) [])
+        (sym (handed_so old.controller.settings.units bytes))
+
+    rests : (is_none (own_answer foreign (volume_named old bytes) bytes) && is_ok (answered_to old bytes)) ≡ false
+        → Stays old new → So
+    rests none (inl s) = inl (s, taken_is ∙ ap (λ b. cond b (bytes ∷ []) []) none)
+    rests none (inr d) = inr (inr d)
+
+    answered : (e : End) → own_end_of old foreign bytes ≡ Some e → So
+    answered e own =
+        let some : own_end_of old foreign bytes ≢ None = λ none. none-some e (sym none ∙ own) in
+        rests (ap (λ x. is_none x && is_ok (answered_to old bytes))
+        (own_so foreign (volume_named old bytes) bytes e own).1) (elim (none_or_some old.outgoing) [
+          | inl nothing ↦ same_as (sees.own some nothing).0 (alike old)
+          | inr out ↦ same_as (sees.own_waits some (λ nothing. none-some out.0 (sym nothing ∙ out.1)))
+              (r.own slot size foreign at some, refl, refl, (λ d. d), refl)
+        ])
+
+    waits : (fault : SendFault) → own_end_of old foreign bytes ≡ None → refused ≡ Some fault → So
+    waits fault none e =
+        let answer = ap (sent_unless First old.controller (command_in old bytes)) e in
+        rests (and_false (is_none (own_answer foreign (volume_named old bytes) bytes)) (is_ok (answered_to old bytes))
+        (ap is_ok answer)) (same_as (sees.waits fault none answer) (
+          r.handed slot size foreign at refl none ∙ ap (held_unless First old.controller (command_in old bytes)) e,
+          refl,
+          refl,
+          (λ d. d),
+          refl,
+        ))
+
+    gets : own_end_of old foreign bytes ≡ None → refused ≡ None → Gets bytes done old new
+    gets none is_new = record {
+      slot = slot;
+      size = size;
+      foreign = foreign;
+      at = at;
+      long = sees.long;
+      none = none;
+      is_new = is_new;
+      taken = taken_is ∙ ap (λ x. cond (is_none x && is_ok (answered_to old bytes)) (bytes ∷ []) [])
+          (none_so foreign (volume_named old bytes) bytes none)
+          ∙ ap (λ x. cond (is_ok x) (bytes ∷ []) []) answer;
+      how = by (is_queued old.controller.settings (command_in old bytes)) refl;
+    }
+      where
+        answer : answered_to old bytes ≡ Ok (taken_as First old.controller (command_in old bytes))
+        answer = ap (sent_unless First old.controller (command_in old bytes)) is_new
+
+        sent_as : Bool → Sent
+        sent_as q = cond q (sents.Queued (command_in old bytes).reference)
+            (sents.Answered (command_in old bytes).reference
+            (reference_aborted First old.controller.waiting (command_in old bytes).order))
+
+        answer_is : (q : Bool) → is_queued old.controller.settings (command_in old bytes) ≡ q
+            → answered_to old bytes ≡ Ok (sent_as q)
+        answer_is q e = answer ∙ ap (λ b. Ok (sent_as b)) e
+
+        holds : (q : Bool) → is_queued old.controller.settings (command_in old bytes) ≡ q → new.controller
+            ≡ cond q (queued First old.controller (command_in old bytes))
+            (with_end First (aborting First old.controller (command_in old bytes).order) (own_end_in old bytes))
+        holds q e = r.handed slot size foreign at refl none
+            ∙ ap (held_unless First old.controller (command_in old bytes)) is_new
+            ∙ ap (λ b. cond b (queued First old.controller (command_in old bytes))
+            (with_end First (aborting First old.controller (command_in old bytes).order) (own_end_in old bytes))) e
+
+        by : (q : Bool) → is_queued old.controller.settings (command_in old bytes) ≡ q
+            → Queues slot bytes old new ⊎ Answers slot bytes old new
+        by true e = inl (record {
+          later = e;
+          holds = holds true e;
+          answer = answer_is true e;
+          sends = sees.sent (sent_as true) none (answer_is true e);
+        })
+        by false e = inr (record {
+          immediate = e;
+          holds = holds false e;
+          answer = answer_is false e;
+          sends = sees.sent (sent_as false) none (answer_is false e);
+        })
+
+    judged : (o : Option SendFault) → refused ≡ o → own_end_of old foreign bytes ≡ None → So
+    judged None e none = inr (inl (gets none e))
+    judged (Some fault) e none = waits fault none e
+
+    text_is : So
+    text_is = elim (none_or_some (own_end_of old foreign bytes)) [
+      | inr own ↦ answered own.0 own.1
+      | inl none ↦ judged refused refl none
+    ]
+
+  pub read_is : So
+  read_is = by old.task refl
+    where
+      by : (t : Task) → old.task ≡ t → So
+      by (tasks.Text slot size foreign) e = text_is slot size foreign e
+      by t e = elim (read_stays bytes done old new r (λ h. subst (λ x. IsReadingText x) e h)) [
+        | inl s ↦ inl (s, ap (λ x. cond (is_taken_text old bytes x) (bytes ∷ []) []) e)
+        | inr d ↦ inr (inr d)
+      ]
+
+-- ---- a message that the controller took
+
+module _ {K : Type 0} {bytes : List ℕ} {done : Unit} {old new : Port K} (g : Gets bytes done old new) where
+  pub like : IsLikeIt (handed old.controller.settings.units bytes) bytes
+  like = handed_like old.controller.settings.units bytes g.long
+
+  pub named : (command_in old bytes).reference ≡ num bytes 0 4
+  unfolding command_of
+  named = like.number
+
+  pub accepted : accepted_by (WasRead bytes (Ok done)) old ≡ bytes ∷ []
+  accepted = ap (λ t. accepted_text old t bytes) g.at
+      ∙ ap (λ x. cond (accepts x old.outgoing (answered_to old bytes)) (bytes ∷ []) []) g.none
+      ∙ ap (λ x. cond (accepts None old.outgoing x) (bytes ∷ []) [])
+      (ap (sent_unless First old.controller (command_in old bytes)) g.is_new)
+
+  pub heard_same : (new.stage ≡ old.stage) × (new.hardware ≡ old.hardware)
+  heard_same = elim g.how [
+    | inl q ↦ (ap (λ (p : Port K). p.stage) q.sends.frame, ap (λ (p : Port K). p.hardware) q.sends.frame)
+    | inr a ↦ (ap (λ (p : Port K). p.stage) a.sends.frame, ap (λ (p : Port K). p.hardware) a.sends.frame)
+  ]
+
+  -- nothing is there of its number
+  pub no_such : {aw : List (List ℕ)} → Kept old aw
+      → IsNothing aw old.controller.waiting (ends_of old.controller) (num bytes 0 4)
+  no_such {aw} k = nothing_there old.controller aw bytes (handed old.controller.settings.units bytes) g.long like
+      g.is_new k.each
+
+  pub its_own : {aw : List (List ℕ)} → Kept old aw
+      → is_numbered (num bytes 0 4) (fresh_record First (command_in old bytes)) ≡ true
+  its_own {aw} k = is_it old.controller aw bytes (handed old.controller.settings.units bytes) g.long like g.is_new k.each
+      (fresh_record First (command_in old bytes)) refl named
+
+  pub no_other : {aw : List (List ℕ)} → Kept old aw → (n : ℕ) → nat_eq (num bytes 0 4) n ≡ false
+      → is_numbered n (fresh_record First (command_in old bytes)) ≡ false
+  no_other {aw} k = others old.controller aw bytes (handed old.controller.settings.units bytes) g.long like g.is_new
+      k.each (fresh_record First (command_in old bytes)) named
+
+  pub end_named : (own_end_in old bytes).reference ≡ num bytes 0 4
+  end_named = own_number old.controller.settings _ _ (command_in old bytes)
+      (fault_of old.controller.settings (command_in old bytes)) ∙ named
+
+-- its own end comes, behind that of the command that it aborts
+abbrev pub ends_answered : {K : Type 0} → Port K → List ℕ → List End
+ends_answered p bytes = ends_aborted p bytes ++ own_end_in p bytes ∷ []
+
+module _ {K : Type 0} {slot : Descriptor} {bytes : List ℕ} {old new : Port K} (a : Answers slot bytes old new) where
+  pub answer_ends : ends_of new.controller ≡ ends_of old.controller ++ ends_answered old bytes
+  answer_ends = ap (λ (h : Holdings K). ends_of h) a.holds
+      ∙ append_assoc (ends_of old.controller) (ends_aborted old bytes) (own_end_in old bytes ∷ [])
+
+  pub answer_decided : length (ends_of old.controller) ≡ length old.decided.items
+      → new.decided.items ≡ old.decided.items ++ map (answer_by old new) (ends_answered old bytes)
+  answer_decided long = a.sends.decided ∙ ap (λ xs. old.decided.items ++ map (answer_by old new) xs)
+      (ap (λ n. drop n (ends_of new.controller)) (sym long)
+      ∙ ap (drop (length (ends_of old.controller))) answer_ends
+      ∙ drop-append_seam (ends_of old.controller) (ends_answered old bytes))
+
+  abbrev pub answer_grows : length (ends_of old.controller) ≡ length old.decided.items
+      → Grows old new (answer_by old new)
+  answer_grows long =
+      record { brought = ends_answered old bytes; ends = answer_ends; decided = answer_decided long }
