@@ -1,23 +1,12 @@
 -- Credits and commands are counted.
-use Rattle.mscp_host.proofs.Common.{◌≡◌, ◌≤◌, ℕ, ◌+◌, ◌-◌, Bool, true, false, ◌&&◌, and-true, if◌then◌else◌, nat_eq, List, [], ◌∷◌, ◌++◌, length, refl, ap, sym, ◌∙◌, arith, find, Option, Some, None, is_none, is_some, nat_lt, Result, Ok, Err, false≢true, nat_tests, or_parts, ltb-false, length-append, ArrayVec, Command, End, HostFault, Poll, Submission, Account, oldest, opcode_byte}
-use Rattle.mscp_host.specs.Accounts.{asks, poll_of, polls_oldest, submits}
-use Rattle.std.proofs.lemmas.List.Sums.{sum_by-cons}
-use Rattle.mscp_host.specs.declared.envelope.Envelope.{Envelope}
+use Rattle.mscp_host.proofs.Common.{Account, ArrayVec, Asked, Bool, Command, End, Envelope, Err, Hear, HearFault, Heard, HostFault, List, Message, News, None, Ok, Option, Poll, PortAccount, PortAnswered, PortAnswers, PortHistory, PortHostsKeepCount, PortMoment, Result, Resume, Some, Submission, Watch, [], and-true, ap, arith, asked_of, asks, attention_of, credit_fault, end_says, ended, ended_in, ended_of, ends_in, ends_of, false, false≢true, find, granted, if◌then◌else◌, is_none, is_of, is_some, is_to_poll, length, length-append, ltb-false, min, nat_eq, nat_lt, nat_tests, news_said, noted, noted_poll, oldest, opcode_byte, or_parts, poll_of, polled_with, polls_oldest, refl, sent_in, submits, submits_unless_faulty, submitted_with, sum_by-cons, sym, true, without_by, ℕ, ◌&&◌, ◌++◌, ◌+◌, ◌-◌, ◌∙◌, ◌∷◌, ◌≡◌, ◌≤◌}
 use Rattle.mscp_host.specs.declared.heard.Heard.TheVariants as heards
 use Rattle.mscp_host.specs.declared.message.HearFault.TheVariants as faults
 use Rattle.mscp_host.specs.declared.news.HostFault.TheVariants as refusals
-use Rattle.mscp_host.specs.declared.news.News.{News}
-use Rattle.mscp_host.specs.declared.watch.Watch.{Watch}
-use Rattle.std.specs.Prelude.{min}
 use Rattle.mscp_host.specs.declared.news.Poll.TheVariants as polls
-use Rattle.mscp_host.specs.declared.asked.Asked.{Asked}
-use Rattle.mscp_host.specs.declared.heard.Heard.{Heard}
-use Rattle.mscp_host.specs.declared.message.HearFault.{HearFault}
-use Rattle.mscp_host.specs.declared.message.Message.{Message}
 use Rattle.mscp_host.specs.declared.message.Message.TheVariants as messages
-use Rattle.mscp_host.specs.PortAccounts.{PortAccount, asked_of, attention_of, credit_fault, end_says, ended, ended_of, ends_of, granted, heard_of, is_of, is_to_poll, news_said, noted, noted_poll, polled_with, submitted_with, submits_unless_faulty, without_by}
-use Rattle.mscp_host.specs.PortHistories.{Ask, Hear, Other, Resume, PortAnswered, PortAnswers, PortHistory, PortMoment, Submit, ended_in, ends_in, sent_in, told_in}
-use Rattle.mscp_host.specs.PortLaw.{PortHostsKeepCount}
+use Rattle.mscp_host.specs.PortAccounts.{heard_of}
+use Rattle.mscp_host.specs.PortHistories.{Ask, Other, Submit, told_in}
 use Rattle.mscp_host.proofs.PortBack.{resumed}
 
 -- what one moment changes

@@ -1,22 +1,15 @@
 -- What a moment of a host of a port is to the host of 64 credits in it.
-use Rattle.mscp_host.proofs.Common.{◌≡◌, ℕ, Bool, true, false, List, [], ◌∷◌, ◌++◌, refl, ap, sym, ◌∙◌, arith, if◌then◌else◌, find, Option, Some, None, is_some, Result, Ok, Err, and_parts, false≢true, ArrayVec, Command, End, HostFault, Poll, Submission, Watch, Account, answered, is_about_polled, is_code_of, news_of_figure, news_with, oldest, poll_of, received}
-use Rattle.mscp_host.specs.Accounts.{asks, polls_oldest, submits}
+use Rattle.mscp_host.proofs.Common.{Account, ArrayVec, Asked, Bool, Command, End, Envelope, Err, Hear, HearFault, Heard, HostFault, List, Message, None, Ok, Option, Poll, PortAccount, PortAnswers, PortMoment, Result, Resume, Some, Submission, Watch, [], and_parts, answered, ap, arith, as_read, asked_of, asks, attention_of, end_says, ended, ends_of, false, false≢true, find, granted, if◌then◌else◌, is_about_polled, is_code_of, is_of, is_some, may_be_of, message_in, news_in, news_of_figure, news_said, news_with, noted_poll, oldest, poll_of, polled_with, polls_oldest, received, refl, seen, seen_message, submits, submits_unless_faulty, submitted_with, sym, true, without_by, ℕ, ◌++◌, ◌∙◌, ◌∷◌, ◌≡◌}
 use Rattle.mscp_host.specs.Histories as hosts
-use Rattle.mscp_host.specs.Messages.{message_in}
-use Rattle.mscp_host.specs.declared.asked.Asked.{Asked}
-use Rattle.mscp_host.specs.declared.envelope.Envelope.{Envelope}
-use Rattle.mscp_host.specs.declared.heard.Heard.{Heard}
-use Rattle.mscp_host.specs.declared.message.HearFault.{HearFault}
-use Rattle.mscp_host.specs.declared.message.Message.{Message}
 use Rattle.mscp_host.specs.declared.message.Message.TheVariants as messages
 use Rattle.mscp_host.specs.declared.news.Poll.TheVariants as polls
 use Rattle.mscp_host.specs.declared.news.News.TheVariants as news
 use Rattle.mscp_host.specs.declared.news.HostFault.TheVariants as refusals
 use Rattle.mscp_host.specs.declared.message.HearFault.TheVariants as faults
 use Rattle.mscp_host.specs.declared.heard.Heard.TheVariants as heards
-use Rattle.mscp_host.specs.PortAccounts.{PortAccount, as_read, asked_of, attention_of, end_says, ended, ends_of, granted, heard_of, is_of, may_be_of, news_said, noted_poll, polled_with, submitted_with, submits_unless_faulty, without_by}
+use Rattle.mscp_host.specs.PortAccounts.{heard_of}
 use Rattle.mscp_host.proofs.PortBack.{resumed}
-use Rattle.mscp_host.specs.PortHistories.{Ask, Hear, Other, Resume, PortAnswers, PortMoment, Submit, news_in, seen, seen_message}
+use Rattle.mscp_host.specs.PortHistories.{Ask, Other, Submit}
 
 -- nothing of its own
 pub record IsQuiet (old : PortAccount) (m : PortMoment) (new : PortAccount) : Type 0 where

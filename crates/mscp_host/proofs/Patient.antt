@@ -1,13 +1,8 @@
 -- A watch waits a whole timeout.
-use Rattle.mscp_host.proofs.Common.{◌≡◌, ◌≤◌, ℕ, ◌+◌, Bool, true, false, ◌&&◌, cond, List, [], ◌∷◌, refl, ap, sym, subst, ◌∙◌, arith, if◌then◌else◌, not, and_parts, ltb-true, leb-true, not-true, false≢true}
-use Rattle.std.specs.Prelude.{min}
-use Rattle.std.proofs.lemmas.List.Sums.{sum_by-cons}
-use Rattle.mscp_host.specs.declared.heard.Heard.{Heard}
-use Rattle.mscp_host.specs.declared.ticking.Advice.{Advice}
+use Rattle.mscp_host.proofs.Common.{Advice, Bool, Heard, Lately, List, PortAccount, Tick, Told, WatchMoment, Watched, WatchesArePatient, [], advice, advised, and_parts, ap, arith, cond, counted, false, false≢true, if◌then◌else◌, is_answer, is_owed, is_silent, is_tick, is_unpolled, is_waiting, leb-true, ltb-true, min, not, not-true, refl, subst, sum_by-cons, sym, ticked, true, ℕ, ◌&&◌, ◌+◌, ◌∙◌, ◌∷◌, ◌≡◌, ◌≤◌}
 use Rattle.mscp_host.specs.declared.ticking.Advice.TheVariants as advices
 use Rattle.mscp_host.specs.declared.ticking.Watch.{Watch}
-use Rattle.mscp_host.specs.PortAccounts.{PortAccount}
-use Rattle.mscp_host.specs.Watching.{Lately, Tick, Told, WatchMoment, Watched, WatchesArePatient, advice, advised, counted, is_answer, is_owed, is_polled, is_silent, is_tick, is_unpolled, is_waiting, ticked}
+use Rattle.mscp_host.specs.Watching.{is_polled}
 
 -- ---- the newest moments
 

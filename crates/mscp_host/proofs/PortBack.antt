@@ -1,13 +1,6 @@
 -- The bytes that a host of a port is saved as say that host.
-use Rattle.mscp_host.proofs.Common.{All, ◌≡◌, ℕ, suc, ◌+◌, ◌*◌, ◌≤◌, List, [], ◌∷◌, ◌++◌, drop, map, length, refl, ap, sym, ◌∙◌, arith, le-leb, eq-eqb, length-append, bytes_eq-Decides, flat_map, None, Ok, Err, Result, if◌then◌else◌, nat_eq, true, bytes_eq, four, two, RestoreFault, Submission, restored, saved_bytes}
-use Rattle.std.proofs.lemmas.List.{drop-drop}
-use Rattle.mscp_host.specs.declared.asked.Asked.{Asked}
+use Rattle.mscp_host.proofs.Common.{All, Asked, Err, HasAskedRange, HasPortRange, IsPorted, IsSavedAs, List, Name, None, Ok, PortAccount, RestoreFault, Result, Submission, [], ap, arith, asked_in, asked_with, bytes_eq, bytes_eq-Decides, drop, drop-drop, eq-eqb, flat_map, four, host_part, if◌then◌else◌, le-leb, length, length-append, map, name_of_asked, name_of_submission, nat_eq, port_account_in, port_head_fault, port_restored, port_restored_unless, port_restored_with, port_saved_bytes, port_whose, refl, restored, saved_bytes, size_bytes, suc, sym, true, two, ℕ, ◌*◌, ◌++◌, ◌+◌, ◌∙◌, ◌∷◌, ◌≡◌, ◌≤◌}
 use Rattle.mscp_host.specs.declared.restoring.RestoreFault.TheVariants as faults
-use Rattle.mscp_host.specs.PortAccounts.{PortAccount}
-use Rattle.mscp_host.specs.PortHistories.{IsSavedAs}
-use Rattle.mscp_host.specs.Ported.{IsPorted, Name, name_of_asked, name_of_submission}
-use Rattle.mscp_host.specs.PortRestored.{asked_in, asked_with, host_part, port_account_in, port_head_fault, port_restored, port_restored_unless, port_restored_with, port_whose}
-use Rattle.mscp_host.specs.PortSaved.{HasAskedRange, HasPortRange, port_saved_bytes, size_bytes}
 use Rattle.mscp_host.proofs.Back.{saved_long}
 
 -- ---- the bytes that each command asks for

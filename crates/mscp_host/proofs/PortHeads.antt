@@ -1,10 +1,5 @@
 -- What the head of a saved host of a port tells, and what is read behind it.
-use Rattle.mscp_host.proofs.Common.{◌≡◌, ℕ, suc, ◌+◌, ◌-◌, ◌*◌, ◌<◌, ◌≤◌, Bool, true, List, [], ◌∷◌, ◌++◌, drop, take, map, length, not, if◌then◌else◌, Option, Some, None, refl, ap, sym, ◌∙◌, arith, and_parts, eqb-true, leb-true, true≢false, num, RestoreFault, Submission, Account, saved_bytes}
-use Rattle.std.proofs.lemmas.List.{drop-drop, length-drop, length-take-le, take_more}
-use Rattle.std.specs.Prelude.{slice_index_or}
-use Rattle.mscp_host.specs.declared.asked.Asked.{Asked}
-use Rattle.mscp_host.specs.Ported.{name_of_asked, name_of_submission}
-use Rattle.mscp_host.specs.PortRestored.{asked_count, asked_in, asked_with, host_part, port_head_fault}
+use Rattle.mscp_host.proofs.Common.{Account, Asked, Bool, List, None, Option, RestoreFault, Some, Submission, [], and_parts, ap, arith, asked_count, asked_in, asked_with, drop, drop-drop, eqb-true, host_part, if◌then◌else◌, leb-true, length, length-drop, length-take-le, map, name_of_asked, name_of_submission, not, num, port_head_fault, refl, saved_bytes, slice_index_or, suc, sym, take, take_more, true, true≢false, ℕ, ◌*◌, ◌++◌, ◌+◌, ◌-◌, ◌<◌, ◌∙◌, ◌∷◌, ◌≡◌, ◌≤◌}
 use Rattle.mscp_host.proofs.Back.{saved_long}
 
 -- what was tested first holds

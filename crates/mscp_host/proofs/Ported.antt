@@ -1,8 +1,5 @@
 -- What is kept of commands beside the bytes that they ask for, on both sides.
-use Rattle.mscp_host.proofs.Common.{◌≡◌, ℕ, Bool, List, [], ◌∷◌, map, refl, ap, sym, ◌∙◌, arith, nat_eq, Option, End, Submission, Account, answered, outstanding_with, received, with_told, without}
-use Rattle.mscp_host.specs.declared.asked.Asked.{Asked}
-use Rattle.mscp_host.specs.PortAccounts.{as_read, is_of, without_by}
-use Rattle.mscp_host.specs.Ported.{Name, name_of_asked, name_of_submission}
+use Rattle.mscp_host.proofs.Common.{Account, Asked, Bool, End, List, Name, Option, Submission, [], answered, ap, arith, as_read, is_of, map, name_of_asked, name_of_submission, nat_eq, outstanding_with, received, refl, sym, with_told, without, without_by, ℕ, ◌∙◌, ◌∷◌, ◌≡◌}
 
 abbrev is_named : ℕ → Name → Bool
 is_named reference n = nat_eq n.reference reference

@@ -1,14 +1,8 @@
 -- What is done for a step that moves a block goes by its part alone.
-use Rattle.mscp_port.proofs.Common.{◌≡◌, ◌∙◌, ℕ, Bool, true, false, List, Option, None, Some, Result, Ok, Err, arith, refl, ap, sym, Upcoming, Port, Buffer, Verdict, MoveKind, Order, begun_step, begun_task}
-use Rattle.std.specs.Prelude.{◌&&◌, if◌then◌else◌}
-use Rattle.mscp_port.specs.Blocks.{changed_verdict, good_step, has_changed, is_available, kept_of, move_of, move_task, moved_by, part_task, part_with, refusal_of, takes_any_volume, task_of, unless_fault}
-use Rattle.mscp_port.specs.Buffers.{part_of}
-use Rattle.mscp_port.specs.Moved.{known_task, move_wanted, part_at, part_now, part_wanted}
-use Rattle.mscp_port.specs.Volumes.{place_in, volume_at}
+use Rattle.mscp_port.proofs.Common.{Bool, Buffer, Err, List, MoveKind, None, Ok, Option, Order, Port, Result, Some, Task, Upcoming, Verdict, Volume, ap, arith, begun_step, begun_task, changed_verdict, false, good_step, has_changed, if◌then◌else◌, is_available, kept_of, known_task, move_of, move_task, move_wanted, moved_by, part_at, part_now, part_of, part_task, part_wanted, part_with, place_in, refl, refusal_of, sym, takes_any_volume, task_of, true, unless_fault, volume_at, ℕ, ◌∙◌, ◌≡◌}
+use Rattle.std.specs.Prelude.{◌&&◌}
 use Rattle.mscp_port.specs.declared.action.Action.TheVariants as actions
-use Rattle.mscp_port.specs.declared.task.Task.{Task}
 use Rattle.mscp_port.specs.declared.task.Task.TheVariants as tasks
-use Rattle.mscp_port.specs.declared.volumes.Volume.{Volume}
 
 -- only a transfer moves a block
 moves_alone : (o : Order) (l : Option ℕ) (move : MoveKind × ℕ) → moved_by o l ≡ Some move

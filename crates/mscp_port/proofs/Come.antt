@@ -1,9 +1,7 @@
 -- A message by which a command comes: its number is new, and the controller gets it as it was read.
-use Rattle.mscp_port.proofs.Common.{◌≡◌, ◌&&◌, ℕ, Bool, true, false, cond, not, List, [], ◌∷◌, ◌++◌, ◌≤◌, ap, sym, subst, None, Some, refl, length, arith, nat_eq, nat_lt, slice_index, list_any, and_parts, eqb-true, false≢true, le-ltb, ltb-false, or_parts, list_any-append, none-some, command_of, num, class, is_immediate_class, Shape, First, Settings, Record, holds, is_queued, refusal, Holdings, numbers, outstanding_of, waiting_on, handed}
+use Rattle.mscp_port.proofs.Common.{Bool, First, Holdings, List, None, Record, Settings, Shape, Some, [], and_parts, ap, arith, class, command_of, cond, eqb-true, false, false≢true, handed, holds, is_formality, is_immediate_class, is_queued, le-ltb, length, list_any, list_any-append, ltb-false, nat_eq, nat_lt, next_named, none-some, not, num, numbers, or_parts, outstanding_of, refl, refusal, slice_index, stand_in, subst, sym, true, waiting_on, ℕ, ◌&&◌, ◌++◌, ◌∷◌, ◌≡◌, ◌≤◌}
 use Rattle.std.specs.Prelude.{replicate, take}
 use Rattle.mscp_controller.specs.declared.entry.SendFault.TheVariants as faults
-use Rattle.mscp_port.specs.Formalities.{is_formality, stand_in}
-use Rattle.mscp_port.specs.Messages.{next_named}
 use Rattle.mscp_port.proofs.Kept.{is_numbered}
 
 -- ---- its number is new

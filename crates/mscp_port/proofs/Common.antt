@@ -3,7 +3,7 @@ pub use Rattle.std.proofs.Common.{All, Bool, Contains, IfSome, IsSomeAnd, List, 
 pub use Rattle.std.proofs.Math.Nat.{min-le_left}
 pub use Rattle.std.proofs.Math.Seq.{drop-append_seam, take-append_seam}
 pub use Rattle.std.proofs.lemmas.Bool.{and_from, and_parts, cases_eq, cases_lt, eq-eqb, eqb-false, eqb-true, false≢true, le-leb, le-ltb, lt-ltb, ltb-false, ltb-true, or_left, or_parts, or_right}
-pub use Rattle.std.proofs.lemmas.List.{append-nil, append_cancel_right, drop-drop, drop_more, get_or-drop, get_or_past, length-append, length-drop, length-map, length-set, length-take, take-append-drop, take-replicate}
+pub use Rattle.std.proofs.lemmas.List.{append-nil, append_cancel_right, drop-drop, drop_more, get_or-drop, get_or_past, length-append, length-drop, length-map, length-set, length-take, map_more, take-append-drop, take-replicate, take_all}
 pub use Rattle.std.proofs.lemmas.List.Elements.{All-append, All-cons, All-contains, All-contains_itself, All-drop, All-filter, All-get_or, All-map, All-nil, All-push, All-take, Contains-append_left, Contains-append_right, Contains-push, Contains-push_cases, filter_passes, recursion_from_All}
 pub use Rattle.std.proofs.lemmas.List.Folds.{list_any-append}
 pub use Rattle.std.proofs.lemmas.List.Quantifiers.{position-Some}
@@ -11,8 +11,9 @@ pub use Rattle.std.proofs.lemmas.Map.Views.{any-filter_same}
 pub use Rattle.std.proofs.lemmas.Option.{get_or_from_slice_get, none-some, same_Some}
 pub use Rattle.std.proofs.lemmas.Slice.Eq.{bytes_eq-Decides}
 pub use Rattle.std.specs.List.{AllByRecursion, list_any, position}
-pub use Rattle.std.specs.Prelude.{Err, IsOk, Ok, Result, find, flat_map, if◌then◌else◌, nat_lt, option_map, option_to_list, slice_index}
+pub use Rattle.std.specs.Prelude.{Err, IfOk, IsOk, Ok, Result, find, flat_map, if◌then◌else◌, nat_lt, option_map, option_to_list, slice_index, ◌==◌}
 pub use Rattle.std.specs.Str.{bytes_eq}
+pub use Rattle.byteorder.specs.Endian.{little_bytes}
 pub use Rattle.arrayvec.proofs.ArrayVecLemmas.{filter-from_retain}
 pub use Rattle.arrayvec.specs.ArrayVec.{array_vec_len}
 pub use Rattle.mscp_controller.specs.Arrival.{holds, is_queued, refusal}
@@ -21,9 +22,9 @@ pub use Rattle.mscp_controller.specs.Restored.{IsSound}
 pub use Rattle.mscp_controller.specs.declared.entry.NotBegun.{NotBegun}
 pub use Rattle.mscp_controller.specs.declared.entry.SendFault.{SendFault}
 pub use Rattle.mscp_controller.specs.declared.entry.Sent.{Sent}
-pub use Rattle.mscp_drive.specs.Shape.{Shape, one_block}
 pub use Rattle.mscp_drive.specs.Both.{of}
 pub use Rattle.mscp_drive.specs.Settings.{Settings, credits_of}
+pub use Rattle.mscp_drive.specs.Shape.{Shape, one_block}
 pub use Rattle.mscp_drive.specs.declared.block.Block.{Block}
 pub use Rattle.mscp_drive.specs.declared.connection.Connection.{Connection}
 pub use Rattle.mscp_drive.specs.declared.connection.Connection.TheVariants.{First}
@@ -37,29 +38,31 @@ pub use Rattle.mscp_packet.specs.declared.command.Order.{Order}
 pub use Rattle.mscp_packet.specs.declared.end.End.{End}
 pub use Rattle.mscp_port.specs.Acted.{WritesOut}
 pub use Rattle.mscp_port.specs.Areas.{AreRings, Rings, rings_named, slot_in}
-pub use Rattle.mscp_port.specs.Blocks.{block_told, kept_at, kept_of, writes}
-pub use Rattle.mscp_port.specs.Buffers.{is_of, kept_beside, without_aborted}
-pub use Rattle.mscp_port.specs.Calls.{Changes, ChangesByActing, Dies, Goes, Hears, HoldsPacket, IsMadeOf, PutsIn, ReadsIp, StaysInStage, TakesStep, Ticks, Wants, WritesSa, read_again, step_answered}
+pub use Rattle.mscp_port.specs.Blocks.{block_told, changed_verdict, good_step, has_changed, is_available, kept_at, kept_of, move_of, move_task, moved_by, part_task, part_with, refusal_of, takes_any_volume, task_of, unless_fault, writes}
+pub use Rattle.mscp_port.specs.Buffers.{IsInBuffer, is_of, kept_beside, part_of, without_aborted}
+pub use Rattle.mscp_port.specs.Calls.{Changes, ChangesByActing, ChangesVolume, Dies, Goes, Hears, HoldsPacket, IsMadeOf, PutsIn, ReadsIp, StaysInStage, TakesStep, Ticks, Wants, WritesSa, read_again, step_again, step_answered, step_at}
 pub use Rattle.mscp_port.specs.Codes.{IsTask, bus_byte, bus_in, coded_task, has_size, number_or_none, optional, some_byte, stage_byte, stage_in, stage_word, task_in}
-pub use Rattle.mscp_port.specs.Decided.{decided_in}
+pub use Rattle.mscp_port.specs.Decided.{answer_of, decided_answers, decided_in}
 pub use Rattle.mscp_port.specs.Departures.{IsDelivered, IsForgotten, IsWritten, Told, begins, begun, disk_credits, ends_in, gone, leaves}
-pub use Rattle.mscp_port.specs.Histories.{Answered, Picking, Becomes, Call, HasCredit, HasInOrder, IsNamed, IsNamedForData, IsNamedForRings, LookAgain, NamesArea, NamesBuffer, NamesPacket, Next, Protect, PutAside, ReadIp, Tick, VolumeCame, VolumeWent, WasRead, Went, WriteIp, WriteSa, reads, words}
+pub use Rattle.mscp_port.specs.Fair.{HearsPoll, IsOwed, TellsStep}
+pub use Rattle.mscp_port.specs.Formalities.{is_formality, stand_in}
+pub use Rattle.mscp_port.specs.Histories.{Answered, Becomes, Call, HasCredit, HasInOrder, IsNamed, IsNamedForData, IsNamedForRings, LookAgain, NamesArea, NamesBuffer, NamesPacket, Next, Picking, Protect, PutAside, ReadIp, Tick, VolumeCame, VolumeWent, WasRead, Went, WriteIp, WriteSa, reads, words}
 pub use Rattle.mscp_port.specs.Kept.{IsSaidBy, WasSaid}
-pub use Rattle.mscp_port.specs.Loaded.{is_loaded, is_locked}
-pub use Rattle.mscp_port.specs.Messages.{handed, number_or_zero, own_end_of}
+pub use Rattle.mscp_port.specs.Loaded.{blocks_in, is_loaded, is_locked}
+pub use Rattle.mscp_port.specs.Messages.{handed, next_named, number_or_zero, own_end_of}
 pub use Rattle.mscp_port.specs.Mounted.{Ends, IsChangeAt, IsMounted, IsRemounted, Mount, flagged, mount_after, offline}
-pub use Rattle.mscp_port.specs.Moved.{BeginsBlock, GoesOnWithBlock, HeedsStep, TakesBegun, TakesBlock, begun_task, end_brought, kept_after, place_heeded, volumes_after}
+pub use Rattle.mscp_port.specs.Moved.{BeginsBlock, GoesOnWithBlock, HeedsStep, TakesBegun, TakesBlock, begun_task, block_begun, end_brought, kept_after, known_task, move_wanted, part_at, part_now, part_wanted, place_heeded, volumes_after}
 pub use Rattle.mscp_port.specs.Outgoings.{IsNews, KeepsSaying, LooksForOut, Says, TakesEnd, TellsNews, news_place}
 pub use Rattle.mscp_port.specs.Packets.{credits_told}
 pub use Rattle.mscp_port.specs.Places.{AsksFirst, IsPut, IsPutForData, IsPutForRings, PutsBuffer, PutsPacket, asked, read_from, reads_at, with_read}
-pub use Rattle.mscp_port.specs.Ports.{Drops, IsAsNew, IsDue, IsInRingsOrPacket, IsInSomeBuffer, IsOfBlock, IsReadingSlot, IsReadingText, IsWithin, Leaves, in_hand, asks_blocks}
-pub use Rattle.mscp_port.specs.Restored.{IsFramed, all_decided_in, area_in, decided_count, decided_place, buffer_count, buffer_in, buffer_place, buffers_in, coded_in, controller_in, controller_place, frame_fault, front_in, held_in, is_framed, outgoing_in, over, port_in, restored, restored_unless, rings_if, text_count, text_in, told_front, unless, volume_in, volumes_in, whose}
+pub use Rattle.mscp_port.specs.Ports.{Drops, IsAsNew, IsDue, IsInRingsOrPacket, IsInSomeBuffer, IsOfBlock, IsReadingSlot, IsReadingText, IsWithin, Leaves, asks_blocks, block_is_due, in_hand}
+pub use Rattle.mscp_port.specs.Restored.{IsFramed, all_decided_in, area_in, buffer_count, buffer_in, buffer_place, buffers_in, coded_in, controller_in, controller_place, decided_count, decided_place, frame_fault, front_in, held_in, is_framed, outgoing_in, over, port_in, restored, restored_unless, rings_if, text_count, text_in, told_front, unless, volume_in, volumes_in, whose}
 pub use Rattle.mscp_port.specs.Saved.{HasBufferRange, HasDecidedRange, HasRange, HasVolumeRange, buffer_bytes, coded_bytes, decided_bytes, frame_bytes, front_bytes, hand_bytes, hardware_bytes, length_before, length_of, outgoing_byte, outgoing_text, rings_bytes, rings_or_none, saved_bytes, stage_bytes, state_bytes, volume_bytes, words_bytes, written_bytes}
-pub use Rattle.mscp_port.specs.Seen.{SeesText, Sends, answered_to, changes_at, kept_of_sent}
+pub use Rattle.mscp_port.specs.Seen.{SeesText, Sends, answered_to, bytes_read, changes_at, connection_in, header_fault, is_poll, kept_of_sent, length_in, slot_seen}
 pub use Rattle.mscp_port.specs.Sizes.{clear_size, text_size}
 pub use Rattle.mscp_port.specs.Slots.{is_owned, text_of}
-pub use Rattle.mscp_port.specs.Volumes.{MayMove, no_volume, place_in, protected_by, volume_at, volume_changed, volume_heeded, volume_reset, volume_put, volumes_heeded, volumes_with}
-pub use Rattle.mscp_port.specs.Wanted.{IsWanted, given_in}
+pub use Rattle.mscp_port.specs.Volumes.{MayMove, no_volume, place_in, protected_by, volume_at, volume_changed, volume_heeded, volume_protected, volume_put, volume_reset, volumes_heeded, volumes_with}
+pub use Rattle.mscp_port.specs.Wanted.{IsMovedFor, IsWanted, given_in}
 pub use Rattle.mscp_port.specs.declared.action.Action.{Action}
 pub use Rattle.mscp_port.specs.declared.action.Outcome.{Outcome}
 pub use Rattle.mscp_port.specs.declared.action.Unasked.{Unasked}
@@ -73,12 +76,14 @@ pub use Rattle.mscp_port.specs.declared.port.Words.{Words}
 pub use Rattle.mscp_port.specs.declared.port.restoring.RestoreFault.{RestoreFault}
 pub use Rattle.mscp_port.specs.declared.port.watching.NoUnit.{NoUnit}
 pub use Rattle.mscp_port.specs.declared.rings.Side.{Side}
-pub use Rattle.mscp_port.specs.declared.rings.Side.TheVariants.{Responses}
+pub use Rattle.mscp_port.specs.declared.rings.Side.TheVariants.{Commands, Responses}
 pub use Rattle.mscp_port.specs.declared.slot.Descriptor.{Descriptor}
 pub use Rattle.mscp_port.specs.declared.stage.Stage.{Stage}
 pub use Rattle.mscp_port.specs.declared.task.Task.{Task}
 pub use Rattle.mscp_port.specs.declared.verdict.Verdict.{Verdict}
+pub use Rattle.mscp_port.specs.declared.volumes.Medium.{Medium}
 pub use Rattle.mscp_port.specs.declared.volumes.Volume.{Volume}
+pub use Rattle.mscp_port.specs.declared.volumes.VolumeFault.{VolumeFault}
 pub use Rattle.mscp_queue.proofs.Masked.{eq_false, eq_true}
 pub use Rattle.mscp_queue.proofs.Named.{is_same, same_is}
 pub use Rattle.mscp_queue.specs.Names.{name_on, same_connection}

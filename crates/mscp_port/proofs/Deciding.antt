@@ -1,6 +1,5 @@
 -- What is decided of several ends, one after the other.
-use Rattle.mscp_port.proofs.Common.{◌≡◌, ◌≤◌, ◌<◌, ◌+◌, ◌-◌, ◌++◌, ◌∷◌, [], ℕ, List, map, take, drop, length, get_or, arith, append_assoc, get_or-drop, length-drop}
-use Rattle.std.proofs.lemmas.List.{map_more, take_all}
+use Rattle.mscp_port.proofs.Common.{List, [], append_assoc, arith, drop, get_or, get_or-drop, length, length-drop, map, map_more, take, take_all, ℕ, ◌++◌, ◌+◌, ◌-◌, ◌<◌, ◌∷◌, ◌≡◌, ◌≤◌}
 
 pub decided_more : {X Y : Type 0} (f : X → Y) (all : List Y) (xs : List X) (n i : ℕ) (d : X) (ys zs : List Y) (y : Y)
     → n ≤ i → i < length xs → ys ≡ all ++ map f (take (i - n) (drop n xs)) → zs ≡ ys ++ y ∷ []

@@ -1,11 +1,6 @@
 -- Between two polls comes a step of a command, if one may be served.
-use Rattle.mscp_port.proofs.Common.{◌≡◌, ◌≢◌, ◌⊎◌, ◌∙◌, ℕ, Bool, true, false, List, [], ◌∷◌, Option, None, Some, Result, Ok, Err, inl, inr, refl, ap, sym, arith, false≢true, none-some, Holdings, Hardware, Port, Action, Descriptor, Record, Sent, SendFault, Side, Task, IsAsNew, IsDue, IsMadeOf, IsForgotten, Answered, Becomes, Call, WriteIp, ReadIp, WriteSa, Next, PutAside, WasRead, Went, LookAgain, Tick, VolumeCame, VolumeWent, Protect, Hears, SeesText, Sends, Wants, answered_to, own_end_of, ◌&&◌, not, nat_eq, length, if◌then◌else◌, MatchOption, num, is_owned, Responses, Picking, Choice}
-use Rattle.std.specs.Prelude.{◌==◌}
-use Rattle.mscp_port.specs.Fair.{HearsPoll, IsOwed, TellsStep}
+use Rattle.mscp_port.proofs.Common.{Action, Answered, Becomes, Bool, Call, Choice, Commands, Descriptor, Err, Hardware, Hears, HearsPoll, Holdings, IsAsNew, IsDue, IsForgotten, IsMadeOf, IsOwed, List, LookAgain, MatchOption, Next, None, Ok, Option, Picking, Port, Protect, PutAside, ReadIp, Record, Responses, Result, SeesText, SendFault, Sends, Sent, Side, Some, Task, TellsStep, Tick, VolumeCame, VolumeWent, Wants, WasRead, Went, WriteIp, WriteSa, [], answered_to, ap, arith, block_is_due, bytes_read, connection_in, false, false≢true, header_fault, if◌then◌else◌, inl, inr, is_owned, is_poll, length, length_in, nat_eq, none-some, not, num, own_end_of, refl, slot_seen, sym, true, ℕ, ◌&&◌, ◌==◌, ◌∙◌, ◌∷◌, ◌≡◌, ◌≢◌, ◌⊎◌}
 use Rattle.mscp_controller.specs.declared.entry.Sent.TheVariants as sents
-use Rattle.mscp_port.specs.Ports.{block_is_due}
-use Rattle.mscp_port.specs.Seen.{bytes_read, connection_in, header_fault, is_poll, length_in, slot_seen}
-use Rattle.mscp_port.specs.declared.rings.Side.TheVariants.{Commands}
 use Rattle.mscp_port.specs.declared.stage.Stage.TheVariants as stages
 use Rattle.mscp_port.specs.declared.task.Task.TheVariants as tasks
 use Rattle.mscp_port.proofs.Loads.{none_or_not, up_or_not}

@@ -1,8 +1,5 @@
 -- What a port knows stays among what it knew.
-use Rattle.mscp_port.proofs.Common.{◌≡◌, ◌⊎◌, ◌∙◌, ℕ, true, List, Option, None, Some, Contains, IfSome, Result, ap, sym, get_or, arith, none-some, position, position-Some, Connection, Buffer, Port, Side, Descriptor, Task, KeepsSaying, Says, TakesEnd, TellsNews, in_hand, ChangesByActing, StaysInStage, is_of, Verdict, Choice}
-use Rattle.std.specs.Prelude.{IfOk}
-use Rattle.mscp_port.specs.Buffers.{IsInBuffer}
-use Rattle.mscp_port.specs.Ports.{IsInSomeBuffer}
+use Rattle.mscp_port.proofs.Common.{Buffer, ChangesByActing, Choice, Connection, Contains, Descriptor, IfOk, IfSome, IsInBuffer, IsInSomeBuffer, KeepsSaying, List, None, Option, Port, Result, Says, Side, Some, StaysInStage, TakesEnd, Task, TellsNews, Verdict, ap, arith, get_or, in_hand, is_of, none-some, position, position-Some, sym, true, ℕ, ◌∙◌, ◌≡◌, ◌⊎◌}
 use Rattle.mscp_port.specs.declared.task.Task.TheVariants as tasks
 
 -- a descriptor that is in hand after is the one that was in hand before

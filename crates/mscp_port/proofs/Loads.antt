@@ -1,12 +1,8 @@
 -- What was told of the volumes is what a port knows of them.
-use Rattle.mscp_port.proofs.Common.{subst, ◌≡◌, ◌≢◌, ◌⊎◌, ◌∙◌, ◌<◌, ℕ, Bool, true, false, cond, if◌then◌else◌, List, [], ◌∷◌, Option, None, Some, inl, inr, refl, ap, sym, length, get_or, set, arith, Result, Ok, Err, nat_eq, cases_eq, cases_lt, eqb-true, false≢true, get_or-set_other, get_or-set_same, get_or_past, length-set, position-Some, none-some, eq_false, eq_true, Shape, one_block, End, MoveKind, Connection, Holdings, Buffer, Hardware, Port, NoUnit, Stage, Task, Volume, writes, Changes, PutsIn, IsMadeOf, Answered, Becomes, Call, WriteIp, ReadIp, WriteSa, Next, PutAside, WasRead, Went, LookAgain, Tick, Protect, VolumeCame, VolumeWent, is_loaded, is_locked, GoesOnWithBlock, volumes_after, IsNews, LooksForOut, Says, IsAsNew, no_volume, place_in, protected_by, volume_at, volume_changed, volume_heeded, volume_put, volumes_heeded, volumes_with, Picking, Choice}
+use Rattle.mscp_port.proofs.Common.{Answered, Becomes, Bool, Buffer, Call, Changes, Choice, Connection, End, Err, GoesOnWithBlock, Hardware, Holdings, IsAsNew, IsMadeOf, IsNews, List, LookAgain, LooksForOut, Medium, MoveKind, Next, NoUnit, None, Ok, Option, Picking, Port, Protect, PutAside, PutsIn, ReadIp, Result, Says, Shape, Some, Stage, Task, Tick, Volume, VolumeCame, VolumeFault, VolumeWent, WasRead, Went, WriteIp, WriteSa, [], ap, arith, blocks_in, cases_eq, cases_lt, cond, eq_false, eq_true, eqb-true, false, false≢true, get_or, get_or-set_other, get_or-set_same, get_or_past, if◌then◌else◌, inl, inr, is_loaded, is_locked, length, length-set, nat_eq, no_volume, none-some, one_block, place_in, position-Some, protected_by, refl, set, subst, sym, true, volume_at, volume_changed, volume_heeded, volume_protected, volume_put, volumes_after, volumes_heeded, volumes_with, writes, ℕ, ◌<◌, ◌∙◌, ◌∷◌, ◌≡◌, ◌≢◌, ◌⊎◌}
 use Rattle.mscp_port.specs.declared.action.Action.TheVariants as actions
 use Rattle.mscp_port.specs.declared.stage.Stage.TheVariants as stages
 use Rattle.mscp_port.specs.declared.task.Task.TheVariants as tasks
-use Rattle.mscp_port.specs.declared.volumes.Medium.{Medium}
-use Rattle.mscp_port.specs.declared.volumes.VolumeFault.{VolumeFault}
-use Rattle.mscp_port.specs.Loaded.{blocks_in}
-use Rattle.mscp_port.specs.Volumes.{volume_protected}
 use Rattle.mscp_port.proofs.Credits.{settings_stay}
 use Rattle.mscp_port.proofs.Begun.{taken_or_not}
 

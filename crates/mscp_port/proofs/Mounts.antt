@@ -1,9 +1,7 @@
 -- What a host has made of a unit is what a port holds of its volume.
-use Rattle.mscp_port.proofs.Common.{Ok, Err, ◌≡◌, ◌≢◌, ◌⊎◌, ◌∙◌, ◌<◌, ◌≤◌, ℕ, Bool, true, false, List, [], ◌∷◌, Option, None, Some, inl, inr, refl, ap, sym, subst, length, set, arith, cases_eq, cases_lt, false≢true, get_or-set_other, get_or-set_same, get_or_past, length-set, Shape, End, MoveKind, Connection, Holdings, Buffer, Hardware, Port, Verdict, Volume, kept_of, writes, IsMadeOf, IsForgotten, Answered, Becomes, Call, WriteIp, ReadIp, WriteSa, Next, PutAside, WasRead, Went, LookAgain, Tick, Protect, VolumeCame, VolumeWent, Ends, IsChangeAt, IsMounted, IsRemounted, Mount, flagged, mount_after, offline, GoesOnWithBlock, HeedsStep, end_brought, place_heeded, IsNews, Says, news_place, MayMove, no_volume, place_in, protected_by, volume_at, volume_changed, volume_heeded, volume_put, volumes_heeded, volumes_with, Picking}
+use Rattle.mscp_port.proofs.Common.{Answered, Becomes, Bool, Buffer, Call, ChangesVolume, Connection, End, Ends, Err, GoesOnWithBlock, Hardware, HeedsStep, Holdings, IsChangeAt, IsForgotten, IsMadeOf, IsMounted, IsNews, IsRemounted, List, LookAgain, MayMove, Mount, MoveKind, Next, None, Ok, Option, Picking, Port, Protect, PutAside, ReadIp, Says, Shape, Some, Tick, Verdict, Volume, VolumeCame, VolumeWent, WasRead, Went, WriteIp, WriteSa, [], ap, arith, cases_eq, cases_lt, end_brought, false, false≢true, flagged, get_or-set_other, get_or-set_same, get_or_past, inl, inr, kept_of, length, length-set, mount_after, news_place, no_volume, offline, place_heeded, place_in, protected_by, refl, set, subst, sym, true, volume_at, volume_changed, volume_heeded, volume_protected, volume_put, volumes_heeded, volumes_with, writes, ℕ, ◌<◌, ◌∙◌, ◌∷◌, ◌≡◌, ◌≢◌, ◌≤◌, ◌⊎◌}
 use Rattle.mscp_port.specs.declared.action.Action.TheVariants as actions
 use Rattle.mscp_port.specs.declared.stage.Stage.TheVariants as stages
-use Rattle.mscp_port.specs.Calls.{ChangesVolume}
-use Rattle.mscp_port.specs.Volumes.{volume_protected}
 use Rattle.mscp_port.proofs.Begun.{taken_or_not}
 use Rattle.mscp_port.proofs.Loads.{looks_or_not}
 

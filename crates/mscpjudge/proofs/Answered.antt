@@ -1,21 +1,9 @@
 -- What is said of one log, and of one port more.
-use Rattle.std.proofs.Common.{◌≡◌, inl, inr, ℕ, List, sym, ap, ◌∙◌, Result, Ok, Err}
-use Rattle.mscp_reader.specs.Outcome.{Fails}
-use Rattle.mscp_reader.specs.declared.fault.ReadFault.{ReadFault}
+use Rattle.mscpjudge.proofs.Common.{ComesOf, Err, Extent, Fails, IsFault, JudgesAll, List, Log, Ok, ReadFault, Result, Says, ScriptFault, TellsOne, Told, Verdict, Wrong, ap, extent_text, inl, inr, sym, verdict_by, wire_outcome, ℕ, ◌∙◌, ◌≡◌}
 use Rattle.mscp_reader.specs.declared.fault.ReadFault.TheVariants as reads
-use Rattle.mscp_reader.specs.declared.fault.ScriptFault.{ScriptFault}
-use Rattle.mscp_wire.specs.Log.{Log}
-use Rattle.mscp_wire.specs.Right.{Says}
-use Rattle.mscp_wire.specs.declared.log.Verdict.{Verdict}
 use Rattle.mscp_wire.specs.declared.log.Verdict.TheVariants as verdicts
-use Rattle.mscp_wire.specs.declared.wrong.Wrong.{Wrong}
-use Rattle.mscpjudge.specs.Credited.{ComesOf, JudgesAll}
 use Rattle.mscpjudge.proofs.Coming.{Came, came_of}
-use Rattle.mscpjudge.specs.Told.{IsFault, TellsOne, extent_text, verdict_by}
-use Rattle.mscpjudge.specs.Wired.{wire_outcome}
-use Rattle.mscpjudge.specs.declared.telling.Extent.{Extent}
 use Rattle.mscpjudge.specs.declared.telling.Extent.TheVariants as extents
-use Rattle.mscpjudge.specs.declared.telling.Told.{Told}
 
 -- ---- one log
 

@@ -1,15 +1,6 @@
 -- What is said of a verdict is what is said of what came of the log.
-use Rattle.std.proofs.Common.{◌≡◌, ℕ, List, ◌++◌, ap, ◌∙◌, refl, Result, Ok, Err}
-use Rattle.std.specs.List.{flat_map}
-use Rattle.mscp_wire.specs.Log.{Log}
-use Rattle.mscp_wire.specs.Totals.{totals_of}
-use Rattle.mscp_wire.specs.Doubts.{doubts_of}
-use Rattle.mscp_wire.specs.declared.log.Verdict.{Verdict}
+use Rattle.mscpjudge.proofs.Common.{ComesOf, Err, JudgesAll, List, Log, Ok, Result, Verdict, Wrong, all_text, ap, came_outcome, came_text, counted_text, doubts_of, doubts_text, flat_map, outstanding_text, refl, totals_of, verdict_found, wire_outcome, wire_text, ℕ, ◌++◌, ◌∙◌, ◌≡◌}
 use Rattle.mscp_wire.specs.declared.log.Verdict.TheVariants as verdicts
-use Rattle.mscp_wire.specs.declared.wrong.Wrong.{Wrong}
-use Rattle.mscpjudge.specs.Credited.{ComesOf, JudgesAll}
-use Rattle.mscpjudge.specs.Wired.{came_outcome, came_text, counted_text, doubts_text, outstanding_text, wire_outcome, wire_text}
-use Rattle.mscpjudge.specs.Found.{all_text, verdict_found}
 
 pub record Came {A : Type 0} (number : ℕ → ℕ) (verdict : Verdict A) (log : List ℕ) : Type 0 where
   pub came : Result Log Wrong

@@ -1,7 +1,5 @@
 -- One text more.
-use Rattle.std.proofs.Common.{◌≡◌, ℕ, ◌+◌, List, [], ◌++◌, refl, ap, ◌∙◌, add-one, append_assoc, Result, Ok, Err}
-use Rattle.std.specs.Result.{OnOk}
-use Rattle.mscpjudge.specs.Counted.{texts}
+use Rattle.mscpjudge.proofs.Common.{Err, List, Ok, OnOk, Result, [], add-one, ap, append_assoc, refl, texts, ℕ, ◌++◌, ◌+◌, ◌∙◌, ◌≡◌}
 
 pub texts_none : (f : ℕ → List ℕ) → texts f 0 ≡ []
 unfolding texts

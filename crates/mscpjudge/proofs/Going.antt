@@ -1,17 +1,6 @@
 -- What comes of the lines of a log of which all is found that is wrong.
-use Rattle.std.proofs.Common.{◌≡◌, ℕ, ◌+◌, List, [], ◌∷◌, ◌++◌, refl, sym, ap, subst, ◌∙◌, Option, Some, None, Result, Ok, Err}
-use Rattle.mscp_packet.specs.Steps.{◌>>=◌}
-use Rattle.mscp_reader.specs.Outcome.{Fails, in_line}
-use Rattle.mscp_reader.specs.declared.fault.ReadFault.{ReadFault}
+use Rattle.mscpjudge.proofs.Common.{Course, Err, Fails, Finding, Findings, Gathered, GoesOn, List, None, Ok, Option, ReadFault, Result, ScriptFault, Some, Wrong, [], ap, findings_with, found_beside, gathered_after, gathered_in, in_line, line_breach, line_says, listed, newest, refl, subst, sym, ℕ, ◌++◌, ◌+◌, ◌>>=◌, ◌∙◌, ◌∷◌, ◌≡◌}
 use Rattle.mscp_reader.specs.declared.fault.ReadFault.TheVariants as reads
-use Rattle.mscp_reader.specs.declared.fault.ScriptFault.{ScriptFault}
-use Rattle.mscp_wire.specs.Course.{Findings, GoesOn, findings_with, listed}
-use Rattle.mscp_wire.specs.Log.{line_says}
-use Rattle.mscp_wire.specs.declared.course.Course.{Course}
-use Rattle.mscp_wire.specs.declared.course.Finding.{Finding}
-use Rattle.mscp_wire.specs.declared.wrong.Wrong.{Wrong}
-use Rattle.mscpjudge.specs.Credits.{line_breach}
-use Rattle.mscpjudge.specs.Found.{Gathered, found_beside, gathered_after, gathered_in, newest}
 
 -- a line more
 pub found_more : (n number : ℕ) (g : Gathered) (next : Findings) (line : List ℕ) (rest : List (List ℕ))

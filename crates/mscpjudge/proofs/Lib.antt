@@ -1,3 +1,4 @@
+mod Common
 pub mod Limited
 pub mod Spending
 pub mod Coming

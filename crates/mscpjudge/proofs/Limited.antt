@@ -1,15 +1,7 @@
 -- What is said of a log by all rules is what comes of it by them.
-use Rattle.std.proofs.Common.{◌≡◌, ℕ, Bool, true, false, if◌then◌else◌, nat_lt, List, refl, sym, ap, subst, ◌∙◌, Option, Some, None, Result, Ok, Err}
-use Rattle.mscp_reader.specs.declared.fault.ReadFault.{ReadFault}
+use Rattle.mscpjudge.proofs.Common.{Bool, Comes, ComesOf, Err, Judges, JudgesAll, List, Log, None, Ok, Option, ReadFault, Result, Says, ScriptFault, Some, Verdict, Wrong, ap, came_by, came_with, false, if◌then◌else◌, judged_by, log_breach, nat_lt, refl, subst, sym, true, ℕ, ◌∙◌, ◌≡◌}
 use Rattle.mscp_reader.specs.declared.fault.ReadFault.TheVariants as reads
-use Rattle.mscp_reader.specs.declared.fault.ScriptFault.{ScriptFault}
-use Rattle.mscp_wire.specs.Log.{Log}
-use Rattle.mscp_wire.specs.Right.{Comes, Judges, Says}
-use Rattle.mscp_wire.specs.declared.log.Verdict.{Verdict}
 use Rattle.mscp_wire.specs.declared.log.Verdict.TheVariants as verdicts
-use Rattle.mscp_wire.specs.declared.wrong.Wrong.{Wrong}
-use Rattle.mscpjudge.specs.Credited.{ComesOf, JudgesAll, came_by, came_with, judged_by}
-use Rattle.mscpjudge.specs.Credits.{log_breach}
 
 -- a moment that isn't right, or a fault, behind a message without a credit, or before it
 pub wrong_judges : (A : Type 0) (bytes : List ℕ) (breach wrong : Wrong) (before : Bool)

@@ -1,16 +1,7 @@
 -- What comes of the lines of a log for the ports, a line more at a time.
-use Rattle.std.proofs.Common.{◌≡◌, ◌≢◌, ℕ, zero, suc, ◌+◌, ◌<◌, arith, nat_eq, nat_lt, Bool, true, false, ◌||◌, if◌then◌else◌, List, [], ◌∷◌, ◌++◌, get_or, length, map, set, refl, sym, ap, subst, ◌∙◌, Option, Some, None, Result, Ok, Err}
-use Rattle.std.proofs.lemmas.Bool.Decides.{nat_tests}
-use Rattle.std.proofs.lemmas.List.{get_or-map, get_or-set_other, get_or-set_same, length-map, map-set}
-use Rattle.std.specs.Result.{OnOk}
-use Rattle.mscpjudge.specs.Ports.{Part, fault_after, fault_in, fault_or, first_fault, have_ports, is_port, kind_by, kind_in, line_kind, no_part, part_after, part_at, part_by, part_in, port_after, shown, with_line}
-use Rattle.mscp_reader.specs.Lexical.{said, words}
+use Rattle.mscpjudge.proofs.Common.{Bool, Err, Kind, List, None, Ok, OnOk, Option, Part, Result, ScriptFault, Section, Some, [], ap, arith, false, fault_after, fault_in, fault_or, first_fault, get_or, get_or-map, get_or-set_other, get_or-set_same, have_ports, if◌then◌else◌, is_port, kind_by, kind_in, length, length-map, line_kind, map, map-set, nat_eq, nat_lt, nat_tests, no_part, part_after, part_at, part_by, part_in, port_after, refl, said, set, shown, subst, suc, sym, true, with_line, without_time, words, zero, ℕ, ◌++◌, ◌+◌, ◌<◌, ◌||◌, ◌∙◌, ◌∷◌, ◌≡◌, ◌≢◌}
 use Rattle.mscp_reader.specs.declared.fault.Cause.TheVariants as causes
-use Rattle.mscp_reader.specs.declared.fault.ScriptFault.{ScriptFault}
-use Rattle.mscp_wire.specs.Log.{without_time}
-use Rattle.mscpjudge.specs.declared.ports.Kind.{Kind}
 use Rattle.mscpjudge.specs.declared.ports.Kind.TheVariants as kinds
-use Rattle.mscpjudge.specs.declared.ports.Section.{Section}
 
 -- an empty line says nothing, whatever its number
 empty_by : (many : Bool) → kind_in (if many then Err causes.Lines else said []) ≡ kinds.Bare

@@ -1,8 +1,5 @@
 -- What comes of the lines of a log that is shown.
-use Rattle.std.proofs.Common.{◌≡◌, ℕ, ◌+◌, List, [], ◌∷◌, ◌++◌, arith, refl, Ok}
-use Rattle.mscp_reader.specs.Outcome.{Fails}
-use Rattle.mscp_reader.specs.declared.fault.ReadFault.{ReadFault}
-use Rattle.mscpjudge.specs.Showing.{line_shown, lines_shown}
+use Rattle.mscpjudge.proofs.Common.{Fails, List, Ok, ReadFault, [], arith, line_shown, lines_shown, refl, ℕ, ◌++◌, ◌+◌, ◌∷◌, ◌≡◌}
 
 -- a line that says something
 pub shown_more : (n : ℕ) (text more new line : List ℕ) (rest : List (List ℕ)) (place : ℕ) → place ≡ n + 1

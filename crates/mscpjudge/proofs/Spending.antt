@@ -1,8 +1,5 @@
 -- What comes of the lines of a log for the account of credits, a line more at a time.
-use Rattle.std.proofs.Common.{◌≡◌, ℕ, ◌+◌, ◌<◌, ◌≤◌, arith, nat_le, true, false, if◌then◌else◌, List, [], ◌∷◌, refl, sym, ap, subst, ◌∙◌, None}
-use Rattle.std.proofs.lemmas.Bool.Decides.{nat_tests}
-use Rattle.mscpjudge.specs.Credits.{account_in, after_line, breach_from, first_of, line_breach}
-use Rattle.mscpjudge.specs.declared.credits.Account.{Account}
+use Rattle.mscpjudge.proofs.Common.{Account, List, None, [], account_in, after_line, ap, arith, breach_from, false, first_of, if◌then◌else◌, line_breach, nat_le, nat_tests, refl, subst, sym, true, ℕ, ◌+◌, ◌<◌, ◌∙◌, ◌∷◌, ◌≡◌, ◌≤◌}
 
 -- the first message without a credit
 pub breach_more : (n place : ℕ) (account : Account) (line : List ℕ) (rest : List (List ℕ)) → place ≡ n + 1

@@ -1,20 +1,7 @@
 -- What is said of the ports below one more.
-use Rattle.std.proofs.Common.{◌≡◌, ◌⊎◌, inl, inr, ℕ, ◌+◌, ◌<◌, ◌≤◌, suc, arith, nat_le, Bool, true, false, if◌then◌else◌, List, [], ◌++◌, length, refl, sym, ap, subst, ◌∙◌, add-one, Option, Some, None, Result, Ok, Err}
-use Rattle.std.proofs.lemmas.Bool.Decides.{nat_tests}
-use Rattle.std.proofs.Math.Nat.{eq-or-lt_of_le}
-use Rattle.mscp_reader.specs.declared.fault.ReadFault.{ReadFault}
+use Rattle.mscpjudge.proofs.Common.{Answers, Bool, Err, Extent, Goes, IsAt, IsFaultAt, IsFaultBelow, IsFirstBelow, IsFront, List, None, Ok, Option, Outcome, ReadFault, Result, SaysBelow, ScriptFault, Some, Stands, Telling, TellsBy, TellsOne, TellsWire, Told, [], add-one, ap, arith, earlier, eq-or-lt_of_le, false, fault_by, fault_of_log, has_ports, if◌then◌else◌, inl, inr, length, most_read, nat_le, nat_tests, number_by, number_in, occurs, part_of, port_fault, port_log, port_text, refl, subst, suc, sym, true, worse, ℕ, ◌++◌, ◌+◌, ◌<◌, ◌∙◌, ◌≡◌, ◌≤◌, ◌⊎◌}
 use Rattle.mscp_reader.specs.declared.fault.ReadFault.TheVariants as reads
-use Rattle.mscp_reader.specs.declared.fault.ScriptFault.{ScriptFault}
-use Rattle.mscp_script.specs.Whole.{IsFront, most_read}
-use Rattle.mscpjudge.specs.Numbers.{fault_by, number_by}
-use Rattle.mscpjudge.specs.Ports.{has_ports, number_in, occurs, part_of, port_fault, port_log}
-use Rattle.mscpjudge.specs.Said.{fault_of_log}
-use Rattle.mscpjudge.specs.Told.{Answers, Goes, IsAt, IsFaultAt, IsFaultBelow, IsFirstBelow, SaysBelow, Stands, TellsBy, TellsOne, TellsWire, earlier, port_text, worse}
-use Rattle.mscpjudge.specs.declared.judging.Outcome.{Outcome}
 use Rattle.mscpjudge.specs.declared.judging.Outcome.TheVariants as outcomes
-use Rattle.mscpjudge.specs.declared.telling.Extent.{Extent}
-use Rattle.mscpjudge.specs.declared.telling.Telling.{Telling}
-use Rattle.mscpjudge.specs.declared.telling.Told.{Told}
 
 -- ---- no port
 

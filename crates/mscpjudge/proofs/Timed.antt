@@ -1,15 +1,5 @@
 -- What comes of the times of lines, a line more at a time.
-use Rattle.std.proofs.Common.{◌≡◌, ◌⊎◌, inl, inr, ℕ, ◌+◌, ◌≤◌, ◌<◌, ◌&&◌, arith, nat_eq, Bool, true, false, cond, if◌then◌else◌, List, [], ◌∷◌, refl, sym, ap, subst, ◌∙◌, Option, Some, None}
-use Rattle.std.proofs.lemmas.Bool.Decides.{nat_tests}
-use Rattle.std.specs.Ordering.{is_eq, nat_cmp}
-use mathlib.Core.Path.{fun_ext}
-use Rattle.mscp_drive.specs.declared.connection.Connection.{Connection}
-use Rattle.mscp_drive.specs.declared.connection.Connection.TheVariants.{First, Second}
-use Rattle.mscp_wire.specs.Log.{line_says}
-use Rattle.mscp_wire.specs.Wire.{key, same_connection}
-use Rattle.mscpjudge.specs.Times.{line_time, lines_time, no_time}
-use Rattle.mscpjudge.specs.Timing.{Timed, after_lines, after_said, with_waiting}
-use Rattle.mscpjudge.specs.declared.timing.Waiting.{Waiting}
+use Rattle.mscpjudge.proofs.Common.{Bool, Connection, First, List, None, Option, Second, Some, Timed, Waiting, [], after_lines, after_said, ap, arith, cond, false, fun_ext, if◌then◌else◌, inl, inr, is_eq, key, line_says, line_time, lines_time, nat_cmp, nat_eq, nat_tests, no_time, refl, same_connection, subst, sym, true, with_waiting, ℕ, ◌&&◌, ◌+◌, ◌<◌, ◌∙◌, ◌∷◌, ◌≡◌, ◌≤◌, ◌⊎◌}
 
 -- ---- the time of each line
 

@@ -1,9 +1,7 @@
 -- What a port touches after a whole history was put into its host's memory.
-use Rattle.mscp_port.proofs.Common.{◌≡◌, ◌≢◌, ◌⊎◌, ◌∙◌, ℕ, Bool, false, List, [], ◌∷◌, Option, None, Some, Contains, IfSome, inl, inr, refl, ap, sym, subst, arith, Ok, Err, Holdings, Action, Hardware, Port, Stage, Hears, IsMadeOf, Ticks, Answered, Becomes, Call, NamesArea, words, reads, WriteIp, ReadIp, WriteSa, Next, PutAside, WasRead, Went, LookAgain, Tick, Protect, VolumeCame, VolumeWent, AsksFirst, IsPut, IsPutForData, IsPutForRings, asked, reads_at, with_read, Drops, IsAsNew, IsInRingsOrPacket, IsInSomeBuffer, IsWithin, Leaves, Task, Volume, place_in, volume_changed, volume_put, Picking}
+use Rattle.mscp_port.proofs.Common.{Action, Answered, AsksFirst, Becomes, Bool, Call, ChangesVolume, Contains, Drops, Err, Hardware, Hears, Holdings, IfSome, IsAsNew, IsInRingsOrPacket, IsInSomeBuffer, IsMadeOf, IsPut, IsPutForData, IsPutForRings, IsWithin, Leaves, List, LookAgain, NamesArea, Next, None, Ok, Option, Picking, Port, Protect, PutAside, ReadIp, Some, Stage, Task, Tick, Ticks, Volume, VolumeCame, VolumeWent, WasRead, Went, WriteIp, WriteSa, [], ap, arith, asked, false, inl, inr, place_in, reads, reads_at, refl, step_at, subst, sym, volume_changed, volume_protected, volume_put, with_read, words, ℕ, ◌∙◌, ◌∷◌, ◌≡◌, ◌≢◌, ◌⊎◌}
 use Rattle.mscp_port.specs.declared.action.Action.TheVariants as actions
 use Rattle.mscp_port.specs.declared.task.Task.TheVariants as tasks
-use Rattle.mscp_port.specs.Calls.{ChangesVolume, step_at}
-use Rattle.mscp_port.specs.Volumes.{volume_protected}
 use Rattle.mscp_port.proofs.Among.{none_among}
 use Rattle.mscp_port.proofs.Naming.Knowing.{Knows}
 use Rattle.mscp_port.proofs.Naming.Placing.{Places, hand_placed, next_placed, nothing_placed, places_behind, read_placed, went_placed}

@@ -1,7 +1,5 @@
 -- What a port knows after a whole history, and what it touches then.
-use Rattle.mscp_port.proofs.Common.{ℕ, Bool, false, List, [], ◌∷◌, Option, None, Some, Contains, IfSome, IsSomeAnd, inl, inr, refl, ap, sym, subst, arith, Result, Ok, Err, Action, Unasked, Buffer, Holdings, Hardware, Port, Hears, IsMadeOf, Ticks, Answered, Becomes, Call, IsNamed, IsNamedForData, IsNamedForRings, NamesBuffer, NamesPacket, reads, words, WriteIp, ReadIp, WriteSa, Next, PutAside, WasRead, Went, LookAgain, Tick, Protect, VolumeCame, VolumeWent, IsInRingsOrPacket, IsInSomeBuffer, IsWithin, in_hand, read_again, Task, Volume, place_in, volume_changed, volume_put, Picking}
-use Rattle.mscp_port.specs.Calls.{ChangesVolume, step_again, step_at}
-use Rattle.mscp_port.specs.Volumes.{volume_protected}
+use Rattle.mscp_port.proofs.Common.{Action, Answered, Becomes, Bool, Buffer, Call, ChangesVolume, Contains, Err, Hardware, Hears, Holdings, IfSome, IsInRingsOrPacket, IsInSomeBuffer, IsMadeOf, IsNamed, IsNamedForData, IsNamedForRings, IsSomeAnd, IsWithin, List, LookAgain, NamesBuffer, NamesPacket, Next, None, Ok, Option, Picking, Port, Protect, PutAside, ReadIp, Result, Some, Task, Tick, Ticks, Unasked, Volume, VolumeCame, VolumeWent, WasRead, Went, WriteIp, WriteSa, [], ap, arith, false, in_hand, inl, inr, place_in, read_again, reads, refl, step_again, step_at, subst, sym, volume_changed, volume_protected, volume_put, words, ℕ, ◌∷◌}
 use Rattle.mscp_port.specs.declared.stage.Stage.TheVariants as stages
 use Rattle.mscp_port.specs.declared.task.Task.TheVariants as tasks
 use Rattle.mscp_port.proofs.Naming.Knowing.{answers, Knows, fresh_knows, new_knows, still_knows}

@@ -1,5 +1,4 @@
-use Rattle.mscp_host.proofs.Common.{arith, ap, sym, ◌∙◌, position}
-use Rattle.mscp_host.specs.PortAccounts.{is_of}
+use Rattle.mscp_host.proofs.Common.{ap, arith, is_of, position, sym, ◌∙◌}
 use Rattle.mscp_host.proofs.Removed.{nowhere_by, removed_by}
 use Rattle.mscp_host.proofs.asked.remove_asked.Goals as goal
 

@@ -1,5 +1,4 @@
-use Rattle.mscp_host.proofs.Common.{◌≡◌, take, length}
-use Rattle.mscp_host.specs.PortRestored.{asked_in}
+use Rattle.mscp_host.proofs.Common.{asked_in, length, take, ◌≡◌}
 use Rattle.mscp_host.proofs.port_restoring.asked_in.Given as goal
 
 abbrev pub invariant-loop-place : goal.invariant-loop-place

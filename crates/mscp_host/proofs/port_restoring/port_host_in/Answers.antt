@@ -1,7 +1,4 @@
-use Rattle.mscp_host.proofs.Common.{ℕ, List, drop, length, map, not, nat_eq, slice_index, ap, ◌∙◌, arith, from_place, Submission, Account}
-use Rattle.std.proofs.lemmas.List.{length-drop}
-use Rattle.mscp_host.specs.Ported.{name_of_asked, name_of_submission}
-use Rattle.mscp_host.specs.PortRestored.{asked_in}
+use Rattle.mscp_host.proofs.Common.{Account, List, Submission, ap, arith, asked_in, drop, from_place, length, length-drop, map, name_of_asked, name_of_submission, nat_eq, not, slice_index, ℕ, ◌∙◌}
 use Rattle.mscp_host.proofs.PortHeads.{names_in, sizes_there}
 use Rattle.mscp_host.proofs.port_restoring.port_host_in.Goals as goal
 

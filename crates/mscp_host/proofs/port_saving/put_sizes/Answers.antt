@@ -1,5 +1,4 @@
-use Rattle.mscp_host.proofs.Common.{refl, arith, each_more, written_more}
-use Rattle.mscp_host.specs.PortSaved.{HasAskedRange, size_bytes}
+use Rattle.mscp_host.proofs.Common.{HasAskedRange, arith, each_more, refl, size_bytes, written_more}
 use Rattle.mscp_host.proofs.port_saving.put_sizes.Goals as goal
 
 pub loop-asked-preserved : goal.loop-asked-preserved

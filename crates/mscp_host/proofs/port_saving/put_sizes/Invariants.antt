@@ -1,5 +1,4 @@
-use Rattle.mscp_host.proofs.Common.{All, ◌≡◌, ◌+◌, ◌*◌, ◌++◌, take, flat_map, array_vec_len}
-use Rattle.mscp_host.specs.PortSaved.{HasAskedRange, size_bytes}
+use Rattle.mscp_host.proofs.Common.{All, HasAskedRange, array_vec_len, flat_map, size_bytes, take, ◌*◌, ◌++◌, ◌+◌, ◌≡◌}
 use Rattle.mscp_host.proofs.port_saving.put_sizes.Given as goal
 
 abbrev pub invariant-loop-asked : goal.invariant-loop-asked

@@ -1,5 +1,4 @@
-use Rattle.mscp_port.proofs.Common.{refl, ap, first, grow}
-use Rattle.byteorder.specs.Endian.{little_bytes}
+use Rattle.mscp_port.proofs.Common.{ap, first, grow, little_bytes, refl}
 use Rattle.mscp_port.proofs.leaving.put_unit.Goals as goal
 
 pub returns-clause-items : goal.returns-clause-items

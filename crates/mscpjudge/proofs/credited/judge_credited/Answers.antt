@@ -1,6 +1,4 @@
-use Rattle.std.proofs.Common.{sym, subst}
-use Rattle.mscp_wire.specs.Right.{Says}
-use Rattle.mscpjudge.specs.Credited.{JudgesAll}
+use Rattle.mscpjudge.proofs.Common.{JudgesAll, Says, subst, sym}
 use Rattle.mscpjudge.proofs.Limited.{judges_all, says_all}
 use Rattle.mscpjudge.proofs.credited.judge_credited.Goals as goal
 

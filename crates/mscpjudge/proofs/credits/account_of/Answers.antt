@@ -1,6 +1,4 @@
-use Rattle.std.proofs.Common.{arith, sym, ap, ◌∙◌}
-use Rattle.mscp_reader.specs.Lexical.{lines}
-use Rattle.mscpjudge.specs.Credits.{account_in}
+use Rattle.mscpjudge.proofs.Common.{account_in, ap, arith, lines, sym, ◌∙◌}
 use Rattle.mscpjudge.proofs.Spending.{account_here, account_more, account_none}
 use Rattle.mscpjudge.proofs.credits.account_of.Goals as goal
 

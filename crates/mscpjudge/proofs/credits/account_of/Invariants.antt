@@ -1,6 +1,4 @@
-use Rattle.std.proofs.Common.{◌≡◌, length}
-use Rattle.mscp_reader.specs.Lexical.{lines}
-use Rattle.mscpjudge.specs.Credits.{account_in, unknown}
+use Rattle.mscpjudge.proofs.Common.{account_in, length, lines, unknown, ◌≡◌}
 use Rattle.mscpjudge.proofs.credits.account_of.Given as goal
 
 abbrev pub invariant-loop-line : goal.invariant-loop-line

@@ -1,6 +1,4 @@
-use Rattle.std.proofs.Common.{sym, ap, ◌∙◌}
-use Rattle.mscp_reader.specs.Lexical.{lines}
-use Rattle.mscpjudge.specs.Credits.{after_line, breach_from, first_of}
+use Rattle.mscpjudge.proofs.Common.{after_line, ap, breach_from, first_of, lines, sym, ◌∙◌}
 use Rattle.mscpjudge.proofs.Spending.{breach_more, breach_none}
 use Rattle.mscpjudge.proofs.credits.breach_from.Goals as goal
 

@@ -1,6 +1,4 @@
-use Rattle.std.proofs.Common.{◌≡◌, length}
-use Rattle.mscp_reader.specs.Lexical.{lines}
-use Rattle.mscpjudge.specs.Credits.{breach_from, unknown}
+use Rattle.mscpjudge.proofs.Common.{breach_from, length, lines, unknown, ◌≡◌}
 use Rattle.mscpjudge.proofs.credits.breach_from.Given as goal
 
 abbrev pub invariant-loop-line : goal.invariant-loop-line

@@ -1,6 +1,4 @@
-use Rattle.std.proofs.Common.{◌≡◌, take}
-use Rattle.std.specs.Prelude.{count_by}
-use Rattle.mscpjudge.specs.Found.{breaks}
+use Rattle.mscpjudge.proofs.Common.{breaks, count_by, take, ◌≡◌}
 use Rattle.mscpjudge.proofs.finding.count_of.Given as goal
 
 abbrev pub invariant-loop-rule : goal.invariant-loop-rule

@@ -1,15 +1,4 @@
-use Rattle.std.proofs.Common.{◌++◌, ◌∷◌, [], refl, sym, ap, subst, map, ◌∙◌, Ok, Err}
-use Rattle.std.specs.List.{flat_map}
-use Rattle.std.proofs.lemmas.Grind.{flat_map-append}
-use Rattle.std.proofs.lemmas.List.{append-nil, map-append}
-use Rattle.std.proofs.lemmas.Result.{err_from_is_err_and}
-use Rattle.mscp_packet.specs.Steps.{◌>>=◌}
-use Rattle.mscp_reader.specs.Lexical.{lines}
-use Rattle.mscp_reader.specs.Outcome.{Fails, Tells}
-use Rattle.mscpjudge.specs.Credits.{after_line, credits_by, line_breach}
-use Rattle.mscpjudge.specs.Found.{Gathered, breach_by, breaches_by, broken_of, broken_rules_text, finding_text, found_text, gathered_after, gathered_in, lines_found, nothing_gathered}
-use Rattle.mscpjudge.specs.Numbers.{number_by}
-use Rattle.mscpjudge.specs.Times.{time_of}
+use Rattle.mscpjudge.proofs.Common.{Err, Fails, Gathered, Ok, Tells, [], after_line, ap, append-nil, breach_by, breaches_by, broken_of, broken_rules_text, credits_by, err_from_is_err_and, finding_text, flat_map, flat_map-append, found_text, gathered_after, gathered_in, line_breach, lines, lines_found, map, map-append, nothing_gathered, number_by, refl, subst, sym, time_of, ◌++◌, ◌>>=◌, ◌∙◌, ◌∷◌}
 use Rattle.mscpjudge.proofs.Going.{beside_is, fails_on, found_fails, found_more, found_none}
 use Rattle.mscpjudge.proofs.finding.find_lines.Goals as goal
 

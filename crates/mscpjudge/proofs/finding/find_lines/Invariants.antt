@@ -1,10 +1,4 @@
-use Rattle.std.proofs.Common.{◌≡◌, [], length, map}
-use Rattle.std.specs.List.{flat_map}
-use Rattle.mscp_reader.specs.Lexical.{lines}
-use Rattle.mscp_wire.specs.Course.{IsOn}
-use Rattle.mscpjudge.specs.Found.{Gathered, broken_of, finding_text, gathered_in, nothing_gathered}
-use Rattle.mscpjudge.specs.Numbers.{number_by}
-use Rattle.mscpjudge.specs.Times.{time_of}
+use Rattle.mscpjudge.proofs.Common.{Gathered, IsOn, [], broken_of, finding_text, flat_map, gathered_in, length, lines, map, nothing_gathered, number_by, time_of, ◌≡◌}
 use Rattle.mscpjudge.proofs.finding.find_lines.Given as goal
 
 abbrev pub invariant-loop-line : goal.invariant-loop-line

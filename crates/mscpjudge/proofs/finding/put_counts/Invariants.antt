@@ -1,6 +1,4 @@
-use Rattle.std.proofs.Common.{◌≡◌, ◌++◌, take}
-use Rattle.std.specs.List.{flat_map}
-use Rattle.mscpjudge.specs.Found.{rule_text, rules_in_order}
+use Rattle.mscpjudge.proofs.Common.{flat_map, rule_text, rules_in_order, take, ◌++◌, ◌≡◌}
 use Rattle.mscpjudge.proofs.finding.put_counts.Given as goal
 
 abbrev pub invariant-loop-rule : goal.invariant-loop-rule

@@ -1,5 +1,4 @@
-use Rattle.std.proofs.Common.{◌∙◌, ap}
-use Rattle.mscpjudge.specs.Heard.{heard_outcome}
+use Rattle.mscpjudge.proofs.Common.{ap, heard_outcome, ◌∙◌}
 use Rattle.mscpjudge.proofs.hearing.hear.Goals as goal
 
 pub returns-clause-told : goal.returns-clause-told

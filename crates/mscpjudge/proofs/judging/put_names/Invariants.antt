@@ -1,6 +1,4 @@
-use Rattle.std.proofs.Common.{◌≡◌, ◌++◌, take}
-use Rattle.std.specs.List.{flat_map}
-use Rattle.mscpjudge.specs.Said.{spaced_name}
+use Rattle.mscpjudge.proofs.Common.{flat_map, spaced_name, take, ◌++◌, ◌≡◌}
 use Rattle.mscpjudge.proofs.judging.put_names.Given as goal
 
 abbrev pub invariant-loop-named : goal.invariant-loop-named

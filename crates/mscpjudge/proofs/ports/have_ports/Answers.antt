@@ -1,6 +1,4 @@
-use Rattle.std.proofs.Common.{◌≡◌, true, false, ◌||◌, sym, ap, ◌∙◌}
-use Rattle.mscp_reader.specs.Lexical.{lines}
-use Rattle.mscpjudge.specs.Ports.{have_ports, is_port, line_kind}
+use Rattle.mscpjudge.proofs.Common.{ap, false, have_ports, is_port, line_kind, lines, sym, true, ◌||◌, ◌∙◌, ◌≡◌}
 use Rattle.mscpjudge.proofs.Ported.{have_more, have_none}
 use Rattle.mscpjudge.proofs.ports.have_ports.Goals as goal
 

@@ -1,6 +1,4 @@
-use Rattle.std.proofs.Common.{◌≡◌, length}
-use Rattle.mscp_reader.specs.Lexical.{lines}
-use Rattle.mscpjudge.specs.Ports.{have_ports}
+use Rattle.mscpjudge.proofs.Common.{have_ports, length, lines, ◌≡◌}
 use Rattle.mscpjudge.proofs.ports.have_ports.Given as goal
 
 abbrev pub invariant-loop-line : goal.invariant-loop-line

@@ -1,6 +1,4 @@
-use Rattle.std.proofs.Common.{◌≡◌, arith, length, ap, sym, ◌∙◌}
-use Rattle.mscp_reader.specs.Lexical.{lines}
-use Rattle.mscpjudge.specs.Ports.{fault_after, fault_in, first_fault, line_kind, part_after, part_at, part_end, part_in, port_after}
+use Rattle.mscpjudge.proofs.Common.{ap, arith, fault_after, fault_in, first_fault, length, line_kind, lines, part_after, part_at, part_end, part_in, port_after, sym, ◌∙◌, ◌≡◌}
 use Rattle.mscpjudge.proofs.Ported.{fault_more, fault_none, first_more, first_none, part_more, part_none}
 use Rattle.mscpjudge.proofs.ports.sections_of.Goals as goal
 

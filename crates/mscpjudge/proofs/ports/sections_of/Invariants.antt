@@ -1,6 +1,4 @@
-use Rattle.std.proofs.Common.{◌≡◌, ◌<◌, ◌+◌, ℕ, length}
-use Rattle.mscp_reader.specs.Lexical.{lines}
-use Rattle.mscpjudge.specs.Ports.{fault_in, first_fault, no_part, part_at, part_in}
+use Rattle.mscpjudge.proofs.Common.{fault_in, first_fault, length, lines, no_part, part_at, part_in, ℕ, ◌+◌, ◌<◌, ◌≡◌}
 use Rattle.mscpjudge.proofs.ports.sections_of.Given as goal
 
 abbrev pub invariant-loop-line : goal.invariant-loop-line

@@ -1,5 +1,4 @@
-use Rattle.std.proofs.Common.{arith}
-use Rattle.std.proofs.lemmas.Result.{err_from_is_err_and}
+use Rattle.mscpjudge.proofs.Common.{arith, err_from_is_err_and}
 use Rattle.mscpjudge.proofs.Shown.{shown_fails, shown_more, shown_none}
 use Rattle.mscpjudge.proofs.showing.show_lines.Goals as goal
 

@@ -1,6 +1,4 @@
-use Rattle.std.proofs.Common.{◌≡◌, [], length}
-use Rattle.mscp_reader.specs.Lexical.{lines}
-use Rattle.mscpjudge.specs.Showing.{lines_shown}
+use Rattle.mscpjudge.proofs.Common.{[], length, lines, lines_shown, ◌≡◌}
 use Rattle.mscpjudge.proofs.showing.show_lines.Given as goal
 
 abbrev pub invariant-loop-line : goal.invariant-loop-line

@@ -1,7 +1,4 @@
-use Rattle.std.proofs.Common.{sym, ap, subst, ◌∙◌, Err}
-use Rattle.std.proofs.lemmas.Result.{err_from_is_err_and}
-use Rattle.mscpjudge.specs.Numbers.{number_by}
-use Rattle.mscpjudge.specs.Told.{TellsOne}
+use Rattle.mscpjudge.proofs.Common.{Err, TellsOne, ap, err_from_is_err_and, number_by, subst, sym, ◌∙◌}
 use Rattle.mscpjudge.proofs.Answered.{one_fails, one_refused, one_told}
 use Rattle.mscpjudge.proofs.telling.tell_one.Goals as goal
 

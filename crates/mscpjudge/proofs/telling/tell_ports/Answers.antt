@@ -1,6 +1,4 @@
-use Rattle.std.proofs.Common.{◌≡◌, ◌∙◌, ap, arith, subst}
-use Rattle.mscpjudge.specs.Ports.{port_fault}
-use Rattle.mscpjudge.specs.Told.{Stands}
+use Rattle.mscpjudge.proofs.Common.{Stands, ap, arith, port_fault, subst, ◌∙◌, ◌≡◌}
 use Rattle.mscpjudge.proofs.Standing.{first_at}
 use Rattle.mscpjudge.proofs.telling.tell_ports.Goals as goal
 

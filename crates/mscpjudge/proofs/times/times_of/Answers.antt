@@ -1,6 +1,4 @@
-use Rattle.std.proofs.Common.{sym, subst, ◌∙◌}
-use Rattle.mscp_reader.specs.Lexical.{lines}
-use Rattle.mscpjudge.specs.Times.{time_of}
+use Rattle.mscpjudge.proofs.Common.{lines, subst, sym, time_of, ◌∙◌}
 use Rattle.mscpjudge.proofs.Timed.{Past, not_some, past_all, past_more, past_none, past_same, put_here, put_other}
 use Rattle.mscpjudge.proofs.times.times_of.Goals as goal
 

@@ -1,6 +1,4 @@
-use Rattle.std.proofs.Common.{◌≡◌, length}
-use Rattle.mscp_reader.specs.Lexical.{lines}
-use Rattle.mscpjudge.specs.Times.{time_of}
+use Rattle.mscpjudge.proofs.Common.{length, lines, time_of, ◌≡◌}
 use Rattle.mscpjudge.proofs.Timed.{Past}
 use Rattle.mscpjudge.proofs.times.times_of.Given as goal
 

@@ -1,8 +1,4 @@
-use Rattle.std.proofs.Common.{sym, ap, subst, ◌∙◌}
-use Rattle.mscp_reader.specs.Lexical.{lines}
-use Rattle.mscp_wire.specs.Log.{line_says}
-use Rattle.mscpjudge.specs.Times.{line_time}
-use Rattle.mscpjudge.specs.Timing.{IsTimed, after_lines, after_said}
+use Rattle.mscpjudge.proofs.Common.{IsTimed, after_lines, after_said, ap, line_says, line_time, lines, subst, sym, ◌∙◌}
 use Rattle.mscpjudge.proofs.Timed.{timed_more, timed_none}
 use Rattle.mscpjudge.proofs.timing.timing_of.Goals as goal
 

@@ -1,6 +1,4 @@
-use Rattle.std.proofs.Common.{◌≡◌, ◌≤◌, length}
-use Rattle.mscp_reader.specs.Lexical.{lines}
-use Rattle.mscpjudge.specs.Timing.{IsTimed, Timed, after_lines, nothing_timed}
+use Rattle.mscpjudge.proofs.Common.{IsTimed, Timed, after_lines, length, lines, nothing_timed, ◌≡◌, ◌≤◌}
 use Rattle.mscpjudge.proofs.timing.timing_of.Given as goal
 
 abbrev pub invariant-loop-line : goal.invariant-loop-line

@@ -1,6 +1,4 @@
-use Rattle.std.proofs.Common.{◌≡◌, ◌++◌}
-use Rattle.std.specs.Prelude.{slice_index}
-use Rattle.mscpjudge.specs.Counted.{sent_text, texts}
+use Rattle.mscpjudge.proofs.Common.{sent_text, slice_index, texts, ◌++◌, ◌≡◌}
 use Rattle.mscpjudge.proofs.totals.put_commands.Given as goal
 
 abbrev pub invariant-loop-opcode : goal.invariant-loop-opcode

@@ -1,5 +1,4 @@
-use Rattle.std.proofs.Common.{arith}
-use Rattle.std.proofs.lemmas.Grind.{common_steps}
+use Rattle.mscpjudge.proofs.Common.{arith, common_steps}
 use Rattle.mscpjudge.proofs.Counted.{texts_more, texts_none}
 use Rattle.mscpjudge.proofs.totals.put_statuses.Goals as goal
 

@@ -1,6 +1,4 @@
-use Rattle.std.proofs.Common.{◌≡◌, ◌++◌}
-use Rattle.std.specs.Prelude.{slice_index}
-use Rattle.mscpjudge.specs.Counted.{ended_text, texts}
+use Rattle.mscpjudge.proofs.Common.{ended_text, slice_index, texts, ◌++◌, ◌≡◌}
 use Rattle.mscpjudge.proofs.totals.put_statuses.Given as goal
 
 abbrev pub invariant-loop-code : goal.invariant-loop-code

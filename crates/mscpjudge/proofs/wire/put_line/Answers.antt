@@ -1,7 +1,4 @@
-use Rattle.std.proofs.Common.{◌++◌, codes, ap, ◌∙◌}
-use Rattle.std.specs.Fmt.{decimal}
-use Rattle.mscpjudge.specs.Times.{at_text}
-use Rattle.mscpjudge.specs.Wired.{line_text}
+use Rattle.mscpjudge.proofs.Common.{ap, at_text, codes, decimal, line_text, ◌++◌, ◌∙◌}
 use Rattle.mscpjudge.proofs.Counted.{joined}
 use Rattle.mscpjudge.proofs.wire.put_line.Goals as goal
 

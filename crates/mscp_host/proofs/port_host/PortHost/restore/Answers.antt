@@ -1,6 +1,4 @@
-use Rattle.mscp_host.proofs.Common.{arith, ◌≡◌, ap, ◌∙◌, rules, None}
-use Rattle.mscp_host.specs.PortRestored.{port_head_fault}
-use Rattle.mscp_host.specs.PortSaved.{port_saved_bytes}
+use Rattle.mscp_host.proofs.Common.{None, ap, arith, port_head_fault, port_saved_bytes, rules, ◌∙◌, ◌≡◌}
 use Rattle.mscp_host.proofs.port_host.PortHost.restore.Goals as goal
 
 pub returns-else-eq-clause-value : goal.returns-else-eq-clause-value

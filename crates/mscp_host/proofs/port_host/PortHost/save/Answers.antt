@@ -1,9 +1,4 @@
-use Rattle.mscp_host.proofs.Common.{◌≡◌, ◌++◌, [], ◌∷◌, ap, ◌∙◌, ◌≤◌, rules, flat_map, length, subst, sym, Ok, Account, restored, saved_bytes}
-use Rattle.mscp_host.specs.PortAccounts.{PortAccount}
-use Rattle.mscp_host.specs.Ported.{IsPorted}
-use Rattle.byteorder.specs.Endian.{little_bytes}
-use Rattle.mscp_host.specs.PortRestored.{port_restored}
-use Rattle.mscp_host.specs.PortSaved.{HasPortRange, flag_byte, port_frame_bytes, size_bytes}
+use Rattle.mscp_host.proofs.Common.{Account, HasPortRange, IsPorted, Ok, PortAccount, [], ap, flag_byte, flat_map, length, little_bytes, port_frame_bytes, port_restored, restored, rules, saved_bytes, size_bytes, subst, sym, ◌++◌, ◌∙◌, ◌∷◌, ◌≡◌, ◌≤◌}
 use Rattle.mscp_host.proofs.PortBack.{port_restored_back}
 use Rattle.mscp_host.proofs.port_host.PortHost.save.Goals as goal
 

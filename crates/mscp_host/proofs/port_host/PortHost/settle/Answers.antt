@@ -1,5 +1,4 @@
-use Rattle.mscp_host.proofs.Common.{map, ap, sym, ◌∙◌, Account, received}
-use Rattle.mscp_host.specs.Ported.{name_of_asked, name_of_submission}
+use Rattle.mscp_host.proofs.Common.{Account, ap, map, name_of_asked, name_of_submission, received, sym, ◌∙◌}
 use Rattle.mscp_host.proofs.Ported.{same_ended}
 use Rattle.mscp_host.proofs.port_host.PortHost.settle.Goals as goal
 

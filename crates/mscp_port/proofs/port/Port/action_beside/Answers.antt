@@ -1,6 +1,4 @@
-use Rattle.mscp_port.proofs.Common.{◌∙◌, IfSome, sym, subst}
-use Rattle.mscp_port.specs.Moved.{block_begun}
-use Rattle.mscp_port.specs.Wanted.{IsMovedFor}
+use Rattle.mscp_port.proofs.Common.{IfSome, IsMovedFor, block_begun, subst, sym, ◌∙◌}
 use Rattle.mscp_port.proofs.Chosen.{no_rest}
 use Rattle.mscp_port.proofs.port.Port.action_beside.Goals as goal
 

@@ -1,6 +1,5 @@
-use Rattle.mscp_port.proofs.Common.{arith, ap, sym, ◌∙◌, length, of, First, append-nil, End, Port, get_or}
+use Rattle.mscp_port.proofs.Common.{End, First, Port, answer_of, ap, append-nil, arith, decided_answers, get_or, length, of, sym, ◌∙◌}
 use Rattle.mscp_packet.specs.declared.end.EndBody.TheVariants as bodies
-use Rattle.mscp_port.specs.Decided.{answer_of, decided_answers}
 use Rattle.mscp_port.proofs.Deciding.{decided_all, decided_more}
 use Rattle.mscp_port.proofs.port.Port.decide_answers.Goals as goal
 

@@ -1,5 +1,4 @@
-use Rattle.mscp_port.proofs.Common.{◌≡◌, ◌≤◌, ◌++◌, ◌-◌, map, take, drop, length, First, array_vec_len, of}
-use Rattle.mscp_port.specs.Decided.{answer_of}
+use Rattle.mscp_port.proofs.Common.{First, answer_of, array_vec_len, drop, length, map, of, take, ◌++◌, ◌-◌, ◌≡◌, ◌≤◌}
 use Rattle.mscp_port.proofs.port.Port.decide_answers.Given as goal
 
 abbrev pub invariant-loop-place : goal.invariant-loop-place

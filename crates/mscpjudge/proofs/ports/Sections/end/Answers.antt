@@ -1,5 +1,4 @@
-use Rattle.std.proofs.Common.{◌≢◌, ◌<◌, arith, ap, sym, length, length-set, ◌∙◌, below_more, codes}
-use Rattle.mscpjudge.specs.Ports.{part_by, with_line}
+use Rattle.mscpjudge.proofs.Common.{ap, arith, below_more, codes, length, length-set, part_by, sym, with_line, ◌<◌, ◌∙◌, ◌≢◌}
 use Rattle.mscpjudge.proofs.Ported.{part_here, part_other, part_same}
 use Rattle.mscpjudge.proofs.ports.Sections.end.Goals as goal
 

@@ -1,5 +1,4 @@
-use Rattle.std.proofs.Common.{◌≡◌, ◌≤◌, ◌<◌, ℕ, codes, length}
-use Rattle.mscpjudge.specs.Ports.{part_at, with_line}
+use Rattle.mscpjudge.proofs.Common.{codes, length, part_at, with_line, ℕ, ◌<◌, ◌≡◌, ◌≤◌}
 use Rattle.mscpjudge.proofs.ports.Sections.end.Given as goal
 
 abbrev pub invariant-loop-place : goal.invariant-loop-place

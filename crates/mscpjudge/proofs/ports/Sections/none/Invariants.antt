@@ -1,5 +1,4 @@
-use Rattle.std.proofs.Common.{◌≡◌, ℕ, length}
-use Rattle.mscpjudge.specs.Ports.{no_part, part_at}
+use Rattle.mscpjudge.proofs.Common.{length, no_part, part_at, ℕ, ◌≡◌}
 use Rattle.mscpjudge.proofs.ports.Sections.none.Given as goal
 
 abbrev pub invariant-loop-port : goal.invariant-loop-port

@@ -1,5 +1,4 @@
-use Rattle.std.proofs.Common.{sym, ap, ◌∙◌}
-use Rattle.mscpjudge.specs.Ports.{Part}
+use Rattle.mscpjudge.proofs.Common.{Part, ap, sym, ◌∙◌}
 use Rattle.mscpjudge.proofs.Ported.{on_ok}
 use Rattle.mscpjudge.proofs.Standing.{skipped_at}
 use Rattle.mscpjudge.proofs.telling.Telling.port.Goals as goal

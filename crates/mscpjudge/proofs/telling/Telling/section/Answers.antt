@@ -1,7 +1,4 @@
-use Rattle.std.proofs.Common.{sym, ap, subst, ◌∙◌, Some, Err}
-use Rattle.mscpjudge.specs.Numbers.{fault_by, number_by}
-use Rattle.mscpjudge.specs.Ports.{Part}
-use Rattle.mscpjudge.specs.Told.{TellsOne, earlier}
+use Rattle.mscpjudge.proofs.Common.{Err, Part, Some, TellsOne, ap, earlier, fault_by, number_by, subst, sym, ◌∙◌}
 use Rattle.mscpjudge.proofs.Standing.{fails_at, told_at}
 use Rattle.mscpjudge.proofs.telling.Telling.section.Goals as goal
 

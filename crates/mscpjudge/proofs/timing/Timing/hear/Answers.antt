@@ -1,5 +1,4 @@
-use Rattle.std.proofs.Common.{sym, subst}
-use Rattle.mscpjudge.specs.Timing.{IsTimed, after_moment}
+use Rattle.mscpjudge.proofs.Common.{IsTimed, after_moment, subst, sym}
 use Rattle.mscpjudge.proofs.timing.Timing.hear.Goals as goal
 
 pub returns-in-Reset-clause-timed : goal.returns-in-Reset-clause-timed
