@@ -1,5 +1,5 @@
 -- What a port answers itself.
-use Rattle.mscp_ported.proofs.Common.{Answered, AsksAlways, Bool, Call, Command, Commands, Descriptor, End, First, Hardware, Holdings, IsHandedOver, IsMadeOf, IsOwnAnswer, IsSomeAnd, List, None, Ok, Opened, Option, Outgoing, Own, Picking, Port, Responses, SendFault, Shape, Slot, Some, Task, Turn, Volume, WasRead, [], access_of_nothing, after_message, answer_to_message, ap, append-nil, arith, arrives, asks_next, asks_nothing, balance_of, bare_end, come, command_of, cond, drop, end_bytes, end_kind, false, handed, held_unless, inl, inr, is_for_utilities, is_none, kind_answered, length, little_bytes, nat_le, nat_lt, none-some, num, number_in, number_or_zero, opcode_of, option_map, order_with, outstanding_of, own_answer, own_end, own_end_of, own_refusal, own_text, poll_brings, poll_end, polls_bring, refl, refusal, refused_end, same_Some, sent_unless, slice_index, subst, sym, take, talk_of, text_handed, true, volume_named, volume_refusal, ℕ, ◌++◌, ◌+◌, ◌/◌, ◌==◌, ◌∙◌, ◌∷◌, ◌≡◌, ◌≤◌}
+use Rattle.mscp_ported.proofs.Common.{Answered, AsksAlways, Bool, Call, Command, Commands, Descriptor, End, First, Hardware, Holdings, IsHandedOver, IsMadeOf, IsOwnAnswer, IsSomeAnd, List, None, Ok, Opened, Option, Outgoing, Own, Picking, Port, Responses, SendFault, Shape, Slot, Some, Task, Turn, Volume, WasRead, [], access_of_nothing, after_message, answer_to_message, ap, append-nil, arith, arrives, asks_next, asks_nothing, balance_of, bare_end, come, command_of, cond, drop, end_bytes, end_kind, false, handed, held_unless, inl, inr, is_for_utilities, is_none, kind_answered, length, little_bytes, nat_le, nat_lt, none-some, num, number_in, number_or_zero, of, opcode_of, option_map, order_with, outstanding_of, own_answer, own_end, own_end_of, own_refusal, own_text, poll_brings, poll_end, polls_bring, refl, refusal, refused_end, same_Some, sent_unless, slice_index, subst, sym, take, talk_of, text_handed, true, volume_named, volume_refusal, ℕ, ◌++◌, ◌+◌, ◌/◌, ◌==◌, ◌∙◌, ◌∷◌, ◌≡◌, ◌≤◌}
 use Rattle.std.proofs.Common.{find}
 use Rattle.std.specs.Prelude.{◌&&◌}
 use Rattle.mscp_packet.specs.declared.command.Order.TheVariants as orders
@@ -184,14 +184,14 @@ poll_own v b e = by v
     by None = grind (arith, e)
     by (Some x) = grind (arith, e)
 
-pub poll_handed : (units : List Shape) (b : List ℕ) → slice_index b 8 ≡ 2 → text_handed units b ≡ b
+poll_handed : (units : List Shape) (b : List ℕ) → slice_index b 8 ≡ 2 → text_handed units b ≡ b
 poll_handed units b e = grind (arith, e)
 
 -- the command that a poll is
 abbrev pub polled : List ℕ → Command
 polled b = record { reference = num b 0 4; unit = num b 4 2; order = orders.Status (num b 12 4) }
 
-pub poll_command : (b : List ℕ) → slice_index b 8 ≡ 2 → 16 ≤ length b → command_of b ≡ polled b
+poll_command : (b : List ℕ) → slice_index b 8 ≡ 2 → 16 ≤ length b → command_of b ≡ polled b
 unfolding command_of
 poll_command b e long = ap (λ o. record { reference = num b 0 4; unit = num b 4 2; order = o })
     (ap (λ n. order_with (opcode_of n) b) e ∙ by (nat_lt (length b) 16) (search (arith, long)))
@@ -200,6 +200,10 @@ poll_command b e long = ap (λ o. record { reference = num b 0 4; unit = num b 4
         → cond c (orders.Invalid (slice_index b 8) 0x0001) (orders.Status (num b 12 4)) ≡ orders.Status (num b 12 4)
     by false h = refl
     by true h = search (arith, h)
+
+pub poll_sent : (units : List Shape) (b : List ℕ) → slice_index b 8 ≡ 2 → 16 ≤ length b
+    → command_of (handed units b) ≡ polled b
+poll_sent units b e long = ap command_of (handed_so units b ∙ poll_handed units b e) ∙ poll_command b e long
 
 poll_comes : {K : Type 0} (h : Holdings K) (b : List ℕ) → slice_index b 8 ≡ 2 → 16 ≤ length b
     → ends_of (after_message First h b) ≡ ends_of h ++ poll_brings (answer_to_message First h b) h b

@@ -7,7 +7,7 @@ use Rattle.mscp_ported.proofs.Awaiting.{IsNoReset, IsSmall, Kept, lives_so, same
 use Rattle.mscp_ported.proofs.Coming.{ends_of}
 use Rattle.mscp_ported.proofs.Decided.{passive_said}
 use Rattle.mscp_ported.proofs.Numbered.{AtEach, counted_in, end_awaited, takes_end}
-use Rattle.mscp_ported.proofs.Owning.{and_false}
+use Rattle.mscp_ported.proofs.Reading.{and_false}
 use Rattle.mscp_ported.proofs.Staying.{IsPassive}
 use Rattle.mscp_ported.proofs.Reading.{taken_is}
 use Rattle.mscp_ported.proofs.Taking.{begun_end, begun_same, says_is}
