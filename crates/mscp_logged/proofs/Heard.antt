@@ -20,8 +20,7 @@ left_right (Gone last) g e = refl
 
 left_young : (a : Asked) → asks_oldest (left a) ≡ false
 left_young Nothing = refl
-left_young (Oldest last) = refl
-left_young (Gone last) = refl
+left_young x = refl
 
 came_right : (a : Asked) (came : Bool) (g : ℕ) → may_be a false g ≡ true → may_be a came g ≡ true
 came_right Nothing came g e = refl

@@ -77,10 +77,6 @@ module _ {K : Type 0} (old new : Port K) where
 
   pub passive_volumes : (picks : Picking K) (call : Call) → Becomes picks call old new → IsPassive call
       → AreAsWere old.volumes new.volumes ⊎ Dies old new
-  passive_volumes picks WriteIp r is = absurd is
-  passive_volumes picks (Next blocks action bytes) r is = absurd is
-  passive_volumes picks (WasRead bytes (Ok done)) r is = absurd is
-  passive_volumes picks (Went outcome (Ok done)) r is = absurd is
   passive_volumes picks ReadIp r is =
       elim r.frame [ inl e ↦ inl (volumes_still (ap (λ (q : Port K). q.volumes) e)) | inr d ↦ inr d ]
   passive_volumes picks (WriteSa word) r is =
@@ -102,6 +98,7 @@ module _ {K : Type 0} (old new : Port K) where
   passive_volumes picks (Protect protected unit result) r is = inl (with_one (volume_protected protected)
       (place_in old.controller.settings.units unit) (λ v is. (is, record { there = refl; media = refl; size = refl }))
       (ap (λ (q : Port K). q.volumes) r.frame))
+  passive_volumes picks call r is = absurd is
 
 -- ---- a step
 

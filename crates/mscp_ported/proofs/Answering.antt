@@ -96,12 +96,6 @@ is_text l (tasks.Text d size foreign) slot header f =
 
     header_same : Opened slot header ≡ Opened (slot_at l Commands d.word) f.0 → header ≡ f.0
     header_same e = ap header_in e
-is_text l tasks.Free slot header f = absurd f
-is_text l tasks.Settle slot header f = absurd f
-is_text l (tasks.Step verdict) slot header f = absurd f
-is_text l tasks.Transfer slot header f = absurd f
-is_text l (tasks.Slot side) slot header f = absurd f
-is_text l (tasks.Clear n) slot header f = absurd f
 is_text l (tasks.Header d) slot header f = search (arith, f)
 is_text l (tasks.Packet d) slot header f = search (arith, f)
 is_text l (tasks.Return Responses d) slot header f = search (arith, f.2)
@@ -109,6 +103,7 @@ is_text l (tasks.Return Commands d) slot header f = search (arith, f.2)
 is_text l (tasks.Neighbour side) slot header f = search (arith, f)
 is_text l (tasks.Word side) slot header f = search (arith, f)
 is_text l tasks.Interrupt slot header f = search (arith, f)
+is_text l task slot header f = absurd f
 
 module _ {K : Type 0} (picks : Picking K) (hardware : Hardware) (credits : ℕ) (controller : Holdings K)
     (start : Port K) (made : IsMadeOf hardware credits controller start) where

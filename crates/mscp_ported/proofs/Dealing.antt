@@ -172,18 +172,7 @@ module _ {K : Type 0} (bytes : List ℕ) (done : Unit) (old new : Port K) (aw : 
     where
       by : (t : Task) → old.task ≡ t → Said_so
       by (tasks.Text slot size foreign) at = text_deals slot size foreign at
-      by tasks.Free at = not_text tasks.Free at refl refl (λ x. x)
-      by tasks.Settle at = not_text tasks.Settle at refl refl (λ x. x)
-      by (tasks.Clear n) at = not_text (tasks.Clear n) at refl refl (λ x. x)
-      by (tasks.Slot side) at = not_text (tasks.Slot side) at refl refl (λ x. x)
-      by (tasks.Header s) at = not_text (tasks.Header s) at refl refl (λ x. x)
-      by (tasks.Packet s) at = not_text (tasks.Packet s) at refl refl (λ x. x)
-      by (tasks.Return side s) at = not_text (tasks.Return side s) at refl refl (λ x. x)
-      by (tasks.Neighbour side) at = not_text (tasks.Neighbour side) at refl refl (λ x. x)
-      by (tasks.Word side) at = not_text (tasks.Word side) at refl refl (λ x. x)
-      by tasks.Interrupt at = not_text tasks.Interrupt at refl refl (λ x. x)
-      by (tasks.Step v) at = not_text (tasks.Step v) at refl refl (λ x. x)
-      by tasks.Transfer at = not_text tasks.Transfer at refl refl (λ x. x)
+      by task at = not_text task at refl refl (λ x. x)
 
 -- ---- something is wanted
 

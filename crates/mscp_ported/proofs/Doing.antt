@@ -13,17 +13,13 @@ to_do (tasks.Return Responses slot) = 1
 to_do (tasks.Packet slot) = 2
 to_do (tasks.Slot Responses) = 3
 to_do tasks.Free = 3
-to_do (tasks.Step verdict) = 4
-to_do tasks.Transfer = 4
-to_do tasks.Settle = 4
-to_do (tasks.Clear done) = 4
-to_do tasks.Interrupt = 4
 to_do (tasks.Word side) = 5
 to_do (tasks.Neighbour side) = 6
 to_do (tasks.Return Commands slot) = 7
 to_do (tasks.Text slot size foreign) = 8
 to_do (tasks.Header slot) = 9
 to_do (tasks.Slot Commands) = 10
+to_do task = 4
 
 -- the rings are in use, this goes out, the ring of responses wasn't found full, and no step of the initialisation waits
 pub record IsSaying {K : Type 0} (p : Port K) (o : Outgoing) : Type 0 where

@@ -183,19 +183,4 @@ module _ {K : Type 0} (picks : Picking K) (c : Settings) (picker : K)
           read_deals bytes done a.0 p (awaited picks start a.0 calls a.1) a.2 lives
       by (Went outcome (Ok done)) a reads never =
           went_deals picks outcome done a.0 p (awaited picks start a.0 calls a.1) a.2
-      by (WasRead bytes (Err unasked)) a reads never =
-          passive_deals picks (WasRead bytes (Err unasked)) a.0 p (awaited picks start a.0 calls a.1) a.2 tt
-      by (Went outcome (Err unasked)) a reads never =
-          passive_deals picks (Went outcome (Err unasked)) a.0 p (awaited picks start a.0 calls a.1) a.2 tt
-      by ReadIp a reads never = passive_deals picks ReadIp a.0 p (awaited picks start a.0 calls a.1) a.2 tt
-      by (WriteSa word) a reads never =
-          passive_deals picks (WriteSa word) a.0 p (awaited picks start a.0 calls a.1) a.2 tt
-      by PutAside a reads never = passive_deals picks PutAside a.0 p (awaited picks start a.0 calls a.1) a.2 tt
-      by LookAgain a reads never = passive_deals picks LookAgain a.0 p (awaited picks start a.0 calls a.1) a.2 tt
-      by Tick a reads never = passive_deals picks Tick a.0 p (awaited picks start a.0 calls a.1) a.2 tt
-      by (VolumeCame m unit result) a reads never =
-          passive_deals picks (VolumeCame m unit result) a.0 p (awaited picks start a.0 calls a.1) a.2 tt
-      by (VolumeWent unit result) a reads never =
-          passive_deals picks (VolumeWent unit result) a.0 p (awaited picks start a.0 calls a.1) a.2 tt
-      by (Protect protected unit result) a reads never =
-          passive_deals picks (Protect protected unit result) a.0 p (awaited picks start a.0 calls a.1) a.2 tt
+      by call a reads never = passive_deals picks call a.0 p (awaited picks start a.0 calls a.1) a.2 tt

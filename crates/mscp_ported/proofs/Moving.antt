@@ -191,7 +191,6 @@ module _ {K : Type 0} (picks : Picking K) (hardware : Hardware) (credits : ℕ) 
 
   pub steps : (p : Port K) (calls : List Call) → AsksAlways calls → Answered picks start calls p → Steps p (wish calls)
   steps p [] asks a = none_so p [] asks a refl
-  steps p (WriteIp ∷ calls) asks a = none_so p (WriteIp ∷ calls) asks a refl
   steps p (ReadIp ∷ calls) asks a =
       let s = steps a.0 calls asks a.1 in elim a.2.frame [
         | inl e ↦ hand_so a.0 p (wish calls) s (ap (λ (q : Port K). q.controller) e) (ap (λ (q : Port K). q.volumes) e)
@@ -218,10 +217,8 @@ module _ {K : Type 0} (picks : Picking K) (hardware : Hardware) (credits : ℕ) 
         task = ap (λ (q : Port K). q.task) a.2
             ∙ free_aside a.0.task (subst (λ x. IsOfBlock x) (ap (λ (q : Port K). q.task) a.2) h);
       }) (steps a.0 calls asks a.1)
-  steps p (WasRead bytes (Ok done) ∷ calls) asks a = none_so p (WasRead bytes (Ok done) ∷ calls) asks a refl
   steps p (WasRead bytes (Err unasked) ∷ calls) asks a =
       same_so a.0 p (wish calls) (steps a.0 calls asks a.1) a.2.unasked
-  steps p (Went outcome (Ok done) ∷ calls) asks a = none_so p (Went outcome (Ok done) ∷ calls) asks a refl
   steps p (Went outcome (Err unasked) ∷ calls) asks a =
       same_so a.0 p (wish calls) (steps a.0 calls asks a.1) a.2.unasked
   steps p (LookAgain ∷ calls) asks a =
@@ -248,3 +245,4 @@ module _ {K : Type 0} (picks : Picking K) (hardware : Hardware) (credits : ℕ) 
   steps p (Protect protected unit result ∷ calls) asks a =
       volume_so a.0 p (wish calls) (steps a.0 calls asks a.1) (volume_protected protected)
       (place_in a.0.controller.settings.units unit) a.2.frame
+  steps p call asks a = none_so p call asks a refl

@@ -12,11 +12,6 @@ use Rattle.mscp_ported.proofs.Doing.{IsSaying, again_clear, aside_clear, hears_c
 -- so many actions at most are done before nothing is in hand, with this in hand
 abbrev pub rest : Task → ℕ
 rest tasks.Free = 0
-rest (tasks.Step verdict) = 1
-rest tasks.Transfer = 1
-rest tasks.Settle = 1
-rest (tasks.Clear done) = 1
-rest tasks.Interrupt = 1
 rest (tasks.Word side) = 2
 rest (tasks.Neighbour side) = 3
 rest (tasks.Return side slot) = 4
@@ -25,6 +20,7 @@ rest (tasks.Text slot size foreign) = 5
 rest (tasks.Slot Responses) = 6
 rest (tasks.Header slot) = 6
 rest (tasks.Slot Commands) = 7
+rest task = 1
 
 -- the rings are in use, nothing goes out, the ring of responses wasn't found full, no step of the initialisation waits,
 -- and the controller has an end

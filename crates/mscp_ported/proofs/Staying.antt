@@ -199,10 +199,6 @@ IsPassive call = Unit {0}
 
 pub passive_stays : {K : Type 0} (picks : Picking K) (call : Call) (old new : Port K) → Becomes picks call old new
     → IsPassive call → Stays old new
-passive_stays picks WriteIp old new r is = absurd is
-passive_stays picks (Next blocks action bytes) old new r is = absurd is
-passive_stays picks (WasRead bytes (Ok done)) old new r is = absurd is
-passive_stays picks (Went outcome (Ok done)) old new r is = absurd is
 passive_stays picks ReadIp old new r is = reads_ip old new r
 passive_stays picks (WriteSa word) old new r is = writes_sa word old new r
 passive_stays picks PutAside old new r is = same_as r (alike old)
@@ -219,3 +215,4 @@ passive_stays picks (VolumeWent unit result) old new r is =
     same_as r.frame (alike old)
 passive_stays picks (Protect protected unit result) old new r is =
     same_as r.frame (alike old)
+passive_stays picks call old new r is = absurd is
