@@ -110,10 +110,7 @@ other_about (codes.Move kind) b byte at more other is = moved kind other
     moved : (kind : MoveKind) (other : ℕ)
         → about_in (refused_body (bit_or (row_of (codes.Move kind)).byte 0x80)) ≡ Some other → ⊥
     moved kinds.Access other is = search (arith, is)
-    moved kinds.Erase other is = search (arith, is)
-    moved kinds.Compare other is = search (arith, is)
-    moved kinds.Read other is = search (arith, is)
-    moved kinds.Write other is = search (arith, is)
+    moved kind other is = search (arith, is)
 other_about code b byte at more other is = search (arith, more)
 
 abbrev own_of : Settings → Bool → ℕ → Command → End
@@ -274,8 +271,5 @@ queued_no_about c command q other is = by command.order refl
         moved : (kind : MoveKind) → about_in (refused_body (endcode
             (orders.Move kind count block))) ≡ Some other → ⊥
         moved kinds.Access h = search (arith, h)
-        moved kinds.Erase h = search (arith, h)
-        moved kinds.Compare h = search (arith, h)
-        moved kinds.Read h = search (arith, h)
-        moved kinds.Write h = search (arith, h)
+        moved kind h = search (arith, h)
     by order e = search (arith, q, e)

@@ -121,20 +121,8 @@ goes_away v f = not_new (volume_changed false v) refl
 keeps_fresh : {K : Type 0} (picks : Picking K) (call : Call) (old new : Port K) → Becomes picks call old new
     → KeepsFresh old.volumes new.volumes
 keeps_fresh picks WriteIp old new r = as_new stages.First old new r
-keeps_fresh picks ReadIp old new r = elim r.frame [
-  | inl e ↦ the_same old.volumes new.volumes (ap (λ p. p.volumes) e)
-  | inr dead ↦ as_new (stages.Dead dead.0) old new dead.1
-]
-keeps_fresh picks (WriteSa word) old new r = elim r.frame [
-  | inl e ↦ the_same old.volumes new.volumes (ap (λ p. p.volumes) e)
-  | inr dead ↦ as_new (stages.Dead dead.0) old new dead.1
-]
 keeps_fresh picks (Next blocks action bytes) old new r = said old new r.0.says
 keeps_fresh picks PutAside old new r = the_same old.volumes new.volumes (ap (λ p. p.volumes) r)
-keeps_fresh picks (WasRead bytes result) old new r = elim r.frame [
-  | inl e ↦ the_same old.volumes new.volumes (ap (λ p. p.volumes) e)
-  | inr dead ↦ as_new (stages.Dead dead.0) old new dead.1
-]
 keeps_fresh picks (Went outcome result) old new r = elim r.commands [
   | inl e ↦ the_same old.volumes new.volumes e.volumes
   | inr more ↦ elim more
@@ -154,6 +142,7 @@ keeps_fresh picks (VolumeWent unit result) old new r =
     framed (volume_changed false) unit old new goes_away (ap (λ p. p.volumes) r.frame)
 keeps_fresh picks (Protect protected unit result) old new r =
     framed (volume_protected protected) unit old new (guards protected) (ap (λ p. p.volumes) r.frame)
+keeps_fresh picks call old new r = elim r.frame [ inl e ↦ the_same old.volumes new.volumes (ap (λ p. p.volumes) e) | inr dead ↦ as_new (stages.Dead dead.0) old new dead.1 ]
 
 -- ---- what begins to go out
 

@@ -74,12 +74,7 @@ module _ (via : Connection) (r u code status : ℕ) (s : Shape) where
           ∙ ap (λ z. num (little_bytes 4 z) 0 4) t.2,
     ),
   )
-  online_read bodies.Bare k t = cc
-  online_read (bodies.Abort other) k t = cc
-  online_read (bodies.Status other figure) k t = cc
-  online_read (bodies.UnitStatus id media track group cylinder) k t = cc
-  online_read (bodies.Controller timeout id) k t = cc
-  online_read (bodies.Moved count) k t = cc
+  online_read body k t = cc
 
   -- and one of GET UNIT STATUS
   status_read : nat_eq code 0x83 ≡ true → (body : EndBody) → kinds.UnitStatus ≡ kind_of_body body → BodyTells s body
