@@ -1,5 +1,5 @@
 -- How often the volume of a unit changed, and what is kept of a command of which it is known how often since.
-use Rattle.mscp_ported.proofs.Common.{Answered, Becomes, Bool, Buffer, Call, Choice, Connection, End, Err, GoesOnWithBlock, Hardware, Holdings, IsForgotten, IsMadeOf, IsNews, IsOfItsVolume, IsSaidBy, Keeps, List, LookAgain, More, Next, None, Ok, Option, Outgoing, Picking, Port, Protect, PutAside, ReadIp, Says, Shape, Some, Tick, Volume, VolumeCame, VolumeWent, WasRead, Went, WriteIp, WriteSa, [], ap, arith, cases_eq, cases_lt, changed, changed_by, changes_at, cond, end_brought, eq-eqb, eqb-true, false, false≢true, get_or-set_other, get_or-set_same, get_or_past, inl, inr, keeps_after, keeps_none, length, length-set, looks_or_not, mod-add-mod, nat_eq, news_place, no_volume, none-some, one_block, place_in, position-Some, refl, same_Some, set, settings_stay, subst, sym, taken_or_not, true, volume_at, volume_changed, volume_heeded, volume_protected, volume_put, volumes_after, volumes_heeded, volumes_with, weaker_for, ℕ, ◌%◌, ◌+◌, ◌<◌, ◌==◌, ◌∙◌, ◌∷◌, ◌≡◌, ◌≢◌, ◌≤◌, ◌⊎◌}
+use Rattle.mscp_ported.proofs.Common.{Answered, Becomes, Bool, Buffer, Call, Choice, Connection, End, Err, GoesOnWithBlock, Hardware, Holdings, IsForgotten, IsMadeOf, IsNews, IsOfItsVolume, IsSaidBy, Keeps, List, LookAgain, More, Next, None, Ok, Option, Outgoing, Picking, Port, Protect, PutAside, Says, Shape, Some, Tick, Volume, VolumeCame, VolumeWent, WasRead, Went, WriteIp, [], ap, arith, cases_eq, cases_lt, changed, changed_by, changes_at, cond, end_brought, eq-eqb, eqb-true, false, false≢true, get_or-set_other, get_or-set_same, get_or_past, inl, inr, keeps_after, keeps_none, length, length-set, looks_or_not, mod-add-mod, nat_eq, news_place, no_volume, none-some, one_block, place_in, position-Some, refl, same_Some, set, settings_stay, subst, sym, taken_or_not, true, volume_at, volume_changed, volume_heeded, volume_protected, volume_put, volumes_after, volumes_heeded, volumes_with, weaker_for, ℕ, ◌%◌, ◌+◌, ◌<◌, ◌==◌, ◌∙◌, ◌∷◌, ◌≡◌, ◌≢◌, ◌≤◌, ◌⊎◌}
 use Rattle.mscp_port.specs.declared.stage.Stage.TheVariants as stages
 
 -- ---- units

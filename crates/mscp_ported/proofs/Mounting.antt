@@ -1,5 +1,5 @@
 -- A unit that is online was brought online with the volume that is in it.
-use Rattle.mscp_ported.proofs.Common.{Answered, Bool, Buffer, Call, Connection, Contains, End, Err, First, Goes, Hardware, Holdings, IsAsNew, IsMadeOf, IsNews, IsOnline, List, LookAgain, Next, None, Ok, Option, Outcome, Outgoing, Picking, Port, Protect, PutAside, ReadIp, Says, Second, Shape, Some, Stage, Succeeds, Tick, Volume, VolumeCame, VolumeWent, WasRead, Went, WriteIp, WriteSa, [], ap, append-nil, arith, brought_online, cases_eq, cases_lt, come, cond, end_brought, eq-eqb, eqb-true, false, false≢true, get_or-set_other, get_or-set_same, get_or_past, inl, inr, is_of, kept_found, kept_of, length, length-set, looks_or_not, news_place, no_volume, none-some, of_first, place_heeded, place_in, position, protected_by, refl, same_Some, set, settings_stay, subst, sym, taken_or_not, true, volume_at, volume_changed, volume_heeded, volume_protected, volume_put, volumes_after, volumes_heeded, volumes_with, ℕ, ◌%◌, ◌/◌, ◌<◌, ◌==◌, ◌∙◌, ◌∷◌, ◌≡◌, ◌≢◌, ◌⊎◌}
+use Rattle.mscp_ported.proofs.Common.{Answered, Bool, Buffer, Call, Connection, Contains, End, Err, First, Goes, Hardware, Holdings, IsAsNew, IsMadeOf, IsNews, IsOnline, List, LookAgain, Next, None, Ok, Option, Outcome, Outgoing, Picking, Port, Protect, PutAside, Says, Second, Shape, Some, Stage, Succeeds, Tick, Volume, VolumeCame, VolumeWent, Went, WriteIp, [], ap, append-nil, arith, brought_online, cases_eq, cases_lt, come, cond, end_brought, eq-eqb, eqb-true, false, false≢true, get_or-set_other, get_or-set_same, get_or_past, inl, inr, is_of, kept_found, kept_of, length, length-set, looks_or_not, news_place, no_volume, none-some, of_first, place_heeded, place_in, position, protected_by, refl, same_Some, set, settings_stay, subst, sym, taken_or_not, true, volume_at, volume_changed, volume_heeded, volume_protected, volume_put, volumes_after, volumes_heeded, volumes_with, ℕ, ◌%◌, ◌/◌, ◌<◌, ◌==◌, ◌∙◌, ◌∷◌, ◌≡◌, ◌≢◌, ◌⊎◌}
 use Rattle.mscp_port.specs.declared.stage.Stage.TheVariants as stages
 use Rattle.mscp_ported.proofs.Changing.{same_unit}
 use Rattle.mscp_ported.proofs.Coming.{brought_for, come_so, ends_of, steps_bring}

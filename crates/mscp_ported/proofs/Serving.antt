@@ -1,5 +1,6 @@
 -- Whoever always asks for blocks has a step told between two polls of a command that waits.
-use Rattle.mscp_ported.proofs.Common.{Action, Answered, AsksBehindPolls, AsksForBlocks, Becomes, Bool, Call, Commands, Descriptor, End, Err, First, Hardware, Hears, Holdings, IsAsNew, IsMadeOf, IsReadingText, IsServedSince, IsStepping, List, LookAgain, MatchOption, Next, None, Ok, Option, Outgoing, Picking, Port, Protect, PutAside, ReadIp, Record, Responses, Result, SeesText, SendFault, Sends, Sent, ServesBetweenPolls, Side, Some, TakesPoll, Task, TellsStep, Tick, VolumeCame, VolumeWent, Wants, WasRead, Went, WriteIp, WriteSa, [], answered_to, ap, arith, blocks, bytes_read, cond, connection_in, eq-eqb, false, false≢true, figure_of_name, figure_on, header_fault, inl, inr, is_dead, is_owned, is_queued, length, length_in, name_on, none-some, num, own_end_of, read_size, refl, slice_index, subst, sym, takes, true, ℕ, ◌==◌, ◌∙◌, ◌∷◌, ◌≡◌, ◌≢◌, ◌≤◌, ◌⊎◌}
+use Rattle.mscp_ported.proofs.Common.{Action, Answered, AsksBehindPolls, AsksForBlocks, Becomes, Bool, Call, Commands, Descriptor, End, Err, First, Hardware, Hears, Holdings, IsAsNew, IsMadeOf, IsReadingText, IsServedSince, IsStepping, List, MatchOption, Next, None, Ok, Option, Outgoing, Picking, Port, ReadIp, Record, Responses, Result, SeesText, SendFault, Sends, Sent, ServesBetweenPolls, Side, Some, TakesPoll, Task, TellsStep, Wants, WasRead, Went, WriteIp, WriteSa, [], answered_to, ap, arith, blocks, bytes_read, cond, connection_in, eq-eqb, false, false≢true, figure_of_name, figure_on, header_fault, inl, inr, is_dead, is_owned, is_queued, length, length_in, name_on, none-some, num, own_end_of, read_size, refl, slice_index, subst, sym, takes, true, ℕ, ◌==◌, ◌∙◌, ◌∷◌, ◌≡◌, ◌≢◌, ◌≤◌, ◌⊎◌}
+use Rattle.mscp_ported.proofs.Minor.{GivesUp, Minor, Mounts, PutsAside, ReadsAgain, Still, minor}
 use Rattle.mscp_port.specs.declared.stage.Stage.TheVariants as stages
 use Rattle.mscp_port.specs.declared.task.Task.TheVariants as tasks
 use Rattle.mscp_ported.proofs.Answering.{poll_sent}
@@ -81,20 +82,19 @@ module _ {K : Type 0} (picks : Picking K) (old new : Port K) (lives : is_dead ne
   owes_on ReadIp never none r = elim r.frame [ inl e ↦ as_it_was _ e refl | inr d ↦ dies d.0 d.1 ]
   owes_on (WriteSa word) never none r = elim r.frame [ inl e ↦ as_it_was _ e refl | inr d ↦ dies d.0 d.1 ]
   owes_on (Next blocks action bytes) never none r = as_it_was _ r.0.frame refl
-  owes_on PutAside never none r = as_it_was _ r refl
   owes_on (WasRead bytes (Ok done)) never none r = read_owes bytes done old new r lives owes old.task refl
-  owes_on (WasRead bytes (Err unasked)) never none r = as_it_was _ r.unasked refl
   owes_on (Went outcome (Ok done)) never none r = elim r.commands [
     | inl k ↦ k.owes ∙ owes
     | inr more ↦ elim more [ inl block ↦ absurd (none block.0) | inr d ↦ dies d.0 d.1 ]
   ]
-  owes_on (Went outcome (Err unasked)) never none r = as_it_was _ r.unasked refl
-  owes_on LookAgain never none r = as_it_was _ r refl
-  owes_on Tick never none r = elim r.either [ inl e ↦ as_it_was _ e refl | inr d ↦ dies 9 d ]
-  owes_on (VolumeCame m unit (Ok done)) never none r = as_it_was _ (r.came refl) refl
-  owes_on (VolumeCame m unit (Err fault)) never none r = as_it_was _ r.refused refl
-  owes_on (VolumeWent unit result) never none r = as_it_was _ r.frame refl
-  owes_on (Protect protected unit result) never none r = as_it_was _ r.frame refl
+  owes_on call never none r = by (minor picks call old new r tt)
+    where
+      by : Minor old new → new.owes_block ≡ true
+      by (Still e) = as_it_was _ e refl
+      by (PutsAside e) = as_it_was _ e refl
+      by (ReadsAgain left e) = as_it_was _ e refl
+      by (Mounts becomes place e) = as_it_was _ e refl
+      by (GivesUp d) = dies 9 d
 
 -- ---- a poll
 
