@@ -19,12 +19,6 @@ module _ {X : Type 0} (Bears : X → List ℕ → Type 0) (voids : List ℕ → 
     pub own : (x : X) → told ≡ Some x → Borne Holds x qs
     pub each : AllBorne Holds qs
 
-  pub nothing_claimed : (Holds : X → Type 0) (told : Option X) (qs : List (List ℕ)) → told ≡ None → qs ≡ []
-      → Claimed Holds told qs
-  nothing_claimed Holds told [] none no_end =
-      record { own = λ x e. absurd (none-some x (sym none ∙ e)); each = tt }
-  nothing_claimed Holds told (q ∷ qs) none no_end = search (arith, no_end)
-
   -- ---- what holds changes
 
   module _ (Holds Then : X → Type 0) (on : (x : X) → Holds x → Then x) where

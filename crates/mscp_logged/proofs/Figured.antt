@@ -1,5 +1,6 @@
 -- What is known of the figures of a port's log, over a whole list of calls.
 use Rattle.mscp_logged.proofs.Common.{All, AllByRecursion, Answered, AnsweredCalls, AsksAlways, Bool, Call, Deals, First, Hardware, History, Holdings, HoldsAwaited, HostIsRight, IsAnswering, IsCodeFor, IsMadeOf, IsRight, IsServedSince, IsTaking, IsValid, List, Made, None, Option, Outgoing, OutgoingKind, PassesOn, Picking, Port, PortsEndWhatTheyTook, PortsHoldWhatIsAwaited, PortsLowerFigures, PortsPassEndsOn, PortsTellInOrder, ReadsBytes, Sent, ServesBetweenPolls, Settings, Some, TakesPoll, TellsStep, WriteIp, [], accepted_by, ap, append-nil, append_assoc, arith, asked_before, asking, awaited, begins, begun_one, cond, end_kind, end_of, end_said, ends_in, ends_said_by, false, figure_on, filter, flat_map, four_in, fresh, has_number, held, inl, inr, is_dead, is_foreign, is_message, is_new, leaves, list_any, logged, map, message_of, messages_by, nat_eq, none_beside, num, option_to_list, outstanding, outstanding_of, own_answer, pending_held, pending_in, pending_said, refl, said, said_in, seen_by, sent_by, since_alive, slice_index, subst, sym, taken_by, timed, timeout, true, volume_named, without_ends, ℕ, ◌++◌, ◌<◌, ◌∙◌, ◌∷◌, ◌≡◌, ◌≢◌, ◌≤◌, ◌⊎◌}
+use Rattle.mscp_logged.proofs.Begun.{Begun}
 use Rattle.mscp_port.specs.declared.port.OutgoingKind.TheVariants as kinds
 use Rattle.mscp_wire.specs.declared.moment.Moment.TheVariants as moments
 use Rattle.mscp_logged.proofs.Figuring.{coming, ending_lowers, lowers_by, not_poll, plain_figured, poll_figured, quiet_lowers, same_figured}
@@ -14,14 +15,13 @@ use Rattle.mscp_logged.proofs.Wired.{named, outstanding_more}
 -- ---- calls
 
 module _ {K : Type 0} (Tie : List ℕ → List ℕ → Type 0) (G O : Type 0) (code_of : (text message : List ℕ)
-    → Tie text message → IsCodeFor (slice_index text 8) message) (picks : Picking K) (c : Settings) (picker : K)
-    (ends : PortsEndWhatTheyTook picks picker) (tell : PortsTellInOrder picks)
-    (holds : PortsHoldWhatIsAwaited picks picker) (passes : PortsPassEndsOn picks picker)
-    (lowers : PortsLowerFigures picks picker) (sizes : All (λ unit. 0 < unit.size) c.units) (before : List Made)
-    (controller : Holdings K) (hardware : Hardware) (credits : ℕ) (start : Port K) (valid : IsValid c)
-    (was : AnsweredCalls (picks picker) (fresh c picker) before controller)
-    (quiet : outstanding_of First controller ≡ []) (made : IsMadeOf hardware credits controller start)
+    → Tie text message → IsCodeFor (slice_index text 8) message) {picks : Picking K} (run : Begun picks)
+    (ends : PortsEndWhatTheyTook picks run.picker) (tell : PortsTellInOrder picks)
+    (holds : PortsHoldWhatIsAwaited picks run.picker) (passes : PortsPassEndsOn picks run.picker)
+    (lowers : PortsLowerFigures picks run.picker) (sizes : All (λ unit. 0 < unit.size) run.c.units)
     (limit : Option ℕ) where
+  open run use {c, valid, before, hardware, credits, controller, start, was, made, quiet}
+
   abbrev pub Known : (p : Port K) (calls : List Call) → Answered picks start calls p → Type 0
   Known p calls a =
       Figured (logged picks start p calls a) (coming p) (figure_on p) (IsServedSince picks start p calls a)

@@ -1,5 +1,6 @@
 -- What is known of a port's log, over a whole list of calls.
 use Rattle.mscp_logged.proofs.Common.{AllByRecursion, Answered, AnsweredCalls, AsksAlways, Bool, Call, Deals, First, Hardware, History, Holdings, HostIsRight, IsAnswering, IsEnding, IsMadeOf, IsRight, IsTaking, IsValid, List, Made, None, Ok, Option, Outgoing, Picking, Port, PortsEndWhatTheyTook, PortsTellInOrder, ReadsBytes, Said, Settings, Some, Task, WasRead, WriteIp, [], aborts_behind, accepted_by, answer_to_message, ap, append-nil, append_assoc, arith, asked_before, awaited, begins, cond, end_kind, ends_in, ends_said_by, false, filter, flat_map, fresh, has_number, held, inl, inr, is_dead, is_foreign, is_message, is_new, is_none, is_ok, is_taken_text, leaves, logged, map, message_of, messages_by, not, num, option_to_list, outstanding, outstanding_of, own_answer, refl, said, said_in, seen_by, sent_by, since_alive, slice_index, subst, sym, taken_by, text_handed, true, volume_named, without_ends, ℕ, ◌%◌, ◌++◌, ◌<◌, ◌^◌, ◌∙◌, ◌∷◌, ◌≡◌, ◌≢◌}
+use Rattle.mscp_logged.proofs.Begun.{Begun}
 use Rattle.std.proofs.Common.{◌&&◌}
 use Rattle.mscp_port.specs.declared.port.OutgoingKind.TheVariants as kinds
 use Rattle.mscp_port.specs.declared.task.Task.TheVariants as tasks
@@ -35,31 +36,30 @@ pub small_of : (call : Call) (calls : List Call) (t : List ℕ) (done : Unit) �
     → call ≡ WasRead t (Ok done) → (i : ℕ) → slice_index t i < 2 ^ 8
 small_of call calls t done reads is = (subst (λ x. ReadsBytes (x ∷ calls)) is reads).0
 
-module _ {K : Type 0} (Tie : List ℕ → List ℕ → Type 0) (G O : Type 0) (picks : Picking K) (c : Settings) (picker : K)
-    (ends : PortsEndWhatTheyTook picks picker) (tell : PortsTellInOrder picks) (before : List Made)
-    (controller : Holdings K) (hardware : Hardware) (credits : ℕ) (start : Port K) (valid : IsValid c)
-    (was : AnsweredCalls (picks picker) (fresh c picker) before controller)
-    (quiet : outstanding_of First controller ≡ []) (made : IsMadeOf hardware credits controller start)
+module _ {K : Type 0} (Tie : List ℕ → List ℕ → Type 0) (G O : Type 0) {picks : Picking K} (run : Begun picks)
+    (ends : PortsEndWhatTheyTook picks run.picker) (tell : PortsTellInOrder picks)
     (Fine : List Call → Type 0) (fine_before : (call : Call) (calls : List Call) → Fine (call ∷ calls) → Fine calls)
     (tie_end : (p : Port K) (call : Call) (calls : List Call) → ReadsBytes (call ∷ calls) → Fine (call ∷ calls)
-    → (a : Answered picks start (call ∷ calls) p) → (q : IsEnding (awaited picks start a.0 calls a.1) call a.0 p)
+    → (a : Answered picks run.start (call ∷ calls) p) → (q : IsEnding (awaited picks run.start a.0 calls a.1) call a.0 p)
     → Tie q.out.bytes.items q.message)
     (late_end : (p : Port K) (call : Call) (calls : List Call) → ReadsBytes (call ∷ calls) → Fine (call ∷ calls)
-    → (a : Answered picks start (call ∷ calls) p) → (q : IsEnding (awaited picks start a.0 calls a.1) call a.0 p)
+    → (a : Answered picks run.start (call ∷ calls) p) → (q : IsEnding (awaited picks run.start a.0 calls a.1) call a.0 p)
     → G → num q.out.bytes.items 10 2 % 32 ≡ 2
-    → (k : ℕ) × (aborts_behind (num q.out.bytes.items 0 4) k (awaited picks start a.0 calls a.1) ≡ true))
+    → (k : ℕ) × (aborts_behind (num q.out.bytes.items 0 4) k (awaited picks run.start a.0 calls a.1) ≡ true))
     (late_own : (old : Port K) (text : List ℕ) (o : Outgoing) → IsOwn old text o → o.kind ≡ kinds.End → G
     → num o.bytes.items 10 2 % 32 ≡ 2 → ⊥)
     (turn_end : (p : Port K) (call : Call) (calls : List Call) → ReadsBytes (call ∷ calls) → Fine (call ∷ calls)
-    → (a : Answered picks start (call ∷ calls) p) → (q : IsEnding (awaited picks start a.0 calls a.1) call a.0 p)
+    → (a : Answered picks run.start (call ∷ calls) p) → (q : IsEnding (awaited picks run.start a.0 calls a.1) call a.0 p)
     → O → IsApartOr q.out.bytes.items
-    (overtakes (num q.out.bytes.items 0 4) (awaited picks start a.0 calls a.1) ≡ false))
+    (overtakes (num q.out.bytes.items 0 4) (awaited picks run.start a.0 calls a.1) ≡ false))
     (turn_own : (p : Port K) (call : Call) (calls : List Call) → ReadsBytes (call ∷ calls) → Fine (call ∷ calls)
-    → (a : Answered picks start (call ∷ calls) p) → (q : IsAnswering call a.0 p) → IsOwn a.0 q.message q.out
+    → (a : Answered picks run.start (call ∷ calls) p) → (q : IsAnswering call a.0 p) → IsOwn a.0 q.message q.out
     → q.out.kind ≡ kinds.End → O → IsApartOr q.out.bytes.items
-    (AllByRecursion (λ u. keeps q.message u ≡ false) (awaited picks start a.0 calls a.1)))
+    (AllByRecursion (λ u. keeps q.message u ≡ false) (awaited picks run.start a.0 calls a.1)))
     (tie_own : (old : Port K) (text : List ℕ) (o : Outgoing) → ((i : ℕ) → slice_index text i < 2 ^ 8)
     → IsOwn old text o → o.kind ≡ kinds.End → Tie o.bytes.items text) (limit : Option ℕ) where
+  open run use {c, valid, before, hardware, credits, controller, start, was, made, quiet}
+
   abbrev pub State : (p : Port K) (calls : List Call) → Answered picks start calls p → Type 0
   State p calls a = Stated Tie G O (logged picks start p calls a) (awaited picks start p calls a) (held p)
 

@@ -6,6 +6,7 @@ use Rattle.mscp_logged.proofs.Fences.{IsWaiting, same_unit, unit_earlier}
 use Rattle.mscp_logged.proofs.Hearing.{read_ordered}
 use Rattle.mscp_logged.proofs.Ordering.{OrderedIn, all_waiting, next_ordered, stays, went_ordered}
 use Rattle.mscp_logged.proofs.Passes.{keeps, overtakes}
+use Rattle.mscp_logged.proofs.Begun.{Begun, IsKeeping}
 use Rattle.mscp_logged.proofs.Seen.{reads_before}
 use Rattle.mscp_logged.proofs.Turns.{IsApartOr}
 
@@ -89,12 +90,10 @@ no_place f (Some place) e = absurd (none-some (f place) (sym e))
 
 -- ---- calls
 
-module _ {K : Type 0} (picks : Picking K) (c : Settings) (picker : K)
-    (keep : ControllersKeepThePromise (picks picker) picker) (valid : IsValid c)
-    (sizes : All (λ unit. 0 < unit.size) c.units) (before : List Made)
-    (hardware : Hardware) (credits : ℕ) (controller : Holdings K) (start : Port K)
-    (was : AnsweredCalls (picks picker) (fresh c picker) before controller)
-    (made : IsMadeOf hardware credits controller start) (quiet : outstanding_of First controller ≡ []) where
+module _ {K : Type 0} {picks : Picking K} (run : Begun picks) (keeping : IsKeeping run) where
+  open run use {c, picker, valid, before, hardware, credits, controller, start, was, made, quiet}
+  open keeping use {keep, sizes}
+
   pub promised : (p : Port K) (calls : List Call) (a : Answered picks start calls p)
       → (ms : List Made) × KeepsPromise (picks picker) c ms p.controller
   promised p calls a =

@@ -63,22 +63,6 @@ handed_coded units b long plain =
 
 -- ---- polls
 
-about_with : (o : Option Opcode) (b : List ℕ) (other : ℕ) → order_with o b ≡ orders.Status other → other ≡ num b 12 4
-about_with None b other e = search (arith, e)
-about_with (Some o) b other e = by (nat_lt (length b) (least o)) o e
-  where
-    by : (c : Bool) (o : Opcode) → cond c (orders.Invalid (slice_index b 8)
-        Rattle.mscp_packet.specs.Statuses.invalid_length) (parameters o b) ≡ orders.Status other → other ≡ num b 12 4
-    by true o h = search (arith, h)
-    by false codes.Abort h = search (arith, h)
-    by false codes.Status h = search (arith, h)
-    by false codes.UnitStatus h = search (arith, h)
-    by false codes.SetController h = search (arith, h)
-    by false codes.Available h = search (arith, h)
-    by false codes.Online h = search (arith, h)
-    by false codes.SetUnit h = search (arith, h)
-    by false (codes.Move kind) h = search (arith, h)
-
 -- ---- an end that is answered at once
 
 -- the command that the body of an end is about: of an ABORT and of a poll

@@ -156,9 +156,6 @@ module _ {K : Type 0} (picks : List Choice → ℕ → Type 0) (old new : Port K
           cases false true = (refl, tt)
           cases false false = (refl, tt)
 
-      some_rings : (area : Rings) → old.rings ≡ Some area → old.rings ≡ None → (t.told ≡ []) × (t.heard ≡ [])
-      some_rings area e none = absurd (none-some area (sym none ∙ e))
-
       next_mod : (n m : ℕ) → n ≡ m % 256 → (n + 1) % 256 ≡ (m + 1) % 256
       next_mod n m e = ap (λ x. (x + 1) % 256) e ∙ mod-add-mod m 256 1
 

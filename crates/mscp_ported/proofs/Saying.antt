@@ -121,9 +121,6 @@ told_figure p e d some t shaped fits = by e.body refl
     unit : Option Shape
     unit = unit_found p.controller.settings.units e.unit
 
-    text : List ℕ
-    text = told_end p e
-
     not_poll : (body : EndBody) → kind_of_code e.code ≡ Some (kind_of_body body)
         → (kind_of_body body ≡ kinds_of.Status → ⊥) → nat_eq (slice_index (told_end p e) 8) 0x82 ≡ false
     not_poll body kind other = none (nat_eq (slice_index (told_end p e) 8) 0x82) refl
