@@ -1,5 +1,5 @@
 -- By each call ends come behind those that are still to come, and tell of their units what is so.
-use Rattle.mscp_logged.proofs.Common.{Action, All, Answered, AnsweredCalls, AsksAlways, Bool, Call, ControllersKeepThePromise, Deals, First, Hardware, History, Holdings, IsAnswering, IsMadeOf, IsPassive, IsValid, List, Made, Next, None, Ok, Option, Outgoing, OutgoingKind, Picking, Port, ReadsBytes, Settings, Shape, Some, TellsFaults, WasRead, Went, Whole, WriteIp, [], ap, append-nil, arith, asked_before, awaited, begins, came, end_kind, end_said, ends_begun, ends_of, ends_said, ends_said_by, false, few_ends, fresh, inl, inr, is_dead, logged, no_ends, nothing_two, numbers, numbers_ended, of, outstanding_of, own_answer, passive_stays, refl, said, steps, subst, sym, taken_by, true, unit_found, volume_found, volume_named, waiting_on, whole_kept, ℕ, ◌++◌, ◌<◌, ◌∙◌, ◌∷◌, ◌≡◌, ◌≢◌}
+use Rattle.mscp_logged.proofs.Common.{Action, Answered, AsksAlways, Bool, Call, Deals, First, Hardware, History, Holdings, IsAnswering, IsPassive, List, Next, None, Ok, Option, Outgoing, OutgoingKind, Picking, Port, ReadsBytes, Settings, Shape, Some, TellsFaults, WasRead, Went, Whole, WriteIp, [], ap, append-nil, arith, asked_before, awaited, begins, came, end_kind, end_said, ends_begun, ends_of, ends_said, ends_said_by, false, few_ends, inl, inr, is_dead, logged, no_ends, nothing_two, numbers, numbers_ended, of, own_answer, passive_stays, refl, said, steps, subst, sym, taken_by, true, unit_found, volume_found, volume_named, waiting_on, whole_kept, ℕ, ◌++◌, ◌∙◌, ◌∷◌, ◌≡◌, ◌≢◌}
 use Rattle.mscp_logged.proofs.Begun.{Begun, IsKeeping}
 use Rattle.mscp_port.specs.declared.port.OutgoingKind.TheVariants as kinds
 use Rattle.mscp_logged.proofs.Describing.{IsAsWas, IsTold}

@@ -1,6 +1,6 @@
 -- What was told is borne out by the ends that are still to come, until one of them makes it void: so is what a host was
 -- told, and what each of these ends tells itself.
-use Rattle.mscp_logged.proofs.Common.{Bool, List, None, Option, Some, [], arith, false, inl, inr, none-some, sym, ℕ, ◌++◌, ◌∙◌, ◌∷◌, ◌≡◌, ◌⊎◌}
+use Rattle.mscp_logged.proofs.Common.{Bool, List, Option, Some, [], false, inl, inr, ℕ, ◌++◌, ◌∷◌, ◌≡◌, ◌⊎◌}
 
 -- an end bears a claim out or not, makes those in front of it void or not, and claims something itself or not
 module _ {X : Type 0} (Bears : X → List ℕ → Type 0) (voids : List ℕ → Bool) (claim : List ℕ → Option X) where

@@ -1,5 +1,5 @@
 -- Over a whole list of calls a unit that is online with its volume is online in the controller, too.
-use Rattle.mscp_logged.proofs.Common.{All, Answered, AnsweredCalls, AsksAlways, Bool, Call, ControllersKeepThePromise, Dies, Drive, First, GoesOnWithBlock, Hardware, Hears, Holdings, IsAsNew, IsMadeOf, IsPassive, IsReadingText, IsValid, List, Made, Next, None, Ok, Option, Picking, Port, ReadsBytes, SendFault, Settings, Shape, Some, Stage, Task, Volume, Wants, WasRead, Went, WriteIp, [], aborting, after_message, answered_end, ap, arith, asked_before, awaited, balance_of, command_of, cond, drive_now, false, false≢true, few_ends, find, fresh, handed, held_unless, history, inl, inr, is_dead, is_queued, looks_or_not, map, nat_eq, none_or_some, one_block, option_map, outstanding_of, own_end_of, passive_stays, place_in, position-Some, queued, refl, refusal, steps, subst, sym, taken_or_not, true, unit_found, volume_at, volume_in_place, with_end, ℕ, ◌<◌, ◌∙◌, ◌∷◌, ◌≡◌, ◌⊎◌}
+use Rattle.mscp_logged.proofs.Common.{Answered, AsksAlways, Bool, Call, Dies, Drive, First, GoesOnWithBlock, Hears, Holdings, IsAsNew, IsPassive, IsReadingText, List, Next, None, Ok, Option, Picking, Port, ReadsBytes, SendFault, Shape, Some, Stage, Task, Volume, Wants, WasRead, Went, WriteIp, [], aborting, after_message, answered_end, ap, arith, asked_before, awaited, balance_of, command_of, cond, drive_now, false, false≢true, few_ends, find, handed, held_unless, history, inl, inr, is_dead, is_queued, looks_or_not, map, nat_eq, none_or_some, one_block, option_map, outstanding_of, own_end_of, passive_stays, place_in, position-Some, queued, refl, refusal, steps, subst, sym, taken_or_not, true, unit_found, volume_at, volume_in_place, with_end, ℕ, ◌<◌, ◌∙◌, ◌∷◌, ◌≡◌, ◌⊎◌}
 use Rattle.mscp_queue.specs.Drives.{has_number}
 use Rattle.mscp_port.specs.declared.stage.Stage.TheVariants as stages
 use Rattle.mscp_port.specs.declared.task.Task.TheVariants as tasks

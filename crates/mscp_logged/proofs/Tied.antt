@@ -1,5 +1,5 @@
 -- What ties each end of a port's log to the command that it answers.
-use Rattle.mscp_logged.proofs.Common.{All, AllByRecursion, Answered, AnsweredCalls, AsksAlways, Block, Bool, Call, ControllersKeepThePromise, End, First, Fits, Hardware, Holdings, IsAnswering, IsEnding, IsFault, IsFollowed, IsHow, IsMade, IsMadeOf, IsPast, IsReply, IsSaid, IsStepped, IsValid, IsWhole, List, Made, Name, None, Ok, Option, Order, Outcome, Outgoing, Picking, Port, ReadsBytes, Record, Settings, Some, TellsFaults, Verdict, Went, [], aborts_behind, answer_status, ap, arith, asked_before, awaited, block_told, command_of, controller_in, drop, ends_of, false, fault_of, find, fresh, has_name, inl, inr, is_apart, left_with, num, outcome_status, outstanding_of, own_answer, own_cases, own_end_with, own_refused, own_text, refl, refused_apart, said_fits, sent_by, sent_says, slice_index, steps, subst, sym, true, volume_named, ℕ, ◌%◌, ◌<◌, ◌^◌, ◌∙◌, ◌∷◌, ◌≡◌, ◌⊎◌}
+use Rattle.mscp_logged.proofs.Common.{AllByRecursion, Answered, AsksAlways, Block, Bool, Call, End, First, Fits, IsAnswering, IsEnding, IsFault, IsFollowed, IsHow, IsMade, IsPast, IsReply, IsSaid, IsStepped, IsWhole, List, Name, None, Ok, Option, Order, Outcome, Outgoing, Picking, Port, ReadsBytes, Record, Settings, Some, TellsFaults, Verdict, Went, aborts_behind, answer_status, ap, arith, asked_before, awaited, block_told, command_of, controller_in, drop, ends_of, false, fault_of, find, has_name, inl, inr, is_apart, left_with, num, outcome_status, own_answer, own_cases, own_end_with, own_refused, own_text, refl, refused_apart, said_fits, sent_by, sent_says, slice_index, steps, subst, sym, true, volume_named, ℕ, ◌%◌, ◌<◌, ◌^◌, ◌∙◌, ◌∷◌, ◌≡◌, ◌⊎◌}
 use Rattle.mscp_port.specs.declared.port.OutgoingKind.TheVariants as kinds
 use Rattle.mscp_logged.proofs.Made.{given_is}
 use Rattle.mscp_ported.proofs.ByOpcode.{ends_said}
