@@ -80,9 +80,6 @@ module _ (F : ℕ → ℕ) (Served : ℕ → Type 0) (old new : PortAccount) (s 
     all : Knows F Served old (s ∷ us) (head ∷ P) ts ms
     all = subst (λ es. Knows F Served old (s ∷ us) (es ++ P) ts ms) (ap (λ x. pending_said x s.text) kind) k
 
-    own : nat_eq (num s.text 0 4) e.reference ≡ true
-    own = eq-eqb (num s.text 0 4) e.reference (sym named)
-
     placed_now : (m : ℕ) (y : Asked) → find (is_of m) new.asked ≡ Some y → 1 ≤ tally m (claims us ts ms)
     placed_now m y f =
         let apart = find_other m e.reference old.asked y k.unique (ap (find (is_of m)) (sym d.asked) ∙ f) in

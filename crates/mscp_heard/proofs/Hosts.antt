@@ -163,9 +163,7 @@ module _ (old new : PortAccount) (n : ℕ) (small : n < 2 ^ 32) (same : SameNumb
     where
       with_so : (x : Result Poll HostFault × Account) → polled_with old n x ≡ (answer, new) → new.asked ≡ old.asked
       with_so (Ok (polls.Ask message), a) h = absurd (search (arith, none, ap (λ y. is_ask y.0) h))
-      with_so (Ok polls.Nothing, a) h = sym (ap (λ y. y.1.asked) h)
-      with_so (Ok polls.Busy, a) h = sym (ap (λ y. y.1.asked) h)
-      with_so (Err fault, a) h = sym (ap (λ y. y.1.asked) h)
+      with_so x h = sym (ap (λ y. y.1.asked) h)
 
       by : (b : Bool) → ◌≡◌ {A = Result Poll HostFault × PortAccount}
           (cond b (Err Rattle.mscp_host.specs.declared.news.HostFault.TheVariants.NoCredit, old)
@@ -199,11 +197,8 @@ hear_settles old new v b answer e = by (message_in v b) e
     found end (Some x) h = judged end x (may_be_of old end x) h
 
     by : (r : Result Message HearFault) → heard_of old v.credits r ≡ (answer, new) → Settles old.asked new.asked r
-    by (Err fault) h = inl (sym (ap (λ y. y.1.asked) h))
     by (Ok (messages.End end)) h = found end (find (is_of end.reference) old.asked) h
-    by (Ok (messages.Attention code unit)) h = inl (sym (ap (λ y. y.1.asked) h))
-    by (Ok messages.Datagram) h = inl (sym (ap (λ y. y.1.asked) h))
-    by (Ok messages.Credits) h = inl (sym (ap (λ y. y.1.asked) h))
+    by x h = inl (sym (ap (λ y. y.1.asked) h))
 
 abbrev is_it : Result Heard HearFault × PortAccount → Bool
 is_it (Ok (heards.MovedTooMuch x y), p) = true
@@ -258,7 +253,6 @@ hears_too_much old new v b e asked h = by (message_in v b) h
     by : (r : Result Message HearFault) → heard_of old v.credits r ≡ (Ok (heards.MovedTooMuch e asked), new)
         → (end : End) × (x : Asked) × (r ≡ Ok (messages.End end))
         × (find (is_of end.reference) old.asked ≡ Some x) × (is_too_much end.body x.bytes ≡ true)
-    by (Err fault) h = absurd (search (arith, h))
     by (Ok (messages.End end)) h =
         let x = found end (find (is_of end.reference) old.asked) refl h in (end, x.0, refl, x.1, x.2)
     by (Ok (messages.Attention code unit)) h = absurd (not_news (nat_eq code 0x40)
@@ -268,8 +262,7 @@ hears_too_much old new v b e asked h = by (message_in v b) h
             → is_it (Ok (cond c (heards.Available unit) (heards.Attention code unit)), old) ≡ true → ⊥
         not_news true h = search (arith, h)
         not_news false h = search (arith, h)
-    by (Ok messages.Datagram) h = absurd (search (arith, h))
-    by (Ok messages.Credits) h = absurd (search (arith, h))
+    by x h = absurd (search (arith, h))
 
 -- a message that is read is refused only as an end that is Unknown
 pub hears_refused : (old new : PortAccount) (v : Envelope) (b : List ℕ) (m : Message) (fault : HearFault)
@@ -294,6 +287,4 @@ hears_refused old new v b m fault is h =
     by : (m : Message) → message_in v b ≡ Ok m → heard_of old v.credits (Ok m) ≡ (Err fault, new)
         → (fault ≡ faults.Unknown) × ((e : End) × (message_in v b ≡ Ok (messages.End e)))
     by (messages.End end) is h = (found end (find (is_of end.reference) old.asked) h, (end, is))
-    by (messages.Attention code unit) is h = absurd (search (arith, h))
-    by messages.Datagram is h = absurd (search (arith, h))
-    by messages.Credits is h = absurd (search (arith, h))
+    by x is h = absurd (search (arith, h))

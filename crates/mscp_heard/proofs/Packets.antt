@@ -36,22 +36,12 @@ top_bit n h = search (arith, h)
 module _ (t : List ℕ) (e : End) (long : 12 ≤ length t) (top : 0x80 ≤ slice_index t 8) where
   body_few : (k : BodyKind) (n : ℕ) → moved_in (Some k) (num t 12 4) ≤ n → is_too_much (body_at k t) n ≡ false
   body_few bodykinds.Moved n h = not_more n (num t 12 4) h
-  body_few bodykinds.Bare n h = refl
-  body_few bodykinds.Abort n h = refl
-  body_few bodykinds.Status n h = refl
-  body_few bodykinds.UnitStatus n h = refl
-  body_few bodykinds.Controller n h = refl
-  body_few bodykinds.Online n h = refl
+  body_few x n h = refl
 
   tells : (k : BodyKind) (other figure : ℕ) → body_at k t ≡ bodies.Status other figure → end_length k ≤ length t
       → (other ≡ num t 12 4) × (figure ≡ num t 16 4) × (20 ≤ length t)
   tells bodykinds.Status other figure e long = search (arith, e, long)
-  tells bodykinds.Moved other figure e long = absurd (search (arith, e))
-  tells bodykinds.Bare other figure e long = absurd (search (arith, e))
-  tells bodykinds.Abort other figure e long = absurd (search (arith, e))
-  tells bodykinds.UnitStatus other figure e long = absurd (search (arith, e))
-  tells bodykinds.Controller other figure e long = absurd (search (arith, e))
-  tells bodykinds.Online other figure e long = absurd (search (arith, e))
+  tells x other figure e long = absurd (search (arith, e))
 
   read_with : (k : Option BodyKind) → kind_of_code (slice_index t 8) ≡ k
       → any_end t (reading_with k t) ≡ Ok (messages.End e) → IsEndIn e t

@@ -53,9 +53,6 @@ module _ (asked : List Asked) (ss : List Said) (k : ℕ) (aw ms : List (List ℕ
           news = news.1;
         }
       where
-        rest : List Claim
-        rest = claims (drop (suc k) ss) aw (drop n ms)
-
         not_heard : (e : End) → s.kind ≡ kinds.Attention → slice_index s.text 8 ≡ 0x40
             → message_in v b ≡ Ok (messages.End e) → ⊥
         not_heard e kind code r =

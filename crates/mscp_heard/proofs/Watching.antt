@@ -229,11 +229,8 @@ hear_watch old new v b answer e = by (message_in v b) e
     found end (Some x) h = judged end x (may_be_of old end x) h
 
     by : (r : Result Message HearFault) → heard_of old v.credits r ≡ (answer, new) → SettlesWatch old new r
-    by (Err fault) h = inl (sym (ap (λ y. y.1.asked) h), sym (ap (λ y. y.1.account) h))
     by (Ok (messages.End end)) h = found end (find (is_of end.reference) old.asked) h
-    by (Ok (messages.Attention code unit)) h = inl (sym (ap (λ y. y.1.asked) h), sym (ap (λ y. y.1.account) h))
-    by (Ok messages.Datagram) h = inl (sym (ap (λ y. y.1.asked) h), sym (ap (λ y. y.1.account) h))
-    by (Ok messages.Credits) h = inl (sym (ap (λ y. y.1.asked) h), sym (ap (λ y. y.1.account) h))
+    by x h = inl (sym (ap (λ y. y.1.asked) h), sym (ap (λ y. y.1.account) h))
 
 -- an end of the code of its command, and a poll's about the polled one, is that of the command
 pub may_be : (old : PortAccount) (e : End) (x : Asked) → is_code_of e.code x.opcode ≡ true
@@ -301,9 +298,7 @@ hears_ok old new v b m fault is own h = by m is (subst (λ r. heard_of old v.cre
     by (messages.End end) is h =
         let x = own end is in
         judged end x.0 (may_be_of old end x.0) x.2 (subst (λ o. ends_of old v.credits end o ≡ (Err fault, new)) x.1 h)
-    by (messages.Attention code unit) is h = search (arith, h)
-    by messages.Datagram is h = search (arith, h)
-    by messages.Credits is h = search (arith, h)
+    by x is h = search (arith, h)
 
 -- ---- nothing is sent
 
@@ -326,9 +321,7 @@ poll_same old new n answer none e = by (nat_eq old.credits 0 && is_to_poll old.a
   where
     with_so : (x : Result Poll HostFault × Account) → polled_with old n x ≡ (answer, new) → new ≡ old
     with_so (Ok (polls.Ask message), a) h = absurd (search (arith, none, ap (λ y. is_ask y.0) h))
-    with_so (Ok polls.Nothing, a) h = sym (ap (λ y. y.1) h)
-    with_so (Ok polls.Busy, a) h = sym (ap (λ y. y.1) h)
-    with_so (Err fault, a) h = sym (ap (λ y. y.1) h)
+    with_so x h = sym (ap (λ y. y.1) h)
 
     by : (b : Bool) → ◌≡◌ {A = Result Poll HostFault × PortAccount}
         (cond b (Err Rattle.mscp_host.specs.declared.news.HostFault.TheVariants.NoCredit, old)

@@ -109,8 +109,7 @@ brings_settled xs e b = by (place_of xs e)
 
 turned_away : (s : State) (x : Unit {0}) → told_away (turned s Open) ≡ Some x → ⊥
 turned_away Shared x e = none-some x e
-turned_away Away x e = none-some x e
-turned_away Open x e = none-some x e
+turned_away other x e = none-some x e
 
 -- it was told so before, or the end tells it
 pub away_after : (u : ℕ) (xs : List Sent) (told : Told) (text : List ℕ) (x : Unit {0})

@@ -10,30 +10,16 @@ of_unit t unit = record (sent_by First t) { unit = unit }
 -- ---- the unit doesn't matter
 
 says_any : (o : Order) (t : List ℕ) (one other : ℕ) → Says o (of_unit t one) → Says o (of_unit t other)
-says_any (orders.Abort n) t one other h = h
-says_any (orders.Status n) t one other h = h
-says_any orders.UnitStatus t one other h = h
-says_any (orders.SetController version) t one other h = h
-says_any orders.Available t one other h = h
-says_any orders.Online t one other h = h
-says_any orders.SetUnit t one other h = h
-says_any (orders.Move kind count block) t one other h = h
 says_any (orders.Invalid byte status) t one other (inl e) = inl e
 says_any (orders.Invalid byte status) t one other (inr s) = inr (
   s.0,
   record { why = s.1.why; byte = s.1.byte; opcode = s.1.opcode; about = s.1.about; short = s.1.short },
 )
+says_any order t one other h = h
 
 long_any : (o : Order) (t : List ℕ) (one other : ℕ) → IsLong o (of_unit t one) → IsLong o (of_unit t other)
 long_any (orders.Abort n) t one other h = h
-long_any (orders.Status n) t one other h = h
-long_any orders.UnitStatus t one other h = h
-long_any (orders.SetController version) t one other h = h
-long_any orders.Available t one other h = h
-long_any orders.Online t one other h = h
-long_any orders.SetUnit t one other h = h
-long_any (orders.Move kind count block) t one other h = h
-long_any (orders.Invalid byte status) t one other h = h
+long_any order t one other h = h
 
 -- ---- another unit is named
 

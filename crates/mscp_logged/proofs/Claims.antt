@@ -1,6 +1,6 @@
 -- What was told is borne out by the ends that are still to come, until one of them makes it void: so is what a host was
 -- told, and what each of these ends tells itself.
-use Rattle.mscp_logged.proofs.Common.{Bool, List, None, Option, Some, [], arith, false, inl, inr, none-some, sym, ℕ, ◌++◌, ◌∙◌, ◌∷◌, ◌≡◌, ◌⊎◌}
+use Rattle.mscp_logged.proofs.Common.{Bool, List, Option, Some, [], false, inl, inr, ℕ, ◌++◌, ◌∷◌, ◌≡◌, ◌⊎◌}
 
 -- an end bears a claim out or not, makes those in front of it void or not, and claims something itself or not
 module _ {X : Type 0} (Bears : X → List ℕ → Type 0) (voids : List ℕ → Bool) (claim : List ℕ → Option X) where
@@ -18,12 +18,6 @@ module _ {X : Type 0} (Bears : X → List ℕ → Type 0) (voids : List ℕ → 
   pub record Claimed (Holds : X → Type 0) (told : Option X) (qs : List (List ℕ)) : Type 0 where
     pub own : (x : X) → told ≡ Some x → Borne Holds x qs
     pub each : AllBorne Holds qs
-
-  pub nothing_claimed : (Holds : X → Type 0) (told : Option X) (qs : List (List ℕ)) → told ≡ None → qs ≡ []
-      → Claimed Holds told qs
-  nothing_claimed Holds told [] none no_end =
-      record { own = λ x e. absurd (none-some x (sym none ∙ e)); each = tt }
-  nothing_claimed Holds told (q ∷ qs) none no_end = search (arith, no_end)
 
   -- ---- what holds changes
 

@@ -72,7 +72,7 @@ pub use Rattle.mscp_port.specs.declared.verdict.Verdict.{Verdict}
 pub use Rattle.mscp_port.specs.declared.volumes.Volume.{Volume}
 pub use Rattle.mscp_ported.proofs.Answering.{own_so}
 pub use Rattle.mscp_ported.proofs.Awaiting.{IsNoReset, Kept}
-pub use Rattle.mscp_ported.proofs.Awaits.{served_found, served_own}
+pub use Rattle.mscp_ported.proofs.Awaits.{end_named, its_own, no_other, no_such, served_found, served_own}
 pub use Rattle.mscp_ported.proofs.Behind.{aborts_behind, any_more, is_abort}
 pub use Rattle.mscp_ported.proofs.Buffered.{FitsBuffer}
 pub use Rattle.mscp_ported.proofs.ByOpcode.{fitting}
@@ -96,9 +96,9 @@ pub use Rattle.mscp_ported.proofs.Numbered.{At, IsNothing, ends_numbered, first_
 pub use Rattle.mscp_ported.proofs.Numbering.{ended_none, served_waits, still_none}
 pub use Rattle.mscp_ported.proofs.Opcodes.{IsSaid, said_fits}
 pub use Rattle.mscp_ported.proofs.Origins.{IsAborted, IsAnswer, IsMade, IsOf, IsServed, IsText, IsToldSo, told_same}
-pub use Rattle.mscp_ported.proofs.Owning.{and_false, apart_numbers, number_of}
+pub use Rattle.mscp_ported.proofs.Owning.{apart_numbers, number_of}
 pub use Rattle.mscp_ported.proofs.Promised.{knows}
-pub use Rattle.mscp_ported.proofs.Reading.{Answers, Gets, Queues, answer_decided, answer_ends, end_named, its_own, no_other, no_such, read_is}
+pub use Rattle.mscp_ported.proofs.Reading.{Answers, Gets, Queues, and_false, answer_decided, answer_ends, read_is}
 pub use Rattle.mscp_ported.proofs.Silent.{none_waits}
 pub use Rattle.mscp_ported.proofs.Sole.{other_one, served_goes_on, served_itself, served_other, sole_comes, sole_left, this_one}
 pub use Rattle.mscp_ported.proofs.Staying.{IsPassive, Stays, passive_stays}

@@ -1,5 +1,5 @@
 -- Over a whole list of calls a unit that is online with its volume is online in the controller, too.
-use Rattle.mscp_logged.proofs.Common.{All, Answered, AnsweredCalls, AsksAlways, Bool, Call, ControllersKeepThePromise, Dies, Drive, First, GoesOnWithBlock, Hardware, Hears, Holdings, IsAsNew, IsMadeOf, IsPassive, IsReadingText, IsValid, List, Made, Next, None, Ok, Option, Picking, Port, ReadsBytes, SendFault, Settings, Shape, Some, Stage, Task, Volume, Wants, WasRead, Went, WriteIp, [], aborting, after_message, answered_end, ap, arith, asked_before, awaited, balance_of, command_of, cond, drive_now, false, false≢true, few_ends, find, fresh, handed, held_unless, history, inl, inr, is_dead, is_queued, looks_or_not, map, nat_eq, none_or_some, one_block, option_map, outstanding_of, own_end_of, passive_stays, place_in, position-Some, queued, refl, refusal, steps, subst, sym, taken_or_not, true, unit_found, volume_at, volume_in_place, with_end, ℕ, ◌<◌, ◌∙◌, ◌∷◌, ◌≡◌, ◌⊎◌}
+use Rattle.mscp_logged.proofs.Common.{Answered, AsksAlways, Bool, Call, Dies, Drive, First, GoesOnWithBlock, Hears, Holdings, IsAsNew, IsPassive, IsReadingText, List, Next, None, Ok, Option, Picking, Port, ReadsBytes, SendFault, Shape, Some, Stage, Task, Volume, Wants, WasRead, Went, WriteIp, [], aborting, after_message, answered_end, ap, arith, asked_before, awaited, balance_of, command_of, cond, drive_now, false, false≢true, few_ends, find, handed, held_unless, history, inl, inr, is_dead, is_queued, looks_or_not, map, nat_eq, none_or_some, one_block, option_map, outstanding_of, own_end_of, passive_stays, place_in, position-Some, queued, refl, refusal, steps, subst, sym, taken_or_not, true, unit_found, volume_at, volume_in_place, with_end, ℕ, ◌<◌, ◌∙◌, ◌∷◌, ◌≡◌, ◌⊎◌}
 use Rattle.mscp_queue.specs.Drives.{has_number}
 use Rattle.mscp_port.specs.declared.stage.Stage.TheVariants as stages
 use Rattle.mscp_port.specs.declared.task.Task.TheVariants as tasks
@@ -7,6 +7,7 @@ use Rattle.mscp_port.proofs.Common.{none-some}
 use Rattle.mscp_logged.proofs.Driven.{AreDriven, driven_as}
 use Rattle.mscp_logged.proofs.Moored.{AreAsWere, found_as, next_volumes, passive_volumes, read_volumes, volumes_still}
 use Rattle.mscp_logged.proofs.Orderly.{fits, numbers_kept, ordering, promised}
+use Rattle.mscp_logged.proofs.Begun.{Begun, IsKeeping}
 use Rattle.mscp_logged.proofs.Seen.{reads_before}
 use Rattle.mscp_logged.proofs.Spoken.{went_speaks}
 
@@ -66,12 +67,9 @@ module _ {K : Type 0} (old new : Port K) where
 
 -- ---- calls
 
-module _ {K : Type 0} (picks : Picking K) (c : Settings) (picker : K)
-    (keep : ControllersKeepThePromise (picks picker) picker) (valid : IsValid c)
-    (sizes : All (λ unit. 0 < unit.size) c.units) (before : List Made)
-    (hardware : Hardware) (credits : ℕ) (controller : Holdings K) (start : Port K)
-    (was : AnsweredCalls (picks picker) (fresh c picker) before controller)
-    (made : IsMadeOf hardware credits controller start) (quiet : outstanding_of First controller ≡ []) where
+module _ {K : Type 0} {picks : Picking K} (run : Begun picks) (keeping : IsKeeping run) where
+  open run use {c, picker, valid, hardware, credits, controller, start, made}
+
   abbrev pub So : Port K → Type 0
   So p = AreDriven c.units p.volumes p.controller.drives
 
@@ -79,8 +77,7 @@ module _ {K : Type 0} (picks : Picking K) (c : Settings) (picker : K)
   pub housed : (p : Port K) (calls : List Call) (a : Answered picks start calls p) (u : ℕ) (unit : Shape)
       → unit_found c.units u ≡ Some unit → (x : Drive) × (find (has_number u) p.controller.drives ≡ Some x)
   housed p calls a u unit found =
-      let m = promised picks c picker keep valid sizes before hardware credits controller start was made quiet p calls
-      a in (
+      let m = promised run keeping p calls a in (
         drive_now c (history m.0) unit,
         ap (find (has_number u)) m.1.drives ∙ find_drives (drive_now c (history m.0)) (λ s. refl) u c.units
             ∙ ap (option_map (drive_now c (history m.0))) found,
@@ -139,19 +136,13 @@ module _ {K : Type 0} (picks : Picking K) (c : Settings) (picker : K)
 
       by : (b : Bool) → is_dead p.stage ≡ b → So p
       by false lives =
-          let m = promised picks c picker keep valid sizes before hardware credits controller start was made quiet p
-          (Went outcome (Ok done) ∷ calls) a in
+          let m = promised run keeping p (Went outcome (Ok done) ∷ calls) a in
           (went_speaks (picks a.0.controller.picker) outcome done a.0 p aw
-          (numbers_kept picks c picker keep valid sizes before hardware credits controller start was made quiet a.0
-          calls reads a.1)
-          (fits picks c picker keep valid sizes before hardware credits controller start was made quiet a.0 calls
-          reads a.1)
-          (ordering picks c picker keep valid sizes before hardware credits controller start was made quiet a.0 calls
-          reads a.1) a.2 (few_ends (picks picker) c m.0 p.controller valid m.1) lives
+          (numbers_kept run keeping a.0 calls reads a.1) (fits run keeping a.0 calls reads a.1)
+          (ordering run keeping a.0 calls reads a.1) a.2 (few_ends (picks picker) c m.0 p.controller valid m.1) lives
           (steps picks hardware credits controller start made a.0 calls
           (asked_before (Went outcome (Ok done)) calls asks) a.1).begun hardware
-          (promised picks c picker keep valid sizes before hardware credits controller start was made quiet a.0 calls
-          a.1).1.settings ⊥ (λ never. absurd never) s (housed a.0 calls a.1)).1.1
+          (promised run keeping a.0 calls a.1).1.settings ⊥ (λ never. absurd never) s (housed a.0 calls a.1)).1.1
       by true dead = elim a.2.commands [
         | inl x ↦ stays_so a.0 p (volumes_still a.0 p x.volumes) (ap (λ (h : Holdings K). h.drives) x.controller) s
         | inr more ↦ elim more [

@@ -20,9 +20,6 @@ moves_free kind = grind arith
 
 says_sequential : (o : Order) (s : Sent) → Says o s → ((byte why : ℕ) → o ≢ orders.Invalid byte why)
     → wire.is_sequential s.opcode ≡ true → queue.is_sequential o ≡ true
-says_sequential orders.Available s says valid e = refl
-says_sequential orders.Online s says valid e = refl
-says_sequential orders.SetUnit s says valid e = refl
 says_sequential (orders.Abort other) s says valid e = absurd (false≢true (sym (ap wire.is_sequential says.0) ∙ e))
 says_sequential (orders.Status other) s says valid e = absurd (false≢true (sym (ap wire.is_sequential says.0) ∙ e))
 says_sequential orders.UnitStatus s says valid e = absurd (false≢true (sym (ap wire.is_sequential says) ∙ e))
@@ -31,6 +28,7 @@ says_sequential (orders.SetController version) s says valid e =
 says_sequential (orders.Move kind count block) s says valid e =
     absurd (false≢true (sym (ap wire.is_sequential says.0 ∙ moves_free kind) ∙ e))
 says_sequential (orders.Invalid byte why) s says valid e = absurd (valid byte why refl)
+says_sequential order s says valid e = refl
 
 says_immediate : (o : Order) (s : Sent) → Says o s → is_immediate o ≡ true
     → (wire.is_sequential s.opcode ≡ false) × (wire.is_ordered s.opcode ≡ false)

@@ -1,5 +1,6 @@
 -- What is known of the figures of a port's log, over a whole list of calls.
-use Rattle.mscp_logged.proofs.Common.{All, AllByRecursion, Answered, AnsweredCalls, AsksAlways, Bool, Call, Deals, First, Hardware, History, Holdings, HoldsAwaited, HostIsRight, IsAnswering, IsCodeFor, IsMadeOf, IsRight, IsServedSince, IsTaking, IsValid, List, Made, None, Option, Outgoing, OutgoingKind, PassesOn, Picking, Port, PortsEndWhatTheyTook, PortsHoldWhatIsAwaited, PortsLowerFigures, PortsPassEndsOn, PortsTellInOrder, ReadsBytes, Sent, ServesBetweenPolls, Settings, Some, TakesPoll, TellsStep, WriteIp, [], accepted_by, ap, append-nil, append_assoc, arith, asked_before, asking, awaited, begins, begun_one, cond, end_kind, end_of, end_said, ends_in, ends_said_by, false, figure_on, filter, flat_map, four_in, fresh, has_number, held, inl, inr, is_dead, is_foreign, is_message, is_new, leaves, list_any, logged, map, message_of, messages_by, nat_eq, none_beside, num, option_to_list, outstanding, outstanding_of, own_answer, pending_held, pending_in, pending_said, refl, said, said_in, seen_by, sent_by, since_alive, slice_index, subst, sym, taken_by, timed, timeout, true, volume_named, without_ends, ℕ, ◌++◌, ◌<◌, ◌∙◌, ◌∷◌, ◌≡◌, ◌≢◌, ◌≤◌, ◌⊎◌}
+use Rattle.mscp_logged.proofs.Common.{All, AllByRecursion, Answered, AsksAlways, Bool, Call, Deals, First, History, HoldsAwaited, HostIsRight, IsAnswering, IsCodeFor, IsRight, IsServedSince, IsTaking, List, None, Option, Outgoing, OutgoingKind, PassesOn, Picking, Port, PortsEndWhatTheyTook, PortsHoldWhatIsAwaited, PortsLowerFigures, PortsPassEndsOn, PortsTellInOrder, ReadsBytes, Sent, ServesBetweenPolls, Some, TakesPoll, TellsStep, WriteIp, [], accepted_by, ap, append-nil, append_assoc, arith, asked_before, asking, awaited, begins, begun_one, cond, end_kind, end_of, end_said, ends_in, ends_said_by, false, figure_on, filter, flat_map, four_in, has_number, held, inl, inr, is_dead, is_foreign, is_message, is_new, leaves, list_any, logged, map, message_of, messages_by, nat_eq, none_beside, num, option_to_list, outstanding, own_answer, pending_held, pending_in, pending_said, refl, said_in, seen_by, sent_by, since_alive, slice_index, subst, sym, taken_by, timed, timeout, true, volume_named, without_ends, ℕ, ◌++◌, ◌<◌, ◌∙◌, ◌∷◌, ◌≡◌, ◌≢◌, ◌≤◌, ◌⊎◌}
+use Rattle.mscp_logged.proofs.Begun.{Begun, same_held}
 use Rattle.mscp_port.specs.declared.port.OutgoingKind.TheVariants as kinds
 use Rattle.mscp_wire.specs.declared.moment.Moment.TheVariants as moments
 use Rattle.mscp_logged.proofs.Figuring.{coming, ending_lowers, lowers_by, not_poll, plain_figured, poll_figured, quiet_lowers, same_figured}
@@ -7,21 +8,20 @@ use Rattle.mscp_logged.proofs.Figures.{Figured, apart_from, begun_of, end_figure
 use Rattle.mscp_logged.proofs.Logging.{small_of, taken_disk}
 use Rattle.mscp_logged.proofs.Own.{IsOwn, answers_so, of_disk, own_named}
 use Rattle.mscp_logged.proofs.Polled.{AreFigured, IsFigured, Lowers, figure_of}
-use Rattle.mscp_logged.proofs.Seen.{begun_none, is_reset, last_is, no_message, reads_before, since_dead, since_reset}
+use Rattle.mscp_logged.proofs.Seen.{begun_none, is_reset, no_message, reads_before, since_dead, since_reset}
 use Rattle.mscp_logged.proofs.Stated.{Stated, as_it_is, takes, each_at, each_front, new_none, right_new}
 use Rattle.mscp_logged.proofs.Wired.{named, outstanding_more}
 
 -- ---- calls
 
 module _ {K : Type 0} (Tie : List ℕ → List ℕ → Type 0) (G O : Type 0) (code_of : (text message : List ℕ)
-    → Tie text message → IsCodeFor (slice_index text 8) message) (picks : Picking K) (c : Settings) (picker : K)
-    (ends : PortsEndWhatTheyTook picks picker) (tell : PortsTellInOrder picks)
-    (holds : PortsHoldWhatIsAwaited picks picker) (passes : PortsPassEndsOn picks picker)
-    (lowers : PortsLowerFigures picks picker) (sizes : All (λ unit. 0 < unit.size) c.units) (before : List Made)
-    (controller : Holdings K) (hardware : Hardware) (credits : ℕ) (start : Port K) (valid : IsValid c)
-    (was : AnsweredCalls (picks picker) (fresh c picker) before controller)
-    (quiet : outstanding_of First controller ≡ []) (made : IsMadeOf hardware credits controller start)
+    → Tie text message → IsCodeFor (slice_index text 8) message) {picks : Picking K} (run : Begun picks)
+    (ends : PortsEndWhatTheyTook picks run.picker) (tell : PortsTellInOrder picks)
+    (holds : PortsHoldWhatIsAwaited picks run.picker) (passes : PortsPassEndsOn picks run.picker)
+    (lowers : PortsLowerFigures picks run.picker) (sizes : All (λ unit. 0 < unit.size) run.c.units)
     (limit : Option ℕ) where
+  open run use {c, valid, before, hardware, credits, controller, start, was, made, quiet}
+
   abbrev pub Known : (p : Port K) (calls : List Call) → Answered picks start calls p → Type 0
   Known p calls a =
       Figured (logged picks start p calls a) (coming p) (figure_on p) (IsServedSince picks start p calls a)
@@ -95,18 +95,6 @@ module _ {K : Type 0} (Tie : List ℕ → List ℕ → Type 0) (G O : Type 0) (c
     awaited_is us vs e g = since_alive p.stage call _ _ never lives
         ∙ ap (λ x. without_ends x aw ++ taken_by call a.0) e ∙ ap (λ y. without_ends us aw ++ y) g
 
-    same_held : begins a.0.outgoing p.outgoing ≡ [] → (o x : Outgoing) → a.0.outgoing ≡ Some o → p.outgoing ≡ Some x
-        → said_in o ≡ said_in x
-    same_held none o x was_out is_out =
-        let old = (tell hardware credits controller start a.0 calls made (asked_before call calls asks) a.1).0 in
-        let now = (tell hardware credits controller start p (call ∷ calls) made asks a).0 in
-        last_is old.0 now.0 (said_in o) (said_in x)
-        (ap (λ z. old.0 ++ map said_in (option_to_list z)) (sym was_out) ∙ old.1
-        ∙ sym (now.1 ∙ since_alive p.stage call _ _ never lives
-        ∙ ap (λ os. said picks start a.0 calls a.1 ++ map said_in os) none
-        ∙ append-nil (said picks start a.0 calls a.1))
-        ∙ ap (λ z. now.0 ++ map said_in (option_to_list z)) is_out)
-
     is_new_now : (t : List ℕ) → messages_by call a.0 ≡ message_of t ∷ [] → is_new xs (sent_by First t) ≡ true
     is_new_now t e = right_new limit h t (each_at (λ x m. is_message m ≡ true → IsRight limit x m) moments.Reset h
         (message_of t) gone (subst (λ x. HostIsRight limit x) (log_is (message_of t ∷ []) e
@@ -155,7 +143,7 @@ module _ {K : Type 0} (Tie : List ℕ → List ℕ → Type 0) (G O : Type 0) (c
             (figured_as (h ++ ms) ((h ++ ms) ++ []) (coming a.0 ++ passing.more) (out_of (Some x) ++ pending_held p)
             (figure_on p) S' (append-nil (h ++ ms))
             (goes_on (said_in o) (said_in x) (pending_held a.0) (pending_held p) passing.more
-            (same_held none o x was_out is_out)
+            (same_held run tell p call calls asks a never lives o x was_out is_out)
             (ap (λ os. flat_map pending_in (map said_in os) ++ pending_held p) (sym none) ∙ b)
             ∙ ap (λ z. (out_of z ++ pending_held a.0) ++ passing.more) (sym was_out)) mid)
         by (Some o) None was_out is_out b none s1 mid = to_log (Some o) None was_out is_out

@@ -20,8 +20,7 @@ left_right (Gone last) g e = refl
 
 left_young : (a : Asked) → asks_oldest (left a) ≡ false
 left_young Nothing = refl
-left_young (Oldest last) = refl
-left_young (Gone last) = refl
+left_young x = refl
 
 came_right : (a : Asked) (came : Bool) (g : ℕ) → may_be a false g ≡ true → may_be a came g ≡ true
 came_right Nothing came g e = refl
@@ -34,9 +33,6 @@ any_kept : (g : Sent → Sent) (n other : ℕ) → ((x : Sent) → named other (
 any_kept g n other same apart [] e = absurd (false≢true e)
 any_kept g n other same apart (x ∷ xs) e = by (named n x) refl (named other x) refl e (any_kept g n other same apart xs)
   where
-    rest_of : List Sent
-    rest_of = map g (filter (λ x. not (named n x)) xs)
-
     both : named n x ≡ true → named other x ≡ true → ⊥
     both here there = false≢true (sym apart ∙ eq-eqb other n
         (sym (eqb-true x.reference other

@@ -7,7 +7,7 @@ use Rattle.mscp_port.specs.declared.verdict.Verdict.TheVariants as verdicts
 use Rattle.mscp_ported.proofs.Tables.{answer_by}
 use Rattle.mscp_logged.proofs.Clear.{AreClear, IsClear, is_ended, none_ended, ordered_answered, ordered_as, ordered_queued, unended, without}
 use Rattle.mscp_logged.proofs.Fences.{aborted_apart, plain_code, reply_clear}
-use Rattle.mscp_logged.proofs.Ordering.{OrderedIn, became, died, stays}
+use Rattle.mscp_logged.proofs.Ordering.{OrderedIn, became, stays}
 use Rattle.mscp_logged.proofs.Passes.{Unplaced, all_fewer, keeps, none_any, passes_unplaced, unplaced_new}
 use Rattle.mscp_logged.proofs.Queueing.{NoneBehind, behind_left}
 
@@ -200,6 +200,6 @@ module _ {c : Settings} {Told : Verdict → Record → Type 0} {K : Type 0} (byt
 
   pub read_ordered : After
   read_ordered = elim (read_is bytes done old new r) [
-    | inl s ↦ stays (WasRead bytes (Ok done)) old new aw o calm refl s.1 (inl s.0)
-    | inr more ↦ elim more [ inl g ↦ gets_so g | inr d ↦ died (WasRead bytes (Ok done)) old new aw o calm d ]
+    | inl s ↦ stays (WasRead bytes (Ok done)) old new aw o calm refl s.1 s.0
+    | inr g ↦ gets_so g
   ]

@@ -95,11 +95,7 @@ module _ (c : Settings) (F : Type 0) (xs : List Sent) (unit : Seen) (known : IsK
       fits_known c unit.controller (controller_in b) known tied.tie.known
   command_right rules.Identity f polls = same
   command_right rules.State f polls = suits (f refl)
-  command_right rules.Message f polls = refl
-  command_right rules.Number f polls = refl
-  command_right rules.Credits f polls = refl
-  command_right rules.Length f polls = refl
-  command_right rules.Outstanding f polls = refl
+  command_right x f polls = refl
 
   end_right : (x : Rule) → (is_of_drives x ≡ true → F)
       → (is_of_polls x ≡ true → IsShown xs b) → end_holds xs unit First b x ≡ true

@@ -1,4 +1,5 @@
 mod Common
+pub mod Begun
 pub mod Wired
 pub mod Lined
 pub mod Left

@@ -143,12 +143,12 @@ module _ {K : Type 0} (bytes : List ℕ) (done : Unit) (old new : Port K) (aw : 
 
   pub read_speaks : So
   read_speaks = elim (read_is bytes done old new r) [
-    | inl s ↦ none_so (ap (λ (h : Holdings K). ends_of h) s.0.0) (ap (λ d. d.items) s.0.1)
-    | inr more ↦ elim more [
-      | inl g ↦ elim g.how [
-        | inl q ↦ none_so (ap (λ (h : Holdings K). ends_of h) q.holds) q.sends.decided
-        | inr a ↦ answered_so g a
-      ]
+    | inl s ↦ elim s.0 [
+      | inl same ↦ none_so (ap (λ (h : Holdings K). ends_of h) same.0) (ap (λ d. d.items) same.1)
       | inr d ↦ absurd (search (arith, lives, ap is_dead d.1.stage))
+    ]
+    | inr g ↦ elim g.how [
+      | inl q ↦ none_so (ap (λ (h : Holdings K). ends_of h) q.holds) q.sends.decided
+      | inr a ↦ answered_so g a
     ]
   ]

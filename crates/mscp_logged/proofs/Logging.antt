@@ -1,12 +1,13 @@
 -- What is known of a port's log, over a whole list of calls.
-use Rattle.mscp_logged.proofs.Common.{AllByRecursion, Answered, AnsweredCalls, AsksAlways, Bool, Call, Deals, First, Hardware, History, Holdings, HostIsRight, IsAnswering, IsEnding, IsMadeOf, IsRight, IsTaking, IsValid, List, Made, None, Ok, Option, Outgoing, Picking, Port, PortsEndWhatTheyTook, PortsTellInOrder, ReadsBytes, Said, Settings, Some, Task, WasRead, WriteIp, [], aborts_behind, accepted_by, answer_to_message, ap, append-nil, append_assoc, arith, asked_before, awaited, begins, cond, end_kind, ends_in, ends_said_by, false, filter, flat_map, fresh, has_number, held, inl, inr, is_dead, is_foreign, is_message, is_new, is_none, is_ok, is_taken_text, leaves, logged, map, message_of, messages_by, not, num, option_to_list, outstanding, outstanding_of, own_answer, refl, said, said_in, seen_by, sent_by, since_alive, slice_index, subst, sym, taken_by, text_handed, true, volume_named, without_ends, ℕ, ◌%◌, ◌++◌, ◌<◌, ◌^◌, ◌∙◌, ◌∷◌, ◌≡◌, ◌≢◌}
+use Rattle.mscp_logged.proofs.Common.{AllByRecursion, Answered, AsksAlways, Bool, Call, Deals, First, History, HostIsRight, IsAnswering, IsEnding, IsRight, IsTaking, List, None, Ok, Option, Outgoing, Picking, Port, PortsEndWhatTheyTook, PortsTellInOrder, ReadsBytes, Said, Some, Task, WasRead, WriteIp, [], aborts_behind, accepted_by, answer_to_message, ap, append-nil, append_assoc, arith, asked_before, awaited, begins, cond, end_kind, ends_in, ends_said_by, false, filter, flat_map, has_number, held, inl, inr, is_dead, is_foreign, is_message, is_new, is_none, is_ok, is_taken_text, leaves, logged, map, message_of, messages_by, not, num, option_to_list, outstanding, own_answer, refl, said, said_in, seen_by, sent_by, since_alive, slice_index, subst, sym, taken_by, text_handed, true, volume_named, without_ends, ℕ, ◌%◌, ◌++◌, ◌<◌, ◌^◌, ◌∙◌, ◌∷◌, ◌≡◌, ◌≢◌}
+use Rattle.mscp_logged.proofs.Begun.{Begun, nothing_held, same_held}
 use Rattle.std.proofs.Common.{◌&&◌}
 use Rattle.mscp_port.specs.declared.port.OutgoingKind.TheVariants as kinds
 use Rattle.mscp_port.specs.declared.task.Task.TheVariants as tasks
 use Rattle.mscp_wire.specs.declared.moment.Moment.TheVariants as moments
 use Rattle.mscp_logged.proofs.Own.{IsOwn, answers_so, own_named}
 use Rattle.mscp_logged.proofs.Passes.{keeps, overtakes}
-use Rattle.mscp_logged.proofs.Seen.{is_reset, last_is, no_message, none_held, reads_before, since_dead, since_reset}
+use Rattle.mscp_logged.proofs.Seen.{is_reset, no_message, reads_before, since_dead, since_reset}
 use Rattle.mscp_logged.proofs.Stated.{Stated, answers, as_it_is, begins_end, begins_other, each_at, each_front, left, nothing_stated, right_new, takes}
 use Rattle.mscp_logged.proofs.Turns.{IsApartOr}
 use Rattle.mscp_logged.proofs.Wired.{nothing_wired}
@@ -35,39 +36,32 @@ pub small_of : (call : Call) (calls : List Call) (t : List ℕ) (done : Unit) �
     → call ≡ WasRead t (Ok done) → (i : ℕ) → slice_index t i < 2 ^ 8
 small_of call calls t done reads is = (subst (λ x. ReadsBytes (x ∷ calls)) is reads).0
 
-module _ {K : Type 0} (Tie : List ℕ → List ℕ → Type 0) (G O : Type 0) (picks : Picking K) (c : Settings) (picker : K)
-    (ends : PortsEndWhatTheyTook picks picker) (tell : PortsTellInOrder picks) (before : List Made)
-    (controller : Holdings K) (hardware : Hardware) (credits : ℕ) (start : Port K) (valid : IsValid c)
-    (was : AnsweredCalls (picks picker) (fresh c picker) before controller)
-    (quiet : outstanding_of First controller ≡ []) (made : IsMadeOf hardware credits controller start)
+module _ {K : Type 0} (Tie : List ℕ → List ℕ → Type 0) (G O : Type 0) {picks : Picking K} (run : Begun picks)
+    (ends : PortsEndWhatTheyTook picks run.picker) (tell : PortsTellInOrder picks)
     (Fine : List Call → Type 0) (fine_before : (call : Call) (calls : List Call) → Fine (call ∷ calls) → Fine calls)
     (tie_end : (p : Port K) (call : Call) (calls : List Call) → ReadsBytes (call ∷ calls) → Fine (call ∷ calls)
-    → (a : Answered picks start (call ∷ calls) p) → (q : IsEnding (awaited picks start a.0 calls a.1) call a.0 p)
+    → (a : Answered picks run.start (call ∷ calls) p) → (q : IsEnding (awaited picks run.start a.0 calls a.1) call a.0 p)
     → Tie q.out.bytes.items q.message)
     (late_end : (p : Port K) (call : Call) (calls : List Call) → ReadsBytes (call ∷ calls) → Fine (call ∷ calls)
-    → (a : Answered picks start (call ∷ calls) p) → (q : IsEnding (awaited picks start a.0 calls a.1) call a.0 p)
+    → (a : Answered picks run.start (call ∷ calls) p) → (q : IsEnding (awaited picks run.start a.0 calls a.1) call a.0 p)
     → G → num q.out.bytes.items 10 2 % 32 ≡ 2
-    → (k : ℕ) × (aborts_behind (num q.out.bytes.items 0 4) k (awaited picks start a.0 calls a.1) ≡ true))
+    → (k : ℕ) × (aborts_behind (num q.out.bytes.items 0 4) k (awaited picks run.start a.0 calls a.1) ≡ true))
     (late_own : (old : Port K) (text : List ℕ) (o : Outgoing) → IsOwn old text o → o.kind ≡ kinds.End → G
     → num o.bytes.items 10 2 % 32 ≡ 2 → ⊥)
     (turn_end : (p : Port K) (call : Call) (calls : List Call) → ReadsBytes (call ∷ calls) → Fine (call ∷ calls)
-    → (a : Answered picks start (call ∷ calls) p) → (q : IsEnding (awaited picks start a.0 calls a.1) call a.0 p)
+    → (a : Answered picks run.start (call ∷ calls) p) → (q : IsEnding (awaited picks run.start a.0 calls a.1) call a.0 p)
     → O → IsApartOr q.out.bytes.items
-    (overtakes (num q.out.bytes.items 0 4) (awaited picks start a.0 calls a.1) ≡ false))
+    (overtakes (num q.out.bytes.items 0 4) (awaited picks run.start a.0 calls a.1) ≡ false))
     (turn_own : (p : Port K) (call : Call) (calls : List Call) → ReadsBytes (call ∷ calls) → Fine (call ∷ calls)
-    → (a : Answered picks start (call ∷ calls) p) → (q : IsAnswering call a.0 p) → IsOwn a.0 q.message q.out
+    → (a : Answered picks run.start (call ∷ calls) p) → (q : IsAnswering call a.0 p) → IsOwn a.0 q.message q.out
     → q.out.kind ≡ kinds.End → O → IsApartOr q.out.bytes.items
-    (AllByRecursion (λ u. keeps q.message u ≡ false) (awaited picks start a.0 calls a.1)))
+    (AllByRecursion (λ u. keeps q.message u ≡ false) (awaited picks run.start a.0 calls a.1)))
     (tie_own : (old : Port K) (text : List ℕ) (o : Outgoing) → ((i : ℕ) → slice_index text i < 2 ^ 8)
     → IsOwn old text o → o.kind ≡ kinds.End → Tie o.bytes.items text) (limit : Option ℕ) where
+  open run use {c, valid, before, hardware, credits, controller, start, was, made, quiet}
+
   abbrev pub State : (p : Port K) (calls : List Call) → Answered picks start calls p → Type 0
   State p calls a = Stated Tie G O (logged picks start p calls a) (awaited picks start p calls a) (held p)
-
-  -- nothing is held where nothing was said
-  nothing_held : (p : Port K) (calls : List Call) → AsksAlways calls → (a : Answered picks start calls p)
-      → said picks start p calls a ≡ [] → held p ≡ []
-  nothing_held p calls asks a none =
-      let t = (tell hardware credits controller start p calls made asks a).0 in none_held t.0 (held p) (t.1 ∙ none)
 
   forgotten : (p : Port K) (calls : List Call) → AsksAlways calls → (a : Answered picks start calls p)
       → said picks start p calls a ≡ [] → logged picks start p calls a ≡ [] → awaited picks start p calls a ≡ []
@@ -75,7 +69,7 @@ module _ {K : Type 0} (Tie : List ℕ → List ℕ → Type 0) (G O : Type 0) (p
   forgotten p calls asks a none no_moment no_text =
       as_it_is Tie G O [] [] (logged picks start p calls a) (awaited picks start p calls a) [] (held p) no_moment
       no_text
-      (nothing_held p calls asks a none) (nothing_stated Tie G O (nothing_wired Tie [] [] refl refl))
+      (nothing_held run tell p calls asks a none) (nothing_stated Tie G O (nothing_wired Tie [] [] refl refl))
 
   module _ (p : Port K) (call : Call) (calls : List Call) (asks : AsksAlways (call ∷ calls))
       (reads : ReadsBytes (call ∷ calls)) (fine : Fine (call ∷ calls)) (a : Answered picks start (call ∷ calls) p)
@@ -100,19 +94,6 @@ module _ {K : Type 0} (Tie : List ℕ → List ℕ → Type 0) (G O : Type 0) (p
     awaited_is xs ys e f = since_alive p.stage call _ _ never lives
         ∙ ap (λ x. without_ends x aw ++ taken_by call a.0) e ∙ ap (λ y. without_ends xs aw ++ y) f
 
-    -- what goes out stays the same
-    same_held : begins a.0.outgoing p.outgoing ≡ [] → (o x : Outgoing) → a.0.outgoing ≡ Some o → p.outgoing ≡ Some x
-        → said_in o ≡ said_in x
-    same_held none o x was_out is_out =
-        let old = (tell hardware credits controller start a.0 calls made (asked_before call calls asks) a.1).0 in
-        let now = (tell hardware credits controller start p (call ∷ calls) made asks a).0 in
-        last_is old.0 now.0 (said_in o) (said_in x)
-        (ap (λ z. old.0 ++ map said_in (option_to_list z)) (sym was_out) ∙ old.1
-        ∙ sym (now.1 ∙ since_alive p.stage call _ _ never lives
-        ∙ ap (λ os. said picks start a.0 calls a.1 ++ map said_in os) none
-        ∙ append-nil (said picks start a.0 calls a.1))
-        ∙ ap (λ z. now.0 ++ map said_in (option_to_list z)) is_out)
-
     -- the message that comes is new
     is_new_now : (t : List ℕ) → messages_by call a.0 ≡ message_of t ∷ []
         → is_new (outstanding h) (sent_by First t) ≡ true
@@ -126,7 +107,7 @@ module _ {K : Type 0} (Tie : List ℕ → List ℕ → Type 0) (G O : Type 0) (p
         → State p (call ∷ calls) a
     calm ms xs e none f x = as_it_is Tie G O ((h ++ ms) ++ gone) xs (logged picks start p (call ∷ calls) a)
         (awaited picks start p (call ∷ calls) a) (held p) (held p) (log_is ms e) f refl
-        (left Tie G O (h ++ ms) xs a.0.outgoing p.outgoing x none (same_held none))
+        (left Tie G O (h ++ ms) xs a.0.outgoing p.outgoing x none (same_held run tell p call calls asks a never lives))
 
     -- or something does
     begun : (ms : History) (xs : List (List ℕ)) (o : Outgoing) → messages_by call a.0 ≡ ms → a.0.outgoing ≡ None

@@ -1,5 +1,6 @@
 -- Each end of a port's log is as long as its endcode asks.
-use Rattle.mscp_logged.proofs.Common.{All-from_recursion, AllByRecursion, Answered, AnsweredCalls, AsksAlways, BodyKind, Bool, Call, Deals, First, Hardware, Holdings, IsMadeOf, IsValid, IsWhole, Keeps, List, Made, Moment, None, Option, Outgoing, OutgoingKind, Picking, Port, PortsEndWhatTheyTook, PortsTellInOrder, ReadsBytes, Said, Seen, Sent, Settings, Some, WriteIp, [], accepted_by, and_from, arith, asked_before, awaited, begins, begun_one, cond, end_length, end_of, end_said, endcodes, ends_in, eqb-true, every_append, every_parts, false, find, flat_map, fresh, held, inl, inr, is_dead, is_foreign, is_long, kind_of_code, le-leb, least_length, leaves, length, list_all, logged, map, message_of, messages_by, moment_at, nat_eq, nat_le, none-some, option_map, option_to_list, outstanding, outstanding_of, refl, said, said_in, same_Some, seen_by, since_alive, slice_index, subst, sym, true, ℕ, ◌++◌, ◌∙◌, ◌∷◌, ◌≡◌, ◌≢◌, ◌≤◌}
+use Rattle.mscp_logged.proofs.Common.{All-from_recursion, AllByRecursion, Answered, AsksAlways, BodyKind, Bool, Call, Deals, IsWhole, Keeps, List, Moment, None, Option, Outgoing, OutgoingKind, Picking, Port, PortsEndWhatTheyTook, PortsTellInOrder, ReadsBytes, Said, Seen, Sent, Some, WriteIp, [], accepted_by, and_from, arith, asked_before, awaited, begins, begun_one, cond, end_length, end_of, end_said, endcodes, ends_in, eqb-true, every_append, every_parts, false, find, flat_map, held, inl, inr, is_dead, is_foreign, is_long, kind_of_code, le-leb, least_length, leaves, length, list_all, logged, map, message_of, messages_by, moment_at, nat_eq, nat_le, none-some, option_map, option_to_list, outstanding, refl, said, said_in, same_Some, seen_by, since_alive, slice_index, subst, sym, true, ℕ, ◌++◌, ◌∙◌, ◌∷◌, ◌≡◌, ◌≢◌, ◌≤◌}
+use Rattle.mscp_logged.proofs.Begun.{Begun}
 use Rattle.std.specs.Prelude.{take}
 use Rattle.std.proofs.lemmas.Bool.{and_parts}
 use Rattle.mscp_port.specs.declared.port.OutgoingKind.TheVariants as kinds
@@ -62,11 +63,10 @@ IsLongMoment (moments.Message via b time) = Unit {0}
 IsLongMoment (moments.End via b) = is_long b.items ≡ true
 IsLongMoment m = Unit {0}
 
-module _ {K : Type 0} (picks : Picking K) (c : Settings) (picker : K) (ends : PortsEndWhatTheyTook picks picker)
-    (tell : PortsTellInOrder picks) (before : List Made) (controller : Holdings K) (hardware : Hardware) (credits : ℕ)
-    (start : Port K) (valid : IsValid c)
-    (was : AnsweredCalls (picks picker) (fresh c picker) before controller)
-    (quiet : outstanding_of First controller ≡ []) (made : IsMadeOf hardware credits controller start) where
+module _ {K : Type 0} {picks : Picking K} (run : Begun picks) (ends : PortsEndWhatTheyTook picks run.picker)
+    (tell : PortsTellInOrder picks) where
+  open run use {c, valid, before, hardware, credits, controller, start, was, made, quiet}
+
   -- what begins to go out by a call
   begun_long : (p : Port K) (call : Call) (calls : List Call) (a : Answered picks start (call ∷ calls) p)
       → Deals (awaited picks start a.0 calls a.1) call a.0 p

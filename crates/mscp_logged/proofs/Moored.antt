@@ -1,5 +1,5 @@
 -- A unit that is online after a call was so before, with the same volume, unless the call ended an ONLINE of it.
-use Rattle.mscp_logged.proofs.Common.{Becomes, Bool, Buffer, Call, Connection, Dies, End, Ended, Err, Hears, IsNews, IsPassive, List, LookAgain, Next, None, Ok, Option, Outgoing, Picking, Port, Protect, PutAside, ReadIp, Shape, Some, Tick, Volume, VolumeCame, VolumeWent, Wants, WasRead, Went, WriteIp, WriteSa, ap, arith, brought_for, brought_online, cases_eq, cases_lt, cond, ended_so, eq-eqb, false, false≢true, find, find_cases, find_first, get_or-set_other, get_or-set_same, get_or_past, inl, inr, is_dead, kept_of, length, length-set, looks_or_not, nat_eq, news_place, no_volume, none-some, place_heeded, place_in, position_none, refl, set, subst, sym, true, unit_found, volume_at, volume_changed, volume_found, volume_heeded, volume_in_place, volume_protected, volume_put, volumes_after, volumes_heeded, volumes_with, ℕ, ◌%◌, ◌/◌, ◌==◌, ◌∙◌, ◌≡◌, ◌⊎◌}
+use Rattle.mscp_logged.proofs.Common.{Becomes, Bool, Buffer, Call, Connection, Dies, End, Ended, Err, Hears, IsNews, IsPassive, List, LookAgain, None, Ok, Option, Outgoing, Picking, Port, Protect, PutAside, ReadIp, Shape, Some, Tick, Volume, VolumeCame, VolumeWent, Wants, WasRead, Went, WriteSa, ap, arith, brought_for, brought_online, cases_eq, cases_lt, cond, ended_so, eq-eqb, false, false≢true, find, find_cases, find_first, get_or-set_other, get_or-set_same, get_or_past, inl, inr, is_dead, kept_of, length, length-set, looks_or_not, nat_eq, news_place, no_volume, none-some, place_heeded, place_in, position_none, refl, set, subst, sym, true, unit_found, volume_at, volume_changed, volume_found, volume_heeded, volume_in_place, volume_protected, volume_put, volumes_after, volumes_heeded, volumes_with, ℕ, ◌%◌, ◌/◌, ◌==◌, ◌∙◌, ◌≡◌, ◌⊎◌}
 use Rattle.mscp_logged.proofs.Describing.{IsAsWas, IsSame, same_volume}
 
 abbrev pub AreAsWere : List Volume → List Volume → Type 0
@@ -77,10 +77,6 @@ module _ {K : Type 0} (old new : Port K) where
 
   pub passive_volumes : (picks : Picking K) (call : Call) → Becomes picks call old new → IsPassive call
       → AreAsWere old.volumes new.volumes ⊎ Dies old new
-  passive_volumes picks WriteIp r is = absurd is
-  passive_volumes picks (Next blocks action bytes) r is = absurd is
-  passive_volumes picks (WasRead bytes (Ok done)) r is = absurd is
-  passive_volumes picks (Went outcome (Ok done)) r is = absurd is
   passive_volumes picks ReadIp r is =
       elim r.frame [ inl e ↦ inl (volumes_still (ap (λ (q : Port K). q.volumes) e)) | inr d ↦ inr d ]
   passive_volumes picks (WriteSa word) r is =
@@ -102,6 +98,7 @@ module _ {K : Type 0} (old new : Port K) where
   passive_volumes picks (Protect protected unit result) r is = inl (with_one (volume_protected protected)
       (place_in old.controller.settings.units unit) (λ v is. (is, record { there = refl; media = refl; size = refl }))
       (ap (λ (q : Port K). q.volumes) r.frame))
+  passive_volumes picks call r is = absurd is
 
 -- ---- a step
 

@@ -1,11 +1,12 @@
 -- No end of a port's passes a command that it has to wait for, over a whole list of calls.
-use Rattle.mscp_logged.proofs.Common.{Action, All, AllByRecursion, Answered, AnsweredCalls, At, Bool, Call, ControllersKeepThePromise, Decided, End, First, Fitting, Hardware, Holdings, IsMadeOf, IsNoReset, IsPassive, IsValid, KeepsPromise, Kept, List, Made, Next, None, Ok, Option, Own, Picking, Port, ReadsBytes, Record, Settings, Shape, Some, TakesEnd, Verdict, Volume, Wants, WasRead, Went, WriteIp, [], ap, arith, awaited, begun_end, blocks, cond, drop, ends_begun, ends_of, ends_said_by, false, false≢true, few_ends, filter, find_cases, find_none, first_of_one, fitting, fresh, inl, inr, is_apart, is_numbered, is_some, kept, knows, moves_data, named, nat_eq, nat_le, nat_lt, none-some, num, option_map, outstanding_of, own_answer, own_refusal, own_refused, own_text, passive_said, passive_stays, passive_taken, place_in, position, position_first, refl, said, same_Some, says_is, slice_get, some_none, subst, sym, told_end, true, unit_found, volume_at, volume_named, whole, ℕ, ◌%◌, ◌+◌, ◌<◌, ◌∙◌, ◌∷◌, ◌≡◌, ◌⊎◌}
+use Rattle.mscp_logged.proofs.Common.{Action, AllByRecursion, Answered, At, Bool, Call, Decided, End, Fitting, Holdings, IsNoReset, IsPassive, KeepsPromise, Kept, List, Made, Next, None, Ok, Option, Own, Picking, Port, ReadsBytes, Record, Settings, Shape, Some, TakesEnd, Verdict, Volume, Wants, WasRead, Went, WriteIp, [], ap, arith, awaited, begun_end, blocks, cond, drop, ends_begun, ends_of, ends_said_by, false, false≢true, few_ends, filter, find_cases, find_none, first_of_one, fitting, inl, inr, is_apart, is_numbered, is_some, kept, knows, moves_data, named, nat_eq, nat_le, nat_lt, none-some, num, option_map, own_answer, own_refusal, own_refused, own_text, passive_said, passive_stays, passive_taken, place_in, position, position_first, refl, said, same_Some, says_is, slice_get, some_none, subst, sym, told_end, true, unit_found, volume_at, volume_named, whole, ℕ, ◌%◌, ◌+◌, ◌∙◌, ◌∷◌, ◌≡◌, ◌⊎◌}
 use Rattle.std.proofs.Common.{◌&&◌}
 use Rattle.mscp_logged.proofs.Clear.{IsClear, Ordered, clear_forgotten, ordered_as, nothing_ordered, unended, unended_none}
 use Rattle.mscp_logged.proofs.Fences.{IsWaiting, same_unit, unit_earlier}
 use Rattle.mscp_logged.proofs.Hearing.{read_ordered}
 use Rattle.mscp_logged.proofs.Ordering.{OrderedIn, all_waiting, next_ordered, stays, went_ordered}
 use Rattle.mscp_logged.proofs.Passes.{keeps, overtakes}
+use Rattle.mscp_logged.proofs.Begun.{Begun, IsKeeping}
 use Rattle.mscp_logged.proofs.Seen.{reads_before}
 use Rattle.mscp_logged.proofs.Turns.{IsApartOr}
 
@@ -89,12 +90,10 @@ no_place f (Some place) e = absurd (none-some (f place) (sym e))
 
 -- ---- calls
 
-module _ {K : Type 0} (picks : Picking K) (c : Settings) (picker : K)
-    (keep : ControllersKeepThePromise (picks picker) picker) (valid : IsValid c)
-    (sizes : All (λ unit. 0 < unit.size) c.units) (before : List Made)
-    (hardware : Hardware) (credits : ℕ) (controller : Holdings K) (start : Port K)
-    (was : AnsweredCalls (picks picker) (fresh c picker) before controller)
-    (made : IsMadeOf hardware credits controller start) (quiet : outstanding_of First controller ≡ []) where
+module _ {K : Type 0} {picks : Picking K} (run : Begun picks) (keeping : IsKeeping run) where
+  open run use {c, picker, valid, before, hardware, credits, controller, start, was, made, quiet}
+  open keeping use {keep, sizes}
+
   pub promised : (p : Port K) (calls : List Call) (a : Answered picks start calls p)
       → (ms : List Made) × KeepsPromise (picks picker) c ms p.controller
   promised p calls a =

@@ -69,10 +69,7 @@ formal_away code status e h = grind (arith, e, h)
 move_after : (kind : MoveKind) (count block : ℕ) (b : Block) (status : ℕ) (v : Volume)
     → status_after (verdicts.Served b) (endcode (orders.Move kind count block)) status v ≡ status
 move_after moves.Access count block b status v = refl
-move_after moves.Erase count block b status v = refl
-move_after moves.Compare count block b status v = refl
-move_after moves.Read count block b status v = refl
-move_after moves.Write count block b status v = refl
+move_after kind count block b status v = refl
 
 -- a transfer succeeds only on a unit that is online
 move_good : (kind : MoveKind) (count block done : ℕ) (online : Bool) (v : Volume) (verdict : Verdict)

@@ -1,8 +1,9 @@
 -- What was told of units is borne out over a whole list of calls.
-use Rattle.mscp_logged.proofs.Common.{All, Answered, AnsweredCalls, AsksAlways, Bool, Call, ControllersKeepThePromise, First, Hardware, History, Holdings, IsMadeOf, IsValid, List, Made, None, Option, Outgoing, Picking, Port, PortsEndWhatTheyTook, PortsTellInOrder, ReadsBytes, Said, Settings, Some, TellsFaults, WriteIp, [], accepted_by, ap, append-nil, append_assoc, arith, asked_before, begins, came, cond, end_of, end_said, ends_begun, ends_in, ends_of, ends_said, false, flat_map, fresh, held, inl, inr, is_dead, is_foreign, leaves, logged, map, message_of, messages_by, option_to_list, outstanding_of, refl, said, said_in, seen_by, since_alive, sym, told, true, unit_found, volume_found, zipped, ℕ, ◌++◌, ◌<◌, ◌∙◌, ◌∷◌, ◌≡◌, ◌≢◌}
+use Rattle.mscp_logged.proofs.Common.{Answered, AsksAlways, Bool, Call, First, History, List, None, Option, Outgoing, Picking, Port, PortsEndWhatTheyTook, PortsTellInOrder, ReadsBytes, Said, Some, TellsFaults, WriteIp, [], accepted_by, ap, append-nil, append_assoc, arith, asked_before, came, cond, end_of, end_said, ends_begun, ends_in, ends_of, ends_said, false, flat_map, held, inl, inr, is_dead, is_foreign, leaves, logged, map, message_of, messages_by, option_to_list, refl, said, said_in, seen_by, since_alive, sym, told, true, unit_found, volume_found, zipped, ℕ, ◌++◌, ◌∙◌, ◌∷◌, ◌≡◌, ◌≢◌}
 use Rattle.mscp_ported.proofs.Ending.{Ends}
 use Rattle.mscp_logged.proofs.Recalled.{Recalled, ends_recalled, messages_recalled, nothing_recalled, recalled_as, volumes_recalled}
-use Rattle.mscp_logged.proofs.Seen.{is_reset, last_is, none_held, reads_before, since_dead, since_reset}
+use Rattle.mscp_logged.proofs.Begun.{Begun, IsKeeping, nothing_held, same_held}
+use Rattle.mscp_logged.proofs.Seen.{is_reset, reads_before, since_dead, since_reset}
 use Rattle.mscp_logged.proofs.Speaking.{known_goes, placed_goes}
 use Rattle.mscp_logged.proofs.Texts.{out_texts, texts_none, to_come, waiting}
 use Rattle.mscp_logged.proofs.Away.{told_away}
@@ -13,13 +14,9 @@ none_gone : {X : Type 0} (xs ys : List X) → [] ≡ xs ++ ys → ys ≡ []
 none_gone [] ys e = sym e
 none_gone (x ∷ xs) ys e = search (arith, e)
 
-module _ {K : Type 0} (picks : Picking K) (c : Settings) (picker : K)
-    (keep : ControllersKeepThePromise (picks picker) picker) (valid : IsValid c)
-    (sizes : All (λ unit. 0 < unit.size) c.units) (before : List Made)
-    (hardware : Hardware) (credits : ℕ) (controller : Holdings K) (start : Port K)
-    (was : AnsweredCalls (picks picker) (fresh c picker) before controller)
-    (made : IsMadeOf hardware credits controller start) (quiet : outstanding_of First controller ≡ [])
-    (ends : PortsEndWhatTheyTook picks picker) (tell : PortsTellInOrder picks) (F : Type 0) where
+module _ {K : Type 0} {picks : Picking K} (run : Begun picks) (keeping : IsKeeping run) (ends : PortsEndWhatTheyTook picks run.picker) (tell : PortsTellInOrder picks) (F : Type 0) where
+  open run use {c, valid, before, hardware, credits, controller, start, was, made, quiet}
+
   abbrev pub State : (p : Port K) (calls : List Call) → Answered picks start calls p → Type 0
   State p calls a = Recalled F c.units p.volumes (logged picks start p calls a) (to_come hardware c.units p)
 
@@ -33,12 +30,10 @@ module _ {K : Type 0} (picks : Picking K) (c : Settings) (picker : K)
       (none_gone k.gone (zipped (ends_of p.controller) p.decided.items) (sym no_end ∙ k.all)))
     where
       k : Ends hardware c.units p (came picks start p calls a) (ends_said picks start p calls a)
-      k = (whole picks c picker keep valid sizes before hardware credits controller start was made quiet F p calls
-          a).ends
+      k = (whole run keeping F p calls a).ends
 
       nothing : held p ≡ []
-      nothing = let t = (tell hardware credits controller start p calls made asks a).0 in
-          none_held t.0 (held p) (t.1 ∙ none)
+      nothing = nothing_held run tell p calls asks a none
 
       out : (o : Option Outgoing) → p.outgoing ≡ o → out_texts p.outgoing ≡ []
       out None e = ap out_texts e
@@ -57,18 +52,6 @@ module _ {K : Type 0} (picks : Picking K) (c : Settings) (picker : K)
     now = waiting hardware c.units p
 
     -- ---- what goes out
-
-    same_held : (o x : Outgoing) → a.0.outgoing ≡ Some o → p.outgoing ≡ Some x → said_in o ≡ said_in x
-    same_held o x was_out is_out =
-        let before = (tell hardware credits controller start a.0 calls made (asked_before call calls asks) a.1).0 in
-        let after = (tell hardware credits controller start p (call ∷ calls) made asks a).0 in
-        last_is before.0 after.0 (said_in o) (said_in x)
-        (ap (λ z. before.0 ++ map said_in (option_to_list z)) (sym was_out) ∙ before.1
-        ∙ sym (after.1 ∙ since_alive p.stage call _ _ never lives
-        ∙ ap (λ os. said picks start a.0 calls a.1 ++ map said_in os)
-        (ap (λ z. begins z p.outgoing) was_out ∙ ap (begins (Some o)) is_out)
-        ∙ append-nil (said picks start a.0 calls a.1))
-        ∙ ap (λ z. after.0 ++ map said_in (option_to_list z)) is_out)
 
     goes : (more : List (List ℕ)) → Brings hardware c.units F a.0 p more → State a.0 calls a.1
         → State p (call ∷ calls) a
@@ -131,7 +114,7 @@ module _ {K : Type 0} (picks : Picking K) (c : Settings) (picker : K)
             out_is (Some o) e = ap (λ z. out_texts z ++ now) e ∙ ap (λ z. ends_begun None z ++ now) (sym e)
         by (Some o) (Some x) was_out is_out comes r =
             to_log (Some o) (Some x) was_out is_out (still (Some o) (Some x) _ refl
-            (ap (λ (z : Said). end_said z.kind z.text ++ now) (sym (same_held o x was_out is_out))
+            (ap (λ (z : Said). end_said z.kind z.text ++ now) (sym (same_held run tell p call calls asks a never lives o x was_out is_out))
             ∙ ap (λ z. out_texts (Some o) ++ z) (behind o (Some x) was_out is_out comes)
             ∙ sym (append_assoc (out_texts (Some o)) old more)
             ∙ ap (λ z. (out_texts z ++ old) ++ more) (sym was_out)) r)
@@ -161,6 +144,5 @@ module _ {K : Type 0} (picks : Picking K) (c : Settings) (picker : K)
       by never s false lives =
           let d = ends c before controller hardware credits start p call calls valid was quiet made reads a never
           lives in
-          let m = brings picks c picker keep valid sizes before hardware credits controller start was made quiet F p
-          call calls asks reads fine a never lives d.1 in
+          let m = brings run keeping F p call calls asks reads fine a never lives d.1 in
           goes p call calls asks a never lives m.0 m.1 s

@@ -118,10 +118,6 @@ module _ (c : Settings) (unit status : ℕ) (three : status % 32 ≡ 3) where
 
   offline_none : (o : Order) (s : Sent) → AsksFor o s → order_fault c unit o ≡ Some status → unit_found c unit ≡ None
   offline_none (orders.Move kind count block) s says e = move_none count block (unit_found c unit) e
-  offline_none orders.UnitStatus s says e = unit_none (unit_found c unit) e
-  offline_none orders.Available s says e = unit_none (unit_found c unit) e
-  offline_none orders.Online s says e = unit_none (unit_found c unit) e
-  offline_none orders.SetUnit s says e = unit_none (unit_found c unit) e
   offline_none (orders.SetController version) s says e = grind (arith, e, three)
   offline_none (orders.Invalid byte why) s says e = absurd (apart (⊎_elim (λ x. ap (λ n. n % 32) x.0)
       (λ short. ap (λ n. n % 32) short.1.why) says))
@@ -130,6 +126,7 @@ module _ (c : Settings) (unit status : ℕ) (three : status % 32 ≡ 3) where
       apart one = search (arith, e, one, three)
   offline_none (orders.Abort other) s says e = search (arith, e)
   offline_none (orders.Status other) s says e = search (arith, e)
+  offline_none order s says e = unit_none (unit_found c unit) e
 
 -- ---- a reply
 

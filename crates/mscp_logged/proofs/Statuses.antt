@@ -60,16 +60,6 @@ module _ (s : Sent) (block : Block) (v : Volume) (status : ℕ) (body : EndBody)
   told code = status_after (verdicts.Served block) code status v
 
   served_apt : (o : Order) → Says o s → IsApt o status body → IsApt o (told (endcode o)) body
-  served_apt (orders.Abort other) says h = h
-  served_apt (orders.Status other) says h = h
-  served_apt (orders.SetController version) says h = h
-  served_apt orders.Available says h = h
-  served_apt orders.SetUnit says h = h
-  served_apt (orders.Move kinds.Access count first) says h = h
-  served_apt (orders.Move kinds.Erase count first) says h = h
-  served_apt (orders.Move kinds.Compare count first) says h = h
-  served_apt (orders.Move kinds.Read count first) says h = h
-  served_apt (orders.Move kinds.Write count first) says h = h
   served_apt orders.UnitStatus says h = by (status == 0 || status == 4)
     where
       by : (b : Bool) → IsApt orders.UnitStatus (cond b (unit_state v) status) body
@@ -86,6 +76,8 @@ module _ (s : Sent) (block : Block) (v : Volume) (status : ℕ) (body : EndBody)
         | inl e ↦ inl (h.suits.0 ∙ e.0)
         | inr short ↦ inr (h.suits.0 ∙ short.1.why)
       ]))) h
+  served_apt (orders.Move kinds.Access count first) says h = h
+  served_apt order says h = h
 
 -- ---- what it says of its unit
 

@@ -254,12 +254,7 @@ module _ {K : Type 0} (c : Settings) (Told : Verdict → Record → Type 0) (old
           ∙ ap (λ b. num (end_with_body b e d o old.hardware) 20 8) same
           ∙ told_id (nat_eq d.status 0) timeout id same ∙ ap (λ n. num (little_bytes 8 n) 0 8)
           (answered timeout id same)
-      by (bodies.Moved count) same = other (bodies.Moved count) same (λ k. search (arith, k))
-      by bodies.Bare same = other bodies.Bare same (λ k. search (arith, k))
-      by (bodies.Abort n) same = other (bodies.Abort n) same (λ k. search (arith, k))
-      by (bodies.Status n figure) same = other (bodies.Status n figure) same (λ k. search (arith, k))
-      by (bodies.UnitStatus x y z v w) same = other (bodies.UnitStatus x y z v w) same (λ k. search (arith, k))
-      by (bodies.Online x y z v) same = other (bodies.Online x y z v) same (λ k. search (arith, k))
+      by body same = other body same (λ k. search (arith, k))
 
   pub tells_known : IsKnown c (controller_in text)
   tells_known = by (nat_eq (slice_index text 8) 0x84) refl (nat_eq (num text 10 2 % 32) 0) refl

@@ -43,14 +43,6 @@ module _ (h : Hardware) (units : List Shape) where
         ∙ ap (λ es. texts_of es new.decided.items) ends ∙ ap (texts_of (ends_of old.controller)) decided
         ∙ sym (append-nil (waiting old))
 
-    pub some_come : ends_begun old.outgoing new.outgoing ≡ [] → length (ends_of old.controller)
-        ≡ length old.decided.items → (f : End → Decided) (brought : List End)
-        → ends_of new.controller ≡ ends_of old.controller ++ brought
-        → new.decided.items ≡ old.decided.items ++ map f brought → Comes (map (λ e. text_with e (f e)) brought)
-    some_come none long f brought ends decided = ap (λ xs. xs ++ waiting new) none
-        ∙ ap (λ es. texts_of es new.decided.items) ends ∙ ap (texts_of (ends_of old.controller ++ brought)) decided
-        ∙ texts_more (ends_of old.controller) brought old.decided.items f long
-
     -- ---- as something is wanted
 
     module _ (picks : List _ → ℕ → Type 0) (blocks : Bool) (action : Action) (r : Wants picks blocks old action new)

@@ -1,5 +1,5 @@
 -- What ties each end of a port's log to the command that it answers.
-use Rattle.mscp_logged.proofs.Common.{All, AllByRecursion, Answered, AnsweredCalls, AsksAlways, Block, Bool, Call, ControllersKeepThePromise, End, First, Fits, Hardware, Holdings, IsAnswering, IsEnding, IsFault, IsFollowed, IsHow, IsMade, IsMadeOf, IsPast, IsReply, IsSaid, IsStepped, IsValid, IsWhole, List, Made, Name, None, Ok, Option, Order, Outcome, Outgoing, Picking, Port, ReadsBytes, Record, Settings, Some, TellsFaults, Verdict, Went, [], aborts_behind, answer_status, ap, arith, asked_before, awaited, block_told, command_of, controller_in, drop, ends_of, false, fault_of, find, fresh, has_name, inl, inr, is_apart, left_with, num, outcome_status, outstanding_of, own_answer, own_cases, own_end_with, own_refused, own_text, refl, refused_apart, said_fits, sent_by, sent_says, slice_index, steps, subst, sym, true, volume_named, ℕ, ◌%◌, ◌<◌, ◌^◌, ◌∙◌, ◌∷◌, ◌≡◌, ◌⊎◌}
+use Rattle.mscp_logged.proofs.Common.{AllByRecursion, Answered, AsksAlways, Block, Bool, Call, End, First, Fits, IsAnswering, IsEnding, IsFault, IsFollowed, IsHow, IsMade, IsPast, IsReply, IsSaid, IsStepped, IsWhole, List, Name, None, Ok, Option, Order, Outcome, Outgoing, Picking, Port, ReadsBytes, Record, Settings, Some, TellsFaults, Verdict, Went, aborts_behind, answer_status, ap, arith, asked_before, awaited, block_told, command_of, controller_in, drop, ends_of, false, fault_of, find, has_name, inl, inr, is_apart, left_with, num, outcome_status, own_answer, own_cases, own_end_with, own_refused, own_text, refl, refused_apart, said_fits, sent_by, sent_says, slice_index, steps, subst, sym, true, volume_named, ℕ, ◌%◌, ◌<◌, ◌^◌, ◌∙◌, ◌∷◌, ◌≡◌, ◌⊎◌}
 use Rattle.mscp_port.specs.declared.port.OutgoingKind.TheVariants as kinds
 use Rattle.mscp_logged.proofs.Made.{given_is}
 use Rattle.mscp_ported.proofs.ByOpcode.{ends_said}
@@ -9,6 +9,7 @@ use Rattle.mscp_logged.proofs.Faults.{IsToldOf, told_fine}
 use Rattle.mscp_logged.proofs.Orderly.{ends_clear, own_clear}
 use Rattle.mscp_logged.proofs.Own.{IsOwn, none_left, of_disk, own_is_whole}
 use Rattle.mscp_logged.proofs.Passes.{keeps as keeps_waiting, overtakes}
+use Rattle.mscp_logged.proofs.Begun.{Begun, IsKeeping}
 use Rattle.mscp_logged.proofs.Seen.{reads_before}
 use Rattle.mscp_logged.proofs.Suited.{IsKnown, IsSuited, said_suited, says_aborted, status_bits, tells_known}
 use Rattle.mscp_logged.proofs.Turns.{IsApartOr}
@@ -109,103 +110,99 @@ IsFineUntil F calls = AsksAlways calls × (F → TellsFaults calls)
 pub fine_before : (F : Type 0) (call : Call) (calls : List Call) → IsFineUntil F (call ∷ calls) → IsFineUntil F calls
 fine_before F call calls fine = (asked_before call calls fine.0, λ f. faults_before call calls (fine.1 f))
 
-module _ {K : Type 0} (picks : Picking K) (c : Settings) (picker : K)
-    (keeps : ControllersKeepThePromise (picks picker) picker) (valid : IsValid c)
-    (sizes : All (λ unit. 0 < unit.size) c.units) (before : List Made)
-    (hardware : Hardware) (credits : ℕ) (controller : Holdings K) (start : Port K)
-    (was : AnsweredCalls (picks picker) (fresh c picker) before controller)
-    (made : IsMadeOf hardware credits controller start) (quiet : outstanding_of First controller ≡ []) (F : Type 0)
-  where
-    told_so : (p : Port K) (outcome : Outcome) (done : Unit) (calls : List Call)
-        → IsFineUntil F (Went outcome (Ok done) ∷ calls)
-        → (a : Answered picks start (Went outcome (Ok done) ∷ calls) p) → (verdict : Verdict)
-        → IsHow a.0 outcome verdict → (name : Name) → a.0.controller.begun ≡ Some name → (r : Record)
-        → find (has_name name) a.0.controller.waiting ≡ Some r → ToldIf F verdict r
-    told_so p outcome done calls fine a verdict how name was r found f =
-        told_fine a.0 outcome (fine.1 f).0
-        (steps picks hardware credits controller start made a.0 calls
-        (asked_before (Went outcome (Ok done)) calls fine.0) a.1).begun name was r found verdict how
+module _ {K : Type 0} {picks : Picking K} (run : Begun picks) (keeping : IsKeeping run) (F : Type 0) where
+  open run use {c, picker, valid, before, hardware, credits, controller, start, was, made, quiet}
+  open keeping use {keep, sizes}
 
-    said_of : (p : Port K) (call : Call) (calls : List Call) → ReadsBytes (call ∷ calls)
-        → IsFineUntil F (call ∷ calls) → (a : Answered picks start (call ∷ calls) p)
-        → (q : IsEnding (awaited picks start a.0 calls a.1) call a.0 p)
-        → IsSaid c (ToldIf F) a.0 (awaited picks start a.0 calls a.1) q.out.bytes.items q.message
-    said_of p call calls reads fine a q =
-        ends_said picks c picker keeps valid sizes before hardware credits controller start was made quiet
-        (ToldIf F) (IsFineUntil F) (fine_before F) told_so p call calls q.out.bytes.items q.message reads fine a q.ended
-        q.only
+  told_so : (p : Port K) (outcome : Outcome) (done : Unit) (calls : List Call)
+      → IsFineUntil F (Went outcome (Ok done) ∷ calls)
+      → (a : Answered picks start (Went outcome (Ok done) ∷ calls) p) → (verdict : Verdict)
+      → IsHow a.0 outcome verdict → (name : Name) → a.0.controller.begun ≡ Some name → (r : Record)
+      → find (has_name name) a.0.controller.waiting ≡ Some r → ToldIf F verdict r
+  told_so p outcome done calls fine a verdict how name was r found f =
+      told_fine a.0 outcome (fine.1 f).0
+      (steps picks hardware credits controller start made a.0 calls
+      (asked_before (Went outcome (Ok done)) calls fine.0) a.1).begun name was r found verdict how
 
-    pub end_of : (p : Port K) (call : Call) (calls : List Call) → ReadsBytes (call ∷ calls)
-        → IsFineUntil F (call ∷ calls) → (a : Answered picks start (call ∷ calls) p)
-        → (q : IsEnding (awaited picks start a.0 calls a.1) call a.0 p) → IsEndOf c F q.out.bytes.items q.message
-    end_of p call calls reads fine a q =
-        let aw = awaited picks start a.0 calls a.1 in
-        let text = q.out.bytes.items in
-        let s = said_of p call calls reads fine a q in
-        record {
-          fits = said_fits a.0 aw text q.message s;
-          whole = q.whole;
-          known = tells_known c (ToldIf F) a.0 aw text q.message s;
-          suited = λ f. said_suited c a.0 aw text q.message (said_as c F a.0 aw text q.message f s);
-        }
+  said_of : (p : Port K) (call : Call) (calls : List Call) → ReadsBytes (call ∷ calls)
+      → IsFineUntil F (call ∷ calls) → (a : Answered picks start (call ∷ calls) p)
+      → (q : IsEnding (awaited picks start a.0 calls a.1) call a.0 p)
+      → IsSaid c (ToldIf F) a.0 (awaited picks start a.0 calls a.1) q.out.bytes.items q.message
+  said_of p call calls reads fine a q =
+      ends_said picks c picker keep valid sizes before hardware credits controller start was made quiet
+      (ToldIf F) (IsFineUntil F) (fine_before F) told_so p call calls q.out.bytes.items q.message reads fine a q.ended
+      q.only
 
-    -- if it says that its command was aborted, the message of an ABORT stands behind that of the command
-    pub late_of : (p : Port K) (call : Call) (calls : List Call) → ReadsBytes (call ∷ calls)
-        → IsFineUntil F (call ∷ calls) → (a : Answered picks start (call ∷ calls) p)
-        → (q : IsEnding (awaited picks start a.0 calls a.1) call a.0 p) → F → num q.out.bytes.items 10 2 % 32 ≡ 2
-        → (k : ℕ) × (aborts_behind (num q.out.bytes.items 0 4) k (awaited picks start a.0 calls a.1) ≡ true)
-    late_of p call calls reads fine a q f aborted = by s.followed
-      where
-        aw : List (List ℕ)
-        aw = awaited picks start a.0 calls a.1
+  pub end_of : (p : Port K) (call : Call) (calls : List Call) → ReadsBytes (call ∷ calls)
+      → IsFineUntil F (call ∷ calls) → (a : Answered picks start (call ∷ calls) p)
+      → (q : IsEnding (awaited picks start a.0 calls a.1) call a.0 p) → IsEndOf c F q.out.bytes.items q.message
+  end_of p call calls reads fine a q =
+      let aw = awaited picks start a.0 calls a.1 in
+      let text = q.out.bytes.items in
+      let s = said_of p call calls reads fine a q in
+      record {
+        fits = said_fits a.0 aw text q.message s;
+        whole = q.whole;
+        known = tells_known c (ToldIf F) a.0 aw text q.message s;
+        suited = λ f. said_suited c a.0 aw text q.message (said_as c F a.0 aw text q.message f s);
+      }
 
-        s : IsSaid c IsToldOf a.0 (awaited picks start a.0 calls a.1) q.out.bytes.items q.message
-        s = said_as c F a.0 (awaited picks start a.0 calls a.1) q.out.bytes.items q.message f
-            (said_of p call calls reads fine a q)
+  -- if it says that its command was aborted, the message of an ABORT stands behind that of the command
+  pub late_of : (p : Port K) (call : Call) (calls : List Call) → ReadsBytes (call ∷ calls)
+      → IsFineUntil F (call ∷ calls) → (a : Answered picks start (call ∷ calls) p)
+      → (q : IsEnding (awaited picks start a.0 calls a.1) call a.0 p) → F → num q.out.bytes.items 10 2 % 32 ≡ 2
+      → (k : ℕ) × (aborts_behind (num q.out.bytes.items 0 4) k (awaited picks start a.0 calls a.1) ≡ true)
+  late_of p call calls reads fine a q f aborted = by s.followed
+    where
+      aw : List (List ℕ)
+      aw = awaited picks start a.0 calls a.1
 
-        two : s.end.status % 32 ≡ 2
-        two = says_aborted c IsToldOf a.0 (awaited picks start a.0 calls a.1) q.out.bytes.items q.message s aborted
+      s : IsSaid c IsToldOf a.0 (awaited picks start a.0 calls a.1) q.out.bytes.items q.message
+      s = said_as c F a.0 (awaited picks start a.0 calls a.1) q.out.bytes.items q.message f
+          (said_of p call calls reads fine a q)
 
-        by : IsFollowed IsToldOf (awaited picks start a.0 calls a.1) s.end (drop 1 (ends_of a.0.controller))
-            → (k : ℕ) × (aborts_behind (num q.out.bytes.items 0 4) k (awaited picks start a.0 calls a.1) ≡ true)
-        by (inl x) = absurd (reply_two s.end x two)
-        by (inr (inl x)) = absurd (stepped_two s.end x two)
-        by (inr (inr behind)) = let b = behind q.message s.only in (
-          b.number,
-          ap (λ n. aborts_behind n b.number (awaited picks start a.0 calls a.1)) s.named ∙ b.message,
-        )
+      two : s.end.status % 32 ≡ 2
+      two = says_aborted c IsToldOf a.0 (awaited picks start a.0 calls a.1) q.out.bytes.items q.message s aborted
 
-    -- it passes no message that it has to wait for, if it may not come at once
-    pub turn_of : (p : Port K) (call : Call) (calls : List Call) → ReadsBytes (call ∷ calls)
-        → IsFineUntil F (call ∷ calls) → (a : Answered picks start (call ∷ calls) p)
-        → (q : IsEnding (awaited picks start a.0 calls a.1) call a.0 p) → Unit {0} → IsApartOr q.out.bytes.items
-        (overtakes (num q.out.bytes.items 0 4) (awaited picks start a.0 calls a.1) ≡ false)
-    turn_of p call calls reads fine a q g = by (ends_clear picks c picker keeps valid sizes before hardware credits
-        controller start was made quiet p call calls q.out.bytes.items reads a q.ended s.decided s.first)
-      where
-        s : IsSaid c (ToldIf F) a.0 (awaited picks start a.0 calls a.1) q.out.bytes.items q.message
-        s = said_of p call calls reads fine a q
+      by : IsFollowed IsToldOf (awaited picks start a.0 calls a.1) s.end (drop 1 (ends_of a.0.controller))
+          → (k : ℕ) × (aborts_behind (num q.out.bytes.items 0 4) k (awaited picks start a.0 calls a.1) ≡ true)
+      by (inl x) = absurd (reply_two s.end x two)
+      by (inr (inl x)) = absurd (stepped_two s.end x two)
+      by (inr (inr behind)) = let b = behind q.message s.only in (
+        b.number,
+        ap (λ n. aborts_behind n b.number (awaited picks start a.0 calls a.1)) s.named ∙ b.message,
+      )
 
-        by : (is_apart (s.decided.status % 32) ≡ true)
-            ⊎ (overtakes (num q.out.bytes.items 0 4) (awaited picks start a.0 calls a.1) ≡ false)
-            → IsApartOr q.out.bytes.items
-            (overtakes (num q.out.bytes.items 0 4) (awaited picks start a.0 calls a.1) ≡ false)
-        by (inl apart) = inl (subst (λ n. is_apart n ≡ true) (status_bits c (ToldIf F) a.0
-            (awaited picks start a.0 calls a.1) q.out.bytes.items q.message s) apart)
-        by (inr free) = inr free
+  -- it passes no message that it has to wait for, if it may not come at once
+  pub turn_of : (p : Port K) (call : Call) (calls : List Call) → ReadsBytes (call ∷ calls)
+      → IsFineUntil F (call ∷ calls) → (a : Answered picks start (call ∷ calls) p)
+      → (q : IsEnding (awaited picks start a.0 calls a.1) call a.0 p) → Unit {0} → IsApartOr q.out.bytes.items
+      (overtakes (num q.out.bytes.items 0 4) (awaited picks start a.0 calls a.1) ≡ false)
+  turn_of p call calls reads fine a q g = by (ends_clear run keeping p call calls q.out.bytes.items reads a q.ended s.decided s.first)
+    where
+      s : IsSaid c (ToldIf F) a.0 (awaited picks start a.0 calls a.1) q.out.bytes.items q.message
+      s = said_of p call calls reads fine a q
 
-    -- nor does one of the port's own
-    pub own_turn : (p : Port K) (call : Call) (calls : List Call) → ReadsBytes (call ∷ calls)
-        → IsFineUntil F (call ∷ calls) → (a : Answered picks start (call ∷ calls) p) → (q : IsAnswering call a.0 p)
-        → IsOwn a.0 q.message q.out → q.out.kind ≡ kinds.End → Unit {0} → IsApartOr q.out.bytes.items
-        (AllByRecursion (λ u. keeps_waiting q.message u ≡ false) (awaited picks start a.0 calls a.1))
-    own_turn p call calls reads fine a q own kind g = subst (λ b. IsApartOr b
-        (AllByRecursion (λ u. keeps_waiting q.message u ≡ false) (awaited picks start a.0 calls a.1))) (sym own.own.2)
-        (own_clear picks c picker keeps valid sizes before hardware credits controller start was made quiet a.0 calls
-        (reads_before call calls reads) a.1 (none_left picks hardware credits controller start made p call calls a q)
-        q.message own.own.0
-        (ap (λ f. own_answer f (volume_named a.0 q.message) q.message) (sym (of_disk a.0 q.message q.out own kind))
-        ∙ own.own.1))
+      by : (is_apart (s.decided.status % 32) ≡ true)
+          ⊎ (overtakes (num q.out.bytes.items 0 4) (awaited picks start a.0 calls a.1) ≡ false)
+          → IsApartOr q.out.bytes.items
+          (overtakes (num q.out.bytes.items 0 4) (awaited picks start a.0 calls a.1) ≡ false)
+      by (inl apart) = inl (subst (λ n. is_apart n ≡ true) (status_bits c (ToldIf F) a.0
+          (awaited picks start a.0 calls a.1) q.out.bytes.items q.message s) apart)
+      by (inr free) = inr free
+
+  -- nor does one of the port's own
+  pub own_turn : (p : Port K) (call : Call) (calls : List Call) → ReadsBytes (call ∷ calls)
+      → IsFineUntil F (call ∷ calls) → (a : Answered picks start (call ∷ calls) p) → (q : IsAnswering call a.0 p)
+      → IsOwn a.0 q.message q.out → q.out.kind ≡ kinds.End → Unit {0} → IsApartOr q.out.bytes.items
+      (AllByRecursion (λ u. keeps_waiting q.message u ≡ false) (awaited picks start a.0 calls a.1))
+  own_turn p call calls reads fine a q own kind g = subst (λ b. IsApartOr b
+      (AllByRecursion (λ u. keeps_waiting q.message u ≡ false) (awaited picks start a.0 calls a.1))) (sym own.own.2)
+      (own_clear run keeping a.0 calls
+      (reads_before call calls reads) a.1 (none_left picks hardware credits controller start made p call calls a q)
+      q.message own.own.0
+      (ap (λ f. own_answer f (volume_named a.0 q.message) q.message) (sym (of_disk a.0 q.message q.out own kind))
+      ∙ own.own.1))
 
 -- ---- one of the port's own
 

@@ -88,9 +88,6 @@ pub record Wired (Tie : List ℕ → List ℕ → Type 0) (xs : List Sent) (aw :
   pub each : (n : ℕ) → At xs aw n
   pub owed : AreOwed Tie xs aw held
 
-abbrev pub text_number : List ℕ → ℕ
-text_number t = num t 0 4
-
 pub same_or : (n k : ℕ) → (n ≡ k) ⊎ (nat_eq n k ≡ false)
 same_or n k = by (nat_eq n k) refl
   where

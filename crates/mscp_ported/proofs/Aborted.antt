@@ -1,15 +1,12 @@
 -- The end of a transfer that is aborted counts just the blocks that were moved.
-use Rattle.mscp_ported.proofs.Common.{Answered, AsksAlways, Bool, Buffer, Call, Command, Contains, Contains-push_cases, Counts, Descriptor, End, First, Hardware, Holdings, IsMadeOf, IsReadingText, List, MoveKind, None, Ok, Option, Order, Picking, Port, Record, SendFault, Settings, Some, Task, WasRead, [], aborted_record, aborting, answer_to_message, answered_end, answered_to, ap, append-nil, append_assoc, arith, arrives, asked, asks_nothing, balance_of, come, command_of, cond, drop, false, fault_of, filter, find, found_is, handed, has_name, held_unless, inl, inr, is_none, is_numbered, is_queued, is_queued_so, is_queued_text, length, min, moved, moved_body, name_on, none-some, none_or_some, none_waits, num, opcode_of, option_map, option_to_list, outstanding_of, own_answer, own_end_of, own_end_with, queued, record_aborted, reference_aborted, refl, refusal, same_Some, sent_unless, slice_index, subst, sym, taken_as, taken_number, transfers, true, volume_named, with_end, ℕ, ◌&&◌, ◌*◌, ◌++◌, ◌==◌, ◌∙◌, ◌∷◌, ◌≡◌, ◌≤◌}
+use Rattle.mscp_ported.proofs.Common.{Answered, AsksAlways, Bool, Buffer, Call, Command, Contains, Contains-push_cases, Counts, End, First, Hardware, Holdings, IsMadeOf, List, MoveKind, None, Ok, Option, Order, Picking, Port, Record, Settings, Some, WasRead, [], aborted_record, ap, append-nil, arith, asked, asks_nothing, balance_of, come, command_of, cond, drop, ends, false, fault_of, figure, filter, find, found_is, handed, has_name, inl, inr, is_numbered, is_queued_text, length, min, moved, moved_body, name_on, none_waits, num, opcode_of, option_map, option_to_list, outstanding_of, own_end_with, record_aborted, refl, same_Some, slice_index, subst, sym, taken_number, transfers, true, ℕ, ◌&&◌, ◌*◌, ◌++◌, ◌==◌, ◌∙◌, ◌∷◌, ◌≡◌, ◌≤◌}
 use Rattle.mscp_packet.specs.declared.class.Opcode.TheVariants as codes
 use Rattle.mscp_packet.specs.declared.command.Order.TheVariants as orders
 use Rattle.mscp_packet.specs.declared.end.EndBody.TheVariants as bodies
-use Rattle.mscp_controller.specs.declared.entry.Sent.TheVariants as sents
-use Rattle.mscp_port.specs.declared.task.Task.TheVariants as tasks
-use Rattle.mscp_ported.proofs.Answering.{handed_so}
 use Rattle.mscp_ported.proofs.Coming.{come_so, ends_of}
-use Rattle.mscp_ported.proofs.Staying.{read_stays}
 use Rattle.mscp_ported.proofs.Keeping.{are_owned}
-use Rattle.mscp_ported.proofs.Owning.{Own, and_false, number_of, parts_of}
+use Rattle.mscp_ported.proofs.Owning.{Own, number_of, parts_of}
+use Rattle.mscp_ported.proofs.Reading.{Answers, Gets, and_false, answer_ends, answered_now, command_in, ends_aborted, ends_answered, own_end_in, read_is}
 use Rattle.mscp_ported.proofs.Sole.{found_sole, none_passes}
 use Rattle.mscp_ported.proofs.Transferring.{kept_address, move_fields}
 
@@ -123,77 +120,39 @@ module _ {K : Type 0} (picks : Picking K) (hardware : Hardware) (credits : ℕ) 
             ∙ subst (λ n. find (is_numbered n) h.waiting ≡ Some own.0) number
             (found_sole (is_numbered e.reference) h.waiting own.0 sole)))
 
-    module _ (slot : Descriptor) (size : ℕ) (foreign : Bool) (at : a.0.task ≡ tasks.Text slot size foreign) where
-      abbrev sent : List ℕ
-      sent = handed h.settings.units bytes
+    -- its own end is of another number
+    answered_so : (g : Gets bytes done a.0 p) → Answers g.slot bytes a.0 p → So
+    unfolding command_of
+    answered_so g x = elim (Contains-push_cases (ends_aborted a.0 bytes) (own_end_in a.0 bytes) e
+        (subst (λ xs. Contains xs e) (come_so a.0 p (ends_answered a.0 bytes) (answer_ends x)) there)) [
+          | inl aborted ↦
+              let y = aborted_so h.waiting (command_in a.0 bytes).order e aborted in
+              counted (answered_now g x) y.0 y.1 y.2 y.3
+          | inr is_it ↦ absurd (search (
+            arith,
+            sym sole ∙ ap (λ n. filter (is_numbered n) h.waiting) (sym (ap (λ (y : End). y.reference) is_it)
+                ∙ answer_number h.settings _ _ (command_in a.0 bytes) (fault_of h.settings (command_in a.0 bytes)))
+                ∙ new,
+          ))
+        ]
+      where
+        sent : List ℕ
+        sent = handed h.settings.units bytes
 
-      abbrev command : Command
-      command = command_of sent
-
-      answered_so : (fault : Option SendFault)
-          → refusal (balance_of First h) (outstanding_of First h) sent ≡ fault → own_end_of a.0 foreign bytes ≡ None
-          → So
-      unfolding command_of
-      answered_so (Some fault) f none = none_came (ap (λ (x : Holdings K). ends_of x)
-          (a.2.handed slot size foreign at refl none ∙ ap (held_unless First h command) f))
-      answered_so None f none = by (is_queued h.settings command) refl
-        where
-          gets : p.controller ≡ arrives First h command
-          gets = a.2.handed slot size foreign at refl none ∙ ap (held_unless First h command) f
-
-          answer : answered_to a.0 bytes ≡ Ok (taken_as First h command)
-          answer = ap (sent_unless First h command) f
-
-          brought : List End
-          brought = option_to_list (option_map aborted_record (record_aborted First h.waiting command.order))
-
-          by : (q : Bool) → is_queued h.settings command ≡ q → So
-          by true q = none_came (ap (λ (x : Holdings K). ends_of x) gets
-              ∙ ap (λ t. ends_of (cond t (queued First h command)
-              (with_end First (aborting First h command.order) (answered_end First h command)))) q)
-          by false q = elim (Contains-push_cases brought (answered_end First h command) e
-              (subst (λ xs. Contains xs e) came there)) [
-                | inl aborted ↦ let x = aborted_so h.waiting command.order e aborted in counted quiet x.0 x.1 x.2 x.3
-                | inr is_it ↦ absurd (search (
-                  arith,
-                  sym sole ∙ ap (λ n. filter (is_numbered n) h.waiting) (sym (ap (λ (y : End). y.reference) is_it)
-                      ∙ answer_number h.settings _ _ command (fault_of h.settings command)) ∙ new,
-                ))
-              ]
-            where
-              came : come a.0 p ≡ brought ++ answered_end First h command ∷ []
-              came = come_so a.0 p (brought ++ answered_end First h command ∷ [])
-                  (ap (λ (x : Holdings K). ends_of x) gets
-                  ∙ ap (λ t. ends_of (cond t (queued First h command)
-                  (with_end First (aborting First h command.order) (answered_end First h command)))) q
-                  ∙ append_assoc (ends_of h) brought (answered_end First h command ∷ []))
-
-              quiet : is_queued_text a.0 bytes a.0.task ≡ false
-              quiet = ap (is_queued_text a.0 bytes) at
-                  ∙ and_false (is_none (own_answer foreign (volume_named a.0 bytes) bytes)) _
-                  (ap (λ b. is_queued_so (answer_to_message First h b)) (sym (handed_so h.settings.units bytes))
-                  ∙ ap is_queued_so (answer ∙ ap (λ t. Ok (cond t (sents.Queued command.reference)
-                  (sents.Answered command.reference (reference_aborted First h.waiting command.order)))) q))
-
-              new : filter (is_numbered (num sent 0 4)) h.waiting ≡ []
-              new = none_passes (is_numbered (num sent 0 4)) h.waiting
-                  (none_waits h (num sent 0 4) (taken_number (balance_of First h) (outstanding_of First h) sent f).1)
-
-      text_so : So
-      text_so = elim (none_or_some (own_end_of a.0 foreign bytes)) [
-        | inl none ↦ answered_so (refusal (balance_of First h) (outstanding_of First h) sent) refl none
-        | inr some ↦ none_came (ap (λ (x : Holdings K). ends_of x) (a.2.own slot size foreign at
-            (λ none. none-some some.0 (sym none ∙ some.1))))
-      ]
+        new : filter (is_numbered (num sent 0 4)) h.waiting ≡ []
+        new = none_passes (is_numbered (num sent 0 4)) h.waiting (none_waits h (num sent 0 4)
+            (taken_number (balance_of First h) (outstanding_of First h) sent g.is_new).1)
 
     pub counts_aborted : So
-    counts_aborted = by a.0.task refl
-      where
-        by : (t : Task) → a.0.task ≡ t → So
-        by (tasks.Text slot size foreign) at = text_so slot size foreign at
-        by t at = elim (read_stays bytes done a.0 p a.2 (λ text. subst (λ x. IsReadingText x) at text)) [
-          | inl still ↦ none_came (ap (λ (x : Holdings K). ends_of x) still.0)
-          | inr dead ↦ absurd (nothing_in e (come a.0 p)
-              (ap (drop (length (ends_of h))) (ap (λ (x : Holdings K). ends_of x) dead.1.controller)
-              ∙ none_new (length (ends_of h))) there)
-        ]
+    counts_aborted = elim (read_is bytes done a.0 p a.2) [
+      | inl s ↦ elim s.0 [
+        | inl same ↦ none_came (ap (λ (x : Holdings K). ends_of x) same.0)
+        | inr d ↦ absurd (nothing_in e (come a.0 p)
+            (ap (drop (length (ends_of h))) (ap (λ (x : Holdings K). ends_of x) d.1.controller)
+            ∙ none_new (length (ends_of h))) there)
+      ]
+      | inr g ↦ elim g.how [
+        | inl q ↦ none_came (ap (λ (x : Holdings K). ends_of x) q.holds)
+        | inr x ↦ answered_so g x
+      ]
+    ]

@@ -67,10 +67,8 @@ module _ (l : Look) (first : ℕ) where
   step_cases P h k = by (first / 0x80 % 2 == 1) (first % 0x80 * 4 == 0)
     where
       by : (b c : Bool) → P (cond (b && not c) tasks.Interrupt tasks.Free) (cond b (cond c Idle Due) Idle)
-      by true true = k
       by true false = h
-      by false true = k
-      by false false = k
+      by b other = k
 
 -- nothing was told nor heard of before the area was named
 pub early_counts : (o : Option Rings) (l : Look) (t : Talk) (w : Option Wish) (said : List Said) (texts : List (List ℕ))

@@ -1,5 +1,5 @@
 -- What a port answers itself.
-use Rattle.mscp_ported.proofs.Common.{Answered, AsksAlways, Bool, Call, Command, Commands, Descriptor, End, First, Hardware, Holdings, IsHandedOver, IsMadeOf, IsOwnAnswer, IsSomeAnd, List, None, Ok, Opened, Option, Outgoing, Own, Picking, Port, Responses, SendFault, Shape, Slot, Some, Task, Turn, Volume, WasRead, [], access_of_nothing, after_message, answer_to_message, ap, append-nil, arith, arrives, asks_next, asks_nothing, balance_of, bare_end, come, command_of, cond, drop, end_bytes, end_kind, false, handed, held_unless, inl, inr, is_for_utilities, is_none, kind_answered, length, little_bytes, nat_le, nat_lt, none-some, num, number_in, number_or_zero, opcode_of, option_map, order_with, outstanding_of, own_answer, own_end, own_end_of, own_refusal, own_text, poll_brings, poll_end, polls_bring, refl, refusal, refused_end, same_Some, sent_unless, slice_index, subst, sym, take, talk_of, text_handed, true, volume_named, volume_refusal, ℕ, ◌++◌, ◌+◌, ◌/◌, ◌==◌, ◌∙◌, ◌∷◌, ◌≡◌, ◌≤◌}
+use Rattle.mscp_ported.proofs.Common.{Answered, AsksAlways, Bool, Call, Command, Commands, Descriptor, End, First, Hardware, Holdings, IsHandedOver, IsMadeOf, IsOwnAnswer, IsSomeAnd, List, None, Ok, Opened, Option, Outgoing, Own, Picking, Port, Responses, SendFault, Shape, Slot, Some, Task, Turn, Volume, WasRead, [], access_of_nothing, after_message, answer_to_message, ap, append-nil, arith, arrives, asks_next, asks_nothing, balance_of, bare_end, come, command_of, cond, drop, end_bytes, end_kind, false, handed, held_unless, inl, inr, is_for_utilities, is_none, kind_answered, length, little_bytes, nat_le, nat_lt, none-some, num, number_in, number_or_zero, of, opcode_of, option_map, order_with, outstanding_of, own_answer, own_end, own_end_of, own_refusal, own_text, poll_brings, poll_end, polls_bring, refl, refusal, refused_end, same_Some, sent_unless, slice_index, subst, sym, take, talk_of, text_handed, true, volume_named, volume_refusal, ℕ, ◌++◌, ◌+◌, ◌/◌, ◌==◌, ◌∙◌, ◌∷◌, ◌≡◌, ◌≤◌}
 use Rattle.std.proofs.Common.{find}
 use Rattle.std.specs.Prelude.{◌&&◌}
 use Rattle.mscp_packet.specs.declared.command.Order.TheVariants as orders
@@ -96,12 +96,6 @@ is_text l (tasks.Text d size foreign) slot header f =
 
     header_same : Opened slot header ≡ Opened (slot_at l Commands d.word) f.0 → header ≡ f.0
     header_same e = ap header_in e
-is_text l tasks.Free slot header f = absurd f
-is_text l tasks.Settle slot header f = absurd f
-is_text l (tasks.Step verdict) slot header f = absurd f
-is_text l tasks.Transfer slot header f = absurd f
-is_text l (tasks.Slot side) slot header f = absurd f
-is_text l (tasks.Clear n) slot header f = absurd f
 is_text l (tasks.Header d) slot header f = search (arith, f)
 is_text l (tasks.Packet d) slot header f = search (arith, f)
 is_text l (tasks.Return Responses d) slot header f = search (arith, f.2)
@@ -109,6 +103,7 @@ is_text l (tasks.Return Commands d) slot header f = search (arith, f.2)
 is_text l (tasks.Neighbour side) slot header f = search (arith, f)
 is_text l (tasks.Word side) slot header f = search (arith, f)
 is_text l tasks.Interrupt slot header f = search (arith, f)
+is_text l task slot header f = absurd f
 
 module _ {K : Type 0} (picks : Picking K) (hardware : Hardware) (credits : ℕ) (controller : Holdings K)
     (start : Port K) (made : IsMadeOf hardware credits controller start) where
@@ -184,14 +179,14 @@ poll_own v b e = by v
     by None = grind (arith, e)
     by (Some x) = grind (arith, e)
 
-pub poll_handed : (units : List Shape) (b : List ℕ) → slice_index b 8 ≡ 2 → text_handed units b ≡ b
+poll_handed : (units : List Shape) (b : List ℕ) → slice_index b 8 ≡ 2 → text_handed units b ≡ b
 poll_handed units b e = grind (arith, e)
 
 -- the command that a poll is
 abbrev pub polled : List ℕ → Command
 polled b = record { reference = num b 0 4; unit = num b 4 2; order = orders.Status (num b 12 4) }
 
-pub poll_command : (b : List ℕ) → slice_index b 8 ≡ 2 → 16 ≤ length b → command_of b ≡ polled b
+poll_command : (b : List ℕ) → slice_index b 8 ≡ 2 → 16 ≤ length b → command_of b ≡ polled b
 unfolding command_of
 poll_command b e long = ap (λ o. record { reference = num b 0 4; unit = num b 4 2; order = o })
     (ap (λ n. order_with (opcode_of n) b) e ∙ by (nat_lt (length b) 16) (search (arith, long)))
@@ -200,6 +195,10 @@ poll_command b e long = ap (λ o. record { reference = num b 0 4; unit = num b 4
         → cond c (orders.Invalid (slice_index b 8) 0x0001) (orders.Status (num b 12 4)) ≡ orders.Status (num b 12 4)
     by false h = refl
     by true h = search (arith, h)
+
+pub poll_sent : (units : List Shape) (b : List ℕ) → slice_index b 8 ≡ 2 → 16 ≤ length b
+    → command_of (handed units b) ≡ polled b
+poll_sent units b e long = ap command_of (handed_so units b ∙ poll_handed units b e) ∙ poll_command b e long
 
 poll_comes : {K : Type 0} (h : Holdings K) (b : List ℕ) → slice_index b 8 ≡ 2 → 16 ≤ length b
     → ends_of (after_message First h b) ≡ ends_of h ++ poll_brings (answer_to_message First h b) h b

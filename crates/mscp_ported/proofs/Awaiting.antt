@@ -42,10 +42,7 @@ order_few (Some (codes.Move kind)) b e =
   where
     moves : (kind : MoveKind) → num b 12 4 ≤ cond (is_transfer (move_byte kind)) (num b 12 4) 0
     moves kinds.Access = omega arith
-    moves kinds.Erase = omega arith
-    moves kinds.Compare = omega arith
-    moves kinds.Read = omega arith
-    moves kinds.Write = omega arith
+    moves kind = omega arith
 
     by : (c : Bool) → num b 12 4 ≤ bytes_in b
         → asked_by (cond c (orders.Invalid (slice_index b 8) 0x0001) (orders.Move kind (num b 12 4) (num b 28 4)))

@@ -1,13 +1,43 @@
 -- Each end that goes out is that of a message that is awaited.
-use Rattle.mscp_ported.proofs.Common.{First, Goes, Hears, Holdings, List, Ok, Outcome, Port, Record, Some, Verdict, WasRead, Went, [], ap, append-nil, arith, block_told, every_append, fault_of, filter, find, handed, has_name, inl, inr, is_dead, is_numbered, name_on, record_at, refl, since, subst, sym, taken_by, waiting_after, ℕ, ◌++◌, ◌∙◌, ◌∷◌, ◌≡◌, ◌⊎◌}
-use Rattle.mscp_ported.proofs.Awaiting.{IsNoReset, IsSmall, Kept, answered_so, dies_so, lives_so, own_bytes, queued_so, same_so, stays_so}
+use Rattle.mscp_ported.proofs.Common.{First, Goes, Hears, Holdings, List, Ok, Outcome, Port, Record, Some, Verdict, WasRead, Went, [], ap, append-nil, arith, block_told, command_of, every_append, false, fault_of, filter, find, fresh_record, handed, has_name, inl, inr, is_dead, is_numbered, name_on, nat_eq, num, record_at, refl, since, subst, sym, taken_by, true, waiting_after, ℕ, ◌++◌, ◌∙◌, ◌∷◌, ◌≡◌, ◌⊎◌}
+use Rattle.mscp_ported.proofs.Awaiting.{IsLikeIt, IsNoReset, IsSmall, Kept, answered_so, dies_so, handed_like, is_it, lives_so, nothing_there, others, own_bytes, own_number, queued_so, stays_so}
 use Rattle.mscp_ported.proofs.Coming.{ends_of}
 use Rattle.mscp_ported.proofs.Decided.{is_alive}
-use Rattle.mscp_ported.proofs.Reading.{Answers, Gets, Queues, command_in, end_named, heard_same, like, own_end_in, read_is}
-use Rattle.mscp_ported.proofs.Numbered.{At, AtEach, Waits}
+use Rattle.mscp_ported.proofs.Reading.{Answers, Gets, Queues, command_in, heard_same, own_end_in, read_is}
+use Rattle.mscp_ported.proofs.Numbered.{At, AtEach, IsNothing, Waits}
 use Rattle.mscp_ported.proofs.Numbering.{served_waits, step_serves}
 use Rattle.mscp_ported.proofs.Stepping.{Serves, drive_in, numbered, served_stage, went_is}
 use Rattle.mscp_ported.proofs.Sole.{found_sole, served_itself}
+
+-- ---- a message that the controller took
+
+module _ {K : Type 0} {bytes : List ℕ} {done : Unit} {old new : Port K} (g : Gets bytes done old new) where
+  like : IsLikeIt (handed old.controller.settings.units bytes) bytes
+  like = handed_like old.controller.settings.units bytes g.long
+
+  named : (command_in old bytes).reference ≡ num bytes 0 4
+  unfolding command_of
+  named = like.number
+
+  -- nothing is there of its number
+  pub no_such : {aw : List (List ℕ)} → Kept old aw
+      → IsNothing aw old.controller.waiting (ends_of old.controller) (num bytes 0 4)
+  no_such {aw} k = nothing_there old.controller aw bytes (handed old.controller.settings.units bytes) g.long like
+      g.is_new k.each
+
+  pub its_own : {aw : List (List ℕ)} → Kept old aw
+      → is_numbered (num bytes 0 4) (fresh_record First (command_in old bytes)) ≡ true
+  its_own {aw} k = is_it old.controller aw bytes (handed old.controller.settings.units bytes) g.long like g.is_new k.each
+      (fresh_record First (command_in old bytes)) refl named
+
+  pub no_other : {aw : List (List ℕ)} → Kept old aw → (n : ℕ) → nat_eq (num bytes 0 4) n ≡ false
+      → is_numbered n (fresh_record First (command_in old bytes)) ≡ false
+  no_other {aw} k = others old.controller aw bytes (handed old.controller.settings.units bytes) g.long like g.is_new
+      k.each (fresh_record First (command_in old bytes)) named
+
+  pub end_named : (own_end_in old bytes).reference ≡ num bytes 0 4
+  end_named = own_number old.controller.settings _ _ (command_in old bytes)
+      (fault_of old.controller.settings (command_in old bytes)) ∙ named
 
 -- ---- a message
 
@@ -38,9 +68,8 @@ module _ {K : Type 0} (bytes : List ℕ) (done : Unit) (old new : Port K) (aw : 
 
   pub read_so : After
   read_so = elim (read_is bytes done old new r) [
-    | inl s ↦ same_so (WasRead bytes (Ok done)) old new aw k calm refl s.1
-        (ap (λ (h : Holdings K). h.waiting) s.0.0) (ap (λ (h : Holdings K). ends_of h) s.0.0) s.0.3
-    | inr more ↦ elim more [ inl g ↦ gets g | inr d ↦ dies_so (WasRead bytes (Ok done)) old new aw k calm d ]
+    | inl s ↦ stays_so (WasRead bytes (Ok done)) old new aw k calm refl s.1 s.0
+    | inr g ↦ gets g
   ]
 
 -- ---- a step

@@ -1,5 +1,5 @@
 -- How often the volume of a unit changed, and what is kept of a command of which it is known how often since.
-use Rattle.mscp_ported.proofs.Common.{Answered, Becomes, Bool, Buffer, Call, Choice, Connection, End, Err, GoesOnWithBlock, Hardware, Holdings, IsForgotten, IsMadeOf, IsNews, IsOfItsVolume, IsSaidBy, Keeps, List, LookAgain, More, Next, None, Ok, Option, Outgoing, Picking, Port, Protect, PutAside, ReadIp, Says, Shape, Some, Tick, Volume, VolumeCame, VolumeWent, WasRead, Went, WriteIp, WriteSa, [], ap, arith, cases_eq, cases_lt, changed, changed_by, changes_at, cond, end_brought, eq-eqb, eqb-true, false, false≢true, get_or-set_other, get_or-set_same, get_or_past, inl, inr, keeps_after, keeps_none, length, length-set, looks_or_not, mod-add-mod, nat_eq, news_place, no_volume, none-some, one_block, place_in, position-Some, refl, same_Some, set, settings_stay, subst, sym, taken_or_not, true, volume_at, volume_changed, volume_heeded, volume_protected, volume_put, volumes_after, volumes_heeded, volumes_with, weaker_for, ℕ, ◌%◌, ◌+◌, ◌<◌, ◌==◌, ◌∙◌, ◌∷◌, ◌≡◌, ◌≢◌, ◌≤◌, ◌⊎◌}
+use Rattle.mscp_ported.proofs.Common.{Answered, Becomes, Bool, Buffer, Call, Choice, Connection, End, Err, GoesOnWithBlock, Hardware, Holdings, IsForgotten, IsMadeOf, IsNews, IsOfItsVolume, IsSaidBy, Keeps, List, LookAgain, More, Next, None, Ok, Option, Outgoing, Picking, Port, Protect, PutAside, Says, Shape, Some, Tick, Volume, VolumeCame, VolumeWent, WasRead, Went, WriteIp, [], ap, arith, cases_eq, cases_lt, changed, changed_by, changes_at, cond, end_brought, eq-eqb, eqb-true, false, false≢true, get_or-set_other, get_or-set_same, get_or_past, inl, inr, keeps_after, keeps_none, length, length-set, looks_or_not, mod-add-mod, nat_eq, news_place, no_volume, none-some, one_block, place_in, position-Some, refl, same_Some, set, settings_stay, subst, sym, taken_or_not, true, volume_at, volume_changed, volume_heeded, volume_protected, volume_put, volumes_after, volumes_heeded, volumes_with, weaker_for, ℕ, ◌%◌, ◌+◌, ◌<◌, ◌==◌, ◌∙◌, ◌∷◌, ◌≡◌, ◌≢◌, ◌≤◌, ◌⊎◌}
 use Rattle.mscp_port.specs.declared.stage.Stage.TheVariants as stages
 
 -- ---- units
@@ -129,21 +129,9 @@ guards protected place (Some q) vs = set_alike place q vs (volume_protected prot
 pub goes_on : {K : Type 0} (picks : Picking K) (call : Call) (old new : Port K) → Becomes picks call old new
     → IsForgotten old new ⊎ VolumesGoOn call old new
 goes_on picks WriteIp old new r = inl (stages.First, r)
-goes_on picks ReadIp old new r = elim r.frame [
-  | inl e ↦ inr (λ unit place here. the_same 0 place old.volumes new.volumes refl (ap (λ p. p.volumes) e))
-  | inr dead ↦ inl (stages.Dead dead.0, dead.1)
-]
-goes_on picks (WriteSa word) old new r = elim r.frame [
-  | inl e ↦ inr (λ unit place here. the_same 0 place old.volumes new.volumes refl (ap (λ p. p.volumes) e))
-  | inr dead ↦ inl (stages.Dead dead.0, dead.1)
-]
 goes_on picks (Next blocks action bytes) old new r = inr (λ unit place here. said place old new r.0.says)
 goes_on picks PutAside old new r =
     inr (λ unit place here. the_same 0 place old.volumes new.volumes refl (ap (λ p. p.volumes) r))
-goes_on picks (WasRead bytes result) old new r = elim r.frame [
-  | inl e ↦ inr (λ unit place here. the_same 0 place old.volumes new.volumes refl (ap (λ p. p.volumes) e))
-  | inr dead ↦ inl (stages.Dead dead.0, dead.1)
-]
 goes_on picks (Went outcome result) old new r = elim r.commands [
   | inl e ↦ inr (λ unit place here. the_same 0 place old.volumes new.volumes refl e.volumes)
   | inr more ↦ elim more [
@@ -175,6 +163,7 @@ goes_on picks (VolumeWent to (Err fault)) old new r = inr (λ unit place here.
 goes_on picks (Protect protected to result) old new r = inr (λ unit place here.
     subst (λ ws. Counts 0 place old.volumes ws) (sym (ap (λ p. p.volumes) r.frame))
     (guards protected place (place_in old.controller.settings.units to) old.volumes))
+goes_on picks call old new r = elim r.frame [ inl e ↦ inr (λ unit place here. the_same 0 place old.volumes new.volumes refl (ap (λ p. p.volumes) e)) | inr dead ↦ inl (stages.Dead dead.0, dead.1) ]
 
 -- ---- what is kept of a command
 

@@ -9,27 +9,12 @@ use Rattle.mscp_packet.specs.declared.end.EndBody.TheVariants as bodies
 
 row_coded : (o : Opcode) → bit_or (row_of o).byte 0x80 ≡ (row_of o).byte + 0x80
 row_coded codes.Abort = refl
-row_coded codes.Status = refl
-row_coded codes.UnitStatus = refl
-row_coded codes.SetController = refl
-row_coded codes.Available = refl
-row_coded codes.Online = refl
-row_coded codes.SetUnit = refl
 row_coded (codes.Move kinds.Access) = refl
-row_coded (codes.Move kinds.Erase) = refl
-row_coded (codes.Move kinds.Compare) = refl
-row_coded (codes.Move kinds.Read) = refl
-row_coded (codes.Move kinds.Write) = refl
+row_coded code = refl
 
 parameters_coded : (o : Opcode) (b : List ℕ) → endcode (parameters o b) ≡ bit_or (row_of o).byte 0x80
 parameters_coded codes.Abort b = refl
-parameters_coded codes.Status b = refl
-parameters_coded codes.UnitStatus b = refl
-parameters_coded codes.SetController b = refl
-parameters_coded codes.Available b = refl
-parameters_coded codes.Online b = refl
-parameters_coded codes.SetUnit b = refl
-parameters_coded (codes.Move kind) b = refl
+parameters_coded code b = refl
 
 order_coded : (o : Option Opcode) (b : List ℕ) → opcode_of (slice_index b 8) ≡ o
     → IsCodeFor (endcode (order_with o b)) b
@@ -78,22 +63,6 @@ handed_coded units b long plain =
 
 -- ---- polls
 
-about_with : (o : Option Opcode) (b : List ℕ) (other : ℕ) → order_with o b ≡ orders.Status other → other ≡ num b 12 4
-about_with None b other e = search (arith, e)
-about_with (Some o) b other e = by (nat_lt (length b) (least o)) o e
-  where
-    by : (c : Bool) (o : Opcode) → cond c (orders.Invalid (slice_index b 8)
-        Rattle.mscp_packet.specs.Statuses.invalid_length) (parameters o b) ≡ orders.Status other → other ≡ num b 12 4
-    by true o h = search (arith, h)
-    by false codes.Abort h = search (arith, h)
-    by false codes.Status h = search (arith, h)
-    by false codes.UnitStatus h = search (arith, h)
-    by false codes.SetController h = search (arith, h)
-    by false codes.Available h = search (arith, h)
-    by false codes.Online h = search (arith, h)
-    by false codes.SetUnit h = search (arith, h)
-    by false (codes.Move kind) h = search (arith, h)
-
 -- ---- an end that is answered at once
 
 -- the command that the body of an end is about: of an ABORT and of a poll
@@ -119,23 +88,14 @@ short_about o b byte at small long short = search (arith, small, long, short)
 
 other_about : (o : Opcode) (b : List ℕ) (byte : ℕ) → (row_of o).byte ≡ byte → 16 < least o → (other : ℕ)
     → about_in (refused_body (bit_or byte 0x80)) ≡ Some other → ⊥
-other_about codes.Abort b byte at more other is = search (arith, more)
-other_about codes.Status b byte at more other is = search (arith, more)
-other_about codes.UnitStatus b byte at more other is = search (arith, more)
-other_about codes.SetController b byte at more other is = search (arith, more)
-other_about codes.Available b byte at more other is = search (arith, more)
-other_about codes.Online b byte at more other is = search (arith, more)
-other_about codes.SetUnit b byte at more other is = search (arith, more)
 other_about (codes.Move kind) b byte at more other is = moved kind other
     (ap (λ x. about_in (refused_body (bit_or x 0x80))) at ∙ is)
   where
     moved : (kind : MoveKind) (other : ℕ)
         → about_in (refused_body (bit_or (row_of (codes.Move kind)).byte 0x80)) ≡ Some other → ⊥
     moved kinds.Access other is = search (arith, is)
-    moved kinds.Erase other is = search (arith, is)
-    moved kinds.Compare other is = search (arith, is)
-    moved kinds.Read other is = search (arith, is)
-    moved kinds.Write other is = search (arith, is)
+    moved kind other is = search (arith, is)
+other_about code b byte at more other is = search (arith, more)
 
 abbrev own_of : Settings → Bool → ℕ → Command → End
 own_of c online figure command = own_end_with c online figure command (fault_of c command)
@@ -171,15 +131,7 @@ unit_untold c online figure unit reference (Some u) other h = search (arith, h)
 move_untold : (c : Settings) (online : Bool) (figure unit reference count block : ℕ) (kind : MoveKind)
     → Untold c online figure (commanded unit reference (orders.Move kind count block))
 move_untold c online figure unit reference count block kinds.Access None other h = search (arith, h)
-move_untold c online figure unit reference count block kinds.Erase None other h = search (arith, h)
-move_untold c online figure unit reference count block kinds.Compare None other h = search (arith, h)
-move_untold c online figure unit reference count block kinds.Read None other h = search (arith, h)
-move_untold c online figure unit reference count block kinds.Write None other h = search (arith, h)
-move_untold c online figure unit reference count block kinds.Access (Some u) other h = search (arith, h)
-move_untold c online figure unit reference count block kinds.Erase (Some u) other h = search (arith, h)
-move_untold c online figure unit reference count block kinds.Compare (Some u) other h = search (arith, h)
-move_untold c online figure unit reference count block kinds.Read (Some u) other h = search (arith, h)
-move_untold c online figure unit reference count block kinds.Write (Some u) other h = search (arith, h)
+move_untold c online figure unit reference count block kind x other h = search (arith, h)
 
 parameters_about : (c : Settings) (online : Bool) (figure unit reference : ℕ) (b : List ℕ) (o : Opcode)
     → IsAbout b (own_of c online figure (commanded unit reference (parameters o b)))
@@ -295,11 +247,6 @@ pub queued_no_about : (c : Settings) (command : Command) → is_queued c command
 queued_no_about c command q other is = by command.order refl
   where
     by : (order : Order) → command.order ≡ order → ⊥
-    by (orders.Abort n) e = search (arith, q, e)
-    by (orders.Status n) e = search (arith, q, e)
-    by orders.UnitStatus e = search (arith, q, e)
-    by (orders.SetController v) e = search (arith, q, e)
-    by (orders.Invalid byte status) e = search (arith, q, e)
     by orders.Available e = search (arith, sym (ap (λ o. about_in (refused_body (endcode o))) e) ∙ is)
     by orders.Online e = search (arith, sym (ap (λ o. about_in (refused_body (endcode o))) e) ∙ is)
     by orders.SetUnit e = search (arith, sym (ap (λ o. about_in (refused_body (endcode o))) e) ∙ is)
@@ -308,7 +255,5 @@ queued_no_about c command q other is = by command.order refl
         moved : (kind : MoveKind) → about_in (refused_body (endcode
             (orders.Move kind count block))) ≡ Some other → ⊥
         moved kinds.Access h = search (arith, h)
-        moved kinds.Erase h = search (arith, h)
-        moved kinds.Compare h = search (arith, h)
-        moved kinds.Read h = search (arith, h)
-        moved kinds.Write h = search (arith, h)
+        moved kind h = search (arith, h)
+    by order e = search (arith, q, e)

@@ -1,5 +1,6 @@
 -- What each call of a port deals with.
-use Rattle.mscp_ported.proofs.Common.{Action, AllByRecursion, Becomes, Bool, Call, Deals, Descriptor, End, Err, Hears, Holdings, IsEnding, IsOfKind, IsReadingText, IsSomeAnd, List, LookAgain, Next, None, Ok, Option, Outcome, Outgoing, Picking, Port, Protect, PutAside, ReadIp, Result, SeesText, SendFault, Sent, Shape, Some, TakesEnd, Task, TellsOf, Tick, Volume, VolumeCame, VolumeWent, Wants, WasRead, Went, WriteIp, WriteSa, [], accepted_by, accepted_text, accepts, answered_to, ap, append-nil, arith, attention, begins, blocks, bytes_in, cond, drop, end_bytes, end_kind, ends_begun, eqb-true, every_kept, false, filter, has_number, heard, heeded, inl, inr, is_dead, is_none, is_ok, is_taken_text, looks_or_not, news_place, none-some, none_or_some, not, num, option_map, own_answer, own_end_of, refl, same_Some, since, slice_get, subst, sym, taken_by, told_end, true, volume_at, volume_named, without_ends, ℕ, ◌&&◌, ◌++◌, ◌<◌, ◌^◌, ◌∙◌, ◌∷◌, ◌≡◌, ◌≢◌, ◌≤◌, ◌⊎◌}
+use Rattle.mscp_ported.proofs.Common.{Action, AllByRecursion, Becomes, Bool, Call, Deals, Descriptor, End, Err, Hears, Holdings, IsEnding, IsOfKind, IsReadingText, IsSomeAnd, List, Next, None, Ok, Option, Outcome, Outgoing, Picking, Port, ReadIp, Result, SeesText, SendFault, Sent, Shape, Some, TakesEnd, Task, TellsOf, Volume, Wants, WasRead, Went, WriteIp, WriteSa, [], accepted_by, accepted_text, accepts, answered_to, ap, append-nil, arith, attention, begins, blocks, bytes_in, cond, drop, end_bytes, end_kind, ends_begun, eqb-true, every_kept, false, filter, has_number, heard, heeded, inl, inr, is_dead, is_none, is_ok, is_taken_text, looks_or_not, news_place, none-some, none_or_some, not, num, option_map, own_answer, own_end_of, refl, same_Some, since, slice_get, subst, sym, taken_by, told_end, true, volume_at, volume_named, without_ends, ℕ, ◌&&◌, ◌++◌, ◌<◌, ◌^◌, ◌∙◌, ◌∷◌, ◌≡◌, ◌≢◌, ◌≤◌, ◌⊎◌}
+use Rattle.mscp_ported.proofs.Minor.{minor, minor_out}
 use Rattle.mscp_port.specs.declared.port.OutgoingKind.TheVariants as kinds
 use Rattle.mscp_port.specs.declared.task.Task.TheVariants as tasks
 use Rattle.mscp_ported.proofs.Answering.{none_so, own_so}
@@ -7,9 +8,8 @@ use Rattle.mscp_ported.proofs.Awaiting.{IsNoReset, IsSmall, Kept, lives_so, same
 use Rattle.mscp_ported.proofs.Coming.{ends_of}
 use Rattle.mscp_ported.proofs.Decided.{passive_said}
 use Rattle.mscp_ported.proofs.Numbered.{AtEach, counted_in, end_awaited, takes_end}
-use Rattle.mscp_ported.proofs.Owning.{and_false}
+use Rattle.mscp_ported.proofs.Reading.{and_false, taken_is}
 use Rattle.mscp_ported.proofs.Staying.{IsPassive}
-use Rattle.mscp_ported.proofs.Reading.{taken_is}
 use Rattle.mscp_ported.proofs.Taking.{begun_end, begun_same, says_is}
 use Rattle.mscp_ported.proofs.Whole.{told_counts, told_number, told_whole}
 
@@ -22,24 +22,15 @@ begins_same (Some x) q either = refl
 
 passive_out : {K : Type 0} (picks : Picking K) (call : Call) (old new : Port K) → Becomes picks call old new
     → IsPassive call → (new.outgoing ≡ old.outgoing) ⊎ (new.outgoing ≡ None)
-passive_out picks WriteIp old new r is = absurd is
-passive_out picks (Next blocks action bytes) old new r is = absurd is
-passive_out picks (WasRead bytes (Ok done)) old new r is = absurd is
-passive_out picks (Went outcome (Ok done)) old new r is = absurd is
 passive_out {K} picks ReadIp old new r is = elim r.frame
     [ inl e ↦ inl (ap (λ (p : Port K). p.outgoing) e) | inr dead ↦ inr dead.1.outgoing ]
 passive_out {K} picks (WriteSa word) old new r is = elim r.frame
     [ inl e ↦ inl (ap (λ (p : Port K). p.outgoing) e) | inr dead ↦ inr dead.1.outgoing ]
-passive_out {K} picks PutAside old new r is = inl (ap (λ (p : Port K). p.outgoing) r)
-passive_out {K} picks (WasRead bytes (Err unasked)) old new r is = inl (ap (λ (p : Port K). p.outgoing) r.unasked)
-passive_out {K} picks (Went outcome (Err unasked)) old new r is = inl (ap (λ (p : Port K). p.outgoing) r.unasked)
-passive_out {K} picks LookAgain old new r is = inl (ap (λ (p : Port K). p.outgoing) r)
-passive_out {K} picks Tick old new r is = elim r.either
-    [ inl e ↦ inl (ap (λ (p : Port K). p.outgoing) e) | inr dead ↦ inr dead.outgoing ]
-passive_out {K} picks (VolumeCame m unit (Ok done)) old new r is = inl (ap (λ (p : Port K). p.outgoing) (r.came refl))
-passive_out {K} picks (VolumeCame m unit (Err fault)) old new r is = inl (ap (λ (p : Port K). p.outgoing) r.refused)
-passive_out {K} picks (VolumeWent unit result) old new r is = inl (ap (λ (p : Port K). p.outgoing) r.frame)
-passive_out {K} picks (Protect protected unit result) old new r is = inl (ap (λ (p : Port K). p.outgoing) r.frame)
+passive_out picks WriteIp old new r is = absurd is
+passive_out picks (Next blocks action bytes) old new r is = absurd is
+passive_out picks (WasRead bytes (Ok done)) old new r is = absurd is
+passive_out picks (Went outcome (Ok done)) old new r is = absurd is
+passive_out {K} picks call old new r is = minor_out (minor picks call old new r tt)
 
 passive_accepted : {K : Type 0} (call : Call) (old : Port K) → IsPassive call → accepted_by call old ≡ []
 passive_accepted (WasRead bytes (Ok done)) old is = absurd is
@@ -172,18 +163,7 @@ module _ {K : Type 0} (bytes : List ℕ) (done : Unit) (old new : Port K) (aw : 
     where
       by : (t : Task) → old.task ≡ t → Said_so
       by (tasks.Text slot size foreign) at = text_deals slot size foreign at
-      by tasks.Free at = not_text tasks.Free at refl refl (λ x. x)
-      by tasks.Settle at = not_text tasks.Settle at refl refl (λ x. x)
-      by (tasks.Clear n) at = not_text (tasks.Clear n) at refl refl (λ x. x)
-      by (tasks.Slot side) at = not_text (tasks.Slot side) at refl refl (λ x. x)
-      by (tasks.Header s) at = not_text (tasks.Header s) at refl refl (λ x. x)
-      by (tasks.Packet s) at = not_text (tasks.Packet s) at refl refl (λ x. x)
-      by (tasks.Return side s) at = not_text (tasks.Return side s) at refl refl (λ x. x)
-      by (tasks.Neighbour side) at = not_text (tasks.Neighbour side) at refl refl (λ x. x)
-      by (tasks.Word side) at = not_text (tasks.Word side) at refl refl (λ x. x)
-      by tasks.Interrupt at = not_text tasks.Interrupt at refl refl (λ x. x)
-      by (tasks.Step v) at = not_text (tasks.Step v) at refl refl (λ x. x)
-      by tasks.Transfer at = not_text tasks.Transfer at refl refl (λ x. x)
+      by task at = not_text task at refl refl (λ x. x)
 
 -- ---- something is wanted
 

@@ -166,14 +166,15 @@ module _ {K : Type 0} (picks : Picking K) (c : Settings) (picker : K)
       (a : Answered picks start (WasRead bytes (Ok done) ∷ calls) p)
       → Kept a.0 calls a.1 → Kept p (WasRead bytes (Ok done) ∷ calls) a
   read_kept p calls bytes done a k = elim (read_is bytes done a.0 p a.2) [
-    | inl s ↦ grown (none_come a.0 p (answer_by a.0 p) (ap (λ h. ends_of h) s.0.0) (ap (λ d. d.items) s.0.1)) s.0.3 s.0.2
-    | inr more ↦ elim more [
-      | inl g ↦ grown (elim g.how [
-        | inl q ↦ none_come a.0 p (answer_by a.0 p) (ap (λ h. ends_of h) q.holds) q.sends.decided
-        | inr x ↦ answer_grows x k.ends.long
-      ]) (λ d. sym (ap is_dead (heard_same g).0) ∙ d) (heard_same g).1
+    | inl s ↦ elim s.0 [
+      | inl same ↦ grown (none_come a.0 p (answer_by a.0 p) (ap (λ h. ends_of h) same.0) (ap (λ d. d.items) same.1))
+          same.3 same.2
       | inr d ↦ dies_so hardware c.units (WasRead bytes (Ok done)) a.0 p xs ys k calm d
     ]
+    | inr g ↦ grown (elim g.how [
+      | inl q ↦ none_come a.0 p (answer_by a.0 p) (ap (λ h. ends_of h) q.holds) q.sends.decided
+      | inr x ↦ answer_grows x k.ends.long
+    ]) (λ d. sym (ap is_dead (heard_same g).0) ∙ d) (heard_same g).1
   ]
     where
       xs : List Leaving

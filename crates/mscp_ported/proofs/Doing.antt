@@ -1,5 +1,6 @@
 -- By each action that is done fewer are left before what goes out is gone.
-use Rattle.mscp_ported.proofs.Common.{Becomes, Bool, Call, Choice, Commands, Descriptor, Err, GivesBack, Goes, GoesOnWithBlock, Hears, IsAlive, IsAsNew, IsForgotten, IsGiven, IsOutcomeOf, List, LookAgain, MatchOption, Next, None, Ok, Option, Outcome, Outgoing, Picking, Port, Protect, PutAside, ReadIp, Responses, Result, Rings, SeesHeader, SeesText, SendFault, Sends, Sent, Side, Some, Stage, Task, Tick, VolumeCame, VolumeWent, WasRead, Went, WriteIp, WriteSa, WritesOut, [], acts, answered_to, ap, arith, aside, bytes_read, cond, connection_in, counted, false, false≢true, header_fault, heard, hears_of, inl, inr, is_flagged, is_owned, length, length_in, looks_or_not, none-some, none_or_not, not, num, own_end_of, read_again, read_size, refl, slots_of, stays, step_at, subst, sym, taken_or_not, true, vector_in, ℕ, ◌+◌, ◌==◌, ◌∙◌, ◌∷◌, ◌≡◌, ◌≢◌, ◌≤◌, ◌⊎◌}
+use Rattle.mscp_ported.proofs.Common.{Becomes, Bool, Call, Choice, Commands, Descriptor, Err, GivesBack, Goes, GoesOnWithBlock, Hears, IsAlive, IsAsNew, IsForgotten, IsGiven, IsOutcomeOf, List, MatchOption, Next, None, Ok, Option, Outcome, Outgoing, Picking, Port, ReadIp, Responses, Result, Rings, SeesHeader, SeesText, SendFault, Sends, Sent, Side, Some, Stage, Task, WasRead, Went, WriteIp, WriteSa, WritesOut, [], acts, answered_to, ap, arith, aside, blocks, bound, bytes_read, cond, connection_in, counted, false, false≢true, given, header_fault, heard, hears_of, inl, inr, is_flagged, is_owned, length, length_in, looks_or_not, none-some, none_or_not, not, num, own_end_of, read_again, read_size, refl, slots_of, stays, step_at, subst, sym, taken_or_not, true, vector_in, ℕ, ◌+◌, ◌==◌, ◌∙◌, ◌∷◌, ◌≡◌, ◌≢◌, ◌≤◌, ◌⊎◌}
+use Rattle.mscp_ported.proofs.Minor.{GivesUp, Minor, Mounts, PutsAside, ReadsAgain, Still, minor}
 use Rattle.mscp_controller.specs.declared.entry.Sent.TheVariants as sents
 use Rattle.mscp_port.specs.declared.action.Outcome.TheVariants as outcomes
 use Rattle.mscp_port.specs.declared.stage.Stage.TheVariants as stages
@@ -13,17 +14,13 @@ to_do (tasks.Return Responses slot) = 1
 to_do (tasks.Packet slot) = 2
 to_do (tasks.Slot Responses) = 3
 to_do tasks.Free = 3
-to_do (tasks.Step verdict) = 4
-to_do tasks.Transfer = 4
-to_do tasks.Settle = 4
-to_do (tasks.Clear done) = 4
-to_do tasks.Interrupt = 4
 to_do (tasks.Word side) = 5
 to_do (tasks.Neighbour side) = 6
 to_do (tasks.Return Commands slot) = 7
 to_do (tasks.Text slot size foreign) = 8
 to_do (tasks.Header slot) = 9
 to_do (tasks.Slot Commands) = 10
+to_do task = 4
 
 -- the rings are in use, this goes out, the ring of responses wasn't found full, and no step of the initialisation waits
 pub record IsSaying {K : Type 0} (p : Port K) (o : Outgoing) : Type 0 where
@@ -148,29 +145,19 @@ module _ {K : Type 0} (o : Outgoing) (old : Port K) (s : IsSaying old o) (clear 
             (subst (λ t. 0 + to_do t ≤ 3) (sym slot) (search arith)))
         | inr busy ↦ kept new (r.0.goes_on busy)
       ]
-  by_other picks new PutAside r h = subst (Goal o old 0 (to_do old.task)) (sym r)
-      (on 0 (to_do old.task) (record old { task = aside old.task }) refl refl s.room refl
-      (aside_clear old.task clear) (search (arith, aside_less old.task)))
   by_other picks new (WasRead bytes (Ok done)) r h = absurd (search arith)
-  by_other picks new (WasRead bytes (Err unasked)) r h = kept new r.unasked
   by_other picks new (Went outcome (Ok done)) r h = absurd (search arith)
-  by_other picks new (Went outcome (Err unasked)) r h = kept new r.unasked
-  by_other picks new LookAgain r h = subst (Goal o old 0 (to_do old.task)) (sym r)
-      (on 0 (to_do old.task) (record old { is_full = false; task = read_again old.task }) refl refl refl refl
-      (again_clear old.task clear) (search (arith, again_less old.task)))
-  by_other picks new Tick r h = elim r.either [
-    | inl e ↦ subst (Goal o old 0 (to_do old.task)) (sym e)
-        (on 0 (to_do old.task) (record old { is_full = false; task = read_again old.task; left = new.left }) refl refl
-        refl refl (again_clear old.task clear) (search (arith, again_less old.task)))
-    | inr dead ↦ lost 0 (to_do old.task) new (stages.Dead 9) dead
-  ]
-  by_other picks new (VolumeCame m unit (Ok done)) r h = subst (Goal o old 0 (to_do old.task)) (sym (r.came refl))
-      (on 0 (to_do old.task) _ refl refl s.room refl (step_clear _ old.task clear) (search (arith, step_less)))
-  by_other picks new (VolumeCame m unit (Err fault)) r h = kept new r.refused
-  by_other picks new (VolumeWent unit result) r h = subst (Goal o old 0 (to_do old.task)) (sym r.frame)
-      (on 0 (to_do old.task) _ refl refl s.room refl (step_clear _ old.task clear) (search (arith, step_less)))
-  by_other picks new (Protect protected unit result) r h = subst (Goal o old 0 (to_do old.task)) (sym r.frame)
-      (on 0 (to_do old.task) _ refl refl s.room refl (step_clear _ old.task clear) (search (arith, step_less)))
+  by_other picks new call r h = by (minor picks call old new r tt)
+    where
+      by : Minor old new → Goal o old 0 (to_do old.task) new
+      by (Still e) = kept new e
+      by (PutsAside e) = subst (Goal o old 0 (to_do old.task)) (sym e) (on 0 (to_do old.task) _ refl refl s.room refl
+          (aside_clear old.task clear) (search (arith, aside_less old.task)))
+      by (ReadsAgain left e) = subst (Goal o old 0 (to_do old.task)) (sym e) (on 0 (to_do old.task) _ refl refl refl
+          refl (again_clear old.task clear) (search (arith, again_less old.task)))
+      by (Mounts becomes place e) = subst (Goal o old 0 (to_do old.task)) (sym e) (on 0 (to_do old.task) _ refl refl
+          s.room refl (step_clear _ old.task clear) (search (arith, step_less)))
+      by (GivesUp d) = lost 0 (to_do old.task) new (stages.Dead 9) d
 
   -- ---- what was read
 

@@ -1,6 +1,7 @@
 -- Each call of a port deals with one thing at most, over a whole list of calls.
-use Rattle.mscp_ported.proofs.Numbered.{At}
-use Rattle.mscp_ported.proofs.Common.{All, All-drop, All-head, Answered, AnsweredCalls, Becomes, Bool, Call, ControllersKeepThePromise, Deals, End, Err, First, Hardware, Holdings, IsMadeOf, IsOfKind, IsValid, KeepsPromise, List, LookAgain, Made, Next, Ok, Picking, Port, Protect, PutAside, ReadIp, ReadsBytes, Record, Settings, Some, Stage, Tick, VolumeCame, VolumeWent, WasRead, Went, WriteIp, WriteSa, [], ap, arith, awaited, ends, false, fresh, history, inl, inr, is_dead, is_numbered, none-some, numbers_ended, of, outstanding_of, refl, same_Some, slice_get, slice_index, subst, sym, true, untaken, waiting_on, ℕ, ◌*◌, ◌++◌, ◌+◌, ◌<◌, ◌^◌, ◌∙◌, ◌∷◌, ◌≡◌, ◌≢◌}
+use Rattle.mscp_ported.proofs.Numbered.{At, ends_numbered}
+use Rattle.mscp_ported.proofs.Common.{All, All-drop, All-head, Answered, AnsweredCalls, Becomes, Bool, Call, ControllersKeepThePromise, Deals, End, Err, First, Hardware, Holdings, IsMadeOf, IsOfKind, IsValid, KeepsPromise, List, Made, Next, Ok, Picking, Port, ReadIp, ReadsBytes, Record, Settings, Some, Stage, WasRead, Went, WriteIp, WriteSa, [], ap, arith, awaited, blocks, ends, false, fresh, history, inl, is_dead, is_numbered, none-some, numbers, numbers_ended, of, outstanding_of, refl, same_Some, slice_get, slice_index, subst, sym, true, untaken, waiting_on, ℕ, ◌*◌, ◌++◌, ◌+◌, ◌<◌, ◌^◌, ◌∙◌, ◌∷◌, ◌≡◌, ◌≢◌}
+use Rattle.mscp_ported.proofs.Minor.{GivesUp, Minor, Mounts, PutsAside, ReadsAgain, Still, minor}
 use Rattle.std.specs.Prelude.{filter}
 use Rattle.mscp_port.specs.declared.stage.Stage.TheVariants as stages
 use Rattle.mscp_ported.proofs.Awaiting.{IsNoReset, IsSmall, Kept, nothing_kept, stays_so}
@@ -8,7 +9,6 @@ use Rattle.mscp_ported.proofs.Awaits.{read_so, went_so}
 use Rattle.mscp_ported.proofs.Coming.{ends_of}
 use Rattle.mscp_ported.proofs.Dealing.{next_deals, next_so, passive_deals, passive_taken, read_deals, went_deals}
 use Rattle.mscp_ported.proofs.Decided.{passive_said}
-use Rattle.mscp_ported.proofs.Numbered.{ends_numbered}
 use Rattle.mscp_ported.proofs.Promised.{knows}
 use Rattle.mscp_ported.proofs.Staying.{IsPassive, passive_stays}
 
@@ -34,22 +34,18 @@ module _ {K : Type 0} (picks : Picking K) (old new : Port K) where
   dead_on (WriteSa word) never r d = let c = dead_code old.stage d in stays_dead (r.dead c.0 c.1) d
   dead_on (Next blocks action bytes) never r d =
       let c = dead_code old.stage d in stays_dead (r.0.dead c.0 c.1).1 d
-  dead_on PutAside never r d = same_dead (ap (λ (q : Port K). q.stage) r) d
   dead_on (WasRead bytes (Ok done)) never r d =
       let c = dead_code old.stage d in absurd (search (arith, r.dead c.0 c.1))
-  dead_on (WasRead bytes (Err unasked)) never r d = stays_dead r.unasked d
   dead_on (Went outcome (Ok done)) never r d =
       let c = dead_code old.stage d in absurd (search (arith, r.dead c.0 c.1))
-  dead_on (Went outcome (Err unasked)) never r d = stays_dead r.unasked d
-  dead_on LookAgain never r d = same_dead (ap (λ (q : Port K). q.stage) r) d
-  dead_on Tick never r d = elim r.either [
-    | inl e ↦ same_dead (ap (λ (q : Port K). q.stage) e) d
-    | inr n ↦ ap is_dead n.stage
-  ]
-  dead_on (VolumeCame m unit (Ok done)) never r d = same_dead (ap (λ (q : Port K). q.stage) (r.came refl)) d
-  dead_on (VolumeCame m unit (Err fault)) never r d = stays_dead r.refused d
-  dead_on (VolumeWent unit result) never r d = same_dead (ap (λ (q : Port K). q.stage) r.frame) d
-  dead_on (Protect protected unit result) never r d = same_dead (ap (λ (q : Port K). q.stage) r.frame) d
+  dead_on call never r d = by (minor picks call old new r tt)
+    where
+      by : Minor old new → is_dead new.stage ≡ true
+      by (Still e) = stays_dead e d
+      by (PutsAside e) = same_dead (ap (λ (q : Port K). q.stage) e) d
+      by (ReadsAgain left e) = same_dead (ap (λ (q : Port K). q.stage) e) d
+      by (Mounts becomes place e) = same_dead (ap (λ (q : Port K). q.stage) e) d
+      by (GivesUp n) = ap is_dead n.stage
 
   pub lived : (call : Call) → call ≢ WriteIp → Becomes picks call old new → is_dead new.stage ≡ false
       → is_dead old.stage ≡ false
@@ -111,6 +107,10 @@ module _ {K : Type 0} (picks : Picking K) (c : Settings) (picker : K)
       calm WriteIp is = absurd is
       calm call is = record { texts = λ s xs ys. refl }
 
+  reads_before : (call : Call) (calls : List Call) → ReadsBytes (call ∷ calls) → ReadsBytes calls
+  reads_before (WasRead bytes result) calls reads = reads.1
+  reads_before call calls reads = reads
+
   pub kept : (p : Port K) (calls : List Call) → ReadsBytes calls → (a : Answered picks start calls p)
       → Kept p (awaited picks start p calls a)
   kept p [] reads a =
@@ -152,21 +152,7 @@ module _ {K : Type 0} (picks : Picking K) (c : Settings) (picker : K)
       (kept a.0 calls reads a.1) a.2
   kept p (Went outcome (Err unasked) ∷ calls) reads a =
       passive_kept p (Went outcome (Err unasked)) calls a tt (kept a.0 calls reads a.1)
-  kept p (ReadIp ∷ calls) reads a = passive_kept p ReadIp calls a tt (kept a.0 calls reads a.1)
-  kept p (WriteSa word ∷ calls) reads a = passive_kept p (WriteSa word) calls a tt (kept a.0 calls reads a.1)
-  kept p (PutAside ∷ calls) reads a = passive_kept p PutAside calls a tt (kept a.0 calls reads a.1)
-  kept p (LookAgain ∷ calls) reads a = passive_kept p LookAgain calls a tt (kept a.0 calls reads a.1)
-  kept p (Tick ∷ calls) reads a = passive_kept p Tick calls a tt (kept a.0 calls reads a.1)
-  kept p (VolumeCame m unit result ∷ calls) reads a =
-      passive_kept p (VolumeCame m unit result) calls a tt (kept a.0 calls reads a.1)
-  kept p (VolumeWent unit result ∷ calls) reads a =
-      passive_kept p (VolumeWent unit result) calls a tt (kept a.0 calls reads a.1)
-  kept p (Protect protected unit result ∷ calls) reads a =
-      passive_kept p (Protect protected unit result) calls a tt (kept a.0 calls reads a.1)
-
-  reads_before : (call : Call) (calls : List Call) → ReadsBytes (call ∷ calls) → ReadsBytes calls
-  reads_before (WasRead bytes result) calls reads = reads.1
-  reads_before call calls reads = reads
+  kept p (call ∷ calls) reads a = passive_kept p call calls a tt (kept a.0 calls (reads_before call calls reads) a.1)
 
   pub deals : (p : Port K) (call : Call) (calls : List Call) → ReadsBytes (call ∷ calls)
       → (a : Answered picks start (call ∷ calls) p) → call ≢ WriteIp → is_dead p.stage ≡ false
@@ -183,19 +169,4 @@ module _ {K : Type 0} (picks : Picking K) (c : Settings) (picker : K)
           read_deals bytes done a.0 p (awaited picks start a.0 calls a.1) a.2 lives
       by (Went outcome (Ok done)) a reads never =
           went_deals picks outcome done a.0 p (awaited picks start a.0 calls a.1) a.2
-      by (WasRead bytes (Err unasked)) a reads never =
-          passive_deals picks (WasRead bytes (Err unasked)) a.0 p (awaited picks start a.0 calls a.1) a.2 tt
-      by (Went outcome (Err unasked)) a reads never =
-          passive_deals picks (Went outcome (Err unasked)) a.0 p (awaited picks start a.0 calls a.1) a.2 tt
-      by ReadIp a reads never = passive_deals picks ReadIp a.0 p (awaited picks start a.0 calls a.1) a.2 tt
-      by (WriteSa word) a reads never =
-          passive_deals picks (WriteSa word) a.0 p (awaited picks start a.0 calls a.1) a.2 tt
-      by PutAside a reads never = passive_deals picks PutAside a.0 p (awaited picks start a.0 calls a.1) a.2 tt
-      by LookAgain a reads never = passive_deals picks LookAgain a.0 p (awaited picks start a.0 calls a.1) a.2 tt
-      by Tick a reads never = passive_deals picks Tick a.0 p (awaited picks start a.0 calls a.1) a.2 tt
-      by (VolumeCame m unit result) a reads never =
-          passive_deals picks (VolumeCame m unit result) a.0 p (awaited picks start a.0 calls a.1) a.2 tt
-      by (VolumeWent unit result) a reads never =
-          passive_deals picks (VolumeWent unit result) a.0 p (awaited picks start a.0 calls a.1) a.2 tt
-      by (Protect protected unit result) a reads never =
-          passive_deals picks (Protect protected unit result) a.0 p (awaited picks start a.0 calls a.1) a.2 tt
+      by call a reads never = passive_deals picks call a.0 p (awaited picks start a.0 calls a.1) a.2 tt

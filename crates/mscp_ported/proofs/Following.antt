@@ -1,5 +1,6 @@
 -- What follows each call of a port, and so a list of calls.
-use Rattle.mscp_ported.proofs.Common.{Action, Answered, AreAccepted, AsksAlways, Becomes, Bool, Call, Commands, Err, Hardware, Holdings, Idle, IfSome, IsMadeOf, IsOfBlock, IsOwed, List, LookAgain, Message, Next, None, Ok, Opened, Option, Picking, Port, Protect, PutAside, Read, ReadIp, Said, Slot, Some, Talk, Task, Tick, Turn, VolumeCame, VolumeWent, WasRead, Went, Wish, WriteIp, WriteSa, [], accepted, accepted_by, accepted_text, ap, append-nil, arith, inl, inr, map, message_text, option_to_list, place_in, refl, said, said_in, silence, subst, sym, talk_by, talk_of, wish, ℕ, ◌∙◌, ◌∷◌, ◌≡◌, ◌≢◌}
+use Rattle.mscp_ported.proofs.Common.{Action, Answered, AreAccepted, AsksAlways, Becomes, Bool, Call, Commands, Hardware, Holdings, Idle, IfSome, IsMadeOf, IsOfBlock, IsOwed, List, Message, Next, None, Ok, Opened, Option, Picking, Port, Read, ReadIp, Said, Slot, Some, Talk, Task, Turn, WasRead, Went, Wish, WriteIp, WriteSa, [], accepted, accepted_by, accepted_text, ap, append-nil, arith, blocks, heard, inl, inr, map, message_text, option_to_list, refl, said, said_in, silence, subst, sym, talk_by, talk_of, wish, ℕ, ◌∙◌, ◌∷◌, ◌≡◌, ◌≢◌}
+use Rattle.mscp_ported.proofs.Minor.{GivesUp, Minor, Mounts, PutsAside, ReadsAgain, Still, minor}
 use Rattle.mscp_port.specs.declared.stage.Stage.TheVariants as stages
 use Rattle.mscp_port.specs.declared.task.Task.TheVariants as tasks
 use Rattle.mscp_ported.proofs.After.{After, IsNoReset, IsPlain}
@@ -34,52 +35,27 @@ module _ {K : Type 0} (picks : Picking K) (old new : Port K) (t : Talk) (said : 
   after_call (WriteSa word) earlier asks r k = writes_sa word old new t (wish earlier) said texts k r
   after_call (Next blocks action bytes) earlier asks r k =
       (follows (picks old.controller.picker) blocks old new action bytes t (wish earlier) said texts k r.0 r.1).after
-  after_call PutAside earlier asks r k = lets_be PutAside old new t (wish earlier) said texts
-      (plain PutAside (λ w x. refl) (record { said = λ s xs ys. refl; texts = λ s xs ys. refl }) refl) k _
-      (aside_so old.task) (ap look r)
   after_call (WasRead bytes (Ok done)) earlier asks r k =
       told_of (WasRead bytes (Ok done)) old new t (wish earlier) said texts asks.0 k
       (λ w x. was_read old new t w bytes done said texts x r)
-  after_call (WasRead bytes (Err unasked)) earlier asks r k =
-      same_port (WasRead bytes (Err unasked)) old new t (wish earlier) said texts
-      (plain (WasRead bytes (Err unasked)) (λ w x. refl)
-      (record { said = λ s xs ys. refl; texts = λ s xs ys. refl }) refl) k r.unasked
   after_call (Went outcome (Ok done)) earlier asks r k =
       told_of (Went outcome (Ok done)) old new t (wish earlier) said texts asks.0 k
       (λ w x. went (picks old.controller.picker) old new t w outcome done said texts x r (r.moves refl))
-  after_call (Went outcome (Err unasked)) earlier asks r k =
-      same_port (Went outcome (Err unasked)) old new t (wish earlier) said texts
-      (plain (Went outcome (Err unasked)) (λ w x. refl)
-      (record { said = λ s xs ys. refl; texts = λ s xs ys. refl }) refl) k r.unasked
-  after_call LookAgain earlier asks r k = lets_be LookAgain old new t (wish earlier) said texts
-      (plain LookAgain (λ w x. refl) (record { said = λ s xs ys. refl; texts = λ s xs ys. refl }) refl) k _
-      (again_so old.task) (ap look r)
-  after_call Tick earlier asks r k = elim r.either [
-    | inl e ↦ lets_be Tick old new t (wish earlier) said texts
-        (plain Tick (λ w x. refl) (record { said = λ s xs ys. refl; texts = λ s xs ys. refl }) refl) k _
-        (again_so old.task) (ap look e)
-    | inr n ↦ dies Tick 9 old new t (wish earlier) (wish earlier) said texts
-        (record { said = λ s xs ys. refl; texts = λ s xs ys. refl }) n
-  ]
-  after_call (VolumeCame m unit (Ok done)) earlier asks r k =
-      lets_be (VolumeCame m unit (Ok done)) old new t (wish earlier) said texts
-      (plain (VolumeCame m unit (Ok done)) (λ w x. refl)
-      (record { said = λ s xs ys. refl; texts = λ s xs ys. refl }) refl) k _
-      (step_so (place_in old.controller.settings.units unit) old.task) (ap look (r.came refl))
-  after_call (VolumeCame m unit (Err fault)) earlier asks r k =
-      same_port (VolumeCame m unit (Err fault)) old new t (wish earlier) said texts
-      (plain (VolumeCame m unit (Err fault)) (λ w x. refl)
-      (record { said = λ s xs ys. refl; texts = λ s xs ys. refl }) refl) k r.refused
-  after_call (VolumeWent unit result) earlier asks r k =
-      lets_be (VolumeWent unit result) old new t (wish earlier) said texts
-      (plain (VolumeWent unit result) (λ w x. refl)
-      (record { said = λ s xs ys. refl; texts = λ s xs ys. refl }) refl) k _
-      (step_so (place_in old.controller.settings.units unit) old.task) (ap look r.frame)
-  after_call (Protect protected unit result) earlier asks r k =
-      lets_be (Protect protected unit result) old new t (wish earlier) said texts
-      (plain (Protect protected unit result) (λ w x. refl)
-      (record { said = λ s xs ys. refl; texts = λ s xs ys. refl }) refl) k _
-      (step_so (place_in old.controller.settings.units unit) old.task) (ap look r.frame)
+  after_call call earlier asks r k = by (minor picks call old new r tt)
+    where
+      quiet : IsPlain call old
+      quiet = plain call (λ w x. refl) (record { said = λ s xs ys. refl; texts = λ s xs ys. refl }) refl
+
+      by : Minor old new → After call old (look new) t (wish earlier) (wish earlier) said texts
+      by (Still e) = same_port call old new t (wish earlier) said texts quiet k e
+      by (PutsAside e) =
+          lets_be call old new t (wish earlier) said texts quiet k _ (aside_so old.task) (ap look e)
+      by (ReadsAgain left e) =
+          lets_be call old new t (wish earlier) said texts quiet k _ (again_so old.task) (ap look e)
+      by (Mounts becomes place e) =
+          lets_be call old new t (wish earlier) said texts quiet k _ (step_so place old.task) (ap look e)
+      by (GivesUp d) = dies call 9 old new t (wish earlier) (wish earlier) said texts
+          (record { said = λ s xs ys. refl; texts = λ s xs ys. refl }) d
 
 pub asked_before : (call : Call) (earlier : List Call) → AsksAlways (call ∷ earlier) → AsksAlways earlier
 asked_before (WasRead bytes (Ok done)) earlier asks = asks.1

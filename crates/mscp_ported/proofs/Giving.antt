@@ -15,13 +15,11 @@ use Rattle.mscp_ported.proofs.Acting.{alive, dead_so, goes_on, is_done, quiet_of
 
 connection_so : (kind : OutgoingKind) → connection_of kind ≡ connection_told kind
 connection_so kinds.Attention = refl
-connection_so kinds.End = refl
-connection_so kinds.UtilitiesEnd = refl
+connection_so kind = refl
 
 credits_so : (untold : ℕ) (kind : OutgoingKind) → credits_by untold kind ≡ credits_in untold kind
 credits_so untold kinds.Attention = refl
-credits_so untold kinds.End = refl
-credits_so untold kinds.UtilitiesEnd = refl
+credits_so untold kind = refl
 
 -- the packet of what goes out says it
 packet_tells : (slot : Slot) (address untold : ℕ) (bytes : List ℕ) (o : Outgoing)
@@ -36,8 +34,7 @@ packet_tells slot address untold bytes o place is = (
 -- and what isn't told then
 left_so : (untold : ℕ) (kind : OutgoingKind) → untold - (credits_by untold kind - 1) ≡ left_after untold kind
 left_so untold kinds.Attention = search arith
-left_so untold kinds.End = search arith
-left_so untold kinds.UtilitiesEnd = search arith
+left_so untold kind = search arith
 
 module _ {K : Type 0} (picks : List Choice → ℕ → Type 0) (old new : Port K) (t : Talk) (w : Wish) (outcome : Outcome)
     (done : Unit) (said : List Said) (texts : List (List ℕ)) (k : InStep (look old) t (Some w) said texts)
@@ -158,9 +155,6 @@ module _ {K : Type 0} (picks : List Choice → ℕ → Type 0) (old new : Port K
           cases true c = (tt, tt)
           cases false true = (refl, tt)
           cases false false = (refl, tt)
-
-      some_rings : (area : Rings) → old.rings ≡ Some area → old.rings ≡ None → (t.told ≡ []) × (t.heard ≡ [])
-      some_rings area e none = absurd (none-some area (sym none ∙ e))
 
       next_mod : (n m : ℕ) → n ≡ m % 256 → (n + 1) % 256 ≡ (m + 1) % 256
       next_mod n m e = ap (λ x. (x + 1) % 256) e ∙ mod-add-mod m 256 1

@@ -3,12 +3,13 @@ use Rattle.mscp_ported.proofs.Common.{All, AllByRecursion, Bool, Command, End, F
 use Rattle.mscp_ported.proofs.Refusals.{num_small, own_figure, some_balance}
 use Rattle.mscp_packet.specs.declared.command.Order.TheVariants as orders
 use Rattle.mscp_ported.proofs.Awaiting.{IsNoReset, Kept}
-use Rattle.mscp_ported.proofs.Reading.{Answers, Gets, Queues, answer_ends, answer_grows, end_named, its_own, no_other, no_such, read_is}
+use Rattle.mscp_ported.proofs.Reading.{Answers, Gets, Queues, answer_ends, answer_grows, read_is}
+use Rattle.mscp_ported.proofs.Awaits.{end_named, its_own, no_other, no_such}
 use Rattle.mscp_ported.proofs.Buffered.{FitsBuffer, IsKeptEach, answer_kept, few_kept, number_kept, opcode_kept, queued_kept}
 use Rattle.mscp_ported.proofs.Codes.{answered_about, answered_code, answered_unit, under_64, handed_coded, queued_no_about}
 use Rattle.mscp_ported.proofs.Coming.{ends_of}
 use Rattle.mscp_ported.proofs.Ending.{left_with, zipped}
-use Rattle.mscp_ported.proofs.Fitted.{Fitting, became, died, grown_fits, grown_long, stays}
+use Rattle.mscp_ported.proofs.Fitted.{Fitting, became, grown_fits, grown_long, stays}
 use Rattle.mscp_ported.proofs.Fitting.{FitsEnd, FitsIn, aborted_plain, answer_told, bare_coded, bare_same, decided_code, success_told, every_beside, plain_fits}
 use Rattle.mscp_ported.proofs.Followed.{AreFollowed, answers_follow, followed_beside, followed_more}
 use Rattle.mscp_ported.proofs.Formal.{formal_queued}
@@ -244,6 +245,6 @@ module _ {c : Settings} {Told : Verdict → Record → Type 0} {K : Type 0} (byt
 
   pub read_fits : After
   read_fits = elim (read_is bytes done old new r) [
-    | inl s ↦ stays (WasRead bytes (Ok done)) old new aw f calm refl s.1 (inl s.0)
-    | inr more ↦ elim more [ inl g ↦ gets_fits g | inr d ↦ died (WasRead bytes (Ok done)) old new aw f calm d ]
+    | inl s ↦ stays (WasRead bytes (Ok done)) old new aw f calm refl s.1 s.0
+    | inr g ↦ gets_fits g
   ]

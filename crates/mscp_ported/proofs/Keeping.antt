@@ -1,14 +1,14 @@
 -- What is kept of a command after each call: its blocks so far were moved at their places.
-use Rattle.mscp_ported.proofs.Common.{Action, Answered, AsksAlways, Block, Bool, Buffer, Call, Connection, Contains, Drive, End, Err, Finishes, First, Hardware, HeedsStep, Holdings, IsMadeOf, IsReadingText, IsStepping, List, LookAgain, MatchOption, MoveKind, Name, Next, None, NotBegun, Ok, Option, Order, Outcome, Picking, Port, Protect, PutAside, ReadIp, Record, Report, Result, Says, Some, TakesBegun, TakesBlock, Task, Tick, Verdict, VolumeCame, VolumeWent, WasRead, Went, WriteIp, WriteSa, [], advanced, ap, arith, asked, begun_step, block_begun, block_served, block_told, buffer_in, comes, cond, done_by, drive_at, end_brought, end_given, false, false≢true, filter, goes_on, inl, inr, is_begun, is_done, is_first, is_moving, is_numbered, is_of, is_queued_text, is_same, is_step_of, kept_after, left_of, length, looks_or_not, min, moved, name_of, name_on, none-some, not_of, num, order_weight, outcome_at, record_at, refl, same_Some, same_is, same_name, served_name, subst, suc, sym, transfers, true, upcoming_begun, waiting_after, wanted, wish, without_among, ℕ, ◌*◌, ◌++◌, ◌+◌, ◌-◌, ◌<◌, ◌==◌, ◌∙◌, ◌∷◌, ◌≡◌, ◌≢◌, ◌≤◌}
-use Rattle.mscp_ported.proofs.Stepping.{IsHow}
+use Rattle.mscp_ported.proofs.Common.{Action, Answered, AsksAlways, Block, Bool, Buffer, Call, Connection, Contains, Drive, End, Err, First, Hardware, Holdings, IsMadeOf, IsStepping, List, MoveKind, Name, Next, None, Ok, Option, Order, Outcome, Picking, Port, Record, Says, Some, Task, Verdict, WasRead, Went, WriteIp, [], advanced, ap, arith, asked, begun_step, block_told, buffer_in, comes, cond, done_by, end_given, false, filter, given, goes_on, inl, inr, is_done, is_first, is_moving, is_numbered, is_of, is_step_of, kept_after, left_of, looks_or_not, min, moved, name_of, name_on, none-some, not_of, num, order_weight, outcome_at, record_at, refl, same_Some, same_is, same_name, subst, suc, sym, transfers, true, upcoming_begun, wanted, wish, without_among, ℕ, ◌*◌, ◌++◌, ◌+◌, ◌-◌, ◌<◌, ◌∙◌, ◌∷◌, ◌≡◌, ◌≢◌, ◌≤◌}
+use Rattle.mscp_ported.proofs.Stepping.{IsHow, Serves, drive_in, went_is}
+use Rattle.mscp_ported.proofs.Staying.{IsPassive, passive_stays}
 use Rattle.mscp_packet.specs.declared.command.MoveKind.TheVariants as moves
 use Rattle.mscp_packet.specs.declared.command.Order.TheVariants as orders
-use Rattle.mscp_queue.specs.declared.report.Report.TheVariants as reports
 use Rattle.mscp_port.specs.declared.action.Action.TheVariants as actions
 use Rattle.mscp_port.specs.declared.task.Task.TheVariants as tasks
 use Rattle.mscp_ported.proofs.Transferring.{goes_on_so, moves_so, no_done, none_moving, other_step, told_so}
 use Rattle.mscp_ported.proofs.Moving.{Steps, steps}
-use Rattle.mscp_ported.proofs.Owning.{AreOwned, Own, Owned, and_false, carries, nothing_kept, number_of, parts_of, quiet, text_owned}
+use Rattle.mscp_ported.proofs.Owning.{AreOwned, Own, Owned, carries, nothing_kept, number_of, parts_of, quiet, read_owned}
 use Rattle.mscp_ported.proofs.Sole.{served_goes_on, served_itself, served_other}
 
 -- ---- what is kept after a step
@@ -59,41 +59,33 @@ module _ {K : Type 0} (picks : Picking K) (start p : Port K) (calls : List Call)
   After = AreOwned picks start p (Went outcome (Ok done) ∷ calls) a
 
   -- what was served
-  served : (name : Name) → a.0.controller.begun ≡ Some name → (verdict : Verdict) → IsHow a.0 outcome verdict
-      → (place : ℕ) → place < length a.0.controller.waiting
-      → name_of (record_at a.0.controller.waiting place) ≡ name
-      → p.controller.waiting ≡ waiting_after (block_told verdict) (drive_at a.0.controller.drives
-      a.0.controller.waiting place) a.0.controller.waiting place
-      → (ended : Option End) → ended ≡ end_given (block_told verdict)
-      (drive_at a.0.controller.drives a.0.controller.waiting place) (record_at a.0.controller.waiting place)
-      → p.buffers.items ≡ kept_after name.connection ended a.0.buffers.items → After
-  served name begun verdict how place inside named waiting ended told kept = λ b there asks.
-      let left = subst (λ bs. Contains bs b) kept there in
-      let o = owned b (among_after name.connection ended a.0.buffers.items b left) asks in
+  served : (verdict : Verdict) → IsHow a.0 outcome verdict → Serves verdict a.0 p → After
+  served verdict how x = λ b there asks.
+      let left = subst (λ bs. Contains bs b) x.heeds.buffers there in
+      let o = owned b (among_after r0.connection (end_given (block_told verdict) d r0) a.0.buffers.items b left) asks in
       by b left o.0 o.1 o.2 (is_numbered b.reference r0) refl
     where
       rs : List Record
       rs = a.0.controller.waiting
 
       r0 : Record
-      r0 = record_at a.0.controller.waiting place
+      r0 = record_at a.0.controller.waiting x.place
 
       d : Drive
-      d = drive_at a.0.controller.drives a.0.controller.waiting place
+      d = drive_in a.0 x.place
 
-      itself_so : (b : Buffer) → Contains (kept_after name.connection ended a.0.buffers.items) b → (bytes : List ℕ)
+      itself_so : (b : Buffer) → Contains (kept_after r0.connection (end_given (block_told verdict) d r0) a.0.buffers.items) b → (bytes : List ℕ)
           → Own picks start a.0 calls a.1 b r0 bytes → is_numbered b.reference r0 ≡ true
           → (o : Option End) → end_given (block_told verdict) d r0 ≡ o
           → Owned picks start p (Went outcome (Ok done) ∷ calls) a b
       itself_so b left bytes own is (Some e) given =
-          let same = sym named ∙ same_is (name_of r0) (name_on First b.reference) is in
-          absurd (not_ended name.connection ended a.0.buffers.items b e (told ∙ given) left
-          (is_first name.connection e.reference b (ap (λ (x : Name). x.connection) same)
+          absurd (not_ended r0.connection (end_given (block_told verdict) d r0) a.0.buffers.items b e given left
+          (is_first r0.connection e.reference b (number_of b.reference r0 is).0
           (sym (number_of b.reference r0 is).1 ∙ sym (end_number (block_told verdict) d r0 e given))))
       itself_so b left bytes own is None given =
           let on = goes_on_so d r0 (block_told verdict) given in
-          let same = sym named ∙ same_is (name_of r0) (name_on First b.reference) is in
-          let m = moves_so picks start a.0 calls a.1 owned outcome done some s name begun b.reference same r0 own.sole
+          let same = sym x.is ∙ same_is (name_of r0) (name_on First b.reference) is in
+          let m = moves_so picks start a.0 calls a.1 owned outcome done some s x.name x.begun b.reference same r0 own.sole
           on.online (told_so a.0 outcome verdict how on.good) in
           let bytes_same : m.1 ≡ bytes = same_Some m.1 bytes
           (sym m.3.own.message ∙ ap (λ n. asked picks n start a.0 calls a.1) m.3.number ∙ own.message) in
@@ -104,8 +96,8 @@ module _ {K : Type 0} (picks : Picking K) (start p : Port K) (calls : List Call)
             advanced r0,
             bytes,
             record {
-              sole = ap (filter (is_numbered b.reference)) waiting
-                  ∙ served_goes_on b.reference (block_told verdict) d rs place inside r0 own.sole is given;
+              sole = ap (filter (is_numbered b.reference)) x.waiting
+                  ∙ served_goes_on b.reference (block_told verdict) d rs x.place x.servable.inside r0 own.sole is given;
               message = own.message;
               kept = own.kept;
               command = own.command;
@@ -133,160 +125,89 @@ module _ {K : Type 0} (picks : Picking K) (start p : Port K) (calls : List Call)
               let lower = still_bytes count r0.done
               (subst (λ w. 1 < w - r0.done) (whole ∙ ap order_weight is) more) in search (arith, lower, low)
 
-      by : (b : Buffer) → Contains (kept_after name.connection ended a.0.buffers.items) b → (r : Record)
+      by : (b : Buffer) → Contains (kept_after r0.connection (end_given (block_told verdict) d r0) a.0.buffers.items) b → (r : Record)
           → (bytes : List ℕ) → Own picks start a.0 calls a.1 b r bytes → (c : Bool) → is_numbered b.reference r0 ≡ c
           → Owned picks start p (Went outcome (Ok done) ∷ calls) a b
       by b left r bytes own false is =
-          let x = served_other b.reference (block_told verdict) d rs place inside r own.sole is in (
-            x.0,
+          let y = served_other b.reference (block_told verdict) d rs x.place x.servable.inside r own.sole is in (
+            y.0,
             bytes,
-            carries picks start p (Went outcome (Ok done)) calls a b r x.0 bytes own refl
+            carries picks start p (Went outcome (Ok done)) calls a b r y.0 bytes own refl
                 (no_done (is_done outcome) (is_moving a.0.task) (is_step_of b.reference (begun_step a.0.controller))
-                (wanted (wish calls)) (other_step a.0.controller b.reference name begun
-                (ap (λ (x : Name). same_name x (name_on First b.reference)) (sym named) ∙ is)))
-                (ap (filter (is_numbered b.reference)) waiting ∙ x.1) x.2,
+                (wanted (wish calls)) (other_step a.0.controller b.reference x.name x.begun
+                (ap (λ (x : Name). same_name x (name_on First b.reference)) (sym x.is) ∙ is)))
+                (ap (filter (is_numbered b.reference)) x.waiting ∙ y.1) y.2,
           )
       by b left r bytes own true is =
-          let same = served_itself b.reference (block_told verdict) d rs place inside r own.sole is in
+          let same = served_itself b.reference (block_told verdict) d rs x.place x.servable.inside r own.sole is in
           itself_so b left bytes (subst (λ x. Own picks start a.0 calls a.1 b x bytes) (sym same) own) is
           (end_given (block_told verdict) d r0) refl
 
-  took : (name : Name) → a.0.controller.begun ≡ Some name → (verdict : Verdict) → IsHow a.0 outcome verdict
-      → TakesBlock (picks a.0.controller.picker) name.connection name.reference verdict a.0 p → After
-  took name begun verdict how t = by t.finished.0 t.finished.1 t.finished.2
+  -- no step is taken
+  none_done : (IsStepping a.0.task → a.0.controller.begun ≡ None) → (n : ℕ)
+      → done_by n (Went outcome (Ok done)) (wish calls) a.0 ≡ []
+  none_done none n = by a.0.task refl
     where
-      by : (result : Result Report NotBegun)
-          → Finishes (picks a.0.controller.picker) (name_on name.connection name.reference) (block_told verdict)
-          a.0.controller result p.controller
-          → HeedsStep name.connection verdict (end_brought result) a.0 p → After
-      by (Err not_begun) f h = absurd (false≢true (sym f.0
-          ∙ (ap (is_begun (name_on name.connection name.reference)) begun ∙ is_same name name refl)))
-      by (Ok reports.Idle) f h = absurd (none-some name (sym f.1.serves.1 ∙ begun))
-      by (Ok (reports.Served other number unit lbn started seek ended)) f h =
-          let place = f.1.serves.0 in
-          let sv = f.1.serves.1 in
-          served name begun verdict how place sv.next.servable.inside
-          (served_name a.0.controller.begun (name_on name.connection name.reference)
-          (record_at a.0.controller.waiting place) f.0 sv.next.same)
-          (ap (λ l. l.waiting) sv.left) ended (ap (λ x. end_brought (Ok x)) sv.told) h.buffers
-
-  begun_or : (verdict : Verdict) → IsHow a.0 outcome verdict → TakesBegun (picks a.0.controller.picker) verdict a.0 p
-      → After
-  begun_or verdict how h = by a.0.controller.begun refl h
-    where
-      by : (o : Option Name) → a.0.controller.begun ≡ o → MatchOption o (p ≡ record a.0 { task = tasks.Free })
-          (λ name. TakesBlock (picks a.0.controller.picker) name.connection name.reference verdict a.0 p) → After
-      by None e h = quiet picks start p (Went outcome (Ok done)) calls a (λ n. refl)
-          (λ n. no_done (is_done outcome) (is_moving a.0.task) (is_step_of n (begun_step a.0.controller))
-          (wanted (wish calls)) (ap (λ o. is_step_of n (upcoming_begun a.0.controller.drives
-          a.0.controller.waiting o)) e))
-          (ap (λ (q : Port K). q.controller.waiting) h)
-          (λ b there. subst (λ (q : Port K). Contains q.buffers.items b) h there) owned
-      by (Some name) e h = took name e verdict how h
+      by : (t : Task) → a.0.task ≡ t → done_by n (Went outcome (Ok done)) (wish calls) a.0 ≡ []
+      by tasks.Transfer e = no_done (is_done outcome) (is_moving a.0.task) (is_step_of n (begun_step a.0.controller))
+          (wanted (wish calls)) (ap (λ o. is_step_of n (upcoming_begun a.0.controller.drives a.0.controller.waiting
+          o)) (none (subst (λ x. IsStepping x) (sym e) tt)))
+      by t e = none_moving (is_done outcome) (is_moving a.0.task) (is_step_of n (begun_step a.0.controller))
+          (wanted (wish calls)) (ap is_moving e)
 
   went_owned : After
-  went_owned = by a.0.task refl
-    where
-      by : (t : Task) → a.0.task ≡ t → After
-      by (tasks.Step verdict) e = begun_or verdict (inl e) ((a.2.moves refl).step verdict e)
-      by tasks.Transfer e =
-          begun_or (block_served a.0 outcome (block_begun a.0)) (inr (e, refl)) ((a.2.moves refl).transfer e)
-      by t e = elim a.2.commands [
-        | inl same ↦ quiet picks start p (Went outcome (Ok done)) calls a (λ n. refl)
-            (λ n. none_moving (is_done outcome) (is_moving a.0.task) (is_step_of n (begun_step a.0.controller))
-            (wanted (wish calls)) (ap is_moving e))
-            (ap (λ (h : Holdings K). h.waiting) same.controller)
-            (λ b there. subst (λ bs. Contains bs b) (ap (λ x. x.items) same.buffers) there) owned
-        | inr more ↦ elim more [
-          | inl block ↦ absurd (subst (λ x. IsStepping x) e block.0)
-          | inr dead ↦ nothing_kept picks start p (Went outcome (Ok done) ∷ calls) a dead.1.buffers
-        ]
-      ]
+  went_owned = elim (went_is (picks a.0.controller.picker) outcome done a.0 p a.2) [
+    | inl x ↦ served x.0 x.1 x.2
+    | inr more ↦ elim more [
+      | inl n ↦ quiet picks start p (Went outcome (Ok done)) calls a (λ n. refl) (none_done n.2)
+          (ap (λ (h : Holdings K). h.waiting) n.0.0)
+          (λ b there. subst (λ bs. Contains bs b) (ap (λ x. x.items) n.0.4) there) owned
+      | inr d ↦ nothing_kept picks start p (Went outcome (Ok done) ∷ calls) a d.1.buffers
+    ]
+  ]
 
 -- ---- a list of calls
 
 still_waits : {K : Type 0} (old new : Port K) → Says old new → new.controller.waiting ≡ old.controller.waiting
 still_waits old new says = search (arith, looks_or_not old)
 
+passive_comes : {K : Type 0} (call : Call) (old : Port K) → IsPassive call → (n : ℕ) → comes n call old ≡ false
+passive_comes (WasRead bytes (Ok done)) old is n = absurd is
+passive_comes (WasRead bytes (Err unasked)) old is n = refl
+passive_comes call old is n = refl
+
+passive_done : {K : Type 0} (call : Call) (w : Option _) (old : Port K) → IsPassive call → (n : ℕ)
+    → done_by n call w old ≡ []
+passive_done (Went outcome (Ok done)) w old is n = absurd is
+passive_done (Went outcome (Err unasked)) w old is n = refl
+passive_done call w old is n = refl
+
 module _ {K : Type 0} (picks : Picking K) (hardware : Hardware) (credits : ℕ) (controller : Holdings K)
     (start : Port K) (made : IsMadeOf hardware credits controller start) where
-  -- a call by which nothing comes and no block is told
-  plain : (call : Call) (p : Port K) (calls : List Call) (a : Answered picks start (call ∷ calls) p)
-      → ((n : ℕ) → comes n call a.0 ≡ false) → ((n : ℕ) → done_by n call (wish calls) a.0 ≡ [])
-      → p.controller.waiting ≡ a.0.controller.waiting → p.buffers ≡ a.0.buffers
-      → AreOwned picks start a.0 calls a.1 → AreOwned picks start p (call ∷ calls) a
-  plain call p calls a other none waiting buffers owned =
-      quiet picks start p call calls a other none waiting
-      (λ b there. subst (λ bs. Contains bs b) (ap (λ x. x.items) buffers) there) owned
-
-  no_text : (p : Port K) (calls : List Call) (bytes : List ℕ) (done : Unit {0})
-      (a : Answered picks start (WasRead bytes (Ok done) ∷ calls) p) → AreOwned picks start a.0 calls a.1
-      → (IsReadingText a.0.task → ⊥) → is_queued_text a.0 bytes a.0.task ≡ false
-      → AreOwned picks start p (WasRead bytes (Ok done) ∷ calls) a
-  no_text p calls bytes done a owned never e = elim (a.2.nothing_else never) [
-    | inl same ↦ quiet picks start p (WasRead bytes (Ok done)) calls a
-        (λ n. and_false (num bytes 0 4 == n) (is_queued_text a.0 bytes a.0.task) e) (λ n. refl)
-        (ap (λ (h : Holdings K). h.waiting) same)
-        (λ b there. elim (a.2.learns.buffers b there) [ inl before ↦ before | inr read ↦ absurd (never read.0) ]) owned
-    | inr dead ↦ nothing_kept picks start p (WasRead bytes (Ok done) ∷ calls) a dead.1.buffers
+  passive_owned : (p : Port K) (call : Call) (calls : List Call) (a : Answered picks start (call ∷ calls) p)
+      → IsPassive call → AreOwned picks start a.0 calls a.1 → AreOwned picks start p (call ∷ calls) a
+  passive_owned p call calls a is owned = elim (passive_stays picks call a.0 p a.2 is) [
+    | inl s ↦ quiet picks start p call calls a (passive_comes call a.0 is) (passive_done call (wish calls) a.0 is)
+        (ap (λ (h : Holdings K). h.waiting) s.0)
+        (λ b there. subst (λ bs. Contains bs b) (ap (λ x. x.items) s.4) there) owned
+    | inr d ↦ nothing_kept picks start p (call ∷ calls) a d.1.buffers
   ]
-
-  read_owned : (p : Port K) (calls : List Call) (bytes : List ℕ) (done : Unit {0})
-      (a : Answered picks start (WasRead bytes (Ok done) ∷ calls) p) → AreOwned picks start a.0 calls a.1
-      → (t : Task) → a.0.task ≡ t → AreOwned picks start p (WasRead bytes (Ok done) ∷ calls) a
-  read_owned p calls bytes done a owned (tasks.Text slot size foreign) e =
-      text_owned picks start p calls bytes done a slot size foreign e owned
-  read_owned p calls bytes done a owned t e = no_text p calls bytes done a owned
-      (λ h. subst (λ x. IsReadingText x) e h) (ap (is_queued_text a.0 bytes) e)
 
   pub are_owned : (p : Port K) (calls : List Call) → AsksAlways calls → (a : Answered picks start calls p)
       → AreOwned picks start p calls a
   are_owned p [] asks a = nothing_kept picks start p [] a (ap (λ (q : Port K). q.buffers.items) a ∙ made.buffers)
   are_owned p (WriteIp ∷ calls) asks a = nothing_kept picks start p (WriteIp ∷ calls) a a.2.buffers
-  are_owned p (ReadIp ∷ calls) asks a = elim a.2.frame [
-    | inl e ↦ plain ReadIp p calls a (λ n. refl) (λ n. refl) (ap (λ (q : Port K). q.controller.waiting) e)
-        (ap (λ (q : Port K). q.buffers) e) (are_owned a.0 calls asks a.1)
-    | inr dead ↦ nothing_kept picks start p (ReadIp ∷ calls) a dead.1.buffers
-  ]
-  are_owned p (WriteSa word ∷ calls) asks a = elim a.2.frame [
-    | inl e ↦ plain (WriteSa word) p calls a (λ n. refl) (λ n. refl) (ap (λ (q : Port K). q.controller.waiting) e)
-        (ap (λ (q : Port K). q.buffers) e) (are_owned a.0 calls asks a.1)
-    | inr dead ↦ nothing_kept picks start p (WriteSa word ∷ calls) a dead.1.buffers
-  ]
-  are_owned p (Next asks_for action bytes ∷ calls) asks a = plain (Next asks_for action bytes) p calls a (λ n. refl)
-      (λ n. refl) (still_waits a.0 p a.2.0.says) (ap (λ (q : Port K). q.buffers) a.2.0.frame)
-      (are_owned a.0 calls asks a.1)
-  are_owned p (PutAside ∷ calls) asks a = plain PutAside p calls a (λ n. refl) (λ n. refl)
-      (ap (λ (q : Port K). q.controller.waiting) a.2) (ap (λ (q : Port K). q.buffers) a.2)
+  are_owned p (Next asks_for action bytes ∷ calls) asks a =
+      quiet picks start p (Next asks_for action bytes) calls a (λ n. refl) (λ n. refl) (still_waits a.0 p a.2.0.says)
+      (λ b there. subst (λ bs. Contains bs b) (ap (λ (q : Port K). q.buffers.items) a.2.0.frame) there)
       (are_owned a.0 calls asks a.1)
   are_owned p (WasRead bytes (Ok done) ∷ calls) asks a =
-      read_owned p calls bytes done a (are_owned a.0 calls asks.1 a.1) a.0.task refl
-  are_owned p (WasRead bytes (Err unasked) ∷ calls) asks a = plain (WasRead bytes (Err unasked)) p calls a (λ n. refl)
-      (λ n. refl) (ap (λ (q : Port K). q.controller.waiting) a.2.unasked) (ap (λ (q : Port K). q.buffers) a.2.unasked)
-      (are_owned a.0 calls asks a.1)
+      read_owned picks start p calls bytes done a (are_owned a.0 calls asks.1 a.1)
   are_owned p (Went outcome (Ok done) ∷ calls) asks a =
       went_owned picks start p calls outcome done a (are_owned a.0 calls asks.1 a.1) asks.0
       (steps picks hardware credits controller start made a.0 calls asks.1 a.1)
-  are_owned p (Went outcome (Err unasked) ∷ calls) asks a = plain (Went outcome (Err unasked)) p calls a (λ n. refl)
-      (λ n. refl) (ap (λ (q : Port K). q.controller.waiting) a.2.unasked) (ap (λ (q : Port K). q.buffers) a.2.unasked)
-      (are_owned a.0 calls asks a.1)
-  are_owned p (LookAgain ∷ calls) asks a = plain LookAgain p calls a (λ n. refl) (λ n. refl)
-      (ap (λ (q : Port K). q.controller.waiting) a.2) (ap (λ (q : Port K). q.buffers) a.2)
-      (are_owned a.0 calls asks a.1)
-  are_owned p (Tick ∷ calls) asks a = elim a.2.either [
-    | inl e ↦ plain Tick p calls a (λ n. refl) (λ n. refl) (ap (λ (q : Port K). q.controller.waiting) e)
-        (ap (λ (q : Port K). q.buffers) e) (are_owned a.0 calls asks a.1)
-    | inr dead ↦ nothing_kept picks start p (Tick ∷ calls) a dead.buffers
-  ]
-  are_owned p (VolumeCame m unit (Ok done) ∷ calls) asks a = plain (VolumeCame m unit (Ok done)) p calls a (λ n. refl)
-      (λ n. refl) (ap (λ (q : Port K). q.controller.waiting) (a.2.came refl))
-      (ap (λ (q : Port K). q.buffers) (a.2.came refl)) (are_owned a.0 calls asks a.1)
-  are_owned p (VolumeCame m unit (Err fault) ∷ calls) asks a = plain (VolumeCame m unit (Err fault)) p calls a
-      (λ n. refl) (λ n. refl) (ap (λ (q : Port K). q.controller.waiting) a.2.refused)
-      (ap (λ (q : Port K). q.buffers) a.2.refused) (are_owned a.0 calls asks a.1)
-  are_owned p (VolumeWent unit result ∷ calls) asks a = plain (VolumeWent unit result) p calls a (λ n. refl)
-      (λ n. refl) (ap (λ (q : Port K). q.controller.waiting) a.2.frame) (ap (λ (q : Port K). q.buffers) a.2.frame)
-      (are_owned a.0 calls asks a.1)
-  are_owned p (Protect protected unit result ∷ calls) asks a = plain (Protect protected unit result) p calls a
-      (λ n. refl) (λ n. refl) (ap (λ (q : Port K). q.controller.waiting) a.2.frame)
-      (ap (λ (q : Port K). q.buffers) a.2.frame) (are_owned a.0 calls asks a.1)
+  are_owned p (WasRead bytes (Err unasked) ∷ calls) asks a =
+      passive_owned p (WasRead bytes (Err unasked)) calls a tt (are_owned a.0 calls asks a.1)
+  are_owned p (Went outcome (Err unasked) ∷ calls) asks a =
+      passive_owned p (Went outcome (Err unasked)) calls a tt (are_owned a.0 calls asks a.1)
+  are_owned p (call ∷ calls) asks a = passive_owned p call calls a tt (are_owned a.0 calls asks a.1)

@@ -14,7 +14,6 @@ pub step_decided : {K : Type 0} (verdict : Verdict) (old new : Port K)
     → length (ends_of old.controller) ≡ length old.decided.items → length (ends_of new.controller) ≤ 64
     → (via : Connection) (o : Option End) → ends_of new.controller ≡ ends_of old.controller ++ brought_for via o
     → decided_ended via verdict o old new ≡ old.decided.items ++ map (decided_by verdict old new) (brought_for via o)
-step_decided verdict old new long few First None ends = sym (append-nil _)
 step_decided verdict old new long few First (Some e) ends = room (nat_lt (length old.decided.items) 64) refl
   where
     room : (c : Bool) → nat_lt (length old.decided.items) 64 ≡ c
@@ -24,6 +23,7 @@ step_decided verdict old new long few First (Some e) ends = room (nat_lt (length
     room false is = absurd (over (length old.decided.items) (length (ends_of old.controller))
         (length (ends_of new.controller)) is long
         (ap length ends ∙ length-append (ends_of old.controller) (e ∷ [])) few)
+step_decided verdict old new long few First None ends = sym (append-nil _)
 step_decided verdict old new long few Second None ends = sym (append-nil _)
 step_decided verdict old new long few Second (Some e) ends = sym (append-nil _)
 

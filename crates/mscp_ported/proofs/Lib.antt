@@ -12,6 +12,7 @@ pub mod Going
 pub mod Owing
 pub mod Wanting
 pub mod Following
+pub mod Minor
 pub mod Staying
 pub mod Making
 pub mod Beginning

@@ -26,16 +26,11 @@ Follows picks call old new =
 
 pub verdict_so : (verdict : Verdict) → block_told verdict ≡ told_of verdict
 verdict_so (verdicts.Served block) = refl
-verdict_so verdicts.NoVolume = refl
-verdict_so verdicts.NotOnline = refl
+verdict_so verdict = refl
 
 outcome_so : (outcome : Outcome) → block_of outcome ≡ told_as outcome
 outcome_so outcomes.Done = refl
-outcome_so outcomes.Missing = refl
-outcome_so outcomes.Parity = refl
-outcome_so outcomes.Unmapped = refl
-outcome_so outcomes.Different = refl
-outcome_so (outcomes.Failed status) = refl
+outcome_so outcome = refl
 
 part_so : (outcome : Outcome) (part : Result (ℕ × ℕ) Verdict)
     → block_told (part_served outcome part) ≡ told_unless outcome part

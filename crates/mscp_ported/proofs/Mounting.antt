@@ -1,5 +1,5 @@
 -- A unit that is online was brought online with the volume that is in it.
-use Rattle.mscp_ported.proofs.Common.{Answered, Bool, Buffer, Call, Connection, Contains, End, Err, First, Goes, Hardware, Holdings, IsAsNew, IsMadeOf, IsNews, IsOnline, List, LookAgain, Next, None, Ok, Option, Outcome, Outgoing, Picking, Port, Protect, PutAside, ReadIp, Says, Second, Shape, Some, Stage, Succeeds, Tick, Volume, VolumeCame, VolumeWent, WasRead, Went, WriteIp, WriteSa, [], ap, append-nil, arith, brought_online, cases_eq, cases_lt, come, cond, end_brought, eq-eqb, eqb-true, false, false≢true, get_or-set_other, get_or-set_same, get_or_past, inl, inr, is_of, kept_found, kept_of, length, length-set, looks_or_not, news_place, no_volume, none-some, of_first, place_heeded, place_in, position, protected_by, refl, same_Some, set, settings_stay, subst, sym, taken_or_not, true, volume_at, volume_changed, volume_heeded, volume_protected, volume_put, volumes_after, volumes_heeded, volumes_with, ℕ, ◌%◌, ◌/◌, ◌<◌, ◌==◌, ◌∙◌, ◌∷◌, ◌≡◌, ◌≢◌, ◌⊎◌}
+use Rattle.mscp_ported.proofs.Common.{Answered, Bool, Buffer, Call, Connection, Contains, End, Err, First, Goes, Hardware, Holdings, IsAsNew, IsMadeOf, IsNews, IsOnline, List, LookAgain, Next, None, Ok, Option, Outcome, Outgoing, Picking, Port, Protect, PutAside, Says, Second, Shape, Some, Stage, Succeeds, Tick, Volume, VolumeCame, VolumeWent, Went, WriteIp, [], ap, append-nil, arith, brought_online, cases_eq, cases_lt, come, cond, end_brought, eq-eqb, eqb-true, false, false≢true, get_or-set_other, get_or-set_same, get_or_past, inl, inr, is_of, kept_found, kept_of, length, length-set, looks_or_not, news_place, no_volume, none-some, of_first, place_heeded, place_in, position, protected_by, refl, same_Some, set, settings_stay, subst, sym, taken_or_not, true, volume_at, volume_changed, volume_heeded, volume_protected, volume_put, volumes_after, volumes_heeded, volumes_with, ℕ, ◌%◌, ◌/◌, ◌<◌, ◌==◌, ◌∙◌, ◌∷◌, ◌≡◌, ◌≢◌, ◌⊎◌}
 use Rattle.mscp_port.specs.declared.stage.Stage.TheVariants as stages
 use Rattle.mscp_ported.proofs.Changing.{same_unit}
 use Rattle.mscp_ported.proofs.Coming.{brought_for, come_so, ends_of, steps_bring}
@@ -269,25 +269,10 @@ module _ {K : Type 0} (picks : Picking K) (start : Port K) where
       → Mounted (On call p calls a unit) (volume_at p.volumes place)
   by_call WriteIp p calls a unit place low here before =
       as_new _ place (stages.First) a.0 p low a.2
-  by_call ReadIp p calls a unit place low here before =
-      elim a.2.frame [
-        | inl x ↦ still _ _ (λ w. inr (refl, λ h. h, w)) place a.0.volumes p.volumes (ap (λ q. q.volumes) x) before
-        | inr dead ↦ as_new _ place (stages.Dead dead.0) a.0 p low dead.1
-      ]
-  by_call (WriteSa word) p calls a unit place low here before =
-      elim a.2.frame [
-        | inl x ↦ still _ _ (λ w. inr (refl, λ h. h, w)) place a.0.volumes p.volumes (ap (λ q. q.volumes) x) before
-        | inr dead ↦ as_new _ place (stages.Dead dead.0) a.0 p low dead.1
-      ]
   by_call (Next blocks action bytes) p calls a unit place low here before =
       says_so _ _ (λ w. inr (refl, λ h. h, w)) place a.0 p a.2.0.says before
   by_call PutAside p calls a unit place low here before =
       still _ _ (λ w. inr (refl, λ h. h, w)) place a.0.volumes p.volumes (ap (λ q. q.volumes) a.2) before
-  by_call (WasRead bytes result) p calls a unit place low here before =
-      elim a.2.frame [
-        | inl x ↦ still _ _ (λ w. inr (refl, λ h. h, w)) place a.0.volumes p.volumes (ap (λ q. q.volumes) x) before
-        | inr dead ↦ as_new _ place (stages.Dead dead.0) a.0 p low dead.1
-      ]
   by_call (Went outcome (Ok done)) p calls a unit place low here before =
       went_so picks _ _ unit place outcome done a.0 p a.2 low here (λ s. inl s)
       (λ never w. inr (refl, never, w)) before
@@ -325,6 +310,7 @@ module _ {K : Type 0} (picks : Picking K) (start : Port K) where
       subst (λ vs. Mounted because (volume_at vs place)) (sym (ap (λ q. q.volumes) a.2.frame))
       (guards why because (λ w. inr (refl, λ h. h, w)) place protected (place_in a.0.controller.settings.units to)
       a.0.volumes before)
+  by_call call p calls a unit place low here before = elim a.2.frame [ inl x ↦ still _ _ (λ w. inr (refl, λ h. h, w)) place a.0.volumes p.volumes (ap (λ q. q.volumes) x) before | inr dead ↦ as_new _ place (stages.Dead dead.0) a.0 p low dead.1 ]
 
   -- a unit that is online was brought online
   pub online : (hardware : Hardware) (credits : ℕ) (controller : Holdings K)

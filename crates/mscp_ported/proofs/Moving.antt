@@ -1,5 +1,6 @@
 -- A block of which the controller is told that it went well was moved.
-use Rattle.mscp_ported.proofs.Common.{Action, Answered, AsksAlways, Becomes, Bool, Buffer, Call, Dies, Drops, Err, Hardware, Holdings, IfSome, IsAlive, IsMadeOf, IsOfBlock, IsWanted, Leaves, List, LookAgain, MoveKind, Next, None, Ok, Option, Picking, Port, Protect, PutAside, ReadIp, Shape, Some, Task, Tick, Upcoming, Verdict, Volume, VolumeCame, VolumeWent, WasRead, Went, Wish, WriteIp, WriteSa, [], ap, arith, aside, begun_step, begun_task, block_begun, false, inl, inr, kept_of, move_wanted, moved_step, part_at, part_wanted, place_in, read_again, refl, step_again, step_at, subst, sym, volume_changed, volume_protected, volume_put, volumes_with, wish, ℕ, ◌∙◌, ◌∷◌, ◌≡◌, ◌⊎◌}
+use Rattle.mscp_ported.proofs.Common.{Action, Answered, AsksAlways, Becomes, Bool, Buffer, Call, Dies, Drops, Hardware, Holdings, IfSome, IsAlive, IsMadeOf, IsOfBlock, IsWanted, Leaves, List, MoveKind, Next, None, Ok, Option, Picking, Port, ReadIp, Shape, Some, Task, Upcoming, Verdict, Volume, WasRead, Went, Wish, WriteIp, WriteSa, [], ap, arith, aside, begun_step, begun_task, block_begun, blocks, inl, inr, kept_of, move_wanted, moved_step, part_at, part_wanted, place_in, read_again, refl, step_again, step_at, subst, sym, volumes_with, wish, ℕ, ◌∙◌, ◌∷◌, ◌≡◌, ◌⊎◌}
+use Rattle.mscp_ported.proofs.Minor.{GivesUp, Minor, Mounts, PutsAside, ReadsAgain, Still, minor}
 use Rattle.mscp_port.specs.declared.action.Action.TheVariants as actions
 use Rattle.mscp_port.specs.declared.stage.Stage.TheVariants as stages
 use Rattle.mscp_port.specs.declared.task.Task.TheVariants as tasks
@@ -191,7 +192,6 @@ module _ {K : Type 0} (picks : Picking K) (hardware : Hardware) (credits : ℕ) 
 
   pub steps : (p : Port K) (calls : List Call) → AsksAlways calls → Answered picks start calls p → Steps p (wish calls)
   steps p [] asks a = none_so p [] asks a refl
-  steps p (WriteIp ∷ calls) asks a = none_so p (WriteIp ∷ calls) asks a refl
   steps p (ReadIp ∷ calls) asks a =
       let s = steps a.0 calls asks a.1 in elim a.2.frame [
         | inl e ↦ hand_so a.0 p (wish calls) s (ap (λ (q : Port K). q.controller) e) (ap (λ (q : Port K). q.volumes) e)
@@ -210,41 +210,20 @@ module _ {K : Type 0} (picks : Picking K) (hardware : Hardware) (credits : ℕ) 
         dead,
         (in_step picks hardware credits controller start made a.0 calls asks a.1).hand.up (block_rings a.0.task h),
       ))
-  steps p (PutAside ∷ calls) asks a =
-      either a.0 p (wish calls) (λ h. record {
-        controller = ap (λ (q : Port K). q.controller) a.2;
-        buffers = ap (λ (q : Port K). q.buffers) a.2;
-        volumes = ap (λ (q : Port K). q.volumes) a.2;
-        task = ap (λ (q : Port K). q.task) a.2
-            ∙ free_aside a.0.task (subst (λ x. IsOfBlock x) (ap (λ (q : Port K). q.task) a.2) h);
-      }) (steps a.0 calls asks a.1)
+  steps p (WriteIp ∷ calls) asks a = none_so p (WriteIp ∷ calls) asks a refl
   steps p (WasRead bytes (Ok done) ∷ calls) asks a = none_so p (WasRead bytes (Ok done) ∷ calls) asks a refl
-  steps p (WasRead bytes (Err unasked) ∷ calls) asks a =
-      same_so a.0 p (wish calls) (steps a.0 calls asks a.1) a.2.unasked
   steps p (Went outcome (Ok done) ∷ calls) asks a = none_so p (Went outcome (Ok done) ∷ calls) asks a refl
-  steps p (Went outcome (Err unasked) ∷ calls) asks a =
-      same_so a.0 p (wish calls) (steps a.0 calls asks a.1) a.2.unasked
-  steps p (LookAgain ∷ calls) asks a =
-      either a.0 p (wish calls) (λ h. record {
-        controller = ap (λ (q : Port K). q.controller) a.2;
-        buffers = ap (λ (q : Port K). q.buffers) a.2;
-        volumes = ap (λ (q : Port K). q.volumes) a.2;
-        task = ap (λ (q : Port K). q.task) a.2
-            ∙ free_again a.0.task (subst (λ x. IsOfBlock x) (ap (λ (q : Port K). q.task) a.2) h);
-      }) (steps a.0 calls asks a.1)
-  steps p (Tick ∷ calls) asks a =
-      let s = steps a.0 calls asks a.1 in elim a.2.either [
-        | inl e ↦ again_so a.0 p (wish calls) s e
-        | inr n ↦ no_steps p (wish calls) (λ h. subst (λ x. IsOfBlock x) n.task h)
-      ]
-  steps p (VolumeCame m unit (Ok done) ∷ calls) asks a =
-      volume_so a.0 p (wish calls) (steps a.0 calls asks a.1) (volume_put m)
-      (place_in a.0.controller.settings.units unit) (a.2.came refl)
-  steps p (VolumeCame m unit (Err fault) ∷ calls) asks a =
-      same_so a.0 p (wish calls) (steps a.0 calls asks a.1) a.2.refused
-  steps p (VolumeWent unit result ∷ calls) asks a =
-      volume_so a.0 p (wish calls) (steps a.0 calls asks a.1) (volume_changed false)
-      (place_in a.0.controller.settings.units unit) a.2.frame
-  steps p (Protect protected unit result ∷ calls) asks a =
-      volume_so a.0 p (wish calls) (steps a.0 calls asks a.1) (volume_protected protected)
-      (place_in a.0.controller.settings.units unit) a.2.frame
+  steps p (call ∷ calls) asks a = by (minor picks call a.0 p a.2 tt) (steps a.0 calls asks a.1)
+    where
+      by : Minor a.0 p → Steps a.0 (wish calls) → Steps p (wish calls)
+      by (Still e) s = same_so a.0 p (wish calls) s e
+      by (PutsAside e) s = either a.0 p (wish calls) (λ h. record {
+        controller = ap (λ (q : Port K). q.controller) e;
+        buffers = ap (λ (q : Port K). q.buffers) e;
+        volumes = ap (λ (q : Port K). q.volumes) e;
+        task = ap (λ (q : Port K). q.task) e
+            ∙ free_aside a.0.task (subst (λ x. IsOfBlock x) (ap (λ (q : Port K). q.task) e) h);
+      }) s
+      by (ReadsAgain left e) s = again_so a.0 p (wish calls) s e
+      by (Mounts becomes place e) s = volume_so a.0 p (wish calls) s becomes place e
+      by (GivesUp d) s = no_steps p (wish calls) (λ h. subst (λ x. IsOfBlock x) d.task h)

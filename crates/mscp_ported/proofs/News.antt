@@ -1,5 +1,6 @@
 -- A port has no news of a unit that is online, or that has no volume.
-use Rattle.mscp_ported.proofs.Common.{Answered, Becomes, Bool, Buffer, Call, Choice, Connection, End, Err, GoesOnWithBlock, Hardware, Holdings, IsAsNew, IsAvailable, IsMadeOf, IsNews, IsSomeAnd, IsUnitList, List, LookAgain, Next, None, Ok, Option, Outgoing, OutgoingKind, Picking, Port, Protect, PutAside, ReadIp, Says, Shape, Some, Stage, TellsNews, Tick, Volume, VolumeCame, VolumeWent, WasRead, Went, WriteIp, WriteSa, [], ap, arith, attention, brought_online, cases_eq, cases_lt, cond, end_brought, end_bytes, end_kind, eqb-true, false, false≢true, get_or_past, inl, inr, length, looks_or_not, news_place, no_volume, none-some, option_map, own_end_of, place_in, position, protected_by, refl, same_Some, set, settings_still, slice_get, subst, suc, sym, taken_or_not, true, volume_at, volume_changed, volume_heeded, volume_protected, volume_put, volume_reset, volumes_after, volumes_heeded, volumes_with, zero, ℕ, ◌<◌, ◌==◌, ◌∙◌, ◌∷◌, ◌≡◌, ◌≤◌}
+use Rattle.mscp_ported.proofs.Common.{Answered, Becomes, Bool, Buffer, Call, Choice, Connection, End, Err, GoesOnWithBlock, Hardware, Holdings, IsAsNew, IsAvailable, IsMadeOf, IsNews, IsSomeAnd, IsUnitList, List, LookAgain, Next, None, Ok, Option, Outgoing, OutgoingKind, Picking, Port, Protect, PutAside, ReadIp, Says, Shape, Some, Stage, TellsNews, Tick, Volume, VolumeCame, VolumeWent, WasRead, Went, WriteIp, WriteSa, [], ap, arith, attention, blocks, brought_online, cases_eq, cases_lt, cond, end_brought, end_bytes, end_kind, eqb-true, false, false≢true, get_or_past, inl, inr, length, looks_or_not, news_place, no_volume, none-some, option_map, own_end_of, place_in, position, protected_by, refl, same_Some, set, settings_still, slice_get, subst, suc, sym, taken_or_not, true, volume_at, volume_changed, volume_heeded, volume_protected, volume_put, volume_reset, volumes_after, volumes_heeded, volumes_with, zero, ℕ, ◌<◌, ◌==◌, ◌∙◌, ◌∷◌, ◌≡◌, ◌≤◌}
+use Rattle.mscp_ported.proofs.Minor.{minor, minor_out}
 use Rattle.std.proofs.Common.{length-set, get_or-set_same, get_or-set_other}
 use Rattle.std.specs.Prelude.{◌/◌, ◌%◌}
 use Rattle.std.proofs.lemmas.List.Quantifiers.{position-Some}
@@ -121,20 +122,8 @@ goes_away v f = not_new (volume_changed false v) refl
 keeps_fresh : {K : Type 0} (picks : Picking K) (call : Call) (old new : Port K) → Becomes picks call old new
     → KeepsFresh old.volumes new.volumes
 keeps_fresh picks WriteIp old new r = as_new stages.First old new r
-keeps_fresh picks ReadIp old new r = elim r.frame [
-  | inl e ↦ the_same old.volumes new.volumes (ap (λ p. p.volumes) e)
-  | inr dead ↦ as_new (stages.Dead dead.0) old new dead.1
-]
-keeps_fresh picks (WriteSa word) old new r = elim r.frame [
-  | inl e ↦ the_same old.volumes new.volumes (ap (λ p. p.volumes) e)
-  | inr dead ↦ as_new (stages.Dead dead.0) old new dead.1
-]
 keeps_fresh picks (Next blocks action bytes) old new r = said old new r.0.says
 keeps_fresh picks PutAside old new r = the_same old.volumes new.volumes (ap (λ p. p.volumes) r)
-keeps_fresh picks (WasRead bytes result) old new r = elim r.frame [
-  | inl e ↦ the_same old.volumes new.volumes (ap (λ p. p.volumes) e)
-  | inr dead ↦ as_new (stages.Dead dead.0) old new dead.1
-]
 keeps_fresh picks (Went outcome result) old new r = elim r.commands [
   | inl e ↦ the_same old.volumes new.volumes e.volumes
   | inr more ↦ elim more
@@ -154,6 +143,7 @@ keeps_fresh picks (VolumeWent unit result) old new r =
     framed (volume_changed false) unit old new goes_away (ap (λ p. p.volumes) r.frame)
 keeps_fresh picks (Protect protected unit result) old new r =
     framed (volume_protected protected) unit old new (guards protected) (ap (λ p. p.volumes) r.frame)
+keeps_fresh picks call old new r = elim r.frame [ inl e ↦ the_same old.volumes new.volumes (ap (λ p. p.volumes) e) | inr dead ↦ as_new (stages.Dead dead.0) old new dead.1 ]
 
 -- ---- what begins to go out
 
@@ -201,25 +191,18 @@ module _ {K : Type 0} (old new : Port K) (none : old.outgoing ≡ None) (o : Out
   by_call picks (WriteSa word) r = elim r.frame
       [ inl e ↦ kept (ap (λ p. p.outgoing) e) | inr dead ↦ gone dead.1.outgoing ]
   by_call picks (Next blocks action bytes) r = says_news r.0.says
-  by_call picks PutAside r = kept (ap (λ p. p.outgoing) r)
-  by_call picks (WasRead bytes result) r = elim r.out [
+  by_call picks (WasRead bytes (Ok done)) r = elim r.out [
     | inl e ↦ kept e
     | inr more ↦ elim more [
       | inl x ↦ own x.2 (own_end_of old x.2 bytes) x.4.out
       | inr dead ↦ gone dead.1.outgoing
     ]
   ]
-  by_call picks (Went outcome result) r = elim r.out [
+  by_call picks (Went outcome (Ok done)) r = elim r.out [
     | inl e ↦ kept e
     | inr more ↦ elim more [ inl x ↦ gone x.out | inr dead ↦ gone dead.1.outgoing ]
   ]
-  by_call picks LookAgain r = kept (ap (λ p. p.outgoing) r)
-  by_call picks Tick r = elim r.either
-      [ inl e ↦ kept (ap (λ p. p.outgoing) e) | inr dead ↦ gone dead.outgoing ]
-  by_call picks (VolumeCame m unit (Ok done)) r = kept (ap (λ p. p.outgoing) (r.came refl))
-  by_call picks (VolumeCame m unit (Err fault)) r = kept (ap (λ p. p.outgoing) r.refused)
-  by_call picks (VolumeWent unit result) r = kept (ap (λ p. p.outgoing) r.frame)
-  by_call picks (Protect protected unit result) r = kept (ap (λ p. p.outgoing) r.frame)
+  by_call picks call r = elim (minor_out (minor picks call old new r tt)) [ inl e ↦ kept e | inr none ↦ gone none ]
 
 inside : {X : Type 0} (xs : List X) (n : ℕ) (x : X) → slice_get xs n ≡ Some x → n < length xs
 inside [] n x e = absurd (none-some x e)

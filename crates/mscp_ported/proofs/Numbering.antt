@@ -13,9 +13,6 @@ module _ (n : ℕ) (k : Block) (d : Drive) (rs : List Record) (place : ℕ) (ins
   r0 : Record
   r0 = record_at rs place
 
-  front : List Record
-  front = map (passed_by (step_charge (record_at rs place))) (take place rs)
-
   passed_none : (t : ℕ) (xs : List Record) → filter (is_numbered n) xs ≡ []
       → filter (is_numbered n) (map (passed_by t) xs) ≡ []
   passed_none t [] e = refl

@@ -138,12 +138,6 @@ module _ {K : Type 0} (p : Port K) (t : Talk) (action : Action) (bytes : List �
       → IsWithin p action → (IsOfRings task → p.rings ≢ None) → (IsOfRings task → p.stage ≡ stages.Up)
       → (IsClear task → p.stage ≡ stages.Clearing) → (IsClear task → p.rings ≢ None) → Fits (look p) task t.turn
       → IsOwed p.stage t t.turn action bytes
-  owed_of tasks.Free h is at within some up clear area fit =
-      owed_open t.turn fit (subst (λ x. IsCalm p.stage t x bytes) (sym h) tt)
-  owed_of tasks.Settle h is at within some up clear area fit =
-      owed_open t.turn fit (subst (λ x. IsCalm p.stage t x bytes) (sym h) tt)
-  owed_of (tasks.Step verdict) h is at within some up clear area fit =
-      owed_open t.turn fit (subst (λ x. IsCalm p.stage t x bytes) (sym h) tt)
   owed_of tasks.Transfer h is at within some up clear area fit = owed_open t.turn fit
       (else_calm p.stage t action bytes (subst (λ x. IsElse x) (sym h) (move_else p (block_begun p))))
   owed_of (tasks.Clear done) h is at within some up clear area fit = owed_open t.turn fit
@@ -206,3 +200,4 @@ module _ {K : Type 0} (p : Port K) (t : Talk) (action : Action) (bytes : List �
   )
   owed_of tasks.Interrupt h is at within some up clear area fit = owed_at t.turn Due fit
       (h ∙ ap (λ n. actions.Interrupt (n % 0x80 * 4)) (sym names.first_so))
+  owed_of task h is at within some up clear area fit = owed_open t.turn fit (subst (λ x. IsCalm p.stage t x bytes) (sym h) tt)

@@ -1,10 +1,8 @@
 -- What is kept of a command was said by its own message, and its blocks so far were moved at their places.
-use Rattle.mscp_ported.proofs.Common.{Action, Answered, Bool, Buffer, Call, Command, Contains, Contains-push_cases, Descriptor, End, First, Holdings, IsLike, List, Name, None, Ok, Option, Order, Picking, Port, Record, SeesText, SendFault, Some, WasRead, [], aborting, answer_to_message, answered_end, answered_to, ap, append-nil, arith, arrives, asked, asks_nothing, balance_of, buffer_in, changes_at, comes, command_of, cond, done_by, eq-eqb, eqb-true, false, filter, find, fresh_record, handed, handed_as_read, handed_like, held_unless, inl, inr, is_first, is_formality, is_none, is_numbered, is_queued, is_queued_so, is_queued_text, kept_beside, kept_of_sent, length, moved, name_of, name_on, nat_eq, nat_lt, none-some, none_among, none_or_some, none_waits, not, not_of, num, option_map, order_weight, outstanding_of, own_answer, own_end_of, place_in, queued, reference_aborted, refl, refusal, same_Some, same_is, sent_unless, slice_index, subst, sym, taken_as, taken_number, transfers, true, unaborted, volume_named, wish, with_end, without_aborted, without_among, ℕ, ◌&&◌, ◌++◌, ◌<◌, ◌==◌, ◌∙◌, ◌∷◌, ◌≡◌, ◌≢◌, ◌⊎◌}
+use Rattle.mscp_ported.proofs.Common.{Action, Answered, Bool, Buffer, Call, Command, Contains, Contains-push_cases, First, Holdings, IsLike, List, Name, None, Ok, Option, Order, Picking, Port, Record, Some, WasRead, [], ap, append-nil, arith, asked, asks_nothing, balance_of, buffer_in, changes_at, comes, command_of, cond, done_by, eq-eqb, eqb-true, false, filter, find, fresh_record, handed, handed_as_read, handed_like, inl, inr, is_first, is_formality, is_numbered, is_queued_text, length, moved, name_of, name_on, nat_eq, nat_lt, none-some, none_among, none_waits, not, not_of, num, option_map, order_weight, outstanding_of, place_in, reference_aborted, refl, same_Some, same_is, slice_index, subst, sym, taken_number, transfers, true, unaborted, waiting, wish, without_aborted, without_among, ℕ, ◌&&◌, ◌++◌, ◌<◌, ◌==◌, ◌∙◌, ◌∷◌, ◌≡◌, ◌≢◌, ◌≤◌, ◌⊎◌}
 use Rattle.mscp_packet.specs.declared.command.Order.TheVariants as orders
-use Rattle.mscp_controller.specs.declared.entry.Sent.TheVariants as sents
-use Rattle.mscp_port.specs.declared.task.Task.TheVariants as tasks
 use Rattle.mscp_ported.specs.Transfers.{text_of}
-use Rattle.mscp_ported.proofs.Answering.{handed_so, none_so, own_so}
+use Rattle.mscp_ported.proofs.Reading.{Gets, Queues, and_false, answered_now, command_in, not_queued, queued_later, read_is}
 use Rattle.mscp_ported.proofs.Sole.{Alike, found_sole, itself, none_passes, sole_beside, sole_comes, sole_left, sole_passes}
 
 -- so many blocks of an order
@@ -80,10 +78,6 @@ module _ {K : Type 0} (picks : Picking K) (start : Port K) where
 
 -- ---- a text was read
 
-pub and_false : (x y : Bool) → y ≡ false → (x && y) ≡ false
-and_false true y e = e
-and_false false y e = refl
-
 -- what is kept without that of a record which was found, if one was
 left_among : (o : Option Record) (bs : List Buffer) (b : Buffer)
     → Contains (without_aborted (option_map (λ r. r.command.reference) o) bs) b → Contains bs b
@@ -110,33 +104,22 @@ apart_numbers n m r ne is = by (is_numbered m r) refl
     by false e = refl
     by true e = absurd (ne (sym (number_of n r is).1 ∙ (number_of m r e).1))
 
+no_shorter : (m n : ℕ) → m ≤ 12 → 12 ≤ n → nat_lt n m ≡ false
+no_shorter m n short long = search (arith, short, long)
+
 beside_cases : (t : Bool) (bs : List Buffer) (x b : Buffer) → Contains (cond t (bs ++ x ∷ []) bs) b
     → Contains bs b ⊎ (x ≡ b)
 beside_cases true bs x b there = Contains-push_cases bs x b there
 beside_cases false bs x b there = inl there
 
 module _ {K : Type 0} (picks : Picking K) (start : Port K) (p : Port K) (calls : List Call) (bytes : List ℕ)
-    (done : Unit) (a : Answered picks start (WasRead bytes (Ok done) ∷ calls) p) (slot : Descriptor) (size : ℕ)
-    (foreign : Bool) (at : a.0.task ≡ tasks.Text slot size foreign) (owned : AreOwned picks start a.0 calls a.1) where
+    (done : Unit) (a : Answered picks start (WasRead bytes (Ok done) ∷ calls) p)
+    (owned : AreOwned picks start a.0 calls a.1) where
   abbrev After : Type 0
   After = AreOwned picks start p (WasRead bytes (Ok done) ∷ calls) a
 
   abbrev sent : List ℕ
   sent = handed a.0.controller.settings.units bytes
-
-  abbrev refused : Option SendFault
-  refused = refusal (balance_of First a.0.controller) (outstanding_of First a.0.controller) sent
-
-  sees : SeesText slot foreign bytes a.0 p
-  sees = (a.2.sees refl).text slot size foreign at
-
-  -- whether it is queued
-  queued_by : is_queued_text a.0 bytes a.0.task
-      ≡ (is_none (own_answer foreign (volume_named a.0 bytes) bytes) && is_queued_so (answered_to a.0 bytes))
-  queued_by = ap (is_queued_text a.0 bytes) at
-      ∙ ap (λ b. is_none (own_answer foreign (volume_named a.0 bytes) bytes)
-      && is_queued_so (answer_to_message First a.0.controller b))
-      (sym (handed_so a.0.controller.settings.units bytes))
 
   never : is_queued_text a.0 bytes a.0.task ≡ false → (n : ℕ) → comes n (WasRead bytes (Ok done)) a.0 ≡ false
   never e n = and_false (num bytes 0 4 == n) (is_queued_text a.0 bytes a.0.task) e
@@ -145,27 +128,6 @@ module _ {K : Type 0} (picks : Picking K) (start : Port K) (p : Port K) (calls :
       → p.buffers.items ≡ a.0.buffers.items → After
   still e same buffers = quiet picks start p (WasRead bytes (Ok done)) calls a (never e) (λ n. refl) same
       (λ b there. subst (λ bs. Contains bs b) buffers there) owned
-
-  answered : (e : End) → own_end_of a.0 foreign bytes ≡ Some e → After
-  answered e own =
-      let some : own_end_of a.0 foreign bytes ≢ None = λ none. none-some e (sym none ∙ own) in
-      let o = own_so foreign (volume_named a.0 bytes) bytes e own in
-      still (queued_by ∙ ap (λ x. is_none x && is_queued_so (answered_to a.0 bytes)) o.1)
-      (ap (λ (h : Holdings K). h.waiting) (a.2.own slot size foreign at some))
-      (elim (none_or_some a.0.outgoing) [
-        | inl nothing ↦ ap (λ (q : Port K). q.buffers.items) (sees.own some nothing).0
-        | inr out ↦ ap (λ (q : Port K). q.buffers.items)
-            (sees.own_waits some (λ nothing. none-some out.0 (sym nothing ∙ out.1)))
-      ])
-
-  waits : (fault : SendFault) → own_end_of a.0 foreign bytes ≡ None → refused ≡ Some fault → After
-  waits fault none e =
-      let answer = ap (sent_unless First a.0.controller (command_of sent)) e in
-      still (queued_by ∙ and_false (is_none (own_answer foreign (volume_named a.0 bytes) bytes))
-      (is_queued_so (answered_to a.0 bytes)) (ap is_queued_so answer))
-      (ap (λ (h : Holdings K). h.waiting) (a.2.handed slot size foreign at refl none
-      ∙ ap (held_unless First a.0.controller (command_of sent)) e))
-      (ap (λ (q : Port K). q.buffers.items) (sees.waits fault none answer))
 
   -- the controller answers it, and may abort another
   aborts : (order : Order) → is_queued_text a.0 bytes a.0.task ≡ false
@@ -194,28 +156,23 @@ module _ {K : Type 0} (picks : Picking K) (start : Port K) (p : Port K) (calls :
   aborts order e waiting kept = still e waiting kept
 
   -- it is queued, or its stand-in is
-  comes_in : own_end_of a.0 foreign bytes ≡ None → answered_to a.0 bytes ≡ Ok (sents.Queued (num sent 0 4))
-      → IsLike sent bytes → (is_formality (slice_index bytes 8) ≡ false → sent ≡ bytes) → refused ≡ None
-      → p.controller.waiting ≡ a.0.controller.waiting ++ fresh_record First (command_of sent) ∷ []
-      → p.buffers.items ≡ kept_beside (buffer_in bytes (changes_at a.0.volumes
-      (place_in a.0.controller.settings.units (num bytes 4 2)))) a.0.buffers.items
-      → After
+  comes_in : (g : Gets bytes done a.0 p) → Queues g.slot bytes a.0 p → After
   unfolding command_of
-  comes_in none answer like plain taken waiting kept = λ b there asks.
+  comes_in g q = λ b there asks.
       let rs = a.0.controller.waiting in
       let n = num bytes 0 4 in
       let r = fresh_record First (command_of sent) in
       let changes = changes_at a.0.volumes (place_in a.0.controller.settings.units (num bytes 4 2)) in
       let own = buffer_in bytes changes in
-      let fits = taken_number (balance_of First a.0.controller) (outstanding_of First a.0.controller) sent taken in
-      let number : own.reference ≡ n = ap (λ t. cond t 0 n) {y = false} (search (arith, sees.long)) in
+      let fits = taken_number (balance_of First a.0.controller) (outstanding_of First a.0.controller) sent g.is_new in
+      let like : IsLike sent bytes = handed_like a.0.controller.settings a.0.controller.settings.units bytes g.long q.later in
+      let waiting = ap (λ (h : Holdings K). h.waiting) q.holds in
+      let number : own.reference ≡ n = ap (λ t. cond t 0 n) {y = false}
+      (no_shorter 4 (length bytes) (omega arith) g.long) in
       let new : filter (is_numbered n) rs ≡ [] = subst (λ m. filter (is_numbered m) rs ≡ []) like.0
       (none_passes (is_numbered (num sent 0 4)) rs (none_waits a.0.controller (num sent 0 4) fits.1)) in
-      let is_it : is_queued_text a.0 bytes a.0.task ≡ true =
-      queued_by ∙ ap (λ x. is_none x && is_queued_so (answered_to a.0 bytes))
-      (none_so foreign (volume_named a.0 bytes) bytes none) ∙ ap is_queued_so answer in
       elim (beside_cases (nat_lt (length a.0.buffers.items) 64) a.0.buffers.items own b
-      (subst (λ bs. Contains bs b) kept there)) [
+      (subst (λ bs. Contains bs b) q.sends.kept there)) [
         | inl before ↦
             let o = owned b before asks in
             let apart : nat_eq n b.reference ≡ false = other_number b (nat_eq n b.reference) refl o.0 o.2.sole new in (
@@ -230,9 +187,10 @@ module _ {K : Type 0} (picks : Picking K) (start : Port K) (p : Port K) (calls :
             )
         | inr e ↦
             let same : b.reference ≡ n = ap (λ (x : Buffer). x.reference) (sym e) ∙ number in
-            let as_read : sent ≡ bytes = plain (opcode_kept b e asks) in
+            let as_read : sent ≡ bytes =
+            handed_as_read a.0.controller.settings a.0.controller.settings.units bytes (opcode_kept b e asks) q.later in
             let now : comes b.reference (WasRead bytes (Ok done)) a.0 ≡ true =
-            ap (λ c. c && is_queued_text a.0 bytes a.0.task) (eq-eqb n b.reference (sym same)) ∙ is_it in (
+            ap (λ c. c && is_queued_text a.0 bytes a.0.task) (eq-eqb n b.reference (sym same)) ∙ queued_later g q in (
               r,
               bytes,
               record {
@@ -256,7 +214,7 @@ module _ {K : Type 0} (picks : Picking K) (start : Port K) (p : Port K) (calls :
           → asks_nothing b.opcode ≡ false → is_formality (slice_index bytes 8) ≡ false
       opcode_kept b e asks =
           sym (ap (λ t. is_formality (cond t 0 (slice_index bytes 8))) {x = nat_lt (length bytes) 9} {y = false}
-          (search (arith, sees.long)))
+          (no_shorter 9 (length bytes) (omega arith) g.long))
           ∙ ap (λ (x : Buffer). is_formality x.opcode) e ∙ asks
 
       other_number : (b : Buffer) (c : Bool) → nat_eq (num bytes 0 4) b.reference ≡ c → (r : Record)
@@ -269,63 +227,16 @@ module _ {K : Type 0} (picks : Picking K) (start : Port K) (p : Port K) (calls :
             (sym (eqb-true (num bytes 0 4) b.reference e)) sole,
       )
 
-  taken : (q : Bool) → is_queued a.0.controller.settings (command_of sent) ≡ q → own_end_of a.0 foreign bytes ≡ None
-      → refused ≡ None → After
-  unfolding command_of
-  taken q e none taken_is =
-      let h = a.0.controller in
-      let command = command_of sent in
-      let answer : answered_to a.0 bytes ≡ Ok (taken_as First h command) =
-      ap (sent_unless First h command) taken_is in
-      let gets : p.controller ≡ arrives First h command =
-      a.2.handed slot size foreign at refl none ∙ ap (held_unless First h command) taken_is in
-      by q e gets answer (sees.sent (taken_as First h command) none answer).kept
-    where
-      by : (q : Bool) → is_queued a.0.controller.settings (command_of sent) ≡ q
-          → p.controller ≡ arrives First a.0.controller (command_of sent)
-          → answered_to a.0 bytes ≡ Ok (taken_as First a.0.controller (command_of sent))
-          → p.buffers.items ≡ kept_of_sent (taken_as First a.0.controller (command_of sent))
-          (buffer_in bytes (changes_at a.0.volumes (place_in a.0.controller.settings.units (num bytes 4 2))))
-          a.0.buffers.items
-          → After
-      by true e gets answer kept =
-          let h = a.0.controller in
-          let command = command_of sent in
-          let own =
-          buffer_in bytes (changes_at a.0.volumes (place_in a.0.controller.settings.units (num bytes 4 2))) in
-          let aborted = reference_aborted First h.waiting command.order in
-          comes_in none
-          (answer ∙ ap (λ t. Ok (cond t (sents.Queued command.reference)
-          (sents.Answered command.reference aborted))) e)
-          (handed_like h.settings h.settings.units bytes sees.long e)
-          (λ plain. handed_as_read h.settings h.settings.units bytes plain e) taken_is
-          (ap (λ (x : Holdings K). x.waiting) gets
-          ∙ ap (λ t. (cond t (queued First h command)
-          (with_end First (aborting First h command.order) (answered_end First h command))).waiting) e)
-          (kept ∙ ap (λ t. kept_of_sent (cond t (sents.Queued command.reference)
-          (sents.Answered command.reference aborted)) own a.0.buffers.items) e)
-      by false e gets answer kept =
-          let h = a.0.controller in
-          let command = command_of sent in
-          let own =
-          buffer_in bytes (changes_at a.0.volumes (place_in a.0.controller.settings.units (num bytes 4 2))) in
-          let aborted = reference_aborted First h.waiting command.order in
-          aborts command.order
-          (queued_by ∙ and_false (is_none (own_answer foreign (volume_named a.0 bytes) bytes))
-          (is_queued_so (answered_to a.0 bytes)) (ap is_queued_so (answer ∙ ap (λ t. Ok (cond t
-          (sents.Queued command.reference) (sents.Answered command.reference aborted))) e)))
-          (ap (λ (x : Holdings K). x.waiting) gets
-          ∙ ap (λ t. (cond t (queued First h command)
-          (with_end First (aborting First h command.order) (answered_end First h command))).waiting) e)
-          (kept ∙ ap (λ t. kept_of_sent (cond t (sents.Queued command.reference)
-          (sents.Answered command.reference aborted)) own a.0.buffers.items) e)
-
-  judged : (o : Option SendFault) → refused ≡ o → own_end_of a.0 foreign bytes ≡ None → After
-  judged None e none = taken (is_queued a.0.controller.settings (command_of sent)) refl none e
-  judged (Some fault) e none = waits fault none e
-
-  pub text_owned : After
-  text_owned = elim (none_or_some (own_end_of a.0 foreign bytes)) [
-    | inr own ↦ answered own.0 own.1
-    | inl none ↦ judged refused refl none
+  pub read_owned : After
+  read_owned = elim (read_is bytes done a.0 p a.2) [
+    | inl s ↦ elim s.0 [
+      | inl same ↦ still (not_queued a.0 bytes a.0.task s.1) (ap (λ (h : Holdings K). h.waiting) same.0)
+          (ap (λ x. x.items) same.4)
+      | inr d ↦ nothing_kept picks start p (WasRead bytes (Ok done) ∷ calls) a d.1.buffers
+    ]
+    | inr g ↦ elim g.how [
+      | inl q ↦ comes_in g q
+      | inr x ↦ aborts (command_in a.0 bytes).order (answered_now g x) (ap (λ (h : Holdings K). h.waiting) x.holds)
+          x.sends.kept
+    ]
   ]

@@ -3,7 +3,7 @@ use Rattle.mscp_ported.proofs.Common.{Action, AllByRecursion, Bool, Command, Con
 use Rattle.mscp_ported.proofs.Growing.{Grown, begun_one, silent, grown_none, grown_passes}
 use Rattle.mscp_port.specs.declared.port.OutgoingKind.TheVariants as kinds
 use Rattle.mscp_packet.specs.declared.command.Order.TheVariants as orders
-use Rattle.mscp_ported.proofs.Answering.{handed_so, poll_command, poll_handed, polled}
+use Rattle.mscp_ported.proofs.Answering.{poll_sent, polled}
 use Rattle.mscp_ported.proofs.Awaiting.{Kept}
 use Rattle.mscp_ported.proofs.Coming.{brought_for, ends_of}
 use Rattle.mscp_ported.proofs.Dealing.{named, next_deals, own, whole}
@@ -12,10 +12,10 @@ use Rattle.mscp_ported.proofs.Saying.{told_figure}
 use Rattle.mscp_ported.proofs.Keeping.{end_number}
 use Rattle.mscp_ported.proofs.Numbered.{At, none_found}
 use Rattle.mscp_ported.proofs.Owning.{number_of}
-use Rattle.mscp_ported.proofs.Awaits.{served_own}
+use Rattle.mscp_ported.proofs.Awaits.{end_named, served_own}
 use Rattle.mscp_ported.proofs.Taking.{NoEnd, says_is}
 use Rattle.mscp_ported.proofs.Stepping.{Serves, drive_in, end_served, went_is}
-use Rattle.mscp_ported.proofs.Reading.{Answers, Gets, Queues, accepted, answer_ends, end_named, ends_aborted, ends_answered, own_end_in, read_is}
+use Rattle.mscp_ported.proofs.Reading.{Answers, Gets, Queues, accepted, answer_ends, ends_aborted, ends_answered, own_end_in, read_is}
 use Rattle.mscp_ported.proofs.Opcodes.{first}
 
 -- ---- an end is taken
@@ -172,9 +172,7 @@ module _ {K : Type 0} (bytes : List ℕ) (done : Unit) (old new : Port K) (aw : 
         (record_aborted First h.waiting command.order)) ++ answered_end First h command ∷ [])
         ≡ record { number = num bytes 0 4; figure = figure_on old (num bytes 12 4) } ∷ [])
     polled_now poll long q e =
-        let same : command ≡ polled bytes =
-        ap command_of (handed_so old.controller.settings.units bytes
-        ∙ poll_handed old.controller.settings.units bytes poll) ∙ poll_command bytes poll long in (
+        let same : command ≡ polled bytes = poll_sent old.controller.settings.units bytes poll long in (
           sym e ∙ ap (is_queued h.settings) same,
           ap (λ c. map pending_end (option_to_list (option_map aborted_record
               (record_aborted First h.waiting c.order)) ++ answered_end First h c ∷ [])) same,
@@ -197,9 +195,9 @@ module _ {K : Type 0} (bytes : List ℕ) (done : Unit) (old new : Port K) (aw : 
 
   pub read_comes : Comes
   read_comes = elim (read_is bytes done old new r) [
-    | inl s ↦ none_comes (ap (λ (h : Holdings K). ends_of h) s.0.0) s.1
-    | inr more ↦ elim more [
-      | inl g ↦ taken_comes g g.how
+    | inl s ↦ elim s.0 [
+      | inl same ↦ none_comes (ap (λ (h : Holdings K). ends_of h) same.0) s.1
       | inr d ↦ absurd (search (arith, lives, ap is_dead d.1.stage))
     ]
+    | inr g ↦ taken_comes g g.how
   ]

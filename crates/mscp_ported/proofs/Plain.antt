@@ -155,6 +155,3 @@ module _ {K : Type 0} (call : Call) (old new : Port K) (t : Talk) (w : Option Wi
 
   pub same_port : new ≡ old → After call old (look new) t w w said texts
   same_port e = lets_be old.task (inl refl) (ap look e)
-
-  pub dies_plain : Dies old new → After call old (look new) t w w said texts
-  dies_plain d = dies call d.0 old new t w w said texts plain.no_reset d.1

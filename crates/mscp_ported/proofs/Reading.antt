@@ -1,16 +1,19 @@
 -- What becomes of a message that a port reads.
-use Rattle.mscp_ported.proofs.Common.{Bool, Command, Descriptor, Dies, End, First, Hears, Holdings, IsReadingText, List, None, Ok, Option, Port, SeesText, SendFault, Sends, Some, Task, WasRead, [], aborted_record, aborting, accepted_by, accepted_text, accepts, answer_to_message, answered_end, answered_to, ap, append_assoc, balance_of, command_of, cond, drop, drop-append_seam, false, fault_of, fresh_record, handed, held_unless, inl, inr, is_none, is_numbered, is_ok, is_queued, is_taken_text, length, map, nat_eq, none-some, none_or_some, num, option_map, option_to_list, outstanding_of, own_answer, own_end_of, queued, record_aborted, reference_aborted, refl, refusal, sent_unless, subst, sym, taken_as, taken_by, true, volume_named, with_end, ℕ, ◌&&◌, ◌++◌, ◌∙◌, ◌∷◌, ◌≡◌, ◌≢◌, ◌≤◌, ◌⊎◌}
+use Rattle.mscp_ported.proofs.Common.{Bool, Command, Descriptor, End, Err, First, Hears, Holdings, IsReadingText, List, None, Ok, Option, Port, Result, SeesText, SendFault, Sends, Some, Task, WasRead, [], aborted_record, aborting, accepted_by, accepted_text, accepts, answer_to_message, answered_end, answered_to, ap, append_assoc, arith, balance_of, command_of, cond, drop, drop-append_seam, false, handed, held_unless, inl, inr, is_none, is_ok, is_queued, is_queued_text, is_taken_text, length, map, none-some, none_or_some, option_map, option_to_list, outstanding_of, own_answer, own_end_of, queued, record_aborted, reference_aborted, refl, refusal, sent_unless, stays, subst, sym, taken_as, taken_by, true, volume_named, with_end, ℕ, ◌&&◌, ◌++◌, ◌∙◌, ◌∷◌, ◌≡◌, ◌≢◌, ◌≤◌, ◌⊎◌}
 use Rattle.mscp_controller.specs.declared.entry.Sent.{Sent}
 use Rattle.mscp_controller.specs.declared.entry.Sent.TheVariants as sents
 use Rattle.mscp_port.specs.declared.task.Task.TheVariants as tasks
+use Rattle.mscp_ported.specs.Transfers.{is_queued_so}
+use Rattle.mscp_ported.specs.Answers.{text_handed}
 use Rattle.mscp_ported.proofs.Answering.{handed_so, none_so, own_so}
-use Rattle.mscp_ported.proofs.Awaiting.{IsLikeIt, Kept, handed_like, is_it, nothing_there, others, own_number}
 use Rattle.mscp_ported.proofs.Coming.{ends_of}
-use Rattle.mscp_ported.proofs.Staying.{IsSame, Stays, alike, read_stays, same_as}
+use Rattle.mscp_ported.proofs.Staying.{Stays, alike, read_stays, same_as}
 use Rattle.mscp_ported.proofs.Ending.{Grows}
-use Rattle.mscp_ported.proofs.Numbered.{IsNothing}
-use Rattle.mscp_ported.proofs.Owning.{and_false}
 use Rattle.mscp_ported.proofs.Tables.{answer_by}
+
+pub and_false : (x y : Bool) → y ≡ false → (x && y) ≡ false
+and_false true y e = e
+and_false false y e = refl
 
 -- its command, as the controller gets it
 abbrev pub command_in : {K : Type 0} → Port K → List ℕ → Command
@@ -56,7 +59,7 @@ pub record Gets {K : Type 0} (bytes : List ℕ) (done : Unit) (old new : Port K)
 
 module _ {K : Type 0} (bytes : List ℕ) (done : Unit) (old new : Port K) (r : Hears bytes old (Ok done) new) where
   abbrev So : Type 0
-  So = (IsSame old new × (taken_by (WasRead bytes (Ok done)) old ≡ [])) ⊎ Gets bytes done old new ⊎ Dies old new
+  So = (Stays old new × (taken_by (WasRead bytes (Ok done)) old ≡ [])) ⊎ Gets bytes done old new
 
   module _ (slot : Descriptor) (size : ℕ) (foreign : Bool) (at : old.task ≡ tasks.Text slot size foreign) where
     abbrev refused : Option SendFault
@@ -76,8 +79,7 @@ module _ {K : Type 0} (bytes : List ℕ) (done : Unit) (old new : Port K) (r : H
 
     rests : (is_none (own_answer foreign (volume_named old bytes) bytes) && is_ok (answered_to old bytes)) ≡ false
         → Stays old new → So
-    rests none (inl s) = inl (s, taken_is ∙ ap (λ b. cond b (bytes ∷ []) []) none)
-    rests none (inr d) = inr (inr d)
+    rests none stays = inl (stays, taken_is ∙ ap (λ b. cond b (bytes ∷ []) []) none)
 
     answered : (e : End) → own_end_of old foreign bytes ≡ Some e → So
     answered e own =
@@ -152,7 +154,7 @@ module _ {K : Type 0} (bytes : List ℕ) (done : Unit) (old new : Port K) (r : H
         })
 
     judged : (o : Option SendFault) → refused ≡ o → own_end_of old foreign bytes ≡ None → So
-    judged None e none = inr (inl (gets none e))
+    judged None e none = inr (gets none e)
     judged (Some fault) e none = waits fault none e
 
     text_is : So
@@ -166,21 +168,14 @@ module _ {K : Type 0} (bytes : List ℕ) (done : Unit) (old new : Port K) (r : H
     where
       by : (t : Task) → old.task ≡ t → So
       by (tasks.Text slot size foreign) e = text_is slot size foreign e
-      by t e = elim (read_stays bytes done old new r (λ h. subst (λ x. IsReadingText x) e h)) [
-        | inl s ↦ inl (s, ap (λ x. cond (is_taken_text old bytes x) (bytes ∷ []) []) e)
-        | inr d ↦ inr (inr d)
-      ]
+      by t e = inl (
+        read_stays bytes done old new r (λ h. subst (λ x. IsReadingText x) e h),
+        ap (λ x. cond (is_taken_text old bytes x) (bytes ∷ []) []) e,
+      )
 
 -- ---- a message that the controller took
 
 module _ {K : Type 0} {bytes : List ℕ} {done : Unit} {old new : Port K} (g : Gets bytes done old new) where
-  pub like : IsLikeIt (handed old.controller.settings.units bytes) bytes
-  like = handed_like old.controller.settings.units bytes g.long
-
-  pub named : (command_in old bytes).reference ≡ num bytes 0 4
-  unfolding command_of
-  named = like.number
-
   pub accepted : accepted_by (WasRead bytes (Ok done)) old ≡ bytes ∷ []
   accepted = ap (λ t. accepted_text old t bytes) g.at
       ∙ ap (λ x. cond (accepts x old.outgoing (answered_to old bytes)) (bytes ∷ []) []) g.none
@@ -193,25 +188,33 @@ module _ {K : Type 0} {bytes : List ℕ} {done : Unit} {old new : Port K} (g : G
     | inr a ↦ (ap (λ (p : Port K). p.stage) a.sends.frame, ap (λ (p : Port K). p.hardware) a.sends.frame)
   ]
 
-  -- nothing is there of its number
-  pub no_such : {aw : List (List ℕ)} → Kept old aw
-      → IsNothing aw old.controller.waiting (ends_of old.controller) (num bytes 0 4)
-  no_such {aw} k = nothing_there old.controller aw bytes (handed old.controller.settings.units bytes) g.long like
-      g.is_new k.each
+  queued_is : (b : Bool) → is_queued_so (answered_to old bytes) ≡ b → is_queued_text old bytes old.task ≡ b
+  queued_is b e = ap (is_queued_text old bytes) g.at
+      ∙ ap (λ x. is_none x && is_queued_so (answer_to_message First old.controller
+      (text_handed old.controller.settings.units bytes)))
+      (none_so g.foreign (volume_named old bytes) bytes g.none)
+      ∙ ap (λ x. is_queued_so (answer_to_message First old.controller x))
+      (sym (handed_so old.controller.settings.units bytes)) ∙ e
 
-  pub its_own : {aw : List (List ℕ)} → Kept old aw
-      → is_numbered (num bytes 0 4) (fresh_record First (command_in old bytes)) ≡ true
-  its_own {aw} k = is_it old.controller aw bytes (handed old.controller.settings.units bytes) g.long like g.is_new k.each
-      (fresh_record First (command_in old bytes)) refl named
+  pub queued_later : Queues g.slot bytes old new → is_queued_text old bytes old.task ≡ true
+  queued_later q = queued_is true (ap is_queued_so q.answer)
 
-  pub no_other : {aw : List (List ℕ)} → Kept old aw → (n : ℕ) → nat_eq (num bytes 0 4) n ≡ false
-      → is_numbered n (fresh_record First (command_in old bytes)) ≡ false
-  no_other {aw} k = others old.controller aw bytes (handed old.controller.settings.units bytes) g.long like g.is_new
-      k.each (fresh_record First (command_in old bytes)) named
+  pub answered_now : Answers g.slot bytes old new → is_queued_text old bytes old.task ≡ false
+  answered_now a = queued_is false (ap is_queued_so a.answer)
 
-  pub end_named : (own_end_in old bytes).reference ≡ num bytes 0 4
-  end_named = own_number old.controller.settings _ _ (command_in old bytes)
-      (fault_of old.controller.settings (command_in old bytes)) ∙ named
+-- one that it doesn't take isn't queued
+pub not_queued : {K : Type 0} (old : Port K) (bytes : List ℕ) (t : Task)
+    → cond (is_taken_text old bytes t) (bytes ∷ []) [] ≡ [] → is_queued_text old bytes t ≡ false
+not_queued old bytes (tasks.Text slot size foreign) none =
+    by (is_none (own_answer foreign (volume_named old bytes) bytes))
+    (answer_to_message First old.controller (text_handed old.controller.settings.units bytes)) none
+  where
+    by : (x : Bool) (a : Result Sent SendFault) → cond (x && is_ok a) (bytes ∷ []) [] ≡ []
+        → (x && is_queued_so a) ≡ false
+    by false a e = refl
+    by true (Ok s) e = absurd (search (arith, e))
+    by true (Err fault) e = refl
+not_queued old bytes t none = refl
 
 -- its own end comes, behind that of the command that it aborts
 abbrev pub ends_answered : {K : Type 0} → Port K → List ℕ → List End

@@ -14,14 +14,8 @@ num_small b h = few (slice_index b 12) (slice_index b 13) (slice_index b 14) (sl
 
 -- an end that is answered at once tells no greater figure
 zero_figure : (kind : Option BodyKind) → figure_in (zero_body kind) ≡ 0
-zero_figure None = refl
 zero_figure (Some kinds_of.Bare) = refl
-zero_figure (Some kinds_of.Abort) = refl
-zero_figure (Some kinds_of.Status) = refl
-zero_figure (Some kinds_of.UnitStatus) = refl
-zero_figure (Some kinds_of.Controller) = refl
-zero_figure (Some kinds_of.Online) = refl
-zero_figure (Some kinds_of.Moved) = refl
+zero_figure kind = refl
 
 zero_least : (y figure : ℕ) → y ≡ 0 → y ≤ figure
 zero_least y figure e = search (arith, e)

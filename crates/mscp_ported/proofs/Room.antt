@@ -1,5 +1,6 @@
 -- In which ports the ring of responses wasn't found full, and no step of the initialisation waits.
-use Rattle.mscp_ported.proofs.Common.{Answered, AsksAlways, Becomes, Bool, Call, Choice, Commands, Descriptor, Err, Goes, Hardware, HasRoom, Hears, Holdings, IfSome, IsAsNew, IsGiven, IsMadeOf, IsOutcomeOf, List, LookAgain, MatchOption, Next, None, Ok, Option, Outcome, Picking, Port, Protect, PutAside, ReadIp, ReadsIp, Responses, Result, Rings, SeesText, SendFault, Sends, Sent, Some, Stage, TakesStep, Task, Tick, Unasked, VolumeCame, VolumeWent, WasRead, Went, WriteIp, WriteSa, WritesSa, [], answered_to, ap, arith, bytes_read, cond, connection_in, false, false≢true, header_fault, inl, inr, is_owned, length_in, none-some, none_or_not, num, own_end_of, read_size, refl, rings_named, step_answered, subst, sym, taken_or_not, true, ℕ, ◌<◌, ◌==◌, ◌∙◌, ◌∷◌, ◌≡◌, ◌≢◌, ◌≤◌, ◌⊎◌}
+use Rattle.mscp_ported.proofs.Common.{Answered, AsksAlways, Becomes, Bool, Call, Choice, Commands, Descriptor, Err, Goes, Hardware, HasRoom, Hears, Holdings, IfSome, IsAsNew, IsGiven, IsMadeOf, IsOutcomeOf, List, LookAgain, MatchOption, Next, None, Ok, Option, Outcome, Picking, Port, ReadIp, ReadsIp, Responses, Result, Rings, SeesText, SendFault, Sends, Sent, Some, Stage, TakesStep, Task, Tick, Unasked, WasRead, Went, WriteIp, WriteSa, WritesSa, [], answered_to, ap, arith, blocks, bytes_read, cond, connection_in, false, false≢true, given, header_fault, inl, inr, is_owned, length_in, none-some, none_or_not, not, num, of, own_end_of, read_size, refl, rings_named, step_answered, subst, sym, taken_or_not, true, written, ℕ, ◌<◌, ◌==◌, ◌∙◌, ◌∷◌, ◌≡◌, ◌≢◌, ◌≤◌, ◌⊎◌}
+use Rattle.mscp_ported.proofs.Minor.{GivesUp, Minor, Mounts, PutsAside, ReadsAgain, Still, minor}
 use Rattle.std.specs.Prelude.{◌/◌, ◌%◌, nat_lt}
 use Rattle.mscp_controller.specs.declared.entry.Sent.TheVariants as sents
 use Rattle.mscp_port.specs.declared.stage.Stage.TheVariants as stages
@@ -227,15 +228,16 @@ module _ {K : Type 0} (old new : Port K) (up : IsOfRings old.task → old.stage 
   heard_by picks ReadIp r = read_ip r
   heard_by picks (WriteSa word) r = write_sa word r
   heard_by picks (Next blocks action bytes) r = still _ r.0.frame refl refl
-  heard_by picks PutAside r = still _ r refl refl
-  heard_by picks (WasRead bytes result) r = elim r.frame [ inl e ↦ still _ e refl refl | inr dead ↦ dead.1.written ]
-  heard_by picks (Went outcome result) r = went _ outcome result r
-  heard_by picks LookAgain r = still _ r refl refl
-  heard_by picks Tick r = elim r.either [ inl e ↦ still _ e refl refl | inr dead ↦ dead.written ]
-  heard_by picks (VolumeCame m unit (Ok done)) r = still _ (r.came refl) refl refl
-  heard_by picks (VolumeCame m unit (Err fault)) r = still old r.refused refl refl
-  heard_by picks (VolumeWent unit result) r = still _ r.frame refl refl
-  heard_by picks (Protect protected unit result) r = still _ r.frame refl refl
+  heard_by picks (WasRead bytes (Ok done)) r = elim r.frame [ inl e ↦ still _ e refl refl | inr dead ↦ dead.1.written ]
+  heard_by picks (Went outcome (Ok done)) r = went _ outcome (Ok done) r
+  heard_by picks call r = by (minor picks call old new r tt)
+    where
+      by : Minor old new → new.written ≡ None
+      by (Still e) = still _ e refl refl
+      by (PutsAside e) = still _ e refl refl
+      by (ReadsAgain left e) = still _ e refl refl
+      by (Mounts becomes place e) = still _ e refl refl
+      by (GivesUp d) = d.written
 
 -- ---- a history
 
@@ -246,8 +248,6 @@ module _ {K : Type 0} (picks : Picking K) (hardware : Hardware) (credits : ℕ) 
       → p.is_full ≡ false
   room p [] e has = ap (λ x. x.is_full) e ∙ made.full
   room p (WriteIp ∷ calls) a has = a.2.full
-  room p (LookAgain ∷ calls) a has = ap (λ x. x.is_full) a.2
-  room p (Tick ∷ calls) a has = elim a.2.either [ inl e ↦ ap (λ x. x.is_full) e | inr dead ↦ dead.full ]
   room p (ReadIp ∷ calls) a has = elim has [
     | inl up ↦ ap (λ x. x.is_full) (a.2.up up)
     | inr more ↦ by (room a.0 calls a.1 more) a.0.stage refl
@@ -262,15 +262,20 @@ module _ {K : Type 0} (picks : Picking K) (hardware : Hardware) (credits : ℕ) 
   room p (WriteSa word ∷ calls) a has = elim a.2.frame
       [ inl e ↦ ap (λ x. x.is_full) e ∙ room a.0 calls a.1 has.1 | inr dead ↦ dead.1.full ]
   room p (Next blocks action bytes ∷ calls) a has = ap (λ x. x.is_full) a.2.0.frame ∙ room a.0 calls a.1 has.1
-  room p (PutAside ∷ calls) a has = ap (λ x. x.is_full) a.2 ∙ room a.0 calls a.1 has.1
-  room p (WasRead bytes (Err unasked) ∷ calls) a has = ap (λ x. x.is_full) a.2.unasked ∙ room a.0 calls a.1 has.1
   room p (WasRead bytes (Ok done) ∷ calls) a has =
       read_room a.0 p bytes done a.2 (room a.0 calls a.1 has.1) a.0.task refl has.0
-  room p (Went outcome result ∷ calls) a has = went_room a.0 p _ outcome result a.2 (room a.0 calls a.1 has.1)
-  room p (VolumeCame m unit (Ok done) ∷ calls) a has = ap (λ x. x.is_full) (a.2.came refl) ∙ room a.0 calls a.1 has.1
-  room p (VolumeCame m unit (Err fault) ∷ calls) a has = ap (λ x. x.is_full) a.2.refused ∙ room a.0 calls a.1 has.1
-  room p (VolumeWent unit result ∷ calls) a has = ap (λ x. x.is_full) a.2.frame ∙ room a.0 calls a.1 has.1
-  room p (Protect protected unit result ∷ calls) a has = ap (λ x. x.is_full) a.2.frame ∙ room a.0 calls a.1 has.1
+  room p (Went outcome (Ok done) ∷ calls) a has =
+      went_room a.0 p _ outcome (Ok done) a.2 (room a.0 calls a.1 has.1)
+  room p (LookAgain ∷ calls) a has = ap (λ x. x.is_full) a.2
+  room p (Tick ∷ calls) a has = elim a.2.either [ inl e ↦ ap (λ x. x.is_full) e | inr dead ↦ dead.full ]
+  room p (call ∷ calls) a has = by (minor picks call a.0 p a.2 tt) (room a.0 calls a.1 has.1)
+    where
+      by : Minor a.0 p → a.0.is_full ≡ false → p.is_full ≡ false
+      by (Still e) was = ap (λ x. x.is_full) e ∙ was
+      by (PutsAside e) was = ap (λ x. x.is_full) e ∙ was
+      by (ReadsAgain left e) was = ap (λ x. x.is_full) e
+      by (Mounts becomes place e) was = ap (λ x. x.is_full) e ∙ was
+      by (GivesUp d) was = d.full
 
   pub heard_so : (p : Port K) (calls : List Call) → AsksAlways calls → Answered picks start calls p
       → is_late p.stage ≡ true → p.written ≡ None

@@ -121,9 +121,6 @@ told_figure p e d some t shaped fits = by e.body refl
     unit : Option Shape
     unit = unit_found p.controller.settings.units e.unit
 
-    text : List ℕ
-    text = told_end p e
-
     not_poll : (body : EndBody) → kind_of_code e.code ≡ Some (kind_of_body body)
         → (kind_of_body body ≡ kinds_of.Status → ⊥) → nat_eq (slice_index (told_end p e) 8) 0x82 ≡ false
     not_poll body kind other = none (nat_eq (slice_index (told_end p e) 8) 0x82) refl
@@ -160,9 +157,4 @@ told_figure p e d some t shaped fits = by e.body refl
         ∙ ap (λ b. num (end_with_body b e d unit p.hardware) 16 4) same
         ∙ ap (λ b. num (end_bytes (record e { status = d.status; body = b })) 16 4) same
         ∙ four figure x.1 ∙ sym (ap figure_in same)
-    by (bodies.Moved count) same = nothing (bodies.Moved count) same (λ k. search (arith, k)) refl
-    by bodies.Bare same = nothing bodies.Bare same (λ k. search (arith, k)) refl
-    by (bodies.Abort other) same = nothing (bodies.Abort other) same (λ k. search (arith, k)) refl
-    by (bodies.UnitStatus x y z v w) same = nothing (bodies.UnitStatus x y z v w) same (λ k. search (arith, k)) refl
-    by (bodies.Controller x y) same = nothing (bodies.Controller x y) same (λ k. search (arith, k)) refl
-    by (bodies.Online x y z v) same = nothing (bodies.Online x y z v) same (λ k. search (arith, k)) refl
+    by body same = nothing body same (λ k. search (arith, k)) refl

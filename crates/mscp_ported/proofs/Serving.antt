@@ -1,11 +1,12 @@
 -- Whoever always asks for blocks has a step told between two polls of a command that waits.
-use Rattle.mscp_ported.proofs.Common.{Action, Answered, AsksBehindPolls, AsksForBlocks, Becomes, Bool, Call, Commands, Descriptor, End, Err, First, Hardware, Hears, Holdings, IsAsNew, IsMadeOf, IsReadingText, IsServedSince, IsStepping, List, LookAgain, MatchOption, Next, None, Ok, Option, Outgoing, Picking, Port, Protect, PutAside, ReadIp, Record, Responses, Result, SeesText, SendFault, Sends, Sent, ServesBetweenPolls, Side, Some, Stage, TakesPoll, Task, TellsStep, Tick, VolumeCame, VolumeWent, Wants, WasRead, Went, WriteIp, WriteSa, [], answer_to_message, answered_to, ap, arith, balance_of, bytes_read, command_of, cond, connection_in, eq-eqb, false, false≢true, figure_of_name, figure_on, handed, header_fault, inl, inr, is_dead, is_none, is_ok, is_owned, is_taken_text, length, length_in, name_on, none-some, none_or_some, num, outstanding_of, own_answer, own_end_of, read_size, refl, refusal, sent_unless, slice_index, subst, sym, taken_as, taken_by, true, volume_named, ℕ, ◌&&◌, ◌==◌, ◌∙◌, ◌∷◌, ◌≡◌, ◌≢◌, ◌≤◌, ◌⊎◌}
-use Rattle.mscp_controller.specs.declared.entry.Sent.TheVariants as sents
+use Rattle.mscp_ported.proofs.Common.{Action, Answered, AsksBehindPolls, AsksForBlocks, Becomes, Bool, Call, Commands, Descriptor, End, Err, First, Hardware, Hears, Holdings, IsAsNew, IsMadeOf, IsReadingText, IsServedSince, IsStepping, List, MatchOption, Next, None, Ok, Option, Outgoing, Picking, Port, ReadIp, Record, Responses, Result, SeesText, SendFault, Sends, Sent, ServesBetweenPolls, Side, Some, TakesPoll, Task, TellsStep, Wants, WasRead, Went, WriteIp, WriteSa, [], answered_to, ap, arith, blocks, bytes_read, cond, connection_in, eq-eqb, false, false≢true, figure_of_name, figure_on, header_fault, inl, inr, is_dead, is_owned, is_queued, length, length_in, name_on, none-some, num, own_end_of, read_size, refl, slice_index, subst, sym, takes, true, ℕ, ◌==◌, ◌∙◌, ◌∷◌, ◌≡◌, ◌≢◌, ◌≤◌, ◌⊎◌}
+use Rattle.mscp_ported.proofs.Minor.{GivesUp, Minor, Mounts, PutsAside, ReadsAgain, Still, minor}
 use Rattle.mscp_port.specs.declared.stage.Stage.TheVariants as stages
 use Rattle.mscp_port.specs.declared.task.Task.TheVariants as tasks
-use Rattle.mscp_ported.proofs.Answering.{handed_so, own_so, poll_command, poll_handed, polled}
+use Rattle.mscp_ported.proofs.Answering.{poll_sent}
 use Rattle.mscp_ported.proofs.Ended.{lived}
-use Rattle.mscp_ported.proofs.Owning.{and_false}
+use Rattle.mscp_ported.proofs.Reading.{Answers, Queues, read_is}
+use Rattle.mscp_ported.proofs.Decided.{is_alive}
 use Rattle.mscp_ported.proofs.Turning.{IsHearing, text_quiet}
 use Rattle.mscp_ported.proofs.Turns.{IsNoNext, reads_on, wants_hears}
 
@@ -81,94 +82,42 @@ module _ {K : Type 0} (picks : Picking K) (old new : Port K) (lives : is_dead ne
   owes_on ReadIp never none r = elim r.frame [ inl e ↦ as_it_was _ e refl | inr d ↦ dies d.0 d.1 ]
   owes_on (WriteSa word) never none r = elim r.frame [ inl e ↦ as_it_was _ e refl | inr d ↦ dies d.0 d.1 ]
   owes_on (Next blocks action bytes) never none r = as_it_was _ r.0.frame refl
-  owes_on PutAside never none r = as_it_was _ r refl
   owes_on (WasRead bytes (Ok done)) never none r = read_owes bytes done old new r lives owes old.task refl
-  owes_on (WasRead bytes (Err unasked)) never none r = as_it_was _ r.unasked refl
   owes_on (Went outcome (Ok done)) never none r = elim r.commands [
     | inl k ↦ k.owes ∙ owes
     | inr more ↦ elim more [ inl block ↦ absurd (none block.0) | inr d ↦ dies d.0 d.1 ]
   ]
-  owes_on (Went outcome (Err unasked)) never none r = as_it_was _ r.unasked refl
-  owes_on LookAgain never none r = as_it_was _ r refl
-  owes_on Tick never none r = elim r.either [ inl e ↦ as_it_was _ e refl | inr d ↦ dies 9 d ]
-  owes_on (VolumeCame m unit (Ok done)) never none r = as_it_was _ (r.came refl) refl
-  owes_on (VolumeCame m unit (Err fault)) never none r = as_it_was _ r.refused refl
-  owes_on (VolumeWent unit result) never none r = as_it_was _ r.frame refl
-  owes_on (Protect protected unit result) never none r = as_it_was _ r.frame refl
+  owes_on call never none r = by (minor picks call old new r tt)
+    where
+      by : Minor old new → new.owes_block ≡ true
+      by (Still e) = as_it_was _ e refl
+      by (PutsAside e) = as_it_was _ e refl
+      by (ReadsAgain left e) = as_it_was _ e refl
+      by (Mounts becomes place e) = as_it_was _ e refl
+      by (GivesUp d) = dies 9 d
 
 -- ---- a poll
 
 module _ {K : Type 0} (bytes : List ℕ) (done : Unit) (old new : Port K) (r : Hears bytes old (Ok done) new) where
-  module _ (slot : Descriptor) (size : ℕ) (foreign : Bool) (at : old.task ≡ tasks.Text slot size foreign)
-      (took : taken_by (WasRead bytes (Ok done)) old ≡ bytes ∷ []) (poll : slice_index bytes 8 ≡ 2)
-      (long : 16 ≤ length bytes) where
-    abbrev h : Holdings K
-    h = old.controller
-
-    abbrev sent : List ℕ
-    sent = handed old.controller.settings.units bytes
-
-    sees : SeesText slot foreign bytes old new
-    sees = (r.sees refl).text slot size foreign at
-
-    -- the controller takes it, and the port has no answer of its own
-    is_taken : cond (is_none (own_answer foreign (volume_named old bytes) bytes) && is_ok (answered_to old bytes))
-        (bytes ∷ []) [] ≡ bytes ∷ []
-    is_taken = ap (λ b. cond (is_none (own_answer foreign (volume_named old bytes) bytes)
-        && is_ok (answer_to_message First old.controller b)) (bytes ∷ []) [])
-        (handed_so old.controller.settings.units bytes)
-        ∙ ap (λ t. cond (is_taken_text old bytes t) (bytes ∷ []) []) (sym at) ∙ took
-
-    none_taken : (is_none (own_answer foreign (volume_named old bytes) bytes) && is_ok (answered_to old bytes)) ≡ false
-        → ⊥
-    none_taken none = search (arith, sym (ap (λ b. cond b (bytes ∷ []) []) none) ∙ is_taken)
-
-    answers : own_end_of old foreign bytes ≡ None
-        → refusal (balance_of First h) (outstanding_of First h) sent ≡ None → new.owes_block ≡ true
-    answers none e =
-        let same : command_of sent ≡ polled bytes =
-        ap command_of (handed_so old.controller.settings.units bytes
-        ∙ poll_handed old.controller.settings.units bytes poll) ∙ poll_command bytes poll long in
-        let answered : answered_to old bytes ≡ Ok (sents.Answered (num bytes 0 4) None) =
-        ap (sent_unless First h (command_of sent)) e ∙ ap (λ c. Ok (taken_as First h c)) same in
-        ap (λ (p : Port K). p.owes_block) (sees.sent (sents.Answered (num bytes 0 4) None) none answered).frame
-        ∙ ap (λ b. cond b true old.owes_block) (eq-eqb (slice_index bytes 8) 2 poll)
-
-    judged : (o : Option SendFault) → refusal (balance_of First h) (outstanding_of First h) sent ≡ o
-        → own_end_of old foreign bytes ≡ None → new.owes_block ≡ true
-    judged None e none = answers none e
-    judged (Some fault) e none = absurd (none_taken (and_false
-        (is_none (own_answer foreign (volume_named old bytes) bytes)) (is_ok (answered_to old bytes))
-        (ap is_ok (ap (sent_unless First h (command_of sent)) e))))
-
-    text_polls : new.owes_block ≡ true
-    text_polls = elim (none_or_some (own_end_of old foreign bytes)) [
-      | inl none ↦ judged (refusal (balance_of First h) (outstanding_of First h) sent) refl none
-      | inr own ↦
-          let o = own_so foreign (volume_named old bytes) bytes own.0 own.1 in
-          absurd (none_taken (ap (λ x. is_none x && is_ok (answered_to old bytes)) o.1))
-    ]
-
+  -- the controller answers it at once
   read_polls : (number : ℕ) → TakesPoll number (WasRead bytes (Ok done)) old
       → (new.owes_block ≡ true) × IsReadingText old.task
-  read_polls number takes = by old.task refl
+  read_polls number takes = elim (read_is bytes done old new r) [
+    | inl s ↦ absurd (search (arith, sym s.1 ∙ takes.0))
+    | inr g ↦ (by g.slot g.how, subst (λ x. IsReadingText x) (sym g.at) tt)
+  ]
     where
-      by : (t : Task) → old.task ≡ t → (new.owes_block ≡ true) × IsReadingText old.task
-      by (tasks.Text slot size foreign) at = (
-        text_polls slot size foreign at takes.0 takes.1 takes.2,
-        subst (λ x. IsReadingText x) (sym at) tt,
-      )
-      by t at = absurd (search (
+      by : (slot : Descriptor) → Queues slot bytes old new ⊎ Answers slot bytes old new → new.owes_block ≡ true
+      by slot (inl q) = absurd (search (
         arith,
-        sym (ap (λ x. cond (is_taken_text old bytes x) (bytes ∷ []) []) at) ∙ takes.0,
+        sym q.later ∙ ap (is_queued old.controller.settings)
+            (poll_sent old.controller.settings.units bytes takes.1 takes.2),
       ))
+      by slot (inr x) = ap (λ (p : Port K). p.owes_block) x.sends.frame
+          ∙ ap (λ b. cond b true old.owes_block) (eq-eqb (slice_index bytes 8) 2 takes.1)
 
   alive_read : is_dead old.stage ≡ false
-  alive_read = by old.stage refl
-    where
-      by : (s : Stage) → old.stage ≡ s → is_dead old.stage ≡ false
-      by (stages.Dead code) at = absurd (search (arith, r.dead code at))
-      by s at = ap is_dead at
+  alive_read = is_alive old (λ code e. search (arith, r.dead code e))
 
 -- behind a poll a block is owed, and no message is looked for at once; before it a text was read by a port that lives
 record Polls {K : Type 0} (old new : Port K) : Type 0 where

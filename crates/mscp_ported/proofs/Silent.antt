@@ -1,5 +1,6 @@
 -- While a message is read and nothing goes out, no end waits for the host.
-use Rattle.mscp_ported.proofs.Common.{Action, Answered, Becomes, Bool, Call, Choice, Clears, Commands, Descriptor, Drops, End, Err, GivesBack, Goes, Hardware, Hears, Holdings, IfSome, IsAlive, IsAsNew, IsDue, IsMadeOf, IsOutcomeOf, Leaves, List, LookAgain, LooksForOut, MatchOption, Name, Next, None, Ok, Option, Outcome, Picking, Port, Protect, PutAside, ReadIp, Responses, Result, Rings, SeesText, SendFault, Sent, Some, Stage, TakesBegun, TakesBlock, TakesStep, Task, Tick, Verdict, Volume, VolumeCame, VolumeWent, Wants, WasRead, Went, WriteIp, WriteSa, [], answered_to, ap, arith, aside, block_begun, block_served, bytes_read, cond, connection_in, end_of, false, false≢true, header_fault, hears_of, inl, inr, is_owned, length_in, looks_or_not, none-some, none_or_not, num, own_end_of, place_in, read_again, read_size, refl, rings_named, slice_get, start_of, step_answered, step_at, step_task, subst, sym, true, vector_in, ℕ, ◌%◌, ◌+◌, ◌/◌, ◌<◌, ◌==◌, ◌∙◌, ◌∷◌, ◌≡◌, ◌≢◌, ◌≤◌, ◌⊎◌}
+use Rattle.mscp_ported.proofs.Common.{Action, Answered, Becomes, Bool, Call, Choice, Clears, Commands, Descriptor, Drops, End, Err, GivesBack, Goes, Hardware, Hears, Holdings, IfSome, IsAlive, IsAsNew, IsDue, IsMadeOf, IsOutcomeOf, Leaves, List, LooksForOut, MatchOption, Name, Next, None, Ok, Option, Outcome, Picking, Port, ReadIp, Responses, Result, Rings, SeesText, SendFault, Sent, Some, Stage, TakesBegun, TakesBlock, TakesStep, Task, Verdict, Volume, Wants, WasRead, Went, WriteIp, WriteSa, [], answered_to, ap, arith, aside, block_begun, block_served, blocks, bytes_read, cond, connection_in, end_of, ends, false, false≢true, header_fault, hears_of, inl, inr, is_owned, length_in, looks_or_not, name, none-some, none_or_not, num, own_end_of, read_again, read_size, refl, rings_named, slice_get, start_of, step_answered, step_at, step_task, subst, sym, true, vector_in, ℕ, ◌%◌, ◌+◌, ◌/◌, ◌<◌, ◌==◌, ◌∙◌, ◌∷◌, ◌≡◌, ◌≢◌, ◌≤◌, ◌⊎◌}
+use Rattle.mscp_ported.proofs.Minor.{GivesUp, Minor, Mounts, PutsAside, ReadsAgain, Still, minor}
 use Rattle.mscp_port.specs.declared.stage.Stage.TheVariants as stages
 use Rattle.mscp_port.specs.declared.task.Task.TheVariants as tasks
 use Rattle.mscp_ported.proofs.Coming.{ends_of}
@@ -264,26 +265,18 @@ module _ {K : Type 0} (old new : Port K) where
     | inr dead ↦ free dead.1.task
   ]
   by_call picks (Next blocks action bytes) r was = wants (picks old.controller.picker) blocks action r.0 was
-  by_call picks PutAside r was = on (λ h. aside_needs old.task (subst (λ t. needs t ≡ true) (ap (λ p. p.task) r) h))
-      (ap (λ p. p.outgoing) r) (ap (λ p. ends_of p.controller) r) was
   by_call picks (WasRead bytes (Ok done)) r was = read bytes done r was old.task refl
-  by_call picks (WasRead bytes (Err unasked)) r was = same r.unasked was
   by_call picks (Went outcome (Ok done)) r was = other (went (picks old.controller.picker) outcome done r old.task refl)
-  by_call picks (Went outcome (Err unasked)) r was = same r.unasked was
-  by_call picks LookAgain r was = on (λ h. again_needs old.task (subst (λ t. needs t ≡ true) (ap (λ p. p.task) r) h))
-      (ap (λ p. p.outgoing) r) (ap (λ p. ends_of p.controller) r) was
-  by_call picks Tick r was = elim r.either [
-    | inl e ↦ on (λ h. again_needs old.task (subst (λ t. needs t ≡ true) (ap (λ p. p.task) e) h))
-        (ap (λ p. p.outgoing) e) (ap (λ p. ends_of p.controller) e) was
-    | inr dead ↦ free dead.task
-  ]
-  by_call picks (VolumeCame m unit (Ok done)) r was =
-      moved (place_in old.controller.settings.units unit) _ (r.came refl)
-      was
-  by_call picks (VolumeCame m unit (Err fault)) r was = same r.refused was
-  by_call picks (VolumeWent unit result) r was = moved (place_in old.controller.settings.units unit) _ r.frame was
-  by_call picks (Protect protected unit result) r was =
-      moved (place_in old.controller.settings.units unit) _ r.frame was
+  by_call picks call r was = by (minor picks call old new r tt)
+    where
+      by : Minor old new → IsSilent new
+      by (Still e) = same e was
+      by (PutsAside e) = on (λ h. aside_needs old.task (subst (λ t. needs t ≡ true) (ap (λ p. p.task) e) h))
+          (ap (λ p. p.outgoing) e) (ap (λ p. ends_of p.controller) e) was
+      by (ReadsAgain left e) = on (λ h. again_needs old.task (subst (λ t. needs t ≡ true) (ap (λ p. p.task) e) h))
+          (ap (λ p. p.outgoing) e) (ap (λ p. ends_of p.controller) e) was
+      by (Mounts becomes place e) = moved place _ e was
+      by (GivesUp d) = free d.task
 
 module _ {K : Type 0} (picks : Picking K) (hardware : Hardware) (credits : ℕ) (controller : Holdings K)
     (start : Port K) (made : IsMadeOf hardware credits controller start) where

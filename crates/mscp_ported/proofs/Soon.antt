@@ -15,9 +15,6 @@ more_acts (WasRead bytes (Err unasked)) calls = search arith
 more_acts (Went outcome (Err unasked)) calls = search arith
 more_acts call calls = search arith
 
-abbrev bound_of : {K : Type 0} → Port K → ℕ
-bound_of p = to_do p.task
-
 -- it still goes out, or is the first that is gone
 abbrev Far : {K : Type 0} (picks : Picking K) (o : Outgoing) (p q : Port K) (calls : List Call)
     → Answered picks p calls q → Type 0

@@ -1,15 +1,13 @@
 -- The end of a transfer that says Success stands for blocks that were moved, each at its place.
-use Rattle.mscp_ported.proofs.Common.{Answered, AsksAlways, Block, Bool, Buffer, Call, Command, Connection, Contains, Drive, End, Err, Finish, Finishes, First, Hardware, Holdings, IsFinish, IsMadeOf, List, Made, Makes, MatchOption, MoveKind, Name, None, NotBegun, Ok, Option, Order, Outcome, Picking, Port, Record, Report, Result, Second, Shape, Some, StandsFor, TakesBegun, TakesBlock, Task, Upcoming, Verdict, Went, [], ap, append-nil, arith, asked, begun_step, block_begun, block_moved, block_served, block_told, block_touched, blocks_in, come, command_of, cond, done_by, drive_at, drive_of, end_brought, end_given, eqb-true, false, false≢true, filter, find, found_is, goes_on, good_status, has_name, inl, inr, is_begun, is_numbered, is_of, is_same, kept_found, left_of, length, min, move_byte, moved, name_of, name_on, nat_eq, nat_lt, none-some, num, of_first, opcode_of, opcodes, option_map, order_weight, outcome_at, outcome_body, outcome_status, position, record_at, refl, row_of, same_Some, same_is, served_name, slice_index, step_told, subst, suc, sym, touches, transfers, true, upcoming_begun, upcoming_of, wish, ℕ, ◌&&◌, ◌*◌, ◌++◌, ◌+◌, ◌-◌, ◌<◌, ◌∙◌, ◌∷◌, ◌≡◌, ◌≤◌, ◌⊎◌}
-use Rattle.mscp_ported.proofs.Stepping.{IsHow}
+use Rattle.mscp_ported.proofs.Common.{Answered, AsksAlways, Bool, Buffer, Call, Command, Connection, Contains, Dies, Drive, End, First, Hardware, Holdings, IsMadeOf, List, MoveKind, Name, None, Ok, Option, Order, Outcome, Picking, Port, Record, Second, Shape, Some, StandsFor, Upcoming, Verdict, Went, [], ap, append-nil, arith, asked, begun_step, block_begun, block_moved, block_told, block_touched, blocks, blocks_in, come, command_of, cond, done_by, drive_of, drop, end_given, eqb-true, false, false≢true, filter, find, found_is, given, goes_on, good_status, has_name, inl, inr, is_numbered, is_of, is_same, kept_found, left_of, length, min, move_byte, moved, name, name_of, name_on, nat_eq, nat_lt, none-some, num, of_first, opcode_of, opcodes, option_map, order_weight, outcome_at, outcome_body, outcome_status, position, record_at, refl, row_of, same_Some, same_is, slice_index, step_told, subst, suc, sym, touches, transfers, true, upcoming_begun, upcoming_of, wish, zero, ℕ, ◌&&◌, ◌*◌, ◌++◌, ◌+◌, ◌-◌, ◌<◌, ◌∙◌, ◌∷◌, ◌≡◌, ◌≤◌, ◌⊎◌}
+use Rattle.mscp_ported.proofs.Stepping.{IsHow, Serves, ServesNone, drive_in, end_served, went_is}
 use Rattle.mscp_packet.specs.declared.class.Opcode.TheVariants as codes
 use Rattle.mscp_packet.specs.declared.command.MoveKind.TheVariants as kinds
 use Rattle.mscp_packet.specs.declared.command.Order.TheVariants as orders
 use Rattle.mscp_packet.specs.declared.end.EndBody.TheVariants as bodies
 use Rattle.mscp_drive.specs.declared.block.Block.TheVariants as blocks
-use Rattle.mscp_queue.specs.declared.report.Report.TheVariants as reports
 use Rattle.mscp_port.specs.declared.action.Action.TheVariants as actions
-use Rattle.mscp_port.specs.declared.task.Task.TheVariants as tasks
-use Rattle.mscp_ported.proofs.Coming.{brought_for, come_so, steps_bring}
+use Rattle.mscp_ported.proofs.Coming.{brought_for, come_so, ends_of}
 use Rattle.mscp_ported.proofs.Keeping.{are_owned}
 use Rattle.mscp_ported.proofs.Making.{transfer_so, verdict_so}
 use Rattle.mscp_ported.proofs.Moved.{moved_at}
@@ -91,11 +89,22 @@ brought_one First (Some x) e there = (refl, search (arith, there))
 brought_one First None e there = search (arith, there)
 brought_one Second o e there = search (arith, there)
 
-begun_some : (o : Option Block) (n : Option Name) (x : Made) (xs : List Made) → IsFinish o n (x ∷ xs)
-    → (name : Name) × (n ≡ Some name)
-begun_some (Some block) (Some name) x xs h = (name, refl)
-begun_some (Some block) None x xs h = search (arith, h)
-begun_some None n x xs h = search (arith, h)
+-- none comes where no step is taken
+pub none_served : {K : Type 0} (e : End) (old new : Port K) → ServesNone old new ⊎ Dies old new
+    → Contains (come old new) e → ⊥
+none_served e old new none there = none_there (subst (λ xs. Contains xs e) (nothing none) there)
+  where
+    none_there : Contains [] e → ⊥
+    none_there h = search (arith, h)
+
+    nothing : ServesNone old new ⊎ Dies old new → come old new ≡ []
+    nothing (inl n) = come_so old new [] (ap ends_of n.0.0 ∙ sym (append-nil (ends_of old.controller)))
+    nothing (inr d) = ap (drop (length (ends_of old.controller))) (ap ends_of d.1.controller)
+        ∙ drop_none (length (ends_of old.controller))
+      where
+        drop_none : (n : ℕ) → drop {A = End} n [] ≡ []
+        drop_none zero = refl
+        drop_none (suc n) = refl
 
 -- the step that is begun is of the command that waits under its name
 pub step_name : {K : Type 0} (h : Holdings K) (name : Name) (u : Upcoming) → h.begun ≡ Some name → begun_step h ≡ Some u
@@ -219,16 +228,19 @@ module _ {K : Type 0} (picks : Picking K) (hardware : Hardware) (credits : ℕ) 
       )
 
   -- the command was served that the step is of
-  served_so : (name : Name) → a.0.controller.begun ≡ Some name → (place : ℕ) → place < length a.0.controller.waiting
-      → name_of (record_at a.0.controller.waiting place) ≡ name → name.connection ≡ First
-      → end_given blocks.Good (drive_at a.0.controller.drives a.0.controller.waiting place)
-      (record_at a.0.controller.waiting place) ≡ Some e → So
-  served_so name begun place inside named first given =
+  served_so : (verdict : Verdict) → IsHow a.0 outcome verdict → (x : Serves verdict a.0 p)
+      → (record_at a.0.controller.waiting x.place).connection ≡ First
+      → end_given (block_told verdict) (drive_in a.0 x.place) (record_at a.0.controller.waiting x.place) ≡ Some e → So
+  served_so verdict how x first given =
       let rs = a.0.controller.waiting in
+      let name = x.name in
+      let place = x.place in
+      let begun = x.begun in
       let n = name.reference in
       let r0 = record_at rs place in
-      let d = drive_at a.0.controller.drives rs place in
-      let same : name ≡ name_on First n = ap (λ c. name_on c n) first in
+      let d = drive_in a.0 place in
+      let same : name ≡ name_on First n = ap (λ c. name_on c n)
+      (sym (ap (λ (y : Name). y.connection) x.is) ∙ first) in
       let sn = step_name a.0.controller name u begun step in
       let at = moved_at a.0 (wish calls) outcome u kind block asks.0 s told step is_move in
       let found = kept_found (is_of u.connection u.command.reference) a.0.buffers.items at.0
@@ -239,8 +251,8 @@ module _ {K : Type 0} (picks : Picking K) (hardware : Hardware) (credits : ℕ) 
       ∙ ap (λ (x : Name). x.reference) (same_is (name_of sn.0) name (found_is (has_name name) rs sn.0 sn.1)) in
       let sole : filter (is_numbered n) rs ≡ o.0 ∷ [] =
       subst (λ m. filter (is_numbered m) rs ≡ o.0 ∷ []) reference o.2.sole in
-      let mine : is_numbered n r0 ≡ true = is_same (name_of r0) (name_on First n) (named ∙ same) in
-      let r_is : r0 ≡ o.0 = served_itself n blocks.Good d rs place inside o.0 sole mine in
+      let mine : is_numbered n r0 ≡ true = is_same (name_of r0) (name_on First n) (x.is ∙ same) in
+      let r_is : r0 ≡ o.0 = served_itself n blocks.Good d rs place x.servable.inside o.0 sole mine in
       let sole0 : filter (is_numbered n) rs ≡ r0 ∷ [] = sole ∙ ap (λ x. x ∷ []) (sym r_is) in
       let found0 : find (has_name name) rs ≡ Some r0 =
       subst (λ x. find (has_name x) rs ≡ Some r0) (sym same) (found_sole (is_numbered n) rs r0 sole0) in
@@ -254,47 +266,15 @@ module _ {K : Type 0} (picks : Picking K) (hardware : Hardware) (credits : ℕ) 
       stands_for n d r0 m.0 m.1 m.2 m.3.own m.3.number m.3.order m.3.opcode m.3.address m.3.moves
       (kind_same (block_touched d.online r0.command.order r0.done) r0.command.order kind m.2 (num m.1 12 4)
       (num m.1 28 4) block m.3.order move0)
-      (last_so d r0 e m.2 (num m.1 12 4) (num m.1 28 4) m.3.order online given)
+      (last_so d r0 e m.2 (num m.1 12 4) (num m.1 28 4) m.3.order online
+      (ap (λ k. end_given k d r0) (sym (good_back a.0 outcome verdict how told)) ∙ given))
 
-  by_step : (name : Name) → a.0.controller.begun ≡ Some name → (verdict : Verdict) → IsHow a.0 outcome verdict
-      → TakesBegun (picks a.0.controller.picker) verdict a.0 p → So
-  by_step name begun verdict how h =
-      let t = subst (λ o. MatchOption o (p ≡ record a.0 { task = tasks.Free })
-      (λ name. TakesBlock (picks a.0.controller.picker) name.connection name.reference verdict a.0 p)) begun h in
-      by t.finished.0 t.finished.1
-    where
-      by : (result : Result Report NotBegun)
-          → Finishes (picks a.0.controller.picker) (name_on name.connection name.reference) (block_told verdict)
-          a.0.controller result p.controller → So
-      by (Err not_begun) f = absurd (false≢true (sym f.0
-          ∙ (ap (is_begun (name_on name.connection name.reference)) begun ∙ is_same name name refl)))
-      by (Ok reports.Idle) f = absurd (none-some name (sym f.1.serves.1 ∙ begun))
-      by (Ok (reports.Served other number unit lbn started seek ended)) f =
-          let place = f.1.serves.0 in
-          let sv = f.1.serves.1 in
-          let named = served_name a.0.controller.begun (name_on name.connection name.reference)
-          (record_at a.0.controller.waiting place) f.0 sv.next.same in
-          let came = come_so a.0 p (brought_for name.connection ended)
-          (steps_bring (picks a.0.controller.picker) name.connection name.reference (block_told verdict)
-          a.0.controller p.controller (Ok (reports.Served other number unit lbn started seek ended)) f) in
-          let one = brought_one name.connection ended e (subst (λ xs. Contains xs e) came there) in
-          served_so name begun place sv.next.servable.inside named one.0
-          (ap (λ k. end_given k (drive_at a.0.controller.drives a.0.controller.waiting place)
-          (record_at a.0.controller.waiting place)) (sym (good_back a.0 outcome verdict how told))
-          ∙ sym (ap (λ x. end_brought (Ok x)) sv.told) ∙ one.1)
-
-  pub stands : (via : Connection) (reference : ℕ) (result : Result Report NotBegun)
-      → Makes (Went outcome (Ok done)) a.0 p (Finish via reference blocks.Good result ∷ []) → So
-  stands via reference result makes =
-      let n = begun_some (step_told a.0 outcome a.0.task) a.0.controller.begun
-      (Finish via reference blocks.Good result) []
-      makes in
-      by n.0 n.1 a.0.task refl
-    where
-      by : (name : Name) → a.0.controller.begun ≡ Some name → (t : Task) → a.0.task ≡ t → So
-      by name begun (tasks.Step verdict) at =
-          by_step name begun verdict (inl at) ((a.2.moves refl).step verdict at)
-      by name begun tasks.Transfer at =
-          by_step name begun (block_served a.0 outcome (block_begun a.0)) (inr (at, refl))
-          ((a.2.moves refl).transfer at)
-      by name begun t at = absurd (none-some blocks.Good (sym (ap (step_told a.0 outcome) at) ∙ told))
+  pub stands : So
+  stands = elim (went_is (picks a.0.controller.picker) outcome done a.0 p a.2) [
+    | inl x ↦
+        let one = brought_one (record_at a.0.controller.waiting x.2.place).connection (end_served x.0 a.0 x.2.place) e
+        (subst (λ xs. Contains xs e) (come_so a.0 p (brought_for
+        (record_at a.0.controller.waiting x.2.place).connection (end_served x.0 a.0 x.2.place)) x.2.ends) there) in
+        served_so x.0 x.1 x.2 one.0 one.1
+    | inr more ↦ absurd (none_served e a.0 p more there)
+  ]

@@ -1,5 +1,6 @@
 -- By each action that is done fewer are left before an end that waits begins to go out.
-use Rattle.mscp_ported.proofs.Common.{Becomes, Bool, Call, Choice, Commands, Descriptor, End, Err, GivesBack, Goes, GoesOnWithBlock, Hears, IsAsNew, IsForgotten, IsGiven, IsOutcomeOf, List, LookAgain, MatchOption, Next, None, Ok, Option, Outcome, Outgoing, Picking, Port, Protect, PutAside, ReadIp, Responses, Result, Rings, SeesHeader, SeesText, SendFault, Sends, Sent, Side, Some, Task, Tick, VolumeCame, VolumeWent, WasRead, Went, WriteIp, WriteSa, WritesOut, [], acts, answered_to, ap, arith, aside, block_told, bytes_read, cond, connection_in, counted, end_brought, end_bytes, end_kind, false, false≢true, handed, header_fault, heard, hears_of, inl, inr, is_flagged, is_owned, length, length-append, length_in, none-some, none_or_not, not, num, own_end_of, read_again, read_size, refl, slice_get, slots_of, step_at, subst, sym, taken_or_not, true, vector_in, ℕ, ◌+◌, ◌==◌, ◌∙◌, ◌∷◌, ◌≡◌, ◌≢◌, ◌≤◌, ◌⊎◌}
+use Rattle.mscp_ported.proofs.Common.{Becomes, Bool, Call, Choice, Commands, Descriptor, End, Err, GivesBack, Goes, GoesOnWithBlock, Hears, IsAsNew, IsForgotten, IsGiven, IsOutcomeOf, List, MatchOption, Next, None, Ok, Option, Outcome, Outgoing, Picking, Port, ReadIp, Responses, Result, Rings, SeesHeader, SeesText, SendFault, Sends, Sent, Side, Some, Task, WasRead, Went, WriteIp, WriteSa, WritesOut, [], acts, answered_to, ap, arith, aside, block_told, blocks, bound, bytes_read, cond, connection_in, counted, end_brought, end_bytes, end_kind, false, false≢true, given, handed, header_fault, heard, hears_of, inl, inr, is_flagged, is_owned, length, length-append, length_in, none-some, none_or_not, not, num, own_end_of, read_again, read_size, refl, slice_get, slots_of, step_at, subst, sym, taken_or_not, true, vector_in, ℕ, ◌+◌, ◌==◌, ◌∙◌, ◌∷◌, ◌≡◌, ◌≢◌, ◌≤◌, ◌⊎◌}
+use Rattle.mscp_ported.proofs.Minor.{GivesUp, Minor, Mounts, PutsAside, ReadsAgain, Still, minor}
 use Rattle.mscp_controller.specs.declared.entry.Sent.TheVariants as sents
 use Rattle.mscp_port.specs.declared.stage.Stage.TheVariants as stages
 use Rattle.mscp_port.specs.declared.task.Task.TheVariants as tasks
@@ -12,11 +13,6 @@ use Rattle.mscp_ported.proofs.Doing.{IsSaying, again_clear, aside_clear, hears_c
 -- so many actions at most are done before nothing is in hand, with this in hand
 abbrev pub rest : Task → ℕ
 rest tasks.Free = 0
-rest (tasks.Step verdict) = 1
-rest tasks.Transfer = 1
-rest tasks.Settle = 1
-rest (tasks.Clear done) = 1
-rest tasks.Interrupt = 1
 rest (tasks.Word side) = 2
 rest (tasks.Neighbour side) = 3
 rest (tasks.Return side slot) = 4
@@ -25,6 +21,7 @@ rest (tasks.Text slot size foreign) = 5
 rest (tasks.Slot Responses) = 6
 rest (tasks.Header slot) = 6
 rest (tasks.Slot Commands) = 7
+rest task = 1
 
 -- the rings are in use, nothing goes out, the ring of responses wasn't found full, no step of the initialisation waits,
 -- and the controller has an end
@@ -137,29 +134,19 @@ module _ {K : Type 0} (old : Port K) (s : IsWaiting old) (clear : IsClear old.ta
     ]
     | inr busy ↦ kept new (r.0.goes_on busy)
   ]
-  by_other picks new PutAside r h = subst (Goal old 0 (rest old.task)) (sym r)
-      (on 0 (rest old.task) (record old { task = aside old.task }) refl s.out s.room refl s.end
-      (aside_clear old.task clear) (search (arith, aside_less old.task)))
   by_other picks new (WasRead bytes (Ok done)) r h = absurd (search arith)
-  by_other picks new (WasRead bytes (Err unasked)) r h = kept new r.unasked
   by_other picks new (Went outcome (Ok done)) r h = absurd (search arith)
-  by_other picks new (Went outcome (Err unasked)) r h = kept new r.unasked
-  by_other picks new LookAgain r h = subst (Goal old 0 (rest old.task)) (sym r)
-      (on 0 (rest old.task) (record old { is_full = false; task = read_again old.task }) refl s.out refl refl s.end
-      (again_clear old.task clear) (search (arith, again_less old.task)))
-  by_other picks new Tick r h = elim r.either [
-    | inl e ↦ subst (Goal old 0 (rest old.task)) (sym e)
-        (on 0 (rest old.task) (record old { is_full = false; task = read_again old.task; left = new.left }) refl s.out
-        refl refl s.end (again_clear old.task clear) (search (arith, again_less old.task)))
-    | inr d ↦ dead 0 (rest old.task) 9 new d
-  ]
-  by_other picks new (VolumeCame m unit (Ok done)) r h = subst (Goal old 0 (rest old.task)) (sym (r.came refl))
-      (on 0 (rest old.task) _ refl s.out s.room refl s.end (step_clear _ old.task clear) (search (arith, step_less)))
-  by_other picks new (VolumeCame m unit (Err fault)) r h = kept new r.refused
-  by_other picks new (VolumeWent unit result) r h = subst (Goal old 0 (rest old.task)) (sym r.frame)
-      (on 0 (rest old.task) _ refl s.out s.room refl s.end (step_clear _ old.task clear) (search (arith, step_less)))
-  by_other picks new (Protect protected unit result) r h = subst (Goal old 0 (rest old.task)) (sym r.frame)
-      (on 0 (rest old.task) _ refl s.out s.room refl s.end (step_clear _ old.task clear) (search (arith, step_less)))
+  by_other picks new call r h = by (minor picks call old new r tt)
+    where
+      by : Minor old new → Goal old 0 (rest old.task) new
+      by (Still e) = kept new e
+      by (PutsAside e) = subst (Goal old 0 (rest old.task)) (sym e) (on 0 (rest old.task) _ refl s.out s.room refl
+          s.end (aside_clear old.task clear) (search (arith, aside_less old.task)))
+      by (ReadsAgain left e) = subst (Goal old 0 (rest old.task)) (sym e) (on 0 (rest old.task) _ refl s.out refl refl
+          s.end (again_clear old.task clear) (search (arith, again_less old.task)))
+      by (Mounts becomes place e) = subst (Goal old 0 (rest old.task)) (sym e) (on 0 (rest old.task) _ refl s.out
+          s.room refl s.end (step_clear _ old.task clear) (search (arith, step_less)))
+      by (GivesUp d) = dead 0 (rest old.task) 9 new d
 
   -- ---- what was read
 

@@ -1,5 +1,6 @@
 -- Calls that leave the controller as it was.
-use Rattle.mscp_ported.proofs.Common.{Becomes, Bool, Call, Choice, Clears, Commands, Dies, Err, GivesBack, Goes, Hears, IfSome, IsAsNew, IsReadingText, List, LookAgain, MatchOption, Next, None, Ok, Option, Outcome, Picking, Port, Protect, PutAside, ReadIp, ReadsIp, Responses, Rings, Side, Some, Stage, TakesStep, Task, Tick, VolumeCame, VolumeWent, WasRead, Went, WriteIp, WriteSa, WritesOut, WritesSa, ap, arith, block_begun, cond, end_of, false, header_fault, inl, inr, is_dead, is_owned, length, nat_lt, none-some, num, read_size, refl, rings_named, start_of, step_answered, step_told, subst, sym, told_of, transfer_told, true, ℕ, ◌%◌, ◌+◌, ◌/◌, ◌<◌, ◌==◌, ◌∙◌, ◌≡◌, ◌≢◌, ◌≤◌, ◌⊎◌}
+use Rattle.mscp_ported.proofs.Common.{Becomes, Bool, Call, Choice, Clears, Commands, Dies, Err, GivesBack, Goes, Hears, IfSome, IsAsNew, IsReadingText, List, MatchOption, Next, None, Ok, Option, Outcome, Picking, Port, ReadIp, ReadsIp, Responses, Rings, Side, Some, Stage, TakesStep, Task, WasRead, Went, WriteIp, WriteSa, WritesOut, WritesSa, ap, arith, block_begun, blocks, cond, end_of, false, header_fault, inl, inr, is_dead, is_owned, length, nat_lt, none-some, num, read_size, refl, rings_named, start_of, step_answered, step_told, subst, sym, told_of, transfer_told, true, ℕ, ◌%◌, ◌+◌, ◌/◌, ◌<◌, ◌==◌, ◌∙◌, ◌≡◌, ◌≢◌, ◌≤◌, ◌⊎◌}
+use Rattle.mscp_ported.proofs.Minor.{GivesUp, Minor, Mounts, PutsAside, ReadsAgain, Still, minor}
 use Rattle.mscp_port.specs.declared.action.Outcome.TheVariants as outcomes
 use Rattle.mscp_port.specs.declared.stage.Stage.TheVariants as stages
 use Rattle.mscp_port.specs.declared.task.Task.TheVariants as tasks
@@ -199,23 +200,19 @@ IsPassive call = Unit {0}
 
 pub passive_stays : {K : Type 0} (picks : Picking K) (call : Call) (old new : Port K) → Becomes picks call old new
     → IsPassive call → Stays old new
+passive_stays picks ReadIp old new r is = reads_ip old new r
+passive_stays picks (WriteSa word) old new r is = writes_sa word old new r
+passive_stays picks (WasRead bytes (Err unasked)) old new r is = same_as r.unasked (alike old)
+passive_stays picks (Went outcome (Err unasked)) old new r is = same_as r.unasked (alike old)
 passive_stays picks WriteIp old new r is = absurd is
 passive_stays picks (Next blocks action bytes) old new r is = absurd is
 passive_stays picks (WasRead bytes (Ok done)) old new r is = absurd is
 passive_stays picks (Went outcome (Ok done)) old new r is = absurd is
-passive_stays picks ReadIp old new r is = reads_ip old new r
-passive_stays picks (WriteSa word) old new r is = writes_sa word old new r
-passive_stays picks PutAside old new r is = same_as r (alike old)
-passive_stays picks (WasRead bytes (Err unasked)) old new r is = same_as r.unasked (alike old)
-passive_stays picks (Went outcome (Err unasked)) old new r is = same_as r.unasked (alike old)
-passive_stays picks LookAgain old new r is = same_as r (alike old)
-passive_stays picks Tick old new r is = elim r.either [
-  | inl e ↦ same_as e (alike old)
-  | inr n ↦ died 9 old new n
-]
-passive_stays picks (VolumeCame m unit (Ok done)) old new r is = same_as (r.came refl) (alike old)
-passive_stays picks (VolumeCame m unit (Err fault)) old new r is = same_as r.refused (alike old)
-passive_stays picks (VolumeWent unit result) old new r is =
-    same_as r.frame (alike old)
-passive_stays picks (Protect protected unit result) old new r is =
-    same_as r.frame (alike old)
+passive_stays picks call old new r is = by (minor picks call old new r tt)
+  where
+    by : Minor old new → Stays old new
+    by (Still e) = same_as e (alike old)
+    by (PutsAside e) = same_as e (alike old)
+    by (ReadsAgain left e) = same_as e (alike old)
+    by (Mounts becomes place e) = same_as e (alike old)
+    by (GivesUp d) = died 9 old new d

@@ -1,5 +1,5 @@
 -- What becomes of a step that a port reports of.
-use Rattle.mscp_ported.proofs.Common.{Dies, Drive, End, Err, Finishes, First, Goes, HeedsStep, IsStepping, List, MatchOption, Name, None, NotBegun, Ok, Option, Outcome, Port, Report, Result, Some, TakesBegun, TakesBlock, Task, Verdict, ap, block_begun, block_served, block_told, drive_at, end_brought, end_given, inl, inr, is_dead, is_numbered, is_same, length, name_of, name_on, none-some, record_at, refl, served_name, subst, sym, takes, true, waiting_after, ℕ, ◌++◌, ◌∙◌, ◌≡◌, ◌≤◌, ◌⊎◌}
+use Rattle.mscp_ported.proofs.Common.{Dies, Drive, End, Err, Finishes, First, Goes, HeedsStep, IsStepping, List, MatchOption, Name, None, NotBegun, Ok, Option, Outcome, Port, Report, Result, Some, TakesBegun, TakesBlock, Task, Verdict, ap, block_begun, block_served, block_told, drive_at, end_brought, end_given, false≢true, inl, inr, is_begun, is_numbered, is_same, length, name_of, name_on, none-some, record_at, refl, served_name, subst, sym, takes, true, waiting_after, ℕ, ◌++◌, ◌∙◌, ◌≡◌, ◌≤◌, ◌⊎◌}
 use Rattle.mscp_queue.specs.Serving.{IsServable, drives_after}
 use Rattle.mscp_queue.specs.declared.report.Report.TheVariants as reports
 use Rattle.mscp_port.specs.declared.task.Task.TheVariants as tasks
@@ -41,6 +41,7 @@ pub record Serves {K : Type 0} (verdict : Verdict) (old new : Port K) : Type 0 w
 -- or none is
 abbrev pub ServesNone : {K : Type 0} → Port K → Port K → Type 0
 ServesNone old new = IsSame old new × (new.volumes ≡ old.volumes)
+    × (IsStepping old.task → old.controller.begun ≡ None)
 
 pub step_is : {K : Type 0} (picks : List _ → ℕ → Type 0) (verdict : Verdict) (old new : Port K)
     → TakesBegun picks verdict old new → Serves verdict old new ⊎ ServesNone old new
@@ -50,16 +51,8 @@ step_is {K} picks verdict old new takes = by old.controller.begun refl takes
         → Finishes picks (name_on name.connection name.reference) (block_told verdict) old.controller result
         new.controller → HeedsStep name.connection verdict (end_brought result) old new
         → Serves verdict old new ⊎ ServesNone old new
-    took name was (Err not_begun) x h = inr (
-      (
-        x.1,
-        ap (λ xs. record { items = xs }) h.decided,
-        ap (λ (p : Port K). p.hardware) h.frame,
-        λ d. sym (ap (λ (p : Port K). is_dead p.stage) h.frame) ∙ d,
-        ap (λ xs. record { items = xs }) h.buffers,
-      ),
-      ap (λ (p : Port K). p.volumes) h.frame,
-    )
+    took name was (Err not_begun) x h = absurd (false≢true (sym x.0
+        ∙ (ap (is_begun (name_on name.connection name.reference)) was ∙ is_same name name refl)))
     took name was (Ok reports.Idle) x h = absurd (none-some name (sym x.1.serves.1 ∙ was))
     took name was (Ok (reports.Served other number unit lbn started seek ended)) x h = inl (record {
       name = name;
@@ -88,7 +81,7 @@ step_is {K} picks verdict old new takes = by old.controller.begun refl takes
     by : (o : Option Name) → old.controller.begun ≡ o → MatchOption o (new ≡ record old { task = tasks.Free })
         (λ name. TakesBlock picks name.connection name.reference verdict old new)
         → Serves verdict old new ⊎ ServesNone old new
-    by None e h = inr (subst (λ p. ServesNone old p) (sym h) (alike old, refl))
+    by None e h = inr (subst (λ p. ServesNone old p) (sym h) (alike old, refl, λ z. e))
     by (Some name) e h = took name e h.finished.0 h.finished.1 h.finished.2
 
 pub went_is : {K : Type 0} (picks : List _ → ℕ → Type 0) (outcome : Outcome) (done : Unit) (old new : Port K)
@@ -107,7 +100,7 @@ went_is {K} picks outcome done old new r = by old.task refl
     others : (t : Task) → old.task ≡ t → (IsStepping t → ⊥) → Stays old new → So
     others t at never (inr d) = inr (inr d)
     others t at never (inl same) = elim r.commands [
-      | inl x ↦ inr (inl (same, x.volumes))
+      | inl x ↦ inr (inl (same, x.volumes, λ z. absurd (never (subst (λ y. IsStepping y) at z))))
       | inr more ↦ elim more [
         | inl block ↦ absurd (never (subst (λ x. IsStepping x) at block.0))
         | inr d ↦ inr (inr d)

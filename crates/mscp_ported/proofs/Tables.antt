@@ -81,11 +81,7 @@ step_fields verdict old new e =
 
 outcome_so : (outcome : Outcome) → block_of outcome ≡ told_as outcome
 outcome_so outcomes.Done = refl
-outcome_so outcomes.Missing = refl
-outcome_so outcomes.Parity = refl
-outcome_so outcomes.Unmapped = refl
-outcome_so outcomes.Different = refl
-outcome_so (outcomes.Failed status) = refl
+outcome_so outcome = refl
 
 pub verdict_so : {K : Type 0} (old : Port K) (outcome : Outcome) (o : Option (Upcoming × MoveKind × ℕ))
     → block_served old outcome o ≡ verdict_of old outcome o

@@ -1,20 +1,19 @@
 -- The end of a transfer counts just the blocks that were moved.
-use Rattle.mscp_ported.proofs.Common.{Answered, AsksAlways, Block, Bool, Buffer, Call, Command, Contains, Counts, Drive, End, Err, Finishes, First, Hardware, Holdings, IsMadeOf, IsOfBlock, IsStepping, List, MatchOption, MoveKind, Name, None, NotBegun, Ok, Option, Order, Outcome, Picking, Port, Record, Report, Result, Shape, Some, TakesBegun, TakesBlock, Task, Upcoming, Verdict, Volume, Went, Wish, [], and_parts, ap, append-nil, arith, asked, asks_nothing, begun_step, begun_task, block_begun, block_served, block_told, block_touched, changed_verdict, come, cond, done_by, drive_at, drive_of, drop, end_brought, end_given, false, false≢true, filter, find, goes_on, good_step, has_changed, has_name, inl, inr, is_available, is_begun, is_done, is_good_block, is_moving, is_numbered, is_same, is_step_of, kept_of, known_task, left_of, length, min, move_of, move_task, moved, moved_by, moved_step, name_of, name_on, none-some, num, opcode_of, option_map, outcome_at, outcome_body, outcome_status, part_at, part_served, part_task, part_with, place_in, record_at, refl, same_Some, served_name, slice_index, subst, suc, sym, takes_any_volume, task_of, touches, transfers, true, upcoming_begun, upcoming_of, volume_at, wanted, wish, zero, ℕ, ◌&&◌, ◌*◌, ◌++◌, ◌+◌, ◌-◌, ◌<◌, ◌∙◌, ◌∷◌, ◌≡◌, ◌≤◌, ◌⊎◌}
-use Rattle.mscp_ported.proofs.Stepping.{IsHow}
+use Rattle.mscp_port.specs.declared.task.Task.TheVariants as tasks
+use Rattle.mscp_ported.proofs.Common.{Answered, AsksAlways, Block, Bool, Buffer, Call, Command, Contains, Counts, Drive, End, Err, First, Hardware, Holdings, IsMadeOf, IsOfBlock, List, MoveKind, Name, None, Ok, Option, Order, Outcome, Picking, Port, Record, Result, Shape, Some, Upcoming, Verdict, Volume, Went, Wish, [], and_parts, ap, append-nil, arith, asked, asks_nothing, begun_step, begun_task, block_begun, block_served, block_told, block_touched, changed_verdict, come, cond, done_by, drive_of, end_given, false, false≢true, filter, find, given, goes_on, good_step, has_changed, has_name, inl, inr, is_available, is_done, is_good_block, is_moving, is_numbered, is_same, is_step_of, kept_of, known_task, left_of, length, min, move_of, move_task, moved, moved_by, moved_step, name, name_of, name_on, none-some, num, of, opcode_of, option_map, outcome_at, outcome_body, outcome_status, part_at, part_served, part_task, part_with, place_in, record_at, refl, same_Some, slice_index, subst, suc, sym, takes_any_volume, task_of, touches, transfers, true, upcoming_of, volume_at, wanted, wish, ℕ, ◌&&◌, ◌*◌, ◌++◌, ◌+◌, ◌-◌, ◌<◌, ◌∙◌, ◌∷◌, ◌≡◌, ◌≤◌, ◌⊎◌}
+use Rattle.mscp_ported.proofs.Stepping.{IsHow, Serves, drive_in, end_served, went_is}
 use Rattle.mscp_packet.specs.declared.class.Opcode.TheVariants as codes
 use Rattle.mscp_packet.specs.declared.command.Order.TheVariants as orders
 use Rattle.mscp_packet.specs.declared.end.EndBody.TheVariants as bodies
 use Rattle.mscp_drive.specs.declared.block.Block.TheVariants as blocks
-use Rattle.mscp_queue.specs.declared.report.Report.TheVariants as reports
 use Rattle.mscp_port.specs.declared.action.Action.TheVariants as actions
 use Rattle.mscp_port.specs.declared.action.Outcome.TheVariants as outcomes
-use Rattle.mscp_port.specs.declared.task.Task.TheVariants as tasks
-use Rattle.mscp_ported.proofs.Coming.{brought_for, come_so, ends_of, steps_bring}
+use Rattle.mscp_ported.proofs.Coming.{brought_for, come_so}
 use Rattle.mscp_ported.proofs.Keeping.{are_owned, end_number}
 use Rattle.mscp_ported.proofs.Moving.{Steps, steps}
 use Rattle.mscp_ported.proofs.Owning.{AreOwned, Own, parts_of}
 use Rattle.mscp_ported.proofs.Sole.{found_sole, served_itself}
-use Rattle.mscp_ported.proofs.Standing.{brought_one, ended_so, step_name}
+use Rattle.mscp_ported.proofs.Standing.{brought_one, ended_so, none_served, step_name}
 use Rattle.mscp_ported.proofs.Transferring.{kept_address, move_fields, moves_so, none_moving, told_so}
 
 -- ---- a block that went well
@@ -98,10 +97,6 @@ plus_none n = search arith
 
 plus_one : (n : ℕ) → n + 1 ≡ suc n
 plus_one n = search arith
-
-drop_none : (n : ℕ) → drop {A = End} n [] ≡ []
-drop_none zero = refl
-drop_none (suc n) = refl
 
 -- ---- the law
 
@@ -238,26 +233,29 @@ module _ {K : Type 0} (picks : Picking K) (hardware : Hardware) (credits : ℕ) 
                   (body_is true f ∙ ap (λ i. bodies.Moved (min (num bytes 12 4) (512 * i))) (plus_one r.done))
             ]
 
-    served_so : (name : Name) → a.0.controller.begun ≡ Some name → (verdict : Verdict) → IsHow a.0 outcome verdict
-        → (place : ℕ) → place < length a.0.controller.waiting
-        → name_of (record_at a.0.controller.waiting place) ≡ name → name.connection ≡ First
-        → end_given (block_told verdict) (drive_at a.0.controller.drives a.0.controller.waiting place)
-        (record_at a.0.controller.waiting place) ≡ Some e → So
-    served_so name begun verdict how place inside named first_is given =
+    served_so : (verdict : Verdict) → IsHow a.0 outcome verdict → (x : Serves verdict a.0 p)
+        → (record_at a.0.controller.waiting x.place).connection ≡ First
+        → end_given (block_told verdict) (drive_in a.0 x.place) (record_at a.0.controller.waiting x.place) ≡ Some e
+        → So
+    served_so verdict how x first_is given =
         let rs = a.0.controller.waiting in
+        let name = x.name in
+        let place = x.place in
+        let begun = x.begun in
         let n = name.reference in
         let r0 = record_at rs place in
-        let d = drive_at a.0.controller.drives rs place in
-        let same : name ≡ name_on First n = ap (λ c. name_on c n) first_is in
+        let d = drive_in a.0 place in
+        let same : name ≡ name_on First n = ap (λ c. name_on c n)
+        (sym (ap (λ (y : Name). y.connection) x.is) ∙ first_is) in
         let sn = step_name a.0.controller name u begun step in
         let o = owned kept among asking in
         let of : e.reference ≡ n = end_number (block_told verdict) d r0 e given
-        ∙ ap (λ (x : Name). x.reference) named in
+        ∙ ap (λ (y : Name). y.reference) x.is in
         let number : kept.reference ≡ n = mine ∙ of in
         let sole : filter (is_numbered n) rs ≡ o.0 ∷ [] =
         subst (λ m. filter (is_numbered m) rs ≡ o.0 ∷ []) number o.2.sole in
-        let is_it : is_numbered n r0 ≡ true = is_same (name_of r0) (name_on First n) (named ∙ same) in
-        let r_is : r0 ≡ o.0 = served_itself n blocks.Good d rs place inside o.0 sole is_it in
+        let is_it : is_numbered n r0 ≡ true = is_same (name_of r0) (name_on First n) (x.is ∙ same) in
+        let r_is : r0 ≡ o.0 = served_itself n blocks.Good d rs place x.servable.inside o.0 sole is_it in
         let sole0 : filter (is_numbered n) rs ≡ r0 ∷ [] = sole ∙ ap (λ x. x ∷ []) (sym r_is) in
         let found0 : find (has_name name) rs ≡ Some r0 =
         subst (λ x. find (has_name x) rs ≡ Some r0) (sym same) (found_sole (is_numbered n) rs r0 sole0) in
@@ -267,59 +265,12 @@ module _ {K : Type 0} (picks : Picking K) (hardware : Hardware) (credits : ℕ) 
         counts_for n name begun same verdict how r0 o.1 sole0
         (subst (λ x. Own picks start a.0 calls a.1 kept x o.1) (sym r_is) o.2) number of u_is given
 
-    by_step : (name : Name) → a.0.controller.begun ≡ Some name → (verdict : Verdict) → IsHow a.0 outcome verdict
-        → TakesBegun (picks a.0.controller.picker) verdict a.0 p → So
-    by_step name begun verdict how h =
-        let t = subst (λ o. MatchOption o (p ≡ record a.0 { task = tasks.Free })
-        (λ name. TakesBlock (picks a.0.controller.picker) name.connection name.reference verdict a.0 p)) begun h in
-        by t.finished.0 t.finished.1
-      where
-        by : (result : Result Report NotBegun)
-            → Finishes (picks a.0.controller.picker) (name_on name.connection name.reference) (block_told verdict)
-            a.0.controller result p.controller → So
-        by (Err not_begun) f = absurd (false≢true (sym f.0
-            ∙ (ap (is_begun (name_on name.connection name.reference)) begun ∙ is_same name name refl)))
-        by (Ok reports.Idle) f = absurd (none-some name (sym f.1.serves.1 ∙ begun))
-        by (Ok (reports.Served other number unit lbn started seek ended)) f =
-            let place = f.1.serves.0 in
-            let sv = f.1.serves.1 in
-            let named = served_name a.0.controller.begun (name_on name.connection name.reference)
-            (record_at a.0.controller.waiting place) f.0 sv.next.same in
-            let came = come_so a.0 p (brought_for name.connection ended)
-            (steps_bring (picks a.0.controller.picker) name.connection name.reference (block_told verdict)
-            a.0.controller p.controller (Ok (reports.Served other number unit lbn started seek ended)) f) in
-            let one = brought_one name.connection ended e (subst (λ xs. Contains xs e) came there) in
-            served_so name begun verdict how place sv.next.servable.inside named one.0
-            (sym (ap (λ x. end_brought (Ok x)) sv.told) ∙ one.1)
-
     pub counts : So
-    counts = by a.0.controller.begun refl a.0.task refl
-      where
-        no_come : ends_of p.controller ≡ ends_of a.0.controller → So
-        no_come same = absurd (none_there (subst (λ xs. Contains xs e)
-            (come_so a.0 p [] (same ∙ sym (append-nil (ends_of a.0.controller)))) there))
-          where
-            none_there : Contains [] e → ⊥
-            none_there h = search (arith, h)
-
-        by : (o : Option Name) → a.0.controller.begun ≡ o → (t : Task) → a.0.task ≡ t → So
-        by None f t at = absurd (none-some u (sym (ap (upcoming_begun a.0.controller.drives a.0.controller.waiting) f)
-            ∙ step))
-        by (Some name) f (tasks.Step verdict) at =
-            by_step name f verdict (inl at) ((a.2.moves refl).step verdict at)
-        by (Some name) f tasks.Transfer at =
-            by_step name f (block_served a.0 outcome (block_begun a.0)) (inr (at, refl)) ((a.2.moves refl).transfer at)
-        by (Some name) f t at = elim a.2.commands [
-          | inl same ↦ no_come (ap ends_of same.controller)
-          | inr more ↦ elim more [
-            | inl block ↦ absurd (subst (λ x. IsStepping x) at block.0)
-            | inr dead ↦ absurd (none_in (subst (λ xs. Contains xs e)
-                (dead_come (ends_of a.0.controller) (ends_of p.controller) (ap ends_of dead.1.controller)) there))
-          ]
-        ]
-          where
-            none_in : Contains [] e → ⊥
-            none_in h = search (arith, h)
-
-            dead_come : (xs ys : List End) → ys ≡ [] → drop (length xs) ys ≡ []
-            dead_come xs ys none = ap (drop (length xs)) none ∙ drop_none (length xs)
+    counts = elim (went_is (picks a.0.controller.picker) outcome done a.0 p a.2) [
+      | inl x ↦
+          let one = brought_one (record_at a.0.controller.waiting x.2.place).connection (end_served x.0 a.0 x.2.place)
+          e (subst (λ xs. Contains xs e) (come_so a.0 p (brought_for
+          (record_at a.0.controller.waiting x.2.place).connection (end_served x.0 a.0 x.2.place)) x.2.ends) there) in
+          served_so x.0 x.1 x.2 one.0 one.1
+      | inr more ↦ absurd (none_served e a.0 p more there)
+    ]

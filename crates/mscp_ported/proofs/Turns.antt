@@ -1,5 +1,6 @@
 -- Which calls look for a message of a port's host, or read one on.
-use Rattle.mscp_ported.proofs.Common.{Action, Becomes, Bool, Call, Commands, Err, IfSome, IsDue, List, LookAgain, Next, Ok, Picking, Port, Protect, PutAside, ReadIp, Record, Some, Stage, Task, Tick, VolumeCame, VolumeWent, Wants, WasRead, Went, WriteIp, WriteSa, [], ap, arith, aside, block_is_due, false, false≢true, in_hand, inl, inr, is_dead, length, nat_eq, none-some, none_or_not, not, place_in, read_again, refl, step_at, subst, sym, true, up_or_not, ℕ, ◌&&◌, ◌∙◌, ◌∷◌, ◌≡◌, ◌≢◌, ◌⊎◌}
+use Rattle.mscp_ported.proofs.Common.{Action, Becomes, Bool, Call, Commands, IfSome, IsDue, List, Next, Ok, Picking, Port, ReadIp, Record, Some, Stage, Task, Wants, WasRead, Went, WriteIp, WriteSa, [], ap, arith, aside, block_is_due, blocks, false, false≢true, in_hand, inl, inr, is_dead, length, nat_eq, none-some, none_or_not, not, read_again, refl, step_at, subst, sym, true, up_or_not, ℕ, ◌&&◌, ◌∙◌, ◌∷◌, ◌≡◌, ◌≢◌, ◌⊎◌}
+use Rattle.mscp_ported.proofs.Minor.{GivesUp, Minor, Mounts, PutsAside, ReadsAgain, Still, minor}
 use Rattle.mscp_port.specs.declared.stage.Stage.TheVariants as stages
 use Rattle.mscp_port.specs.declared.task.Task.TheVariants as tasks
 use Rattle.mscp_ported.proofs.Turning.{IsHearing, ReadsOn, again, anew, as_before, forgets, no_more, put, read_on, went_quiet}
@@ -115,31 +116,17 @@ module _ {K : Type 0} (picks : Picking K) (old new : Port K) where
         [ inl e ↦ no_more old new tasks.Free e (λ h. h) | inr e ↦ no_more old new (tasks.Clear 0) e (λ h. h) ]
   ])
   reads_on (Next blocks action bytes) none r = absurd none
-  reads_on PutAside none r = (volume_on (aside old.task) (ap (λ (p : Port K). p.controller) r)
-      (ap (λ (p : Port K). p.owes_block) r) (ap (λ (p : Port K). p.task) r) (put old.task))
   reads_on (WasRead bytes (Ok done)) none r = (read_on bytes done old new r old.task refl)
-  reads_on (WasRead bytes (Err unasked)) none r = (as_before old new r.unasked)
   reads_on (Went outcome (Ok done)) none r =
       (went_quiet (picks old.controller.picker) outcome done old new r old.task refl)
-  reads_on (Went outcome (Err unasked)) none r = (as_before old new r.unasked)
-  reads_on LookAgain none r = (volume_on (read_again old.task) (ap (λ (p : Port K). p.controller) r)
-      (ap (λ (p : Port K). p.owes_block) r) (ap (λ (p : Port K). p.task) r) (again old.task))
-  reads_on Tick none r = (elim r.either [
-    | inl e ↦ volume_on (read_again old.task) (ap (λ (p : Port K). p.controller) e)
-        (ap (λ (p : Port K). p.owes_block) e) (ap (λ (p : Port K). p.task) e) (again old.task)
-    | inr d ↦ forgets old new (stages.Dead 9) d
-  ])
-  reads_on (VolumeCame m unit (Ok done)) none r =
-      let e = r.came refl in
-      (volume_on (step_at (place_in old.controller.settings.units unit) old.task)
-      (ap (λ (p : Port K). p.controller) e) (ap (λ (p : Port K). p.owes_block) e) (ap (λ (p : Port K). p.task) e)
-      (anew (place_in old.controller.settings.units unit) old.task))
-  reads_on (VolumeCame m unit (Err fault)) none r = (as_before old new r.refused)
-  reads_on (VolumeWent unit result) none r =
-      (volume_on (step_at (place_in old.controller.settings.units unit) old.task)
-      (ap (λ (p : Port K). p.controller) r.frame) (ap (λ (p : Port K). p.owes_block) r.frame)
-      (ap (λ (p : Port K). p.task) r.frame) (anew (place_in old.controller.settings.units unit) old.task))
-  reads_on (Protect protected unit result) none r =
-      (volume_on (step_at (place_in old.controller.settings.units unit) old.task)
-      (ap (λ (p : Port K). p.controller) r.frame) (ap (λ (p : Port K). p.owes_block) r.frame)
-      (ap (λ (p : Port K). p.task) r.frame) (anew (place_in old.controller.settings.units unit) old.task))
+  reads_on call none r = by (minor picks call old new r tt)
+    where
+      by : Minor old new → IsHearing new.task → ReadsOn old new
+      by (Still e) = as_before old new e
+      by (PutsAside e) = volume_on (aside old.task) (ap (λ (p : Port K). p.controller) e)
+          (ap (λ (p : Port K). p.owes_block) e) (ap (λ (p : Port K). p.task) e) (put old.task)
+      by (ReadsAgain left e) = volume_on (read_again old.task) (ap (λ (p : Port K). p.controller) e)
+          (ap (λ (p : Port K). p.owes_block) e) (ap (λ (p : Port K). p.task) e) (again old.task)
+      by (Mounts becomes place e) = volume_on (step_at place old.task) (ap (λ (p : Port K). p.controller) e)
+          (ap (λ (p : Port K). p.owes_block) e) (ap (λ (p : Port K). p.task) e) (anew place old.task)
+      by (GivesUp d) = forgets old new (stages.Dead 9) d

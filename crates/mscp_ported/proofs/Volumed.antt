@@ -118,19 +118,13 @@ transfer_wanted {K} p action kind unit block address count w e = by p.task w
 
     by : (task : Task) → IsWanted p task action
         → move_wanted p (block_begun p) ≡ actions.Transfer kind unit block address count
-    by tasks.Free w = search (arith, w, e)
-    by tasks.Settle w = search (arith, w, e)
-    by (tasks.Step verdict) w = search (arith, w, e)
-    by tasks.Interrupt w = search (arith, w, e)
     by (tasks.Slot side) w = absurd (ringed _ (λ r h. search (arith, h, e)) w)
-    by (tasks.Header slot) w = search (arith, w, e)
-    by (tasks.Text slot size foreign) w = search (arith, w, e)
-    by (tasks.Packet slot) w = search (arith, w, e)
     by (tasks.Return side slot) w = absurd (ringed _ (λ r h. search (arith, h, e)) w)
     by (tasks.Neighbour side) w = absurd (ringed _ (λ r h. search (arith, h, e)) w)
     by (tasks.Word side) w = absurd (ringed _ (λ r h. search (arith, h, e)) w)
     by (tasks.Clear n) w = absurd (ringed _ (λ r h. search (arith, h, e)) w)
     by tasks.Transfer w = sym w ∙ e
+    by task w = search (arith, w, e)
 
 -- ---- laws
 

@@ -13,14 +13,7 @@ asked_order (orders.Status other) n h = ap (some_order (orders.Status other)) h
     some_order : Order → Option ℕ → Order
     some_order d None = d
     some_order d (Some other) = orders.Status other
-asked_order (orders.Invalid byte fault) n h = cc
-asked_order (orders.Abort other) n h = cc
-asked_order (orders.Move kind count block) n h = cc
-asked_order orders.UnitStatus n h = cc
-asked_order orders.Available n h = cc
-asked_order orders.Online n h = cc
-asked_order orders.SetUnit n h = cc
-asked_order (orders.SetController version) n h = cc
+asked_order order n h = cc
 
 aborts_none : (own : Connection) (t : Trace) (n : ℕ) (f : Option ℕ) → aborted_unless own t (orders.Status n) f ≡ []
 aborts_none own t n None = refl

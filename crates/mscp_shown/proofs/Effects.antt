@@ -105,15 +105,12 @@ refused_offline c unit status (orders.Abort other) s says h e = cc
 refused_offline c unit status (orders.Status other) s says h e = cc
 refused_offline c unit status (orders.Move kind count block) s says h e =
     move_offline c count block status (unit_found c unit) h e
-refused_offline c unit status orders.UnitStatus s says h e = unit_offline status (unit_found c unit) h
-refused_offline c unit status orders.Available s says h e = unit_offline status (unit_found c unit) h
-refused_offline c unit status orders.Online s says h e = unit_offline status (unit_found c unit) h
-refused_offline c unit status orders.SetUnit s says h e = unit_offline status (unit_found c unit) h
 refused_offline c unit status (orders.SetController version) s says h e = absurd (version_apart status version h e)
   where
     version_apart : (status version : ℕ) → order_fault c unit (orders.SetController version) ≡ Some status
         → status % 32 ≡ 3 → ⊥
     version_apart status version h e = grind arith
+refused_offline c unit status order s says h e = unit_offline status (unit_found c unit) h
 
 answer_effects : (online : Bool) (o : Order) → is_immediate o ≡ true
     → Effects online online (endcode o) (answer_status online o)
@@ -193,13 +190,7 @@ bad_state online orders.Available status h = unless (nat_eq (status % 32) 0) (λ
     unless : (b : Bool) → (b ≡ true → status % 32 ≡ 0) → (if b then false else online) ≡ online
     unless true f = absurd (omega (arith, h, f refl))
     unless false f = refl
-bad_state online (orders.Invalid byte why) status h = refl
-bad_state online (orders.Abort other) status h = refl
-bad_state online (orders.Status other) status h = refl
-bad_state online (orders.Move kind count block) status h = refl
-bad_state online orders.UnitStatus status h = refl
-bad_state online orders.SetUnit status h = refl
-bad_state online (orders.SetController version) status h = refl
+bad_state online order status h = refl
 
 outcome_effects : (online : Bool) (o : Order) (k : Block) → IsFault k → is_immediate o ≡ false
     → ((byte why : ℕ) → o ≢ orders.Invalid byte why)

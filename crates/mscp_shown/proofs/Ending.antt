@@ -113,12 +113,7 @@ module _ (c : Settings) (t : Trace) (own : Connection) (b : ArrayVec ℕ) (known
           → poll_by status body ≡ Some n
           → (answer_by own (end_bytes e)).figure ≡ Some (figure_by body)
       of_body status (bodies.Status other figure) k p = k.1
-      of_body status bodies.Bare k p = cc
-      of_body status (bodies.Abort other) k p = cc
-      of_body status (bodies.UnitStatus id media track group cylinder) k p = cc
-      of_body status (bodies.Controller timeout id) k p = cc
-      of_body status (bodies.Online id media size serial) k p = cc
-      of_body status (bodies.Moved count) k p = cc
+      of_body status body k p = cc
 
   -- whose the names are that are left
   owners_left : (a : Answered) (i : ℕ) → Owners c (t ++ taking ∷ []) (after_end (outstanding (shown t)) a (Some i))

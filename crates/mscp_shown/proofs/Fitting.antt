@@ -26,12 +26,8 @@ module _ (b : List ℕ) (h : AreBytes b) where
   small_parameters : (o : Opcode) → IsSmallOrder (parameters o b)
   small_parameters codes.Abort = four_small b h 12
   small_parameters codes.Status = four_small b h 12
-  small_parameters codes.UnitStatus = tt
-  small_parameters codes.SetController = tt
-  small_parameters codes.Available = tt
-  small_parameters codes.Online = tt
-  small_parameters codes.SetUnit = tt
   small_parameters (codes.Move kind) = four_small b h 12
+  small_parameters code = tt
 
   small_found : (found : Option Opcode) → IsSmallOrder (order_with found b)
   small_found None = (omega arith, omega arith)
@@ -52,14 +48,10 @@ module _ (b : List ℕ) (h : AreBytes b) where
 
 -- ---- bodies
 zero_fit : (kind : Option BodyKind) → IsBodyFit (zero_body kind)
-zero_fit None = tt
-zero_fit (Some kinds.Bare) = tt
 zero_fit (Some kinds.Abort) = omega arith
 zero_fit (Some kinds.Status) = (omega arith, omega arith)
-zero_fit (Some kinds.UnitStatus) = tt
-zero_fit (Some kinds.Controller) = tt
-zero_fit (Some kinds.Online) = tt
 zero_fit (Some kinds.Moved) = omega arith
+zero_fit x = tt
 
 refused_fit : (code : ℕ) → IsBodyFit (refused_body code)
 refused_fit code = zero_fit (kind_of_code code)
@@ -69,23 +61,15 @@ moved_fit (orders.Move kind count block) good h = omega (arith, h)
 moved_fit (orders.Abort other) good h = refused_fit (endcode (orders.Abort other))
 moved_fit (orders.Status other) good h = refused_fit (endcode (orders.Status other))
 moved_fit (orders.Invalid byte fault) good h = refused_fit (endcode (orders.Invalid byte fault))
-moved_fit orders.UnitStatus good h = tt
-moved_fit (orders.SetController version) good h = tt
-moved_fit orders.Available good h = tt
-moved_fit orders.Online good h = tt
-moved_fit orders.SetUnit good h = tt
+moved_fit order good h = tt
 
 answer_fit : (c : Settings) (figure unit : ℕ) (o : Order) → IsSmallOrder o → figure < 2 ^ 32
     → IsBodyFit (answer_body c figure unit o)
 answer_fit c figure unit (orders.Abort other) h f = h
 answer_fit c figure unit (orders.Status other) h f = (h, f)
-answer_fit c figure unit orders.UnitStatus h f = tt
-answer_fit c figure unit (orders.SetController version) h f = tt
 answer_fit c figure unit (orders.Move kind count block) h f = refused_fit (endcode (orders.Move kind count block))
 answer_fit c figure unit (orders.Invalid byte fault) h f = refused_fit (endcode (orders.Invalid byte fault))
-answer_fit c figure unit orders.Available h f = tt
-answer_fit c figure unit orders.Online h f = tt
-answer_fit c figure unit orders.SetUnit h f = tt
+answer_fit c figure unit order h f = tt
 
 online_fit : (s : Shape) (success : Bool)
     → IsBodyFit (if success then bodies.Online s.id s.media s.size s.serial else bodies.Online 0 0 0 0)
@@ -96,13 +80,10 @@ pub outcome_fit : (s : Shape) (status : ℕ) (o : Order) (good : ℕ) → IsSmal
     (outcome_body s status o good)
 outcome_fit s status orders.Online good h = online_fit s (is_success status)
 outcome_fit s status orders.SetUnit good h = online_fit s (is_success status)
-outcome_fit s status (orders.Move kind count block) good h = moved_fit (orders.Move kind count block) good h
-outcome_fit s status (orders.Abort other) good h = moved_fit (orders.Abort other) good h
-outcome_fit s status (orders.Status other) good h = moved_fit (orders.Status other) good h
-outcome_fit s status (orders.Invalid byte fault) good h = moved_fit (orders.Invalid byte fault) good h
 outcome_fit s status orders.UnitStatus good h = tt
 outcome_fit s status (orders.SetController version) good h = tt
 outcome_fit s status orders.Available good h = tt
+outcome_fit s status order good h = moved_fit order good h
 
 -- ---- statuses
 move_small : (c : Settings) (count block status : ℕ) (u : Option Shape) → move_fault c count block u ≡ Some status
@@ -121,11 +102,8 @@ fault_small c unit status (orders.Invalid byte fault) s h = subst (λ n. n < 2 ^
 fault_small c unit status (orders.Abort other) s h = cc
 fault_small c unit status (orders.Status other) s h = cc
 fault_small c unit status (orders.Move kind count block) s h = move_small c count block status (unit_found c unit) h
-fault_small c unit status orders.UnitStatus s h = unit_small status (unit_found c unit) h
-fault_small c unit status orders.Available s h = unit_small status (unit_found c unit) h
-fault_small c unit status orders.Online s h = unit_small status (unit_found c unit) h
-fault_small c unit status orders.SetUnit s h = unit_small status (unit_found c unit) h
 fault_small c unit status (orders.SetController version) s h = version_small status version h
+fault_small c unit status order s h = unit_small status (unit_found c unit) h
 
 answered_small : (online : Bool) (o : Order) → answer_status online o < 2 ^ 16
 answered_small online o = grind arith

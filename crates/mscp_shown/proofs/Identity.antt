@@ -74,12 +74,7 @@ module _ (via : Connection) (r u code status : ℕ) (s : Shape) where
           ∙ ap (λ z. num (little_bytes 4 z) 0 4) t.2,
     ),
   )
-  online_read bodies.Bare k t = cc
-  online_read (bodies.Abort other) k t = cc
-  online_read (bodies.Status other figure) k t = cc
-  online_read (bodies.UnitStatus id media track group cylinder) k t = cc
-  online_read (bodies.Controller timeout id) k t = cc
-  online_read (bodies.Moved count) k t = cc
+  online_read body k t = cc
 
   -- and one of GET UNIT STATUS
   status_read : nat_eq code 0x83 ≡ true → (body : EndBody) → kinds.UnitStatus ≡ kind_of_body body → BodyTells s body
@@ -101,12 +96,7 @@ module _ (via : Connection) (r u code status : ℕ) (s : Shape) where
           λ n e. absurd (no_size (nat_eq code 0x83) _ n q e),
         ),
       )
-  status_read q bodies.Bare k t = cc
-  status_read q (bodies.Abort other) k t = cc
-  status_read q (bodies.Status other figure) k t = cc
-  status_read q (bodies.Online id media size serial) k t = cc
-  status_read q (bodies.Controller timeout id) k t = cc
-  status_read q (bodies.Moved count) k t = cc
+  status_read q body k t = cc
 
 -- two that are told of a unit agree
 agrees_same : (s : Shape) (i j : Identity) → IsOf s i → IsOf s j → agrees (Some i) j ≡ true
@@ -207,12 +197,7 @@ controller_read c via e kind controls st n h =
           body = body;
         })) 20 8 ≡ own_identifier c
     of_body (bodies.Controller timeout id) k t = ap (λ n. num (little_bytes 8 n) 0 8) t
-    of_body bodies.Bare k t = cc
-    of_body (bodies.Abort other) k t = cc
-    of_body (bodies.Status other figure) k t = cc
-    of_body (bodies.UnitStatus id media track group cylinder) k t = cc
-    of_body (bodies.Online id media size serial) k t = cc
-    of_body (bodies.Moved count) k t = cc
+    of_body body k t = cc
 
     by_test : (x y z : Bool) (m : ℕ) → (if x && y && z then Some m else None) ≡ Some n
         → (x ≡ true → y ≡ true → m ≡ own_identifier c) → n ≡ own_identifier c

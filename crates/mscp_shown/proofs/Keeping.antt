@@ -293,13 +293,7 @@ module _ (s : Sent) (a : Answer) where
       moved_none false p q = refl
       moved_none true None q = refl
       moved_none true (Some n) q = moves_none n q
-  none_moved codes.Abort one q = refl
-  none_moved codes.Status one q = refl
-  none_moved codes.UnitStatus one q = refl
-  none_moved codes.SetController one q = refl
-  none_moved codes.Available one q = refl
-  none_moved codes.Online one q = refl
-  none_moved codes.SetUnit one q = refl
+  none_moved code one q = refl
 
   short_keeps : (o : Opcode) (byte fault status : ℕ) (body : EndBody) → IsShort o byte fault s
       → a.unit ≡ s.unit → status ≡ fault → body ≡ refused_body (endcode (orders.Invalid byte fault))

@@ -88,14 +88,7 @@ small_at t h x = small_command (sent_bytes (moment t x).0) (bytes_at t h x)
 figure_small : (c : Settings) (own : Connection) (t : Trace) (o : Order) → ((n : Name) → figure_of c t n < 2 ^ 32)
     → figure_asked c own t o < 2 ^ 32
 figure_small c own t (Order.Status other) h = h (name_on own other)
-figure_small c own t (Order.Abort other) h = omega arith
-figure_small c own t Order.UnitStatus h = omega arith
-figure_small c own t (Order.SetController version) h = omega arith
-figure_small c own t Order.Available h = omega arith
-figure_small c own t Order.Online h = omega arith
-figure_small c own t Order.SetUnit h = omega arith
-figure_small c own t (Order.Move kind count block) h = omega arith
-figure_small c own t (Order.Invalid byte fault) h = omega arith
+figure_small c own t x h = omega arith
 
 -- an end fits the command that waits under its name
 fits_own : (c : Settings) (via : Connection) (t : Trace) (xs : List Sent) (x : ℕ) (e : End) → connection t x ≡ via

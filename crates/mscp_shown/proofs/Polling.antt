@@ -95,23 +95,11 @@ unpolled status (bodies.Status other figure) n =
       | true ↦ λ e. absurd (n (eqb-true (status % 32) 0 e))
       | false ↦ λ e. refl
     ] refl
-unpolled status bodies.Bare n = refl
-unpolled status (bodies.Abort other) n = refl
-unpolled status (bodies.UnitStatus id media track group cylinder) n = refl
-unpolled status (bodies.Controller timeout id) n = refl
-unpolled status (bodies.Online id media size serial) n = refl
-unpolled status (bodies.Moved count) n = refl
+unpolled status body n = refl
 
 refused_asks : (c : Settings) (unit status : ℕ) (o : Order) → order_fault c unit o ≡ Some status → asked_by o ≡ None
 refused_asks c unit status (orders.Status other) h = cc
-refused_asks c unit status (orders.Invalid byte fault) h = refl
-refused_asks c unit status (orders.Abort other) h = refl
-refused_asks c unit status (orders.Move kind count block) h = refl
-refused_asks c unit status orders.UnitStatus h = refl
-refused_asks c unit status orders.Available h = refl
-refused_asks c unit status orders.Online h = refl
-refused_asks c unit status orders.SetUnit h = refl
-refused_asks c unit status (orders.SetController version) h = refl
+refused_asks c unit status order h = refl
 
 answer_polls : (c : Settings) (online : Bool) (figure unit : ℕ) (o : Order) → is_immediate o ≡ true
     → poll_by (answer_status online o) (answer_body c figure unit o) ≡ asked_by o
@@ -140,14 +128,7 @@ own_polls c online figure k s q says = own_with c online figure k s (fault_of c 
 
 queued_asks : (o : Order) → is_immediate o ≡ false → asked_by o ≡ None
 queued_asks (orders.Status other) h = cc
-queued_asks (orders.Invalid byte fault) h = refl
-queued_asks (orders.Abort other) h = refl
-queued_asks (orders.Move kind count block) h = refl
-queued_asks orders.UnitStatus h = refl
-queued_asks orders.Available h = refl
-queued_asks orders.Online h = refl
-queued_asks orders.SetUnit h = refl
-queued_asks (orders.SetController version) h = refl
+queued_asks order h = refl
 
 pub aborted_polls : (c : Settings) (k : Command) (good : ℕ) → is_queued c k ≡ true
     → (poll_of (aborted_end k good) ≡ asked_by k.order) × (asked_by k.order ≡ None)

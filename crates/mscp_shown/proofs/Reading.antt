@@ -43,13 +43,10 @@ end r u code status body = record { reference = r; unit = u; code = code; status
 
 body_read : (via : Connection) (r u code status : ℕ) (body : EndBody) → IsBodyFit body
     → BodyReads body (answer_by via (end_bytes (end r u code status body)))
-body_read via r u code status bodies.Bare h = tt
 body_read via r u code status (bodies.Abort other) h = ap Some (four other h)
 body_read via r u code status (bodies.Status other figure) h = (ap Some (four other h.0), ap Some (four figure h.1))
-body_read via r u code status (bodies.UnitStatus id media track group cylinder) h = tt
-body_read via r u code status (bodies.Controller timeout id) h = tt
-body_read via r u code status (bodies.Online id media size serial) h = tt
 body_read via r u code status (bodies.Moved count) h = ap Some (four count h)
+body_read via r u code status body h = tt
 
 pub reads : (c : Settings) (via : Connection) (e : End) → IsFit c e → Reads e (answer_by via (end_bytes e))
 reads c via e h = record {

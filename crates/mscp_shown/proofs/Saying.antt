@@ -73,24 +73,14 @@ module _ (via : Connection) (b : List ℕ) where
       of_row : (o : Opcode) → (is_short (sent_by via b) ≡ false) × (least o ≤ length b)
           → IsLong (parameters o b) (sent_by via b)
       of_row codes.Abort h = h
-      of_row codes.Status h = h
-      of_row codes.UnitStatus h = h
-      of_row codes.SetController h = h
-      of_row codes.Available h = h
-      of_row codes.Online h = h
-      of_row codes.SetUnit h = h
-      of_row (codes.Move kind) h = h
+      of_row code h = h
 
   says_long : (o : Opcode) → (row_of o).byte ≡ slice_index b 8 → least o ≤ length b
       → Says (parameters o b) (sent_by via b)
   says_long codes.Abort e h = (sym e, there b 16 (omega arith) h)
   says_long codes.Status e h = (sym e, there b 16 (omega arith) h)
-  says_long codes.UnitStatus e h = sym e
-  says_long codes.SetController e h = sym e
-  says_long codes.Available e h = sym e
-  says_long codes.Online e h = sym e
-  says_long codes.SetUnit e h = sym e
   says_long (codes.Move kind) e h = (sym e, there b 32 (omega arith) h)
+  says_long code e h = sym e
 
   says_short : (o : Opcode) → (row_of o).byte ≡ slice_index b 8 → length b < least o
       → IsShort o (slice_index b 8) invalid_length (sent_by via b)

@@ -7,9 +7,7 @@ IsOfBytes m = AreBytes (sent_bytes m.0)
 
 of_bytes : (event : Event) → IsPossible event → AreBytes (sent_bytes event)
 of_bytes (Event.Send via b) h = h
-of_bytes (Event.Take via) h = λ i low. absurd (omega (arith, low))
-of_bytes (Event.Step k) h = λ i low. absurd (omega (arith, low))
-of_bytes Event.Look h = λ i low. absurd (omega (arith, low))
+of_bytes x h = λ i low. absurd (omega (arith, low))
 
 pub all_bytes : (t : Trace) → AllByRecursion (λ (m : Moment). IsPossible m.0) t → AllByRecursion IsOfBytes t
 all_bytes t h = every_weaker (λ (m : Moment). IsPossible m.0) IsOfBytes (λ m k. of_bytes m.0 k) t h

@@ -18,13 +18,7 @@ stays_off orders.Available status n = both (is_success status)
   where
     both : (b : Bool) → (if b then false else false) ≡ false
     both b = grind arith
-stays_off (orders.Invalid byte why) status n = refl
-stays_off (orders.Abort other) status n = refl
-stays_off (orders.Status other) status n = refl
-stays_off (orders.Move kind count block) status n = refl
-stays_off orders.UnitStatus status n = refl
-stays_off orders.SetUnit status n = refl
-stays_off (orders.SetController version) status n = refl
+stays_off order status n = refl
 
 comes_on : (old : Bool) (o : Order) (status : ℕ) → state_after old o status ≡ true
     → (old ≡ true) ⊎ (o ≡ orders.Online)
@@ -34,24 +28,11 @@ comes_on old orders.Available status h = inl (of (is_success status) h)
     of : (b : Bool) → (if b then false else old) ≡ true → old ≡ true
     of true e = absurd (false≢true e)
     of false e = e
-comes_on old (orders.Invalid byte why) status h = inl h
-comes_on old (orders.Abort other) status h = inl h
-comes_on old (orders.Status other) status h = inl h
-comes_on old (orders.Move kind count block) status h = inl h
-comes_on old orders.UnitStatus status h = inl h
-comes_on old orders.SetUnit status h = inl h
-comes_on old (orders.SetController version) status h = inl h
+comes_on old order status h = inl h
 
 is_online_order : (o : Order) → (o ≡ orders.Online) ⊎ (o ≢ orders.Online)
 is_online_order orders.Online = inl refl
-is_online_order orders.Available = inr (λ e. cc)
-is_online_order (orders.Invalid byte why) = inr (λ e. cc)
-is_online_order (orders.Abort other) = inr (λ e. cc)
-is_online_order (orders.Status other) = inr (λ e. cc)
-is_online_order (orders.Move kind count block) = inr (λ e. cc)
-is_online_order orders.UnitStatus = inr (λ e. cc)
-is_online_order orders.SetUnit = inr (λ e. cc)
-is_online_order (orders.SetController version) = inr (λ e. cc)
+is_online_order order = inr (λ e. cc)
 
 module _ (c : Settings) (t : Trace) (m : Moment) (known : Known c t) (h : Stands c t)
     (queued : AllByRecursion (λ x. is_queued c (command t x) ≡ true) (waiting t)) where

@@ -93,12 +93,10 @@ refused_fine c unit status (orders.Abort other) h = cc
 refused_fine c unit status (orders.Status other) h = cc
 refused_fine c unit status (orders.Move kind count block) h =
     move_fine status (move_refused_fine c count block status (unit_found c unit) h)
-refused_fine c unit status orders.UnitStatus h = offline_fine status (unit_refused status (unit_found c unit) h)
-refused_fine c unit status orders.Available h = offline_fine status (unit_refused status (unit_found c unit) h)
 refused_fine c unit status orders.Online h =
     λ z. omega (arith, z, unit_refused status (unit_found c unit) h)
-refused_fine c unit status orders.SetUnit h = offline_fine status (unit_refused status (unit_found c unit) h)
 refused_fine c unit status (orders.SetController version) h = version_fine status (version_refused status version h)
+refused_fine c unit status order h = offline_fine status (unit_refused status (unit_found c unit) h)
 
 -- ---- answered when it comes
 -- Success without a sub-code
@@ -312,13 +310,6 @@ refused_apart c unit status (orders.Abort other) s says h = cc
 refused_apart c unit status (orders.Status other) s says h = cc
 refused_apart c unit status (orders.Move kind count block) s says h =
     move_refused c kind count block status (unit_found c unit) h
-refused_apart c unit status orders.UnitStatus s says h =
-    inr (ap (λ n. n % 32) (unit_refused status (unit_found c unit) h))
-refused_apart c unit status orders.Available s says h =
-    inr (ap (λ n. n % 32) (unit_refused status (unit_found c unit) h))
-refused_apart c unit status orders.Online s says h =
-    inr (ap (λ n. n % 32) (unit_refused status (unit_found c unit) h))
-refused_apart c unit status orders.SetUnit s says h =
-    inr (ap (λ n. n % 32) (unit_refused status (unit_found c unit) h))
 refused_apart c unit status (orders.SetController version) s says h =
     inl (ap (λ n. n % 32) (version_refused status version h))
+refused_apart c unit status order s says h = inr (ap (λ n. n % 32) (unit_refused status (unit_found c unit) h))

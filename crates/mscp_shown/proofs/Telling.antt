@@ -39,12 +39,9 @@ never_success c unit status (orders.Status other) small h z = cc
 never_success c unit status (orders.Move kind count block) small h z =
     ⊎_elim (λ e. omega (arith, e, z)) (λ e. omega (arith, e, z)) (move_refused c kind count block status
     (unit_found c unit) h)
-never_success c unit status orders.UnitStatus small h z = omega (arith, unit_refused status (unit_found c unit) h, z)
-never_success c unit status orders.Available small h z = omega (arith, unit_refused status (unit_found c unit) h, z)
-never_success c unit status orders.Online small h z = omega (arith, unit_refused status (unit_found c unit) h, z)
-never_success c unit status orders.SetUnit small h z = omega (arith, unit_refused status (unit_found c unit) h, z)
 never_success c unit status (orders.SetController version) small h z =
     omega (arith, ap (λ n. n % 32) (version_refused status version h), z)
+never_success c unit status order small h z = omega (arith, unit_refused status (unit_found c unit) h, z)
 
 -- what is served
 online_tells : (s : Shape) (success : Bool) → success ≡ true

@@ -7,5 +7,4 @@ pub returns : goal.returns
 returns g c = λ hardware credits controller start p calls outcome done via reference result u kind block e made asks a
     makes begun moves there.
     stands g.K.Picker.picks hardware credits controller start made p calls outcome done u kind block e asks a
-    (good_told (step_told a.0 outcome a.0.task) a.0.controller.begun via reference result makes) begun moves there via
-    reference result makes
+    (good_told (step_told a.0 outcome a.0.task) a.0.controller.begun via reference result makes) begun moves there
