@@ -1,5 +1,5 @@
 -- What each moment of a host makes of the commands whose ends it hasn't heard.
-use Rattle.mscp_heard.proofs.Common.{Account, ArrayVec, Asked, Bool, Command, End, Envelope, Err, HearFault, Heard, HostFault, List, Message, News, None, Ok, Option, Order, Poll, PortAccount, Result, Some, Submission, [], ap, arith, asked_of, asks, asks_unless, bytes_in, bytes_of, command_bytes, cond, credit_fault, end_says, ended, ends_of, false, find, four, granted, has_reference, heard_of, hears, inl, inr, is_of, is_some, is_to_poll, is_too_much, is_transfer, list_any, map, may_be_of, message_in, nat_eq, news_said, none-some, num, oldest, opcode_byte, poll_of, polled_with, polls_oldest, port_polls, port_submits, refl, refusal, submits, submits_unless, submits_unless_faulty, submitted_with, subst, sym, true, without_by, ℕ, ◌&&◌, ◌*◌, ◌++◌, ◌+◌, ◌/◌, ◌<◌, ◌^◌, ◌||◌, ◌∙◌, ◌∷◌, ◌≡◌, ◌≤◌, ◌⊎◌}
+use Rattle.mscp_heard.proofs.Common.{Account, ArrayVec, Asked, Bool, Command, End, Envelope, Err, HearFault, Heard, HostFault, List, Message, News, None, Ok, Option, Order, Poll, PortAccount, Result, Some, Submission, [], ap, arith, asked_of, asks, asks_unless, bytes_in, bytes_of, command_bytes, cond, credit_fault, end_says, ended, ends_of, false, find, four, granted, has_reference, heard_of, hears, is_of, is_some, is_to_poll, is_too_much, is_transfer, list_any, map, may_be_of, message_in, nat_eq, news_said, none-some, num, oldest, opcode_byte, poll_of, polled_with, polls_oldest, port_polls, port_submits, refl, refusal, submits_unless, submits_unless_faulty, submitted_with, subst, sym, true, without_by, ℕ, ◌&&◌, ◌*◌, ◌++◌, ◌+◌, ◌/◌, ◌<◌, ◌^◌, ◌||◌, ◌∙◌, ◌∷◌, ◌≡◌, ◌≤◌, ◌⊎◌}
 use Rattle.std.proofs.Common.{◌%◌}
 use Rattle.mscp_packet.specs.declared.command.MoveKind.TheVariants as moves
 use Rattle.mscp_packet.specs.declared.command.Order.TheVariants as orders
@@ -176,29 +176,6 @@ module _ (old new : PortAccount) (n : ℕ) (small : n < 2 ^ 32) (same : SameNumb
 -- what is outstanding stays so, or the command of an end is it no more
 abbrev pub Settles : List Asked → List Asked → Result Message HearFault → Type 0
 Settles old new r = (new ≡ old) ⊎ ((e : End) × (r ≡ Ok (messages.End e)) × (new ≡ without_by (is_of e.reference) old))
-
-pub hear_settles : (old new : PortAccount) (v : Envelope) (b : List ℕ) (answer : Result Heard HearFault)
-    → hears old v b ≡ (answer, new) → Settles old.asked new.asked (message_in v b)
-hear_settles old new v b answer e = by (message_in v b) e
-  where
-    judged : (end : End) (x : Asked) (c : Bool)
-        → ◌≡◌ {A = Result Heard HearFault × PortAccount} (cond c (
-          Ok (end_says old end x),
-          granted v.credits (ended old end),
-        )
-        (Err faults.Unknown, old)) (answer, new)
-        → Settles old.asked new.asked (Ok (messages.End end))
-    judged end x true h = inr (end, refl, sym (ap (λ y. y.1.asked) h))
-    judged end x false h = inl (sym (ap (λ y. y.1.asked) h))
-
-    found : (end : End) (o : Option Asked) → ends_of old v.credits end o ≡ (answer, new)
-        → Settles old.asked new.asked (Ok (messages.End end))
-    found end None h = inl (sym (ap (λ y. y.1.asked) h))
-    found end (Some x) h = judged end x (may_be_of old end x) h
-
-    by : (r : Result Message HearFault) → heard_of old v.credits r ≡ (answer, new) → Settles old.asked new.asked r
-    by (Ok (messages.End end)) h = found end (find (is_of end.reference) old.asked) h
-    by x h = inl (sym (ap (λ y. y.1.asked) h))
 
 abbrev is_it : Result Heard HearFault × PortAccount → Bool
 is_it (Ok (heards.MovedTooMuch x y), p) = true

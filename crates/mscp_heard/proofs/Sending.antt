@@ -2,7 +2,7 @@
 use Rattle.mscp_heard.proofs.Common.{AllByRecursion, Asked, End, Envelope, List, Ok, OutgoingKind, PortAccount, Said, Some, [], ap, append_assoc, arith, connection_told, drop, false, find, inl, inr, is_of, is_too_much, kind_of_code, length-append, map, message_in, num, refl, slice_get, slice_index, subst, suc, sym, ℕ, ◌++◌, ◌∙◌, ◌∷◌, ◌≡◌, ◌≤◌}
 use Rattle.mscp_host.specs.declared.message.Message.TheVariants as messages
 use Rattle.mscp_port.specs.declared.port.OutgoingKind.TheVariants as kinds
-use Rattle.mscp_heard.proofs.Claims.{Claim, IsOwed, Owes, claim_of, claim_said, claims, claims_said, moved_in, owes_less, owes_more, owes_rest}
+use Rattle.mscp_heard.proofs.Claims.{IsOwed, Owes, claim_of, claim_said, claims, claims_said, moved_in, owes_less, owes_more, owes_rest}
 use Rattle.mscp_heard.proofs.Hosts.{Sends, Settles}
 use Rattle.mscp_heard.proofs.Moving.{drop_at, drop_beside}
 use Rattle.mscp_heard.proofs.Packets.{IsRead, end_heard}

@@ -1,10 +1,10 @@
 -- What each moment of a host makes of the poll in flight, and which ends a host takes.
-use Rattle.mscp_heard.proofs.Common.{Account, AllByRecursion, ArrayVec, Asked, Bool, Command, End, EndBody, Envelope, Err, HearFault, Heard, HostFault, List, Message, None, Ok, Option, Poll, PortAccount, Result, Some, Submission, Watch, [], answered, ap, arith, as_read, asked_of, asks, asks_unless, command_bytes, cond, credit_fault, end_says, ended, ends_of, eq-eqb, false, find, four, granted, has_reference, heard_of, hears, inl, inr, is_about, is_about_polled, is_code_of, is_immediate, is_of, is_poll_of, is_some, is_success, is_to_poll, length, map, may_be_of, message_in, nat_eq, none-some, noted_poll, num, oldest, opcode_byte, poll_of, polled_with, polls_oldest, port_polls, port_submits, refl, refusal, same_Some, slice_index, submission_of, submits_unless, submits_unless_faulty, submitted_with, subst, sym, told_in, true, watch_after, without_by, ℕ, ◌&&◌, ◌++◌, ◌<◌, ◌^◌, ◌∙◌, ◌∷◌, ◌≡◌, ◌≤◌, ◌⊎◌}
+use Rattle.mscp_heard.proofs.Common.{Account, AllByRecursion, ArrayVec, Asked, Bool, Command, End, EndBody, Envelope, Err, HearFault, Heard, HostFault, List, Message, None, Ok, Option, Poll, PortAccount, Result, Some, Submission, Watch, [], answered, ap, arith, as_read, asked_of, asks, asks_unless, command_bytes, cond, credit_fault, end_says, ended, ends_of, eq-eqb, eqb-true, false, find, four, granted, has_reference, heard_of, hears, inl, inr, is_about, is_about_polled, is_code_of, is_immediate, is_of, is_poll_of, is_some, is_success, is_to_poll, length, list_any, map, may_be_of, message_in, nat_eq, none-some, not, noted_poll, num, oldest, opcode_byte, poll_of, polled_with, polls_oldest, port_polls, port_submits, refl, refusal, same_Some, slice_index, submission_of, submits_unless, submits_unless_faulty, submitted_with, subst, sym, told_in, true, watch_after, without_by, ℕ, ◌&&◌, ◌++◌, ◌<◌, ◌^◌, ◌∙◌, ◌∷◌, ◌≡◌, ◌≤◌, ◌⊎◌}
 use Rattle.mscp_packet.specs.declared.end.EndBody.TheVariants as bodies
 use Rattle.mscp_host.specs.declared.message.HearFault.TheVariants as faults
 use Rattle.mscp_host.specs.declared.message.Message.TheVariants as messages
 use Rattle.mscp_host.specs.declared.news.Poll.TheVariants as polls
-use Rattle.mscp_heard.proofs.Hosts.{SameNumbers, is_ask, not_doubled, unused}
+use Rattle.mscp_heard.proofs.Hosts.{SameNumbers, Settles, is_ask, not_doubled, unused}
 
 -- ---- a message is sent
 
@@ -231,6 +231,11 @@ hear_watch old new v b answer e = by (message_in v b) e
     by : (r : Result Message HearFault) → heard_of old v.credits r ≡ (answer, new) → SettlesWatch old new r
     by (Ok (messages.End end)) h = found end (find (is_of end.reference) old.asked) h
     by x h = inl (sym (ap (λ y. y.1.asked) h), sym (ap (λ y. y.1.account) h))
+
+pub settles : (old new : PortAccount) (r : Result Message HearFault) → SettlesWatch old new r
+    → Settles old.asked new.asked r
+settles old new r (inl same) = inl same.0
+settles old new r (inr e) = inr (e.0, e.1, e.2)
 
 -- an end of the code of its command, and a poll's about the polled one, is that of the command
 pub may_be : (old : PortAccount) (e : End) (x : Asked) → is_code_of e.code x.opcode ≡ true
