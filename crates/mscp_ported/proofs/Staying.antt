@@ -41,7 +41,8 @@ word_stays {K} word old new r = by old.stage refl
     named_or : (o : Option Rings) → rings_named old.words.first old.words.second word ≡ o → old.stage ≡ stages.Third
         → word < 0x8000 → Stays old new
     named_or None none at low = died 7 old new (r.nowhere at low none)
-    named_or (Some area) some at low = same_as (r.clear at low (λ none. none-some area (sym none ∙ some))) (moved old stages.Clearing refl)
+    named_or (Some area) some at low = same_as (r.clear at low (λ none. none-some area (sym none ∙ some)))
+        (moved old stages.Clearing refl)
 
     by : (s : Stage) → old.stage ≡ s → Stays old new
     by stages.First at = elim (is_one (word / 0x4000 % 2)) [
@@ -53,7 +54,8 @@ word_stays {K} word old new r = by old.stage refl
       | inl high ↦ same_as (r.probe at high) (moved old stages.Purging refl)
       | inr low ↦ named_or (rings_named old.words.first old.words.second word) refl at low
     ]
-    by s at = same_as (r.elsewhere (λ e. search (arith, at, e)) (λ e. search (arith, at, e)) (λ e. search (arith, at, e))) (alike old)
+    by s at = same_as (r.elsewhere (λ e. search (arith, at, e)) (λ e. search (arith, at, e))
+        (λ e. search (arith, at, e))) (alike old)
 
 clear_stays : {K : Type 0} (outcome : Outcome) (done : ℕ) (old new : Port K) (r : Rings)
     → Clears outcome r done old new → Stays old new
@@ -154,7 +156,8 @@ reads_ip {K} old new r = by old.stage refl
   where
     rings_or : old.stage ≡ stages.Probing → (o : Option Rings) → old.rings ≡ o → Stays old new
     rings_or at None none = died 7 old new (r.nowhere at none)
-    rings_or at (Some area) some = same_as (r.probed at (λ none. none-some area (sym none ∙ some))) (moved old stages.Clearing refl)
+    rings_or at (Some area) some = same_as (r.probed at (λ none. none-some area (sym none ∙ some)))
+        (moved old stages.Clearing refl)
 
     by : (s : Stage) → old.stage ≡ s → Stays old new
     by stages.Up at = same_as (r.up at) (alike old)
