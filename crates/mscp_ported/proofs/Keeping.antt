@@ -209,8 +209,4 @@ module _ {K : Type 0} (picks : Picking K) (hardware : Hardware) (credits : ℕ) 
   are_owned p (Went outcome (Ok done) ∷ calls) asks a =
       went_owned picks start p calls outcome done a (are_owned a.0 calls asks.1 a.1) asks.0
       (steps picks hardware credits controller start made a.0 calls asks.1 a.1)
-  are_owned p (WasRead bytes (Err unasked) ∷ calls) asks a =
-      passive_owned p (WasRead bytes (Err unasked)) calls a tt (are_owned a.0 calls asks a.1)
-  are_owned p (Went outcome (Err unasked) ∷ calls) asks a =
-      passive_owned p (Went outcome (Err unasked)) calls a tt (are_owned a.0 calls asks a.1)
   are_owned p (call ∷ calls) asks a = passive_owned p call calls a tt (are_owned a.0 calls asks a.1)

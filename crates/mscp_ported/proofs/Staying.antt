@@ -1,5 +1,5 @@
 -- Calls that leave the controller as it was.
-use Rattle.mscp_ported.proofs.Common.{Becomes, Bool, Call, Choice, Clears, Commands, Dies, Err, GivesBack, Goes, Hears, IfSome, IsAsNew, IsReadingText, List, MatchOption, Next, None, Ok, Option, Outcome, Picking, Port, ReadIp, ReadsIp, Responses, Rings, Side, Some, Stage, TakesStep, Task, WasRead, Went, WriteIp, WriteSa, WritesOut, WritesSa, ap, arith, block_begun, blocks, cond, end_of, false, header_fault, inl, inr, is_dead, is_owned, length, nat_lt, none-some, num, read_size, refl, rings_named, start_of, step_answered, step_told, subst, sym, told_of, transfer_told, true, ℕ, ◌%◌, ◌+◌, ◌/◌, ◌<◌, ◌==◌, ◌∙◌, ◌≡◌, ◌≢◌, ◌≤◌, ◌⊎◌}
+use Rattle.mscp_ported.proofs.Common.{Becomes, Bool, Call, Choice, Clears, Commands, Dies, GivesBack, Goes, Hears, IfSome, IsAsNew, IsReadingText, List, MatchOption, Next, None, Ok, Option, Outcome, Picking, Port, ReadIp, ReadsIp, Responses, Rings, Side, Some, Stage, TakesStep, Task, WasRead, Went, WriteIp, WriteSa, WritesOut, WritesSa, ap, arith, block_begun, blocks, cond, end_of, false, header_fault, inl, inr, is_dead, is_owned, length, nat_lt, none-some, num, read_size, refl, rings_named, start_of, step_answered, step_told, subst, sym, told_of, transfer_told, true, ℕ, ◌%◌, ◌+◌, ◌/◌, ◌<◌, ◌==◌, ◌∙◌, ◌≡◌, ◌≢◌, ◌≤◌, ◌⊎◌}
 use Rattle.mscp_ported.proofs.Minor.{GivesUp, Minor, Mounts, PutsAside, ReadsAgain, Still, minor}
 use Rattle.mscp_port.specs.declared.action.Outcome.TheVariants as outcomes
 use Rattle.mscp_port.specs.declared.stage.Stage.TheVariants as stages
@@ -205,8 +205,6 @@ pub passive_stays : {K : Type 0} (picks : Picking K) (call : Call) (old new : Po
     → IsPassive call → Stays old new
 passive_stays picks ReadIp old new r is = reads_ip old new r
 passive_stays picks (WriteSa word) old new r is = writes_sa word old new r
-passive_stays picks (WasRead bytes (Err unasked)) old new r is = same_as r.unasked (alike old)
-passive_stays picks (Went outcome (Err unasked)) old new r is = same_as r.unasked (alike old)
 passive_stays picks WriteIp old new r is = absurd is
 passive_stays picks (Next blocks action bytes) old new r is = absurd is
 passive_stays picks (WasRead bytes (Ok done)) old new r is = absurd is
