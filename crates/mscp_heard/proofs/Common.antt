@@ -14,7 +14,7 @@ pub use Rattle.mscp_drive.specs.Settings.{IsValid, Settings}
 pub use Rattle.mscp_drive.specs.declared.connection.Connection.TheVariants.{First}
 pub use Rattle.mscp_heard.specs.Deeds.{AreJoined, Called, Deed, Did, HasNumber, HaveNumbers, HearsInOrder, IsCopyOf, IsNextText, IsPacket, IsTextOf, Likeness, ReadsInOrder, calls_in, did, hearings, is_hearing, sent, sent_by}
 pub use Rattle.mscp_heard.specs.Hearing.{HearsItsOwn}
-pub use Rattle.mscp_host.specs.Accounts.{Account, answered, asks, asks_unless, end_in, has_reference, is_about, is_about_polled, is_code_of, is_immediate, last_told, news_of_figure, news_with, oldest, outstanding_with, poll_of, polled_is_outstanding, polls_oldest, refusal, submission_of, submits, submits_unless, told_in, told_of, watch_after, with_told, without}
+pub use Rattle.mscp_host.specs.Accounts.{Account, answered, asks, asks_unless, end_in, has_reference, is_about, is_about_polled, is_code_of, is_immediate, last_told, news_of_figure, news_with, oldest, outstanding_with, poll_of, polled_is_outstanding, polls_oldest, refusal, submission_of, submits_unless, told_in, told_of, watch_after, watching, with_told, without}
 pub use Rattle.mscp_host.specs.Histories.{History, outstanding, submission_at}
 pub use Rattle.mscp_host.specs.Messages.{any_end, bare_end, envelope_in, message_in, sequential_in, typed_in}
 pub use Rattle.mscp_host.specs.PortAccounts.{PortAccount, as_read, asked_of, bytes_of, credit_fault, end_says, ended, ends_of, fresh_of_port, granted, heard_of, hears, is_of, is_poll_of, is_success, is_to_poll, is_too_much, may_be_of, news_said, noted_poll, polled_with, port_polls, port_submits, submits_unless_faulty, submitted_with, without_by}

@@ -1,5 +1,5 @@
 -- What each moment of a host makes of the commands whose ends it hasn't heard.
-use Rattle.mscp_heard.proofs.Common.{Account, ArrayVec, Asked, Bool, Command, End, Envelope, Err, HearFault, Heard, HostFault, List, Message, News, None, Ok, Option, Order, Poll, PortAccount, Result, Some, Submission, [], ap, arith, asked_of, asks, asks_unless, bytes_in, bytes_of, command_bytes, cond, credit_fault, end_says, ended, ends_of, false, find, four, granted, has_reference, heard_of, hears, inl, inr, is_of, is_some, is_to_poll, is_too_much, is_transfer, list_any, map, may_be_of, message_in, nat_eq, news_said, none-some, num, oldest, opcode_byte, poll_of, polled_with, polls_oldest, port_polls, port_submits, refl, refusal, submits, submits_unless, submits_unless_faulty, submitted_with, subst, sym, true, without_by, ℕ, ◌&&◌, ◌*◌, ◌++◌, ◌+◌, ◌/◌, ◌<◌, ◌^◌, ◌||◌, ◌∙◌, ◌∷◌, ◌≡◌, ◌≤◌, ◌⊎◌}
+use Rattle.mscp_heard.proofs.Common.{ArrayVec, Asked, Bool, Command, End, Envelope, Err, HearFault, Heard, List, Message, News, None, Ok, Option, Order, PortAccount, Result, Some, Submission, [], answered, ap, arith, as_read, asked_of, bytes_in, bytes_of, command_bytes, cond, end_says, ended, ends_of, false, find, four, granted, has_reference, heard_of, hears, is_of, is_poll_of, is_too_much, is_transfer, list_any, map, may_be_of, message_in, nat_eq, news_said, news_with, num, poll_of, port_polls, port_submits, refl, subst, sym, true, without_by, ℕ, ◌*◌, ◌++◌, ◌+◌, ◌/◌, ◌<◌, ◌^◌, ◌||◌, ◌∙◌, ◌∷◌, ◌≡◌, ◌≤◌, ◌⊎◌}
 use Rattle.std.proofs.Common.{◌%◌}
 use Rattle.mscp_packet.specs.declared.command.MoveKind.TheVariants as moves
 use Rattle.mscp_packet.specs.declared.command.Order.TheVariants as orders
@@ -8,6 +8,7 @@ use Rattle.mscp_host.specs.declared.message.HearFault.TheVariants as faults
 use Rattle.mscp_host.specs.declared.news.News.TheVariants as news
 use Rattle.mscp_host.specs.declared.message.Message.TheVariants as messages
 use Rattle.mscp_host.specs.declared.news.Poll.TheVariants as polls
+use Rattle.mscp_heard.proofs.Asking.{IsSent, poll_is, submit_is}
 
 -- ---- the message of a command
 
@@ -59,10 +60,6 @@ pub unused : (p : PortAccount) (n : ℕ) → SameNumbers p → list_any (has_ref
 unused p n same e = none_any n p.asked (ap (list_any (λ r. nat_eq r n)) same
     ∙ sym (any_same n p.account.outstanding) ∙ e)
 
-pub not_doubled : (a : Account) (opcode n : ℕ) → refusal a opcode n ≡ None
-    → list_any (has_reference n) a.outstanding ≡ false
-not_doubled a opcode n e = grind (arith, none-some)
-
 -- ---- a command is sent
 
 pub record Sends (old new : PortAccount) (message : List ℕ) : Type 0 where
@@ -73,132 +70,31 @@ pub record Sends (old new : PortAccount) (message : List ℕ) : Type 0 where
   pub bytes : bytes_in message ≤ more.bytes
 
 sends : (old new : PortAccount) (message : ArrayVec ℕ) (c : Command) → c.reference < 2 ^ 32 → SameNumbers old
-    → list_any (has_reference c.reference) old.account.outstanding ≡ false → message.items ≡ command_bytes c
-    → new.asked ≡ old.asked ++ asked_of c ∷ [] → Sends old new message.items
-sends old new message c small same free is asked =
-    let number : num message.items 0 4 ≡ c.reference = ap (λ b. num b 0 4) is ∙ message_number c small in
+    → IsSent old new message c → Sends old new message.items
+sends old new message c small same s =
+    let number : num message.items 0 4 ≡ c.reference = ap (λ b. num b 0 4) s.is ∙ message_number c small in
     record {
       more = asked_of c;
-      asked = asked;
-      new_number = subst (λ n. find (is_of n) old.asked ≡ None) (sym number) (unused old c.reference same free);
+      asked = s.asked;
+      new_number = subst (λ n. find (is_of n) old.asked ≡ None) (sym number) (unused old c.reference same s.free);
       number = sym number;
-      bytes = subst (λ b. bytes_in b ≤ bytes_of c.order) (sym is) (order_bytes c.reference c.unit c.order);
+      bytes = subst (λ b. bytes_in b ≤ bytes_of c.order) (sym s.is) (order_bytes c.reference c.unit c.order);
     }
 
 pub submit_sends : (old new : PortAccount) (c : Command) (message : ArrayVec ℕ) → c.reference < 2 ^ 32
     → SameNumbers old → port_submits old c ≡ (Ok message, new) → Sends old new message.items
-submit_sends old new c message small same e = by (credit_fault old.credits (opcode_byte c.order)) e
-  where
-    judged : (o : Option HostFault) → refusal old.account (opcode_byte c.order) c.reference ≡ o
-        → submitted_with old c (submits_unless old.account c o) ≡ (Ok message, new) → Sends old new message.items
-    judged (Some fault) r h = absurd (search (arith, h))
-    judged None r h = sends old new message c small same
-        (not_doubled old.account (opcode_byte c.order) c.reference r) (sym (ap items h))
-        (sym (ap (λ x. x.1.asked) h))
-      where
-        items : Result (ArrayVec ℕ) HostFault × PortAccount → List ℕ
-        items (Ok b, x) = b.items
-        items (Err f, x) = []
+submit_sends old new c message small same e = sends old new message c small same (submit_is old new c message e).0
 
-    by : (o : Option HostFault) → submits_unless_faulty old c o ≡ (Ok message, new) → Sends old new message.items
-    by (Some fault) h = absurd (search (arith, h))
-    by None h = judged (refusal old.account (opcode_byte c.order) c.reference) refl h
-
-pub submit_refused : (old new : PortAccount) (c : Command) (fault : HostFault) → port_submits old c ≡ (Err fault, new)
-    → new.asked ≡ old.asked
-submit_refused old new c fault e = by (credit_fault old.credits (opcode_byte c.order)) e
-  where
-    judged : (o : Option HostFault) → submitted_with old c (submits_unless old.account c o) ≡ (Err fault, new)
-        → new.asked ≡ old.asked
-    judged (Some other) h = sym (ap (λ x. x.1.asked) h)
-    judged None h = absurd (search (arith, h))
-
-    by : (o : Option HostFault) → submits_unless_faulty old c o ≡ (Err fault, new) → new.asked ≡ old.asked
-    by (Some other) h = sym (ap (λ x. x.1.asked) h)
-    by None h = judged (refusal old.account (opcode_byte c.order) c.reference) h
-
--- ---- a poll
-
-abbrev pub is_ask : Result Poll HostFault → Bool
-is_ask (Ok (polls.Ask message)) = true
-is_ask other = false
-
-module _ (old new : PortAccount) (n : ℕ) (small : n < 2 ^ 32) (same : SameNumbers old) where
-  asked_so : (message : ArrayVec ℕ) (s : Submission) (o : Option HostFault)
-      → refusal old.account (opcode_byte (poll_of n s).order) n ≡ o → oldest old.account ≡ Some s
-      → polled_with old n (asks_unless old.account n s o) ≡ (Ok (polls.Ask message), new) → Sends old new message.items
-  asked_so message s (Some fault) r at h = absurd (search (arith, h))
-  asked_so message s None r at h = sends old new message (poll_of n s) small same
-      (not_doubled old.account (opcode_byte (poll_of n s).order) n r) (sym (ap items h))
-      (sym (ap (λ x. x.1.asked) h) ∙ ap (λ o. (Rattle.mscp_host.specs.PortAccounts.noted_poll old
-      (Rattle.mscp_host.specs.Accounts.watching old.account n s) n o).asked) at)
-    where
-      items : Result Poll HostFault × PortAccount → List ℕ
-      items (Ok (polls.Ask b), x) = b.items
-      items (other, x) = []
-
-  pub poll_sends : (message : ArrayVec ℕ) → port_polls old n ≡ (Ok (polls.Ask message), new)
-      → Sends old new message.items
-  poll_sends message e = by (nat_eq old.credits 0 && is_to_poll old.account) e
-    where
-      about : (o : Option Submission) → oldest old.account ≡ o
-          → polled_with old n (asks old.account n o) ≡ (Ok (polls.Ask message), new) → Sends old new message.items
-      about None at h = absurd (search (arith, h))
-      about (Some s) at h = asked_so message s (refusal old.account (opcode_byte (poll_of n s).order) n) refl at h
-
-      busy : (b : Bool) → polled_with old n (cond b (Ok polls.Busy, old.account) (asks old.account n
-          (oldest old.account))) ≡ (Ok (polls.Ask message), new) → Sends old new message.items
-      busy true h = absurd (search (arith, h))
-      busy false h = about (oldest old.account) refl h
-
-      by : (b : Bool) → ◌≡◌ {A = Result Poll HostFault × PortAccount}
-          (cond b (Err Rattle.mscp_host.specs.declared.news.HostFault.TheVariants.NoCredit, old)
-          (polled_with old n (polls_oldest old.account n))) (Ok (polls.Ask message), new) → Sends old new message.items
-      by true h = absurd (search (arith, h))
-      by false h = busy (is_some old.account.watch) h
-
-  pub poll_still : (answer : Result Poll HostFault) → is_ask answer ≡ false → port_polls old n ≡ (answer, new)
-      → new.asked ≡ old.asked
-  poll_still answer none e = by (nat_eq old.credits 0 && is_to_poll old.account) e
-    where
-      with_so : (x : Result Poll HostFault × Account) → polled_with old n x ≡ (answer, new) → new.asked ≡ old.asked
-      with_so (Ok (polls.Ask message), a) h = absurd (search (arith, none, ap (λ y. is_ask y.0) h))
-      with_so x h = sym (ap (λ y. y.1.asked) h)
-
-      by : (b : Bool) → ◌≡◌ {A = Result Poll HostFault × PortAccount}
-          (cond b (Err Rattle.mscp_host.specs.declared.news.HostFault.TheVariants.NoCredit, old)
-          (polled_with old n (polls_oldest old.account n))) (answer, new) → new.asked ≡ old.asked
-      by true h = sym (ap (λ y. y.1.asked) h)
-      by false h = with_so (polls_oldest old.account n) h
+pub poll_sends : (old new : PortAccount) (n : ℕ) → n < 2 ^ 32 → SameNumbers old → (message : ArrayVec ℕ)
+    → port_polls old n ≡ (Ok (polls.Ask message), new) → Sends old new message.items
+poll_sends old new n small same message e =
+    let x = poll_is old new n message e in sends old new message (poll_of n x.0) small same x.2
 
 -- ---- something is heard
 
 -- what is outstanding stays so, or the command of an end is it no more
 abbrev pub Settles : List Asked → List Asked → Result Message HearFault → Type 0
 Settles old new r = (new ≡ old) ⊎ ((e : End) × (r ≡ Ok (messages.End e)) × (new ≡ without_by (is_of e.reference) old))
-
-pub hear_settles : (old new : PortAccount) (v : Envelope) (b : List ℕ) (answer : Result Heard HearFault)
-    → hears old v b ≡ (answer, new) → Settles old.asked new.asked (message_in v b)
-hear_settles old new v b answer e = by (message_in v b) e
-  where
-    judged : (end : End) (x : Asked) (c : Bool)
-        → ◌≡◌ {A = Result Heard HearFault × PortAccount} (cond c (
-          Ok (end_says old end x),
-          granted v.credits (ended old end),
-        )
-        (Err faults.Unknown, old)) (answer, new)
-        → Settles old.asked new.asked (Ok (messages.End end))
-    judged end x true h = inr (end, refl, sym (ap (λ y. y.1.asked) h))
-    judged end x false h = inl (sym (ap (λ y. y.1.asked) h))
-
-    found : (end : End) (o : Option Asked) → ends_of old v.credits end o ≡ (answer, new)
-        → Settles old.asked new.asked (Ok (messages.End end))
-    found end None h = inl (sym (ap (λ y. y.1.asked) h))
-    found end (Some x) h = judged end x (may_be_of old end x) h
-
-    by : (r : Result Message HearFault) → heard_of old v.credits r ≡ (answer, new) → Settles old.asked new.asked r
-    by (Ok (messages.End end)) h = found end (find (is_of end.reference) old.asked) h
-    by x h = inl (sym (ap (λ y. y.1.asked) h))
 
 abbrev is_it : Result Heard HearFault × PortAccount → Bool
 is_it (Ok (heards.MovedTooMuch x y), p) = true

@@ -1,13 +1,15 @@
 -- What a host is owed after each deed at its port.
-use Rattle.mscp_heard.proofs.Common.{AllByRecursion, Answered, AnsweredCalls, AreJoined, Ask, Asked, AsksAlways, Bool, Call, Called, Deals, Deed, Did, End, Envelope, Err, First, Hardware, HasNumber, HaveNumbers, Hear, HearFault, Heard, HearsInOrder, HearsItsOwn, Holdings, IsAnswering, IsMadeOf, IsNextText, IsPacket, IsTaking, IsTextOf, IsValid, IsWhole, Likeness, List, Made, Ok, Opened, Other, OutgoingKind, Packet, Picking, Port, PortAccount, PortAnswered, PortAnswers, PortHistory, PortHostsKeepTheirHistory, PortMoment, PortsAnswerAsTheyMay, PortsEndWhatTheyTook, PortsHearInOrder, PortsOpenWhatTheyAccept, PortsTellInOrder, ReadsBytes, ReadsInOrder, Result, Resume, Settings, Slot, Some, Submit, Talk, WasRead, WriteIp, [], accepted, accepted_by, all_said, ap, append-nil, arith, awaited, begins, bytes_in, bytes_small, calls_in, cond, connection_told, did, drop, ends_said_by, envelope_in, false, filter, find, fresh, fresh_of_port, has_number, hearings, held, inl, inr, is_dead, is_for_utilities, is_hearing, is_of, is_too_much, kind_answered, kind_of_code, length, length-map, map, message_in, none-some, not, num, outstanding, outstanding_of, own_answer, refl, said, said_in, same_Some, seen, sent, sent_by, slice_get, slice_index, submission_at, subst, suc, sym, taken_by, talk_of, true, volume_named, without_ends, ℕ, ◌%◌, ◌++◌, ◌-◌, ◌∙◌, ◌∷◌, ◌≡◌, ◌≢◌, ◌≤◌}
+use Rattle.mscp_heard.proofs.Common.{Account, AllByRecursion, Answered, AnsweredCalls, AreJoined, Ask, Asked, AsksAlways, Bool, Call, Called, Deals, Deed, Did, End, Envelope, Err, First, Hardware, HasNumber, HaveNumbers, Hear, HearFault, Heard, HearsInOrder, HearsItsOwn, Holdings, IsAnswering, IsMadeOf, IsNextText, IsPacket, IsTaking, IsTextOf, IsValid, IsWhole, Likeness, List, Made, Ok, Opened, Other, OutgoingKind, Packet, Picking, Port, PortAccount, PortAnswered, PortAnswers, PortHistory, PortHostsKeepTheirHistory, PortMoment, PortsAnswerAsTheyMay, PortsEndWhatTheyTook, PortsHearInOrder, PortsOpenWhatTheyAccept, PortsTellInOrder, ReadsBytes, ReadsInOrder, Result, Resume, Settings, Slot, Some, Submit, WasRead, WriteIp, [], accepted, accepted_by, all_said, answered, ap, append-nil, arith, asks, awaited, begins, bytes_in, bytes_small, calls_in, cond, connection_told, did, drop, ends_said_by, envelope_in, false, filter, find, fresh, fresh_of_port, has_number, hearings, held, inl, inr, is_dead, is_for_utilities, is_hearing, is_of, is_too_much, kind_answered, kind_of_code, length, length-map, map, message_in, none-some, not, num, outstanding, outstanding_of, own_answer, refl, said, said_in, same_Some, seen, sent, sent_by, slice_get, slice_index, submission_at, subst, suc, sym, taken_by, talk_of, true, volume_named, without_ends, ℕ, ◌%◌, ◌++◌, ◌-◌, ◌∙◌, ◌∷◌, ◌≡◌, ◌≢◌, ◌≤◌}
 use Rattle.mscp_host.specs.declared.message.Message.TheVariants as messages
 use Rattle.mscp_host.specs.declared.news.Poll.TheVariants as polls
 use Rattle.mscp_port.specs.declared.port.OutgoingKind.TheVariants as kinds
 use Rattle.mscp_heard.proofs.Moments.{answered_last, asked_before, heard_last, reads_before, same_numbers, sent_last}
 use Rattle.mscp_heard.proofs.Sending.{by_hearing, by_message, heard_own}
 use Rattle.mscp_heard.proofs.Telling.{IsHeard, counted, few_credits, first_part, size_of, tell_at}
-use Rattle.mscp_heard.proofs.Hosts.{hears_refused, SameNumbers, hear_settles, hears_too_much, poll_sends, poll_still, submit_refused, submit_sends}
+use Rattle.mscp_heard.proofs.Hosts.{hears_refused, SameNumbers, hears_too_much, poll_sends, submit_sends}
 use Rattle.mscp_heard.proofs.Moving.{drop_at}
+use Rattle.mscp_heard.proofs.Asking.{poll_same, submit_same}
+use Rattle.mscp_heard.proofs.Watching.{hear_watch, settles}
 use Rattle.mscp_heard.proofs.Packets.{IsMessage, IsRead, message_read}
 use Rattle.mscp_heard.proofs.Owing.{Inv, IsCoded, same_ok, inv_as, since_alive, moved_few, own_number, own_bytes, own_whole, by_news, by_end, by_text, by_answer, one_more, begun_one}
 
@@ -245,17 +247,17 @@ module _ {K : Type 0} (picks : Picking K) (c : Settings) (picker : K) (ends : Po
         (awaited picks start p calls a) (sent h) (length (accepted picks start p calls a)) i mid new message.items refl
         (submit_sends mid new command message small sane r))
     moment (Submit command (Err fault)) small joined r = as_last (Submit command (Err fault))
-        (still (submit_refused mid new command fault r))
+        (still (ap (λ (q : PortAccount). q.asked) (submit_same mid new command fault r)))
     moment (Ask n (Ok (polls.Ask message))) small joined r = as_last (Ask n (Ok (polls.Ask message)))
         (by_message mid.asked (all_said picks start p calls a) (hearings h)
         (awaited picks start p calls a) (sent h) (length (accepted picks start p calls a)) i mid new message.items refl
         (poll_sends mid new n small sane message r))
     moment (Ask n (Ok polls.Nothing)) small joined r = as_last (Ask n (Ok polls.Nothing))
-        (still (poll_still mid new n small sane (Ok polls.Nothing) refl r))
+        (still (ap (λ (q : PortAccount). q.asked) (poll_same mid new n (Ok polls.Nothing) refl r)))
     moment (Ask n (Ok polls.Busy)) small joined r = as_last (Ask n (Ok polls.Busy))
-        (still (poll_still mid new n small sane (Ok polls.Busy) refl r))
+        (still (ap (λ (q : PortAccount). q.asked) (poll_same mid new n (Ok polls.Busy) refl r)))
     moment (Ask n (Err fault)) small joined r = as_last (Ask n (Err fault))
-        (still (poll_still mid new n small sane (Err fault) refl r))
+        (still (ap (λ (q : PortAccount). q.asked) (poll_same mid new n (Err fault) refl r)))
     moment (Hear v b answer) small joined r =
         let x = hears_said p calls a (hearings h) v b joined.0 asks joined.1 joined.2 in
         as_last (Hear v b answer)
@@ -263,7 +265,7 @@ module _ {K : Type 0} (picks : Picking K) (c : Settings) (picker : K) (ends : Po
         (awaited picks start p calls a) ms (length (accepted picks start p calls a))) (sym (append-nil (sent h)))
         (by_hearing mid.asked (all_said picks start p calls a) (hearings h)
         (awaited picks start p calls a) (sent h) (length (accepted picks start p calls a)) i x.said v b new.asked x.at
-        x.text x.connection (hear_settles mid new v b answer r)))
+        x.text x.connection (settles mid new (message_in v b) (hear_watch mid new v b answer r))))
     moment (Resume b) small joined r = as_last (Resume b)
         (still (ap (λ (q : PortAccount). q.asked) (same_ok new mid (sym r.1 ∙ r.0.back))))
     moment Other small joined r = as_last Other (still (ap (λ (q : PortAccount). q.asked) r))

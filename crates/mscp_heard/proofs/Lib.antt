@@ -1,5 +1,6 @@
 mod Common
 pub mod Claims
+pub mod Asking
 pub mod Hosts
 pub mod Moving
 pub mod Packets

@@ -10,7 +10,8 @@ use Rattle.mscp_heard.proofs.Refusing.{owed_so, noted, by_call, end_kind, read_s
 use Rattle.mscp_heard.proofs.Keeping.{knows_sent}
 use Rattle.mscp_heard.proofs.Answered.{knows_news, knows_end, says_neither}
 use Rattle.mscp_heard.proofs.Packets.{is_end, IsMessage, message_read, end_read, end_heard, IsRead}
-use Rattle.mscp_heard.proofs.Watching.{Notes, submit_notes, poll_notes, submit_same, poll_same}
+use Rattle.mscp_heard.proofs.Asking.{poll_same, submit_same}
+use Rattle.mscp_heard.proofs.Watching.{Notes, submit_notes, poll_notes}
 use Rattle.mscp_heard.proofs.Saying.{IsHeardSo, hear_done}
 use Rattle.mscp_heard.proofs.Dealt.{Taken}
 use Rattle.mscp_heard.proofs.Claims.{claim_of, claims, claims_said, tally, tally_append}

@@ -2,6 +2,7 @@
 use Rattle.mscp_heard.proofs.Common.{All, AllByRecursion, Answered, AnsweredCalls, AreJoined, Ask, Asked, AsksAlways, Call, Called, Deals, Deed, Did, End, Envelope, Err, First, Hardware, HasNumber, HaveNumbers, Hear, HearFault, Heard, HearsInOrder, Holdings, IsCopyOf, IsMadeOf, IsValid, List, Made, Ok, Other, OutgoingKind, Picking, Port, PortAccount, PortAnswered, PortAnswers, PortHistory, PortHostsKeepTheirHistory, PortMoment, PortsAnswerAsTheyMay, PortsEndByOpcode, PortsEndWhatTheyTook, PortsHearInOrder, PortsOpenWhatTheyAccept, PortsTellInOrder, ReadsBytes, ReadsInOrder, Result, Resume, Said, Settings, Some, Submit, WriteIp, [], accepted, accepted_by, all_said, ap, append-nil, append_assoc, arith, awaited, begins, calls_in, cond, connection_told, did, drop, ends_said_by, false, find, fresh, fresh_of_port, hearings, inl, inr, is_about, is_code_of, is_dead, is_hearing, is_of, is_poll_of, kind_of_code, length, map, message_in, nat_eq, none-some, num, outstanding_of, refl, said_in, sent, sent_by, slice_get, slice_index, subst, suc, sym, taken_by, talk_of, without_ends, ℕ, ◌%◌, ◌++◌, ◌<◌, ◌∙◌, ◌∷◌, ◌≡◌, ◌≢◌, ◌≤◌}
 use Rattle.mscp_heard.proofs.Packets.{IsMessage, end_read, message_read}
 use Rattle.mscp_heard.proofs.Sending.{heard_own}
+use Rattle.mscp_heard.proofs.Asking.{poll_same, submit_same}
 use Rattle.mscp_heard.proofs.Watching.{hears_ok, may_be}
 use Rattle.mscp_host.specs.declared.message.Message.TheVariants as messages
 use Rattle.mscp_port.specs.declared.port.OutgoingKind.TheVariants as kinds
@@ -16,7 +17,7 @@ use Rattle.mscp_heard.proofs.Notes.{FitsSaid, Noted, nothing_noted}
 use Rattle.mscp_heard.proofs.Noting.{IsReady, heard_noted, heard_ready, same_noted, same_ready, sent_noted, sent_ready}
 use Rattle.mscp_heard.proofs.Owing.{Inv, IsCoded, same_ok, since_alive}
 use Rattle.mscp_heard.proofs.Packets.{IsRead, end_heard}
-use Rattle.mscp_heard.proofs.Watching.{Notes, SettlesWatch, hear_watch, poll_notes, poll_same, submit_notes, submit_same}
+use Rattle.mscp_heard.proofs.Watching.{Notes, SettlesWatch, hear_watch, poll_notes, submit_notes}
 
 -- where an end is heard, what was said is one
 pub end_kind : (s : Said) (v : Envelope) (b : List ℕ) (e : End) → IsCoded s → b ≡ s.text

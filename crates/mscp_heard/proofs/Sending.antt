@@ -2,7 +2,7 @@
 use Rattle.mscp_heard.proofs.Common.{AllByRecursion, Asked, End, Envelope, List, Ok, OutgoingKind, PortAccount, Said, Some, [], ap, append_assoc, arith, connection_told, drop, false, find, inl, inr, is_of, is_too_much, kind_of_code, length-append, map, message_in, num, refl, slice_get, slice_index, subst, suc, sym, ℕ, ◌++◌, ◌∙◌, ◌∷◌, ◌≡◌, ◌≤◌}
 use Rattle.mscp_host.specs.declared.message.Message.TheVariants as messages
 use Rattle.mscp_port.specs.declared.port.OutgoingKind.TheVariants as kinds
-use Rattle.mscp_heard.proofs.Claims.{Claim, IsOwed, Owes, claim_of, claim_said, claims, claims_said, moved_in, owes_less, owes_more, owes_rest}
+use Rattle.mscp_heard.proofs.Claims.{IsOwed, Owes, claim_of, claim_said, claims, claims_said, moved_in, owes_less, owes_more, owes_rest}
 use Rattle.mscp_heard.proofs.Hosts.{Sends, Settles}
 use Rattle.mscp_heard.proofs.Moving.{drop_at, drop_beside}
 use Rattle.mscp_heard.proofs.Packets.{IsRead, end_heard}
@@ -65,15 +65,8 @@ module _ (asked : List Asked) (ss : List Said) (k : ℕ) (aw ms : List (List ℕ
         by : (kind : OutgoingKind) → s.kind ≡ kind
             → Owes asked (claim_said s.kind s.text ++ claims (drop (suc k) ss) aw (drop n ms)) → IsCoded s
             → Settles asked new (message_in v b) → Owes new (claims (drop (suc k) ss) aw (drop n ms))
-        by kinds.Attention kind o code (inl same) = subst (λ xs. Owes xs (claims (drop (suc k) ss) aw (drop n ms)))
-            (sym same) (subst (λ x. Owes asked (claim_said x s.text
-            ++ claims (drop (suc k) ss) aw (drop n ms))) kind o)
         by kinds.Attention kind o code (inr r) = absurd (not_heard r.0 kind (subst
             (λ x. IsRead x s.text) kind code).0 r.1)
-        by kinds.UtilitiesEnd kind o code (inl same) = subst (λ xs. Owes xs (claims (drop (suc k) ss) aw
-            (drop n ms)))
-            (sym same) (subst (λ x. Owes asked (claim_said x s.text
-            ++ claims (drop (suc k) ss) aw (drop n ms))) kind o)
         by kinds.UtilitiesEnd kind o code (inr r) = absurd (not_disk r.0 kind r.1)
         by kinds.End kind o code (inl same) = subst (λ xs. Owes xs (claims (drop (suc k) ss) aw (drop n ms)))
             (sym same) (owes_rest asked _ (claims (drop (suc k) ss) aw (drop n ms))
@@ -86,6 +79,8 @@ module _ (asked : List Asked) (ss : List Said) (k : ℕ) (aw ms : List (List ℕ
             (claims (drop (suc k) ss) aw (drop n ms))) (sym named)
             (owes_less asked _ (claims (drop (suc k) ss) aw (drop n ms))
             (subst (λ x. Owes asked (claim_said x s.text ++ claims (drop (suc k) ss) aw (drop n ms))) kind o)))
+        by other kind o code (inl same) = subst (λ xs. Owes xs (claims (drop (suc k) ss) aw (drop n ms))) (sym same)
+            (subst (λ x. Owes asked (claim_said x s.text ++ claims (drop (suc k) ss) aw (drop n ms))) kind o)
 
     -- and each end in it is that of a command
     pub heard_own : (s : Said) (v : Envelope) (b : List ℕ) (e : End) → slice_get ss k ≡ Some s → b ≡ s.text

@@ -1,10 +1,11 @@
 -- What each moment of a host makes of the poll in flight, and which ends a host takes.
-use Rattle.mscp_heard.proofs.Common.{Account, AllByRecursion, ArrayVec, Asked, Bool, Command, End, EndBody, Envelope, Err, HearFault, Heard, HostFault, List, Message, None, Ok, Option, Poll, PortAccount, Result, Some, Submission, Watch, [], answered, ap, arith, as_read, asked_of, asks, asks_unless, command_bytes, cond, credit_fault, end_says, ended, ends_of, eq-eqb, false, find, four, granted, has_reference, heard_of, hears, inl, inr, is_about, is_about_polled, is_code_of, is_immediate, is_of, is_poll_of, is_some, is_success, is_to_poll, length, map, may_be_of, message_in, nat_eq, none-some, noted_poll, num, oldest, opcode_byte, poll_of, polled_with, polls_oldest, port_polls, port_submits, refl, refusal, same_Some, slice_index, submission_of, submits_unless, submits_unless_faulty, submitted_with, subst, sym, told_in, true, watch_after, without_by, ℕ, ◌&&◌, ◌++◌, ◌<◌, ◌^◌, ◌∙◌, ◌∷◌, ◌≡◌, ◌≤◌, ◌⊎◌}
+use Rattle.mscp_heard.proofs.Common.{AllByRecursion, ArrayVec, Asked, Bool, Command, End, EndBody, Envelope, Err, HearFault, Heard, List, Message, None, Ok, Option, PortAccount, Result, Some, Submission, Watch, [], answered, ap, arith, as_read, asked_of, command_bytes, cond, end_says, ended, ends_of, eq-eqb, eqb-true, false, find, four, granted, heard_of, hears, inl, inr, is_about, is_about_polled, is_code_of, is_immediate, is_of, is_poll_of, is_success, length, map, may_be_of, message_in, nat_eq, none-some, not, num, oldest, poll_of, port_polls, port_submits, refl, same_Some, slice_index, submission_of, subst, sym, told_in, true, watch_after, without_by, ℕ, ◌&&◌, ◌++◌, ◌<◌, ◌^◌, ◌∙◌, ◌∷◌, ◌≡◌, ◌≤◌, ◌⊎◌}
 use Rattle.mscp_packet.specs.declared.end.EndBody.TheVariants as bodies
 use Rattle.mscp_host.specs.declared.message.HearFault.TheVariants as faults
 use Rattle.mscp_host.specs.declared.message.Message.TheVariants as messages
 use Rattle.mscp_host.specs.declared.news.Poll.TheVariants as polls
-use Rattle.mscp_heard.proofs.Hosts.{SameNumbers, is_ask, not_doubled, unused}
+use Rattle.mscp_heard.proofs.Hosts.{SameNumbers, Settles, unused}
+use Rattle.mscp_heard.proofs.Asking.{IsSent, poll_is, submit_is}
 
 -- ---- a message is sent
 
@@ -24,24 +25,22 @@ pub record Notes (old new : PortAccount) (message : List ℕ) : Type 0 where
       × (slice_index message 8 ≡ 2) × ((y : Asked) × (find (is_of w.polled) old.asked ≡ Some y)))
 
 notes : (old new : PortAccount) (message : ArrayVec ℕ) (c : Command) → c.reference < 2 ^ 32 → SameNumbers old
-    → Rattle.std.specs.List.list_any (has_reference c.reference) old.account.outstanding ≡ false
-    → message.items ≡ command_bytes c → new.asked ≡ old.asked ++ asked_of c ∷ []
-    → new.account.outstanding ≡ old.account.outstanding ++ submission_of c ∷ []
+    → IsSent old new message c
     → (new.account.watch ≡ old.account.watch) ⊎ ((w : Watch) × (new.account.watch ≡ Some w)
     × (w.reference ≡ c.reference) × (w.polled ≡ num (command_bytes c) 12 4) × (16 ≤ length (command_bytes c))
     × (slice_index (command_bytes c) 8 ≡ 2) × ((y : Asked) × (find (is_of w.polled) old.asked ≡ Some y)))
     → Notes old new message.items
-notes old new message c small same free is asked outstanding watch =
-    let number : num message.items 0 4 ≡ c.reference = ap (λ b. num b 0 4) is ∙ four c.reference small in
+notes old new message c small same s watch =
+    let number : num message.items 0 4 ≡ c.reference = ap (λ b. num b 0 4) s.is ∙ four c.reference small in
     record {
       more = asked_of c;
-      asked = asked;
-      new_number = subst (λ n. find (is_of n) old.asked ≡ None) (sym number) (unused old c.reference same free);
+      asked = s.asked;
+      new_number = subst (λ n. find (is_of n) old.asked ≡ None) (sym number) (unused old c.reference same s.free);
       number = sym number;
       small = small;
-      opcode = sym (ap (λ b. slice_index b 8) is);
+      opcode = sym (ap (λ b. slice_index b 8) s.is);
       submission = submission_of c;
-      outstanding = outstanding;
+      outstanding = s.outstanding;
       untold = refl;
       watch = elim watch [
         | inl e ↦ inl e
@@ -49,9 +48,9 @@ notes old new message c small same free is asked outstanding watch =
           w.0,
           w.1,
           w.2,
-          w.3 ∙ ap (λ b. num b 12 4) (sym is),
-          subst (λ b. 16 ≤ length b) (sym is) w.4,
-          ap (λ b. slice_index b 8) is ∙ w.5,
+          w.3 ∙ ap (λ b. num b 12 4) (sym s.is),
+          subst (λ b. 16 ≤ length b) (sym s.is) w.4,
+          ap (λ b. slice_index b 8) s.is ∙ w.5,
           w.6,
         )
       ];
@@ -59,23 +58,8 @@ notes old new message c small same free is asked outstanding watch =
 
 pub submit_notes : (old new : PortAccount) (c : Command) (message : ArrayVec ℕ) → c.reference < 2 ^ 32
     → SameNumbers old → port_submits old c ≡ (Ok message, new) → Notes old new message.items
-submit_notes old new c message small same e = by (credit_fault old.credits (opcode_byte c.order)) e
-  where
-    items : Result (ArrayVec ℕ) HostFault × PortAccount → List ℕ
-    items (Ok b, x) = b.items
-    items (Err f, x) = []
-
-    judged : (o : Option HostFault) → refusal old.account (opcode_byte c.order) c.reference ≡ o
-        → submitted_with old c (submits_unless old.account c o) ≡ (Ok message, new) → Notes old new message.items
-    judged (Some fault) r h = absurd (search (arith, h))
-    judged None r h = notes old new message c small same
-        (not_doubled old.account (opcode_byte c.order) c.reference r) (sym (ap items h))
-        (sym (ap (λ x. x.1.asked) h)) (sym (ap (λ x. x.1.account.outstanding) h))
-        (inl (sym (ap (λ x. x.1.account.watch) h)))
-
-    by : (o : Option HostFault) → submits_unless_faulty old c o ≡ (Ok message, new) → Notes old new message.items
-    by (Some fault) h = absurd (search (arith, h))
-    by None h = judged (refusal old.account (opcode_byte c.order) c.reference) refl h
+submit_notes old new c message small same e =
+    let x = submit_is old new c message e in notes old new message c small same x.0 (inl x.1)
 
 -- what is found is as all are
 all_found : (P : Submission → Type 0) (f : Submission → Bool) (xs : List Submission) (x : Submission)
@@ -128,11 +112,6 @@ found_submissions old same = found_mapped old.asked old.account.outstanding
 
 module _ (old new : PortAccount) (n : ℕ) (small : n < 2 ^ 32) (same : SameNumbers old) (smalls : AreSmall old.asked)
   where
-    poll_watch : (s : Submission) → s.reference < 2 ^ 32 → (w : Watch)
-        → w ≡ record { reference = n; polled = s.reference; is_outstanding = true }
-        → (w.polled ≡ num (command_bytes (poll_of n s)) 12 4) × (16 ≤ length (command_bytes (poll_of n s)))
-    poll_watch s few w is = (ap (λ (x : Watch). x.polled) is ∙ sym (four s.reference few), search arith)
-
     about_small : (s : Submission) → oldest old.account ≡ Some s → s.reference < 2 ^ 32
     about_small s at = all_found (λ (x : Submission). x.reference < 2 ^ 32)
         (λ x. Rattle.std.specs.Prelude.not (is_immediate x.opcode)) old.account.outstanding s
@@ -140,53 +119,20 @@ module _ (old new : PortAccount) (n : ℕ) (small : n < 2 ^ 32) (same : SameNumb
 
     pub poll_notes : (message : ArrayVec ℕ) → port_polls old n ≡ (Ok (polls.Ask message), new)
         → Notes old new message.items
-    poll_notes message e = by (nat_eq old.credits 0 && is_to_poll old.account) e
-      where
-        items : Result Poll HostFault × PortAccount → List ℕ
-        items (Ok (polls.Ask b), x) = b.items
-        items (other, x) = []
-
-        asked_so : (s : Submission) (o : Option HostFault)
-            → refusal old.account (opcode_byte (poll_of n s).order) n ≡ o → oldest old.account ≡ Some s
-            → polled_with old n (asks_unless old.account n s o) ≡ (Ok (polls.Ask message), new)
-            → Notes old new message.items
-        asked_so s (Some fault) r at h = absurd (search (arith, h))
-        asked_so s None r at h =
-            let w : Watch = record { reference = n; polled = s.reference; is_outstanding = true } in
-            let a = Rattle.mscp_host.specs.Accounts.watching old.account n s in
-            let p = poll_watch s (about_small s at) w refl in
-            notes old new message (poll_of n s) small same
-            (not_doubled old.account (opcode_byte (poll_of n s).order) n r) (sym (ap items h))
-            (sym (ap (λ x. x.1.asked) h) ∙ ap (λ o. (noted_poll old a n o).asked) at)
-            (sym (ap (λ x. x.1.account.outstanding) h) ∙ ap (λ o. (noted_poll old a n o).account.outstanding) at)
-            (inr (
-              w,
-              sym (ap (λ x. x.1.account.watch) h) ∙ ap (λ o. (noted_poll old a n o).account.watch) at,
-              refl,
-              p.0,
-              p.1,
-              refl,
-              all_found (λ (x : Submission). Found old.asked x.reference)
-                  (λ x. Rattle.std.specs.Prelude.not (is_immediate x.opcode)) old.account.outstanding s
-                  (found_submissions old same) at,
-            ))
-
-        about : (o : Option Submission) → oldest old.account ≡ o
-            → polled_with old n (asks old.account n o) ≡ (Ok (polls.Ask message), new) → Notes old new message.items
-        about None at h = absurd (search (arith, h))
-        about (Some s) at h = asked_so s (refusal old.account (opcode_byte (poll_of n s).order) n) refl at h
-
-        busy : (b : Bool) → polled_with old n (cond b (Ok polls.Busy, old.account) (asks old.account n
-            (oldest old.account))) ≡ (Ok (polls.Ask message), new) → Notes old new message.items
-        busy true h = absurd (search (arith, h))
-        busy false h = about (oldest old.account) refl h
-
-        by : (b : Bool) → ◌≡◌ {A = Result Poll HostFault × PortAccount}
-            (cond b (Err Rattle.mscp_host.specs.declared.news.HostFault.TheVariants.NoCredit, old)
-            (polled_with old n (polls_oldest old.account n))) (Ok (polls.Ask message), new)
-            → Notes old new message.items
-        by true h = absurd (search (arith, h))
-        by false h = busy (is_some old.account.watch) h
+    poll_notes message e =
+        let x = poll_is old new n message e in
+        let s = x.0 in
+        notes old new message (poll_of n s) small same x.2 (inr (
+          record { reference = n; polled = s.reference; is_outstanding = true },
+          x.3,
+          refl,
+          sym (four s.reference (about_small s x.1)),
+          search arith,
+          refl,
+          all_found (λ (x : Submission). Found old.asked x.reference)
+              (λ x. Rattle.std.specs.Prelude.not (is_immediate x.opcode)) old.account.outstanding s
+              (found_submissions old same) x.1,
+        ))
 
 -- ---- something is heard
 
@@ -231,6 +177,11 @@ hear_watch old new v b answer e = by (message_in v b) e
     by : (r : Result Message HearFault) → heard_of old v.credits r ≡ (answer, new) → SettlesWatch old new r
     by (Ok (messages.End end)) h = found end (find (is_of end.reference) old.asked) h
     by x h = inl (sym (ap (λ y. y.1.asked) h), sym (ap (λ y. y.1.account) h))
+
+pub settles : (old new : PortAccount) (r : Result Message HearFault) → SettlesWatch old new r
+    → Settles old.asked new.asked r
+settles old new r (inl same) = inl same.0
+settles old new r (inr e) = inr (e.0, e.1, e.2)
 
 -- an end of the code of its command, and a poll's about the polled one, is that of the command
 pub may_be : (old : PortAccount) (e : End) (x : Asked) → is_code_of e.code x.opcode ≡ true
@@ -299,32 +250,3 @@ hears_ok old new v b m fault is own h = by m is (subst (λ r. heard_of old v.cre
         let x = own end is in
         judged end x.0 (may_be_of old end x.0) x.2 (subst (λ o. ends_of old v.credits end o ≡ (Err fault, new)) x.1 h)
     by x is h = search (arith, h)
-
--- ---- nothing is sent
-
-pub submit_same : (old new : PortAccount) (c : Command) (fault : HostFault)
-    → port_submits old c ≡ (Err fault, new) → new ≡ old
-submit_same old new c fault e = by (credit_fault old.credits (opcode_byte c.order)) e
-  where
-    judged : (o : Option HostFault) → submitted_with old c (submits_unless old.account c o) ≡ (Err fault, new)
-        → new ≡ old
-    judged (Some other) h = sym (ap (λ x. x.1) h)
-    judged None h = absurd (search (arith, h))
-
-    by : (o : Option HostFault) → submits_unless_faulty old c o ≡ (Err fault, new) → new ≡ old
-    by (Some other) h = sym (ap (λ x. x.1) h)
-    by None h = judged (refusal old.account (opcode_byte c.order) c.reference) h
-
-pub poll_same : (old new : PortAccount) (n : ℕ) (answer : Result Poll HostFault) → is_ask answer ≡ false
-    → port_polls old n ≡ (answer, new) → new ≡ old
-poll_same old new n answer none e = by (nat_eq old.credits 0 && is_to_poll old.account) e
-  where
-    with_so : (x : Result Poll HostFault × Account) → polled_with old n x ≡ (answer, new) → new ≡ old
-    with_so (Ok (polls.Ask message), a) h = absurd (search (arith, none, ap (λ y. is_ask y.0) h))
-    with_so x h = sym (ap (λ y. y.1) h)
-
-    by : (b : Bool) → ◌≡◌ {A = Result Poll HostFault × PortAccount}
-        (cond b (Err Rattle.mscp_host.specs.declared.news.HostFault.TheVariants.NoCredit, old)
-        (polled_with old n (polls_oldest old.account n))) (answer, new) → new ≡ old
-    by true h = sym (ap (λ y. y.1) h)
-    by false h = with_so (polls_oldest old.account n) h

@@ -1,18 +1,17 @@
 -- By each call ends come behind those that are still to come, and tell of their units what is so.
-use Rattle.mscp_logged.proofs.Common.{Action, Answered, AsksAlways, Bool, Call, Deals, First, Hardware, History, Holdings, IsAnswering, IsPassive, List, Next, None, Ok, Option, Outgoing, OutgoingKind, Picking, Port, ReadsBytes, Settings, Shape, Some, TellsFaults, WasRead, Went, Whole, WriteIp, [], ap, append-nil, arith, asked_before, awaited, begins, came, end_kind, end_said, ends_begun, ends_of, ends_said, ends_said_by, false, few_ends, inl, inr, is_dead, logged, no_ends, nothing_two, numbers, numbers_ended, of, own_answer, passive_stays, refl, said, steps, subst, sym, taken_by, true, unit_found, volume_found, volume_named, waiting_on, whole_kept, ℕ, ◌++◌, ◌∙◌, ◌∷◌, ◌≡◌, ◌≢◌}
+use Rattle.mscp_logged.proofs.Common.{Action, Answered, AsksAlways, Bool, Call, Deals, First, Hardware, History, Holdings, IsAnswering, IsPassive, List, Next, None, Ok, Option, Outgoing, OutgoingKind, Picking, Port, ReadsBytes, Settings, Shape, Some, TellsFaults, WasRead, Went, Whole, WriteIp, [], ap, append-nil, arith, asked_before, awaited, begins, blocks, came, end_kind, end_said, ends_begun, ends_of, ends_said, ends_said_by, false, inl, inr, is_dead, logged, no_ends, nothing_two, numbers, numbers_ended, of, own_answer, passive_stays, refl, said, subst, sym, taken_by, true, unit_found, volume_found, volume_named, waiting_on, whole_kept, ℕ, ◌++◌, ◌∙◌, ◌∷◌, ◌≡◌, ◌≢◌}
 use Rattle.mscp_logged.proofs.Begun.{Begun, IsKeeping}
 use Rattle.mscp_port.specs.declared.port.OutgoingKind.TheVariants as kinds
 use Rattle.mscp_logged.proofs.Describing.{IsAsWas, IsTold}
 use Rattle.mscp_logged.proofs.Listening.{read_speaks}
 use Rattle.mscp_logged.proofs.Moored.{alive, found_as, next_volumes, passive_volumes}
-use Rattle.mscp_logged.proofs.Orderly.{fits, numbers_kept, ordering, promised}
+use Rattle.mscp_logged.proofs.Orderly.{numbers_kept, promised}
 use Rattle.mscp_logged.proofs.Own.{IsOwn, answers_so, none_left, of_disk}
 use Rattle.mscp_logged.proofs.Replied.{own_told}
 use Rattle.mscp_logged.proofs.Speaking.{Each, Speaks}
-use Rattle.mscp_logged.proofs.Spoken.{went_speaks}
 use Rattle.mscp_logged.proofs.Texts.{Comes, next_comes, texts_of, waiting}
 use Rattle.mscp_logged.proofs.Away.{IsPlaced}
-use Rattle.mscp_logged.proofs.Driving.{driving, housed}
+use Rattle.mscp_logged.proofs.Driving.{driving, went_told}
 use Rattle.mscp_logged.proofs.Stating.{own_placed}
 
 -- what begins to go out is the oldest of those that were to come, and these come behind
@@ -74,16 +73,8 @@ module _ {K : Type 0} {picks : Picking K} (run : Begun picks) (keeping : IsKeepi
           (promised run keeping a.0 calls a.1).1.settings F in
           (x.0, x.1, λ b u e. x.2)
       by (Went outcome (Ok done)) asks reads fine a never other =
-          let m = promised run keeping p (Went outcome (Ok done) ∷ calls) a in
-          let x = went_speaks (picks a.0.controller.picker) outcome done a.0 p (awaited picks start a.0 calls a.1)
-          (numbers_kept run keeping a.0 calls reads a.1) (fits run keeping a.0 calls reads a.1)
-          (ordering run keeping a.0 calls reads a.1) a.2 (few_ends (picks picker) c m.0 p.controller valid m.1) lives
-          (steps picks hardware credits controller start made a.0 calls
-          (asked_before (Went outcome (Ok done)) calls asks) a.1).begun hardware
-          (promised run keeping a.0 calls a.1).1.settings F (λ f. (fine f).0) (driving run keeping a.0 calls
-          (asked_before (Went outcome (Ok done)) calls asks) reads a.1)
-          (housed run keeping a.0 calls a.1)
-          in
+          let x = went_told run keeping p outcome done calls asks reads a (driving run keeping a.0 calls
+          (asked_before (Went outcome (Ok done)) calls asks) reads a.1) lives F (λ f. (fine f).0) in
           (x.0, x.1.0, λ b u e. search (arith, e))
       by call asks reads fine a never other = passive call a tt
 

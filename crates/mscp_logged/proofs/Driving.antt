@@ -1,5 +1,5 @@
 -- Over a whole list of calls a unit that is online with its volume is online in the controller, too.
-use Rattle.mscp_logged.proofs.Common.{Answered, AsksAlways, Bool, Call, Dies, Drive, First, GoesOnWithBlock, Hears, Holdings, IsAsNew, IsPassive, IsReadingText, List, Next, None, Ok, Option, Picking, Port, ReadsBytes, SendFault, Shape, Some, Stage, Task, Volume, Wants, WasRead, Went, WriteIp, [], aborting, after_message, answered_end, ap, arith, asked_before, awaited, balance_of, command_of, cond, drive_now, false, false≢true, few_ends, find, handed, held_unless, history, inl, inr, is_dead, is_queued, looks_or_not, map, nat_eq, none_or_some, one_block, option_map, outstanding_of, own_end_of, passive_stays, place_in, position-Some, queued, refl, refusal, steps, subst, sym, taken_or_not, true, unit_found, volume_at, volume_in_place, with_end, ℕ, ◌<◌, ◌∙◌, ◌∷◌, ◌≡◌, ◌⊎◌}
+use Rattle.mscp_logged.proofs.Common.{Answered, AsksAlways, Bool, Call, Dies, Drive, First, GoesOnWithBlock, Hears, Holdings, IsAsNew, IsFaultTold, IsPassive, IsReadingText, List, Next, None, Ok, Option, Picking, Port, ReadsBytes, SendFault, Shape, Some, Stage, Task, Volume, Wants, WasRead, Went, WriteIp, [], aborting, after_message, answered_end, ap, arith, asked_before, awaited, balance_of, blocks, command_of, cond, drive_now, false, false≢true, few_ends, find, handed, held_unless, history, inl, inr, is_dead, is_queued, looks_or_not, map, nat_eq, none_or_some, one_block, option_map, outstanding_of, own_end_of, passive_stays, place_in, position-Some, queued, refl, refusal, steps, subst, sym, taken_or_not, true, unit_found, volume_at, volume_in_place, with_end, ℕ, ◌<◌, ◌∙◌, ◌∷◌, ◌≡◌, ◌⊎◌}
 use Rattle.mscp_queue.specs.Drives.{has_number}
 use Rattle.mscp_port.specs.declared.stage.Stage.TheVariants as stages
 use Rattle.mscp_port.specs.declared.task.Task.TheVariants as tasks
@@ -9,6 +9,7 @@ use Rattle.mscp_logged.proofs.Moored.{AreAsWere, found_as, next_volumes, passive
 use Rattle.mscp_logged.proofs.Orderly.{fits, numbers_kept, ordering, promised}
 use Rattle.mscp_logged.proofs.Begun.{Begun, IsKeeping}
 use Rattle.mscp_logged.proofs.Seen.{reads_before}
+use Rattle.mscp_logged.proofs.Speaking.{Speaks}
 use Rattle.mscp_logged.proofs.Spoken.{went_speaks}
 
 -- ---- the drives
@@ -113,13 +114,25 @@ module _ {K : Type 0} {picks : Picking K} (run : Begun picks) (keeping : IsKeepi
     ]
   ]
 
+  -- what is told of a step, while there is no fatal error
+  pub went_told : (p : Port K) (outcome : _) (done : Unit) (calls : List Call)
+      → AsksAlways (Went outcome (Ok done) ∷ calls) → ReadsBytes calls
+      → (a : Answered picks start (Went outcome (Ok done) ∷ calls) p) → So a.0 → is_dead p.stage ≡ false
+      → (F : Type 0) → (F → IsFaultTold outcome)
+      → (more : List (List ℕ)) × (Speaks hardware c.units F a.0 p more × So p)
+  went_told p outcome done calls asks reads a s lives F fault =
+      let m = promised run keeping p (Went outcome (Ok done) ∷ calls) a in
+      went_speaks (picks a.0.controller.picker) outcome done a.0 p (awaited picks start a.0 calls a.1)
+      (numbers_kept run keeping a.0 calls reads a.1) (fits run keeping a.0 calls reads a.1)
+      (ordering run keeping a.0 calls reads a.1) a.2 (few_ends (picks picker) c m.0 p.controller valid m.1) lives
+      (steps picks hardware credits controller start made a.0 calls
+      (asked_before (Went outcome (Ok done)) calls asks) a.1).begun hardware
+      (promised run keeping a.0 calls a.1).1.settings F fault s (housed a.0 calls a.1)
+
   went : (p : Port K) (outcome : _) (done : Unit) (calls : List Call) → AsksAlways (Went outcome (Ok done) ∷ calls)
       → ReadsBytes calls → (a : Answered picks start (Went outcome (Ok done) ∷ calls) p) → So a.0 → So p
   went p outcome done calls asks reads a s = by (is_dead p.stage) refl
     where
-      aw : List (List ℕ)
-      aw = awaited picks start a.0 calls a.1
-
       -- a port that is dead takes no step
       stepped : is_dead p.stage ≡ true → GoesOnWithBlock (picks a.0.controller.picker) a.0 p → So p
       stepped dead goes = by a.0.stage refl (sym (ap is_dead same) ∙ dead)
@@ -136,13 +149,7 @@ module _ {K : Type 0} {picks : Picking K} (run : Begun picks) (keeping : IsKeepi
 
       by : (b : Bool) → is_dead p.stage ≡ b → So p
       by false lives =
-          let m = promised run keeping p (Went outcome (Ok done) ∷ calls) a in
-          (went_speaks (picks a.0.controller.picker) outcome done a.0 p aw
-          (numbers_kept run keeping a.0 calls reads a.1) (fits run keeping a.0 calls reads a.1)
-          (ordering run keeping a.0 calls reads a.1) a.2 (few_ends (picks picker) c m.0 p.controller valid m.1) lives
-          (steps picks hardware credits controller start made a.0 calls
-          (asked_before (Went outcome (Ok done)) calls asks) a.1).begun hardware
-          (promised run keeping a.0 calls a.1).1.settings ⊥ (λ never. absurd never) s (housed a.0 calls a.1)).1.1
+          (went_told p outcome done calls asks reads a s lives ⊥ (λ never. absurd never)).1.1
       by true dead = elim a.2.commands [
         | inl x ↦ stays_so a.0 p (volumes_still a.0 p x.volumes) (ap (λ (h : Holdings K). h.drives) x.controller) s
         | inr more ↦ elim more [

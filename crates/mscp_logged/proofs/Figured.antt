@@ -121,12 +121,10 @@ module _ {K : Type 0} (Tie : List ℕ → List ℕ → Type 0) (G O : Type 0) (c
             → Stated Tie G O (h ++ ms) ts (map said_in (option_to_list (Some o)))
             → Figured (h ++ ms) ((pending_said k o.bytes.items ++ []) ++ pending_held p) (figure_on p) S'
             → Figured ((h ++ ms) ++ (map end_of (end_said k o.bytes.items) ++ [])) (pending_held p) (figure_on p) S'
-        leaving o kinds.Attention is s1 g = figured_as (h ++ ms) ((h ++ ms) ++ []) (pending_held p) (pending_held p)
-            (figure_on p) S' (append-nil (h ++ ms)) refl g
-        leaving o kinds.UtilitiesEnd is s1 g = figured_as (h ++ ms) ((h ++ ms) ++ []) (pending_held p) (pending_held p)
-            (figure_on p) S' (append-nil (h ++ ms)) refl g
         leaving o kinds.End is s1 g = end_figured Tie code_of (h ++ ms) ts (figure_on p) S' (pending_held p) (said_in o)
             is s1.wired g
+        leaving o kind is s1 g = figured_as (h ++ ms) ((h ++ ms) ++ []) (pending_held p) (pending_held p) (figure_on p)
+            S' (append-nil (h ++ ms)) refl g
 
         by : (x y : Option Outgoing) → a.0.outgoing ≡ x → p.outgoing ≡ y
             → begun_of a.0.outgoing p.outgoing ++ pending_held p ≡ pending_held a.0 ++ passing.more

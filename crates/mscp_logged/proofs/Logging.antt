@@ -40,16 +40,19 @@ module _ {K : Type 0} (Tie : List ℕ → List ℕ → Type 0) (G O : Type 0) {p
     (ends : PortsEndWhatTheyTook picks run.picker) (tell : PortsTellInOrder picks)
     (Fine : List Call → Type 0) (fine_before : (call : Call) (calls : List Call) → Fine (call ∷ calls) → Fine calls)
     (tie_end : (p : Port K) (call : Call) (calls : List Call) → ReadsBytes (call ∷ calls) → Fine (call ∷ calls)
-    → (a : Answered picks run.start (call ∷ calls) p) → (q : IsEnding (awaited picks run.start a.0 calls a.1) call a.0 p)
+    → (a : Answered picks run.start (call ∷ calls) p)
+    → (q : IsEnding (awaited picks run.start a.0 calls a.1) call a.0 p)
     → Tie q.out.bytes.items q.message)
     (late_end : (p : Port K) (call : Call) (calls : List Call) → ReadsBytes (call ∷ calls) → Fine (call ∷ calls)
-    → (a : Answered picks run.start (call ∷ calls) p) → (q : IsEnding (awaited picks run.start a.0 calls a.1) call a.0 p)
+    → (a : Answered picks run.start (call ∷ calls) p)
+    → (q : IsEnding (awaited picks run.start a.0 calls a.1) call a.0 p)
     → G → num q.out.bytes.items 10 2 % 32 ≡ 2
     → (k : ℕ) × (aborts_behind (num q.out.bytes.items 0 4) k (awaited picks run.start a.0 calls a.1) ≡ true))
     (late_own : (old : Port K) (text : List ℕ) (o : Outgoing) → IsOwn old text o → o.kind ≡ kinds.End → G
     → num o.bytes.items 10 2 % 32 ≡ 2 → ⊥)
     (turn_end : (p : Port K) (call : Call) (calls : List Call) → ReadsBytes (call ∷ calls) → Fine (call ∷ calls)
-    → (a : Answered picks run.start (call ∷ calls) p) → (q : IsEnding (awaited picks run.start a.0 calls a.1) call a.0 p)
+    → (a : Answered picks run.start (call ∷ calls) p)
+    → (q : IsEnding (awaited picks run.start a.0 calls a.1) call a.0 p)
     → O → IsApartOr q.out.bytes.items
     (overtakes (num q.out.bytes.items 0 4) (awaited picks run.start a.0 calls a.1) ≡ false))
     (turn_own : (p : Port K) (call : Call) (calls : List Call) → ReadsBytes (call ∷ calls) → Fine (call ∷ calls)

@@ -14,7 +14,8 @@ none_gone : {X : Type 0} (xs ys : List X) → [] ≡ xs ++ ys → ys ≡ []
 none_gone [] ys e = sym e
 none_gone (x ∷ xs) ys e = search (arith, e)
 
-module _ {K : Type 0} {picks : Picking K} (run : Begun picks) (keeping : IsKeeping run) (ends : PortsEndWhatTheyTook picks run.picker) (tell : PortsTellInOrder picks) (F : Type 0) where
+module _ {K : Type 0} {picks : Picking K} (run : Begun picks) (keeping : IsKeeping run)
+    (ends : PortsEndWhatTheyTook picks run.picker) (tell : PortsTellInOrder picks) (F : Type 0) where
   open run use {c, valid, before, hardware, credits, controller, start, was, made, quiet}
 
   abbrev pub State : (p : Port K) (calls : List Call) → Answered picks start calls p → Type 0
@@ -114,7 +115,8 @@ module _ {K : Type 0} {picks : Picking K} (run : Begun picks) (keeping : IsKeepi
             out_is (Some o) e = ap (λ z. out_texts z ++ now) e ∙ ap (λ z. ends_begun None z ++ now) (sym e)
         by (Some o) (Some x) was_out is_out comes r =
             to_log (Some o) (Some x) was_out is_out (still (Some o) (Some x) _ refl
-            (ap (λ (z : Said). end_said z.kind z.text ++ now) (sym (same_held run tell p call calls asks a never lives o x was_out is_out))
+            (ap (λ (z : Said). end_said z.kind z.text ++ now)
+            (sym (same_held run tell p call calls asks a never lives o x was_out is_out))
             ∙ ap (λ z. out_texts (Some o) ++ z) (behind o (Some x) was_out is_out comes)
             ∙ sym (append_assoc (out_texts (Some o)) old more)
             ∙ ap (λ z. (out_texts z ++ old) ++ more) (sym was_out)) r)

@@ -1,5 +1,5 @@
 -- An end that answers a message, or that of a command which is aborted, tells of its unit what is so.
-use Rattle.mscp_logged.proofs.Common.{Answer, Bool, Command, Decided, End, First, Hardware, IsPast, List, None, Option, Order, Own, Record, Settings, Shape, Some, Volume, aborted_record, answer_by, ap, arith, brings, command_of, cond, describes, end_with_body, endcode, ends_formality, eqb-true, false, fault_of, inl, inr, is_queued, little_bytes, num, or_right, order_fault, own_answer, own_cases, own_end, own_end_with, own_formal, own_refused, own_text, refl, refused_apart, sent_by, sent_says, slice_index, status_after, subst, sym, tells_unit, true, unit_fault, unit_found, unit_shape, unit_state, unit_status, ℕ, ◌%◌, ◌&&◌, ◌+◌, ◌<◌, ◌==◌, ◌^◌, ◌||◌, ◌∙◌, ◌≡◌, ◌⊎◌}
+use Rattle.mscp_logged.proofs.Common.{Answer, Bool, Command, Decided, End, First, Hardware, IsPast, List, None, Option, Order, Own, Record, Settings, Shape, Some, Volume, aborted_record, answer_by, ap, arith, brings, command_of, cond, describes, end_with_body, endcode, ends_formality, eqb-true, false, fault_of, inl, inr, is_queued, little_bytes, num, of, or_right, order_fault, own_answer, own_cases, own_end, own_end_with, own_formal, own_refused, own_text, refl, refused_apart, sent_by, sent_says, slice_index, status_after, subst, sym, tells_unit, true, unit_fault, unit_found, unit_shape, unit_state, unit_status, ℕ, ◌%◌, ◌&&◌, ◌+◌, ◌<◌, ◌==◌, ◌^◌, ◌||◌, ◌∙◌, ◌≡◌, ◌⊎◌}
 use Rattle.std.specs.Prelude.{not}
 use Rattle.mscp_packet.specs.declared.command.Order.TheVariants as orders
 use Rattle.mscp_drive.specs.declared.block.Block.TheVariants as blocks
@@ -26,34 +26,33 @@ silent_told u o v text never = record {
   other = λ here is. (is, same_volume v);
 }
 
--- one of a status that is no Success
+-- one that describes its unit is told with its own code
+told_plain : (h : Hardware) (units : List Shape) (e : End) (d : Decided)
+    → (ends_formality d.code ≡ false → Reads (answer_by First (text_with h units e d)) e.code d.status → ⊥)
+    → describes (answer_by First (text_with h units e d)) ≡ true → ⊥
+told_plain h units e d never is = by (text_reads h units e d)
+  where
+    a : Answer
+    a = answer_by First (text_with h units e d)
+
+    by : ((ends_formality d.code ≡ true) × Reads a d.code d.status)
+        ⊎ ((ends_formality d.code ≡ false)
+        × (text_with h units e d ≡ end_with_body e.body e d (unit_found units e.unit) h) × Reads a e.code d.status) → ⊥
+    by (inl x) = formal_telling d.code x.0 (subst (λ c. IsTelling c) x.1.code (describes_so a is).code)
+    by (inr x) = never x.0 x.2
+
+-- and with no status that is no Success
 failed : (h : Hardware) (units : List Shape) (e : End) (d : Decided)
     → (ends_formality d.code ≡ false → d.status % 32 ≡ 0 → ⊥)
     → describes (answer_by First (text_with h units e d)) ≡ true → ⊥
-failed h units e d never is = by (text_reads h units e d)
-  where
-    a : Answer
-    a = answer_by First (text_with h units e d)
+failed h units e d never is = told_plain h units e d
+    (λ plain reads. never plain (sym reads.low ∙ (describes_so (answer_by First (text_with h units e d)) is).good)) is
 
-    by : ((ends_formality d.code ≡ true) × Reads a d.code d.status)
-        ⊎ ((ends_formality d.code ≡ false)
-        × (text_with h units e d ≡ end_with_body e.body e d (unit_found units e.unit) h) × Reads a e.code d.status) → ⊥
-    by (inl x) = formal_telling d.code x.0 (subst (λ c. IsTelling c) x.1.code (describes_so a is).code)
-    by (inr x) = never x.0 (sym x.2.low ∙ (describes_so a is).good)
-
--- one of another code
+-- nor another code
 uncoded : (h : Hardware) (units : List Shape) (e : End) (d : Decided) → (IsTelling e.code → ⊥)
     → describes (answer_by First (text_with h units e d)) ≡ true → ⊥
-uncoded h units e d never is = by (text_reads h units e d)
-  where
-    a : Answer
-    a = answer_by First (text_with h units e d)
-
-    by : ((ends_formality d.code ≡ true) × Reads a d.code d.status)
-        ⊎ ((ends_formality d.code ≡ false)
-        × (text_with h units e d ≡ end_with_body e.body e d (unit_found units e.unit) h) × Reads a e.code d.status) → ⊥
-    by (inl x) = formal_telling d.code x.0 (subst (λ c. IsTelling c) x.1.code (describes_so a is).code)
-    by (inr x) = never (subst (λ c. IsTelling c) x.2.code (describes_so a is).code)
+uncoded h units e d never is = told_plain h units e d (λ plain reads. never (subst (λ c. IsTelling c) reads.code
+    (describes_so (answer_by First (text_with h units e d)) is).code)) is
 
 -- ---- statuses
 

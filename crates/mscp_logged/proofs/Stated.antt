@@ -247,11 +247,8 @@ module _ (Tie : List ℕ → List ℕ → Type 0) (G O : Type 0) where
     left (Some o) None s none same = by o.kind refl
       where
         by : (k : OutgoingKind) → o.kind ≡ k → Stated (h ++ (map end_of (end_said o.kind o.bytes.items) ++ [])) aw []
-        by kinds.Attention e = as_it_is (h ++ (map end_of (end_said o.kind o.bytes.items) ++ [])) aw [] []
-            (ap (λ k. h ++ (map end_of (end_said k o.bytes.items) ++ [])) e ∙ append-nil h) refl refl
-            (leaves_other (said_in o) s (λ k. search (arith, sym e ∙ k)))
-        by kinds.UtilitiesEnd e = as_it_is (h ++ (map end_of (end_said o.kind o.bytes.items) ++ [])) aw [] []
-            (ap (λ k. h ++ (map end_of (end_said k o.bytes.items) ++ [])) e ∙ append-nil h) refl refl
-            (leaves_other (said_in o) s (λ k. search (arith, sym e ∙ k)))
         by kinds.End e = subst (λ k. Stated (h ++ (map end_of (end_said k o.bytes.items) ++ [])) aw []) (sym e)
             (leaves_end (said_in o) s e)
+        by other e = as_it_is (h ++ (map end_of (end_said o.kind o.bytes.items) ++ [])) aw [] []
+            (ap (λ k. h ++ (map end_of (end_said k o.bytes.items) ++ [])) e ∙ append-nil h) refl refl
+            (leaves_other (said_in o) s (λ k. search (arith, sym e ∙ k)))

@@ -55,10 +55,6 @@ pub record IsOnlineTold (v : Volume) (given told : ℕ) : Type 0 where
 pub online_told : (v : Volume) (verdict : Verdict) (online : Bool) → IsSure false v verdict
     → IsOnlineTold v (outcome_status online orders.Online (block_told verdict))
     (status_after verdict 0x89 (outcome_status online orders.Online (block_told verdict)) v)
-online_told v verdicts.NoVolume online sure =
-    record { back = λ e. search (arith, e); was = λ e bit. search (arith, e) }
-online_told v verdicts.NotOnline online sure =
-    record { back = λ e. search (arith, e); was = λ e bit. search (arith, e) }
 online_told v (verdicts.Served blocks.Good) online sure = by online v.is_mounted refl
   where
     by : (b m : Bool) → v.is_mounted ≡ m → IsOnlineTold v (cond b 0x0100 0)
@@ -86,6 +82,7 @@ online_told v (verdicts.Served (blocks.Bad n)) online (inl bad) = by (nat_eq n 0
         subst (λ b. IsOnlineTold v n (cond b (cond v.is_mounted 0x0100 0) n))
         (sym (ap (λ b. b || nat_eq n 0x0100) e ∙ f))
         (record { back = λ x. absurd (never x); was = λ x y. absurd (never x) })
+online_told v verdict online sure = record { back = λ e. search (arith, e); was = λ e bit. search (arith, e) }
 
 -- ---- ends
 

@@ -178,7 +178,8 @@ module _ {K : Type 0} {picks : Picking K} (run : Begun picks) (keeping : IsKeepi
       → IsFineUntil F (call ∷ calls) → (a : Answered picks start (call ∷ calls) p)
       → (q : IsEnding (awaited picks start a.0 calls a.1) call a.0 p) → Unit {0} → IsApartOr q.out.bytes.items
       (overtakes (num q.out.bytes.items 0 4) (awaited picks start a.0 calls a.1) ≡ false)
-  turn_of p call calls reads fine a q g = by (ends_clear run keeping p call calls q.out.bytes.items reads a q.ended s.decided s.first)
+  turn_of p call calls reads fine a q g = by (ends_clear run keeping p call calls q.out.bytes.items reads a q.ended
+      s.decided s.first)
     where
       s : IsSaid c (ToldIf F) a.0 (awaited picks start a.0 calls a.1) q.out.bytes.items q.message
       s = said_of p call calls reads fine a q

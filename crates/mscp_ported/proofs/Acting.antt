@@ -99,9 +99,17 @@ else_deed (actions.Write address count) bytes t is = absurd is
 else_deed (actions.Interrupt vector) bytes t is = absurd is
 else_deed a bytes t is = refl
 
-module _ {K : Type 0} (picks : List Choice → ℕ → Type 0) (old new : Port K) (t : Talk) (w : Wish) (outcome : Outcome)
-    (done : Unit) (said : List Said) (texts : List (List ℕ)) (k : InStep (look old) t (Some w) said texts)
-    (r : Goes picks outcome old (Ok done) new) where
+-- the port looks so, and it is reported how its action went
+pub record IsReported {K : Type 0} (picks : List Choice → ℕ → Type 0) (old new : Port K) (t : Talk) (w : Wish)
+    (outcome : Outcome) (done : Unit) (said : List Said) (texts : List (List ℕ)) : Type 0 where
+  pub step : InStep (look old) t (Some w) said texts
+  pub goes : Goes picks outcome old (Ok done) new
+
+module _ {K : Type 0} {picks : List Choice → ℕ → Type 0} {old new : Port K} {t : Talk} {w : Wish} {outcome : Outcome}
+    {done : Unit} {said : List Said} {texts : List (List ℕ)}
+    (going : IsReported picks old new t w outcome done said texts) where
+  open going use {step as k, goes as r}
+
   abbrev So : Type 0
   So = After (Went outcome (Ok done)) old (look new) t (Some w) None said texts
 

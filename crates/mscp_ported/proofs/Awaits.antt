@@ -27,7 +27,8 @@ module _ {K : Type 0} {bytes : List ℕ} {done : Unit} {old new : Port K} (g : G
 
   pub its_own : {aw : List (List ℕ)} → Kept old aw
       → is_numbered (num bytes 0 4) (fresh_record First (command_in old bytes)) ≡ true
-  its_own {aw} k = is_it old.controller aw bytes (handed old.controller.settings.units bytes) g.long like g.is_new k.each
+  its_own {aw} k = is_it old.controller aw bytes (handed old.controller.settings.units bytes) g.long like g.is_new
+      k.each
       (fresh_record First (command_in old bytes)) refl named
 
   pub no_other : {aw : List (List ℕ)} → Kept old aw → (n : ℕ) → nat_eq (num bytes 0 4) n ≡ false

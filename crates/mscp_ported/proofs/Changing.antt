@@ -163,7 +163,11 @@ goes_on picks (VolumeWent to (Err fault)) old new r = inr (λ unit place here.
 goes_on picks (Protect protected to result) old new r = inr (λ unit place here.
     subst (λ ws. Counts 0 place old.volumes ws) (sym (ap (λ p. p.volumes) r.frame))
     (guards protected place (place_in old.controller.settings.units to) old.volumes))
-goes_on picks call old new r = elim r.frame [ inl e ↦ inr (λ unit place here. the_same 0 place old.volumes new.volumes refl (ap (λ p. p.volumes) e)) | inr dead ↦ inl (stages.Dead dead.0, dead.1) ]
+goes_on picks call old new r = elim r.frame [
+  | inl e ↦ inr (λ unit place here. the_same 0 place old.volumes new.volumes
+      refl (ap (λ p. p.volumes) e))
+  | inr dead ↦ inl (stages.Dead dead.0, dead.1)
+]
 
 -- ---- what is kept of a command
 

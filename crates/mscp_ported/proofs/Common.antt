@@ -70,7 +70,7 @@ pub use Rattle.mscp_port.proofs.Telling.{keeps_after, kept_was_said}
 pub use Rattle.mscp_port.specs.Acted.{Clears, GivesBack, WritesOut, counted, hears_of, step_task, vector_in}
 pub use Rattle.mscp_port.specs.Areas.{IsInArea, Rings, area_named, base_named, end_of, rings_named, slot_in, slots_of, start_of, word_of}
 pub use Rattle.mscp_port.specs.Blocks.{block_of, block_told, changed_verdict, fault_with, faulted, good_step, has_changed, is_available, kept_at, kept_of, move_of, move_task, moved_by, part_task, part_with, refusal_of, takes_any_volume, task_of, unless_fault}
-pub use Rattle.mscp_port.specs.Buffers.{buffer_in, is_of, kept_beside, part_of, without as without_kept, without_aborted}
+pub use Rattle.mscp_port.specs.Buffers.{buffer_in, is_of, part_of, without as without_kept, without_aborted}
 pub use Rattle.mscp_port.specs.Calls.{Dies, Goes, Hears, Hears as Reads, IsMadeOf, ReadsIp, TakesStep, Wants, WritesSa, read_again, step_again, step_answered, step_at}
 pub use Rattle.mscp_port.specs.Decided.{answer_of, controller_decided, end_decided, found_decided, status_after, status_told}
 pub use Rattle.mscp_port.specs.Departures.{IsForgotten, begins, gone, leaves}
@@ -84,7 +84,7 @@ pub use Rattle.mscp_port.specs.Moved.{BeginsBlock, GoesOnWithBlock, HeedsStep, I
 pub use Rattle.mscp_port.specs.Outgoings.{IsNews, IsNews as TellsOf, LooksForOut, MayBegin, Says, TakesEnd, TellsNews, news_place}
 pub use Rattle.mscp_port.specs.Packets.{connection_of, credits_by, credits_with, end_kind, packet_of}
 pub use Rattle.mscp_port.specs.Ports.{Drops, HasNothingToSay, IsAlive, IsAsNew, IsDue, IsInPacket, IsOfBlock, IsOutcomeOf, IsReadingText, IsWithin, Leaves, aside, block_is_due, in_hand, read_size}
-pub use Rattle.mscp_port.specs.Seen.{SeesHeader, SeesText, Sends, answered_to, bytes_read, changes_at, connection_in, header_fault, heard, heeded, kept_of_sent, length_in, stays}
+pub use Rattle.mscp_port.specs.Seen.{SeesHeader, SeesText, Sends, answered_to, bytes_read, changes_at, connection_in, header_fault, heard, heeded, length_in, stays}
 pub use Rattle.mscp_port.specs.Slots.{given_back, is_flagged, is_owned, text_of}
 pub use Rattle.mscp_port.specs.Volumes.{brought_online, no_volume, place_in, protected_by, volume_at, volume_changed, volume_found, volume_heeded, volume_protected, volume_put, volume_reset, volumes_heeded, volumes_with}
 pub use Rattle.mscp_port.specs.Wanted.{InRings, IsWanted, bytes_wanted, clear_count, clear_from, given_in, packet_out, zeros_out}
@@ -121,7 +121,7 @@ pub use Rattle.mscp_ported.specs.Rings.{slot_place, slots_in, word_place}
 pub use Rattle.mscp_ported.specs.Soon.{AreGiven, HasRoom, HasToTell, HaveToTell, IsGiven, acts}
 pub use Rattle.mscp_ported.specs.Talk.{AsksAlways, Due, Idle, Looks, Marks, Message, Opened, Packet, Read, Slot, Taken, Talk, Turn, Wish, Written, address_in, answered, at_step, given, given_turn, interrupted, interrupts, is_dead, read_by, read_turn, side_at, silence, since, slot_read, stepped, takes, talk_after, talk_by, talk_of, wish, written}
 pub use Rattle.mscp_ported.specs.Told.{AreAccepted, Said, StandInOrder, TellAll, Tells, accepted, accepted_by, accepted_text, accepts, connection_told, credits_in, left_after, message_slot, message_text, packet_slot, packet_with, said, said_in}
-pub use Rattle.mscp_ported.specs.Transfers.{Counts, StandsFor, asked, comes, done_by, is_done, is_moving, is_queued_so, is_queued_text, is_step_of, moved, transfers, wanted}
+pub use Rattle.mscp_ported.specs.Transfers.{Counts, StandsFor, asked, comes, done_by, is_done, is_moving, is_queued_text, is_step_of, moved, transfers, wanted}
 pub use Rattle.mscp_queue.proofs.Lists.{every_append, every_kept, every_weaker}
 pub use Rattle.mscp_queue.proofs.Named.{is_same, same_is}
 pub use Rattle.mscp_queue.proofs.Placed.{find_cases, find_first, find_none, found_is, position_first, position_none}

@@ -96,7 +96,8 @@ module _ {K : Type 0} (bytes : List ℕ) (done : Unit) (old new : Port K) (aw : 
     own_taken : (e : End) → own_end_of old foreign bytes ≡ Some e → taken_by (WasRead bytes (Ok done)) old ≡ []
     own_taken e own =
         let o = own_so foreign (volume_named old bytes) bytes e own in
-        taken_is bytes done old new r slot size foreign at ∙ ap (λ b. cond (is_none b && is_ok (answered_to old bytes)) (bytes ∷ []) []) o.1
+        taken_is bytes done old new r slot size foreign at
+        ∙ ap (λ b. cond (is_none b && is_ok (answered_to old bytes)) (bytes ∷ []) []) o.1
 
     own_deals : (e : End) → own_end_of old foreign bytes ≡ Some e → (o : Option Outgoing) → old.outgoing ≡ o → Said_so
     own_deals e own None none =
@@ -137,7 +138,8 @@ module _ {K : Type 0} (bytes : List ℕ) (done : Unit) (old new : Port K) (aw : 
           ∙ heeded_out s));
       accepted = accepted_is ∙ ap (λ x. cond (accepts x old.outgoing (answered_to old bytes)) (bytes ∷ []) []) none
           ∙ ap (λ x. cond (accepts None old.outgoing x) (bytes ∷ []) []) answer;
-      taken = taken_is bytes done old new r slot size foreign at ∙ ap (λ x. cond (is_none x && is_ok (answered_to old bytes)) (bytes ∷ []) [])
+      taken = taken_is bytes done old new r slot size foreign at
+          ∙ ap (λ x. cond (is_none x && is_ok (answered_to old bytes)) (bytes ∷ []) [])
           (none_so foreign (volume_named old bytes) bytes none) ∙ ap (λ x. cond (is_ok x) (bytes ∷ []) []) answer;
       ended = refl;
     }))))
@@ -149,7 +151,8 @@ module _ {K : Type 0} (bytes : List ℕ) (done : Unit) (old new : Port K) (aw : 
         (begins_same old.outgoing new.outgoing (inl (ap (λ (q : Port K). q.outgoing) (sees.waits fault none answer))))
         (accepted_is ∙ ap (λ x. cond (accepts x old.outgoing (answered_to old bytes)) (bytes ∷ []) []) none
         ∙ ap (λ x. cond (accepts None old.outgoing x) (bytes ∷ []) []) answer)
-        (taken_is bytes done old new r slot size foreign at ∙ ap (λ x. cond x (bytes ∷ []) []) (and_false (is_none (own_answer foreign (volume_named old bytes)
+        (taken_is bytes done old new r slot size foreign at ∙ ap (λ x. cond x (bytes ∷ []) [])
+        (and_false (is_none (own_answer foreign (volume_named old bytes)
         bytes)) (is_ok (answered_to old bytes)) (ap is_ok answer)))
 
     text_deals : Said_so

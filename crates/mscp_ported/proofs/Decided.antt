@@ -243,11 +243,7 @@ module _ {K : Type 0} (picks : Picking K) (c : Settings) (picker : K)
   }
   kept p (Next blocks action bytes ∷ calls) a = next_kept p calls blocks action bytes a (kept a.0 calls a.1)
   kept p (WasRead bytes (Ok done) ∷ calls) a = read_kept p calls bytes done a (kept a.0 calls a.1)
-  kept p (WasRead bytes (Err unasked) ∷ calls) a =
-      passive_kept p (WasRead bytes (Err unasked)) calls a tt (kept a.0 calls a.1)
   kept p (Went outcome (Ok done) ∷ calls) a = went_kept p calls outcome done a (kept a.0 calls a.1)
-  kept p (Went outcome (Err unasked) ∷ calls) a =
-      passive_kept p (Went outcome (Err unasked)) calls a tt (kept a.0 calls a.1)
   kept p (call ∷ calls) a = passive_kept p call calls a tt (kept a.0 calls a.1)
 
   pub says_what_was_decided : (p : Port K) (calls : List Call) (a : Answered picks start calls p)

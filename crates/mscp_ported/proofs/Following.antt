@@ -1,10 +1,11 @@
 -- What follows each call of a port, and so a list of calls.
-use Rattle.mscp_ported.proofs.Common.{Action, Answered, AreAccepted, AsksAlways, Becomes, Bool, Call, Commands, Hardware, Holdings, Idle, IfSome, IsMadeOf, IsOfBlock, IsOwed, List, Message, Next, None, Ok, Opened, Option, Picking, Port, Read, ReadIp, Said, Slot, Some, Talk, Task, Turn, WasRead, Went, Wish, WriteIp, WriteSa, [], accepted, accepted_by, accepted_text, ap, append-nil, arith, blocks, heard, inl, inr, map, message_text, option_to_list, refl, said, said_in, silence, subst, sym, talk_by, talk_of, wish, ℕ, ◌∙◌, ◌∷◌, ◌≡◌, ◌≢◌}
+use Rattle.mscp_ported.proofs.Common.{Action, Answered, AreAccepted, AsksAlways, Becomes, Bool, Call, Commands, Goes, Hardware, Holdings, Idle, IfSome, IsMadeOf, IsOfBlock, IsOwed, List, Message, Next, None, Ok, Opened, Option, Outcome, Picking, Port, Read, ReadIp, Said, Slot, Some, Talk, Task, Turn, WasRead, Went, Wish, WriteIp, WriteSa, [], accepted, accepted_by, accepted_text, ap, append-nil, arith, blocks, heard, inl, inr, map, message_text, option_to_list, refl, said, said_in, silence, subst, sym, talk_by, talk_of, wish, ℕ, ◌∙◌, ◌∷◌, ◌≡◌, ◌≢◌}
 use Rattle.mscp_ported.proofs.Minor.{GivesUp, Minor, Mounts, PutsAside, ReadsAgain, Still, minor}
 use Rattle.mscp_port.specs.declared.stage.Stage.TheVariants as stages
 use Rattle.mscp_port.specs.declared.task.Task.TheVariants as tasks
 use Rattle.mscp_ported.proofs.After.{After, IsNoReset, IsPlain}
 use Rattle.mscp_ported.proofs.Look.{Fits, HasLeft, Hears, InStep, IsClear, IsOfRings, IsWide, NeedsOut, has_area, in_hand, look, slot_at}
+use Rattle.mscp_ported.proofs.Acting.{IsReported}
 use Rattle.mscp_ported.proofs.Going.{went}
 use Rattle.mscp_ported.proofs.Hearing.{was_read}
 use Rattle.mscp_ported.proofs.Plain.{again_so, aside_so, dies, lets_be, same_port, step_so, writes_ip}
@@ -27,6 +28,11 @@ module _ {K : Type 0} (picks : Picking K) (old new : Port K) (t : Talk) (said : 
       → IsPlain call old
   plain call talk reset none = record { talk = talk; no_reset = reset; accepts = none }
 
+  reported : (w : Wish) (outcome : Outcome) (done : Unit) → InStep (look old) t (Some w) said texts
+      → Goes (picks old.controller.picker) outcome old (Ok done) new
+      → IsReported (picks old.controller.picker) old new t w outcome done said texts
+  reported w outcome done x r = record { step = x; goes = r }
+
   pub after_call : (call : Call) (earlier : List Call) → AsksAlways (call ∷ earlier) → Becomes picks call old new
       → InStep (look old) t (wish earlier) said texts
       → After call old (look new) t (wish earlier) (wish (call ∷ earlier)) said texts
@@ -40,7 +46,7 @@ module _ {K : Type 0} (picks : Picking K) (old new : Port K) (t : Talk) (said : 
       (λ w x. was_read old new t w bytes done said texts x r)
   after_call (Went outcome (Ok done)) earlier asks r k =
       told_of (Went outcome (Ok done)) old new t (wish earlier) said texts asks.0 k
-      (λ w x. went (picks old.controller.picker) old new t w outcome done said texts x r (r.moves refl))
+      (λ w x. went (reported w outcome done x r) (r.moves refl))
   after_call call earlier asks r k = by (minor picks call old new r tt)
     where
       quiet : IsPlain call old

@@ -1,15 +1,15 @@
 -- A packet is written, and slots are given back.
-use Rattle.mscp_ported.proofs.Common.{Bool, Choice, Commands, Descriptor, GivesBack, Goes, Idle, IsAsNew, IsOfBlock, IsSomeAnd, List, Looks, Marks, MatchOption, Message, None, Ok, Option, Outcome, Outgoing, OutgoingKind, Packet, Port, Read, Responses, Rings, Said, Side, Slot, Some, StandInOrder, Taken, Talk, Tells, Turn, Went, Wish, Written, [], address_in, ap, append-nil, arith, begins, cond, connection_of, connection_told, credits_by, credits_in, credits_with, false, given_turn, hears_of, inl, inr, is_flagged, is_owned, left_after, length, length-append, length-map, map, map-append, message_slot, message_text, mod-add-mod, none-some, not, packet_of, packet_slot, packet_with, refl, said_in, slots_in, slots_of, subst, sym, text_of, true, written, ℕ, ◌%◌, ◌++◌, ◌+◌, ◌-◌, ◌==◌, ◌∙◌, ◌∷◌, ◌≡◌}
+use Rattle.mscp_ported.proofs.Common.{Bool, Choice, Commands, Descriptor, GivesBack, Idle, IsAsNew, IsOfBlock, IsSomeAnd, List, Looks, Marks, MatchOption, Message, None, Ok, Option, Outcome, Outgoing, OutgoingKind, Packet, Port, Read, Responses, Rings, Said, Side, Slot, Some, StandInOrder, Taken, Talk, Tells, Turn, Went, Wish, Written, [], address_in, ap, append-nil, arith, begins, cond, connection_of, connection_told, credits_by, credits_in, credits_with, false, given_turn, hears_of, inl, inr, is_flagged, is_owned, left_after, length, length-append, length-map, map, map-append, message_slot, message_text, mod-add-mod, none-some, not, packet_of, packet_slot, packet_with, refl, said_in, slots_in, slots_of, subst, sym, text_of, true, written, ℕ, ◌%◌, ◌++◌, ◌+◌, ◌-◌, ◌==◌, ◌∙◌, ◌∷◌, ◌≡◌}
 use Rattle.mscp_port.specs.declared.action.Action.TheVariants as actions
 use Rattle.mscp_port.specs.declared.port.OutgoingKind.TheVariants as kinds
 use Rattle.mscp_port.specs.declared.stage.Stage.TheVariants as stages
 use Rattle.mscp_port.specs.declared.task.Task.TheVariants as tasks
 use Rattle.mscp_ported.specs.Talk.{done_by}
 use Rattle.mscp_ported.proofs.After.{After, same_stage}
-use Rattle.mscp_ported.proofs.Look.{AreTold, Fits, HasLeft, InStep, IsAsked, IsClear, IsOfRings, IsOwned, IsPacketOut, IsTelling, Look, NeedsOut, in_hand, left_all, left_quiet, look, quiet_left, slot_at}
+use Rattle.mscp_ported.proofs.Look.{AreTold, Fits, HasLeft, IsAsked, IsClear, IsOfRings, IsOwned, IsPacketOut, IsTelling, Look, NeedsOut, in_hand, left_all, left_quiet, look, quiet_left, slot_at}
 use Rattle.mscp_ported.proofs.Hearing.{up_step}
 use Rattle.mscp_ported.proofs.Counting.{slots_so, address_mod, left_more, one_more, tell_more}
-use Rattle.mscp_ported.proofs.Acting.{alive, dead_so, goes_on, is_done, quiet_of, same_said, told_so, up_of, write_one}
+use Rattle.mscp_ported.proofs.Acting.{IsReported, alive, dead_so, goes_on, is_done, quiet_of, same_said, told_so, up_of, write_one}
 
 -- ---- packets
 
@@ -36,20 +36,21 @@ left_so : (untold : ℕ) (kind : OutgoingKind) → untold - (credits_by untold k
 left_so untold kinds.Attention = search arith
 left_so untold kind = search arith
 
-module _ {K : Type 0} (picks : List Choice → ℕ → Type 0) (old new : Port K) (t : Talk) (w : Wish) (outcome : Outcome)
-    (done : Unit) (said : List Said) (texts : List (List ℕ)) (k : InStep (look old) t (Some w) said texts)
-    (r : Goes picks outcome old (Ok done) new) where
+module _ {K : Type 0} {picks : List Choice → ℕ → Type 0} {old new : Port K} {t : Talk} {w : Wish} {outcome : Outcome}
+    {done : Unit} {said : List Said} {texts : List (List ℕ)}
+    (going : IsReported picks old new t w outcome done said texts) where
+  open going use {step as k, goes as r}
+
   abbrev So : Type 0
   So = After (Went outcome (Ok done)) old (look new) t (Some w) None said texts
 
   -- ---- slots
 
   pub packet_so : (slot : Descriptor) → old.task ≡ tasks.Packet slot → So
-  packet_so slot at = elim (is_done picks old new t w outcome done said texts k r) [
+  packet_so slot at = elim (is_done going) [
     | inl is ↦ done_so (old.untold - (credits_with old.untold old.outgoing - 1)) refl
         (ap look (((r.acts refl).packet slot at).done is))
-    | inr never ↦ (dead_so picks old new t w outcome done said texts k r) 2
-        (((r.acts refl).packet slot at).missing never)
+    | inr never ↦ dead_so going 2 (((r.acts refl).packet slot at).missing never)
   ]
     where
       s : Slot
@@ -84,19 +85,17 @@ module _ {K : Type 0} (picks : List Choice → ℕ → Type 0) (old new : Port K
           let h = k.speech.tells in
           let left = left_all old.more h.0 in
           let same : old.untold ≡ left = left_quiet old.task t.turn old.outgoing old.untold left
-          ((quiet_of picks old new t w outcome done said texts k r) (tasks.Packet slot) at (λ x. x)) h.3 in
+          (quiet_of going (tasks.Packet slot) at (λ x. x)) h.3 in
           (h.0, h.1, h.2, (s, address, w.bytes, refl, said_so old.outgoing refl is asked.1 left same))
 
       done_so : (u : ℕ) → u ≡ old.untold - (credits_with old.untold old.outgoing - 1)
           → look new ≡ record (look old) { untold = u; task = tasks.Return Responses slot } → So
-      done_so u is e = (goes_on picks old new t w outcome done said texts k r) (record
-          (look old) { untold = u; task = tasks.Return Responses slot })
+      done_so u is e = goes_on going (record (look old) { untold = u; task = tasks.Return Responses slot })
           (record t { turn = Written s address w.bytes }) said e
-          (alive picks old new t w outcome done said texts k r) (same_stage old.stage _
-          ∙ talk) (same_said picks old new t w outcome done said texts k r)
+          (alive going) (same_stage old.stage _ ∙ talk) (same_said going)
           (up_step (look old) t (Some w) said said texts texts old.responses old.commands (tasks.Return Responses slot)
           old.outgoing u (Written s address w.bytes) t.told t.heard k
-          ((up_of picks old new t w outcome done said texts k r) (tasks.Packet slot) at tt) k.counts
+          (up_of going (tasks.Packet slot) at tt) k.counts
           (address, w.bytes, refl) (subst (λ x. IsOwned x) taken k.hand.own)
           (λ h. k.speech.has (subst (λ x. NeedsOut x) (sym at) tt)) (λ h. h) (λ h. h) (tells_so is)
           (ap (λ x. map message_text t.heard ++ in_hand x t.turn) (sym at) ∙ k.hears))
@@ -183,19 +182,18 @@ module _ {K : Type 0} (picks : List Choice → ℕ → Type 0) (old new : Port K
             task = hears_of area Responses slot;
           }) in
           let calm = hears_calm area Responses in
-          (goes_on picks old new t w outcome done said texts k r) (record (look old) {
+          (goes_on going) (record (look old) {
             responses = (old.responses + 1) % 256;
             outgoing = None;
             task = hears_of area Responses slot;
           }) (record t { turn = given_turn t.rings s; told = t.told ++ packet ∷ [] }) said e
-          (alive picks old new t w outcome done said texts k r)
-          (same_stage old.stage _ ∙ (write_one picks old new t w outcome done said texts k r) (Written s was.0 was.1)
+          (alive going) (same_stage old.stage _ ∙ (write_one going) (Written s was.0 was.1)
           (record t { turn = given_turn t.rings s; told = t.told ++ packet ∷ [] }) was.2
           (subst (λ x. IsAsked (look old) x w) at k.hand.asked) (λ address. refl))
           (gone_said old.outgoing)
           (up_step (look old) t (Some w) said said texts texts ((old.responses + 1) % 256) old.commands
           (hears_of area Responses slot) None old.untold (given_turn t.rings s) (t.told ++ packet ∷ []) t.heard k
-          ((up_of picks old new t w outcome done said texts k r) (tasks.Return Responses slot) at tt) (record {
+          (up_of going (tasks.Return Responses slot) at tt) (record {
             told_so = counted_so old.responses t.told packet k.counts.told_so;
             heard_so = k.counts.heard_so;
             packets = subst (λ xs. StandInOrder old.rings Responses 0 xs)
@@ -257,19 +255,18 @@ module _ {K : Type 0} (picks : List Choice → ℕ → Type 0) (old new : Port K
             task = hears_of area Commands slot;
           }) in
           let calm = hears_calm area Commands in
-          (goes_on picks old new t w outcome done said texts k r) (record (look old) {
+          (goes_on going) (record (look old) {
             commands = (old.commands + 1) % 256;
             task = hears_of area Commands slot;
           }) (record t { turn = given_turn t.rings s; heard = t.heard ++ message ∷ [] }) said e
-          (alive picks old new t w outcome done said texts k r)
-          (same_stage old.stage _ ∙ (write_one picks old new t w outcome done said texts k r) (Read s was.0 was.1)
+          (alive going) (same_stage old.stage _ ∙ (write_one going) (Read s was.0 was.1)
           (record t { turn = given_turn t.rings s; heard = t.heard ++ message ∷ [] }) was.2
           (subst (λ x. IsAsked (look old) x w) at k.hand.asked) (λ address. refl))
-          (same_said picks old new t w outcome done said texts k r)
+          (same_said going)
           (up_step (look old) t (Some w) said said texts texts old.responses ((old.commands + 1) % 256)
           (hears_of area Commands slot) old.outgoing old.untold (given_turn t.rings s) t.told
           (t.heard ++ message ∷ []) k
-          ((up_of picks old new t w outcome done said texts k r) (tasks.Return Commands slot) at tt) (record {
+          (up_of going (tasks.Return Commands slot) at tt) (record {
             told_so = k.counts.told_so;
             heard_so = counted_so old.commands t.heard message k.counts.heard_so;
             packets = k.counts.packets;
@@ -282,10 +279,8 @@ module _ {K : Type 0} (picks : List Choice → ℕ → Type 0) (old new : Port K
                 (length-map t.heard message_slot))) own);
             none = λ n. absurd (none-some area (sym n ∙ some));
           }) turn.0 turn.1 (λ h. absurd (calm.1 h)) calm.2
-          (hears_block area Commands) ((told_so picks old new t w outcome done said texts k r)
-          (hears_of area Commands slot) (given_turn t.rings s)
-          ((quiet_of picks old new t w outcome done said texts k r) (tasks.Return Commands slot) at (λ h. h))
-          (hears_quiet area Commands))
+          (hears_block area Commands) ((told_so going) (hears_of area Commands slot) (given_turn t.rings s)
+          (quiet_of going (tasks.Return Commands slot) at (λ h. h)) (hears_quiet area Commands))
           (ap (λ xs. map message_text (t.heard ++ message ∷ []) ++ xs) (calm.3 (given_turn t.rings s))
           ∙ append-nil (map message_text (t.heard ++ message ∷ []))
           ∙ map-append message_text t.heard (message ∷ [])
@@ -297,16 +292,16 @@ module _ {K : Type 0} (picks : List Choice → ℕ → Type 0) (old new : Port K
 
       with_area : (side : Side) (area : Rings) → old.task ≡ tasks.Return side slot → old.rings ≡ Some area
           → GivesBack outcome area side slot old new → So
-      with_area Responses area at some g = elim (is_done picks old new t w outcome done said texts k r) [
+      with_area Responses area at some g = elim (is_done going) [
         | inl is ↦ responses_so area some at (ap look (g.done is))
-        | inr never ↦ (dead_so picks old new t w outcome done said texts k r) 7 (g.missing never)
+        | inr never ↦ dead_so going 7 (g.missing never)
       ]
-      with_area Commands area at some g = elim (is_done picks old new t w outcome done said texts k r) [
+      with_area Commands area at some g = elim (is_done going) [
         | inl is ↦ commands_so area some at (ap look (g.done is))
-        | inr never ↦ (dead_so picks old new t w outcome done said texts k r) 7 (g.missing never)
+        | inr never ↦ dead_so going 7 (g.missing never)
       ]
 
       by : (o : Option Rings) → old.rings ≡ o
           → MatchOption o (IsAsNew (stages.Dead 7) old new) (λ x. GivesBack outcome x side slot old new) → So
-      by None e h = (dead_so picks old new t w outcome done said texts k r) 7 h
+      by None e h = dead_so going 7 h
       by (Some area) e h = with_area side area at e h

@@ -61,7 +61,8 @@ module _ {c : Settings} {Told : Verdict → Record → Type 0} {K : Type 0} (byt
     room = under (length old.buffers.items) (length (waiting_on First h.waiting)) (length (ends_of h))
         (Rattle.mscp_drive.specs.Settings.credits_of old.controller.settings First) c.credits c.second
         (few_kept aw h.waiting (ends_of h) old.buffers.items k.each f.kept)
-        (some_balance (balance_of First h) (outstanding_of First h) (handed old.controller.settings.units bytes) g.is_new)
+        (some_balance (balance_of First h) (outstanding_of First h) (handed old.controller.settings.units bytes)
+        g.is_new)
         (ap (λ s. Rattle.mscp_drive.specs.Settings.credits_of s First) settings) valid.few_credits
       where
         under : (b w e m x y : ℕ) → b ≤ w → 1 ≤ m - (w + e) → m ≡ x → x + y ≤ 64 → b < 64
@@ -94,7 +95,8 @@ module _ {c : Settings} {Told : Verdict → Record → Type 0} {K : Type 0} (byt
               }) f.kept));
           fits = subst (λ es. AllByRecursion (FitsIn c Told (aw ++ bytes ∷ [])) (zipped es new.decided.items))
               (sym (ap (λ (x : Holdings K). ends_of x) q.holds))
-              (subst (λ ds. AllByRecursion (FitsIn c Told (aw ++ bytes ∷ [])) (zipped (ends_of h) ds)) (sym q.sends.decided)
+              (subst (λ ds. AllByRecursion (FitsIn c Told (aw ++ bytes ∷ [])) (zipped (ends_of h) ds))
+              (sym q.sends.decided)
               (every_beside c Told aw bytes (ends_of h) old.decided.items nothing.2 f.fits));
           followed = subst (λ es. AreFollowed Told (aw ++ bytes ∷ []) es)
               (sym (ap (λ (x : Holdings K). ends_of x) q.holds))

@@ -74,7 +74,8 @@ module _ {K : Type 0} (picks : Picking K) (start p : Port K) (calls : List Call)
       d : Drive
       d = drive_in a.0 x.place
 
-      itself_so : (b : Buffer) → Contains (kept_after r0.connection (end_given (block_told verdict) d r0) a.0.buffers.items) b → (bytes : List ℕ)
+      itself_so : (b : Buffer) → Contains (kept_after r0.connection (end_given (block_told verdict) d r0)
+          a.0.buffers.items) b → (bytes : List ℕ)
           → Own picks start a.0 calls a.1 b r0 bytes → is_numbered b.reference r0 ≡ true
           → (o : Option End) → end_given (block_told verdict) d r0 ≡ o
           → Owned picks start p (Went outcome (Ok done) ∷ calls) a b
@@ -85,7 +86,8 @@ module _ {K : Type 0} (picks : Picking K) (start p : Port K) (calls : List Call)
       itself_so b left bytes own is None given =
           let on = goes_on_so d r0 (block_told verdict) given in
           let same = sym x.is ∙ same_is (name_of r0) (name_on First b.reference) is in
-          let m = moves_so picks start a.0 calls a.1 owned outcome done some s x.name x.begun b.reference same r0 own.sole
+          let m = moves_so picks start a.0 calls a.1 owned outcome done some s x.name x.begun b.reference same r0
+          own.sole
           on.online (told_so a.0 outcome verdict how on.good) in
           let bytes_same : m.1 ≡ bytes = same_Some m.1 bytes
           (sym m.3.own.message ∙ ap (λ n. asked picks n start a.0 calls a.1) m.3.number ∙ own.message) in
@@ -125,7 +127,8 @@ module _ {K : Type 0} (picks : Picking K) (start p : Port K) (calls : List Call)
               let lower = still_bytes count r0.done
               (subst (λ w. 1 < w - r0.done) (whole ∙ ap order_weight is) more) in search (arith, lower, low)
 
-      by : (b : Buffer) → Contains (kept_after r0.connection (end_given (block_told verdict) d r0) a.0.buffers.items) b → (r : Record)
+      by : (b : Buffer) → Contains (kept_after r0.connection (end_given (block_told verdict) d r0) a.0.buffers.items) b
+          → (r : Record)
           → (bytes : List ℕ) → Own picks start a.0 calls a.1 b r bytes → (c : Bool) → is_numbered b.reference r0 ≡ c
           → Owned picks start p (Went outcome (Ok done) ∷ calls) a b
       by b left r bytes own false is =
@@ -206,8 +209,4 @@ module _ {K : Type 0} (picks : Picking K) (hardware : Hardware) (credits : ℕ) 
   are_owned p (Went outcome (Ok done) ∷ calls) asks a =
       went_owned picks start p calls outcome done a (are_owned a.0 calls asks.1 a.1) asks.0
       (steps picks hardware credits controller start made a.0 calls asks.1 a.1)
-  are_owned p (WasRead bytes (Err unasked) ∷ calls) asks a =
-      passive_owned p (WasRead bytes (Err unasked)) calls a tt (are_owned a.0 calls asks a.1)
-  are_owned p (Went outcome (Err unasked) ∷ calls) asks a =
-      passive_owned p (Went outcome (Err unasked)) calls a tt (are_owned a.0 calls asks a.1)
   are_owned p (call ∷ calls) asks a = passive_owned p call calls a tt (are_owned a.0 calls asks a.1)

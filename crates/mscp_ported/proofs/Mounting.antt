@@ -310,7 +310,10 @@ module _ {K : Type 0} (picks : Picking K) (start : Port K) where
       subst (λ vs. Mounted because (volume_at vs place)) (sym (ap (λ q. q.volumes) a.2.frame))
       (guards why because (λ w. inr (refl, λ h. h, w)) place protected (place_in a.0.controller.settings.units to)
       a.0.volumes before)
-  by_call call p calls a unit place low here before = elim a.2.frame [ inl x ↦ still _ _ (λ w. inr (refl, λ h. h, w)) place a.0.volumes p.volumes (ap (λ q. q.volumes) x) before | inr dead ↦ as_new _ place (stages.Dead dead.0) a.0 p low dead.1 ]
+  by_call call p calls a unit place low here before = elim a.2.frame [
+    | inl x ↦ still _ _ (λ w. inr (refl, λ h. h, w)) place a.0.volumes p.volumes (ap (λ q. q.volumes) x) before
+    | inr dead ↦ as_new _ place (stages.Dead dead.0) a.0 p low dead.1
+  ]
 
   -- a unit that is online was brought online
   pub online : (hardware : Hardware) (credits : ℕ) (controller : Holdings K)

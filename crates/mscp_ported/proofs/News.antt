@@ -143,7 +143,10 @@ keeps_fresh picks (VolumeWent unit result) old new r =
     framed (volume_changed false) unit old new goes_away (ap (λ p. p.volumes) r.frame)
 keeps_fresh picks (Protect protected unit result) old new r =
     framed (volume_protected protected) unit old new (guards protected) (ap (λ p. p.volumes) r.frame)
-keeps_fresh picks call old new r = elim r.frame [ inl e ↦ the_same old.volumes new.volumes (ap (λ p. p.volumes) e) | inr dead ↦ as_new (stages.Dead dead.0) old new dead.1 ]
+keeps_fresh picks call old new r = elim r.frame [
+  | inl e ↦ the_same old.volumes new.volumes (ap (λ p. p.volumes) e)
+  | inr dead ↦ as_new (stages.Dead dead.0) old new dead.1
+]
 
 -- ---- what begins to go out
 

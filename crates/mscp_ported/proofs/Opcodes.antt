@@ -116,7 +116,8 @@ module _ {c : Settings} {Told : Verdict → Record → Type 0} {K : Type 0} (blo
     | inr n ↦ absurd (none_said text (sym n.begun ∙ said))
     | inl z ↦
         let t = z.0 in
-        let same : told_end old t.out.0 ≡ text = one_text (told_end old t.out.0) text (sym (begun_end old new t) ∙ said) in
+        let same : told_end old t.out.0 ≡ text = one_text (told_end old t.out.0) text (sym (begun_end old new t) ∙ said)
+        in
         let x = first t in
         let number = sym (named k t) ∙ ap (λ x. num x 0 4) same in
         let its_own = ap (λ n. filter (has_number n) aw) number in

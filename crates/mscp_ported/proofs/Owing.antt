@@ -200,4 +200,5 @@ module _ {K : Type 0} (p : Port K) (t : Talk) (action : Action) (bytes : List �
   )
   owed_of tasks.Interrupt h is at within some up clear area fit = owed_at t.turn Due fit
       (h ∙ ap (λ n. actions.Interrupt (n % 0x80 * 4)) (sym names.first_so))
-  owed_of task h is at within some up clear area fit = owed_open t.turn fit (subst (λ x. IsCalm p.stage t x bytes) (sym h) tt)
+  owed_of task h is at within some up clear area fit = owed_open t.turn fit
+      (subst (λ x. IsCalm p.stage t x bytes) (sym h) tt)

@@ -165,7 +165,8 @@ module _ {K : Type 0} (picks : Picking K) (start : Port K) (p : Port K) (calls :
       let changes = changes_at a.0.volumes (place_in a.0.controller.settings.units (num bytes 4 2)) in
       let own = buffer_in bytes changes in
       let fits = taken_number (balance_of First a.0.controller) (outstanding_of First a.0.controller) sent g.is_new in
-      let like : IsLike sent bytes = handed_like a.0.controller.settings a.0.controller.settings.units bytes g.long q.later in
+      let like : IsLike sent bytes = handed_like a.0.controller.settings a.0.controller.settings.units bytes g.long
+      q.later in
       let waiting = ap (λ (h : Holdings K). h.waiting) q.holds in
       let number : own.reference ≡ n = ap (λ t. cond t 0 n) {y = false}
       (no_shorter 4 (length bytes) (omega arith) g.long) in

@@ -1,5 +1,5 @@
 -- Calls that report no action: what is in step stays so.
-use Rattle.mscp_ported.proofs.Common.{Call, Dies, Idle, IfSome, IsAsNew, IsOfBlock, List, None, Option, Port, Said, Some, Stage, Talk, Task, Turn, Wish, WriteIp, [], ap, arith, aside, false, inl, inr, is_dead, map, message_text, option_to_list, read_again, refl, said_in, silence, step_at, stepped, subst, sym, talk_after, ℕ, ◌++◌, ◌∙◌, ◌≡◌, ◌⊎◌}
+use Rattle.mscp_ported.proofs.Common.{Call, Idle, IfSome, IsAsNew, IsOfBlock, List, None, Option, Port, Said, Some, Stage, Talk, Task, Turn, Wish, WriteIp, [], ap, arith, aside, false, inl, inr, is_dead, map, message_text, option_to_list, read_again, refl, said_in, silence, step_at, stepped, subst, sym, talk_after, ℕ, ◌++◌, ◌∙◌, ◌≡◌, ◌⊎◌}
 use Rattle.mscp_port.specs.declared.stage.Stage.TheVariants as stages
 use Rattle.mscp_port.specs.declared.task.Task.TheVariants as tasks
 use Rattle.mscp_ported.proofs.After.{After, IsNoReset, IsPlain, ends, unmoved}

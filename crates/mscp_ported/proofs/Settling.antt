@@ -1,16 +1,18 @@
 -- Steps of the initialisation that the host has answered, and the communication area.
-use Rattle.mscp_ported.proofs.Common.{Choice, Clears, Due, Goes, Idle, IfSome, IsAsNew, List, MatchOption, None, Ok, Option, Outcome, Port, Rings, Said, Some, Stage, TakesStep, Talk, Task, Went, Wish, [], ap, arith, at_step, end_of, false, inl, inr, is_dead, map, message_text, none-some, refl, rings_named, start_of, step_answered, step_task, stepped, subst, sym, true, ℕ, ◌%◌, ◌++◌, ◌+◌, ◌/◌, ◌<◌, ◌==◌, ◌∙◌, ◌≡◌, ◌≢◌, ◌≤◌, ◌⊎◌}
+use Rattle.mscp_ported.proofs.Common.{Choice, Clears, Due, Idle, IfSome, IsAsNew, List, MatchOption, None, Ok, Option, Outcome, Port, Rings, Said, Some, Stage, TakesStep, Talk, Task, Went, Wish, [], ap, arith, at_step, end_of, false, inl, inr, is_dead, map, message_text, none-some, refl, rings_named, start_of, step_answered, step_task, stepped, subst, sym, true, ℕ, ◌%◌, ◌++◌, ◌+◌, ◌/◌, ◌<◌, ◌==◌, ◌∙◌, ◌≡◌, ◌≢◌, ◌≤◌, ◌⊎◌}
 use Rattle.mscp_port.specs.declared.stage.Stage.TheVariants as stages
 use Rattle.mscp_port.specs.declared.task.Task.TheVariants as tasks
 use Rattle.mscp_ported.specs.Talk.{done_by}
 use Rattle.mscp_ported.proofs.After.{After, same_stage}
 use Rattle.mscp_ported.proofs.Look.{Fits, InStep, IsAsked, IsClear, IsElse, IsOfRings, IsOpen, IsTelling, Names, NeedsOut, has_area, in_hand, is_early, is_loud, look}
 use Rattle.mscp_ported.proofs.Counting.{named_wide}
-use Rattle.mscp_ported.proofs.Acting.{alive, dead_so, early_counts, else_deed, freed, goes_on, idle_deed, idle_so, init_step, is_done, quiet_of, same_said, step_cases, told_so}
+use Rattle.mscp_ported.proofs.Acting.{IsReported, alive, dead_so, early_counts, else_deed, freed, goes_on, idle_deed, idle_so, init_step, is_done, quiet_of, same_said, step_cases, told_so}
 
-module _ {K : Type 0} (picks : List Choice → ℕ → Type 0) (old new : Port K) (t : Talk) (w : Wish) (outcome : Outcome)
-    (done : Unit) (said : List Said) (texts : List (List ℕ)) (k : InStep (look old) t (Some w) said texts)
-    (r : Goes picks outcome old (Ok done) new) where
+module _ {K : Type 0} {picks : List Choice → ℕ → Type 0} {old new : Port K} {t : Talk} {w : Wish} {outcome : Outcome}
+    {done : Unit} {said : List Said} {texts : List (List ℕ)}
+    (going : IsReported picks old new t w outcome done said texts) where
+  open going use {step as k, goes as r}
+
   abbrev So : Type 0
   So = After (Went outcome (Ok done)) old (look new) t (Some w) None said texts
 
@@ -46,9 +48,8 @@ module _ {K : Type 0} (picks : List Choice → ℕ → Type 0) (old new : Port K
           → stepped old.stage s t ≡ t → has_area s ≡ false → (is_early s ≡ true → old.rings ≡ None)
           → look new ≡ record (look old) { stage = s; word = None; task = tasks.Free } → So
       stays s word' not_up lives same no_area early e =
-          (goes_on picks old new t w outcome done said texts k r) (record
-          (look old) { stage = s; word = None; task = tasks.Free }) t said e lives
-          (ap (stepped old.stage s) deed ∙ same) (same_said picks old new t w outcome done said texts k r)
+          goes_on going (record (look old) { stage = s; word = None; task = tasks.Free }) t said e lives
+          (ap (stepped old.stage s) deed ∙ same) (same_said going)
           (init_step (look old) t (Some w) said texts s old.words.first old.words.second old.rings None
           tasks.Free t.turn
           t.rings t.first t.second k not_up calm.0 calm.1 (record {
@@ -60,7 +61,7 @@ module _ {K : Type 0} (picks : List Choice → ℕ → Type 0) (old new : Port K
             early = early;
             wide = k.names.wide;
           }) k.counts calm.0 (k.hand.idle not_up) k.hand.own (λ h. h) (λ h. h) (λ x. search (arith, x)) (λ h. absurd h)
-          ((quiet_of picks old new t w outcome done said texts k r) tasks.Settle at (λ h. h)) (λ h. h) refl lives)
+          (quiet_of going tasks.Settle at (λ h. h)) (λ h. h) refl lives)
 
       -- the next step begins
       begins_step : (s : Stage) (first second : ℕ) (said_first said_second : ℕ) → old.stage ≢ stages.Up
@@ -76,14 +77,14 @@ module _ {K : Type 0} (picks : List Choice → ℕ → Type 0) (old new : Port K
             task = step_task first tasks.Free;
           } → So
       begins_step s first second said_first said_second not_up early lives loud no_area same e1 e2 e =
-          (goes_on picks old new t w outcome done said texts k r) (record (look old) {
+          goes_on going (record (look old) {
             stage = s;
             first = first;
             second = second;
             word = None;
             task = step_task first tasks.Free;
           }) (record t { turn = at_step first; first = said_first; second = said_second }) said e lives
-          (ap (stepped old.stage s) deed ∙ same) (same_said picks old new t w outcome done said texts k r)
+          (ap (stepped old.stage s) deed ∙ same) (same_said going)
           (step_cases (look old) first (λ task turn. InStep (record (look old) {
             stage = s;
             first = first;
@@ -94,10 +95,10 @@ module _ {K : Type 0} (picks : List Choice → ℕ → Type 0) (old new : Port K
           (init_step (look old) t (Some w) said texts s first second old.rings None tasks.Interrupt Due t.rings
           said_first
           said_second k not_up calm.0 calm.1 names k.counts refl tt tt (λ h. h) (λ h. h) (λ x. loud) (λ h. absurd h)
-          ((quiet_of picks old new t w outcome done said texts k r) tasks.Settle at (λ h. h)) (λ h. h) refl lives)
+          (quiet_of going tasks.Settle at (λ h. h)) (λ h. h) refl lives)
           (init_step (look old) t (Some w) said texts s first second old.rings None tasks.Free Idle t.rings said_first
           said_second k not_up calm.0 calm.1 names k.counts tt tt tt (λ h. h) (λ h. h) (λ x. loud) (λ h. absurd h)
-          ((quiet_of picks old new t w outcome done said texts k r) tasks.Settle at (λ h. h)) (λ h. h) refl lives))
+          (quiet_of going tasks.Settle at (λ h. h)) (λ h. h) refl lives))
         where
           names : Names s first second None old.rings said_first said_second t.answer t.rings
           names = record {
@@ -130,15 +131,14 @@ module _ {K : Type 0} (picks : List Choice → ℕ → Type 0) (old new : Port K
           } → So
       names_area s task third lives same late area no_rings no_out clear no_step no_tell fits after e =
           let not_up : old.stage ≢ stages.Up = λ u. search (arith, u, third) in
-          (goes_on picks old new t w outcome done said texts k r) (record (look old) {
+          (goes_on going) (record (look old) {
             stage = s;
             word = None;
             rings = rings_named old.words.first old.words.second word;
             task = task;
           }) (record t { rings = rings_named t.first t.second t.answer }) said e lives
           (ap (λ x. stepped x s (done_by w.action w.bytes t)) third ∙ ap (stepped stages.Third s) deed
-          ∙ same) (same_said picks old new t w outcome done said texts k r)
-          (init_step (look old) t (Some w) said texts s old.words.first old.words.second
+          ∙ same) (same_said going) (init_step (look old) t (Some w) said texts s old.words.first old.words.second
           (rings_named old.words.first old.words.second word) None task t.turn (rings_named t.first t.second t.answer)
           t.first t.second k not_up calm.0 calm.1 (record {
             first_so = k.names.first_so;
@@ -154,7 +154,7 @@ module _ {K : Type 0} (picks : List Choice → ℕ → Type 0) (old new : Port K
           (early_counts (rings_named old.words.first old.words.second word) (look old) t (Some w) said texts k
           (none (ap is_early third))) (fits calm.0) (k.hand.idle not_up) k.hand.own no_rings no_out
           (λ x. absurd (no_step x)) clear
-          ((quiet_of picks old new t w outcome done said texts k r) tasks.Settle at (λ h. h)) no_tell after lives)
+          (quiet_of going tasks.Settle at (λ h. h)) no_tell after lives)
 
       is_one : (n : ℕ) → (n ≡ 1) ⊎ (n ≢ 1)
       is_one n = search arith
@@ -164,7 +164,7 @@ module _ {K : Type 0} (picks : List Choice → ℕ → Type 0) (old new : Port K
 
       named_or : (o : Option Rings) → rings_named old.words.first old.words.second word ≡ o → old.stage ≡ stages.Third
           → word < 0x8000 → So
-      named_or None e third low = (dead_so picks old new t w outcome done said texts k r) 7 (step.nowhere third low e)
+      named_or None e third low = dead_so going 7 (step.nowhere third low e)
       named_or (Some area) e third low =
           let is : rings_named old.words.first old.words.second word ≢ None = λ n. none-some area (sym n ∙ e) in
           names_area stages.Clearing (tasks.Clear 0) third refl refl refl (λ h. is) (λ h. h) (λ h. h) (λ h. refl)
@@ -193,11 +193,9 @@ module _ {K : Type 0} (picks : List Choice → ℕ → Type 0) (old new : Port K
             (λ h. absurd h) (λ x. search (arith, x)) (λ h. h) (λ h. h) refl (ap look (step.probe there high))
         | inr low ↦ named_or (rings_named old.words.first old.words.second word) refl there low
       ]
-      by s there = (goes_on picks old new t w outcome done said texts k r) (record
-          (look old) { word = None; task = tasks.Free }) t said
+      by s there = goes_on going (record (look old) { word = None; task = tasks.Free }) t said
           (ap look (step.elsewhere (λ e. search (arith, there, e)) (λ e. search (arith, there, e))
-          (λ e. search (arith, there, e)))) (alive picks old new t w outcome done said texts k r)
-          (same_stage old.stage _ ∙ deed) (same_said picks old new t w outcome done said texts k r) (record {
+          (λ e. search (arith, there, e)))) (alive going) (same_stage old.stage _ ∙ deed) (same_said going) (record {
             names = record {
               first_so = k.names.first_so;
               second_so = k.names.second_so;
@@ -222,17 +220,15 @@ module _ {K : Type 0} (picks : List Choice → ℕ → Type 0) (old new : Port K
               out = k.speech.out;
               has = λ h. absurd h;
               tells =
-                  (told_so picks old new t w outcome done said texts k r) tasks.Free t.turn
-                  ((quiet_of picks old new t w outcome done said texts k r) tasks.Settle at (λ h. h)) (λ h. h);
+                  (told_so going) tasks.Free t.turn (quiet_of going tasks.Settle at (λ h. h)) (λ h. h);
             };
             hears = ap (λ xs. map message_text t.heard ++ xs) (sym calm.1) ∙ k.hears;
-            ended = λ d. absurd (search (arith, d, (alive picks old new t w outcome done said texts k r)));
+            ended = λ d. absurd (search (arith, d, (alive going)));
           })
 
   pub settle_so : (o : Option ℕ) → old.written ≡ o → old.task ≡ tasks.Settle → So
   settle_so None none at =
-      let x = settle_talk at in (freed picks old new t w outcome done said texts k r) x.0 x.1
-      ((quiet_of picks old new t w outcome done said texts k r) tasks.Settle at (λ h. h)) x.2 (ap look
+      let x = settle_talk at in (freed going) x.0 x.1 (quiet_of going tasks.Settle at (λ h. h)) x.2 (ap look
       ((r.acts refl).unanswered at none))
   settle_so (Some word) some at =
       step_so word at some (subst (λ x. IfSome x (λ v. TakesStep v old new)) (ap (step_answered tasks.Settle) some)
@@ -259,7 +255,7 @@ module _ {K : Type 0} (picks : List Choice → ℕ → Type 0) (old new : Port K
       deed = idle_deed w.action w.bytes t idle
 
       quiet : IsTelling old.task → ⊥
-      quiet = (quiet_of picks old new t w outcome done said texts k r) (tasks.Clear so_far) at (λ h. h)
+      quiet = quiet_of going (tasks.Clear so_far) at (λ h. h)
 
       before : in_hand old.task t.turn ≡ []
       before = ap (λ x. in_hand x t.turn) at
@@ -280,10 +276,8 @@ module _ {K : Type 0} (picks : List Choice → ℕ → Type 0) (old new : Port K
       }
 
       more_so : look new ≡ record (look old) { task = tasks.Clear (so_far + 64) } → So
-      more_so e = (goes_on picks old new t w outcome done said texts k r) (record
-          (look old) { task = tasks.Clear (so_far + 64) }) t said e
-          (alive picks old new t w outcome done said texts k r)
-          (same_stage old.stage _ ∙ deed) (same_said picks old new t w outcome done said texts k r) (record {
+      more_so e = goes_on going (record (look old) { task = tasks.Clear (so_far + 64) }) t said e (alive going)
+          (same_stage old.stage _ ∙ deed) (same_said going) (record {
             names = k.names;
             counts = k.counts;
             hand = record {
@@ -300,22 +294,19 @@ module _ {K : Type 0} (picks : List Choice → ℕ → Type 0) (old new : Port K
               out = k.speech.out;
               has = λ h. absurd h;
               tells =
-                  (told_so picks old new t w outcome done said texts k r) (tasks.Clear
-                  (so_far + 64)) t.turn quiet (λ h. h);
+                  (told_so going) (tasks.Clear (so_far + 64)) t.turn quiet (λ h. h);
             };
             hears = ap (λ xs. map message_text t.heard ++ xs) (sym before) ∙ k.hears;
-            ended = λ d. absurd (search (arith, d, (alive picks old new t w outcome done said texts k r)));
+            ended = λ d. absurd (search (arith, d, (alive going)));
           })
 
       last_so : look new ≡ record (look old) { stage = stages.Last; task = step_task old.words.first tasks.Free } → So
-      last_so e = (goes_on picks old new t w outcome done said texts k r) (record
-          (look old) { stage = stages.Last; task = step_task old.words.first tasks.Free })
+      last_so e = goes_on going (record (look old) { stage = stages.Last; task = step_task old.words.first tasks.Free })
           (record t { turn = at_step old.words.first }) said e refl
           (ap (λ x. stepped x stages.Last (done_by w.action w.bytes t)) there
           ∙ ap (stepped stages.Clearing stages.Last) deed
           ∙ ap (λ x. record t { turn = at_step x }) k.names.first_so)
-          (same_said picks old new t w outcome done said texts k r)
-          (step_cases (look old) old.words.first (λ task turn. InStep (record (look old) {
+          (same_said going) (step_cases (look old) old.words.first (λ task turn. InStep (record (look old) {
             stage = stages.Last;
             task = task;
           }) (record t { turn = turn }) None said texts)
@@ -327,12 +318,12 @@ module _ {K : Type 0} (picks : List Choice → ℕ → Type 0) (old new : Port K
           (λ h. h) (λ h. h) (λ x. refl) (λ h. absurd h) quiet (λ h. h) refl refl))
 
       with_area : (area : Rings) → Clears outcome area so_far old new → So
-      with_area area c = elim (is_done picks old new t w outcome done said texts k r) [
+      with_area area c = elim (is_done going) [
         | inl is ↦ elim (by_size (end_of area) (start_of area (old.words.second % 2 == 1) + (so_far + 64))) [
           | inl more ↦ more_so (ap look (c.on is more))
           | inr last ↦ last_so (ap look (c.last is last))
         ]
-        | inr never ↦ (dead_so picks old new t w outcome done said texts k r) 7 (c.missing never)
+        | inr never ↦ dead_so going 7 (c.missing never)
       ]
         where
           by_size : (n m : ℕ) → (m < n) ⊎ (n ≤ m)
@@ -340,5 +331,5 @@ module _ {K : Type 0} (picks : List Choice → ℕ → Type 0) (old new : Port K
 
       by : (o : Option Rings) → MatchOption o (IsAsNew (stages.Dead 7) old new) (λ x. Clears outcome x so_far old new)
           → So
-      by None h = (dead_so picks old new t w outcome done said texts k r) 7 h
+      by None h = dead_so going 7 h
       by (Some area) h = with_area area h

@@ -305,6 +305,4 @@ module _ {K : Type 0} (old : Port K) (s : IsWaiting old) (clear : IsClear old.ta
       → IsGiven old.task call → Goal old (acts (call ∷ [])) (rest old.task) new
   by_call picks new (WasRead bytes (Ok done)) r given = by_read bytes done new r old.task refl given
   by_call picks new (Went outcome (Ok done)) r given = by_going _ outcome done new r old.task refl
-  by_call picks new (WasRead bytes (Err unasked)) r given = by_other picks new (WasRead bytes (Err unasked)) r refl
-  by_call picks new (Went outcome (Err unasked)) r given = by_other picks new (Went outcome (Err unasked)) r refl
   by_call picks new call r given = by_other picks new call r refl

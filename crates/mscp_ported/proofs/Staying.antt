@@ -1,5 +1,5 @@
 -- Calls that leave the controller as it was.
-use Rattle.mscp_ported.proofs.Common.{Becomes, Bool, Call, Choice, Clears, Commands, Dies, Err, GivesBack, Goes, Hears, IfSome, IsAsNew, IsReadingText, List, MatchOption, Next, None, Ok, Option, Outcome, Picking, Port, ReadIp, ReadsIp, Responses, Rings, Side, Some, Stage, TakesStep, Task, WasRead, Went, WriteIp, WriteSa, WritesOut, WritesSa, ap, arith, block_begun, blocks, cond, end_of, false, header_fault, inl, inr, is_dead, is_owned, length, nat_lt, none-some, num, read_size, refl, rings_named, start_of, step_answered, step_told, subst, sym, told_of, transfer_told, true, ℕ, ◌%◌, ◌+◌, ◌/◌, ◌<◌, ◌==◌, ◌∙◌, ◌≡◌, ◌≢◌, ◌≤◌, ◌⊎◌}
+use Rattle.mscp_ported.proofs.Common.{Becomes, Bool, Call, Choice, Clears, Commands, Dies, GivesBack, Goes, Hears, IfSome, IsAsNew, IsReadingText, List, MatchOption, Next, None, Ok, Option, Outcome, Picking, Port, ReadIp, ReadsIp, Responses, Rings, Side, Some, Stage, TakesStep, Task, WasRead, Went, WriteIp, WriteSa, WritesOut, WritesSa, ap, arith, block_begun, blocks, cond, end_of, false, header_fault, inl, inr, is_dead, is_owned, length, nat_lt, none-some, num, read_size, refl, rings_named, start_of, step_answered, step_told, subst, sym, told_of, transfer_told, true, ℕ, ◌%◌, ◌+◌, ◌/◌, ◌<◌, ◌==◌, ◌∙◌, ◌≡◌, ◌≢◌, ◌≤◌, ◌⊎◌}
 use Rattle.mscp_ported.proofs.Minor.{GivesUp, Minor, Mounts, PutsAside, ReadsAgain, Still, minor}
 use Rattle.mscp_port.specs.declared.action.Outcome.TheVariants as outcomes
 use Rattle.mscp_port.specs.declared.stage.Stage.TheVariants as stages
@@ -41,7 +41,8 @@ word_stays {K} word old new r = by old.stage refl
     named_or : (o : Option Rings) → rings_named old.words.first old.words.second word ≡ o → old.stage ≡ stages.Third
         → word < 0x8000 → Stays old new
     named_or None none at low = died 7 old new (r.nowhere at low none)
-    named_or (Some area) some at low = same_as (r.clear at low (λ none. none-some area (sym none ∙ some))) (moved old stages.Clearing refl)
+    named_or (Some area) some at low = same_as (r.clear at low (λ none. none-some area (sym none ∙ some)))
+        (moved old stages.Clearing refl)
 
     by : (s : Stage) → old.stage ≡ s → Stays old new
     by stages.First at = elim (is_one (word / 0x4000 % 2)) [
@@ -53,7 +54,8 @@ word_stays {K} word old new r = by old.stage refl
       | inl high ↦ same_as (r.probe at high) (moved old stages.Purging refl)
       | inr low ↦ named_or (rings_named old.words.first old.words.second word) refl at low
     ]
-    by s at = same_as (r.elsewhere (λ e. search (arith, at, e)) (λ e. search (arith, at, e)) (λ e. search (arith, at, e))) (alike old)
+    by s at = same_as (r.elsewhere (λ e. search (arith, at, e)) (λ e. search (arith, at, e))
+        (λ e. search (arith, at, e))) (alike old)
 
 clear_stays : {K : Type 0} (outcome : Outcome) (done : ℕ) (old new : Port K) (r : Rings)
     → Clears outcome r done old new → Stays old new
@@ -154,7 +156,8 @@ reads_ip {K} old new r = by old.stage refl
   where
     rings_or : old.stage ≡ stages.Probing → (o : Option Rings) → old.rings ≡ o → Stays old new
     rings_or at None none = died 7 old new (r.nowhere at none)
-    rings_or at (Some area) some = same_as (r.probed at (λ none. none-some area (sym none ∙ some))) (moved old stages.Clearing refl)
+    rings_or at (Some area) some = same_as (r.probed at (λ none. none-some area (sym none ∙ some)))
+        (moved old stages.Clearing refl)
 
     by : (s : Stage) → old.stage ≡ s → Stays old new
     by stages.Up at = same_as (r.up at) (alike old)
@@ -202,8 +205,6 @@ pub passive_stays : {K : Type 0} (picks : Picking K) (call : Call) (old new : Po
     → IsPassive call → Stays old new
 passive_stays picks ReadIp old new r is = reads_ip old new r
 passive_stays picks (WriteSa word) old new r is = writes_sa word old new r
-passive_stays picks (WasRead bytes (Err unasked)) old new r is = same_as r.unasked (alike old)
-passive_stays picks (Went outcome (Err unasked)) old new r is = same_as r.unasked (alike old)
 passive_stays picks WriteIp old new r is = absurd is
 passive_stays picks (Next blocks action bytes) old new r is = absurd is
 passive_stays picks (WasRead bytes (Ok done)) old new r is = absurd is

@@ -11,7 +11,8 @@ pub returns : goal.returns
 returns g c = λ s before controller hardware credits start p calls valid was quiet made asks reads a limit rule sizes
     host faults blocks.
     let F = TellsFaults calls in
-    let run = begun g.K.Picker.picks s c.args.picker.now valid before hardware credits controller start was made quiet in
+    let run = begun g.K.Picker.picks s c.args.picker.now valid before hardware credits controller start was made quiet
+    in
     let keeping : IsKeeping run =
     record { keep = c.controllers_keep_the_promise.ensures; sizes = sizes } in
     let state = stated (IsEndOf s F) F (Unit {0}) run c.ports_end_what_they_took.ensures c.ports_tell_in_order.ensures
