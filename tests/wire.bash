@@ -1010,8 +1010,11 @@ random_hosts_are_right() {
 }
 
 # Nine hosts, most like the drivers of known systems, each six times, which begin anew amid it. In 24 passes they
-# copy 16 groups of blocks by three commands.
-drivers_are_right() { logs_its_wire drivers && logged_is_right $((9 * 6 * 24 * 16 * 3)) $((9 * 6 * 2)); }
+# copy 16 groups of blocks by three commands. In words each message and each end is told by what it is.
+drivers_are_right() {
+    logs_its_wire drivers && logged_is_right $((9 * 6 * 24 * 16 * 3)) $((9 * 6 * 2)) &&
+        "$program" wire --show "$room/log" >"$room/out" && ! grep -E 'unknown opcode|: (short|long|code|length): ' "$room/out"
+}
 
 # Hosts whose volumes are exchanged: what a SET UNIT CHARACTERISTICS tells may be a doubt.
 exchanged_volumes_are_right() {
