@@ -43,7 +43,8 @@ returns-in_ok-ended-clause-fall g c =
 pub returns-in_ok-ended-clause-doubtful : goal.returns-in_ok-ended-clause-doubtful
 returns-in_ok-ended-clause-doubtful g c =
     rw (sym c.is_long.ensures ∙ c.if-not-is_long.false)
-    (rw (c.command_if-command.ensures, c.cell_of-at.ensures.place, c.of-answer.ensures) at c.doubtful_found-doubtful.ensures)
+    (rw (c.command_if-command.ensures, c.cell_of-at.ensures.place, c.of-answer.ensures) at
+    c.doubtful_found-doubtful.ensures)
 
 pub returns-else-is_none-clause-command : goal.returns-else-is_none-clause-command
 returns-else-is_none-clause-command g c =
@@ -58,7 +59,8 @@ returns-else-is_none-clause-fall g c =
 pub returns-else-is_none-clause-doubtful : goal.returns-else-is_none-clause-doubtful
 returns-else-is_none-clause-doubtful g c =
     rw (sym c.is_long.ensures ∙ c.if-not-is_long.false)
-    (rw (c.command_if-command.ensures, c.cell_of-at.ensures.place, c.of-answer.ensures) at c.doubtful_found-doubtful.ensures)
+    (rw (c.command_if-command.ensures, c.cell_of-at.ensures.place, c.of-answer.ensures) at
+    c.doubtful_found-doubtful.ensures)
 
 pub returns-in_ok-ended-clause-after : goal.returns-in_ok-ended-clause-after
 returns-in_ok-ended-clause-after g c =
