@@ -376,6 +376,7 @@ struct mscp_end {
 
 /* What the next step serves. */
 struct mscp_upcoming {
+    uint64_t serial;    /* of a port's step, as mscp_port_next tells it; 0 of a controller's */
     uint32_t reference; /* of the command */
     uint32_t bytes;     /* of a transfer in all, 0 of another command */
     uint32_t lbn;       /* the block that the step touches, if it touches one */
@@ -458,6 +459,7 @@ struct mscp_watch {
 
 /* What a port wants done. What its kind doesn't say is 0. */
 struct mscp_action {
+    uint64_t serial;   /* of TRANSFER: the next of a count for each block that is begun, and the same for one that is wanted anew */
     uint32_t address;  /* in host memory, on the bus */
     uint32_t count;    /* how many bytes: at most 64 of READ and WRITE, and MSCP_BLOCK of TRANSFER */
     uint32_t block;    /* of TRANSFER */
@@ -1004,6 +1006,12 @@ MSCP_INLINE int32_t mscp_port_was_read(struct mscp_port *port, const uint8_t *by
  * MSCP_UNASKED. */
 MSCP_MUST_USE int32_t mscp_port_went(struct mscp_port *port, uint32_t outcome, uint16_t status);
 
+/* The block of this serial went so, which mscp_port_next told: for a disk that takes its time. The port hears of it exactly if it
+ * wants that block now. Otherwise nothing changes, and the answer is MSCP_UNASKED: its command was aborted, say, and another one has
+ * its number; or messages alone were asked for, and mscp_port_next hasn't told the block again. MSCP_DONE, or the first that
+ * holds of MSCP_BAD_OUTCOME and MSCP_UNASKED. */
+MSCP_MUST_USE int32_t mscp_port_went_by(struct mscp_port *port, uint64_t serial, uint32_t outcome, uint16_t status);
+
 /* The port looks again whether its host has given slots for ends back, since the host doesn't say so. Call this when
  * the machine has time for the disk. MSCP_DONE. */
 int32_t mscp_port_look_again(struct mscp_port *port);
@@ -1033,7 +1041,7 @@ MSCP_MUST_USE int32_t mscp_port_state(const struct mscp_port *port, struct mscp_
 /* What is in a unit. MSCP_DONE, or MSCP_UNKNOWN_UNIT. */
 MSCP_MUST_USE int32_t mscp_port_volume(const struct mscp_port *port, uint16_t unit, struct mscp_volume *volume);
 
-/* The step that is begun: if the port wants a block moved, its command and its block. Its first block has
+/* The step that is begun: if the port wants a block moved, its command and its block, with its serial. Its first block has
  * `done` 0, and its last one `done + 1 == weight`. MSCP_DONE, or MSCP_NOTHING if none is begun. */
 MSCP_MUST_USE int32_t mscp_port_begun(const struct mscp_port *port, struct mscp_upcoming *upcoming);
 

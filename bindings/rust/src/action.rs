@@ -41,6 +41,9 @@ pub enum Action {
         count: usize,
         /// Which way.
         way: Way,
+        /// The next of a count for each block that is begun, and the same for one that is wanted anew: for
+        /// [`Port::went_by`](crate::Port::went_by).
+        serial: u64,
     },
 }
 
@@ -67,7 +70,10 @@ impl Action {
             2 => Action::Read { address, count },
             3 => Action::Write { address, bytes: List::new(it.bytes, count) },
             4 => Action::Interrupt { vector: it.vector },
-            5 => Action::Transfer { unit: it.unit, block: it.block, address, count, way: Way::told(it.opcode) },
+            5 => {
+                let (unit, block, way, serial) = (it.unit, it.block, Way::told(it.opcode), it.serial);
+                Action::Transfer { unit, block, address, count, way, serial }
+            }
             _ => Action::Pause,
         }
     }

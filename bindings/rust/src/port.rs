@@ -194,7 +194,7 @@ impl Port {
                 bus.interrupt(vector);
                 Outcome::Done
             }
-            Action::Transfer { unit, block, address, count, way } => {
+            Action::Transfer { unit, block, address, count, way, .. } => {
                 transfer(bus, unit, block, address, count.min(BLOCK), way).into()
             }
         };
@@ -218,6 +218,18 @@ impl Port {
         let (number, status) = outcome.numbers();
         // SAFETY: the handle is that of a port that was made.
         checked(unsafe { raw::mscp_port_went(self.held.handle(), number, status) }).map(drop)
+    }
+
+    /// The block of this serial went so, which [`Port::next`] told: for a disk that takes its time. The port hears of it exactly
+    /// if it wants that block now.
+    ///
+    /// # Errors
+    /// [`Error::BadOutcome`], or [`Error::Unasked`]: its command was aborted, say, and another one has its number; or messages
+    /// alone were asked for, and [`Port::next`] hasn't told the block again.
+    pub fn went_by(&mut self, serial: u64, outcome: Outcome) -> Result<(), Error> {
+        let (number, status) = outcome.numbers();
+        // SAFETY: the handle is that of a port that was made.
+        checked(unsafe { raw::mscp_port_went_by(self.held.handle(), serial, number, status) }).map(drop)
     }
 
     /// The port looks again whether its host has given slots for ends back, since the host doesn't say so. [`Port::turn`] does

@@ -95,7 +95,8 @@ structs! {
     Sent { reference: u32, aborted: u32, has_aborted: u8, }
     Packet { length: u32, bytes: [u8; 48], }
     Upcoming {
-        reference: u32, bytes: u32, lbn: u32, done: u32, weight: u32, unit: u16, opcode: u8, touches: u8, connection: u8,
+        serial: u64, reference: u32, bytes: u32, lbn: u32, done: u32, weight: u32, unit: u16, opcode: u8, touches: u8,
+        connection: u8,
     }
     Report {
         reference: u32, lbn: u32, seek: u32, unit: u16, status: u16, touched: u8, started: u8, ended: u8, connection: u8,
@@ -116,7 +117,9 @@ structs! {
         id: u64, reference: u32, other: u32, figure: u32, moved: u32, media: u32, size: u32, serial: u32, unit: u16,
         status: u16, track: u16, group: u16, cylinder: u16, timeout: u16, code: u8,
     }
-    Action { address: u32, count: u32, block: u32, unit: u16, vector: u16, kind: u8, opcode: u8, bytes: [u8; 64], }
+    Action {
+        serial: u64, address: u32, count: u32, block: u32, unit: u16, vector: u16, kind: u8, opcode: u8, bytes: [u8; 64],
+    }
     State { word: u16, stage: u8, is_held_back: u8, }
     Volume {
         size: u32, media: u32, is_there: u8, is_protected: u8, is_protected_by_host: u8, is_online: u8, is_removable: u8,
@@ -199,6 +202,7 @@ extern "C" {
     pub fn mscp_port_next_message(p: *mut Handle, action: *mut Action) -> i32;
     pub fn mscp_port_was_read_at(p: *mut Handle, bytes: *const u8, length: usize) -> i32;
     pub fn mscp_port_went(p: *mut Handle, outcome: u32, status: u16) -> i32;
+    pub fn mscp_port_went_by(p: *mut Handle, serial: u64, outcome: u32, status: u16) -> i32;
     pub fn mscp_port_look_again(p: *mut Handle) -> i32;
     pub fn mscp_port_tick(p: *mut Handle) -> i32;
     pub fn mscp_port_volume_came(p: *mut Handle, unit: u16, medium: *const Medium) -> i32;

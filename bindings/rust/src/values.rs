@@ -237,6 +237,8 @@ pub struct Upcoming {
     pub done: u32,
     /// The steps that it takes in all.
     pub weight: u32,
+    /// Of a port's step, as [`Action::Transfer`](crate::Action::Transfer) has it; 0 of a controller's.
+    pub serial: u64,
 }
 
 impl From<raw::Upcoming> for Upcoming {
@@ -250,6 +252,7 @@ impl From<raw::Upcoming> for Upcoming {
             bytes: it.bytes,
             done: it.done,
             weight: it.weight,
+            serial: it.serial,
         }
     }
 }

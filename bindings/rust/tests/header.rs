@@ -203,7 +203,7 @@ fn structs_are_those_of_c() {
         Medium "mscp_medium" { size media is_protected is_removable }
         Sent "mscp_sent" { reference aborted has_aborted }
         Packet "mscp_packet" { length bytes }
-        Upcoming "mscp_upcoming" { reference bytes lbn done weight unit opcode touches connection }
+        Upcoming "mscp_upcoming" { serial reference bytes lbn done weight unit opcode touches connection }
         Report "mscp_report" { reference lbn seek unit status touched started ended connection }
         Waiting "mscp_waiting" { reference figure connection }
         Holder "mscp_holder" { reference connection fences overdrawn }
@@ -215,7 +215,7 @@ fn structs_are_those_of_c() {
         End "mscp_end" {
             id reference other figure moved media size serial unit status track group cylinder timeout code
         }
-        Action "mscp_action" { address count block unit vector kind opcode bytes }
+        Action "mscp_action" { serial address count block unit vector kind opcode bytes }
         State "mscp_state" { word stage is_held_back }
         Volume "mscp_volume" { size media is_there is_protected is_protected_by_host is_online is_removable }
     };

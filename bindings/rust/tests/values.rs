@@ -53,6 +53,7 @@ fn each_field_is_itself() {
         assert_eq!(State::from(it).in_c(), it);
         let touches = flag(r);
         let it = raw::Upcoming {
+            serial: u64::from(word(r)) << 32 | u64::from(word(r)),
             reference: word(r),
             bytes: word(r),
             lbn: word(r) * u32::from(touches),

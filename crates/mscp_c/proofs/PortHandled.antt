@@ -1,5 +1,5 @@
 -- Calls on a port's handle are calls of the port.
-use Rattle.mscp_c.proofs.Common.{◌≡◌, ◌++◌, ◌∷◌, [], ℕ, ℤ, true, false, List, Option, None, Some, refl, ap, sym, subst, MatchOption, Outcome, Answered, Becomes, Handle, Held, BAD_OUTCOME, outcome_given, KeepsPortPromise, Begun, Configured, Hardware, Look, LookAgain, Next, NextMessage, Protect, ReadIp, ReadSa, Resume, State, TellsOutcome, Tick, Volume, VolumeCame, VolumeWent, WasRead, Went, Why, WriteIp, WriteSa, TellsWent, PolicyPicks}
+use Rattle.mscp_c.proofs.Common.{◌≡◌, ◌∙◌, ◌++◌, ◌∷◌, [], ℕ, ℤ, Bool, true, false, List, Option, None, Some, Result, Ok, Err, IsErr, refl, ap, sym, subst, MatchBool, MatchOption, Goes, Unasked, UNASKED, told_code, is_of_serial, TellsWentBy, WentBy, Outcome, Answered, Becomes, Handle, Held, BAD_OUTCOME, outcome_given, KeepsPortPromise, Begun, Configured, Hardware, Look, LookAgain, Next, NextMessage, Protect, ReadIp, ReadSa, Resume, State, TellsOutcome, Tick, Volume, VolumeCame, VolumeWent, WasRead, Went, Why, WriteIp, WriteSa, TellsWent, PolicyPicks}
 use Rattle.mscp_port.specs.Histories.{Call}
 use Rattle.mscp_port.specs.Ports.{put_aside}
 use Rattle.mscp_port.specs.Wanted.{bytes_wanted}
@@ -40,6 +40,43 @@ went number block status (Some outcome) old new t = (
   λ start told a. (old.held, a, t.goes),
 )
 
+-- an answer that is none is told as not asked for
+refused_code : (answer : Result (Unit {0}) Unasked) → IsErr answer → told_code answer ≡ UNASKED
+refused_code (Ok done) no = absurd no
+refused_code (Err fault) no = refl
+
+-- a block of another serial than this is none of the port's calls
+went_with : (b : Bool) (outcome : Outcome) (status : ℤ) (old new : Held) (answer : Result (Unit {0}) Unasked)
+    → MatchBool b (Goes (PolicyPicks old.controller.picker) outcome old answer new) (IsErr answer × (new ≡ old))
+    → status ≡ told_code answer
+    → (next : List Call)
+    × MatchBool b (TellsOutcome outcome status next) ((next ≡ []) × (status ≡ UNASKED))
+    × ((start : Held) (told : List Call) → Answered PolicyPicks start told old
+    → Answered PolicyPicks start (next ++ told) new)
+went_with true outcome status old new answer goes code =
+    (calls.Went outcome answer ∷ [], (answer, refl, code), λ start told a. (old, a, goes))
+went_with false outcome status old new answer no code = (
+  [],
+  (refl, code ∙ refused_code answer no.0),
+  λ start told a. subst (Answered PolicyPicks start told) (sym no.1) a,
+)
+
+went_by : (serial number block : ℕ) (status : ℤ) (o : Option Outcome) (old new : Handle)
+    → MatchOption o ((status ≡ BAD_OUTCOME) × (new ≡ old)) (λ outcome. TellsWentBy serial outcome old status new)
+    → (next : List Call)
+    × MatchOption o ((next ≡ []) × (status ≡ BAD_OUTCOME))
+    (λ outcome. MatchBool (is_of_serial serial old.held.task old.held.serial) (TellsOutcome outcome status next)
+    ((next ≡ []) × (status ≡ UNASKED)))
+    × ((start : Held) (told : List Call) → Answered PolicyPicks start told old.held
+    → Answered PolicyPicks start (next ++ told) new.held)
+went_by serial number block status None old new refused = (
+  [],
+  (refl, refused.0),
+  λ start told a. subst (Answered PolicyPicks start told) (ap (λ h. h.held) (sym refused.1)) a,
+)
+went_by serial number block status (Some outcome) old new t =
+    went_with (is_of_serial serial old.held.task old.held.serial) outcome status old.held new.held t.answer t.goes t.code
+
 call_is : (call : HandleCall) (old new : Handle) → AnswersHandle old call new → Is call old.held new.held
 call_is (ReadIp status) old new r = one (ReadIp status) calls.ReadIp old.held new.held (refl, r.1) r.0.leaves
 call_is (WriteIp status) old new r = one (WriteIp status) calls.WriteIp old.held new.held (refl, r.1) r.0.leaves
@@ -49,16 +86,19 @@ call_is (WriteSa word status) old new r =
 call_is (Next before status after) old new r =
     let bytes = bytes_wanted new.held new.held.task in
     one (Next before status after) (calls.Next true r.action bytes) old.held new.held
-    (r.action, bytes, refl, r.code, r.told) (r.wants, refl)
+    (r.action, bytes, new.held, refl, (r.wants, refl), r.code, r.told) (r.wants, refl)
 call_is (NextMessage before status after) old new r = record {
   next = calls.Next false r.action (bytes_wanted new.held new.held.task) ∷ calls.PutAside ∷ [];
-  tells = (r.action, bytes_wanted new.held new.held.task, refl, r.code, r.told);
+  tells = (r.action, bytes_wanted new.held new.held.task, new.held, refl, (r.wants, refl), r.code, r.told);
   becomes = λ start told a. (put_aside old.held, (old.held, a, refl), (r.wants, refl));
 }
 call_is (WasRead bytes status) old new r =
     one (WasRead bytes status) (calls.WasRead bytes r.answer) old.held new.held (r.answer, refl, r.code) r.hears
 call_is (Went number block status) old new r =
     let w = went number block status (outcome_given number block) old new r in
+    record { next = w.0; tells = w.1; becomes = w.2 }
+call_is (WentBy serial number block status) old new r =
+    let w = went_by serial number block status (outcome_given number block) old new r in
     record { next = w.0; tells = w.1; becomes = w.2 }
 call_is (LookAgain status) old new r =
     one (LookAgain status) calls.LookAgain old.held new.held (refl, r.1) r.0.leaves

@@ -1,5 +1,5 @@
 -- A port that was lent from a handle and changed by a call: what the call tells.
-use Rattle.mscp_c.proofs.Common.{◌≡◌, ◌∙◌, ℕ, ℤ, List, ap, subst, Result, Action, Outcome, Unasked, NoUnit, Changes, Goes, Hears, PutsIn, Wants, PolicyPicks, Handle, Held, with_held, ActionOut, TellsHeard, TellsPut, TellsVolume, TellsWanted, TellsWent, put_code, told_code, volume_code, action_told, next_code}
+use Rattle.mscp_c.proofs.Common.{◌≡◌, ◌∙◌, ℕ, ℤ, List, ap, subst, Result, Action, Outcome, Unasked, NoUnit, Changes, Goes, GoesBy, Hears, PutsIn, Wants, PolicyPicks, Handle, Held, with_held, ActionOut, TellsHeard, TellsPut, TellsVolume, TellsWanted, TellsWent, TellsWentBy, put_code, told_code, volume_code, action_told, next_code, serial_told}
 use Rattle.mscp_port.specs.Ports.{asked, asks_blocks}
 use Rattle.mscp_port.specs.Wanted.{bytes_wanted}
 use Rattle.mscp_port.specs.declared.action.Ask.{Ask}
@@ -52,9 +52,20 @@ module _ (h old : Handle) (x new : Held) (same : x ≡ h.held) (kept : h ≡ old
     code = code;
   }
 
+  pub went_by_told : (serial : ℕ) (outcome : Outcome) (answer : Result (Unit {0}) Unasked) (status : ℤ)
+      → GoesBy (PolicyPicks x.controller.picker) serial outcome x answer new → status ≡ told_code answer
+      → TellsWentBy serial outcome old status (with_held h new)
+  went_by_told serial outcome answer status goes code = record {
+    answer = answer;
+    goes = subst (λ (p : Held). GoesBy (PolicyPicks p.controller.picker) serial outcome p answer new) was goes;
+    rest = rest;
+    code = code;
+  }
+
   pub wanted_told : (ask : Ask) (action : Action) (status : ℤ) (before after : ActionOut)
       → Wants (PolicyPicks (asked ask x).controller.picker) (asks_blocks ask) (asked ask x) action new
-      → status ≡ next_code action → after ≡ action_told action (bytes_wanted new new.task) before
+      → status ≡ next_code action
+      → after ≡ action_told action (bytes_wanted new new.task) (serial_told new) before
       → TellsWanted ask old before status (with_held h new) after
   wanted_told ask action status before after wants code told = record {
     action = action;

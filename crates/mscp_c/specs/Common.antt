@@ -9,8 +9,8 @@ pub use Rattle.mscp_c.specs.PortGiven.{medium_given, outcome_given}
 pub use Rattle.mscp_c.specs.PortHandleCalls.{PortHandlesKeepThePromise}
 pub use Rattle.mscp_c.specs.PortMade.{port_init_answer, port_init_code, port_init_fault}
 pub use Rattle.mscp_c.specs.PortSeen.{bus_told, hardware_told, seen_code, state_told, volume_told}
-pub use Rattle.mscp_c.specs.PortServed.{Holds, MakesPort, TellsHeard, TellsPut, TellsVolume, TellsWanted, TellsWent, put_code, told_code, volume_code}
-pub use Rattle.mscp_c.specs.PortTold.{action_told, next_code, of_kind, of_memory, of_transfer, with_bytes}
+pub use Rattle.mscp_c.specs.PortServed.{Holds, MakesPort, TellsHeard, TellsPut, TellsVolume, TellsWanted, TellsWent, TellsWentBy, put_code, told_code, volume_code}
+pub use Rattle.mscp_c.specs.PortTold.{action_told, next_code, of_kind, of_memory, of_transfer, serial_told, with_bytes}
 pub use Rattle.mscp_c.specs.Restoring.{policy_number}
 pub use Rattle.mscp_c.specs.Running.{HasText, IsLine, IsNoPacket, IsShort, TellsFault, cause_code, show_code}
 pub use Rattle.mscp_c.specs.Saving.{length_told, room_after, save_code}

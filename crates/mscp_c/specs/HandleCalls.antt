@@ -192,7 +192,7 @@ Tells c so_far (Take number before status after) next =
     (λ via. TellsTaken via before status after next)
 Tells c so_far (Begin before status after) next =
     (upcoming : Option Upcoming) × (next ≡ calls.Begin upcoming ∷ [])
-    × (status ≡ begin_code upcoming) × (after ≡ upcoming_told upcoming before)
+    × (status ≡ begin_code upcoming) × (after ≡ upcoming_told upcoming 0 before)
 Tells c so_far (Finish number reference block before status after) next =
     MatchOption (connection_given number) (TellsRefused BAD_CONNECTION before status after next)
     (λ via. TellsBlock via reference block before status after next)

@@ -1,5 +1,5 @@
 -- What somebody calls from C who holds a handle on a port, what is told, and what is promised of it.
-use Rattle.std.specs.Prelude.{◌≡◌, ◌==◌, not, ℕ, ℤ, pos, true, false, List, [], ◌∷◌, ◌++◌, length, MatchOption, Option, None, Some, Result, Ok}
+use Rattle.std.specs.Prelude.{◌≡◌, ◌==◌, not, ℕ, ℤ, pos, true, false, List, [], ◌∷◌, ◌++◌, length, MatchBool, MatchOption, Option, None, Some, Result, Ok}
 use Rattle.mscp_port.specs.declared.action.Action.{Action}
 use Rattle.mscp_port.specs.declared.action.Ask.TheVariants as asks
 use Rattle.mscp_port.specs.declared.action.Outcome.{Outcome}
@@ -7,7 +7,7 @@ use Rattle.mscp_port.specs.declared.action.Unasked.{Unasked}
 use Rattle.mscp_port.specs.declared.port.watching.NoUnit.{NoUnit}
 use Rattle.mscp_port.specs.Calls as ports
 use Rattle.mscp_memory.specs.Policies.{PolicyPicks}
-use Rattle.mscp_port.specs.Histories.{Answered, Call}
+use Rattle.mscp_port.specs.Histories.{Answered, Becomes, Call}
 use Rattle.mscp_port.specs.Histories as calls
 use Rattle.mscp_memory.specs.PortHandles.{Handle, Held}
 use Rattle.mscp_c.specs.declared.outs.ActionOut.{ActionOut}
@@ -16,7 +16,7 @@ use Rattle.mscp_c.specs.declared.outs.HolderOut.{HolderOut}
 use Rattle.mscp_c.specs.declared.outs.StateOut.{StateOut}
 use Rattle.mscp_c.specs.declared.outs.UpcomingOut.{UpcomingOut}
 use Rattle.mscp_c.specs.declared.outs.VolumeOut.{VolumeOut}
-use Rattle.mscp_c.specs.declared.status.TheConstants.{BAD_CONNECTION, BAD_OUTCOME, DONE}
+use Rattle.mscp_c.specs.declared.status.TheConstants.{BAD_CONNECTION, BAD_OUTCOME, DONE, UNASKED}
 use Rattle.mscp_c.specs.declared.units.Limits.{Limits}
 use Rattle.mscp_c.specs.declared.units.UnitIn.{UnitIn}
 use Rattle.mscp_c.specs.Given.{TellsSettings, connection_given}
@@ -31,8 +31,10 @@ use Rattle.mscp_c.specs.declared.port_given.HardwareIn.{HardwareIn}
 use Rattle.mscp_c.specs.declared.port_given.MediumIn.{MediumIn}
 use Rattle.mscp_c.specs.PortGiven.{medium_given, outcome_given}
 use Rattle.mscp_c.specs.PortSaving.{restored_by}
-use Rattle.mscp_c.specs.PortServed.{Holds, TellsHeard, TellsPut, TellsVolume, TellsWanted, TellsWent, put_code, told_code, volume_code}
-use Rattle.mscp_c.specs.PortTold.{action_told, next_code}
+use Rattle.mscp_c.specs.PortServed.{Holds, TellsHeard, TellsPut, TellsVolume, TellsWanted, TellsWent, TellsWentBy, put_code, told_code, volume_code}
+use Rattle.mscp_c.specs.PortTold.{action_told, next_code, serial_told}
+use Rattle.mscp_port.specs.Ports.{put_aside}
+use Rattle.mscp_port.specs.Serials.{is_of_serial}
 
 -- ---- calls
 
@@ -50,6 +52,8 @@ pub data HandleCall : Type 0 where
   WasRead : List ℕ → ℤ → HandleCall
   -- the number of an outcome, and a status
   Went : ℕ → ℕ → ℤ → HandleCall
+  -- the same of the block of this serial
+  WentBy : ℕ → ℕ → ℕ → ℤ → HandleCall
   LookAgain : ℤ → HandleCall
   Tick : ℤ → HandleCall
   -- the number of a unit, and what was put into it
@@ -88,6 +92,9 @@ AnswersHandle old (WasRead bytes status) new = TellsHeard bytes old status new
 AnswersHandle old (Went number block status) new =
     MatchOption (outcome_given number block) ((status ≡ BAD_OUTCOME) × (new ≡ old))
     (λ outcome. TellsWent outcome old status new)
+AnswersHandle old (WentBy serial number block status) new =
+    MatchOption (outcome_given number block) ((status ≡ BAD_OUTCOME) × (new ≡ old))
+    (λ outcome. TellsWentBy serial outcome old status new)
 AnswersHandle old (LookAgain status) new = Holds ports.LooksAgain old new × (status ≡ DONE)
 AnswersHandle old (Tick status) new = Holds ports.Ticks old new × (status ≡ DONE)
 AnswersHandle old (VolumeCame unit medium status) new = TellsPut (medium_given medium) unit old status new
@@ -103,7 +110,7 @@ AnswersHandle old (Volume unit before status after) new =
     (after ≡ volume_told (volume_of old.held unit) before) × (status ≡ seen_code (volume_of old.held unit))
     × (new ≡ old)
 AnswersHandle old (Begun before status after) new =
-    (after ≡ upcoming_told (begun_step old.held.controller) before)
+    (after ≡ upcoming_told (begun_step old.held.controller) (serial_told old.held) before)
     × (status ≡ begin_code (begun_step old.held.controller)) × (new ≡ old)
 AnswersHandle old (Look before answer after) new =
     (after ≡ figures_told (figures_in old.held.controller) before)
@@ -133,16 +140,23 @@ Tells p (WriteIp status) next = (next ≡ calls.WriteIp ∷ []) × (status ≡ D
 Tells p (ReadSa answer) next = (next ≡ []) × (answer ≡ pos (ports.sa_of p))
 Tells p (WriteSa word status) next = (next ≡ calls.WriteSa word ∷ []) × (status ≡ DONE)
 Tells p (Next before status after) next =
-    (action : Action) × (bytes : List ℕ) × (next ≡ calls.Next true action bytes ∷ [])
-    × (status ≡ next_code action) × (after ≡ action_told action bytes before)
+    (action : Action) × (bytes : List ℕ) × (q : Held) × (next ≡ calls.Next true action bytes ∷ [])
+    × Becomes PolicyPicks (calls.Next true action bytes) p q
+    × (status ≡ next_code action) × (after ≡ action_told action bytes (serial_told q) before)
 Tells p (NextMessage before status after) next =
-    (action : Action) × (bytes : List ℕ) × (next ≡ calls.Next false action bytes ∷ calls.PutAside ∷ [])
-    × (status ≡ next_code action) × (after ≡ action_told action bytes before)
+    (action : Action) × (bytes : List ℕ) × (q : Held)
+    × (next ≡ calls.Next false action bytes ∷ calls.PutAside ∷ [])
+    × Becomes PolicyPicks (calls.Next false action bytes) (put_aside p) q
+    × (status ≡ next_code action) × (after ≡ action_told action bytes (serial_told q) before)
 Tells p (WasRead bytes status) next =
     (answer : Result (Unit {0}) Unasked) × (next ≡ calls.WasRead bytes answer ∷ []) × (status ≡ told_code answer)
 Tells p (Went number block status) next =
     MatchOption (outcome_given number block) ((next ≡ []) × (status ≡ BAD_OUTCOME))
     (λ outcome. TellsOutcome outcome status next)
+Tells p (WentBy serial number block status) next =
+    MatchOption (outcome_given number block) ((next ≡ []) × (status ≡ BAD_OUTCOME))
+    (λ outcome. MatchBool (is_of_serial serial p.task p.serial) (TellsOutcome outcome status next)
+    ((next ≡ []) × (status ≡ UNASKED)))
 Tells p (LookAgain status) next = (next ≡ calls.LookAgain ∷ []) × (status ≡ DONE)
 Tells p (Tick status) next = (next ≡ calls.Tick ∷ []) × (status ≡ DONE)
 Tells p (VolumeCame unit medium status) next =
@@ -161,7 +175,7 @@ Tells p (State before status after) next = (next ≡ []) × (after ≡ state_tol
 Tells p (Volume unit before status after) next =
     (next ≡ []) × (after ≡ volume_told (volume_of p unit) before) × (status ≡ seen_code (volume_of p unit))
 Tells p (Begun before status after) next =
-    (next ≡ []) × (after ≡ upcoming_told (begun_step p.controller) before)
+    (next ≡ []) × (after ≡ upcoming_told (begun_step p.controller) (serial_told p) before)
     × (status ≡ begin_code (begun_step p.controller))
 Tells p (Look before answer after) next =
     (next ≡ []) × (after ≡ figures_told (figures_in p.controller) before)

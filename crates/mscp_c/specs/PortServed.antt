@@ -23,7 +23,7 @@ use Rattle.mscp_c.specs.declared.units.Limits.{Limits}
 use Rattle.mscp_c.specs.declared.units.UnitIn.{UnitIn}
 use Rattle.mscp_c.specs.Given.{policy_given, settings_given}
 use Rattle.mscp_c.specs.PortGiven.{hardware_given}
-use Rattle.mscp_c.specs.PortTold.{action_told, next_code}
+use Rattle.mscp_c.specs.PortTold.{action_told, next_code, serial_told}
 
 -- the handle holds what this leaves of what it held, and is the same otherwise
 pub record Holds (Leaves : Held → Held → Type 0) (old new : Handle) : Type 0 where
@@ -50,7 +50,7 @@ pub record TellsWanted (ask : Ask) (old : Handle) (before : ActionOut) (status :
       action new.held
   pub rest : new ≡ with_held old new.held
   pub code : status ≡ next_code action
-  pub told : after ≡ action_told action (bytes_wanted new.held new.held.task) before
+  pub told : after ≡ action_told action (bytes_wanted new.held new.held.task) (serial_told new.held) before
 
 -- the status of what was told of an action: done, or not asked for
 abbrev pub told_code : Result (Unit {0}) Unasked → ℤ
@@ -68,6 +68,13 @@ pub record TellsHeard (bytes : List ℕ) (old : Handle) (status : ℤ) (new : Ha
 pub record TellsWent (outcome : Outcome) (old : Handle) (status : ℤ) (new : Handle) : Type 0 where
   pub answer : Result (Unit {0}) Unasked
   pub goes : ports.Goes (PolicyPicks old.held.controller.picker) outcome old.held answer new.held
+  pub rest : new ≡ with_held old new.held
+  pub code : status ≡ told_code answer
+
+-- of one that tells of a block by its serial
+pub record TellsWentBy (serial : ℕ) (outcome : Outcome) (old : Handle) (status : ℤ) (new : Handle) : Type 0 where
+  pub answer : Result (Unit {0}) Unasked
+  pub goes : ports.GoesBy (PolicyPicks old.held.controller.picker) serial outcome old.held answer new.held
   pub rest : new ≡ with_held old new.held
   pub code : status ≡ told_code answer
 

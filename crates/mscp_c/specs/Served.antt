@@ -21,7 +21,7 @@ pub record TellsBegin (old : Handle) (before : UpcomingOut)
   pub begin : controllers.Foretells (PolicyPicks old.held.picker) old.held upcoming new.held
   pub rest : new ≡ with_held old new.held
   pub code : status ≡ begin_code upcoming
-  pub told : after ≡ upcoming_told upcoming before
+  pub told : after ≡ upcoming_told upcoming 0 before
 
 -- they tell a step that the controller may make
 pub record TellsStep (k : Block)

@@ -85,9 +85,10 @@ begin_code None = status.NOTHING
 begin_code (Some upcoming) = status.DONE
 
 -- what is told of it. Where nothing waits nothing is
-abbrev pub upcoming_told : Option Upcoming → UpcomingOut → UpcomingOut
-upcoming_told None out = out
-upcoming_told (Some u) out = record {
+abbrev pub upcoming_told : Option Upcoming → ℕ → UpcomingOut → UpcomingOut
+upcoming_told None serial out = out
+upcoming_told (Some u) serial out = record {
+  serial = serial;
   reference = u.command.reference;
   bytes = bytes_of u.command.order;
   lbn = unwrap_or u.lbn 0;

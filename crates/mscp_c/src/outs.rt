@@ -39,10 +39,11 @@ pub struct EndOut {
     pub code: u8,
 }
 
-/// What the next step serves.
+/// What the next step serves. The serial is that of a port's step, and 0 of a controller's.
 #[repr(C)]
 #[derive(Clone, Copy)]
 pub struct UpcomingOut {
+    pub serial: u64,
     pub reference: u32,
     pub bytes: u32,
     pub lbn: u32,
@@ -120,6 +121,7 @@ pub struct HeardOut {
 #[repr(C)]
 #[derive(Drop)]
 pub struct ActionOut {
+    pub serial: u64,
     pub address: u32,
     pub count: u32,
     pub block: u32,

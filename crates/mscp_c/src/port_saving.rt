@@ -17,7 +17,7 @@ use mscp_port::{Bus, Hardware, Port, ROOM, restore_fault, saved_settings};
 /// The most bytes that a port is saved as.
 #[unsafe(no_mangle)]
 pub extern "C" fn mscp_port_save_size() -> usize
-    ensures { result ≡ 6250 }
+    ensures { result ≡ 6258 }
 {
     ROOM
 }
@@ -55,7 +55,7 @@ fn policy_named(bytes: &[u8]) -> Policy
     let text = usize::from(byte_or_zero(bytes, 71));
     let buffers = usize::from(byte_or_zero(bytes, 72));
     let decided = usize::from(byte_or_zero(bytes, 73));
-    if byte_or_zero(bytes, 362 + text + 21 * buffers + 13 * decided + 30) == 1 {
+    if byte_or_zero(bytes, 370 + text + 21 * buffers + 13 * decided + 30) == 1 {
         Policy::Sweep
     } else {
         Policy::Oldest

@@ -93,8 +93,9 @@ pub extern "C" fn mscp_port_begun(handle: &mut Handle, out: &mut UpcomingOut) ->
     if !is_made(handle) {
         return NOT_MADE;
     }
-    let upcoming = lend(handle).controller().upcoming();
-    tell_upcoming(out, &upcoming)
+    let port = lend(handle);
+    let upcoming = port.controller().upcoming();
+    tell_upcoming(out, &upcoming, port.serial().unwrap_or(0))
 }
 
 /// The figures of the commands that wait, oldest first, as many as there is room for: how many wait.

@@ -1,7 +1,7 @@
 // How what a port wants is told.
 
 ghost use Rattle.std.specs.Prelude.{◌≡◌, ◌≤◌, length};
-ghost use Rattle.mscp_c.specs.Common.{move_byte, action_told, bytes_wanted, next_code, of_kind, of_memory, of_transfer, with_bytes};
+ghost use Rattle.mscp_c.specs.Common.{move_byte, action_told, bytes_wanted, next_code, of_kind, of_memory, of_transfer, serial_told, with_bytes};
 
 use crate::outs::ActionOut;
 use crate::status::{DONE, NOTHING};
@@ -37,6 +37,7 @@ fn opcode_of(kind: MoveKind) -> u8
 fn tell_kind(out: &mut ActionOut, kind: u8)
     ensures { out.new ≡ of_kind kind out.old }
 {
+    out.serial = 0;
     out.address = 0;
     out.count = 0;
     out.block = 0;
@@ -64,18 +65,20 @@ fn tell_write(out: &mut ActionOut, address: u32, count: u32, bytes: &[u8])
     out.bytes[..bytes.len()].copy_from_slice(bytes);
 }
 
-/// A block is to be moved, to so many bytes of host memory from an address on, or from them.
+/// A block of this serial is to be moved, to so many bytes of host memory from an address on, or from them.
 fn tell_transfer(
     out: &mut ActionOut,
+    serial: u64,
     kind: MoveKind,
     unit: u16,
     block: u32,
     address: u32,
     count: u32,
 )
-    ensures { out.new ≡ of_transfer kind unit block address count out.old }
+    ensures { out.new ≡ of_transfer serial kind unit block address count out.old }
 {
     tell_memory(out, TRANSFER, address, count);
+    out.serial = serial;
     out.block = block;
     out.unit = unit;
     out.opcode = opcode_of(kind);
@@ -84,7 +87,7 @@ fn tell_transfer(
 /// Tells what a port wants done next.
 pub(crate) fn tell_action(out: &mut ActionOut, port: &Port<Policy>, action: Action) -> i32
     ensures code { result ≡ next_code action }
-    ensures told { out.new ≡ action_told action (bytes_wanted port.now port.now.task) out.old }
+    ensures told { out.new ≡ action_told action (bytes_wanted port.now port.now.task) (serial_told port.now) out.old }
 {
     match action {
         Action::Rest => return NOTHING,
@@ -106,7 +109,7 @@ pub(crate) fn tell_action(out: &mut ActionOut, port: &Port<Policy>, action: Acti
             block,
             address,
             count,
-        } => tell_transfer(out, kind, unit, block, address, count),
+        } => tell_transfer(out, port.serial().unwrap_or(0), kind, unit, block, address, count),
     }
     DONE
 }

@@ -74,3 +74,24 @@ pub extern "C" fn mscp_port_went(handle: &mut Handle, outcome: u32, status: u16)
     };
     told_code(lend(handle).went(outcome))
 }
+
+/// The block of this serial went so, if the port wants that now.
+#[unsafe(no_mangle)]
+pub extern "C" fn mscp_port_went_by(
+    handle: &mut Handle,
+    serial: u64,
+    outcome: u32,
+    status: u16,
+) -> i32
+    ensures call { is_made handle.old ≡ true
+        → AnswersHandle handle.old (calls.WentBy serial outcome status result) handle.new }
+    ensures unmade { is_made handle.old ≡ false → (result ≡ NOT_MADE) × (handle.new ≡ handle.old) }
+{
+    if !is_made(handle) {
+        return NOT_MADE;
+    }
+    let Some(outcome) = outcome_of(outcome, status) else {
+        return BAD_OUTCOME;
+    };
+    told_code(lend(handle).went_by(serial, outcome))
+}

@@ -23,7 +23,7 @@ pub extern "C" fn mscp_begin(handle: &mut Handle, out: &mut UpcomingOut) -> i32
         return NOT_MADE;
     }
     let upcoming = lend(handle).begin();
-    tell_upcoming(out, &upcoming)
+    tell_upcoming(out, &upcoming, 0)
 }
 
 /// The step of the connection's command of this reference number, where it is begun: its block had this status.

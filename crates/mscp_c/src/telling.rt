@@ -73,15 +73,16 @@ fn bytes_of(order: &Order) -> u32
     }
 }
 
-/// Tells what the next step serves.
-pub(crate) fn tell_upcoming(out: &mut UpcomingOut, upcoming: &Option<Upcoming>) -> i32
+/// Tells what the next step serves, and its serial.
+pub(crate) fn tell_upcoming(out: &mut UpcomingOut, upcoming: &Option<Upcoming>, serial: u64) -> i32
     ensures code { result ≡ begin_code upcoming.now }
-    ensures told { out.new ≡ upcoming_told upcoming.now out.old }
+    ensures told { out.new ≡ upcoming_told upcoming.now serial out.old }
 {
     let Some(upcoming) = upcoming else {
         return NOTHING;
     };
     *out = UpcomingOut {
+        serial,
         reference: upcoming.command.reference,
         bytes: bytes_of(&upcoming.command.order),
         lbn: upcoming.lbn.unwrap_or(0),

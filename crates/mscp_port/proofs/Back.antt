@@ -1,5 +1,5 @@
 -- The bytes that a port is saved as say that port.
-use Rattle.mscp_port.proofs.Common.{◌≡◌, ℕ, ◌+◌, ◌*◌, ◌<◌, ◌≤◌, ◌^◌, Bool, true, List, ◌++◌, drop, take, get_or, length, append_assoc, refl, ap, subst, ◌∙◌, arith, flat_map, if◌then◌else◌, Option, None, IfSome, Ok, Err, AllByRecursion, drop-append_seam, take-append_seam, and_from, eq-eqb, le-leb, lt-ltb, drop-drop, length-append, recursion_from_All, bytes_eq-Decides, four, two, parts_in, controller_restored, controller_bytes, flag_back, IsBack, parts_rest, parts_said, Buffer, Decided, Outgoing, Port, RestoreFault, Volume, AreRings, Rings, coded_task, number_or_none, optional, some_byte, stage_byte, stage_in, stage_word, task_in, all_decided_in, area_in, decided_in, buffer_in, buffers_in, coded_in, frame_fault, is_framed, outgoing_in, over, port_in, restored, restored_unless, rings_if, text_in, volume_in, volumes_in, whose, HasDecidedRange, HasBufferRange, HasRange, HasVolumeRange, decided_bytes, buffer_bytes, length_of, outgoing_byte, outgoing_text, rings_or_none, saved_bytes, volume_bytes}
+use Rattle.mscp_port.proofs.Common.{◌≡◌, ℕ, ◌+◌, ◌*◌, ◌<◌, ◌≤◌, ◌^◌, Bool, true, List, ◌++◌, drop, take, get_or, length, append_assoc, refl, ap, subst, ◌∙◌, arith, flat_map, if◌then◌else◌, Option, None, IfSome, Ok, Err, AllByRecursion, drop-append_seam, take-append_seam, and_from, eq-eqb, le-leb, lt-ltb, drop-drop, length-append, recursion_from_All, bytes_eq-Decides, eight, four, two, parts_in, controller_restored, controller_bytes, flag_back, IsBack, parts_rest, parts_said, Buffer, Decided, Outgoing, Port, RestoreFault, Volume, AreRings, Rings, coded_task, number_or_none, optional, some_byte, stage_byte, stage_in, stage_word, task_in, all_decided_in, area_in, decided_in, buffer_in, buffers_in, coded_in, frame_fault, is_framed, outgoing_in, over, port_in, restored, restored_unless, rings_if, text_in, volume_in, volumes_in, whose, HasDecidedRange, HasBufferRange, HasRange, HasVolumeRange, decided_bytes, buffer_bytes, length_of, outgoing_byte, outgoing_text, rings_or_none, saved_bytes, volume_bytes}
 use Rattle.mscp_saved.proofs.BackParts.{parts_long}
 use Rattle.mscp_port.specs.declared.port.restoring.RestoreFault.TheVariants as faults
 use Rattle.mscp_port.proofs.Coded.{bus_back, optional_back, size_back, stage_back, task_back}
@@ -67,31 +67,31 @@ module _ {K : Type 0} (number : ℕ) (p : Port K) where
   decided_back : HasRange p → AllByRecursion (IsBack decided_in decided_bytes 13) p.decided.items
   decided_back r = search (arith, recursion_from_All, decided_is_back)
 
-  behind_head : drop 74 b ≡ vs ++ (ts ++ (bs ++ (os ++ cs)))
+  behind_head : drop 82 b ≡ vs ++ (ts ++ (bs ++ (os ++ cs)))
   behind_head =
       append_assoc (vs ++ ts ++ bs) os cs
       ∙ append_assoc (vs ++ ts) bs (os ++ cs)
       ∙ append_assoc vs ts (bs ++ (os ++ cs))
 
-  behind_volumes : HasRange p → drop 362 b ≡ ts ++ (bs ++ (os ++ cs))
+  behind_volumes : HasRange p → drop 370 b ≡ ts ++ (bs ++ (os ++ cs))
   behind_volumes r =
       search (
         arith,
-        drop-drop 288 74 b,
+        drop-drop 288 82 b,
         parts_rest volume_in volume_bytes 18 p.volumes (ts ++ (bs ++ (os ++ cs))) (volumes_back
             r),
         volumes_back r,
         behind_head,
       )
 
-  behind_text : HasRange p → drop (362 + length ts) b ≡ bs ++ (os ++ cs)
-  behind_text r = search (arith, drop-drop (length ts) 362 b, behind_volumes r, drop-append_seam ts (bs ++ (os ++ cs)))
+  behind_text : HasRange p → drop (370 + length ts) b ≡ bs ++ (os ++ cs)
+  behind_text r = search (arith, drop-drop (length ts) 370 b, behind_volumes r, drop-append_seam ts (bs ++ (os ++ cs)))
 
-  behind_buffers : HasRange p → drop (362 + length ts + 21 * length p.buffers.items) b ≡ os ++ cs
+  behind_buffers : HasRange p → drop (370 + length ts + 21 * length p.buffers.items) b ≡ os ++ cs
   behind_buffers r =
       search (
         arith,
-        drop-drop (21 * length p.buffers.items) (362 + length ts) b,
+        drop-drop (21 * length p.buffers.items) (370 + length ts) b,
         behind_text r,
         parts_rest buffer_in
             buffer_bytes 21 p.buffers.items (os ++ cs) (buffers_back r),
@@ -99,11 +99,11 @@ module _ {K : Type 0} (number : ℕ) (p : Port K) where
       )
 
   behind_decided : HasRange p
-      → drop (362 + length ts + 21 * length p.buffers.items + 13 * length p.decided.items) b ≡ cs
+      → drop (370 + length ts + 21 * length p.buffers.items + 13 * length p.decided.items) b ≡ cs
   behind_decided r =
       search (
         arith,
-        drop-drop (13 * length p.decided.items) (362 + length ts + 21 * length p.buffers.items) b,
+        drop-drop (13 * length p.decided.items) (370 + length ts + 21 * length p.buffers.items) b,
         behind_buffers r,
         parts_rest decided_in
             decided_bytes 13 p.decided.items cs (decided_back r),
@@ -162,6 +162,7 @@ module _ {K : Type 0} (number : ℕ) (p : Port K) where
     is_stalled = flag_back p.is_stalled i;
     is_full = flag_back p.is_full i;
     owes_block = flag_back p.owes_block i;
+    serial = eight p.serial r.hand.serial i;
     buffers = record { items = buffers_said r i };
     decided = record { items = decided_said r i };
     volumes = volumes_said r i;

@@ -1,5 +1,6 @@
 -- What the controller begins for a port, behind an end that may have been taken.
 use Rattle.mscp_port.proofs.Common.{◌≡◌, ◌⊎◌, ℕ, List, MatchOption, Option, None, Some, inl, inr, refl, ap, subst, First, Upcoming, Choice, Foretells, Holdings, after_take, begun_step, Name, Port, Task, Verdict, BeginsBlock, GoesOnWithBlock, TakesBlock, begun_task}
+use Rattle.mscp_port.specs.Serials.{serial_after}
 use Rattle.mscp_port.specs.declared.task.Task.TheVariants as tasks
 
 -- the picker stays where an end is taken
@@ -26,6 +27,11 @@ begun_behind picks_of task old between new either begun = record {
     begun.3,
   );
 }
+
+-- where as much is begun as was, the serial stays
+pub serial_still : (begun : Option Name) (serial : ℕ) → serial ≡ serial_after begun begun serial
+serial_still None serial = refl
+serial_still (Some name) serial = refl
 
 -- ---- a step that is taken
 

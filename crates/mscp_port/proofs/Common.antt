@@ -28,7 +28,7 @@ pub use Rattle.mscp_drive.specs.Shape.{Shape, one_block}
 pub use Rattle.mscp_drive.specs.declared.block.Block.{Block}
 pub use Rattle.mscp_drive.specs.declared.connection.Connection.{Connection}
 pub use Rattle.mscp_drive.specs.declared.connection.Connection.TheVariants.{First}
-pub use Rattle.mscp_packet.proofs.Numbers.{four, two}
+pub use Rattle.mscp_packet.proofs.Numbers.{eight, four, two}
 pub use Rattle.mscp_packet.proofs.Parts.{each_more, from_place, written_more}
 unfoldable pub use Rattle.mscp_packet.specs.Commands.{command_of}
 pub use Rattle.mscp_packet.specs.Number.{num}

@@ -1,5 +1,5 @@
 -- What is called of a port, and what becomes of it.
-use Rattle.std.specs.Prelude.{◌≡◌, ◌≢◌, ◌≤◌, ◌<◌, ◌==◌, ◌+◌, ◌-◌, ◌%◌, ◌/◌, ◌⊎◌, ◌↔◌, ℕ, Bool, true, false, nat_lt, if◌then◌else◌, List, [], length, Contains, IfSome, IsErr, IsOk, OnErr, Result, Option, None, Some}
+use Rattle.std.specs.Prelude.{◌≡◌, ◌≢◌, ◌≤◌, ◌<◌, ◌==◌, ◌+◌, ◌-◌, ◌%◌, ◌/◌, ◌⊎◌, ◌↔◌, ℕ, Bool, true, false, nat_lt, if◌then◌else◌, List, [], length, Contains, IfSome, IsErr, IsOk, MatchBool, OnErr, Result, Option, None, Some}
 use Rattle.mscp_drive.specs.declared.connection.Connection.TheVariants.{First}
 use Rattle.mscp_queue.specs.declared.view.Choice.{Choice}
 use Rattle.mscp_drive.specs.Both.{of}
@@ -34,6 +34,7 @@ use Rattle.mscp_packet.specs.declared.command.MoveKind.{MoveKind}
 use Rattle.mscp_port.specs.Ports.{Drops, IsAlive, IsAsNew, IsDue, IsIdle, IsOfBlock, IsOutcomeOf, IsReadingText, IsWithin, Learns, Leaves, in_hand, read_size, seconds}
 use Rattle.mscp_port.specs.Registers.{shown}
 use Rattle.mscp_port.specs.Seen.{Sees}
+use Rattle.mscp_port.specs.Serials.{is_of_serial, serial_after}
 use Rattle.mscp_port.specs.Wanted.{IsWanted}
 use Rattle.mscp_port.specs.Volumes.{medium_answer, no_volume, place_in, volume_at, volume_put, volumes_with}
 
@@ -62,6 +63,7 @@ pub record IsMadeOf {K : Type 0} (made_hardware : Hardware) (credits : ℕ) (mad
   pub stalled : p.is_stalled ≡ false
   pub full : p.is_full ≡ false
   pub owes : p.owes_block ≡ false
+  pub serial : p.serial ≡ 0
   pub buffers : p.buffers.items ≡ []
   pub decided : p.decided.items ≡ []
   pub volumes : (place : ℕ) → place < 16 → volume_at p.volumes place ≡ no_volume
@@ -132,6 +134,7 @@ pub record Wants {K : Type 0} (picks : List Choice → ℕ → Type 0) (blocks :
     outgoing = new.outgoing;
     decided = new.decided;
     is_stalled = new.is_stalled;
+    serial = new.serial;
     volumes = new.volumes;
     task = new.task;
   }
@@ -152,6 +155,8 @@ pub record Wants {K : Type 0} (picks : List Choice → ℕ → Type 0) (blocks :
   -- changes but what it has begun, and that only for a block
   pub says : Says old new
   pub begun : (IsOfBlock new.task → ⊥) → new.controller.begun ≡ old.controller.begun
+  -- a step that wasn't begun before has the next serial
+  pub serial : new.serial ≡ serial_after old.controller.begun new.controller.begun old.serial
   pub settings : new.controller.settings ≡ old.controller.settings
   -- a block is moved only if its unit has it, on a volume that is there, with which the unit is online, and that may be
   -- written on if it is
@@ -281,6 +286,7 @@ ChangesBySaying old new = new ≡ record old {
   outgoing = new.outgoing;
   decided = new.decided;
   is_stalled = new.is_stalled;
+  serial = new.serial;
   volumes = new.volumes;
 }
 
@@ -335,6 +341,12 @@ pub record Goes {K : Type 0} (picks : List Choice → ℕ → Type 0) (outcome :
   pub out : (new.outgoing ≡ old.outgoing) ⊎ HasSaid outcome old new ⊎ Dies old new
   pub returned : (side : Side) → (slot : Descriptor) → IsOk result → new.task ≡ tasks.Return side slot
       → (side ≡ Responses) × (old.task ≡ tasks.Packet slot) × (outcome ≡ outcomes.Done)
+
+-- the block of this serial went so, by `Goes` if it is in hand: else nothing is taken
+abbrev pub GoesBy : {K : Type 0} → (List Choice → ℕ → Type 0) → ℕ → Outcome → Port K → Result Unit Unasked → Port K
+    → Type 0
+GoesBy picks serial outcome old result new = MatchBool (is_of_serial serial old.task old.serial)
+    (Goes picks outcome old result new) (IsErr result × (new ≡ old))
 
 -- ---- what comes from elsewhere than the host
 

@@ -23,6 +23,7 @@ pub mod Registers
 pub mod Restored
 pub mod Saved
 pub mod Seen
+pub mod Serials
 pub mod Slots
 pub mod Volumes
 pub mod Wanted

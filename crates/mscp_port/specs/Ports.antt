@@ -49,6 +49,8 @@ pub record IsAsNew {K : Type 0} (in_stage : Stage) (old new : Port K) : Type 0 w
   pub stalled : new.is_stalled ≡ false
   pub full : new.is_full ≡ false
   pub owes : new.owes_block ≡ false
+  -- no serial is given twice
+  pub serial : new.serial ≡ old.serial
   pub flags : new.flags ≡ 0
   -- a host has no limit before its first command, and one minute then, if it says nothing else
   pub timeout : new.timeout ≡ 0

@@ -141,6 +141,7 @@ port_in b h = record {
   is_stalled = nat_eq (slice_index b 21) 1;
   is_full = nat_eq (slice_index b 22) 1;
   owes_block = nat_eq (slice_index b 23) 1;
+  serial = num b 74 8;
   buffers = record { items = buffers_in b };
   decided = record { items = all_decided_in b };
   volumes = volumes_in b;
@@ -178,7 +179,7 @@ is_framed b =
 
 -- the same, as facts
 pub record IsFramed (b : List ℕ) : Type 0 where
-  pub front : 362 ≤ length b
+  pub front : 370 ≤ length b
   pub told : length b < 2 ^ 32
   pub text : text_count b ≤ 48
   pub buffers : buffer_count b ≤ 64

@@ -21,7 +21,7 @@ use Rattle.mscp_port.specs.Codes.{IsTask, bus_byte, coded_task, number_or_none, 
 
 -- the head, the volume of a unit, what is kept of a command, and what an end says that waits take so many bytes
 abbrev pub head_size : ℕ
-head_size = 74
+head_size = 82
 
 abbrev pub volume_size : ℕ
 volume_size = 18
@@ -41,7 +41,7 @@ abbrev pub magic : ℕ
 magic = 0x5043534D
 
 abbrev pub version : ℕ
-version = 2
+version = 3
 
 -- ---- parts
 
@@ -163,6 +163,7 @@ hand_bytes p =
     ++ rings_bytes p.rings
     ++ coded_bytes (coded_task p.task)
     ++ lengths_bytes p
+    ++ little_bytes 8 p.serial
 
 abbrev pub head_bytes : {K : Type 0} → ℕ → Port K → List ℕ
 head_bytes total p = frame_bytes total ++ state_bytes p ++ hand_bytes p
@@ -232,6 +233,7 @@ pub record HasHandRange {K : Type 0} (p : Port K) : Type 0 where
   pub written : number_or_none p.written < 2 ^ 16
   pub rings : IfSome p.rings (λ r. AreRings r)
   pub coded : HasCodedRange (coded_task p.task)
+  pub serial : p.serial < 2 ^ 64
   pub task : IsTask p.task
 
 -- all of them, and how many there are of each part

@@ -92,6 +92,8 @@ pub struct Port<K> {
     is_full: bool,
     // A poll was heard, and no step of a command was taken since.
     owes_block: bool,
+    // The serial of the step that is begun, or of the last one that was. A reset leaves it.
+    serial: u64,
     buffers: ArrayVec<Buffer, 64>,
     // What the controller's ends say that weren't taken, oldest first.
     decided: ArrayVec<Decided, 64>,
@@ -148,6 +150,7 @@ impl<K: Picker> Port<K> {
             is_stalled: false,
             is_full: false,
             owes_block: false,
+            serial: 0,
             buffers: ArrayVec::new(),
             decided: ArrayVec::new(),
             volumes: [Volume::default(); 16],

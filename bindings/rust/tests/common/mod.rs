@@ -111,9 +111,10 @@ impl InC for Upcoming {
     type It = raw::Upcoming;
 
     fn in_c(self) -> raw::Upcoming {
-        let Upcoming { connection, reference, unit, opcode, block, bytes, done, weight } = self;
+        let Upcoming { connection, reference, unit, opcode, block, bytes, done, weight, serial } = self;
         let (lbn, touches) = (block.unwrap_or(0), block.is_some().into());
-        raw::Upcoming { reference, bytes, lbn, done, weight, unit, opcode, touches, connection: connection.in_c() }
+        let connection = connection.in_c();
+        raw::Upcoming { serial, reference, bytes, lbn, done, weight, unit, opcode, touches, connection }
     }
 }
 

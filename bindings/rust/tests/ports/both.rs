@@ -256,8 +256,8 @@ fn is_that(action: &Action, it: &raw::Action, lines: u32) {
         Action::Read { address: a, count: c } => assert_eq!((2, address, count), (it.kind, *a, *c)),
         Action::Write { address: a, bytes } => assert_eq!((3, address, &it.bytes[..count]), (it.kind, *a, &**bytes)),
         Action::Interrupt { vector } => assert_eq!((4, *vector), (it.kind, it.vector)),
-        Action::Transfer { unit, block, address: a, count: c, way: w } => {
-            assert_eq!((5, *unit, *block, *w), (it.kind, it.unit, it.block, way));
+        Action::Transfer { unit, block, address: a, count: c, way: w, serial } => {
+            assert_eq!((5, *unit, *block, *w, *serial), (it.kind, it.unit, it.block, way, it.serial));
             assert_eq!((*a, *c), (address, count));
         }
     }

@@ -1,5 +1,5 @@
 -- What a port knows once a register was touched, or an action was wanted.
-use Rattle.mscp_port.proofs.Common.{◌≡◌, ◌≢◌, ℕ, Bool, true, false, cond, ◌%◌, List, [], ◌∷◌, Some, inr, refl, ap, sym, ◌∙◌, subst, arith, eqb-true, eqb-false, false≢true, none-some, nat_lt, nat_eq, Action, Port, Words, Stage, ReadsIp, Wants, WritesSa, Choice}
+use Rattle.mscp_port.proofs.Common.{◌≡◌, ◌≢◌, ℕ, Bool, true, false, cond, ◌%◌, List, [], ◌∷◌, Some, Contains, inl, inr, refl, ap, sym, ◌∙◌, subst, arith, eqb-true, eqb-false, false≢true, none-some, nat_lt, nat_eq, Action, Port, Words, Stage, NamesPacket, ReadsIp, Wants, WritesSa, Choice, in_hand}
 use Rattle.mscp_port.specs.declared.stage.Stage.TheVariants as stages
 use Rattle.mscp_port.proofs.Naming.Knowing.{answers, Knows, in_order_behind, in_order_more, carried, new_knows, still_knows, knows_more_words}
 
@@ -117,4 +117,14 @@ after_write_sa ws bs old new word k r =
 pub after_next : {K : Type 0} (picks : List Choice → ℕ
     → Type 0) (ws : List ℕ) (bs : List (List ℕ)) (old new : Port K) (blocks : Bool) (action : Action)
     → Knows ws bs old → Wants picks blocks old action new → Knows ws bs new
-after_next picks ws bs old new blocks action k r = search (arith, still_knows, answers, carried)
+after_next {K} picks ws bs old new blocks action k r =
+    still_knows ws bs bs old new k
+    (record {
+      taken = inl (ap (λ (p : Port K). answers p.stage p.words) r.frame);
+      given = ap (λ (p : Port K). p.written) r.frame;
+      area = ap (λ (p : Port K). p.rings) r.frame;
+    })
+    (record {
+      packet = carried (in_hand new.task) (in_hand old.task) (λ word. NamesPacket bs word) r.packet k.packet;
+      buffer = λ b h. k.buffer b (subst (λ (p : Port K). Contains p.buffers.items b) r.frame h);
+    })

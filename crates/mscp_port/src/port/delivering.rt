@@ -32,6 +32,7 @@ impl<K: Picker> Port<K> {
         ensures says { TakesEnd self.old self.new ⊎ TellsNews self.old self.new }
         ensures held { (self.new.controller ≡ self.old.controller)
             ⊎ (self.new.controller ≡ after_take First self.old.controller) }
+        ensures serial { self.new.serial ≡ self.old.serial }
         ensures settings { self.new.controller.settings ≡ self.old.controller.settings }
     {
         if let Some(end) = self.controller.ends(Connection::First).first().copied() {

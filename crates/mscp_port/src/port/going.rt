@@ -1,7 +1,7 @@
 // How what the port wanted done went.
 
 ghost use Rattle.std.specs.Prelude.{◌≡◌, ◌⊎◌, ◌↔◌, ◌+◌, ◌%◌, if◌then◌else◌, ◌==◌, Contains, IfSome, IsOk, IsTrue, MatchOption, None};
-ghost use Rattle.mscp_port.specs.Common.{ChangesByWord, Responses, Clears, GivesBack, counted, vector_in, Dies, Goes, TakesStep, IsAsNew, IsOutcomeOf, in_hand};
+ghost use Rattle.mscp_port.specs.Common.{ChangesByWord, Responses, Clears, GivesBack, counted, vector_in, Dies, Goes, GoesBy, TakesStep, IsAsNew, IsOutcomeOf, in_hand};
 ghost use Rattle.mscp_port.specs.declared.action.Outcome.TheVariants as outcomes;
 ghost use Rattle.mscp_port.specs.declared.buffers.Buffer.{Buffer as Kept};
 ghost use Rattle.mscp_port.specs.declared.stage.Stage.TheVariants as stages;
@@ -41,6 +41,18 @@ impl<K: Picker> Port<K> {
             Task::Transfer => self.finish(self.block_served(outcome)),
         }
         Ok(())
+    }
+
+    /// The block of this serial went so, which `next` told: for a disk that takes its time. An error, and nothing changes, if the
+    /// port doesn't want that block now: its command was aborted, say, and another one has its number. One that was put aside
+    /// is in hand again once `next` has told it.
+    pub fn went_by(&mut self, serial: u64, outcome: Outcome) -> Result<(), Unasked>
+        ensures { GoesBy (K.picks self.old.controller.picker) serial outcome self.old result self.new }
+    {
+        match self.task {
+            Task::Transfer if self.serial == serial => self.went(outcome),
+            _ => Err(Unasked),
+        }
     }
 
     /// Whether what is in hand may have gone so. A read that was done is told by its bytes.

@@ -19,7 +19,7 @@ use crate::stage::Stage;
 use crate::volumes::Volume;
 use arrayvec::ArrayVec;
 use mscp_controller::{Config, Controller};
-use mscp_packet::fields::{four_at, put, two_at};
+use mscp_packet::fields::{eight_at, four_at, put, two_at};
 use mscp_queue::Picker;
 use mscp_saved::{part, resume};
 
@@ -44,7 +44,7 @@ pub enum RestoreFault {
 
 /// What kind of port it is.
 fn hardware_in(b: &[u8]) -> Hardware
-    requires { 362 ≤ length b.now }
+    requires { 370 ≤ length b.now }
     ensures { result ≡ hardware_in b.now }
 {
     Hardware {
@@ -72,7 +72,7 @@ fn flag_at(b: &[u8], at: usize) -> bool
 
 /// How far the port has come.
 fn stage_of(b: &[u8]) -> Stage
-    requires { 362 ≤ length b.now }
+    requires { 370 ≤ length b.now }
     ensures { result ≡ stage_in (slice_index b.now 34) (num b.now 35 2) }
 {
     stage_in(b[34], two_at(b, 35))
@@ -80,7 +80,7 @@ fn stage_of(b: &[u8]) -> Stage
 
 /// What the host wrote to SA.
 fn written_in(b: &[u8]) -> Option<u16>
-    requires { 362 ≤ length b.now }
+    requires { 370 ≤ length b.now }
     ensures { result ≡ optional (slice_index b.now 37) (num b.now 38 2) }
 {
     optional(b[37], two_at(b, 38))
@@ -88,7 +88,7 @@ fn written_in(b: &[u8]) -> Option<u16>
 
 /// The communication area, if there is one.
 fn rings_in(b: &[u8]) -> Option<Rings>
-    requires { 362 ≤ length b.now }
+    requires { 370 ≤ length b.now }
     ensures { result ≡ rings_if (slice_index b.now 40) (area_in b.now) }
 {
     if b[40] != 1 {
@@ -99,7 +99,7 @@ fn rings_in(b: &[u8]) -> Option<Rings>
 
 /// A task, as numbers.
 fn coded_in(b: &[u8]) -> Coded
-    requires { 362 ≤ length b.now }
+    requires { 370 ≤ length b.now }
     ensures { result ≡ coded_in b.now }
 {
     Coded {
@@ -114,7 +114,7 @@ fn coded_in(b: &[u8]) -> Coded
 
 /// What the host wrote in the first two steps.
 fn words_in(b: &[u8]) -> Words
-    requires { 362 ≤ length b.now }
+    requires { 370 ≤ length b.now }
     ensures { result ≡ words_in b.now }
 {
     Words {
@@ -220,7 +220,7 @@ fn is_framed(b: &[u8]) -> bool
     ensures value { result ≡ is_framed b.now }
     ensures framed { result ≡ true → IsFramed b.now }
 {
-    if b.len() < 362 {
+    if b.len() < 370 {
         return false;
     }
     let (text, buffers) = (usize::from(b[71]), usize::from(b[72]));
@@ -229,7 +229,7 @@ fn is_framed(b: &[u8]) -> bool
         && text <= 48
         && buffers <= 64
         && decided <= 64
-        && 362 + text + 21 * buffers + 13 * decided <= b.len()
+        && 370 + text + 21 * buffers + 13 * decided <= b.len()
 }
 
 /// Why no parts are read: the first fault that holds.
@@ -257,15 +257,15 @@ fn outgoing_of(b: &[u8]) -> Option<Outgoing>
     requires { IsFramed b.now }
     ensures { result ≡ outgoing_in (slice_index b.now 70) (text_in b.now) }
 {
-    outgoing_in(b[70], &b[362..][..usize::from(b[71])])
+    outgoing_in(b[70], &b[370..][..usize::from(b[71])])
 }
 
 /// The volumes.
 fn volumes_of(b: &[u8]) -> [Volume; 16]
-    requires { 362 ≤ length b.now }
+    requires { 370 ≤ length b.now }
     ensures { result ≡ volumes_in b.now }
 {
-    volumes_in(&b[74..])
+    volumes_in(&b[82..])
 }
 
 /// What is kept of commands.
@@ -273,7 +273,7 @@ fn buffers_of(b: &[u8]) -> ArrayVec<Buffer, 64>
     requires { IsFramed b.now }
     ensures { result.items ≡ buffers_in b.now }
 {
-    buffers_in(&b[362 + usize::from(b[71])..], usize::from(b[72]))
+    buffers_in(&b[370 + usize::from(b[71])..], usize::from(b[72]))
 }
 
 /// What ends say that wait.
@@ -282,7 +282,7 @@ fn all_decided_of(b: &[u8]) -> ArrayVec<Decided, 64>
     ensures { result.items ≡ all_decided_in b.now }
 {
     all_decided_in(
-        &b[362 + usize::from(b[71]) + 21 * usize::from(b[72])..],
+        &b[370 + usize::from(b[71]) + 21 * usize::from(b[72])..],
         usize::from(b[73]),
     )
 }
@@ -292,7 +292,7 @@ fn controller_bytes(b: &[u8]) -> &[u8]
     requires { IsFramed b.now }
     ensures { result.now ≡ drop (controller_place b.now) b.now }
 {
-    &b[362 + usize::from(b[71]) + 21 * usize::from(b[72]) + 13 * usize::from(b[73])..]
+    &b[370 + usize::from(b[71]) + 21 * usize::from(b[72]) + 13 * usize::from(b[73])..]
 }
 
 /// Whether the bytes in front of the controller's are those that the port is saved as that they say.
@@ -356,6 +356,7 @@ impl<K: Picker> Port<K> {
         self.is_stalled = flag_at(b, 21);
         self.is_full = flag_at(b, 22);
         self.owes_block = flag_at(b, 23);
+        self.serial = eight_at(b, 74);
         self.buffers = buffers_of(b);
         self.decided = all_decided_of(b);
         self.volumes = volumes_of(b);

@@ -12,22 +12,22 @@ use crate::rings::{Rings, Side};
 use crate::stage::Stage;
 use crate::volumes::Volume;
 use arrayvec::ArrayVec;
-use mscp_packet::fields::{put, put_four, put_two};
+use mscp_packet::fields::{put, put_eight, put_four, put_two};
 use mscp_queue::Picker;
 
 /// The most bytes that a port is saved as: a head, 16 volumes, a text of 48 bytes, what is kept of 64 commands, what 64
 /// ends say that wait, and a controller.
-pub const ROOM: usize = 6250;
+pub const ROOM: usize = 6258;
 
 /// "MSCP", as a number.
 pub(super) const MAGIC: u32 = 0x5043_534D;
 
 /// The version of the format.
-pub(super) const VERSION: u32 = 2;
+pub(super) const VERSION: u32 = 3;
 
 /// Appends whether something is so.
 pub(super) fn put_flag(out: &mut ArrayVec<u8, ROOM>, so: bool)
-    requires { array_vec_len out.old + 1 ≤ 6250 }
+    requires { array_vec_len out.old + 1 ≤ 6258 }
     ensures items { out.new.items ≡ out.old.items ++ (flag_byte so ∷ []) }
     ensures len { array_vec_len out.new ≡ array_vec_len out.old + 1 }
 {
@@ -48,7 +48,7 @@ pub(super) fn put_frame(out: &mut ArrayVec<u8, ROOM>, total: u32)
 
 /// Appends what kind of port it is.
 pub(super) fn put_hardware(out: &mut ArrayVec<u8, ROOM>, hardware: Hardware)
-    requires { array_vec_len out.old + 4 ≤ 6250 }
+    requires { array_vec_len out.old + 4 ≤ 6258 }
     ensures items { out.new.items ≡ out.old.items ++ hardware_bytes hardware }
     ensures len { array_vec_len out.new ≡ array_vec_len out.old + 4 }
 {
@@ -60,7 +60,7 @@ pub(super) fn put_hardware(out: &mut ArrayVec<u8, ROOM>, hardware: Hardware)
 
 /// Appends what the host wrote in the first two steps.
 pub(super) fn put_words(out: &mut ArrayVec<u8, ROOM>, words: Words)
-    requires { array_vec_len out.old + 4 ≤ 6250 }
+    requires { array_vec_len out.old + 4 ≤ 6258 }
     ensures items { out.new.items ≡ out.old.items ++ words_bytes words }
     ensures len { array_vec_len out.new ≡ array_vec_len out.old + 4 }
     ensures first { words.first < 2 ^ 16 }
@@ -72,7 +72,7 @@ pub(super) fn put_words(out: &mut ArrayVec<u8, ROOM>, words: Words)
 
 /// Appends how far the port has come.
 pub(super) fn put_stage(out: &mut ArrayVec<u8, ROOM>, stage: Stage)
-    requires { array_vec_len out.old + 3 ≤ 6250 }
+    requires { array_vec_len out.old + 3 ≤ 6258 }
     ensures items { out.new.items ≡ out.old.items ++ stage_bytes stage }
     ensures len { array_vec_len out.new ≡ array_vec_len out.old + 3 }
     ensures range { stage_word stage < 2 ^ 16 }
@@ -83,7 +83,7 @@ pub(super) fn put_stage(out: &mut ArrayVec<u8, ROOM>, stage: Stage)
 
 /// Appends what the host wrote to SA.
 pub(super) fn put_written(out: &mut ArrayVec<u8, ROOM>, written: Option<u16>)
-    requires { array_vec_len out.old + 3 ≤ 6250 }
+    requires { array_vec_len out.old + 3 ≤ 6258 }
     ensures items { out.new.items ≡ out.old.items ++ written_bytes written }
     ensures len { array_vec_len out.new ≡ array_vec_len out.old + 3 }
     ensures range { number_or_none written < 2 ^ 16 }
@@ -102,7 +102,7 @@ pub(super) fn put_written(out: &mut ArrayVec<u8, ROOM>, written: Option<u16>)
 
 /// Appends where the communication area is.
 fn put_area(out: &mut ArrayVec<u8, ROOM>, rings: Rings)
-    requires { array_vec_len out.old + 12 ≤ 6250 }
+    requires { array_vec_len out.old + 12 ≤ 6258 }
     ensures items { out.new.items ≡ out.old.items ++ area_bytes rings }
     ensures len { array_vec_len out.new ≡ array_vec_len out.old + 12 }
     ensures range { AreRings rings }
@@ -114,7 +114,7 @@ fn put_area(out: &mut ArrayVec<u8, ROOM>, rings: Rings)
 
 /// Appends the communication area, if there is one.
 pub(super) fn put_rings(out: &mut ArrayVec<u8, ROOM>, rings: Option<Rings>)
-    requires { array_vec_len out.old + 13 ≤ 6250 }
+    requires { array_vec_len out.old + 13 ≤ 6258 }
     ensures items { out.new.items ≡ out.old.items ++ rings_bytes rings }
     ensures len { array_vec_len out.new ≡ array_vec_len out.old + 13 }
     ensures range { IfSome rings (λ r. AreRings r) }
@@ -133,7 +133,7 @@ pub(super) fn put_rings(out: &mut ArrayVec<u8, ROOM>, rings: Option<Rings>)
 
 /// Appends a task, with four zeros where the format has room.
 pub(super) fn put_coded(out: &mut ArrayVec<u8, ROOM>, coded: Coded)
-    requires { array_vec_len out.old + 17 ≤ 6250 }
+    requires { array_vec_len out.old + 17 ≤ 6258 }
     ensures items { out.new.items ≡ out.old.items ++ coded_bytes coded }
     ensures len { array_vec_len out.new ≡ array_vec_len out.old + 17 }
     ensures range { HasCodedRange coded }
@@ -149,7 +149,7 @@ pub(super) fn put_coded(out: &mut ArrayVec<u8, ROOM>, coded: Coded)
 
 /// Appends a volume.
 fn put_volume(out: &mut ArrayVec<u8, ROOM>, volume: Volume)
-    requires { array_vec_len out.old + 18 ≤ 6250 }
+    requires { array_vec_len out.old + 18 ≤ 6258 }
     ensures items { out.new.items ≡ out.old.items ++ volume_bytes volume }
     ensures len { array_vec_len out.new ≡ array_vec_len out.old + 18 }
     ensures range { HasVolumeRange volume }
@@ -167,7 +167,7 @@ fn put_volume(out: &mut ArrayVec<u8, ROOM>, volume: Volume)
 
 /// Appends volumes.
 pub(super) fn put_volumes(out: &mut ArrayVec<u8, ROOM>, volumes: &[Volume])
-    requires { array_vec_len out.old + 18 * length volumes.now ≤ 6250 }
+    requires { array_vec_len out.old + 18 * length volumes.now ≤ 6258 }
     ensures items { out.new.items ≡ out.old.items ++ flat_map volume_bytes volumes.now }
     ensures len { array_vec_len out.new ≡ array_vec_len out.old + 18 * length volumes.now }
     ensures range { All HasVolumeRange volumes.now }
@@ -179,7 +179,7 @@ pub(super) fn put_volumes(out: &mut ArrayVec<u8, ROOM>, volumes: &[Volume])
 
 /// Appends what is kept of a command.
 fn put_buffer(out: &mut ArrayVec<u8, ROOM>, buffer: Buffer)
-    requires { array_vec_len out.old + 21 ≤ 6250 }
+    requires { array_vec_len out.old + 21 ≤ 6258 }
     ensures items { out.new.items ≡ out.old.items ++ buffer_bytes buffer }
     ensures len { array_vec_len out.new ≡ array_vec_len out.old + 21 }
     ensures range { HasBufferRange buffer }
@@ -195,7 +195,7 @@ fn put_buffer(out: &mut ArrayVec<u8, ROOM>, buffer: Buffer)
 
 /// Appends what is kept of commands.
 pub(super) fn put_buffers(out: &mut ArrayVec<u8, ROOM>, buffers: &[Buffer])
-    requires { array_vec_len out.old + 21 * length buffers.now ≤ 6250 }
+    requires { array_vec_len out.old + 21 * length buffers.now ≤ 6258 }
     ensures items { out.new.items ≡ out.old.items ++ flat_map buffer_bytes buffers.now }
     ensures len { array_vec_len out.new ≡ array_vec_len out.old + 21 * length buffers.now }
     ensures range { All HasBufferRange buffers.now }
@@ -207,7 +207,7 @@ pub(super) fn put_buffers(out: &mut ArrayVec<u8, ROOM>, buffers: &[Buffer])
 
 /// Appends what an end says that waits.
 fn put_decided(out: &mut ArrayVec<u8, ROOM>, decided: Decided)
-    requires { array_vec_len out.old + 13 ≤ 6250 }
+    requires { array_vec_len out.old + 13 ≤ 6258 }
     ensures items { out.new.items ≡ out.old.items ++ decided_bytes decided }
     ensures len { array_vec_len out.new ≡ array_vec_len out.old + 13 }
     ensures range { HasDecidedRange decided }
@@ -221,7 +221,7 @@ fn put_decided(out: &mut ArrayVec<u8, ROOM>, decided: Decided)
 
 /// Appends what ends say that wait.
 pub(super) fn put_all_decided(out: &mut ArrayVec<u8, ROOM>, all: &[Decided])
-    requires { array_vec_len out.old + 13 * length all.now ≤ 6250 }
+    requires { array_vec_len out.old + 13 * length all.now ≤ 6258 }
     ensures items { out.new.items ≡ out.old.items ++ flat_map decided_bytes all.now }
     ensures len { array_vec_len out.new ≡ array_vec_len out.old + 13 * length all.now }
     ensures range { All HasDecidedRange all.now }
@@ -255,7 +255,7 @@ pub(super) fn outgoing_byte(outgoing: &Option<Outgoing>) -> u8
 impl<K: Picker> Port<K> {
     /// Appends what it counts, and whether something is so.
     fn put_counts(&self, out: &mut ArrayVec<u8, ROOM>)
-        requires { array_vec_len out.old + 8 ≤ 6250 }
+        requires { array_vec_len out.old + 8 ≤ 6258 }
         ensures items { out.new.items ≡ out.old.items ++ counts_bytes self.now }
         ensures len { array_vec_len out.new ≡ array_vec_len out.old + 8 }
     {
@@ -271,7 +271,7 @@ impl<K: Picker> Port<K> {
 
     /// Appends what kind of port it is, what it counts, and what its host has set.
     fn put_state(&self, out: &mut ArrayVec<u8, ROOM>)
-        requires { array_vec_len out.old + 22 ≤ 6250 }
+        requires { array_vec_len out.old + 22 ≤ 6258 }
         ensures items { out.new.items ≡ out.old.items ++ state_bytes self.now }
         ensures len { array_vec_len out.new ≡ array_vec_len out.old + 22 }
         ensures range { HasStateRange self.now }
@@ -286,9 +286,9 @@ impl<K: Picker> Port<K> {
 
     /// Appends how far it has come, and what it has in hand.
     fn put_hand(&self, out: &mut ArrayVec<u8, ROOM>)
-        requires { array_vec_len out.old + 40 ≤ 6250 }
+        requires { array_vec_len out.old + 48 ≤ 6258 }
         ensures items { out.new.items ≡ out.old.items ++ hand_bytes self.now }
-        ensures len { array_vec_len out.new ≡ array_vec_len out.old + 40 }
+        ensures len { array_vec_len out.new ≡ array_vec_len out.old + 48 }
         ensures range { HasHandRange self.now }
     {
         put_stage(out, self.stage);
@@ -299,6 +299,7 @@ impl<K: Picker> Port<K> {
         out.push(text_of(&self.outgoing).len() as u8);
         out.push(self.buffers.len() as u8);
         out.push(self.decided.len() as u8);
+        put_eight(out, self.serial);
     }
 
     /// The picker of its controller.
@@ -318,7 +319,7 @@ impl<K: Picker> Port<K> {
         let text = text_of(&self.outgoing);
         let buffers = self.buffers.as_slice();
         let decided = self.decided.as_slice();
-        let total = 362 + text.len() + 21 * buffers.len() + 13 * decided.len() + controller.len();
+        let total = 370 + text.len() + 21 * buffers.len() + 13 * decided.len() + controller.len();
         let mut out = ArrayVec::new();
         put_frame(&mut out, total as u32);
         self.put_state(&mut out);

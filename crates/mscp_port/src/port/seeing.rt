@@ -1,7 +1,7 @@
 // What a port is, for whoever holds it. Nothing here changes anything.
 
 ghost use Rattle.std.specs.Prelude.{◌≡◌, ◌≢◌, ◌↔◌, true, None, IsTrue};
-ghost use Rattle.mscp_port.specs.Common.{volume_of};
+ghost use Rattle.mscp_port.specs.Common.{serial_begun, volume_of};
 
 use crate::hardware::Hardware;
 use crate::port::Port;
@@ -39,6 +39,14 @@ impl<K: Picker> Port<K> {
     {
         let place = self.place_of(unit)?;
         Some(self.volumes[place])
+    }
+
+    /// The serial of the step that is begun, if one is, as of the block that `next` told last: the next of a count, which a
+    /// reset leaves. A block that was put aside, or whose unit's volume changed, keeps its serial as long as its step is begun.
+    pub fn serial(&self) -> Option<u64>
+        ensures { result ≡ serial_begun self.now }
+    {
+        self.controller.begun().map(|_| self.serial)
     }
 
     /// Whether something is to go out, and the next slot of the ring of responses was the host's. A port that rests then is to

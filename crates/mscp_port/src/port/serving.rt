@@ -1,7 +1,7 @@
 // How blocks are moved.
 
-ghost use Rattle.std.specs.Prelude.{◌≡◌, ◌≢◌, ◌≤◌, ◌%◌, ◌⊎◌, [], true, Contains, IfSome, Option, None, Some};
-ghost use Rattle.mscp_port.specs.Common.{ChangesByService, move_of, refusal_of, task_of, Foretells, begun_step, GoesOnWithBlock, IsMovedFor, TakesBegun, TakesBlock, begun_task, MayBegin, IsOfBlock, in_hand, MayMove};
+ghost use Rattle.std.specs.Prelude.{◌≡◌, ◌≢◌, ◌≤◌, ◌%◌, ◌⊎◌, [], true, if◌then◌else◌, Contains, IfSome, Option, None, Some};
+ghost use Rattle.mscp_port.specs.Common.{ChangesByService, move_of, refusal_of, task_of, Foretells, begun_step, GoesOnWithBlock, IsMovedFor, TakesBegun, TakesBlock, begun_task, next_serial, serial_after, MayBegin, IsOfBlock, in_hand, MayMove};
 ghost use Rattle.mscp_port.specs.declared.action.Action.TheVariants as actions;
 ghost use Rattle.mscp_port.specs.declared.buffers.Buffer.{Buffer as Kept};
 ghost use Rattle.mscp_port.specs.Blocks.{block_of as block_after, changed_verdict, has_host_bytes as has_bytes, writes as writes_to};
@@ -116,18 +116,33 @@ impl<K: Picker> Port<K> {
             ≡ begun_task self.new.controller.settings.units self.new.buffers.items self.new.volumes upcoming)
             × (begun_step self.new.controller ≡ upcoming) }
         ensures moves { IfSome result.1 (IsMovedFor self.new result.0) }
-        ensures frame { self.new ≡ record self.old { controller = self.new.controller } }
+        ensures frame { self.new ≡ record self.old { controller = self.new.controller; serial = self.new.serial } }
         ensures packet { in_hand result.0 ≡ None }
         ensures block { (result.0 ≡ tasks.Free) ⊎ IsOfBlock result.0 }
         ensures idle { result.0 ≡ tasks.Free → self.new.controller.waiting ≡ [] }
         ensures controller { MayBegin self.old.controller self.new.controller }
         ensures begun { (IsOfBlock result.0 → ⊥) → self.new.controller ≡ self.old.controller }
+        ensures serial { self.new.serial
+            ≡ serial_after self.old.controller.begun self.new.controller.begun self.old.serial }
         ensures settings { self.new.controller.settings ≡ self.old.controller.settings }
     {
+        let was_begun = self.controller.begun().is_some();
         if self.controller.begin().is_none() {
             return (Task::Free, None);
         }
+        self.give_serial(was_begun);
         self.step_chosen()
+    }
+
+    /// A step is begun, which gets the next serial if none was begun before.
+    fn give_serial(&mut self, was_begun: bool)
+        ensures { self.new ≡ record self.old {
+          serial = if was_begun then self.old.serial else next_serial self.old.serial;
+        } }
+    {
+        if !was_begun {
+            self.serial = self.serial.wrapping_add(1);
+        }
     }
 
     /// What is to be done for the step that is begun, and the move of its block, if it moves one.

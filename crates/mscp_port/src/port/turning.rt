@@ -1,7 +1,7 @@
 // What the port wants done.
 
 ghost use Rattle.std.specs.Prelude.{◌≡◌, ◌≢◌, ◌≤◌, ◌<◌, ◌⊎◌, ◌+◌, ◌-◌, ◌*◌, ◌^◌, ℕ, true, false, length, IfSome, min, replicate, None, Some};
-ghost use Rattle.mscp_port.specs.Common.{ChangesBySaying, little_bytes, Responses, Commands, IsInArea, end_of, slot_in, slots_of, Wants, asked, asks_blocks, block_is_due, HasNothingToHear, HasNothingToSay, IsAlive, IsDue, IsIdleUp, IsOfBlock, IsMovedFor, IsWithin, in_hand, BeginsBlock, MayMoveOn, block_begun, move_wanted, KeepsSaying, Says, TakesEnd, TellsNews, credits_told, packet_of, text_of, IsWanted, clear_count, clear_from, given_in, packet_out};
+ghost use Rattle.mscp_port.specs.Common.{ChangesBySaying, little_bytes, Responses, Commands, IsInArea, end_of, slot_in, slots_of, Wants, asked, asks_blocks, block_is_due, HasNothingToHear, HasNothingToSay, IsAlive, IsDue, IsIdleUp, IsOfBlock, IsMovedFor, IsWithin, in_hand, BeginsBlock, MayMoveOn, block_begun, move_wanted, serial_after, KeepsSaying, Says, TakesEnd, TellsNews, credits_told, packet_of, text_of, IsWanted, clear_count, clear_from, given_in, packet_out};
 ghost use Rattle.mscp_port.specs.declared.action.Action.TheVariants as actions;
 ghost use Rattle.mscp_port.specs.declared.stage.Stage.TheVariants as stages;
 ghost use Rattle.mscp_port.specs.declared.task.Task.TheVariants as tasks;
@@ -101,6 +101,8 @@ impl<K: Picker> Port<K> {
         ensures due { IsDue (asks_blocks ask) self.new result.0 }
         ensures says { Says self.old self.new }
         ensures begun { (IsOfBlock result.0 → ⊥) → self.new.controller.begun ≡ self.old.controller.begun }
+        ensures serial { self.new.serial
+            ≡ serial_after self.old.controller.begun self.new.controller.begun self.old.serial }
         ensures settings { self.new.controller.settings ≡ self.old.controller.settings }
         ensures step { result.0 ≡ tasks.Free → self.new.written ≡ None }
         ensures begins { IsOfBlock result.0
@@ -135,6 +137,8 @@ impl<K: Picker> Port<K> {
         ensures looks { self.old.outgoing ≡ None → TakesEnd self.old self.new ⊎ TellsNews self.old self.new }
         ensures keeps { self.old.outgoing ≢ None → KeepsSaying self.old self.new }
         ensures begun { (IsOfBlock result.0 → ⊥) → self.new.controller.begun ≡ self.old.controller.begun }
+        ensures serial { self.new.serial
+            ≡ serial_after self.old.controller.begun self.new.controller.begun self.old.serial }
         ensures settings { self.new.controller.settings ≡ self.old.controller.settings }
     {
         if self.outgoing.is_none() {

@@ -14,12 +14,12 @@ use crate::port::saving::{
     put_hardware, put_rings, put_stage, put_volumes, put_words, put_written, text_of,
 };
 use arrayvec::ArrayVec;
-use mscp_packet::fields::{put, put_two, two_at};
+use mscp_packet::fields::{eight_at, put, put_eight, put_two, two_at};
 
 /// Appends what bytes say that a port counts, and whether something is so.
 fn put_told_counts(out: &mut ArrayVec<u8, ROOM>, b: &[u8])
-    requires room { array_vec_len out.old + 8 ≤ 6250 }
-    requires long { 362 ≤ length b.now }
+    requires room { array_vec_len out.old + 8 ≤ 6258 }
+    requires long { 370 ≤ length b.now }
     ensures items { out.new.items ≡ out.old.items ++ counts_bytes (front_in b.now) }
     ensures len { array_vec_len out.new ≡ array_vec_len out.old + 8 }
 {
@@ -35,8 +35,8 @@ fn put_told_counts(out: &mut ArrayVec<u8, ROOM>, b: &[u8])
 
 /// Appends what kind of port they say, what it counts, and what its host has set.
 fn put_told_state(out: &mut ArrayVec<u8, ROOM>, b: &[u8])
-    requires room { array_vec_len out.old + 22 ≤ 6250 }
-    requires long { 362 ≤ length b.now }
+    requires room { array_vec_len out.old + 22 ≤ 6258 }
+    requires long { 370 ≤ length b.now }
     ensures items { out.new.items ≡ out.old.items ++ state_bytes (front_in b.now) }
     ensures len { array_vec_len out.new ≡ array_vec_len out.old + 22 }
 {
@@ -50,11 +50,11 @@ fn put_told_state(out: &mut ArrayVec<u8, ROOM>, b: &[u8])
 
 /// Appends how far they say that it has come, and what it has in hand, with what goes out.
 fn put_told_hand(out: &mut ArrayVec<u8, ROOM>, b: &[u8], outgoing: &Option<Outgoing>)
-    requires room { array_vec_len out.old + 40 ≤ 6250 }
+    requires room { array_vec_len out.old + 48 ≤ 6258 }
     requires framed { IsFramed b.now }
     requires told { outgoing.now ≡ (front_in b.now).outgoing }
     ensures items { out.new.items ≡ out.old.items ++ hand_bytes (front_in b.now) }
-    ensures len { array_vec_len out.new ≡ array_vec_len out.old + 40 }
+    ensures len { array_vec_len out.new ≡ array_vec_len out.old + 48 }
 {
     put_stage(out, stage_of(b));
     put_written(out, written_in(b));
@@ -64,6 +64,7 @@ fn put_told_hand(out: &mut ArrayVec<u8, ROOM>, b: &[u8], outgoing: &Option<Outgo
     out.push(text_of(outgoing).len() as u8);
     out.push(b[72]);
     out.push(b[73]);
+    put_eight(out, eight_at(b, 74));
 }
 
 /// Writes the bytes in front of its controller that the port is saved as that bytes say, into a list that has none.

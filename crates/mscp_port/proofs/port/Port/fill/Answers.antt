@@ -21,6 +21,7 @@ returns g c =
       is_stalled = c.flag_at-self-2.ensures i;
       is_full = c.flag_at-self-3.ensures i;
       owes_block = c.flag_at-self-4.ensures i;
+      serial = c.eight_at-self.ensures i;
       buffers = record { items = c.buffers_of-self.ensures i };
       decided = record { items = c.all_decided_of-self.ensures i };
       volumes = c.volumes_of-self.ensures i;

@@ -1,4 +1,4 @@
-use Rattle.mscp_port.proofs.Common.{List, ℕ, ◌∷◌, [], length, refl, ap, first, more, coded_bytes}
+use Rattle.mscp_port.proofs.Common.{List, ℕ, ◌∷◌, [], length, refl, ap, first, grow, more, coded_bytes}
 use Rattle.mscp_port.proofs.port.Port.put_hand.Goals as goal
 
 pub returns-clause-items : goal.returns-clause-items
@@ -12,4 +12,5 @@ returns-clause-items g c =
     let text = more xs _ _ _ kind c.push-2.ensures.items
     (ap (λ (l : List ℕ). length l ∷ []) c.text_of.ensures.value) in
     let buffers = more xs _ _ _ text c.push-3.ensures.items (ap (λ n. n ∷ []) c.len.ensures.value) in
-    more xs _ _ _ buffers c.push-4.ensures.items (ap (λ n. n ∷ []) c.len-2.ensures.value)
+    let decided = more xs _ _ _ buffers c.push-4.ensures.items (ap (λ n. n ∷ []) c.len-2.ensures.value) in
+    grow xs _ 8 _ c.args.self.now.serial decided c.put_eight.ensures.items refl

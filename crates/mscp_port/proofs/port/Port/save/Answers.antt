@@ -9,10 +9,10 @@ returns-clause-bytes g c =
     let text = c.text_of-text.ensures.value in
     let buffers = c.as_slice-buffers.ensures.value in
     let decided = c.as_slice-decided.ensures.value in
-    let total : 362 + length c.text_of-text.result.now + 21 * length c.as_slice-buffers.result.now
+    let total : 370 + length c.text_of-text.result.now + 21 * length c.as_slice-buffers.result.now
     + 13 * length c.as_slice-decided.result.now + c.len.result
     ≡ length_of c.args.number p =
-    λ i. 362 + length (text i) + 21 * length (buffers i) + 13 * length (decided i)
+    λ i. 370 + length (text i) + 21 * length (buffers i) + 13 * length (decided i)
     + (c.len.ensures.value ∙ ap (λ (l : List ℕ). length l) controller) i in
     let head = c.put_hand.ensures.items
     ∙ ap (λ l. l ++ hand_bytes p) (c.put_state.ensures.items

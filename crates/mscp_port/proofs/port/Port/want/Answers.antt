@@ -1,5 +1,7 @@
 use Rattle.mscp_port.proofs.Common.{rules, ◌≡◌, ap, sym, subst, Port, Says, BeginsBlock, IsDue, IsOfBlock, asks_blocks}
+use Rattle.mscp_port.proofs.Begun.{serial_still}
 use Rattle.mscp_port.proofs.Known.{keeps_the_same, said_on}
+use Rattle.mscp_port.specs.Serials.{serial_after}
 use Rattle.mscp_port.proofs.port.Port.want.Goals as goal
 use Rattle.mscp_port.proofs.port.Port.want.Goals.{in-Free, in_default}
 
@@ -45,6 +47,16 @@ returns g c = record {
         (λ (p : Port g.row.K.Denot). (IsOfBlock p.task → ⊥) → p.controller.begun ≡ c.args.self.now.controller.begun)
         (sym w.self-is) w.choose-task.ensures.begun
     | in_default w ↦ λ no. ap (λ p. p.controller.begun) w.self-is
+  ];
+  serial = elim c.match-self.branch [
+    | in-Free w ↦ subst
+        (λ (p : Port g.row.K.Denot).
+        p.serial ≡ serial_after c.args.self.now.controller.begun p.controller.begun c.args.self.now.serial)
+        (sym w.self-is) w.choose-task.ensures.serial
+    | in_default w ↦ subst
+        (λ (p : Port g.row.K.Denot).
+        p.serial ≡ serial_after c.args.self.now.controller.begun p.controller.begun c.args.self.now.serial)
+        (sym w.self-is) (serial_still c.args.self.now.controller.begun c.args.self.now.serial)
   ];
   settings = search rules;
   moves = c.action_beside.ensures.moves;

@@ -1,4 +1,4 @@
-use Rattle.mscp_port.proofs.Common.{ℕ, List, ◌∷◌, [], drop, length, sym, ap, ◌∙◌, first, more, parts_long, coded_task, task_in, decided_count, decided_in, decided_place, buffer_count, buffer_in, buffer_place, coded_bytes, outgoing_byte, outgoing_text, rings_bytes, stage_bytes, written_bytes}
+use Rattle.mscp_port.proofs.Common.{ℕ, List, ◌∷◌, [], drop, length, sym, ap, ◌∙◌, first, grow, more, num, parts_long, coded_task, task_in, decided_count, decided_in, decided_place, buffer_count, buffer_in, buffer_place, coded_bytes, outgoing_byte, outgoing_text, rings_bytes, stage_bytes, written_bytes}
 use Rattle.mscp_port.proofs.port.restoring.front.put_told_hand.Goals as goal
 
 pub returns-clause-items : goal.returns-clause-items
@@ -16,5 +16,6 @@ returns-clause-items c =
     (ap (λ (l : List ℕ). length l ∷ []) (c.text_of.ensures.value ∙ ap outgoing_text c.requires.told)) in
     let buffers = more xs _ _ _ text c.push-3.ensures.items
     (ap (λ (n : ℕ). n ∷ []) (sym (parts_long buffer_in 21 (buffer_count b) (drop (buffer_place b) b)))) in
-    more xs _ _ _ buffers c.push-4.ensures.items
-    (ap (λ (n : ℕ). n ∷ []) (sym (parts_long decided_in 13 (decided_count b) (drop (decided_place b) b))))
+    let decided = more xs _ _ _ buffers c.push-4.ensures.items
+    (ap (λ (n : ℕ). n ∷ []) (sym (parts_long decided_in 13 (decided_count b) (drop (decided_place b) b)))) in
+    grow xs _ 8 _ (num b 74 8) decided c.put_eight.ensures.items c.eight_at.ensures
