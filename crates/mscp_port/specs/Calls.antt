@@ -195,6 +195,8 @@ pub record Hears {K : Type 0} (bytes : List ℕ) (old : Port K) (result : Result
   pub unasked : OnErr result (new ≡ old)
   pub sees : IsOk result → Sees bytes old new
   pub frame : ChangesByReading old new
+  -- no serial is given
+  pub serial : new.serial ≡ old.serial
   pub learns : Learns bytes old new
   pub settings : new.controller.settings ≡ old.controller.settings
   -- a message reaches the controller as its host wrote it, unless the port answers it itself
@@ -331,6 +333,8 @@ pub record Goes {K : Type 0} (picks : List Choice → ℕ → Type 0) (outcome :
   pub steps : IsOk result → IfSome (step_answered old.task old.written) (λ word. TakesStep word old new)
   pub settings : new.controller.settings ≡ old.controller.settings
   pub still : step_answered old.task old.written ≡ None → ChangesByActing picks old new × StaysInStage old new
+  -- no serial is given
+  pub serial : new.serial ≡ old.serial
   pub commands : KeepsCommands old new ⊎ (IsStepping old.task × GoesOnWithBlock picks old new) ⊎ Dies old new
   -- its credits are told by a packet alone
   pub credits : HoldsPacket old.task ⊎ ((new.untold ≡ old.untold) × (new.more ≡ old.more)) ⊎ Dies old new

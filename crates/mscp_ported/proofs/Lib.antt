@@ -6,6 +6,7 @@ pub mod Registers
 pub mod Hearing
 pub mod Counting
 pub mod Acting
+pub mod Serials
 pub mod Settling
 pub mod Giving
 pub mod Going

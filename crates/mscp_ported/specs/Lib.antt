@@ -10,6 +10,7 @@ pub mod Ends
 pub mod Answers
 pub mod Polls
 pub mod News
+pub mod Serials
 pub mod Soon
 pub mod Transfers
 pub mod Awaited

@@ -13,6 +13,7 @@ ghost use Rattle.mscp_ported.specs.News.{PortsAnnounceAvailableUnits};
 ghost use Rattle.mscp_ported.specs.Owed.{PortsDoWhatIsDue};
 ghost use Rattle.mscp_ported.specs.Passing.{PortsHoldWhatIsAwaited, PortsPassEndsOn};
 ghost use Rattle.mscp_ported.specs.Polls.{PortsAnswerPolls};
+ghost use Rattle.mscp_ported.specs.Serials.{PortsGiveSerialsOnce, PortsHearOfTheirBlocks};
 ghost use Rattle.mscp_ported.specs.Soon.{PortsKeepTelling, PortsTellSoon};
 ghost use Rattle.mscp_ported.specs.Transfers.{PortsCountWhatTheyMoved, PortsCountWhatWasAborted, PortsMoveEachBlock};
 ghost use Rattle.mscp_ported.specs.Told.{PortsHearInOrder, PortsOpenWhatTheyAccept, PortsTellInOrder};
@@ -257,6 +258,17 @@ pub fn ports_serve_who_asks_for_blocks<K: Picker>(picker: &K)
 /// is at a block may do so until a poll is taken.
 pub fn ports_serve_who_asks_behind_polls<K: Picker>(picker: &K)
     ensures { PortsServeWhoAsksBehindPolls K.picks }
+{
+    let _ = picker;
+}
+
+/// A port has begun a step, and tells it with its serial. Whoever calls it then, fewer than 2^64 times: as long as that serial is the
+/// last one, just that step is begun, without an end between, or nothing is. So two blocks that are told with one serial are one
+/// block of one command; and a block that is reported by its serial is the one that was told with it, however often its command's
+/// number was used again: no ABORT of it, no reset and no other report of it came meanwhile.
+pub fn ports_give_serials_once<K: Picker>(picker: &K)
+    ensures serials { PortsGiveSerialsOnce K.picks }
+    ensures blocks { PortsHearOfTheirBlocks K.picks }
 {
     let _ = picker;
 }

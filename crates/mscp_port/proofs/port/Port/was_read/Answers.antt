@@ -1,4 +1,4 @@
-use Rattle.mscp_port.proofs.Common.{rules, ◌≡◌, ap, sym, subst, inl, inr, true, arith, num, IsReadingSlot, IsReadingText, in_hand, is_owned}
+use Rattle.mscp_port.proofs.Common.{rules, ◌≡◌, ap, sym, subst, inl, inr, true, arith, num, Port, IsReadingSlot, IsReadingText, in_hand, is_owned}
 use Rattle.mscp_port.proofs.Known.{held_on}
 use Rattle.mscp_port.proofs.port.Port.was_read.Goals as goal
 
@@ -10,6 +10,10 @@ returns-in-Text g c = record {
   unasked = tt;
   sees = search rules;
   frame = c.see_text.ensures.frame;
+  serial = elim c.see_text.ensures.frame [
+    | inl same ↦ ap (λ (p : Port g.row.K.Denot). p.serial) same
+    | inr dies ↦ dies.1.serial
+  ];
   learns = record {
     packet = held_on (in_hand c.see_text.new.self.task) (in_hand c.args.self.now.task) c.in-Text.slot.word
         (λ word. IsReadingSlot c.args.self.now.task × (word ≡ num c.args.bytes.now 0 4) × (is_owned word ≡ true))
