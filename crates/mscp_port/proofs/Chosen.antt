@@ -40,17 +40,14 @@ known u move None (Some b) volumes e = refl
 known u move (Some place) None volumes e = refl
 known u move (Some place) (Some b) volumes e = in_place u move b (volume_at volumes place) e
 
--- the step that is begun moves this block so
-pub chosen : {K : Type 0} (p : Port K) (u : Upcoming) (begun : Option Upcoming) (kind : MoveKind) (block : ℕ)
-    (part : Result (ℕ × ℕ) Verdict) → begun ≡ begun_step p.controller → begun ≡ Some u → move_of u ≡ Some (kind, block)
-    → part ≡ part_now p u kind block
-    → part_task part
-    ≡ begun_task p.controller.settings.units p.buffers.items p.volumes (begun_step p.controller)
-chosen p u begun kind block part is some moves now =
+-- a step that moves this block so
+pub chosen : {K : Type 0} (p : Port K) (u : Upcoming) (kind : MoveKind) (block : ℕ) (part : Result (ℕ × ℕ) Verdict)
+    → move_of u ≡ Some (kind, block) → part ≡ part_now p u kind block
+    → part_task part ≡ begun_task p.controller.settings.units p.buffers.items p.volumes (Some u)
+chosen p u kind block part moves now =
     ap part_task now
     ∙ sym (known u (kind, block) (place_in p.controller.settings.units u.command.unit)
     (kept_of u.connection u.command.reference p.buffers.items) p.volumes moves)
-    ∙ ap (begun_task p.controller.settings.units p.buffers.items p.volumes) (sym some ∙ is)
 
 -- what is wanted for a block isn't nothing
 pub no_rest : {K : Type 0} (p : Port K) (o : Option (Upcoming × MoveKind × ℕ)) → move_wanted p o ≡ actions.Rest → ⊥

@@ -37,6 +37,7 @@ pub use Rattle.mscp_port.specs.Wanted.{IsMovedFor, IsWanted, bytes_wanted, clear
 pub use Rattle.mscp_port.specs.declared.rings.Side.{Side}
 pub use Rattle.mscp_port.specs.declared.rings.Side.TheVariants.{Commands, Responses}
 pub use Rattle.mscp_port.specs.declared.slot.Descriptor.{Descriptor}
+pub use Rattle.mscp_queue.specs.Kept.{IsOfUnit}
 pub use Rattle.mscp_queue.specs.Serving.{has_block}
 pub use Rattle.mscp_saved.specs.Read.{parts_in}
 pub use Rattle.mscp_saved.specs.Saved.{flag_byte}

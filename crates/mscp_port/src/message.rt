@@ -1,6 +1,6 @@
 // What a host's message asks for, as the port sees it.
 
-ghost use Rattle.std.specs.Prelude.{◌≡◌, ◌≤◌, true, find, length, nat_le, IfSome};
+ghost use Rattle.std.specs.Prelude.{◌≡◌, ◌≤◌, true, find, length, nat_le, IfSome, MatchOption};
 ghost use Rattle.mscp_port.specs.Common.{option_copied, bare_end, handed, next_unit};
 ghost use Rattle.mscp_port.specs.Messages.{own_end as end_of_own, is_transfer, past_volume, refused_end, volume_refusal};
 
@@ -117,23 +117,23 @@ fn next_unit(units: &Units, number: u16) -> u16
     }
 }
 
-/// The message that the controller gets: just this one, but that a formality has its stand-in, and a GET UNIT STATUS which asks
-/// for the next unit gets its number.
-pub(crate) fn message_for_controller(message: &[u8], units: &Units) -> ArrayVec<u8, 64>
+/// The message that the controller gets in place of this one, if it gets another: a formality has its stand-in, and a GET UNIT
+/// STATUS which asks for the next unit gets its number.
+pub(crate) fn message_for_controller(message: &[u8], units: &Units) -> Option<ArrayVec<u8, 64>>
     requires short { 12 ≤ length message.now }
     requires long { length message.now ≤ 64 }
-    ensures { result.items ≡ handed units.now message.now }
+    ensures { MatchOption result (handed units.now message.now ≡ message.now)
+        (λ bytes. bytes.items ≡ handed units.now message.now) }
 {
     if is_formality(message[8]) {
-        return stand_in(message);
+        return Some(stand_in(message));
+    }
+    if message[8] != GET_UNIT_STATUS || two_at(message, 10) % 2 != NEXT_UNIT {
+        return None;
     }
     let mut bytes = ArrayVec::new();
-    if message[8] == GET_UNIT_STATUS && two_at(message, 10) % 2 == NEXT_UNIT {
-        put(&mut bytes, &message[..4]);
-        put_two(&mut bytes, next_unit(units, two_at(message, 4)));
-        put(&mut bytes, &message[6..]);
-    } else {
-        put(&mut bytes, message);
-    }
-    bytes
+    put(&mut bytes, &message[..4]);
+    put_two(&mut bytes, next_unit(units, two_at(message, 4)));
+    put(&mut bytes, &message[6..]);
+    Some(bytes)
 }

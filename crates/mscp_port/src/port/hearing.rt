@@ -19,7 +19,7 @@ use crate::sizes::{LONGEST_TEXT, TextSize};
 use crate::slot::Descriptor;
 use crate::task::Task;
 use arrayvec::ArrayVec;
-use mscp_controller::Sent;
+use mscp_controller::{SendFault, Sent};
 use mscp_packet::fields::{four_at, two_at};
 use mscp_packet::{End, write_end};
 use mscp_queue::{Connection, Picker};
@@ -220,8 +220,7 @@ impl<K: Picker> Port<K> {
         ensures among { (b : Kept) → Contains self.new.buffers.items b → Contains self.old.buffers.items b
             ⊎ ((changes : ℕ) × (b ≡ buffer_in message.now changes)) }
     {
-        let sent = message_for_controller(message, self.controller.config().units());
-        match self.controller.send(Connection::First, &sent) {
+        match self.hand_over(message) {
             Ok(Sent::Queued(_)) => self.keep(message),
             Ok(Sent::Answered { aborted, .. }) => {
                 self.heed(message);
@@ -230,6 +229,22 @@ impl<K: Picker> Port<K> {
             }
             // Its length was judged by its header, so a credit is wanting, or its number is in use.
             Err(_) => self.stall(),
+        }
+    }
+
+    /// The controller gets a message, or what stands for it.
+    fn hand_over(&mut self, message: &[u8]) -> Result<Sent, SendFault>
+        requires short { 12 ≤ length message.now }
+        requires long { length message.now ≤ 64 }
+        ensures answer { result ≡ answered_to self.old message.now }
+        ensures frame { self.new ≡ record self.old { controller = self.new.controller } }
+        ensures after { self.new.controller
+            ≡ after_message First self.old.controller (handed self.old.controller.settings.units message.now) }
+        ensures settings { self.new.controller.settings ≡ self.old.controller.settings }
+    {
+        match message_for_controller(message, self.controller.config().units()) {
+            Some(other) => self.controller.send(Connection::First, &other),
+            None => self.controller.send(Connection::First, message),
         }
     }
 

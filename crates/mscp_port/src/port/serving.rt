@@ -1,7 +1,7 @@
 // How blocks are moved.
 
 ghost use Rattle.std.specs.Prelude.{◌≡◌, ◌≢◌, ◌≤◌, ◌%◌, ◌⊎◌, [], true, if◌then◌else◌, Contains, IfSome, Option, None, Some};
-ghost use Rattle.mscp_port.specs.Common.{ChangesByService, move_of, refusal_of, task_of, Foretells, begun_step, GoesOnWithBlock, IsMovedFor, TakesBegun, TakesBlock, begun_task, next_serial, serial_after, MayBegin, IsOfBlock, in_hand, MayMove};
+ghost use Rattle.mscp_port.specs.Common.{ChangesByService, move_of, refusal_of, task_of, Foretells, begun_step, GoesOnWithBlock, IsMovedFor, TakesBegun, TakesBlock, IsOfUnit, begun_task, next_serial, serial_after, MayBegin, IsOfBlock, in_hand, MayMove};
 ghost use Rattle.mscp_port.specs.declared.action.Action.TheVariants as actions;
 ghost use Rattle.mscp_port.specs.declared.buffers.Buffer.{Buffer as Kept};
 ghost use Rattle.mscp_port.specs.Blocks.{block_of as block_after, changed_verdict, has_host_bytes as has_bytes, writes as writes_to};
@@ -127,11 +127,13 @@ impl<K: Picker> Port<K> {
         ensures settings { self.new.controller.settings ≡ self.old.controller.settings }
     {
         let was_begun = self.controller.begun().is_some();
-        if self.controller.begin().is_none() {
+        let Some(upcoming) = self.controller.begin() else {
             return (Task::Free, None);
-        }
+        };
         self.give_serial(was_begun);
-        self.step_chosen()
+        // That its block is one of its unit's is known where it is asked for.
+        let _ = self.controller.upcoming();
+        self.step_chosen(&upcoming)
     }
 
     /// A step is begun, which gets the next serial if none was begun before.
@@ -145,25 +147,24 @@ impl<K: Picker> Port<K> {
         }
     }
 
-    /// What is to be done for the step that is begun, and the move of its block, if it moves one.
-    fn step_chosen(&self) -> (Task, Option<Action>)
+    /// What is to be done for this step, which is begun, and the move of its block, if it moves one.
+    fn step_chosen(&self, upcoming: &Upcoming) -> (Task, Option<Action>)
+        requires begun { begun_step self.now.controller ≡ Some upcoming.now }
+        requires unit { IsOfUnit self.now.controller.settings.units upcoming.now }
         ensures task { result.0 ≡ begun_task self.now.controller.settings.units self.now.buffers.items self.now.volumes
-            (begun_step self.now.controller) }
+            (Some upcoming.now) }
         ensures moves { IfSome result.1 (IsMovedFor self.now result.0) }
         ensures packet { in_hand result.0 ≡ None }
-        ensures block { begun_step self.now.controller ≢ None → IsOfBlock result.0 }
+        ensures block { IsOfBlock result.0 }
     {
-        let Some(upcoming) = self.controller.upcoming() else {
-            return (Task::Free, None);
+        let Some((kind, block)) = move_of(upcoming) else {
+            return (Task::Step(self.verdict_of(upcoming)), None);
         };
-        let Some((kind, block)) = move_of(&upcoming) else {
-            return (Task::Step(self.verdict_of(&upcoming)), None);
-        };
-        match self.part(&upcoming, kind, block) {
+        match self.part(upcoming, kind, block) {
             Err(verdict) => (Task::Step(verdict), None),
             // A transfer of no bytes names a block, and moves nothing.
             Ok((_, 0)) => (Task::Step(Verdict::Served(Block::Good)), None),
-            Ok(part) => (Task::Transfer, Some(move_to(&upcoming, kind, block, part))),
+            Ok(part) => (Task::Transfer, Some(move_to(upcoming, kind, block, part))),
         }
     }
 

@@ -4,7 +4,5 @@ use Rattle.mscp_port.proofs.port.Port.step_chosen.Goals as goal
 
 pub returns-in-Err-clause-task : goal.returns-in-Err-clause-task
 returns-in-Err-clause-task g c =
-    chosen c.args.self.now c.in-Some.upcoming c.upcoming.result c.in-Some-move_of.kind c.in-Some-move_of.block
-    (Err c.in-Err.verdict) c.upcoming.ensures.value c.in-Some.is
-    (sym c.move_of.ensures.value ∙ c.in-Some-move_of.is)
-    (sym c.in-Err.is ∙ c.part.ensures.value)
+    chosen c.args.self.now c.args.upcoming.now c.in-Some.kind c.in-Some.block (Err c.in-Err.verdict)
+    (sym c.move_of.ensures.value ∙ c.in-Some.is) (sym c.in-Err.is ∙ c.part.ensures.value)
