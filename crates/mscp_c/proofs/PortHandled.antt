@@ -1,5 +1,5 @@
 -- Calls on a port's handle are calls of the port.
-use Rattle.mscp_c.proofs.Common.{◌≡◌, ◌∙◌, ◌++◌, ◌∷◌, [], ℕ, ℤ, Bool, true, false, List, Option, None, Some, Result, Ok, Err, IsErr, refl, ap, sym, subst, MatchBool, MatchOption, Goes, Unasked, UNASKED, told_code, is_of_serial, TellsWentBy, WentBy, Outcome, Answered, Becomes, Handle, Held, BAD_OUTCOME, outcome_given, KeepsPortPromise, Begun, Configured, Hardware, Look, LookAgain, Next, NextMessage, Protect, ReadIp, ReadSa, Resume, State, TellsOutcome, Tick, Volume, VolumeCame, VolumeWent, WasRead, Went, Why, WriteIp, WriteSa, TellsWent, PolicyPicks}
+use Rattle.mscp_c.proofs.Common.{◌≡◌, ◌∙◌, ◌++◌, ◌∷◌, [], ℕ, ℤ, Bool, true, false, List, Option, None, Some, Result, Ok, Err, IsErr, refl, ap, sym, subst, false≢true, MatchBool, MatchOption, Goes, Unasked, UNASKED, told_code, is_of_serial, TellsWentBy, WentBy, Outcome, Answered, Becomes, Handle, Held, BAD_OUTCOME, outcome_given, KeepsPortPromise, Begun, Configured, Hardware, Look, LookAgain, Next, NextMessage, Protect, ReadIp, ReadSa, Resume, State, TellsOutcome, Tick, Volume, VolumeCame, VolumeWent, WasRead, Went, Why, WriteIp, WriteSa, TellsWent, PolicyPicks}
 use Rattle.mscp_port.specs.Histories.{Call}
 use Rattle.mscp_port.specs.Ports.{put_aside}
 use Rattle.mscp_port.specs.Wanted.{bytes_wanted}
@@ -42,8 +42,8 @@ went number block status (Some outcome) old new t = (
 
 -- an answer that is none is told as not asked for
 refused_code : (answer : Result (Unit {0}) Unasked) → IsErr answer → told_code answer ≡ UNASKED
-refused_code (Ok done) no = absurd no
-refused_code (Err fault) no = refl
+refused_code (Ok done) is = absurd (false≢true is)
+refused_code (Err fault) is = refl
 
 -- a block of another serial than this is none of the port's calls
 went_with : (b : Bool) (outcome : Outcome) (status : ℤ) (old new : Held) (answer : Result (Unit {0}) Unasked)
@@ -55,10 +55,10 @@ went_with : (b : Bool) (outcome : Outcome) (status : ℤ) (old new : Held) (answ
     → Answered PolicyPicks start (next ++ told) new)
 went_with true outcome status old new answer goes code =
     (calls.Went outcome answer ∷ [], (answer, refl, code), λ start told a. (old, a, goes))
-went_with false outcome status old new answer no code = (
+went_with false outcome status old new answer refused code = (
   [],
-  (refl, code ∙ refused_code answer no.0),
-  λ start told a. subst (Answered PolicyPicks start told) (sym no.1) a,
+  (refl, code ∙ refused_code answer refused.0),
+  λ start told a. subst (Answered PolicyPicks start told) (sym refused.1) a,
 )
 
 went_by : (serial number block : ℕ) (status : ℤ) (o : Option Outcome) (old new : Handle)
