@@ -9,7 +9,7 @@
 #include "wire.h"
 #else
 #define wire_reset() ((void)0)
-#define wire_action(status, action, bytes) (status)
+#define wire_action(status, action, bytes) ((void)0)
 #endif
 
 enum { DRIVE_ERROR = 0x000B };
@@ -311,7 +311,8 @@ static void see(struct port *port, const struct mscp_action *action, const uint8
 /* The host's memory was read or written, and the port got the report. What it answered. */
 static inline int32_t told(struct port *port, int32_t status, const struct mscp_action *action, const uint8_t *bytes)
 {
-    if (wire_action(status, action, bytes) == MSCP_DONE && port->bus.see_message != NULL)
+    wire_action(status, action, bytes);
+    if (port->bus.see_message != NULL && status == MSCP_DONE)
         see(port, action, bytes);
     return status;
 }

@@ -20,6 +20,9 @@ const INTERRUPT: u8 = 4;
 
 const TRANSFER: u8 = 5;
 
+/// The bytes of a slot of a ring.
+const SLOT: usize = 4;
+
 /// The opcode of a transfer.
 fn opcode_of(kind: MoveKind) -> u8
     ensures { result ≡ move_byte kind }
@@ -62,7 +65,12 @@ fn tell_write(out: &mut ActionOut, address: u32, count: u32, bytes: &[u8])
     ensures { out.new ≡ with_bytes bytes.now (of_memory WRITE address count out.old) }
 {
     tell_memory(out, WRITE, address, count);
-    out.bytes[..bytes.len()].copy_from_slice(bytes);
+    // Most are slots, which are copied without a call.
+    if bytes.len() == SLOT {
+        out.bytes[..SLOT].copy_from_slice(bytes);
+    } else {
+        out.bytes[..bytes.len()].copy_from_slice(bytes);
+    }
 }
 
 /// A block of this serial is to be moved, to so many bytes of host memory from an address on, or from them.
@@ -109,7 +117,15 @@ pub(crate) fn tell_action(out: &mut ActionOut, port: &Port<Policy>, action: Acti
             block,
             address,
             count,
-        } => tell_transfer(out, port.serial().unwrap_or(0), kind, unit, block, address, count),
+        } => tell_transfer(
+            out,
+            port.serial().unwrap_or(0),
+            kind,
+            unit,
+            block,
+            address,
+            count,
+        ),
     }
     DONE
 }

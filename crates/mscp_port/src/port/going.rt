@@ -19,6 +19,7 @@ use mscp_queue::Picker;
 impl<K: Picker> Port<K> {
     /// An action that isn't a read went so; or a read failed so. An error where nothing was wanted, or where a read is told
     /// to be done without its bytes.
+    #[inline(always)]
     pub fn went(&mut self, outcome: Outcome) -> Result<(), Unasked>
         ensures { Goes (K.picks self.old.controller.picker) outcome self.old result self.new }
     {
