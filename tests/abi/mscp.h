@@ -376,6 +376,7 @@ struct mscp_end {
 
 /* What the next step serves. */
 struct mscp_upcoming {
+    uint64_t serial;    /* of a port's step, as mscp_port_next tells it; 0 of a controller's */
     uint32_t reference; /* of the command */
     uint32_t bytes;     /* of a transfer in all, 0 of another command */
     uint32_t lbn;       /* the block that the step touches, if it touches one */
@@ -458,6 +459,7 @@ struct mscp_watch {
 
 /* What a port wants done. What its kind doesn't say is 0. */
 struct mscp_action {
+    uint64_t serial;   /* of TRANSFER: the next of a count for each block that is begun, and the same for one that is wanted anew */
     uint32_t address;  /* in host memory, on the bus */
     uint32_t count;    /* how many bytes: at most 64 of READ and WRITE, and MSCP_BLOCK of TRANSFER */
     uint32_t block;    /* of TRANSFER */
@@ -650,9 +652,8 @@ int32_t mscp_read_end_at(const uint8_t *bytes, size_t length, struct mscp_end *e
 /* Makes a controller in the handle's memory: of these limits, of `count` units in rising order of their numbers, served
  * by a picker of enum mscp_picker. MSCP_DONE, or the first fault in this order: those of the memory (-11 to -15),
  * MSCP_BAD_PICKER, MSCP_MANY_UNITS, those of the first unit that has one (-21 to -24), MSCP_UNITS_FALL, MSCP_NO_UNITS,
- * those of the limits (-28 to -31). The controller is made on the stack, of which this takes up to 40 KiB, and is moved
- * into the memory. No call but mscp_run_script takes more. No other one takes over 2 KiB, but for mscp_why with up to 3, and
- * those that save and restore.
+ * those of the limits (-28 to -31). This takes up to 8 KiB of the stack. No other call takes over 2, but for mscp_why with
+ * up to 3, those that save and restore, and mscp_run_script.
  * On s390x and 32-bit x86 mscp.c may take 256 bytes more. No call is needed before you free the memory. */
 MSCP_MUST_USE
 MSCP_INLINE int32_t mscp_init(struct mscp *mscp, const struct mscp_limits *limits, const struct mscp_unit *units,
@@ -774,7 +775,7 @@ MSCP_INLINE int32_t mscp_save(const struct mscp *mscp, uint8_t *bytes, size_t ro
 /* Makes the controller that was saved, in the handle's memory, in place of the one that is made there, if one is: whatever is
  * called then answers as if it had been called there. MSCP_DONE, or the first fault of those of the memory (-12 to -15)
  * and those of the bytes (-40 to -54): then the one that is made there goes on. Bytes of a stranger make a controller with
- * which every call is safe, or none. Only whoever saved a controller knows what came to it before. This takes up to 40 KiB
+ * which every call is safe, or none. Only whoever saved a controller knows what came to it before. This takes up to 18 KiB
  * of the stack, and mscp_save up to 12. */
 MSCP_MUST_USE
 MSCP_INLINE int32_t mscp_restore(struct mscp *mscp, const uint8_t *bytes, size_t length)
@@ -952,7 +953,7 @@ MSCP_INLINE int32_t mscp_driver_restore(struct mscp_driver *driver, const uint8_
 /* Makes a port in the handle's memory, over a controller as mscp_init makes one. Its host may have `credits`
  * commands outstanding: 1 to one fewer than the first connection has. Its units have no volumes yet. MSCP_DONE, or the
  * first fault of those of mscp_init (-11 to -15 and -20 to -31), MSCP_BAD_BUS and MSCP_BAD_HOST_CREDITS. This takes up
- * to 40 KiB of the stack. No other call of a port takes over 2, but for mscp_port_why with up to 3, and those that save and
+ * to 8 KiB of the stack. No other call of a port takes over 2, but for mscp_port_why with up to 3, and those that save and
  * restore. */
 MSCP_MUST_USE
 MSCP_INLINE int32_t mscp_port_init(struct mscp_port *port, const struct mscp_limits *limits,
@@ -1005,6 +1006,12 @@ MSCP_INLINE int32_t mscp_port_was_read(struct mscp_port *port, const uint8_t *by
  * MSCP_UNASKED. */
 MSCP_MUST_USE int32_t mscp_port_went(struct mscp_port *port, uint32_t outcome, uint16_t status);
 
+/* The block of this serial went so, which mscp_port_next told: for a disk that takes its time. The port hears of it exactly if it
+ * wants that block now. Otherwise nothing changes, and the answer is MSCP_UNASKED: its command was aborted, say, and another one has
+ * its number; or messages alone were asked for, and mscp_port_next hasn't told the block again. MSCP_DONE, or the first that
+ * holds of MSCP_BAD_OUTCOME and MSCP_UNASKED. */
+MSCP_MUST_USE int32_t mscp_port_went_by(struct mscp_port *port, uint64_t serial, uint32_t outcome, uint16_t status);
+
 /* The port looks again whether its host has given slots for ends back, since the host doesn't say so. Call this when
  * the machine has time for the disk. MSCP_DONE. */
 int32_t mscp_port_look_again(struct mscp_port *port);
@@ -1034,7 +1041,7 @@ MSCP_MUST_USE int32_t mscp_port_state(const struct mscp_port *port, struct mscp_
 /* What is in a unit. MSCP_DONE, or MSCP_UNKNOWN_UNIT. */
 MSCP_MUST_USE int32_t mscp_port_volume(const struct mscp_port *port, uint16_t unit, struct mscp_volume *volume);
 
-/* The step that is begun: if the port wants a block moved, its command and its block. Its first block has
+/* The step that is begun: if the port wants a block moved, its command and its block, with its serial. Its first block has
  * `done` 0, and its last one `done + 1 == weight`. MSCP_DONE, or MSCP_NOTHING if none is begun. */
 MSCP_MUST_USE int32_t mscp_port_begun(const struct mscp_port *port, struct mscp_upcoming *upcoming);
 
@@ -1093,7 +1100,7 @@ MSCP_INLINE int32_t mscp_port_save(const struct mscp_port *port, uint8_t *bytes,
 /* Makes the port that was saved, as mscp_restore makes a controller: it goes on as it would have there. MSCP_DONE, or the
  * first fault of those of the memory (-12 to -15) and those of the bytes (-40 to -54 and MSCP_SAVED_SIZE), which may be those
  * of its controller's. Bytes of a stranger make a port with which every call is safe, and which moves only blocks that its units
- * have, or none. This takes up to 40 KiB of the stack, and mscp_port_save up to 36. */
+ * have, or none. This takes up to 18 KiB of the stack, and mscp_port_save up to 36. */
 MSCP_MUST_USE
 MSCP_INLINE int32_t mscp_port_restore(struct mscp_port *port, const uint8_t *bytes, size_t length)
 {
@@ -1108,7 +1115,7 @@ MSCP_INLINE int32_t mscp_port_restore(struct mscp_port *port, const uint8_t *byt
 /* Runs a script of `length` bytes through a controller of its own, as the program mscpq does, and writes the report to the
  * front of the room, of `*count` bytes. MSCP_DONE; MSCP_SMALL, if the room has fewer than twice as many bytes as the
  * report; or, in any room, MSCP_SCRIPT_SIZE to _EVENTS, what is wrong in line `*line`, the first in which something is.
- * Whatever it answers, all of the room may be written over. This takes up to 60 KiB of the stack. */
+ * Whatever it answers, all of the room may be written over. This takes up to 40 KiB of the stack. */
 MSCP_MUST_USE
 MSCP_INLINE int32_t mscp_run_script(const uint8_t *script, size_t length, uint8_t *bytes, size_t room, size_t *count,
                                     uint32_t *line)

@@ -9,7 +9,7 @@
 #include "wire.h"
 #else
 #define wire_reset() ((void)0)
-#define wire_action(status, action, bytes) (status)
+#define wire_action(status, action, bytes) ((void)0)
 #endif
 
 enum { DRIVE_ERROR = 0x000B };
@@ -254,7 +254,7 @@ static enum mscp_outcome begin_block(struct port *port, const struct mscp_action
         if (outcome != MSCP_OUTCOME_DONE)
             return outcome;
     }
-    port->step = step_of(port);
+    port->step = action->serial;
     port->slow = PORT_BEGUN;
     port->serial++;
     if (action->opcode == MSCP_WRITE || action->opcode == MSCP_ERASE)
@@ -266,12 +266,10 @@ static enum mscp_outcome begin_block(struct port *port, const struct mscp_action
 }
 
 /* Before an action is asked for: an ABORT, a reset or a new volume may have ended its command, and then another one may begin with
- * the same number. */
+ * the same number, but not with the same serial. */
 static void drop_unless_begun(struct port *port)
 {
-    const struct mscp_upcoming *was = &port->step, now = step_of(port);
-    if (now.connection != was->connection || now.reference != was->reference || now.opcode != was->opcode ||
-        now.unit != was->unit || now.lbn != was->lbn || now.done != was->done)
+    if (step_of(port).serial != port->step)
         port->slow = PORT_IDLE;
 }
 
@@ -313,7 +311,8 @@ static void see(struct port *port, const struct mscp_action *action, const uint8
 /* The host's memory was read or written, and the port got the report. What it answered. */
 static inline int32_t told(struct port *port, int32_t status, const struct mscp_action *action, const uint8_t *bytes)
 {
-    if (wire_action(status, action, bytes) == MSCP_DONE && port->bus.see_message != NULL)
+    wire_action(status, action, bytes);
+    if (port->bus.see_message != NULL && status == MSCP_DONE)
         see(port, action, bytes);
     return status;
 }
@@ -346,7 +345,7 @@ static int32_t act(struct port *port, struct mscp_port *itself, const struct msc
             outcome = transfer(port, action);
             port->slow = PORT_IDLE;
         }
-        break;
+        return mscp_port_went_by(itself, action->serial, outcome, DRIVE_ERROR);
     default: break; /* PAUSE: the machine went on since the last turn */
     }
     return mscp_port_went(itself, outcome, DRIVE_ERROR);

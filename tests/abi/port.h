@@ -43,8 +43,8 @@ struct port {
     } ahead;                         /* blocks that were moved in this turn, and not reported yet */
     uint32_t left; /* actions in this turn */
     enum port_slow slow;
-    struct mscp_upcoming step; /* that the block is of */
-    uint64_t serial;           /* of the last block that was begun; they only grow */
+    uint64_t step;   /* the serial that the port gave its step */
+    uint64_t serial; /* and that by which the disk knows the last block that was begun: these go on over a restore, too */
     struct {
         uint8_t bytes[MSCP_MESSAGE_MAX];
         uint8_t length; /* 0 if there is none */

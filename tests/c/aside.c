@@ -61,6 +61,7 @@ static void wants_again(const struct mscp_action *wanted)
     struct mscp_action again = until(wanted->kind);
     is("the same place", again.address == wanted->address && again.count == wanted->count, 1);
     is("the same block", again.unit == wanted->unit && again.block == wanted->block && again.opcode == wanted->opcode, 1);
+    is("the same serial", (int64_t)again.serial, (int64_t)wanted->serial);
 }
 
 /* A block's time begins when the port wants it, and meanwhile the command is polled. Then the port wants it again. What is
@@ -103,7 +104,7 @@ static void blocks_are_put_aside(uint8_t opcode, bool saves)
 
 /* A turn of a machine whose blocks take a while. Meanwhile the port is asked for messages alone. */
 static uint64_t now, ready; /* when the block's time has come */
-static bool is_under_way;
+static uint64_t under_way;  /* the serial of that block */
 
 static void turn(void)
 {
@@ -111,13 +112,11 @@ static void turn(void)
     mscp_port_look_again(machine.port);
     while ((now < ready ? mscp_port_next_message(machine.port, &action)
                         : mscp_port_next(machine.port, &action)) == MSCP_DONE) {
-        if (action.kind == MSCP_ACTION_TRANSFER && !is_under_way) {
-            is_under_way = true;
+        if (action.kind == MSCP_ACTION_TRANSFER && action.serial != under_way) {
+            under_way = action.serial;
             ready = now + 5;
             continue; /* the port wants the block again, once that is so */
         }
-        if (action.kind == MSCP_ACTION_TRANSFER)
-            is_under_way = false;
         tell(&action, perform(&action));
     }
 }
@@ -128,7 +127,7 @@ static void turns_go_on(uint8_t opcode)
 {
     uint8_t packet[68];
     begin();
-    now = ready = 0;
+    now = ready = under_way = 0;
     send_command(0, 2, opcode, 4 * MSCP_BLOCK, 7, DATA);
     for (; now < 20; now++) {
         send_command(0, 100, MSCP_GET_COMMAND_STATUS, 2, 0, 0);

@@ -75,7 +75,8 @@ went_by serial number block status None old new refused = (
   λ start told a. subst (Answered PolicyPicks start told) (ap (λ h. h.held) (sym refused.1)) a,
 )
 went_by serial number block status (Some outcome) old new t =
-    went_with (is_of_serial serial old.held.task old.held.serial) outcome status old.held new.held t.answer t.goes t.code
+    went_with (is_of_serial serial old.held.task old.held.serial) outcome status old.held new.held t.answer t.goes
+    t.code
 
 call_is : (call : HandleCall) (old new : Handle) → AnswersHandle old call new → Is call old.held new.held
 call_is (ReadIp status) old new r = one (ReadIp status) calls.ReadIp old.held new.held (refl, r.1) r.0.leaves

@@ -49,8 +49,8 @@ with_bytes b out = record out { bytes = b ++ drop (length b) out.bytes }
 abbrev pub serial_told : {K : Type 0} → Port K → ℕ
 serial_told p = unwrap_or (serial_begun p) 0
 
--- what is told of an action, of the bytes that it writes if it does, and of its serial if it is a transfer. Its kind is the number that the header has
--- under its name. Where there is nothing to do nothing is
+-- what is told of an action, of the bytes that it writes if it does, and of its serial if it is a transfer. Its kind is
+-- the number that the header has under its name. Where there is nothing to do nothing is
 abbrev pub action_told : Action → List ℕ → ℕ → ActionOut → ActionOut
 action_told actions.Rest bytes serial out = out
 action_told actions.Pause bytes serial out = of_kind 1 out

@@ -1,5 +1,5 @@
--- The serials of a port's beginnings. A host may use a number again, so a disk that takes its time can't tell by a command's
--- number whether the block that it was given is still wanted: by its serial it can.
+-- The serials of a port's beginnings. A host may use a number again, so a disk that takes its time can't tell by a
+-- command's number whether the block that it was given is still wanted: by its serial it can.
 use Rattle.std.specs.Prelude.{ℕ, ◌+◌, ◌%◌, ◌^◌, Bool, false, nat_eq, option_map, Option, None, Some}
 use Rattle.mscp_queue.specs.declared.name.Name.{Name}
 use Rattle.mscp_port.specs.declared.port.Port.{Port}
@@ -10,7 +10,8 @@ use Rattle.mscp_port.specs.declared.task.Task.TheVariants as tasks
 abbrev pub next_serial : ℕ → ℕ
 next_serial serial = (serial + 1) % 2 ^ 64
 
--- the serial given last, where this step was begun before, and that one is now: what wasn't begun before has the next one
+-- the serial given last, where this step was begun before, and that one is now: what wasn't begun before has the next
+-- one
 abbrev pub serial_after : Option Name → Option Name → ℕ → ℕ
 serial_after None (Some name) serial = next_serial serial
 serial_after before after serial = serial

@@ -1,4 +1,5 @@
--- A serial is given once: each call leaves what is begun, or lets it go, or gives the next serial where nothing was begun.
+-- A serial is given once: each call leaves what is begun, or lets it go, or gives the next serial where nothing was
+-- begun.
 use Rattle.mscp_ported.proofs.Common.{Answered, Becomes, Bool, Call, Choice, End, Err, Finishes, First, Foretells, Goes, HeedsStep, Hears, Holdings, IsAlive, IsAsNew, IsOfBlock, List, MatchOption, Name, Next, None, NotBegun, Ok, Option, Outcome, Picking, Port, ReadIp, Report, Result, Says, Some, Stage, TakesBegun, TakesBlock, Task, Upcoming, Verdict, WasRead, Wants, Went, WriteIp, WriteSa, [], after_message, ap, arith, begun_step, block_begun, block_served, block_told, eqb-true, false, false≢true, handed, inl, inr, length, looks_or_not, name_of, name_on, nat_eq, none-some, own_end_of, record_at, refl, same_is, subst, sym, true, upcoming_begun, ℕ, ◌+◌, ◌<◌, ◌^◌, ◌∙◌, ◌∷◌, ◌≡◌, ◌≤◌, ◌⊎◌}
 use Rattle.std.specs.Prelude.{MatchBool}
 use Rattle.mscp_port.specs.Calls.{GoesBy}
@@ -53,12 +54,13 @@ by_minor old new (GivesUp d) = forgotten (stages.Dead 9) old new d
 -- ---- what is wanted
 
 -- what was begun is begun once more
-begun_again : {K : Type 0} (picks : List Choice → ℕ → Type 0) (held new : Holdings K) (o : Option Upcoming) (name : Name)
-    → held.begun ≡ Some name → Foretells picks held o new → new.begun ≡ Some name
+begun_again : {K : Type 0} (picks : List Choice → ℕ → Type 0) (held new : Holdings K) (o : Option Upcoming)
+    (name : Name) → held.begun ≡ Some name → Foretells picks held o new → new.begun ≡ Some name
 begun_again picks held new None name was f = absurd (none-some name (sym f.begins.1 ∙ was))
 begun_again picks held new (Some u) name was f =
     let b = f.begins.1 in
-    ap (λ l. l.begun) b.left ∙ ap Some (same_is (name_of (record_at held.waiting f.begins.0)) name (b.next.same name was))
+    ap (λ l. l.begun) b.left
+    ∙ ap Some (same_is (name_of (record_at held.waiting f.begins.0)) name (b.next.same name was))
 
 -- the commands that wait, and the drives, stay
 pub record HasLines {K : Type 0} (old new : Port K) : Type 0 where
@@ -149,8 +151,8 @@ module _ {K : Type 0} (bytes : List ℕ) (done : Unit {0}) (old new : Port K) (r
       text slot size foreign at (Some e) own =
           same old new r.serial (r.own slot size foreign at (λ none. none-some e (sym none ∙ own)))
 
-      other : (t : Task) → old.task ≡ t → (new.controller ≡ old.controller) ⊎ ((code : ℕ) × IsAsNew (stages.Dead code) old new)
-          → Keeps old new
+      other : (t : Task) → old.task ≡ t
+          → (new.controller ≡ old.controller) ⊎ ((code : ℕ) × IsAsNew (stages.Dead code) old new) → Keeps old new
       other t at (inl e) = same old new r.serial e
       other t at (inr d) = forgotten (stages.Dead d.0) old new d.1
 

@@ -15,15 +15,15 @@ IsBegunStill picks u one other [] a = begun_step other.controller ≡ Some u
 IsBegunStill picks u one other (call ∷ earlier) a =
     (begun_step other.controller ≡ Some u) × IsBegunStill picks u one a.0 earlier a.1
 
--- the law of serials: a step is begun, and whoever calls the port, fewer than 2^64 times: as long as the serial given last
--- is its own, it is begun still, or nothing is
+-- the law of serials: a step is begun, and whoever calls the port, fewer than 2^64 times: as long as the serial given
+-- last is its own, it is begun still, or nothing is
 abbrev pub PortsGiveSerialsOnce : {K : Type 0} → Picking K → Type 0
 PortsGiveSerialsOnce {K} picks = (one other : Port K) (calls : List Call) (u : Upcoming)
     → one.serial + length calls < 2 ^ 64 → begun_step one.controller ≡ Some u → (a : Answered picks one calls other)
     → other.serial ≡ one.serial → IsBegunStill picks u one other calls a ⊎ (other.controller.begun ≡ None)
 
--- the law of blocks by serial: a block that is told to have gone by the serial with which its step was begun is a block of
--- that step, which is begun still; or the controller serves nothing
+-- the law of blocks by serial: a block that is told to have gone by the serial with which a step was begun is of that
+-- step, which is begun still; or the controller serves nothing
 abbrev pub PortsHearOfTheirBlocks : {K : Type 0} → Picking K → Type 0
 PortsHearOfTheirBlocks {K} picks = (one other new : Port K) (calls : List Call) (u : Upcoming) (outcome : Outcome)
     (done : Unit {0})
