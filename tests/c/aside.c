@@ -164,9 +164,86 @@ static void blocks_that_are_dropped(uint8_t opcode)
     is("no block", machine.transfers, 0);
 }
 
+/* ---- serials */
+
+static uint64_t serial_begun(void)
+{
+    struct mscp_upcoming begun = {0};
+    return mscp_port_begun(machine.port, &begun) == MSCP_DONE ? begun.serial : 0;
+}
+
+/* The next block is wanted, with a serial that is above this one. */
+static uint64_t above(uint64_t before)
+{
+    const struct mscp_action wanted = until(MSCP_ACTION_TRANSFER);
+    is("it is above", wanted.serial > before, 1);
+    is("that which is begun", serial_begun() == wanted.serial, 1);
+    return wanted.serial;
+}
+
+/* A report of the block of this serial is unasked, and changes nothing. */
+static void is_not_heard(uint64_t serial, uint32_t outcome)
+{
+    static uint8_t before[MSCP_PORT_SAVED_MAX], after[MSCP_PORT_SAVED_MAX];
+    size_t length = 0, other = 0;
+    is("save", mscp_port_save(machine.port, before, sizeof before, &length), MSCP_DONE);
+    is("it isn't wanted", mscp_port_went_by(machine.port, serial, outcome, 0x000B), MSCP_UNASKED);
+    is("save", mscp_port_save(machine.port, after, sizeof after, &other), MSCP_DONE);
+    is("nothing changed", other == length && memcmp(before, after, length) == 0, 1);
+}
+
+/* A block is reported by the serial of the one that is in hand: of one that was put aside, aborted or reset, or that is another one
+ * of the same command, nothing is heard. */
+static void blocks_have_their_serials(uint8_t opcode, bool saves)
+{
+    const uint32_t outcome = opcode == MSCP_COMPARE_HOST_DATA ? MSCP_OUTCOME_DIFFERENT : MSCP_OUTCOME_DONE;
+    begin();
+    send_command(0, 2, opcode, 2 * MSCP_BLOCK, 7, DATA);
+    const uint64_t first = above(0);
+    is_not_heard(first + 1, outcome);
+    is_not_heard(0, outcome);
+    is("no such outcome", mscp_port_went_by(machine.port, first, 6, 0), MSCP_BAD_OUTCOME);
+    exchange();
+    is_not_heard(first, outcome); /* it was put aside */
+    is("it is the same", above(first - 1) == first, 1);
+    exchange();
+    send_command(0, 3, MSCP_ABORT, 2, 0, 0);
+    heard(2, 0x80 | opcode, 10);
+    heard(3, 0x81, 10);
+    is("nothing is begun", (int64_t)serial_begun(), 0);
+    send_command(0, 2, opcode, 2 * MSCP_BLOCK, 7, DATA); /* it looks like that which was aborted */
+    const uint64_t second = above(first);
+    if (saves)
+        restore_port();
+    is_not_heard(first, outcome);
+    is("it is heard", mscp_port_went_by(machine.port, second, outcome, 0), MSCP_DONE);
+    is_not_heard(second, outcome); /* it was heard */
+    uint64_t last = second;
+    if (outcome == MSCP_OUTCOME_DONE) {
+        last = above(second);
+        is_not_heard(second, outcome); /* it is the command's other block */
+        is("it is heard", mscp_port_went_by(machine.port, last, MSCP_OUTCOME_FAILED, 0x000B), MSCP_DONE);
+        expect(2, 0x80 | opcode, 0x000B);
+    } else {
+        expect(2, 0x80 | opcode, 0x0007);
+    }
+    initialise(0x1000, 2, 2, 0); /* the host writes IP */
+    send_command(0, 1, MSCP_ONLINE, 0, 0, 0);
+    expect(1, 0x89, 0);
+    send_command(0, 2, opcode, 2 * MSCP_BLOCK, 7, DATA);
+    last = above(last);
+    is("protect", mscp_port_protect(machine.port, 0, 1), MSCP_DONE);
+    is_not_heard(last, outcome); /* it is to be wanted anew */
+    is("no more", mscp_port_protect(machine.port, 0, 0), MSCP_DONE);
+    is("it is the same", above(last - 1) == last, 1);
+}
+
 int main(void)
 {
     for (unsigned saves = 0; saves < 2; saves++) {
+        blocks_have_their_serials(MSCP_READ, saves);
+        blocks_have_their_serials(MSCP_WRITE, saves);
+        blocks_have_their_serials(MSCP_COMPARE_HOST_DATA, saves);
         blocks_are_put_aside(MSCP_READ, saves);
         blocks_are_put_aside(MSCP_WRITE, saves);
     }

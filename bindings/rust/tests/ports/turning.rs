@@ -1,6 +1,6 @@
 //! What turns of a port do for a host. Statuses are those of the manual.
 
-use mscp::{BusKind, Hardware, Medium, Opcode, Port, Stage, Volume};
+use mscp::{Action, BusKind, Error, Hardware, Medium, Opcode, Outcome, Port, Stage, Volume};
 
 use crate::hosts::{Asked, Host, Way, BUFFER, RINGS};
 use crate::machine::{Touch, BAD, BAD_TO_READ, BAD_TO_WRITE, DISK, FAULTS, KINDS};
@@ -41,6 +41,38 @@ fn turns_are_as_long_as_they_may_be() {
         assert_eq!(host.port.save(), other.port.save());
     }
     assert!(!host.port.turn(&mut host.machine, 1) && host.is_answered());
+}
+
+/// Of a block that is reported by its serial the port hears once, and only while it wants that block.
+#[test]
+fn blocks_are_heard_by_their_serials() {
+    let mut host = Host::online(Hardware::RQDX3);
+    host.give();
+    host.ask(Asked::moves(Opcode::Read, 1024, 3));
+    let mut last = 0;
+    for _ in 0..2 {
+        let serial = loop {
+            match host.port.next().unwrap() {
+                Action::Transfer { serial, .. } => break serial,
+                action => host.port.perform(&mut host.machine, &action).unwrap(),
+            }
+        };
+        assert!(serial > last);
+        assert_eq!(host.port.begun().map(|it| it.serial), Some(serial));
+        assert_eq!(host.port.went_by(last, Outcome::Done), Err(Error::Unasked));
+        while let Some(action) = host.port.next_message() {
+            host.port.perform(&mut host.machine, &action).unwrap();
+        }
+        assert_eq!(host.port.went_by(serial, Outcome::Done), Err(Error::Unasked));
+        while let Some(action) = host.port.next().filter(|it| !matches!(it, Action::Transfer { .. })) {
+            host.port.perform(&mut host.machine, &action).unwrap();
+        }
+        assert_eq!(host.port.went_by(serial, Outcome::Done), Ok(()));
+        assert_eq!(host.port.went_by(serial, Outcome::Done), Err(Error::Unasked));
+        last = serial;
+    }
+    host.turn();
+    assert!(host.is_answered());
 }
 
 /// A byte that differs is seen wherever it stands in a block, and those behind the transfer aren't looked at.
