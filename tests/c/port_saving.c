@@ -59,12 +59,12 @@ static void goes_on(void)
 
 /* ---- the bytes of one port, written by hand */
 
-enum { KEPT = 74 + 16 * 18, CONTROLLER = KEPT + 21, LENGTH = CONTROLLER + 48 + 34 * UNITS + 41 };
+enum { FRONT = 82, KEPT = FRONT + 16 * 18, CONTROLLER = KEPT + 21, LENGTH = CONTROLLER + 48 + 34 * UNITS + 41 };
 
 /* Its head. */
-static const uint8_t HEAD[74] = {
-    /* "MSCP", version 2, and so many bytes */
-    0x4D, 0x53, 0x43, 0x50, 2, 0, 0, 0, LENGTH & 255, LENGTH >> 8, 0, 0,
+static const uint8_t HEAD[FRONT] = {
+    /* "MSCP", version 3, and so many bytes */
+    0x4D, 0x53, 0x43, 0x50, 3, 0, 0, 0, LENGTH & 255, LENGTH >> 8, 0, 0,
     /* the Q-bus, and model, software and hardware of an RQDX3 */
     1, 19, 3, 1,
     /* 15 credits beside one, of which 1 is untold; a slot of responses and two of commands were given back */
@@ -83,6 +83,8 @@ static const uint8_t HEAD[74] = {
     12, 0, 0, 0, 0, 0, 0, 0, 0, 0, 0, 0, 0, 0, 0, 0, 0,
     /* nothing goes out, something is kept of one command, and no end waits */
     0, 0, 1, 0,
+    /* three steps were begun: the ONLINE, and two of the READ */
+    3, 0, 0, 0, 0, 0, 0, 0,
 };
 
 /* The volumes of units 0 and 1: one that is there, is no news, can't be taken out, and with which the unit is online; it changed
@@ -158,7 +160,7 @@ static void edits(void)
         /* a text of 49 bytes, 65 commands, 65 ends, and more of each than there are bytes */
         {{{8, 14}}, MSCP_SAVED_LENGTH}, {{{71, 49}}, MSCP_SAVED_LENGTH}, {{{72, 65}}, MSCP_SAVED_LENGTH},
         {{{72, 13}}, MSCP_SAVED_LENGTH}, {{{73, 65}}, MSCP_SAVED_LENGTH}, {{{73, 20}}, MSCP_SAVED_LENGTH},
-        {{{3, 0}}, MSCP_SAVED_MAGIC}, {{{4, 1}}, MSCP_SAVED_VERSION},
+        {{{3, 0}}, MSCP_SAVED_MAGIC}, {{{4, 1}}, MSCP_SAVED_VERSION}, {{{4, 2}}, MSCP_SAVED_VERSION},
         /* a controller that begins elsewhere, isn't one, or has 65 + 1 credits or another picker */
         {{{72, 0}}, MSCP_SAVED_LENGTH}, {{{CONTROLLER, 0}}, MSCP_SAVED_MAGIC}, {{{CONTROLLER + 12, 65}}, MSCP_SAVED_LIMITS},
         {{{CONTROLLER + 30, 2}}, MSCP_SAVED_PICKER},
@@ -177,7 +179,7 @@ static void edits(void)
         {{{12, 3}}, MSCP_SAVED_FORM}, {{{20, 2}}, MSCP_SAVED_FORM}, {{{23, 2}}, MSCP_SAVED_FORM}, {{{34, 10}}, MSCP_SAVED_FORM},
         {{{35, 1}}, MSCP_SAVED_FORM}, {{{38, 1}}, MSCP_SAVED_FORM}, {{{45, 129}}, MSCP_SAVED_FORM},
         {{{49, 0}}, MSCP_SAVED_FORM}, {{{53, 13}}, MSCP_SAVED_FORM}, {{{70, 4}}, MSCP_SAVED_FORM},
-        {{{74 + 18 + 1, 2}}, MSCP_SAVED_FORM},
+        {{{FRONT + 18 + 1, 2}}, MSCP_SAVED_FORM},
     };
     for (size_t i = 0; i < COUNT(cases); i++) {
         for (unsigned k = 0; k < 3 && cases[i].edits[k].place != 0; k++)
@@ -215,7 +217,7 @@ static void volume_is_short(void)
 {
     struct mscp_action action;
     save_in_the_middle();
-    put(bytes + 74 + 10, 4, 4);
+    put(bytes + FRONT + 10, 4, 4);
     machine.port = mscp_port_in_memory(machine.rooms[0], sizeof machine.rooms[0]);
     is("restore", mscp_port_restore(machine.port, bytes, LENGTH), MSCP_DONE);
     is("an action", mscp_port_next(machine.port, &action), MSCP_DONE);
@@ -224,7 +226,7 @@ static void volume_is_short(void)
     expect(2, 0xA1, 0x0B);
     is("nothing was moved", machine.transfers, 0);
     save_in_the_middle();
-    put(bytes + 74 + 10, 4, 5);
+    put(bytes + FRONT + 10, 4, 5);
     machine.port = mscp_port_in_memory(machine.rooms[0], sizeof machine.rooms[0]);
     is("restore", mscp_port_restore(machine.port, bytes, LENGTH), MSCP_DONE);
     is("an action", mscp_port_next(machine.port, &action), MSCP_DONE);
@@ -368,7 +370,7 @@ static void news_of_no_unit(void)
     for (size_t place = 0; place < 16; place++) {
         uint8_t packet[68] = {0};
         save_at_rest(0x80);
-        rest[74 + 18 * place + 3] = 1;
+        rest[FRONT + 18 * place + 3] = 1;
         go_on(REST);
         is("a message", take(packet), place < UNITS);
         if (place < UNITS)
@@ -401,8 +403,8 @@ static void second_end(void)
     is("as without it", length == held && memcmp(two, after, held) == 0, 1);
 }
 
-/* Each flipped bit. Any number may stand for model and versions, credits and slots, what the host has set, its words, what
- * is kept of a command, and the identifiers of the controller and its four units: of 8 bytes, and 16 each. */
+/* Each flipped bit. Any number may stand for model and versions, credits and slots, what the host has set, its words, the
+ * serial, what is kept of a command, and the identifiers of the controller and its four units: of 8 bytes, and 16 each. */
 static void flipped_bits(void)
 {
     unsigned taken = 0;
@@ -412,7 +414,7 @@ static void flipped_bits(void)
             taken++;
         bytes[bit / 8] ^= (uint8_t)(1u << bit % 8);
     }
-    is("some are a port's", taken >= 24 + 32 + 48 + 32 + 168 + 64 + 4 * 128, 1);
+    is("some are a port's", taken >= 24 + 32 + 48 + 32 + 64 + 168 + 64 + 4 * 128, 1);
 }
 
 /* ---- two connections */
