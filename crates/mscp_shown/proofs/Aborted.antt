@@ -5,7 +5,7 @@ use Rattle.mscp_shown.proofs.Strict.{after_end}
 use Rattle.mscp_shown.proofs.Ordering.{pairs_after}
 use Rattle.mscp_shown.proofs.Owners.{IsOnly, only_after, only_push}
 use Rattle.mscp_shown.proofs.Saying.{Says}
-use Rattle.mscp_shown.proofs.Suiting.{IsFault, refused_apart}
+use Rattle.mscp_shown.proofs.Suiting.{IsFault}
 
 -- one of the elements is so
 abbrev pub AnyBy : {X : Type 0} → (X → Type 0) → List X → Type 0
@@ -51,10 +51,7 @@ pub any_at : {X : Type 0} (p : X → Bool) (xs : List X) (i : ℕ) (d : X) → i
     → list_any p xs ≡ true
 any_at p [] i d l h = absurd (omega (arith, l))
 any_at p (x ∷ xs) zero d l h = ap (λ b. b || list_any p xs) h
-any_at p (x ∷ xs) (suc i) d l h = ap (λ b. p x || b) (any_at p xs i d (omega (arith, l)) h) ∙ or_true (p x)
-  where
-    or_true : (b : Bool) → (b || true) ≡ true
-    or_true b = grind arith
+any_at p (x ∷ xs) (suc i) d l h = grind (arith, any_at p xs i d (omega (arith, l)) h)
 
 -- one that stands behind a place
 pub any_behind : {X : Type 0} (p : X → Bool) (xs : List X) (i j : ℕ) (d : X) → i < j → j < length xs
@@ -68,8 +65,7 @@ any_behind p (x ∷ xs) (suc i) (suc j) d l m h = any_behind p xs i j d (omega (
 pub aborts_append : (via : Connection) (xs : List Sent) (us vs : List End) → Aborts via xs us → Aborts via xs vs
     → Aborts via xs (us ++ vs)
 aborts_append via xs [] vs h k = k
-aborts_append via xs (e ∷ us) vs h k =
-    ((λ z. any_front (EndsAbort via xs e.reference) us vs (h.0 z)), aborts_append via xs us vs h.1 k)
+aborts_append via xs (e ∷ us) vs h k = grind (arith, aborts_append via xs us vs h.1 k, any_front)
 
 -- none of these ends is lost
 aborts_weaker : (via : Connection) (xs ys : List Sent) (P : End → Type 0) (us : List End)
@@ -141,10 +137,7 @@ answered_apart online o h = grind arith
 own_apart_with : (c : Settings) (online : Bool) (figure : ℕ) (k : Command) (s : Sent) (f : Option ℕ)
     → fault_of c k ≡ f → Says k.order s → (own_end_with c online figure k f).status % 32 ≢ 2
 own_apart_with c online figure k s None e says h = answered_apart online k.order h
-own_apart_with c online figure k s (Some status) e says h = ⊎_elim
-    (λ q. absurd (omega (arith, h, q)))
-    (λ q. absurd (omega (arith, h, q)))
-    (refused_apart c k.unit status k.order s says e)
+own_apart_with c online figure k s (Some status) e says h = grind arith
 
 -- an answered command isn't aborted
 pub own_apart : (c : Settings) (online : Bool) (figure : ℕ) (k : Command) (s : Sent) → Says k.order s

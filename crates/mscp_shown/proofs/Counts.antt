@@ -63,9 +63,7 @@ module _ {X : Type 0} (p : X → Bool) where
     where
       none_counted : (xs : List X) → AllByRecursion (λ x. p x ≡ false) xs → count_by p xs ≡ 0
       none_counted [] h = refl
-      none_counted (x ∷ xs) h =
-          sum_by-cons (λ x. cond (p x) 1 0) x xs ∙ ap (λ b. cond b 1 0 + count_by p xs) h.0
-          ∙ omega (arith, none_counted xs h.1)
+      none_counted (x ∷ xs) h = grind (arith, none_counted xs h.1)
 
   -- one goes out, and those before it change in what the test doesn't see
   pub removed : (f : X → X) (xs : List X) (i : ℕ) (d : X) → ((x : X) → p (f x) ≡ p x) → i < length xs

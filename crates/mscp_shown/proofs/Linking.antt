@@ -3,12 +3,11 @@ use Rattle.mscp_shown.proofs.Common.{Asked, First, Gone, Nothing, Oldest, Pairs,
 use Rattle.std.proofs.Common.{◌≡◌, ℕ, zero, suc, ◌≤◌, Bool, true, false, cond, not, ◌&&◌, ◌||◌, List, [], ◌∷◌, ◌++◌, get_or, take, refl, ap, sym, ◌∙◌, subst, arith, append-nil, append_assoc, Option, Some, None}
 use Rattle.std.specs.Prelude.{if◌then◌else◌, nat_eq}
 use Rattle.std.specs.List.{AllByRecursion, list_any}
-use Rattle.std.proofs.lemmas.Bool.{and_parts, eqb-true, false≢true, lt-ltb}
+use Rattle.std.proofs.lemmas.Bool.{and_parts, false≢true, lt-ltb}
 use Rattle.mscp_queue.proofs.Lists.{every_weaker}
 use Rattle.mscp_drive.specs.declared.connection.Connection.{Connection}
 use Rattle.mscp_wire.specs.Wire.{is_immediate, same_connection}
 use Rattle.mscp_shown.proofs.Alike.{Alike, alike_any, bare}
-use Rattle.mscp_shown.proofs.Shown.{one_side}
 
 -- ---- names
 
@@ -19,18 +18,13 @@ Alone xs = Pairs (λ x y. is_named x.connection x.reference y ≡ false) xs
 -- two that have the same name
 pub same_name_as : (via : Connection) (n : ℕ) (x y : Sent) → is_named via n x ≡ true
     → is_named via n y ≡ is_named x.connection x.reference y
-same_name_as via n x y h =
-    let p = and_parts (same_connection x.connection via) (nat_eq x.reference n) h in
-    ap (λ v. is_named v n y) (sym (one_side x.connection via p.0))
-    ∙ ap (λ r. is_named x.connection r y) (sym (eqb-true x.reference n p.1))
+same_name_as via n x y h = grind arith
 
 -- behind one of a name there is no other
 pub none_behind : (via : Connection) (n : ℕ) (x : Sent) (xs : List Sent) → is_named via n x ≡ true
     → AllByRecursion (λ y. is_named x.connection x.reference y ≡ false) xs
     → AllByRecursion (λ y. is_named via n y ≡ false) xs
-none_behind via n x xs h all =
-    every_weaker (λ y. is_named x.connection x.reference y ≡ false) (λ y. is_named via n y ≡ false)
-    (λ y k. same_name_as via n x y h ∙ k) xs all
+none_behind via n x xs h all = grind (arith, every_weaker, same_name_as)
 
 -- ---- figures
 
@@ -50,12 +44,6 @@ pub below_lower : (strict lax : Option ℕ) (figure : ℕ) → Lower strict lax 
 below_lower strict None figure h k = refl
 below_lower None (Some n) figure h k = absurd h
 below_lower (Some m) (Some n) figure h k = lt-ltb figure n (omega (arith, h, ltb-true figure m k))
-
-pub lower_told : (strict lax : Option ℕ) (figure : ℕ) → Lower strict lax → is_below strict figure ≡ true
-    → Lower (Some figure) lax
-lower_told strict None figure h k = tt
-lower_told None (Some n) figure h k = absurd h
-lower_told (Some m) (Some n) figure h k = omega (arith, h, ltb-true figure m k)
 
 -- ---- two commands at the same place
 pub record Same (x y : Sent) : Type 0 where
@@ -93,9 +81,8 @@ pub linked_push : (before xs ys : List Sent) (x y : Sent) → Linked before xs y
 linked_push before [] [] x y h s a = (s, subst (λ b. AsksOf b y y.asked) (append-nil before) a, tt)
 linked_push before [] (z ∷ ys) x y h s a = absurd h
 linked_push before (z ∷ xs) [] x y h s a = absurd h
-linked_push before (z ∷ xs) (u ∷ ys) x y h s a = (
-  h.0,
-  h.1,
+linked_push before (z ∷ xs) (u ∷ ys) x y h s a = grind (
+  arith,
   linked_push (before ++ z ∷ []) xs ys x y h.2 s
       (subst (λ b. AsksOf b y y.asked) (sym (append_assoc before (z ∷ []) xs)) a),
 )
@@ -119,12 +106,7 @@ asks_at before (x ∷ xs) (y ∷ ys) (suc i) h =
 
 none_found : (p : Sent → Bool) (ys : List Sent) → find p ys ≡ None → list_any p ys ≡ false
 none_found p [] h = refl
-none_found p (y ∷ ys) h =
-    let P : Bool → Type 0 = λ b. p y ≡ b → cond b (Some y) (find p ys) ≡ None → (b || list_any p ys) ≡ false in
-    elim (p y) as P [
-      | true ↦ λ e k. cc
-      | false ↦ λ e k. none_found p ys k
-    ] refl h
+none_found p (y ∷ ys) h = grind (arith, none_found p ys)
 
 same_sent : (x y : Sent) → Some x ≡ Some y → x ≡ y
 same_sent x y h = cc
@@ -222,22 +204,10 @@ module _ (timeout time : Option ℕ) (xs ys : List Sent) (s : Sent) (link : Link
 
   about_parameter : (p : Option ℕ) → nat_eq z.opcode 2 ≡ true → z.parameter ≡ p → New (asked_by timeout ys z p)
   about_parameter None poll e = tt
-  about_parameter (Some other) poll e =
-      let P : Bool → Type 0 = λ b. nat_eq other z.reference ≡ b
-      → New (if b then Nothing else asked_about timeout ys z (find (is_named z.connection other) ys)) in
-      elim (nat_eq other z.reference) as P [
-        | true ↦ λ q. tt
-        | false ↦ λ q. about_named other (find (is_named z.connection other) ys) poll e q refl
-      ] refl
+  about_parameter (Some other) poll e = grind (arith, about_named)
 
   pub asks_new : AsksOf xs (asking timeout ys z) (asking timeout ys z).asked
-  asks_new =
-      let P : Bool → Type 0 = λ b. nat_eq z.opcode 2 ≡ b
-      → New (if b then asked_by timeout ys z z.parameter else Nothing) in
-      elim (nat_eq z.opcode 2) as P [
-        | true ↦ λ q. about_parameter z.parameter q refl
-        | false ↦ λ q. tt
-      ] refl
+  asks_new = grind (arith, about_parameter)
 
   pub linked_sent : Linked [] (xs ++ s ∷ []) (ys ++ asking timeout ys z ∷ [])
   linked_sent =

@@ -1,5 +1,5 @@
 -- The ends that a moment makes: each fits the command that is outstanding under its name.
-use Rattle.mscp_shown.proofs.Common.{AllByRecursion, AreBytes, Bad, Block, Bool, Connection, End, Entry, Event, Good, IsRight, IsServed, List, Moment, Name, None, Option, Order, Pairs, Promise, Report, Sent, Service, Settings, Some, Trace, [], aborted, aborted_end, aborted_unless, and-false, answer, ap, arith, command, command_of, cond, connection, count_by, cut, done, done_before, done_last, drop_last, end_of, ends_in, every_append, every_both, every_filter, every_parts, every_weaker, false, false≢true, fault_of, figure_asked, figure_of, filter, get_or, goes_on, good, good_before, if◌then◌else◌, is_good, is_named, is_online, is_queued, is_some, left, length, map, moment, name, name_on, not, order, outcome, own_end, pairs_append, queues, reference, refl, same_is, same_name, sent_by, sent_bytes, serves_in, some_same, subst, sym, true, unit, waiting, waiting_below, waiting_more, waits_below, ℕ, ◌%◌, ◌&&◌, ◌++◌, ◌+◌, ◌<◌, ◌^◌, ◌∙◌, ◌∷◌, ◌≡◌, ◌≢◌}
+use Rattle.mscp_shown.proofs.Common.{AllByRecursion, AreBytes, Bad, Block, Bool, Connection, End, Entry, Event, Good, IsRight, IsServed, List, Moment, Name, None, Option, Order, Pairs, Promise, Report, Sent, Service, Settings, Some, Trace, [], aborted, aborted_end, aborted_unless, answer, ap, arith, command, command_of, cond, connection, count_by, cut, done, done_before, done_last, drop_last, ends_in, every_append, every_both, every_filter, every_parts, every_weaker, false, false≢true, fault_of, figure_asked, figure_of, filter, get_or, goes_on, good, good_before, if◌then◌else◌, is_good, is_named, is_online, is_queued, is_some, left, length, map, moment, name, name_on, not, order, outcome, own_end, pairs_append, queues, reference, refl, same_is, same_name, sent_by, sent_bytes, serves_in, some_same, subst, sym, true, unit, waiting, waiting_below, waiting_more, waits_below, ℕ, ◌%◌, ◌&&◌, ◌++◌, ◌+◌, ◌<◌, ◌^◌, ◌∙◌, ◌∷◌, ◌≡◌, ◌≢◌}
 use Rattle.mscp_controller.proofs.Basics.{First}
 use Rattle.mscp_shown.proofs.Aborted.{Aborts, EndsAbort, IsAbort, IsBehind, aborts_answer, named_each, outcome_apart, own_apart}
 use Rattle.mscp_shown.proofs.Answering.{own_number}
@@ -34,18 +34,9 @@ well : (c : Settings) (t : Trace) (n : Name) (event : Event) (entry : Entry) →
 well c t n (Event.Step Good) entry r h = and_true (serves_in n entry)
 well c t n (Event.Step (Bad status)) (Entry.Stepped Report.Idle) r h = refl
 well c t n (Event.Step (Bad status)) (Entry.Stepped (Report.Served other reference unit lbn started seek None)) r h =
-    absurd (false≢true (ap is_some (r.1.ended ∙ bad_ends r.0)))
-  where
-    bad_ends : (y : ℕ) → end_of c t (Bad status) y ≡ Some (outcome c t (Bad status) y)
-    bad_ends y = search (arith, and-false)
+    grind arith
 well c t n (Event.Step (Bad status)) (Entry.Stepped (Report.Served other reference unit lbn started seek
-    (Some e))) r h =
-    let s = same_name (name_on other reference) n in
-    let P : Bool → Type 0 = λ b. s ≡ b → (s && false) ≡ s in
-    elim s as P [
-      | true ↦ λ e. absurd (false≢true (sym (ap (λ b. not (b && true)) e) ∙ h))
-      | false ↦ λ e. ap (λ b. b && false) e ∙ sym e
-    ] refl
+    (Some e))) r h = grind arith
 well c t n (Event.Send own b) (Entry.Sent other sent) r h = refl
 well c t n (Event.Take own) (Entry.Taken other end) r h = refl
 well c t n Event.Look (Entry.Looked list) r h = refl

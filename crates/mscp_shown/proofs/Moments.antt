@@ -1,6 +1,6 @@
 -- Each moment of a legal trace keeps what its parts keep, so that the whole trace does.
-use Rattle.mscp_shown.proofs.Common.{All, AllByRecursion, ArrayVec, Bad, Block, Bool, Command, Connection, Covers, End, Entry, Err, Event, Good, IsLegal, IsOfKind, IsPatient, IsPossible, IsRight, Known, LegalTracesAreRight, Moment, Name, None, Ok, Option, Polls, Report, Settings, Some, Trace, [], answer, ap, append-nil, arith, arrival, arrives, bound, collect, command_of, connection, count_by, drop, each_queued, ends, ends_at, ends_more, every_append, every_parts, false, false≢true, figure, figure_found, figure_of, get_or-take, if◌then◌else◌, is_online_empty, is_queued, is_step, is_waiting, known, length, length-take-le, moment, more_at, name, one_side, progress, recursion_from_All, reference, refl, same_connection, same_name, shaped, shown, subst, suc, sym, take, take-take, take_all, takes, true, untaken, waiting, waits_below, zero, ℕ, ◌++◌, ◌+◌, ◌<◌, ◌^◌, ◌∙◌, ◌∷◌, ◌≡◌, ◌≤◌}
-use Rattle.mscp_controller.proofs.Basics.{IsValid, First, find}
+use Rattle.mscp_shown.proofs.Common.{All, AllByRecursion, ArrayVec, Bad, Block, Bool, Command, Connection, Covers, End, Entry, Err, Event, Good, IsLegal, IsOfKind, IsPatient, IsPossible, IsRight, Known, LegalTracesAreRight, Moment, Name, None, Ok, Option, Report, Settings, Some, Trace, [], answer, ap, append-nil, arith, arrival, arrives, bound, collect, command_of, count_by, drop, each_queued, ends, ends_at, ends_more, every_append, every_parts, false, figure, figure_found, figure_of, get_or-take, if◌then◌else◌, is_online_empty, is_queued, known, length, length-take-le, moment, more_at, name, one_side, progress, recursion_from_All, reference, refl, same_connection, same_name, shaped, shown, subst, suc, sym, take, take-take, take_all, takes, true, untaken, waiting, waits_below, zero, ℕ, ◌++◌, ◌+◌, ◌<◌, ◌^◌, ◌∙◌, ◌∷◌, ◌≡◌, ◌≤◌}
+use Rattle.mscp_controller.proofs.Basics.{IsValid, find}
 use Rattle.mscp_controller.specs.declared.entry.Sent.{Sent}
 use Rattle.std.proofs.lemmas.List.{take-append-drop}
 use Rattle.mscp_shown.proofs.Judged.{lenient}
@@ -130,13 +130,7 @@ module _ (c : Settings) (t : Trace) (k : Known c t)
 
 stands_empty : (c : Settings) → Stands c []
 unfolding shown waiting ends untaken collect
-stands_empty c = record {
-  stated = λ via unit e. cc;
-  there = λ unit e. absurd (false≢true (sym (is_online_empty unit) ∙ e));
-  shared = tt;
-  controller = λ n e. cc;
-  are = λ i low. absurd (omega (arith, low));
-}
+stands_empty c = grind (arith, is_online_empty)
 
 inv_more : (c : Settings) (t : Trace) (m : Moment) → Known c t
     → ((via : Connection) → AllByRecursion IsOfKind (ends c via t)) → Facts c t → IsPossible m.0
@@ -178,11 +172,7 @@ inv_empty c = record {
 -- ---- parts of a legal trace
 legal_part : (c : Settings) (t : Trace) (j : ℕ) → j ≤ length t → IsLegal c t → IsLegal c (take j t)
 unfolding moment
-legal_part c t j h legal i low =
-    let size = length-take-le j t h in
-    let l : i < j = omega (arith, low, size) in
-    rw (take-take i j t (omega (arith, l)), get_or-take j t i (Event.Take First, Entry.Taken First None) l)
-    (legal i (omega (arith, l, h)))
+legal_part c t j h legal i low = grind (arith, length-take-le, take-take, get_or-take)
 
 module _ (c : Settings) (t : Trace) (valid : IsValid c) (legal : IsLegal c t)
     (may : AllByRecursion (λ (m : Moment). IsPossible m.0) t)
@@ -211,24 +201,7 @@ module _ (c : Settings) (t : Trace) (valid : IsValid c) (legal : IsLegal c t)
 
   patient_part : (j : ℕ) → j ≤ length t → IsPatient (take j t)
   unfolding moment
-  patient_part j h x i k lx l m w p q =
-      let size = length-take-le j t h in
-      let d : Moment = (Event.Take First, Entry.Taken First None) in
-      let low : k < j = omega (arith, m, size) in
-      let same : (y : ℕ) → y < j → moment (take j t) y ≡ moment t y = λ y ly. get_or-take j t y d ly in
-      let front : take k (take j t) ≡ take k t = take-take k j t (omega (arith, low)) in
-      let now = subst (λ f. is_waiting f x ≡ true → Polls (connection f x) (reference f x) (moment (take j t) i)
-      → Polls (connection f x) (reference f x) (moment (take j t) k)
-      → Polls (connection (take k t) x) (reference (take k t) x) (moment t i)
-      × (Polls (connection (take k t) x) (reference (take k t) x) (moment t k) × (is_waiting (take k t) x ≡ true)))
-      (sym front)
-      (λ w p q. (
-        subst (Polls (connection (take k t) x) (reference (take k t) x)) (same i (omega (arith, l, low))) p,
-        (subst (Polls (connection (take k t) x) (reference (take k t) x)) (same k low) q, w),
-      ))
-      w p q in
-      let step = patient x i k lx l (omega (arith, low, h)) now.1.1 now.0 now.1.0 in
-      (step.0, step.1, step.2, ap (λ (n : Moment). is_step n.0) (same step.0 (omega (arith, step.2, low))) ∙ step.3)
+  patient_part j h x i k lx l m w p q = grind (arith, length-take-le, get_or-take, take-take)
 
   inv_at : (i : ℕ) → i ≤ length t → Inv c (take i t)
   inv_at zero h = inv_empty c

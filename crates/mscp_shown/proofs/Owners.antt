@@ -1,5 +1,5 @@
 -- Which command it is that is outstanding under a name: the one that waits or ended under it.
-use Rattle.mscp_shown.proofs.Common.{AllByRecursion, Answer, Bool, Connection, End, IsTaken, List, None, Option, Sent, Settings, Some, Trace, [], and_parts, answer_by, ap, arith, balance, command_at, cond, connection, count_by, drop, end_bytes, eq-eqb, eqb-true, every_append, every_weaker, false, filter, if◌then◌else◌, is_named, map, moment, nat_eq, num, outstanding, own_side, polled_by, reference, refl, same_connection, sent_by, sent_bytes, suc, sum_by-cons, sym, take, true, true≢false, untaken, waiting, waiting_by, zero, ℕ, ◌++◌, ◌+◌, ◌∙◌, ◌∷◌, ◌≡◌}
+use Rattle.mscp_shown.proofs.Common.{AllByRecursion, Answer, Bool, Connection, End, IsTaken, List, None, Option, Sent, Settings, Some, Trace, [], answer_by, ap, arith, balance, command_at, cond, connection, count_by, drop, end_bytes, every_append, every_weaker, false, filter, is_named, map, moment, nat_eq, num, outstanding, polled_by, reference, refl, same_connection, sent_by, sent_bytes, suc, sum_by-cons, sym, take, true, true≢false, untaken, waiting, waiting_by, zero, ℕ, ◌++◌, ◌+◌, ◌∙◌, ◌∷◌, ◌≡◌}
 use Rattle.mscp_wire.specs.Wire as wire
 use Rattle.mscp_shown.proofs.Strict.{after_end, hears}
 use Rattle.mscp_shown.proofs.Suited.{Keeps}
@@ -7,7 +7,6 @@ use Rattle.mscp_shown.proofs.Polling.{poll_of}
 use Rattle.mscp_shown.proofs.Messages.{IsTallied, new_number, owed_is}
 use Rattle.mscp_shown.proofs.Counts.{none_passes}
 use Rattle.mscp_shown.proofs.Owed.{one_if}
-use Rattle.mscp_shown.proofs.Shown.{one_side}
 
 -- a command of which no figure was told
 abbrev pub untold : Sent → Sent
@@ -44,10 +43,7 @@ only_push via n xs z P h k =
 told_apart : (via : Connection) (n : ℕ) (P : Sent → Type 0) (a : Answer) (o : Option ℕ) (s : Sent)
     → (is_named via n s ≡ true → P (untold s)) → is_named via n (hears a o s) ≡ true → P (untold (hears a o s))
 told_apart via n P a None s h = h
-told_apart via n P a (Some other) s h =
-    let Q : Bool → Type 0 = λ b. is_named via n (if b then record s { told = a.figure } else s) ≡ true
-    → P (untold (if b then record s { told = a.figure } else s)) in
-    elim (is_named a.connection other s) as Q [ true ↦ h | false ↦ h ]
+told_apart via n P a (Some other) s h = grind arith
 
 every_map : {X : Type 0} (P : X → Type 0) (f : X → X) → ((x : X) → P x → P (f x)) → (xs : List X) → AllByRecursion P xs
     → AllByRecursion P (map f xs)
@@ -111,16 +107,7 @@ each_passing {X} p P (x ∷ xs) h =
 
 unnamed : (own : Connection) (b : List ℕ) (via : Connection) (n : ℕ)
     → (same_connection via own ≡ true → nat_eq n (num b 0 4) ≡ false) → is_named via n (sent_by own b) ≡ false
-unnamed own b via n h =
-    let P : Bool → Type 0 = λ q. is_named via n (sent_by own b) ≡ q → is_named via n (sent_by own b) ≡ false in
-    elim (is_named via n (sent_by own b)) as P [
-      | true ↦ λ e.
-          let p = and_parts (wire.same_connection own via) (nat_eq (num b 0 4) n) e in
-          let side : own ≡ via = one_side own via p.0 in
-          let here : same_connection via own ≡ true = ap (same_connection via) side ∙ own_side via in
-          absurd (true≢false (sym (eq-eqb n (num b 0 4) (sym (eqb-true (num b 0 4) n p.1))) ∙ h here))
-      | false ↦ λ e. e
-    ] refl
+unnamed own b via n h = grind arith
 
 pub new_one : (c : Settings) (own : Connection) (t : Trace) (xs : List Sent) (b : List ℕ) → IsTallied c own t xs
     → IsTaken (balance c own t) (outstanding c own t) b → IsNew c own t xs (sent_by own b)

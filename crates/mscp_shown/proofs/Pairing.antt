@@ -1,5 +1,5 @@
 -- What holds of each element of a list and each after it.
-use Rattle.std.proofs.Common.{◌≡◌, ℕ, zero, suc, ◌+◌, ◌<◌, Bool, false, ◌||◌, List, [], ◌∷◌, ◌++◌, length, get_or, take, drop, map, refl, ap, ◌∙◌, subst, arith}
+use Rattle.std.proofs.Common.{◌≡◌, ℕ, zero, suc, ◌+◌, ◌<◌, Bool, false, ◌||◌, List, [], ◌∷◌, ◌++◌, length, get_or, take, drop, map, refl, ap, ◌∙◌, arith}
 use Rattle.std.specs.List.{AllByRecursion, list_any}
 use Rattle.mscp_queue.specs.Pairs.{Pairs}
 
@@ -75,9 +75,7 @@ module _ {X : Type 0} where
     -- one element is taken out, and those before it change in what the relation doesn't see
     pub pairs_out : (R : X → X → Type 0) → ((x y : X) → R x y → R (f x) y) → ((x y : X) → R x y → R x (f y))
         → (i : ℕ) (xs : List X) → Pairs R xs → Pairs R (map f (take i xs) ++ drop (i + 1) xs)
-    pairs_out R g k i xs h =
-        let one : suc i ≡ i + 1 = omega arith in
-        subst (λ n. Pairs R (map f (take i xs) ++ drop n xs)) one (pairs_gone R g k i xs h)
+    pairs_out R g k i xs h = grind (arith, pairs_gone)
 
 -- none passes
 pub none_of : {X : Type 0} (p : X → Bool) (xs : List X) → AllByRecursion (λ x. p x ≡ false) xs → list_any p xs ≡ false

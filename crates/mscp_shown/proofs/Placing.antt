@@ -48,9 +48,7 @@ fences_before t m x y l k = λ i. fenced (command_before t m x l i) (command_bef
     fenced a b = nat_eq a.unit b.unit && (is_sequential a.order || is_sequential b.order)
 
 free_before : (t : Trace) (m : Moment) (y : ℕ) → y < length t → IsFree t y → IsFree (t ++ m ∷ []) y
-free_before t m y k h x w l =
-    let low : x < length t = omega (arith, l, k) in
-    fences_before t m x y low k ∙ h x (waited t m x low w) l
+free_before t m y k h x w l = grind (arith, fences_before, waited)
 
 -- what is in service waits for none
 abbrev pub ServedAreFree : Trace → Type 0

@@ -1,5 +1,5 @@
 -- A message keeps all that holds.
-use Rattle.mscp_shown.proofs.Common.{AllByRecursion, AreBytes, ArrayVec, Bool, Connection, End, Entry, Event, IsPatient, IsTaken, Known, List, Moment, None, Ok, Option, Settings, Some, Trace, [], aborted_reference, answer, ap, append-nil, arith, arrival, arrives, command_of, cond, connection, count_by, ends_at, ends_in, every_filter, every_from, every_weaker, false, false≢true, if◌then◌else◌, is_queued, name, nat_eq, not, num, one_side, outstanding_in, own_side, reference, refl, same_connection, sent_by, shown, subst, sym, true, untaken, waiting, waiting_by, ℕ, ◌&&◌, ◌++◌, ◌+◌, ◌∙◌, ◌∷◌, ◌≡◌}
+use Rattle.mscp_shown.proofs.Common.{AllByRecursion, AreBytes, ArrayVec, Bool, Connection, End, Entry, Event, IsPatient, IsTaken, Known, List, Moment, None, Ok, Option, Settings, Some, Trace, [], aborted_reference, answer, ap, append-nil, arith, arrival, arrives, command_of, cond, connection, count_by, ends_at, ends_in, every_filter, every_from, every_weaker, false, false≢true, if◌then◌else◌, is_queued, name, not, num, one_side, outstanding_in, own_side, reference, refl, same_connection, sent_by, shown, subst, sym, true, untaken, waiting, waiting_by, ℕ, ◌&&◌, ◌++◌, ◌+◌, ◌∙◌, ◌∷◌, ◌≡◌}
 use Rattle.mscp_controller.specs.declared.entry.Sent.{Sent}
 use Rattle.mscp_controller.specs.Account.{balance}
 use Rattle.mscp_wire.specs.Wire as wire
@@ -19,7 +19,7 @@ use Rattle.mscp_queue.specs.Names.{name_on}
 use Rattle.mscp_shown.proofs.Asking.{asked_order, its_end, poll_about, poll_answer, poll_figure, silent_answer}
 use Rattle.mscp_shown.proofs.Listening.{Heard, Tells, heard_sent, tells_none, tells_poll}
 use Rattle.mscp_shown.proofs.Polling.{asked_by, poll_of}
-use Rattle.mscp_shown.proofs.Kept.{Inv, More, isnt_queued, none_more, shows_one, taken_as_answer, same_sides}
+use Rattle.mscp_shown.proofs.Kept.{Inv, More, isnt_queued, none_more, shows_one, taken_as_answer}
 use Rattle.mscp_shown.proofs.Ordering.{Ordered}
 use Rattle.mscp_shown.proofs.Staying.{answered_placed, orders_sent, queued_placed}
 use Rattle.mscp_shown.proofs.Waiting.{Orders}
@@ -31,12 +31,7 @@ module _ (c : Settings) (t : Trace) (own : Connection) (b : ArrayVec ℕ) (k : K
       → cond (same_connection own via) (one_if (p (command_of b.items).reference)) 0
       ≡ one_if (wire.same_connection own via && p (num b.items 0 4))
   unfolding command_of
-  sent_side via p =
-      ap (λ s. cond s (one_if (p (num b.items 0 4))) 0) (sym (same_sides own via))
-      ∙ by_side (wire.same_connection own via) (p (num b.items 0 4))
-    where
-      by_side : (here passes : Bool) → cond here (one_if passes) 0 ≡ one_if (here && passes)
-      by_side here passes = grind arith
+  sent_side via p = grind arith
 
   new : Inv c t → IsTaken (balance c own t) (outstanding_in c own t) b.items
       → IsNew c own t (outstanding (shown t)) (sent_by own b.items)
@@ -111,9 +106,7 @@ module _ (c : Settings) (t : Trace) (own : Connection) (b : ArrayVec ℕ) (k : K
     where
       stays : (x : ℕ) (a : Option ℕ) → connection t x ≡ via → not (ends_in (name t x) (Answer own q a)) ≡ true
       stays x None e = refl
-      stays x (Some other) e =
-          ap (λ v. not (same_connection own v && nat_eq other (reference t x))) e
-          ∙ ap (λ s. not (s && nat_eq other (reference t x))) n
+      stays x (Some other) e = grind arith
 
   answer_turns : (via : Connection) (q : ℕ) (a : Option ℕ) (p : ℕ → Bool) (here : Bool)
       → same_connection own via ≡ here → a ≡ aborted_reference c own t (command_of b.items)

@@ -23,8 +23,7 @@ tally via p xs = count_by (λ s. same_connection s.connection via && p s.referen
 pub tally_sent : (via own : Connection) (p : ℕ → Bool) (xs : List Sent) (b : List ℕ)
     → tally via p (xs ++ sent_by own b ∷ [])
     ≡ tally via p xs + cond (same_connection own via && p (num b 0 4)) 1 0
-tally_sent via own p xs b =
-    sum_by_push (λ (s : Sent). cond (same_connection s.connection via && p s.reference) 1 0) xs (sent_by own b)
+tally_sent via own p xs b = grind (arith, sum_by_push)
 
 pub one_side : (a b : Connection) → same_connection a b ≡ true → a ≡ b
 one_side a b h = grind (arith, false≢true)

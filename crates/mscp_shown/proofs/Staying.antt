@@ -29,13 +29,7 @@ module _ (t : Trace) (m : Moment) (xs : List Sent) where
       → ((x y : ℕ) → is_waiting t x ≡ true → is_waiting t y ≡ true → Pairs (IsPlaced t x y) xs)
       → (x y : ℕ) → is_waiting (t ++ m ∷ []) x ≡ true → is_waiting (t ++ m ∷ []) y ≡ true
       → Pairs (IsPlaced (t ++ m ∷ []) x y) xs
-  placed_more n h x y wx wy =
-      let lx = low x wx in
-      let ly = low y wy in
-      placed_before x y lx ly (h x y (waited t m x lx wx) (waited t m y ly wy))
-    where
-      low : (x : ℕ) → is_waiting (t ++ m ∷ []) x ≡ true → x < length t
-      low x w = ⊎_elim (λ l. l) (λ q. absurd (true≢false (sym q.1 ∙ n))) (below_or_last t m x w)
+  placed_more n h x y wx wy = grind (arith, placed_before, waited, below_or_last)
 
 -- a moment that shows nothing
 module _ (c : Settings) (t : Trace) (m : Moment) (xs : List Sent) (apart : Apart t (waiting t))
@@ -78,8 +72,7 @@ module _ (c : Settings) (own : Connection) (t : Trace) (xs : List Sent) (b : Lis
 
   -- no command that is outstanding has the new name
   none_named : (i : ℕ) → i < length xs → is_named own z.reference (get_or xs i (sent_by First [])) ≡ true → ⊥
-  none_named i l e = true≢false (sym e ∙ index_every (λ s. is_named own z.reference s ≡ false) xs (sent_by First [])
-      new.outstanding i l)
+  none_named i l e = grind (arith, index_every)
 
   old_pairs : (x y : ℕ) → is_waiting t x ≡ true → is_waiting t y ≡ true → Pairs (IsPlaced t x y) (xs ++ z ∷ [])
   old_pairs x y wx wy =
