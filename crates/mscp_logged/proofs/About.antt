@@ -1,5 +1,5 @@
 -- Each end of an ABORT or a poll in a port's log succeeds, and is about the command that its message names.
-use Rattle.mscp_logged.proofs.Common.{Answer, Bool, First, Fits, IsCodeFor, IsWhole, List, None, Sent, Some, answer_by, ap, arith, cond, eq-eqb, eqb-true, false, false≢true, inl, inr, is_about, is_about_another, is_it, is_refused, kind_of_code, le-leb, length, nat_eq, nat_le, not, num, other_of, refl, sent_by, slice_index, succeeds, sym, true, ℕ, ◌%◌, ◌+◌, ◌∙◌, ◌≡◌, ◌≤◌, ◌⊎◌}
+use Rattle.mscp_logged.proofs.Common.{Answer, Bool, First, Fits, IsCodeFor, IsWhole, List, None, Sent, Some, answer_by, ap, arith, cond, eq-eqb, false, false≢true, inl, inr, is_about, is_about_another, is_refused, kind_of_code, le-leb, length, nat_eq, nat_le, not, num, other_of, refl, sent_by, slice_index, succeeds, sym, true, ℕ, ◌∙◌, ◌≡◌, ◌≤◌, ◌⊎◌}
 use Rattle.std.proofs.Common.{◌&&◌}
 use Rattle.mscp_packet.specs.declared.end.BodyKind.TheVariants as bodykinds
 use Rattle.mscp_logged.proofs.Wired.{stem}
@@ -8,12 +8,7 @@ use Rattle.mscp_logged.proofs.Wired.{stem}
 about_code : (code opcode : ℕ) (message : List ℕ) → opcode ≡ slice_index message 8 → nat_eq code 0x80 ≡ false
     → is_about_another opcode ≡ true → IsCodeFor code message → (code ≡ 0x81) ⊎ (code ≡ 0x82)
 about_code code opcode message is known about (inl h) = absurd (false≢true (sym known ∙ eq-eqb code 0x80 h.0))
-about_code code opcode message is known about (inr h) = by (nat_eq opcode 1) refl about
-  where
-    by : (b : Bool) → nat_eq opcode 1 ≡ b → is_about_another opcode ≡ true → (code ≡ 0x81) ⊎ (code ≡ 0x82)
-    by true e a = inl (h ∙ ap (λ n. n + 0x80) (sym is ∙ eqb-true opcode 1 e))
-    by false e a = inr (h ∙ ap (λ n. n + 0x80) (sym is ∙ eqb-true opcode 2
-        (sym (ap (λ b. Rattle.std.specs.Prelude.◌||◌ b (nat_eq opcode 2)) e) ∙ a)))
+about_code code opcode message is known about (inr h) = grind arith
 
 -- its end has the number of the command that it is about
 about_long : (text : List ℕ) → IsWhole text → (slice_index text 8 ≡ 0x81) ⊎ (slice_index text 8 ≡ 0x82)
@@ -41,9 +36,7 @@ module _ (y : Sent) (text message : List ℕ) (is : stem y ≡ sent_by First mes
 
       guard : (a b c : Bool) → nat_eq (slice_index text 8) 0x80 ≡ a → is_about_another y.opcode ≡ b
           → not (is_refused y e) ≡ c → other_of y e ≡ cond (not a && b && c) y.parameter None
-      guard a b c h k l = ap (λ x. cond (not x && is_about_another y.opcode && not (is_refused y e)) y.parameter None) h
-          ∙ ap (λ x. cond (not a && x && not (is_refused y e)) y.parameter None) k
-          ∙ ap (λ x. cond (not a && b && x) y.parameter None) l
+      guard a b c h k l = grind arith
 
       parameter : (d : Bool) → nat_le 16 (length message) ≡ d → y.parameter ≡ cond d (Some (num message 12 4)) None
       parameter d long = ap (λ (s : Sent). s.parameter) is ∙ ap (λ x. cond x (Some (num message 12 4)) None) long
@@ -61,15 +54,7 @@ module _ (y : Sent) (text message : List ℕ) (is : stem y ≡ sent_by First mes
       })
 
   pub about_right : is_about e (other_of y e) ≡ true
-  about_right = elim other_or [
-    | inl none ↦ ap (is_about e) none
-    | inr n ↦ ap (is_about e) n.is_it ∙ ap (λ b. is_it (cond b (Some (num text 12 4)) None) (num message 12 4))
-        (le-leb 16 (length text) (about_long text whole n.code))
-        ∙ eq-eqb (num text 12 4) (num message 12 4) (fits.about n.code n.long)
-  ]
+  about_right = grind (arith, other_or, le-leb, about_long, eq-eqb)
 
   pub success_right : succeeds e (other_of y e) ≡ true
-  success_right = elim other_or [
-    | inl none ↦ ap (succeeds e) none
-    | inr n ↦ ap (succeeds e) n.is_it ∙ ap (λ x. nat_eq (x % 32) 0) (fits.succeeds n.code n.long)
-  ]
+  success_right = grind (arith, other_or)

@@ -82,8 +82,7 @@ module _ (xs : List Sent) (unit : Seen) where
 
   end_fails : (via : Connection) (b : List ℕ) (x : Rule) (o : Option ℕ) → place_of xs (answer_by via b) ≡ o
       → broken_at xs unit (answer_by via b) o ≡ Some x → end_holds via b x ≡ false
-  end_fails via b x None at e =
-      ap (end_holds via b) (sym (some_same rules.Outstanding x e)) ∙ ap is_some at
+  end_fails via b x None at e = grind arith
   end_fails via b x (Some i) at e =
       by x (command_fails (take i xs) (drop (i + 1) xs) (command_at xs i) unit (answer_by via b) x e)
     where

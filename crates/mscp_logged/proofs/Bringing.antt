@@ -106,8 +106,7 @@ module _ {K : Type 0} {picks : Picking K} (run : Begun picks) (keeping : IsKeepi
 
     begun_other : (o : Outgoing) → a.0.outgoing ≡ None → p.outgoing ≡ Some o → (k : OutgoingKind) → o.kind ≡ k
         → ends_begun a.0.outgoing p.outgoing ≡ end_said k o.bytes.items
-    begun_other o nothing some k kind = ap (λ x. ends_begun x p.outgoing) nothing ∙ ap (ends_begun None) some
-        ∙ ap (λ x. end_said x o.bytes.items) kind
+    begun_other o nothing some k kind = grind arith
 
     plain : ends_begun a.0.outgoing p.outgoing ≡ []
         → IsOther call → Brought
@@ -185,8 +184,7 @@ module _ {K : Type 0} {picks : Picking K} (run : Begun picks) (keeping : IsKeepi
         )
           where
             answered : own_answer false (volume_named a.0 q.message) q.message ≡ Some own.own.0
-            answered = ap (λ f. own_answer f (volume_named a.0 q.message) q.message)
-                (sym (of_disk a.0 q.message q.out own kind)) ∙ own.own.1
+            answered = grind (arith, of_disk, own)
 
     pub brings : Deals (awaited picks start a.0 calls a.1) call a.0 p → Brought
     brings d = by call refl
@@ -200,8 +198,7 @@ module _ {K : Type 0} {picks : Picking K} (run : Begun picks) (keeping : IsKeepi
 
         other : (x : Call) → call ≡ x → IsOther x → Deals (awaited picks start a.0 calls a.1) call a.0 p → Brought
         other x e never (inl q) = plain (begun_none q.begun) (not_next x e never)
-        other x e never (inr (inl q)) =
-            plain (begun_other q.out q.nothing q.begun kinds.Attention q.kind) (not_next x e never)
+        other x e never (inr (inl q)) = grind (arith, plain, begun_other, not_next)
         other x e never (inr (inr (inl q))) = absurd (no_end x e never q.out.bytes.items q.ended)
         other x e never (inr (inr (inr (inl q)))) = plain (begun_none q.begun) (not_next x e never)
         other x e never (inr (inr (inr (inr q)))) = answering q

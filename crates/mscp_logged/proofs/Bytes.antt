@@ -1,5 +1,5 @@
 -- A message as it is handed over says what it says itself, but for its unit.
-use Rattle.mscp_logged.proofs.Common.{AreBytes, Bool, First, IsLong, IsText, List, Order, Says, Sent, Shape, arith, asks_for_next, command_of, cond, drop, endcode, false, handed, inl, inr, is_formality, length, little_bytes, next_unit, num, refl, sent_by, sent_long, sent_says, slice_index, small_unit, stand_in, stand_unit, subst, suc, sym, take, true, zero, ℕ, ◌*◌, ◌++◌, ◌+◌, ◌<◌, ◌^◌, ◌∷◌, ◌≡◌, ◌≤◌}
+use Rattle.mscp_logged.proofs.Common.{AreBytes, Bool, First, IsLong, IsText, List, Order, Says, Sent, Shape, arith, asks_for_next, command_of, cond, drop, endcode, false, handed, inl, inr, is_formality, length, little_bytes, next_unit, num, refl, sent_by, sent_long, sent_says, slice_index, stand_in, subst, suc, sym, take, true, zero, ℕ, ◌++◌, ◌<◌, ◌^◌, ◌∷◌, ◌≡◌, ◌≤◌}
 use Rattle.std.proofs.Common.{◌%◌, ◌/◌}
 use Rattle.mscp_packet.specs.declared.command.Order.TheVariants as orders
 
@@ -11,10 +11,7 @@ of_unit t unit = record (sent_by First t) { unit = unit }
 
 says_any : (o : Order) (t : List ℕ) (one other : ℕ) → Says o (of_unit t one) → Says o (of_unit t other)
 says_any (orders.Invalid byte status) t one other (inl e) = inl e
-says_any (orders.Invalid byte status) t one other (inr s) = inr (
-  s.0,
-  record { why = s.1.why; byte = s.1.byte; opcode = s.1.opcode; about = s.1.about; short = s.1.short },
-)
+says_any (orders.Invalid byte status) t one other (inr s) = grind arith
 says_any order t one other h = h
 
 long_any : (o : Order) (t : List ℕ) (one other : ℕ) → IsLong o (of_unit t one) → IsLong o (of_unit t other)
@@ -87,29 +84,11 @@ module _ (units : List Shape) (t : List ℕ) (is : IsText t) (plain : is_formali
 pub stood_code : (units : List Shape) (t : List ℕ) → 12 ≤ length t → is_formality (slice_index t 8) ≡ true
     → endcode (command_of (handed units t)).order ≡ 0x90
 unfolding command_of
-stood_code units t long formal = subst (λ c. endcode (command_of (cond c (stand_in t)
-    (cond (asks_for_next t) (renamed t (next_unit units (num t 4 2))) t))).order ≡ 0x90) (sym formal) (by t long)
-  where
-    by : (t : List ℕ) → 12 ≤ length t → endcode (command_of (stand_in t)).order ≡ 0x90
-    by (a ∷ b ∷ c ∷ d ∷ e ∷ f ∷ g ∷ h ∷ rest) long = refl
-    by t long = absurd (search (arith, long))
+stood_code units t long formal = grind arith
 
 -- ---- the unit of a message as it is handed over
-
-next_small : (n : ℕ) → 0 + n % 256 * 1 + n / 256 % 256 * 256 < 2 ^ 16
-next_small n = omega arith
-
-named_small : (b : List ℕ) (n : ℕ) → 12 ≤ length b → num (take 4 b ++ little_bytes 2 n ++ drop 6 b) 4 2 < 2 ^ 16
-named_small (a ∷ b ∷ c ∷ d ∷ e ∷ f ∷ g ∷ h ∷ i ∷ j ∷ k ∷ l ∷ rest) n long = next_small n
-named_small b n long = absurd (search (arith, long))
 
 pub handed_small : (units : List Shape) (b : List ℕ) → 12 ≤ length b → ((i : ℕ) → slice_index b i < 2 ^ 8)
     → (command_of (handed units b)).unit < 2 ^ 16
 unfolding command_of
-handed_small units b long small = by (is_formality (slice_index b 8)) (asks_for_next b)
-  where
-    by : (c d : Bool) → num (cond c (stand_in b) (cond d
-        (take 4 b ++ little_bytes 2 (next_unit units (num b 4 2)) ++ drop 6 b) b)) 4 2 < 2 ^ 16
-    by true d = subst (λ n. n < 2 ^ 16) (sym (stand_unit b long)) (small_unit b small)
-    by false true = named_small b (next_unit units (num b 4 2)) long
-    by false false = small_unit b small
+handed_small units b long small = grind arith

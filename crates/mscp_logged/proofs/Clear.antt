@@ -1,5 +1,5 @@
 -- No end of a controller's that waits has passed a command that it had to wait for.
-use Rattle.mscp_logged.proofs.Common.{Bool, Decided, End, List, Record, Settings, [], any_more, ap, arith, cond, ends_numbered, eq-eqb, eqb-true, false, false≢true, filter, filter-append, first_of_one, has_number, inl, inr, is_apart, is_in_service, is_numbered, is_some, length, list_any, nat_eq, none_beside, not, num, or_parts, refl, sole_comes, sole_left, some_none, subst, sym, true, unit_found, ℕ, ◌%◌, ◌++◌, ◌||◌, ◌∙◌, ◌∷◌, ◌≡◌, ◌⊎◌}
+use Rattle.mscp_logged.proofs.Common.{Bool, Decided, End, List, Record, Settings, [], any_more, ap, arith, cond, ends_numbered, eq-eqb, eqb-true, false, false≢true, filter, filter-append, first_of_one, has_number, inl, inr, is_apart, is_in_service, is_numbered, is_some, length, list_any, nat_eq, none_beside, not, num, or_parts, refl, sole_comes, sole_left, some_none, subst, sym, true, unit_found, ℕ, ◌%◌, ◌++◌, ◌∙◌, ◌∷◌, ◌≡◌, ◌⊎◌}
 use Rattle.std.specs.Prelude.{drop}
 use Rattle.mscp_logged.proofs.Passes.{any_fewer, keeps, overtakes, passes_beside, passes_fewer}
 use Rattle.mscp_logged.proofs.Queueing.{InOrder, NoneBehind, order_as, order_left, order_more}
@@ -22,29 +22,15 @@ unended_none (t ∷ aw) = ap (λ ts. t ∷ ts) (unended_none aw)
 unended_taken : (e : End) (es : List End) (aw : List (List ℕ))
     → unended es (without e.reference aw) ≡ unended (e ∷ es) aw
 unended_taken e es [] = refl
-unended_taken e es (t ∷ aw) = by (has_number e.reference t) (unended_taken e es aw)
-  where
-    by : (b : Bool) → unended es (without e.reference aw) ≡ unended (e ∷ es) aw
-        → unended es (cond (not b) (t ∷ without e.reference aw) (without e.reference aw))
-        ≡ cond (not (b || is_ended es t)) (t ∷ unended (e ∷ es) aw) (unended (e ∷ es) aw)
-    by true rest = rest
-    by false rest = ap (λ ts. cond (not (is_ended es t)) (t ∷ ts) ts) rest
+unended_taken e es (t ∷ aw) = grind (arith, unended_taken e es aw)
 
 unended_more : (es fs : List End) (aw : List (List ℕ))
     → unended (es ++ fs) aw ≡ filter (λ t. not (is_ended (es ++ fs) t)) (unended es aw)
-unended_more es fs aw =
-    sym (sole_left (λ t. not (is_ended (es ++ fs) t)) (λ t. not (is_ended es t)) aw
-    (λ t h. by t h (is_ended es t) refl))
-  where
-    by : (t : List ℕ) → not (is_ended (es ++ fs) t) ≡ true → (b : Bool) → is_ended es t ≡ b → not (is_ended es t) ≡ true
-    by t h false is = ap not is
-    by t h true is =
-        absurd (false≢true (sym (ap not (any_more (λ (e : End). has_number e.reference t) es fs is)) ∙ h))
+unended_more es fs aw = grind (arith, sole_left, any_more)
 
 unended_beside : (es : List End) (aw : List (List ℕ)) (m : List ℕ) → is_ended es m ≡ false
     → unended es (aw ++ m ∷ []) ≡ unended es aw ++ m ∷ []
-unended_beside es aw m e = filter-append (λ t. not (is_ended es t)) aw (m ∷ [])
-    ∙ ap (λ c. unended es aw ++ cond (not c) (m ∷ []) []) e
+unended_beside es aw m e = grind (arith, filter-append)
 
 unended_answered : (es : List End) (aw : List (List ℕ)) (m : List ℕ) → is_ended es m ≡ true
     → unended es (aw ++ m ∷ []) ≡ unended es aw
@@ -52,22 +38,11 @@ unended_answered es aw m e = none_beside (λ t. not (is_ended es t)) aw m (ap no
 
 turned : (a b : ℕ) (c : Bool) → nat_eq a b ≡ c → nat_eq b a ≡ c
 turned a b true e = eq-eqb b a (sym (eqb-true a b e))
-turned a b false e = by (nat_eq b a) refl
-  where
-    by : (c : Bool) → nat_eq b a ≡ c → c ≡ false
-    by false h = refl
-    by true h = absurd (false≢true (sym e ∙ eq-eqb a b (sym (eqb-true b a h))))
+turned a b false e = grind arith
 
 pub none_ended : (m : List ℕ) (es : List End) → filter (ends_numbered (num m 0 4)) es ≡ [] → is_ended es m ≡ false
 none_ended m [] none = refl
-none_ended m (e ∷ es) none = by (nat_eq e.reference (num m 0 4)) refl none (none_ended m es)
-  where
-    by : (b : Bool) → nat_eq e.reference (num m 0 4) ≡ b
-        → cond b (e ∷ filter (ends_numbered (num m 0 4)) es) (filter (ends_numbered (num m 0 4)) es) ≡ []
-        → (filter (ends_numbered (num m 0 4)) es ≡ [] → is_ended es m ≡ false)
-        → (has_number e.reference m || is_ended es m) ≡ false
-    by true is h rest = absurd (some_none e (filter (ends_numbered (num m 0 4)) es) h)
-    by false is h rest = ap (λ b. b || is_ended es m) (turned e.reference (num m 0 4) false is) ∙ rest h
+none_ended m (e ∷ es) none = grind (arith, none_ended m es)
 
 pub some_ended : (m : List ℕ) (es : List End) (x : End) → filter (ends_numbered (num m 0 4)) es ≡ x ∷ []
     → is_ended es m ≡ true
@@ -108,8 +83,7 @@ clear_more aw [] fs (d ∷ ds) gs long all more = search (arith, long)
 clear_more aw (e ∷ es) fs [] gs long all more = search (arith, long)
 clear_more aw (e ∷ es) fs (d ∷ ds) gs long all more = (
   all.0,
-  clear_more (without e.reference aw) es fs ds gs (search (arith, long)) all.1
-      (subst (λ ts. AreClear ts fs gs) (sym (unended_taken e es aw)) more),
+  clear_more (without e.reference aw) es fs ds gs (search (arith, long)) all.1 (rw unended_taken more),
 )
 
 clear_beside : (m : List ℕ) (aw : List (List ℕ)) (es : List End) (ds : List Decided) → is_ended es m ≡ false
@@ -147,19 +121,7 @@ pub record Ordered (c : Settings) (aw : List (List ℕ)) (rs : List Record) (es 
 
 pub ordered_as : (c : Settings) (aw : List (List ℕ)) (rs rs' : List Record) (es es' : List End) (ds ds' : List Decided)
     → rs' ≡ rs → es' ≡ es → ds' ≡ ds → Ordered c aw rs es ds → Ordered c aw rs' es' ds'
-ordered_as c aw rs rs' es es' ds ds' e f g o = subst (λ x. Ordered c aw x es' ds') (sym e)
-    (subst (λ x. Ordered c aw rs x ds') (sym f) (subst (λ x. Ordered c aw rs es x) (sym g) o))
-
-pub nothing_ordered : (c : Settings) (aw : List (List ℕ)) (ds : List Decided) → Ordered c aw [] [] ds
-nothing_ordered c aw ds = record {
-  lined = any (unended [] aw);
-  own = λ n r e. absurd (some_none r [] (sym e));
-  clear = tt;
-}
-  where
-    any : (us : List (List ℕ)) → InOrder us []
-    any [] = tt
-    any (u ∷ us) = ((λ b is. tt), any us)
+ordered_as c aw rs rs' es es' ds ds' e f g o = grind arith
 
 module _ (c : Settings) (aw : List (List ℕ)) (rs : List Record) (es : List End) (ds : List Decided)
     (o : Ordered c aw rs es ds) where

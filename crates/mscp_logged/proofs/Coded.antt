@@ -1,5 +1,5 @@
 -- An end that fits its message has the unit and the endcode of its command.
-use Rattle.mscp_logged.proofs.Common.{Answer, Bool, First, Fits, IsCodeFor, IsUnitFor, List, None, Outgoing, Port, Sent, ap, arith, cond, eq-eqb, eqb-true, false, false≢true, has_endcode, inl, inr, is_required, names_unit, nat_eq, not, num, opcode_of, own_answer, own_coded, refl, sent_by, slice_index, small_unit, sym, true, two, volume_named, ℕ, ◌+◌, ◌||◌, ◌∙◌, ◌≡◌, ◌⊎◌}
+use Rattle.mscp_logged.proofs.Common.{Answer, Bool, First, Fits, IsCodeFor, IsUnitFor, List, None, Outgoing, Port, Sent, ap, arith, eq-eqb, eqb-true, false, false≢true, has_endcode, inl, inr, is_required, names_unit, nat_eq, num, opcode_of, own_answer, own_coded, refl, sent_by, slice_index, small_unit, sym, true, two, volume_named, ℕ, ◌+◌, ◌||◌, ◌∙◌, ◌≡◌, ◌⊎◌}
 use Rattle.std.specs.Prelude.{◌<◌, ◌^◌, ◌≢◌}
 use Rattle.mscp_port.specs.declared.port.OutgoingKind.TheVariants as kinds
 use Rattle.mscp_logged.proofs.Own.{IsOwn, of_disk}
@@ -17,17 +17,14 @@ endcode_right y e message is code = by (nat_eq e.code 0x80) refl code
     zero n h = omega (arith, h)
 
     unknown : is_required y.opcode ≡ false → nat_eq e.code 0x80 ≡ true → has_endcode y e ≡ true
-    unknown none c = ap (λ b. cond (not b) (nat_eq e.code (y.opcode + 0x80)) (not (is_required y.opcode))) c
-        ∙ ap not none
+    unknown none c = grind arith
 
     known : nat_eq e.code 0x80 ≡ false → e.code ≡ y.opcode + 0x80 → has_endcode y e ≡ true
-    known c same = ap (λ b. cond (not b) (nat_eq e.code (y.opcode + 0x80)) (not (is_required y.opcode))) c
-        ∙ eq-eqb e.code (y.opcode + 0x80) same
+    known c same = grind arith
 
     by : (b : Bool) → nat_eq e.code 0x80 ≡ b → IsCodeFor e.code message → has_endcode y e ≡ true
     by true c (inl h) = unknown (ap is_required is ∙ none_required (slice_index message 8) h.1) c
-    by true c (inr h) = unknown (ap is_required (is ∙ zero (slice_index message 8)
-        (sym h ∙ eqb-true e.code 0x80 c))) c
+    by true c (inr h) = grind (arith, unknown, zero, eqb-true)
     by false c (inl h) = absurd (false≢true (sym c ∙ eq-eqb e.code 0x80 h.0))
     by false c (inr h) = known c (h ∙ ap (λ n. n + 0x80) (sym is))
 
@@ -54,9 +51,4 @@ own_fits old text o small own kind = record {
 pub unit_right : (y : Sent) (e : Answer) (message : List ℕ) → stem y ≡ sent_by First message → IsUnitFor e.unit message
     → names_unit y e ≡ true
 unit_right y e message is (inr next) = ap (λ b. b || nat_eq e.unit y.unit) (ap (λ (s : Sent). s.next) is ∙ next)
-unit_right y e message is (inl same) = by y.next
-    (eq-eqb e.unit y.unit (same ∙ sym (ap (λ (s : Sent). s.unit) is)))
-  where
-    by : (b : Bool) → nat_eq e.unit y.unit ≡ true → (b || nat_eq e.unit y.unit) ≡ true
-    by true h = refl
-    by false h = h
+unit_right y e message is (inl same) = grind arith

@@ -1,7 +1,6 @@
 -- What a controller is told of a step is what a drive may tell, and a unit that isn't online ends no other command
 -- than a transfer.
-use Rattle.mscp_logged.proofs.Common.{Bool, Buffer, Err, IsBegunStep, IsFault, IsFaultTold, IsHow, IsOfBlock, List, MoveKind, Name, None, Ok, Option, Order, Outcome, Port, Record, Result, Some, Task, Upcoming, Verdict, Volume, ap, arith, begun_step, begun_task, block_begun, block_of, block_served, block_told, changed_verdict, cond, drive_of, false, fault_with, faulted, find, has_changed, has_host_bytes, has_name, inl, inr, is_available, is_move, known_task, move_of, move_task, moved_by, moved_step, nat_le, option_map, part_at, part_of, part_served, part_task, part_with, place_in, refl, refusal_of, subst, sym, takes_any_volume, task_of, true, unless_fault, upcoming_begun, upcoming_of, volume_at, writes, ℕ, ◌%◌, ◌&&◌, ◌<◌, ◌==◌, ◌^◌, ◌∙◌, ◌≡◌, ◌≤◌}
-use Rattle.std.specs.Prelude.{not}
+use Rattle.mscp_logged.proofs.Common.{Bool, Buffer, Err, IsBegunStep, IsFault, IsFaultTold, IsHow, List, MoveKind, Name, None, Ok, Option, Order, Outcome, Port, Record, Result, Some, Task, Upcoming, Verdict, Volume, arith, begun_step, block_begun, block_of, block_served, block_told, changed_verdict, cond, drive_of, false, fault_with, faulted, find, has_changed, has_name, inl, inr, is_move, known_task, move_of, move_task, moved_by, moved_step, option_map, part_at, part_of, part_served, part_task, part_with, place_in, refl, refusal_of, subst, sym, task_of, true, unless_fault, upcoming_of, volume_at, ℕ, ◌%◌, ◌<◌, ◌==◌, ◌^◌, ◌≡◌, ◌≤◌}
 use Rattle.mscp_packet.specs.declared.command.Order.TheVariants as orders
 use Rattle.mscp_drive.specs.declared.block.Block.TheVariants as blocks
 use Rattle.mscp_port.specs.declared.action.Outcome.TheVariants as outcomes
@@ -42,9 +41,6 @@ module _ (order : Order) where
   fault : (n : ℕ) → (n < 2 ^ 16) × (5 ≤ n % 32) × (n % 32 ≤ 11) → IsFine order (faulted n)
   fault n h = (h, λ e. absurd (search (arith, e)))
 
-  no_volume : IsFine order verdicts.NoVolume
-  no_volume = ((omega arith, omega arith, omega arith), λ e. absurd (search (arith, e)))
-
   good : IsFine order (verdicts.Served blocks.Good)
   good = (tt, λ e. absurd (search (arith, e)))
 
@@ -52,25 +48,12 @@ module _ (order : Order) where
   drive_error = fault 0x000B (omega arith, omega arith, omega arith)
 
   changed_fine : (v : Volume) → IsFine order (changed_verdict v)
-  changed_fine v = by v.is_mounted
-    where
-      by : (c : Bool) → IsFine order (cond c (faulted 0x000B) verdicts.NoVolume)
-      by true = drive_error
-      by false = no_volume
+  changed_fine v = grind arith
 
   -- why a block isn't moved
   refusal_fine : is_move order ≡ true → (kind : MoveKind) (block : ℕ) (b : Buffer) (v : Volume)
       → IsFineIf order (refusal_of kind block b v)
-  refusal_fine move kind block b v =
-      fine_cond (not v.is_mounted) (Some verdicts.NotOnline) _ ((omega arith, omega arith, omega arith), λ e. move)
-      (fine_cond (has_host_bytes kind && b.address % 2 == 1) (Some (faulted 0x0029)) _
-      (fault 0x0029 (omega arith, omega arith, omega arith))
-      (fine_cond (b.count % 2 == 1) (Some (faulted 0x0049)) _ (fault 0x0049 (omega arith, omega arith, omega arith))
-      (fine_cond (writes kind && v.is_protected_by_host) (Some (faulted 0x1006)) _
-      (fault 0x1006 (omega arith, omega arith, omega arith))
-      (fine_cond (writes kind && v.is_protected) (Some (faulted 0x2006)) _
-      (fault 0x2006 (omega arith, omega arith, omega arith))
-      (fine_cond (nat_le v.size block) (Some (faulted 0x000B)) None drive_error tt)))))
+  refusal_fine move kind block b v = grind (arith, fine_cond, fault, drive_error)
 
   part_fine : is_move order ≡ true → (kind : MoveKind) (block done : ℕ) (b : Buffer) (v : Volume)
       → IsFineOr order (part_with kind block done b v)
@@ -85,8 +68,7 @@ module _ (order : Order) where
 
   at_fine : is_move order ≡ true → (place : Option ℕ) (kept : Option Buffer) (kind : MoveKind) (block done : ℕ)
       (volumes : List Volume) → IsFineOr order (part_at place kept kind block done volumes)
-  at_fine move (Some place) (Some b) kind block done volumes =
-      part_fine move kind block done b (volume_at volumes place)
+  at_fine move (Some place) (Some b) kind block done volumes = grind (arith, part_fine)
   at_fine move None kept kind block done volumes = drive_error
   at_fine move (Some place) None kind block done volumes = drive_error
 
@@ -113,10 +95,7 @@ module _ (u : Upcoming) where
       (part_fine order (moved_is order u.lbn move e) move.0 move.1 u.done b v)
 
   task_fine : (b : Buffer) (v : Volume) → IsFineTask order (task_of u b v)
-  task_fine b v = fine_task order (is_available order) _ _ (good order)
-      (fine_task order (v.is_there && takes_any_volume order) _ _ (good order)
-      (fine_task order (has_changed b v) (tasks.Step (changed_verdict v)) _ (changed_fine order v)
-      (move_task_fine b v (move_of u) refl)))
+  task_fine b v = grind (arith, fine_task, good, changed_fine, move_task_fine)
 
   known_fine : (place : Option ℕ) (kept : Option Buffer) (volumes : List Volume)
       → IsFineTask order (known_task u place kept volumes)
@@ -142,14 +121,10 @@ module _ {K : Type 0} (old : Port K) (outcome : Outcome) (told : IsFaultTold out
   u = upcoming_of (drive_of old.controller.drives r.command.unit) r
 
   begun_is : begun_step old.controller ≡ Some u
-  begun_is = ap (upcoming_begun old.controller.drives old.controller.waiting) was
-      ∙ ap (option_map (λ x. upcoming_of (drive_of old.controller.drives x.command.unit) x)) found
+  begun_is = grind arith
 
   step_is_fine : (verdict : Verdict) → old.task ≡ tasks.Step verdict → IsToldOf verdict r
-  step_is_fine verdict at = subst (λ t. IsFineTask r.command.order t)
-      (sym (ap (begun_task old.controller.settings.units old.buffers.items old.volumes) begun_is)
-      ∙ sym (step (subst (λ t. IsOfBlock t) (sym at) tt)) ∙ at)
-      (known_fine u (place_in old.controller.settings.units u.command.unit) _ old.volumes)
+  step_is_fine verdict at = grind (arith, begun_is, known_fine)
 
   moved_is_fine : IsToldOf (block_served old outcome (block_begun old)) r
   moved_is_fine = subst (λ o. IsToldOf (block_served old outcome

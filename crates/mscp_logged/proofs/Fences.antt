@@ -1,6 +1,6 @@
 -- Where a message keeps a later one back, no step serves the later one's command before that of the first ended; and a
 -- message that is answered at once waits for none, or ends with a status that may come at once.
-use Rattle.mscp_logged.proofs.Common.{AllByRecursion, Block, Bool, IsCodeFor, IsOf, IsText, IsUnitIn, List, MoveKind, None, Option, Order, Record, Says, Sent, Settings, Some, Volume, [], and_parts, ap, arith, asks_next, command_of, cond, ends_formality, eq-eqb, eqb-true, false, false≢true, fault_of, fences, filter, first_of_one, formal_status, handed, has_number, inl, inr, is_apart, is_formality, is_immediate, is_none, is_numbered, is_queued, list_all, list_any, move_byte, nat_eq, not, num, number_of, or_right, other_one, own_end, own_end_with, queued_open, refl, refused_apart, slice_index, some_none, status_after, status_told, subst, sym, this_one, true, unit_state, valid_order, ℕ, ◌%◌, ◌++◌, ◌+◌, ◌==◌, ◌||◌, ◌∙◌, ◌∷◌, ◌≡◌, ◌≢◌, ◌⊎◌}
+use Rattle.mscp_logged.proofs.Common.{AllByRecursion, Block, Bool, IsCodeFor, IsOf, IsText, IsUnitIn, List, None, Option, Order, Record, Says, Sent, Settings, Some, Volume, [], and_parts, ap, arith, asks_next, command_of, cond, ends_formality, eq-eqb, eqb-true, false, false≢true, fault_of, fences, filter, formal_status, handed, has_number, inl, inr, is_apart, is_formality, is_immediate, is_numbered, is_queued, list_all, list_any, nat_eq, not, num, or_right, other_one, own_end, own_end_with, queued_open, refl, refused_apart, slice_index, some_none, status_after, status_told, subst, sym, this_one, true, unit_state, valid_order, ℕ, ◌%◌, ◌++◌, ◌==◌, ◌||◌, ◌∙◌, ◌∷◌, ◌≡◌, ◌≢◌, ◌⊎◌}
 use Rattle.std.proofs.Common.{◌&&◌}
 use Rattle.mscp_packet.specs.declared.command.Order.TheVariants as orders
 use Rattle.mscp_drive.specs.declared.block.Block.TheVariants as blocks
@@ -15,18 +15,13 @@ use Rattle.mscp_logged.proofs.Suited.{formal_opcode}
 
 -- ---- orders and opcodes
 
-moves_free : (kind : MoveKind) → wire.is_sequential (move_byte kind) ≡ false
-moves_free kind = grind arith
-
 says_sequential : (o : Order) (s : Sent) → Says o s → ((byte why : ℕ) → o ≢ orders.Invalid byte why)
     → wire.is_sequential s.opcode ≡ true → queue.is_sequential o ≡ true
 says_sequential (orders.Abort other) s says valid e = absurd (false≢true (sym (ap wire.is_sequential says.0) ∙ e))
 says_sequential (orders.Status other) s says valid e = absurd (false≢true (sym (ap wire.is_sequential says.0) ∙ e))
 says_sequential orders.UnitStatus s says valid e = absurd (false≢true (sym (ap wire.is_sequential says) ∙ e))
-says_sequential (orders.SetController version) s says valid e =
-    absurd (false≢true (sym (ap wire.is_sequential says) ∙ e))
-says_sequential (orders.Move kind count block) s says valid e =
-    absurd (false≢true (sym (ap wire.is_sequential says.0 ∙ moves_free kind) ∙ e))
+says_sequential (orders.SetController version) s says valid e = grind arith
+says_sequential (orders.Move kind count block) s says valid e = grind arith
 says_sequential (orders.Invalid byte why) s says valid e = absurd (valid byte why refl)
 says_sequential order s says valid e = refl
 
@@ -69,8 +64,7 @@ none_keeps b seq ord y z p q = grind arith
 -- a message that is no transfer's, nor a sequential command's, waits for none
 pub unplaced : (t : List ℕ) → wire.is_sequential (slice_index t 8) ≡ false → wire.is_ordered (slice_index t 8) ≡ false
     → (u : List ℕ) → keeps t u ≡ false
-unplaced t p q u = none_back (nat_eq (num u 4 2) (num t 4 2)) (wire.is_sequential (slice_index u 8))
-    (wire.is_ordered (slice_index u 8)) (wire.is_sequential (slice_index t 8)) (wire.is_ordered (slice_index t 8)) p q
+unplaced t p q u = grind (arith, none_back)
 
 asks_third : (t : List ℕ) → asks_next t ≡ true → slice_index t 8 ≡ 3
 asks_third t e = eqb-true (slice_index t 8) 3 (and_parts (slice_index t 8 == 3) (num t 10 2 % 2 == 1) e).0
@@ -81,15 +75,11 @@ same_unit t u e = eqb-true (num u 4 2) (num t 4 2) (and_parts (nat_eq (num u 4 2
 
 pub unit_later : (unit : ℕ) (t u : List ℕ) → keeps t u ≡ true → IsUnitIn unit t → unit ≡ num t 4 2
 unit_later unit t u e (inl same) = same.0
-unit_later unit t u e (inr next) = absurd (false≢true (sym (unplaced t (ap wire.is_sequential (asks_third t next))
-    (ap wire.is_ordered (asks_third t next)) u) ∙ e))
+unit_later unit t u e (inr next) = grind (arith, unplaced, asks_third)
 
 pub unit_earlier : (unit : ℕ) (t u : List ℕ) → keeps t u ≡ true → IsUnitIn unit u → unit ≡ num u 4 2
 unit_earlier unit t u e (inl same) = same.0
-unit_earlier unit t u e (inr next) = absurd (false≢true (sym (none_keeps (nat_eq (num u 4 2) (num t 4 2))
-    (wire.is_sequential (slice_index u 8)) (wire.is_ordered (slice_index u 8)) (wire.is_sequential (slice_index t 8))
-    (wire.is_ordered (slice_index t 8)) (ap wire.is_sequential (asks_third u next))
-    (ap wire.is_ordered (asks_third u next))) ∙ e))
+unit_earlier unit t u e (inr next) = grind (arith, none_keeps, asks_third)
 
 -- the command of this message waits
 pub record IsWaiting (rs : List Record) (t : List ℕ) : Type 0 where
@@ -123,13 +113,7 @@ kept_fences r z t u unit of other_unit other e =
 all_sole : {X : Type 0} (g f : X → Bool) (xs : List X) (x : X) → list_all g xs ≡ true → filter f xs ≡ x ∷ []
     → g x ≡ true
 all_sole g f [] x all sole = absurd (some_none x [] (sym sole))
-all_sole g f (y ∷ ys) x all sole = by (f y) sole (and_parts (g y) (list_all g ys) all)
-    (λ h k. all_sole g f ys x h k)
-  where
-    by : (b : Bool) → cond b (y ∷ filter f ys) (filter f ys) ≡ x ∷ [] → (g y ≡ true) × (list_all g ys ≡ true)
-        → (list_all g ys ≡ true → filter f ys ≡ x ∷ [] → g x ≡ true) → g x ≡ true
-    by true h p rest = subst (λ z. g z ≡ true) (first_of_one y x (filter f ys) h).0 p.0
-    by false h p rest = rest p.1 h
+all_sole g f (y ∷ ys) x all sole = grind (arith, all_sole g f ys x)
 
 module _ (rs xs : List Record) (r0 : Record) (ys : List Record) (whole : rs ≡ xs ++ r0 ∷ ys) (n : ℕ)
     (mine : is_numbered n r0 ≡ true) (free : list_all (λ z. not (fences r0 z)) xs ≡ true) where
@@ -147,8 +131,7 @@ module _ (rs xs : List Record) (r0 : Record) (ys : List Record) (whole : rs ≡ 
 
       apart : (b : Bool) → is_numbered a r0 ≡ b → b ≡ false
       apart false e = refl
-      apart true e = absurd (false≢true (sym other
-          ∙ eq-eqb (num u 0 4) n (sym (number_of a r0 e).1 ∙ (number_of n r0 mine).1)))
+      apart true e = grind arith
 
       in_front : filter (is_numbered a) xs ≡ earlier.own ∷ []
       in_front = elim (other_one (is_numbered a) xs ys r0 earlier.own
@@ -189,8 +172,7 @@ module _ (rs xs : List Record) (r0 : Record) (ys : List Record) (whole : rs ≡ 
 is_not : (status n : ℕ) → is_apart (n % 32) ≡ false → is_apart (status % 32) ≡ true → (b : Bool)
     → nat_eq status n ≡ b → b ≡ false
 is_not status n apart is false e = refl
-is_not status n apart is true e =
-    absurd (false≢true (sym apart ∙ ap (λ x. is_apart (x % 32)) (sym (eqb-true status n e)) ∙ is))
+is_not status n apart is true e = grind arith
 
 pick : (a b x y : Bool) (u v n : ℕ) → x ≡ false → y ≡ false → cond (a && x) u (cond (b && y) v n) ≡ n
 pick a b true y u v n p q = absurd (false≢true (sym p))
@@ -212,25 +194,13 @@ after_apart block code status v is = pick (code == 0x83) (code == 0x89) (status 
 -- one that was aborted is told so
 pub aborted_apart : (code : ℕ) (v : Volume)
     → is_apart (status_told (verdicts.Served blocks.Good) code 2 v % 32) ≡ true
-aborted_apart code v = by (ends_formality code)
-  where
-    by : (b : Bool)
-        → is_apart (cond b (formal_status 2) (status_after (verdicts.Served blocks.Good) code 2 v) % 32) ≡ true
-    by true = refl
-    by false = ap (λ n. is_apart (n % 32)) (after_apart blocks.Good code 2 v refl)
+aborted_apart code v = grind arith
 
 -- the code of a message that is no formality is that of none
 pub plain_code : (code : ℕ) (t : List ℕ) → is_formality (slice_index t 8) ≡ false → IsCodeFor code t
     → ends_formality code ≡ false
 plain_code code t plain (inl e) = ap ends_formality e.0
-plain_code code t plain (inr e) = ap ends_formality e ∙ by (ends_formality (slice_index t 8 + 0x80)) refl
-  where
-    formal : (n : ℕ) → ends_formality (n + 0x80) ≡ true → is_formality n ≡ true
-    formal n e = grind (arith, e)
-
-    by : (b : Bool) → ends_formality (slice_index t 8 + 0x80) ≡ b → b ≡ false
-    by false h = refl
-    by true h = absurd (false≢true (sym plain ∙ formal (slice_index t 8) h))
+plain_code code t plain (inr e) = grind arith
 
 apart_of : (status : ℕ) → (status % 32 ≡ 1) ⊎ (status % 32 ≡ 3) → is_apart (status % 32) ≡ true
 apart_of status (inl e) = ap is_apart e
@@ -252,21 +222,13 @@ reply_clear c online figure t message plain quick code formal v =
 
     at_once : fault_of c (command_of (handed c.units t)) ≡ None
         → is_immediate (command_of (handed c.units t)).order ≡ true
-    at_once none = now (is_immediate (command_of (handed c.units t)).order) refl quick
-      where
-        now : (b : Bool) → is_immediate (command_of (handed c.units t)).order ≡ b
-            → cond b false (is_none (fault_of c (command_of (handed c.units t)))) ≡ false
-            → is_immediate (command_of (handed c.units t)).order ≡ true
-        now true is h = is
-        now false is h = absurd (false≢true (sym h ∙ ap (λ x. is_none x) none))
+    at_once none = grind arith
 
     by : (f : Option ℕ) → fault_of c (command_of (handed c.units t)) ≡ f
         → (is_apart (status_told (verdicts.Served blocks.Good) code
         (own_end_with c online figure (command_of (handed c.units t)) f).status v % 32) ≡ true)
         ⊎ ((u : List ℕ) → keeps t u ≡ false)
-    by None is =
-        let free = says_immediate (command_of (handed c.units t)).order (of_unit t 0) says (at_once is) in
-        inr (unplaced t free.0 free.1)
+    by None is = grind (arith, says_immediate, says, at_once, unplaced)
     by (Some status) is =
         let apart = apart_of status (refused_apart c (command_of (handed c.units t)).unit status
         (command_of (handed c.units t)).order (of_unit t 0) says is) in

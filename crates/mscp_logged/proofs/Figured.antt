@@ -5,10 +5,10 @@ use Rattle.mscp_port.specs.declared.port.OutgoingKind.TheVariants as kinds
 use Rattle.mscp_wire.specs.declared.moment.Moment.TheVariants as moments
 use Rattle.mscp_logged.proofs.Figuring.{coming, ending_lowers, lowers_by, not_poll, plain_figured, poll_figured, quiet_lowers, same_figured}
 use Rattle.mscp_logged.proofs.Figures.{Figured, apart_from, begun_of, end_figured, figured_as, four_is, goes_on, message_comes, no_step, out_of, takes_poll}
-use Rattle.mscp_logged.proofs.Logging.{small_of, taken_disk}
+use Rattle.mscp_logged.proofs.Logging.{small_of}
 use Rattle.mscp_logged.proofs.Own.{IsOwn, answers_so, of_disk, own_named}
 use Rattle.mscp_logged.proofs.Polled.{AreFigured, IsFigured, Lowers, figure_of}
-use Rattle.mscp_logged.proofs.Seen.{begun_none, is_reset, no_message, reads_before, since_dead, since_reset}
+use Rattle.mscp_logged.proofs.Seen.{is_reset, no_message, reads_before, since_reset}
 use Rattle.mscp_logged.proofs.Stated.{Stated, as_it_is, takes, each_at, each_front, new_none, right_new}
 use Rattle.mscp_logged.proofs.Wired.{named, outstanding_more}
 
@@ -28,8 +28,7 @@ module _ {K : Type 0} (Tie : List ℕ → List ℕ → Type 0) (G O : Type 0) (c
 
   nothing_known : (p : Port K) (calls : List Call) → AsksAlways calls → (a : Answered picks start calls p)
       → logged picks start p calls a ≡ [] → Known p calls a
-  nothing_known p calls asks a none = figured_as [] (logged picks start p calls a) (coming p) (coming p) (figure_on p)
-      (IsServedSince picks start p calls a) none refl (record { each = λ i low. search (arith, low); now = tt })
+  nothing_known p calls asks a none = grind arith
 
   served_or : (p : Port K) (call : Call) (calls : List Call) (a : Answered picks start (call ∷ calls) p) (n : ℕ)
       → call ≢ WriteIp → IsServedSince picks start p (call ∷ calls) a n
@@ -87,13 +86,11 @@ module _ {K : Type 0} (Tie : List ℕ → List ℕ → Type 0) (G O : Type 0) (c
         )
 
     log_is : (ms : History) → messages_by call a.0 ≡ ms → logged picks start p (call ∷ calls) a ≡ (h ++ ms) ++ gone
-    log_is ms e = since_alive p.stage call h (seen_by call a.0 p) never lives ∙ ap (λ x. h ++ (x ++ gone)) e
-        ∙ sym (append_assoc h ms gone)
+    log_is ms e = grind (arith, since_alive, append_assoc)
 
     awaited_is : (us vs : List (List ℕ)) → ends_said_by call a.0 p ≡ us → taken_by call a.0 ≡ vs
         → aw' ≡ without_ends us aw ++ vs
-    awaited_is us vs e g = since_alive p.stage call _ _ never lives
-        ∙ ap (λ x. without_ends x aw ++ taken_by call a.0) e ∙ ap (λ y. without_ends us aw ++ y) g
+    awaited_is us vs e g = grind arith
 
     is_new_now : (t : List ℕ) → messages_by call a.0 ≡ message_of t ∷ [] → is_new xs (sent_by First t) ≡ true
     is_new_now t e = right_new limit h t (each_at (λ x m. is_message m ≡ true → IsRight limit x m) moments.Reset h
@@ -111,11 +108,7 @@ module _ {K : Type 0} (Tie : List ℕ → List ℕ → Type 0) (G O : Type 0) (c
         to_log : (x y : Option Outgoing) → a.0.outgoing ≡ x → p.outgoing ≡ y
             → Figured ((h ++ ms) ++ flat_map ends_in (leaves x y)) (out_of y ++ pending_held p) (figure_on p) S'
             → Known p (call ∷ calls) a
-        to_log x y was_out is_out g = figured_as ((h ++ ms) ++ flat_map ends_in (leaves x y))
-            (logged picks start p (call ∷ calls) a) (out_of y ++ pending_held p) (coming p) (figure_on p) S'
-            (log_is ms e ∙ ap (λ z. (h ++ ms) ++ flat_map ends_in (leaves z p.outgoing)) was_out
-            ∙ ap (λ z. (h ++ ms) ++ flat_map ends_in (leaves x z)) is_out)
-            (ap (λ z. out_of z ++ pending_held p) is_out) g
+        to_log x y was_out is_out g = grind (arith, figured_as, log_is)
 
         leaving : (o : Outgoing) (k : OutgoingKind) → o.kind ≡ k
             → Stated Tie G O (h ++ ms) ts (map said_in (option_to_list (Some o)))
@@ -123,20 +116,14 @@ module _ {K : Type 0} (Tie : List ℕ → List ℕ → Type 0) (G O : Type 0) (c
             → Figured ((h ++ ms) ++ (map end_of (end_said k o.bytes.items) ++ [])) (pending_held p) (figure_on p) S'
         leaving o kinds.End is s1 g = end_figured Tie code_of (h ++ ms) ts (figure_on p) S' (pending_held p) (said_in o)
             is s1.wired g
-        leaving o kind is s1 g = figured_as (h ++ ms) ((h ++ ms) ++ []) (pending_held p) (pending_held p) (figure_on p)
-            S' (append-nil (h ++ ms)) refl g
+        leaving o kind is s1 g = grind (arith, figured_as, append-nil)
 
         by : (x y : Option Outgoing) → a.0.outgoing ≡ x → p.outgoing ≡ y
             → begun_of a.0.outgoing p.outgoing ++ pending_held p ≡ pending_held a.0 ++ passing.more
             → begins a.0.outgoing p.outgoing ≡ [] → Stated Tie G O (h ++ ms) ts (held a.0) → Mid ms
             → Known p (call ∷ calls) a
-        by None None was_out is_out b none s1 mid = to_log None None was_out is_out
-            (figured_as (h ++ ms) ((h ++ ms) ++ []) (coming a.0 ++ passing.more) (pending_held p) (figure_on p) S'
-            (append-nil (h ++ ms))
-            (ap (λ os. flat_map pending_in (map said_in os) ++ pending_held p) (sym none) ∙ b
-            ∙ ap (λ z. (out_of z ++ pending_held a.0) ++ passing.more) (sym was_out)) mid)
-        by None (Some x) was_out is_out b none s1 mid =
-            absurd (begun_none a.0.outgoing p.outgoing x was_out is_out none)
+        by None None was_out is_out b none s1 mid = grind (arith, to_log, figured_as, passing, append-nil)
+        by None (Some x) was_out is_out b none s1 mid = grind arith
         by (Some o) (Some x) was_out is_out b none s1 mid = to_log (Some o) (Some x) was_out is_out
             (figured_as (h ++ ms) ((h ++ ms) ++ []) (coming a.0 ++ passing.more) (out_of (Some x) ++ pending_held p)
             (figure_on p) S' (append-nil (h ++ ms))
@@ -144,24 +131,12 @@ module _ {K : Type 0} (Tie : List ℕ → List ℕ → Type 0) (G O : Type 0) (c
             (same_held run tell p call calls asks a never lives o x was_out is_out)
             (ap (λ os. flat_map pending_in (map said_in os) ++ pending_held p) (sym none) ∙ b)
             ∙ ap (λ z. (out_of z ++ pending_held a.0) ++ passing.more) (sym was_out)) mid)
-        by (Some o) None was_out is_out b none s1 mid = to_log (Some o) None was_out is_out
-            (leaving o o.kind refl
-            (subst (λ z. Stated Tie G O (h ++ ms) ts (map said_in (option_to_list z))) was_out s1)
-            (figured_as (h ++ ms) (h ++ ms) (coming a.0 ++ passing.more) (out_of (Some o) ++ pending_held p)
-            (figure_on p) S' refl (ap (λ k. out_of (Some o) ++ k)
-            (ap (λ os. flat_map pending_in (map said_in os) ++ pending_held p) (sym none) ∙ b)
-            ∙ sym (append_assoc (out_of (Some o)) (pending_held a.0) passing.more)
-            ∙ ap (λ z. (out_of z ++ pending_held a.0) ++ passing.more) (sym was_out)) mid))
+        by (Some o) None was_out is_out b none s1 mid =
+            grind (arith, to_log, leaving, figured_as, passing, append_assoc)
 
     begun : (ms : History) (o : Outgoing) → messages_by call a.0 ≡ ms → a.0.outgoing ≡ None → p.outgoing ≡ Some o
         → Mid ms → Known p (call ∷ calls) a
-    begun ms o e nothing some mid = figured_as (h ++ ms) (logged picks start p (call ∷ calls) a)
-        (coming a.0 ++ passing.more) (coming p) (figure_on p) S'
-        (log_is ms e ∙ ap (λ z. (h ++ ms) ++ flat_map ends_in (leaves z p.outgoing)) nothing ∙ append-nil (h ++ ms))
-        (ap (λ z. out_of z ++ pending_held p) some
-        ∙ ap (λ os. flat_map pending_in (map said_in os) ++ pending_held p)
-        (sym (begun_one a.0.outgoing p.outgoing o nothing some)) ∙ passing.behind
-        ∙ ap (λ z. (out_of z ++ pending_held a.0) ++ passing.more) (sym nothing)) mid
+    begun ms o e nothing some mid = grind (arith, figured_as, passing, log_is, append-nil, begun_one)
 
     -- ---- what it deals with
 
@@ -185,8 +160,7 @@ module _ {K : Type 0} (Tie : List ℕ → List ℕ → Type 0) (G O : Type 0) (c
 
     begun_is : (o : Outgoing) → a.0.outgoing ≡ None → p.outgoing ≡ Some o → (k : OutgoingKind) → o.kind ≡ k
         → begun_of a.0.outgoing p.outgoing ≡ pending_said k o.bytes.items ++ []
-    begun_is o nothing some k kind = ap (λ os. flat_map pending_in (map said_in os))
-        (begun_one a.0.outgoing p.outgoing o nothing some) ∙ ap (λ x. pending_said x o.bytes.items ++ []) kind
+    begun_is o nothing some k kind = grind arith
 
     come_in : (t : List ℕ) → AllByRecursion (IsFigured (xs ++ asking (timeout h) xs (timed None (sent_by First t)) ∷ [])
         (coming a.0 ++ passing.more) (figure_on p) S')
@@ -202,8 +176,7 @@ module _ {K : Type 0} (Tie : List ℕ → List ℕ → Type 0) (G O : Type 0) (c
         (timeout h) q.message fresh low polls))
       where
         shown : messages_by call a.0 ≡ message_of q.message ∷ []
-        shown = ap (λ b. cond b [] (map message_of (accepted_by call a.0))) (taken_disk call a.0 q.message q.taken)
-            ∙ ap (map message_of) q.accepted
+        shown = grind arith
 
         fresh : filter (named (num q.message 0 4)) xs ≡ []
         fresh = new_none xs q.message (is_new_now q.message shown)
@@ -304,8 +277,7 @@ module _ {K : Type 0} (Tie : List ℕ → List ℕ → Type 0) (G O : Type 0) (c
             → ServesBetweenPolls picks start p (call ∷ calls) a
             → (HostIsRight limit (logged picks start a.0 calls a.1) → ServesBetweenPolls picks start a.0 calls a.1
             → Known a.0 calls a.1) → call ≢ WriteIp → (b : Bool) → is_dead p.stage ≡ b → Known p (call ∷ calls) a
-        by call a asks reads fine host serves so_far never true dead =
-            nothing_known p (call ∷ calls) asks a (since_dead p.stage call _ _ dead)
+        by call a asks reads fine host serves so_far never true dead = grind arith
         by call a asks reads fine host serves so_far never false lives =
             let d = ends c before controller hardware credits start p call calls valid was quiet made reads a never
             lives in

@@ -11,7 +11,7 @@ use Rattle.mscp_logged.proofs.Away.{IsPlaced}
 use Rattle.mscp_logged.proofs.Stating.{aborted_placed, reply_placed}
 use Rattle.mscp_logged.proofs.Speaking.{Each, Speaks}
 use Rattle.mscp_logged.proofs.Stepped.{IsDecided, decided_so}
-use Rattle.mscp_logged.proofs.Texts.{text_with, texts_more, texts_of, waiting}
+use Rattle.mscp_logged.proofs.Texts.{text_with, texts_more, texts_of}
 
 module _ {K : Type 0} (bytes : List ℕ) (done : Unit) (old new : Port K) (aw : List (List ℕ)) (k : Kept old aw)
     (r : Hears bytes old (Ok done) new) (small : (i : ℕ) → slice_index bytes i < 2 ^ 8)
@@ -29,16 +29,7 @@ module _ {K : Type 0} (bytes : List ℕ) (done : Unit) (old new : Port K) (aw : 
   now = r.settings ∙ settings
 
   none_so : ends_of new.controller ≡ ends_of old.controller → new.decided.items ≡ old.decided.items → So
-  none_so ends decided = (
-    [],
-    record {
-      behind = ap (λ es. texts_of hw c.units es new.decided.items) ends
-          ∙ ap (texts_of hw c.units (ends_of old.controller)) decided ∙ sym (append-nil (waiting hw c.units old));
-      told = λ u. found_as c.units u old.volumes new.volumes (volumes_still old new volumes);
-      placed = λ f u. found_as c.units u old.volumes new.volumes (volumes_still old new volumes);
-    },
-    λ none. refl,
-  )
+  none_so ends decided = grind (arith, append-nil, found_as, volumes_still, volumes)
 
   -- the controller took it, and answers it at once
   module _ (g : Gets bytes done old new) (a : Answers g.slot bytes old new) where
@@ -87,9 +78,7 @@ module _ {K : Type 0} (bytes : List ℕ) (done : Unit) (old new : Port K) (aw : 
 
     own_decided : IsDecided h.settings.units (verdicts.Served blocks.Good) (W command.unit) (W command.unit) own
         (answer_by old new own)
-    own_decided = subst (λ n. IsDecided h.settings.units (verdicts.Served blocks.Good) (W n) (W n) own
-        (answer_by old new own)) unit_is (subst (λ s. IsDecided s.units (verdicts.Served blocks.Good) (W own.unit)
-        (W own.unit) own (answer_by old new own)) (sym settings) (decided own))
+    own_decided = grind (arith, unit_is, decided)
 
     few_unit : command.unit < 2 ^ 16
     few_unit = handed_small old.controller.settings.units bytes g.long small

@@ -1,9 +1,7 @@
 -- What is known of a port's log, over a whole list of calls.
-use Rattle.mscp_logged.proofs.Common.{AllByRecursion, Answered, AsksAlways, Bool, Call, Deals, First, History, HostIsRight, IsAnswering, IsEnding, IsRight, IsTaking, List, None, Ok, Option, Outgoing, Picking, Port, PortsEndWhatTheyTook, PortsTellInOrder, ReadsBytes, Said, Some, Task, WasRead, WriteIp, [], aborts_behind, accepted_by, answer_to_message, ap, append-nil, append_assoc, arith, asked_before, awaited, begins, cond, end_kind, ends_in, ends_said_by, false, filter, flat_map, has_number, held, inl, inr, is_dead, is_foreign, is_message, is_new, is_none, is_ok, is_taken_text, leaves, logged, map, message_of, messages_by, not, num, option_to_list, outstanding, own_answer, refl, said, said_in, seen_by, sent_by, since_alive, slice_index, subst, sym, taken_by, text_handed, true, volume_named, without_ends, ℕ, ◌%◌, ◌++◌, ◌<◌, ◌^◌, ◌∙◌, ◌∷◌, ◌≡◌, ◌≢◌}
+use Rattle.mscp_logged.proofs.Common.{AllByRecursion, Answered, AsksAlways, Bool, Call, Deals, First, History, HostIsRight, IsAnswering, IsEnding, IsRight, IsTaking, List, None, Ok, Option, Outgoing, Picking, Port, PortsEndWhatTheyTook, PortsTellInOrder, ReadsBytes, Said, Some, WasRead, WriteIp, [], aborts_behind, accepted_by, ap, append-nil, append_assoc, arith, asked_before, awaited, begins, cond, end_kind, ends_in, ends_said_by, false, filter, flat_map, has_number, held, inl, inr, is_dead, is_foreign, is_message, is_new, leaves, logged, map, message_of, messages_by, not, num, outstanding, refl, said, said_in, seen_by, sent_by, since_alive, slice_index, subst, sym, taken_by, true, without_ends, ℕ, ◌%◌, ◌++◌, ◌<◌, ◌^◌, ◌∙◌, ◌∷◌, ◌≡◌, ◌≢◌}
 use Rattle.mscp_logged.proofs.Begun.{Begun, nothing_held, same_held}
-use Rattle.std.proofs.Common.{◌&&◌}
 use Rattle.mscp_port.specs.declared.port.OutgoingKind.TheVariants as kinds
-use Rattle.mscp_port.specs.declared.task.Task.TheVariants as tasks
 use Rattle.mscp_wire.specs.declared.moment.Moment.TheVariants as moments
 use Rattle.mscp_logged.proofs.Own.{IsOwn, answers_so, own_named}
 use Rattle.mscp_logged.proofs.Passes.{keeps, overtakes}
@@ -15,21 +13,7 @@ use Rattle.mscp_logged.proofs.Wired.{nothing_wired}
 -- a message that the controller takes is for the disks
 pub taken_disk : {K : Type 0} (call : Call) (old : Port K) (t : List ℕ) → taken_by call old ≡ t ∷ []
     → is_foreign old.task ≡ false
-taken_disk (WasRead bytes (Ok done)) old t e = by old.task refl
-  where
-    here : (task : Task) → old.task ≡ task
-        → cond (is_taken_text old bytes task) (bytes ∷ []) [] ≡ t ∷ []
-    here task at = ap (λ x. cond (is_taken_text old bytes x) (bytes ∷ []) []) (sym at) ∙ e
-
-    text : (foreign : Bool) → cond (is_none (own_answer foreign (volume_named old bytes) bytes)
-        && is_ok (answer_to_message First old.controller (text_handed old.controller.settings.units bytes)))
-        (bytes ∷ []) [] ≡ t ∷ [] → foreign ≡ false
-    text true h = absurd (search (arith, h))
-    text false h = refl
-
-    by : (task : Task) → old.task ≡ task → is_foreign old.task ≡ false
-    by (tasks.Text slot size foreign) at = ap is_foreign at ∙ text foreign (here (tasks.Text slot size foreign) at)
-    by task at = ap is_foreign at
+taken_disk (WasRead bytes (Ok done)) old t e = grind arith
 taken_disk call old t e = absurd (search (arith, e))
 
 pub small_of : (call : Call) (calls : List Call) (t : List ℕ) (done : Unit) → ReadsBytes (call ∷ calls)
@@ -69,10 +53,7 @@ module _ {K : Type 0} (Tie : List ℕ → List ℕ → Type 0) (G O : Type 0) {p
   forgotten : (p : Port K) (calls : List Call) → AsksAlways calls → (a : Answered picks start calls p)
       → said picks start p calls a ≡ [] → logged picks start p calls a ≡ [] → awaited picks start p calls a ≡ []
       → State p calls a
-  forgotten p calls asks a none no_moment no_text =
-      as_it_is Tie G O [] [] (logged picks start p calls a) (awaited picks start p calls a) [] (held p) no_moment
-      no_text
-      (nothing_held run tell p calls asks a none) (nothing_stated Tie G O (nothing_wired Tie [] [] refl refl))
+  forgotten p calls asks a none no_moment no_text = grind (arith, as_it_is, nothing_held, nothing_stated, nothing_wired)
 
   module _ (p : Port K) (call : Call) (calls : List Call) (asks : AsksAlways (call ∷ calls))
       (reads : ReadsBytes (call ∷ calls)) (fine : Fine (call ∷ calls)) (a : Answered picks start (call ∷ calls) p)
@@ -89,13 +70,11 @@ module _ {K : Type 0} (Tie : List ℕ → List ℕ → Type 0) (G O : Type 0) {p
     gone = flat_map ends_in (leaves a.0.outgoing p.outgoing)
 
     log_is : (ms : History) → messages_by call a.0 ≡ ms → logged picks start p (call ∷ calls) a ≡ (h ++ ms) ++ gone
-    log_is ms e = since_alive p.stage call h (seen_by call a.0 p) never lives ∙ ap (λ x. h ++ (x ++ gone)) e
-        ∙ sym (append_assoc h ms gone)
+    log_is ms e = grind (arith, since_alive, append_assoc)
 
     awaited_is : (xs ys : List (List ℕ)) → ends_said_by call a.0 p ≡ xs → taken_by call a.0 ≡ ys
         → awaited picks start p (call ∷ calls) a ≡ without_ends xs aw ++ ys
-    awaited_is xs ys e f = since_alive p.stage call _ _ never lives
-        ∙ ap (λ x. without_ends x aw ++ taken_by call a.0) e ∙ ap (λ y. without_ends xs aw ++ y) f
+    awaited_is xs ys e f = grind arith
 
     -- the message that comes is new
     is_new_now : (t : List ℕ) → messages_by call a.0 ≡ message_of t ∷ []
@@ -116,17 +95,13 @@ module _ {K : Type 0} (Tie : List ℕ → List ℕ → Type 0) (G O : Type 0) {p
     begun : (ms : History) (xs : List (List ℕ)) (o : Outgoing) → messages_by call a.0 ≡ ms → a.0.outgoing ≡ None
         → p.outgoing ≡ Some o → awaited picks start p (call ∷ calls) a ≡ xs
         → Stated Tie G O (h ++ ms) xs (said_in o ∷ []) → State p (call ∷ calls) a
-    begun ms xs o e nothing some f x = as_it_is Tie G O (h ++ ms) xs (logged picks start p (call ∷ calls) a)
-        (awaited picks start p (call ∷ calls) a) (said_in o ∷ []) (held p)
-        (log_is ms e ∙ ap (λ z. (h ++ ms) ++ flat_map ends_in (leaves z p.outgoing)) nothing ∙ append-nil (h ++ ms)) f
-        (ap (λ z. map said_in (option_to_list z)) some) x
+    begun ms xs o e nothing some f x = grind (arith, as_it_is, log_is, append-nil)
 
     with_none : (xs : List (List ℕ)) (us : List Said) → Stated Tie G O h xs us → Stated Tie G O (h ++ []) xs us
     with_none xs us x = as_it_is Tie G O h xs (h ++ []) xs us us (append-nil h) refl refl x
 
     none_out : a.0.outgoing ≡ None → Stated Tie G O h aw []
-    none_out nothing = as_it_is Tie G O h aw h aw (held a.0) [] refl refl
-        (sym (ap (λ z. map said_in (option_to_list z)) nothing)) s
+    none_out nothing = grind arith
 
     none_by : accepted_by call a.0 ≡ [] → messages_by call a.0 ≡ []
     none_by e = no_message call a.0 (accepted_by call a.0) e

@@ -1,5 +1,5 @@
 -- Each end of a port's log is as long as its endcode asks.
-use Rattle.mscp_logged.proofs.Common.{All-from_recursion, AllByRecursion, Answered, AsksAlways, BodyKind, Bool, Call, Deals, IsWhole, Keeps, List, Moment, None, Option, Outgoing, OutgoingKind, Picking, Port, PortsEndWhatTheyTook, PortsTellInOrder, ReadsBytes, Said, Seen, Sent, Some, WriteIp, [], accepted_by, and_from, arith, asked_before, awaited, begins, begun_one, cond, end_length, end_of, end_said, endcodes, ends_in, eqb-true, every_append, every_parts, false, find, flat_map, held, inl, inr, is_dead, is_foreign, is_long, kind_of_code, le-leb, least_length, leaves, length, list_all, logged, map, message_of, messages_by, moment_at, nat_eq, nat_le, none-some, option_map, option_to_list, outstanding, refl, said, said_in, same_Some, seen_by, since_alive, slice_index, subst, sym, true, ℕ, ◌++◌, ◌∙◌, ◌∷◌, ◌≡◌, ◌≢◌, ◌≤◌}
+use Rattle.mscp_logged.proofs.Common.{All-from_recursion, AllByRecursion, Answered, AsksAlways, BodyKind, Bool, Call, Deals, IsWhole, Keeps, List, Moment, None, Option, Outgoing, OutgoingKind, Picking, Port, PortsEndWhatTheyTook, PortsTellInOrder, ReadsBytes, Said, Seen, Sent, Some, WriteIp, [], arith, asked_before, awaited, begins, begun_one, cond, end_length, end_of, end_said, endcodes, ends_in, eqb-true, every_append, every_parts, false, find, flat_map, held, inl, inr, is_dead, is_long, kind_of_code, le-leb, least_length, leaves, length, list_all, logged, map, message_of, moment_at, nat_eq, nat_le, none-some, option_map, option_to_list, outstanding, refl, said, said_in, same_Some, since_alive, slice_index, subst, sym, true, ℕ, ◌++◌, ◌∷◌, ◌≡◌, ◌≢◌, ◌≤◌}
 use Rattle.mscp_logged.proofs.Begun.{Begun}
 use Rattle.std.specs.Prelude.{take}
 use Rattle.std.proofs.lemmas.Bool.{and_parts}
@@ -45,8 +45,7 @@ whole_long text whole = by (kind_of_code (slice_index text 8)) refl
     at_least n low = le-leb n (length text) low
 
     long : least_length (slice_index text 8) ≤ length text → is_long text ≡ true
-    long low = and_from (nat_le 12 (length text)) (nat_le (least_length (slice_index text 8)) (length text))
-        (at_least 12 whole.long) (at_least (least_length (slice_index text 8)) low)
+    long low = grind (arith, at_least)
 
     by : (o : Option BodyKind) → kind_of_code (slice_index text 8) ≡ o → is_long text ≡ true
     by None e = long (search (arith, whole.long, least_none (slice_index text 8) e))
@@ -72,16 +71,9 @@ module _ {K : Type 0} {picks : Picking K} (run : Begun picks) (ends : PortsEndWh
       → Deals (awaited picks start a.0 calls a.1) call a.0 p
       → AllByRecursion IsLong (map said_in (begins a.0.outgoing p.outgoing))
   begun_long p call calls a (inl q) = subst (λ os. AllByRecursion IsLong (map said_in os)) (sym q.begun) tt
-  begun_long p call calls a (inr (inl q)) =
-      subst (λ os. AllByRecursion IsLong (map said_in os))
-      (sym (begun_one a.0.outgoing p.outgoing q.out q.nothing q.begun))
-      ((λ kind. absurd (search (arith, sym q.kind ∙ kind))), tt)
-  begun_long p call calls a (inr (inr (inl q))) =
-      subst (λ os. AllByRecursion IsLong (map said_in os))
-      (sym (begun_one a.0.outgoing p.outgoing q.out q.nothing q.begun))
-      ((λ kind. whole_long q.out.bytes.items q.whole), tt)
-  begun_long p call calls a (inr (inr (inr (inl q)))) =
-      subst (λ os. AllByRecursion IsLong (map said_in os)) (sym q.begun) tt
+  begun_long p call calls a (inr (inl q)) = grind arith
+  begun_long p call calls a (inr (inr (inl q))) = grind (arith, begun_one, whole_long)
+  begun_long p call calls a (inr (inr (inr (inl q)))) = grind arith
   begun_long p call calls a (inr (inr (inr (inr q)))) =
       subst (λ os. AllByRecursion IsLong (map said_in os))
       (sym (begun_one a.0.outgoing p.outgoing q.out q.nothing q.begun)) (
@@ -147,13 +139,8 @@ module _ {K : Type 0} {picks : Picking K} (run : Begun picks) (ends : PortsEndWh
       by : AllByRecursion IsLongMoment (logged picks start a.0 calls a.1) → call ≢ WriteIp → (b : Bool)
           → is_dead p.stage ≡ b → AllByRecursion IsLongMoment (logged picks start p (call ∷ calls) a)
       by so_far never true dead = subst (λ h. AllByRecursion IsLongMoment h) (sym (since_dead p.stage call _ _ dead)) tt
-      by so_far never false lives = subst (λ h. AllByRecursion IsLongMoment h)
-          (sym (since_alive p.stage call _ _ never lives))
-          (every_append IsLongMoment (logged picks start a.0 calls a.1) (seen_by call a.0 p)
-          so_far (every_append IsLongMoment (messages_by call a.0) (flat_map ends_in (leaves a.0.outgoing p.outgoing))
-          (messages_long (is_foreign a.0.task) (accepted_by call a.0))
-          (left_long a.0.outgoing p.outgoing (held_long a.0 calls (asked_before call calls asks)
-          (reads_before call calls reads) a.1))))
+      by so_far never false lives =
+          grind (arith, since_alive, every_append, messages_long, left_long, held_long, asked_before, reads_before)
 
   -- ---- the law
 

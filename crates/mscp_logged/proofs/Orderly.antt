@@ -1,7 +1,6 @@
 -- No end of a port's passes a command that it has to wait for, over a whole list of calls.
-use Rattle.mscp_logged.proofs.Common.{Action, AllByRecursion, Answered, At, Bool, Call, Decided, End, Fitting, Holdings, IsNoReset, IsPassive, KeepsPromise, Kept, List, Made, Next, None, Ok, Option, Own, Picking, Port, ReadsBytes, Record, Settings, Shape, Some, TakesEnd, Verdict, Volume, Wants, WasRead, Went, WriteIp, [], ap, arith, awaited, begun_end, blocks, cond, drop, ends_begun, ends_of, ends_said_by, false, false≢true, few_ends, filter, find_cases, find_none, first_of_one, fitting, inl, inr, is_apart, is_numbered, is_some, kept, knows, moves_data, named, nat_eq, nat_le, nat_lt, none-some, num, option_map, own_answer, own_refusal, own_refused, own_text, passive_said, passive_stays, passive_taken, place_in, position, position_first, refl, said, same_Some, says_is, slice_get, some_none, subst, sym, told_end, true, unit_found, volume_at, volume_named, whole, ℕ, ◌%◌, ◌+◌, ◌∙◌, ◌∷◌, ◌≡◌, ◌⊎◌}
-use Rattle.std.proofs.Common.{◌&&◌}
-use Rattle.mscp_logged.proofs.Clear.{IsClear, Ordered, clear_forgotten, ordered_as, nothing_ordered, unended, unended_none}
+use Rattle.mscp_logged.proofs.Common.{Action, AllByRecursion, Answered, At, Bool, Call, Decided, End, Fitting, IsNoReset, IsPassive, KeepsPromise, Kept, List, Made, Next, None, Ok, Option, Own, Picking, Port, ReadsBytes, Record, Settings, Shape, Some, TakesEnd, Verdict, Volume, Wants, WasRead, Went, WriteIp, [], ap, arith, awaited, begun_end, blocks, drop, ends_begun, ends_of, ends_said_by, false, false≢true, few_ends, filter, find_cases, find_none, first_of_one, fitting, inl, inr, is_apart, is_numbered, is_some, kept, knows, named, none-some, num, option_map, own_answer, own_refusal, own_refused, own_text, passive_said, passive_stays, passive_taken, place_in, position_first, refl, said, same_Some, says_is, slice_get, some_none, subst, sym, told_end, true, unit_found, volume_named, whole, ℕ, ◌%◌, ◌∙◌, ◌∷◌, ◌≡◌, ◌⊎◌}
+use Rattle.mscp_logged.proofs.Clear.{IsClear, Ordered, clear_forgotten, unended, unended_none}
 use Rattle.mscp_logged.proofs.Fences.{IsWaiting, same_unit, unit_earlier}
 use Rattle.mscp_logged.proofs.Hearing.{read_ordered}
 use Rattle.mscp_logged.proofs.Ordering.{OrderedIn, all_waiting, next_ordered, stays, went_ordered}
@@ -38,23 +37,9 @@ module _ {c : Settings} {K : Type 0} (blocks : Bool) (action : Action) (bytes : 
 
   pub said_clear : (text : List ℕ) → ends_begun old.outgoing new.outgoing ≡ text ∷ []
       → (is_apart (d.status % 32) ≡ true) ⊎ (overtakes (num text 0 4) aw ≡ false)
-  said_clear text said = elim (says_is old new r.says) [
-    | inl x ↦ clear_of text x.0 said
-    | inr n ↦ absurd (none_said (sym n.begun ∙ said))
-  ]
-    where
-      none_said : [] ≡ text ∷ [] → ⊥
-      none_said e = search (arith, e)
+  said_clear text said = grind (arith, says_is, clear_of)
 
 -- ---- the port's own
-
-past_is : (a x y : Bool) (status : ℕ)
-    → cond a (cond x (Some 0x1C01) (cond y (Some 0x0C01) None)) None ≡ Some status
-    → (status ≡ 0x1C01) ⊎ (status ≡ 0x0C01)
-past_is true true y status e = inl (sym (same_Some 0x1C01 status e))
-past_is true false true status e = inr (sym (same_Some 0x0C01 status e))
-past_is true false false status e = absurd (none-some status e)
-past_is false x y status e = absurd (none-some status e)
 
 -- it is of a unit that isn't there, or is refused
 own_or : (v : Option Volume) (b : List ℕ) (own : Own) → own_answer false v b ≡ Some own
@@ -62,27 +47,14 @@ own_or : (v : Option Volume) (b : List ℕ) (own : Own) → own_answer false v b
 own_or None b own h = inl refl
 own_or (Some v) b own h = inr (by (own_refusal b (Some v)) refl h)
   where
-    refused : (status : ℕ) → (status ≡ 0x1C01) ⊎ (status ≡ 0x0C01)
-        → is_apart (num (own_text b (own_refused b status)) 10 2 % 32) ≡ true
-    refused status (inl e) =
-        subst (λ n. is_apart (num (own_text b (own_refused b n)) 10 2 % 32) ≡ true) (sym e) refl
-    refused status (inr e) =
-        subst (λ n. is_apart (num (own_text b (own_refused b n)) 10 2 % 32) ≡ true) (sym e) refl
-
     by : (o : Option ℕ) → own_refusal b (Some v) ≡ o → option_map (own_refused b) o ≡ Some own
         → is_apart (num (own_text b own) 10 2 % 32) ≡ true
     by None is e = absurd (none-some own e)
-    by (Some status) is e = subst (λ x. is_apart (num (own_text b x) 10 2 % 32) ≡ true)
-        (same_Some (own_refused b status) own e) (refused status (past_is (v.is_there && moves_data b)
-        (nat_le v.size (num b 28 4)) (nat_lt v.size (num b 28 4 + blocks (num b 12 4))) status is))
+    by (Some status) is e = grind arith
 
 -- a unit that has no place isn't there
 no_unit : (units : List Shape) (n : ℕ) → place_in units n ≡ None → unit_found units n ≡ None
-no_unit units n none = elim (find_cases (λ u. nat_eq u.number n) units) [
-  | inl all ↦ find_none (λ u. nat_eq u.number n) units all
-  | inr some ↦ absurd (none-some _ (sym none ∙ (ap (position (λ u. nat_eq u.number n)) some.3.is
-      ∙ position_first (λ u. nat_eq u.number n) some.0 some.1 some.2 some.3.before some.3.passed)))
-]
+no_unit units n none = grind (arith, find_cases, find_none, position_first)
 
 no_place : (f : ℕ → Volume) (o : Option ℕ) → option_map f o ≡ None → o ≡ None
 no_place f None e = refl
@@ -141,9 +113,7 @@ module _ {K : Type 0} {picks : Picking K} (run : Begun picks) (keeping : IsKeepi
       by : (call : Call) (a : Answered picks start (call ∷ calls) p) → ReadsBytes (call ∷ calls)
           → OrderedIn c a.0 (awaited picks start a.0 calls a.1)
           → OrderedIn c p (awaited picks start p (call ∷ calls) a)
-      by WriteIp a reads o = ordered_as c [] [] p.controller.waiting [] (ends_of p.controller) p.decided.items
-          p.decided.items (ap (λ (h : Holdings K). h.waiting) a.2.controller) (ap (λ h. ends_of h) a.2.controller) refl
-          (nothing_ordered c [] p.decided.items)
+      by WriteIp a reads o = grind arith
       by (Next blocks action bytes) a reads o =
           next_ordered blocks action bytes a.0 p (awaited picks start a.0 calls a.1) (numbers_kept a.0 calls reads a.1)
           (fits a.0 calls reads a.1) o (picks a.0.controller.picker) a.2.0
@@ -181,9 +151,7 @@ module _ {K : Type 0} {picks : Picking K} (run : Begun picks) (keeping : IsKeepi
   ]
     where
       missing : volume_named p text ≡ None → unit_found c.units (num text 4 2) ≡ None
-      missing absent = subst (λ s. unit_found s.units (num text 4 2) ≡ None) (promised p calls a).1.settings
-          (no_unit p.controller.settings.units (num text 4 2) (no_place (volume_at p.volumes)
-          (place_in p.controller.settings.units (num text 4 2)) absent))
+      missing absent = grind (arith, promised, no_unit, no_place)
 
       free : unit_found c.units (num text 4 2) ≡ None → (u : List ℕ) → IsWaiting p.controller.waiting u → (b : Bool)
           → keeps text u ≡ b → b ≡ false

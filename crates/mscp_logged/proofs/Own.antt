@@ -1,5 +1,5 @@
 -- What begins to go out as a port answers a message itself.
-use Rattle.mscp_logged.proofs.Common.{Answered, AnswersItself, Becomes, Bool, Call, Descriptor, End, Hardware, Hears, Holdings, IsAnswering, IsMadeOf, IsSomeAnd, IsWhole, List, None, Ok, Option, Outgoing, Own, Picking, Port, Some, WasRead, [], ap, arith, bytes_small, end_bytes, end_kind, ends_of, false, inl, inr, is_foreign, length, none-some, none_waits, num, own_answer, own_end_of, own_so, own_text, own_whole, refl, slice_index, subst, sym, true, volume_named, ℕ, ◌∙◌, ◌∷◌, ◌≡◌, ◌≤◌}
+use Rattle.mscp_logged.proofs.Common.{Answered, AnswersItself, Becomes, Bool, Call, Descriptor, End, Hardware, Hears, Holdings, IsAnswering, IsMadeOf, IsSomeAnd, IsWhole, List, None, Ok, Option, Outgoing, Own, Picking, Port, Some, WasRead, [], ap, arith, bytes_small, end_bytes, end_kind, ends_of, false, inl, inr, is_foreign, length, none-some, none_waits, num, own_answer, own_end_of, own_so, own_text, own_whole, refl, slice_index, subst, sym, volume_named, ℕ, ◌∙◌, ◌∷◌, ◌≡◌, ◌≤◌}
 use Rattle.std.specs.Prelude.{◌<◌, ◌^◌}
 use Rattle.mscp_port.specs.declared.port.OutgoingKind.TheVariants as kinds
 use Rattle.mscp_port.specs.declared.task.Task.TheVariants as tasks
@@ -77,11 +77,7 @@ module _ {K : Type 0} (old : Port K) (text : List ℕ) (o : Outgoing) (is : IsOw
 
   -- the end of a message for the disks
   pub of_disk : o.kind ≡ kinds.End → is.foreign ≡ false
-  of_disk kind = by is.foreign (sym is.kind ∙ kind)
-    where
-      by : (b : Bool) → end_kind b ≡ kinds.End → b ≡ false
-      by true e = absurd (search (arith, e))
-      by false e = refl
+  of_disk kind = grind arith
 
   pub own_is_whole : o.kind ≡ kinds.End → IsWhole o.bytes.items
   own_is_whole kind = subst (λ b. IsWhole b) (sym is.own.2) (own_whole (volume_named old text) text is.own.0

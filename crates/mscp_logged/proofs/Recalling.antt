@@ -1,5 +1,5 @@
 -- What was told of units is borne out over a whole list of calls.
-use Rattle.mscp_logged.proofs.Common.{Answered, AsksAlways, Bool, Call, First, History, List, None, Option, Outgoing, Picking, Port, PortsEndWhatTheyTook, PortsTellInOrder, ReadsBytes, Said, Some, TellsFaults, WriteIp, [], accepted_by, ap, append-nil, append_assoc, arith, asked_before, came, cond, end_of, end_said, ends_begun, ends_in, ends_of, ends_said, false, flat_map, held, inl, inr, is_dead, is_foreign, leaves, logged, map, message_of, messages_by, option_to_list, refl, said, said_in, seen_by, since_alive, sym, told, true, unit_found, volume_found, zipped, ℕ, ◌++◌, ◌∙◌, ◌∷◌, ◌≡◌, ◌≢◌}
+use Rattle.mscp_logged.proofs.Common.{Answered, AsksAlways, Bool, Call, First, History, List, None, Option, Outgoing, Picking, Port, PortsEndWhatTheyTook, PortsTellInOrder, ReadsBytes, Said, Some, TellsFaults, WriteIp, [], accepted_by, ap, append-nil, append_assoc, arith, asked_before, came, cond, end_of, end_said, ends_begun, ends_in, ends_of, ends_said, false, flat_map, held, inl, inr, is_dead, is_foreign, leaves, logged, map, message_of, messages_by, option_to_list, refl, said, said_in, since_alive, sym, told, true, unit_found, volume_found, zipped, ℕ, ◌++◌, ◌∙◌, ◌∷◌, ◌≡◌, ◌≢◌}
 use Rattle.mscp_ported.proofs.Ending.{Ends}
 use Rattle.mscp_logged.proofs.Recalled.{Recalled, ends_recalled, messages_recalled, nothing_recalled, recalled_as, volumes_recalled}
 use Rattle.mscp_logged.proofs.Begun.{Begun, IsKeeping, nothing_held, same_held}
@@ -67,8 +67,7 @@ module _ {K : Type 0} {picks : Picking K} (run : Begun picks) (keeping : IsKeepi
             by : (b : Bool) → Recalled F c.units a.0.volumes (h ++ cond b [] (map message_of (accepted_by call a.0)))
                 (to_come hardware c.units a.0)
             by true = recalled_as F c.units a.0.volumes h (h ++ []) _ _ (append-nil h) refl s
-            by false = messages_recalled F c.units a.0.volumes h (to_come hardware c.units a.0)
-                (accepted_by call a.0) s
+            by false = grind (arith, messages_recalled)
 
         moved : Recalled F c.units p.volumes (h ++ ms) (to_come hardware c.units a.0 ++ more)
         moved = volumes_recalled F c.units a.0.volumes p.volumes (h ++ ms) (to_come hardware c.units a.0)
@@ -80,23 +79,17 @@ module _ {K : Type 0} {picks : Picking K} (run : Begun picks) (keeping : IsKeepi
 
         log_is : (x y : Option Outgoing) → a.0.outgoing ≡ x → p.outgoing ≡ y
             → logged picks start p (call ∷ calls) a ≡ (h ++ ms) ++ flat_map ends_in (leaves x y)
-        log_is x y was_out is_out = since_alive p.stage call h (seen_by call a.0 p) never lives
-            ∙ sym (append_assoc h ms (flat_map ends_in (leaves a.0.outgoing p.outgoing)))
-            ∙ ap (λ z. (h ++ ms) ++ flat_map ends_in (leaves z p.outgoing)) was_out
-            ∙ ap (λ z. (h ++ ms) ++ flat_map ends_in (leaves x z)) is_out
+        log_is x y was_out is_out = grind (arith, since_alive, append_assoc, ms)
 
         to_log : (x y : Option Outgoing) → a.0.outgoing ≡ x → p.outgoing ≡ y
             → Recalled F c.units p.volumes ((h ++ ms) ++ flat_map ends_in (leaves x y)) (out_texts y ++ now)
             → State p (call ∷ calls) a
-        to_log x y was_out is_out = recalled_as F c.units p.volumes ((h ++ ms) ++ flat_map ends_in (leaves x y))
-            (logged picks start p (call ∷ calls) a) (out_texts y ++ now) (to_come hardware c.units p)
-            (log_is x y was_out is_out) (ap (λ z. out_texts z ++ now) is_out)
+        to_log x y was_out is_out = grind (arith, recalled_as, ms, log_is)
 
         still : (x y : Option Outgoing) (qs : List (List ℕ)) → flat_map ends_in (leaves x y) ≡ []
             → out_texts y ++ now ≡ qs → Recalled F c.units p.volumes (h ++ ms) qs
             → Recalled F c.units p.volumes ((h ++ ms) ++ flat_map ends_in (leaves x y)) (out_texts y ++ now)
-        still x y qs none e = recalled_as F c.units p.volumes (h ++ ms) _ qs (out_texts y ++ now)
-            (ap (λ z. (h ++ ms) ++ z) none ∙ append-nil (h ++ ms)) e
+        still x y qs none e = grind (arith, recalled_as, ms, append-nil)
 
         behind : (o : Outgoing) (y : Option Outgoing) → a.0.outgoing ≡ Some o → p.outgoing ≡ y
             → ends_begun a.0.outgoing p.outgoing ++ now ≡ old ++ more → now ≡ old ++ more

@@ -1,5 +1,5 @@
 -- What a port's log shows: the ends in it are those that go out, and each answers a command that is outstanding.
-use Rattle.mscp_logged.proofs.Common.{Bool, Call, List, None, Option, Outgoing, Port, ReadsBytes, Some, Stage, WasRead, WriteIp, [], ap, arith, begins, cond, false, inl, inr, is_dead, is_foreign, map, message_of, refl, since, sym, true, ℕ, ◌++◌, ◌∙◌, ◌∷◌, ◌≡◌, ◌≢◌, ◌⊎◌}
+use Rattle.mscp_logged.proofs.Common.{Call, List, None, Option, Outgoing, Port, ReadsBytes, Some, Stage, WasRead, WriteIp, [], ap, arith, begins, cond, inl, inr, is_dead, is_foreign, map, message_of, refl, since, sym, true, ℕ, ◌++◌, ◌∙◌, ◌∷◌, ◌≡◌, ◌≢◌, ◌⊎◌}
 
 -- ---- since all was forgotten
 
@@ -38,11 +38,7 @@ begun_none old new o none some e =
 module _ {K : Type 0} (call : Call) (old : Port K) where
   pub no_message : (accepted : List (List ℕ)) → accepted ≡ []
       → cond (is_foreign old.task) [] (map message_of accepted) ≡ []
-  no_message accepted e = ap (λ ts. cond (is_foreign old.task) [] (map message_of ts)) e ∙ by (is_foreign old.task)
-    where
-      by : (b : Bool) → cond b [] (map message_of []) ≡ []
-      by true = refl
-      by false = refl
+  no_message accepted e = grind arith
 
 pub reads_before : (call : Call) (calls : List Call) → ReadsBytes (call ∷ calls) → ReadsBytes calls
 reads_before (WasRead bytes result) calls reads = reads.1

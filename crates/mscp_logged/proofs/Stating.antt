@@ -1,6 +1,6 @@
 -- An end that answers a message, or that of a command which is aborted, says that its unit is online, or that it isn't,
 -- only if that is so.
-use Rattle.mscp_logged.proofs.Common.{Answer, AsksFor, Bool, Command, Decided, End, First, Hardware, IsPast, List, None, Option, Order, Own, Record, Sent, Settings, Shape, Some, Volume, aborted_record, answer_by, ap, arith, command_of, cond, end_with_body, endcode, ends_formality, eqb-true, false, false≢true, fault_of, inl, inr, is_queued, move_fault, num, order_fault, own_answer, own_cases, own_end, own_end_with, own_refused, own_text, refl, refused_apart, sent_by, sent_says, slice_index, status_after, subst, sym, true, unit_fault, unit_state, ℕ, ⊎_elim, ◌%◌, ◌&&◌, ◌+◌, ◌/◌, ◌<◌, ◌==◌, ◌^◌, ◌||◌, ◌∙◌, ◌≡◌, ◌⊎◌}
+use Rattle.mscp_logged.proofs.Common.{Answer, AsksFor, Bool, Command, Decided, End, First, Hardware, IsPast, List, None, Option, Order, Own, Record, Sent, Settings, Shape, Some, Volume, aborted_record, answer_by, ap, arith, command_of, cond, end_with_body, endcode, ends_formality, eqb-true, false, false≢true, fault_of, inl, inr, is_queued, move_fault, order_fault, own_answer, own_cases, own_end, own_end_with, own_refused, own_text, refl, refused_apart, sent_by, sent_says, slice_index, status_after, subst, sym, true, unit_fault, unit_state, ℕ, ◌%◌, ◌+◌, ◌/◌, ◌<◌, ◌^◌, ◌∙◌, ◌≡◌, ◌⊎◌}
 use Rattle.std.specs.Prelude.{not}
 use Rattle.mscp_packet.specs.declared.command.Order.TheVariants as orders
 use Rattle.mscp_drive.specs.Settings.{unit_found}
@@ -8,9 +8,9 @@ use Rattle.mscp_drive.specs.UnitList as list
 use Rattle.mscp_drive.specs.declared.block.Block.TheVariants as blocks
 use Rattle.mscp_port.specs.declared.verdict.Verdict.TheVariants as verdicts
 use Rattle.mscp_logged.proofs.Away.{IsPlaced, Says}
-use Rattle.mscp_logged.proofs.Describing.{IsAsWas, mine, same_volume}
+use Rattle.mscp_logged.proofs.Describing.{IsAsWas, same_volume}
 use Rattle.mscp_logged.proofs.Placing.{IsAwayCode, IsOnlineCode, away_parts, formal_away, formal_online, online_parts}
-use Rattle.mscp_logged.proofs.Replied.{end_is, state_good, state_told}
+use Rattle.mscp_logged.proofs.Replied.{end_is}
 use Rattle.mscp_logged.proofs.Stepped.{IsDecided}
 use Rattle.mscp_logged.proofs.Suited.{formal_opcode}
 use Rattle.mscp_logged.proofs.Texts.{text_with}
@@ -31,10 +31,7 @@ mute v a m = record {
 
 pub mute_placed : (u : ℕ) (v : Volume) (text : List ℕ)
     → IsMute (answer_by First text).code ((answer_by First text).status % 32) → IsPlaced u v v text
-mute_placed u v text m = record {
-  own = λ here. mute v (answer_by First text) m;
-  other = λ here is. (is, same_volume v);
-}
+mute_placed u v text m = grind (arith, mute, same_volume)
 
 formal_mute : (code status : ℕ) → ends_formality code ≡ true → IsMute code status
 formal_mute code status is = ((λ bit zero on. formal_online code bit is on), λ away. formal_away code status is away)
@@ -44,19 +41,7 @@ abbrev IsOther : ℕ → Type 0
 IsOther status = (status ≡ 1) ⊎ (status ≡ 2)
 
 other_mute : (code status : ℕ) → IsOther status → IsMute code status
-other_mute code status is = ((λ bit zero on. none is zero), λ away. never is away)
-  where
-    none : IsOther status → status ≡ 0 → ⊥
-    none (inl e) zero = search (arith, e, zero)
-    none (inr e) zero = search (arith, e, zero)
-
-    never : IsOther status → IsAwayCode code status → ⊥
-    never (inl e) (inl x) = search (arith, e, x.0)
-    never (inl e) (inr (inl x)) = search (arith, e, x.0)
-    never (inl e) (inr (inr x)) = search (arith, e, x.0)
-    never (inr e) (inl x) = search (arith, e, x.0)
-    never (inr e) (inr (inl x)) = search (arith, e, x.0)
-    never (inr e) (inr (inr x)) = search (arith, e, x.0)
+other_mute code status is = grind arith
 
 module _ (h : Hardware) (units : List Shape) (e : End) (d : Decided) where
   abbrev end_answer : Answer
@@ -80,18 +65,7 @@ module _ (h : Hardware) (units : List Shape) (e : End) (d : Decided) where
 -- a status that is told as it is
 kept_after : (v : Volume) (code status : ℕ) → (status % 32 ≡ 0 → ⊥) → (status % 32 ≡ 4 → ⊥)
     → status_after (verdicts.Served blocks.Good) code status v ≡ status
-kept_after v code status never other =
-    by (code == 0x83) (status == 0) refl (status == 4) refl (code == 0x89) (status == 0x0100) refl
-  where
-    by : (x y : Bool) → (status == 0) ≡ y → (z : Bool) → (status == 4) ≡ z → (s t : Bool) → (status == 0x0100) ≡ t
-        → cond (x && (y || z)) (unit_state v) (cond (s && (y || t)) (cond v.is_mounted 0x0100 0) status) ≡ status
-    by x true e z f s t g = absurd (never (ap (λ n. n % 32) (eqb-true status 0 e)))
-    by x false e true f s t g = absurd (other (ap (λ n. n % 32) (eqb-true status 4 f)))
-    by x false e false f s true g = absurd (never (ap (λ n. n % 32) (eqb-true status 0x0100 g)))
-    by true false e false f true false g = refl
-    by true false e false f false false g = refl
-    by false false e false f true false g = refl
-    by false false e false f false false g = refl
+kept_after v code status never other = grind (arith, eqb-true)
 
 -- the end of a command that is aborted
 pub aborted_placed : (h : Hardware) (units : List Shape) (r : Record) (d : Decided) (v : Volume) (u : ℕ) (w : Volume)
@@ -119,11 +93,7 @@ module _ (c : Settings) (unit status : ℕ) (three : status % 32 ≡ 3) where
   offline_none : (o : Order) (s : Sent) → AsksFor o s → order_fault c unit o ≡ Some status → unit_found c unit ≡ None
   offline_none (orders.Move kind count block) s says e = move_none count block (unit_found c unit) e
   offline_none (orders.SetController version) s says e = grind (arith, e, three)
-  offline_none (orders.Invalid byte why) s says e = absurd (apart (⊎_elim (λ x. ap (λ n. n % 32) x.0)
-      (λ short. ap (λ n. n % 32) short.1.why) says))
-    where
-      apart : why % 32 ≡ 1 → ⊥
-      apart one = search (arith, e, one, three)
+  offline_none (orders.Invalid byte why) s says e = grind arith
   offline_none (orders.Abort other) s says e = search (arith, e)
   offline_none (orders.Status other) s says e = search (arith, e)
   offline_none order s says e = unit_none (unit_found c unit) e
@@ -155,19 +125,10 @@ module _ (h : Hardware) (c : Settings) (online : Bool) (figure : ℕ) (sent : Li
   So = (u : ℕ) → IsPlaced u (volume u) (volume u) text
 
   unit_is : e.unit ≡ k.unit
-  unit_is = by (fault_of c k)
-    where
-      by : (o : Option ℕ) → (own_end_with c online figure (command_of sent) o).unit ≡ k.unit
-      by None = refl
-      by (Some status) = refl
+  unit_is = grind arith
 
   own_so : Says v v a → So
-  own_so says u = record { own = own; other = λ here is. (is, same_volume (volume u)) }
-    where
-      own : mine u text ≡ true → Says (volume u) (volume u) a
-      own here = subst (λ n. Says (volume n) (volume n) a)
-          (sym (text_unit h c.units e d (subst (λ n. n < 2 ^ 16) (sym unit_is) small) ∙ unit_is)
-          ∙ eqb-true (num text 4 2) u here) says
+  own_so says u = grind (arith, same_volume, text_unit, unit_is, eqb-true)
 
   never_so : (ends_formality d.code ≡ false → IsMute e.code (d.status % 32)) → So
   never_so m u = mute_placed u (volume u) text (text_mute h c.units e d m)
@@ -177,14 +138,10 @@ module _ (h : Hardware) (c : Settings) (online : Bool) (figure : ℕ) (sent : Li
     where
       told : (status % 32 ≡ 0 → ⊥) → (status % 32 ≡ 4 → ⊥) → ends_formality d.code ≡ false
           → d.status % 32 ≡ status % 32
-      told never other plain = ap (λ n. n % 32) (decided.status plain
-          ∙ ap (λ n. status_after (verdicts.Served blocks.Good) e.code n v)
-          (ap (λ o. (own_end_with c online figure (command_of sent) o).status) fault)
-          ∙ kept_after v e.code status never other)
+      told never other plain = grind (arith, kept_after)
 
       by : (status % 32 ≡ 1) ⊎ (status % 32 ≡ 3) → So
-      by (inl one) = never_so (λ plain. other_mute e.code (d.status % 32)
-          (inl (told (λ z. search (arith, one, z)) (λ z. search (arith, one, z)) plain ∙ one)))
+      by (inl one) = grind (arith, never_so, other_mute, told)
       by (inr three) = own_so (from (text_reads h c.units e d))
         where
           none : (volume k.unit).is_mounted ≡ false
@@ -197,15 +154,7 @@ module _ (h : Hardware) (c : Settings) (online : Bool) (figure : ℕ) (sent : Li
               → Says v v a
           from (inl x) = mute v a (subst (λ n. IsMute n (a.status % 32)) (sym x.1.code)
               (formal_mute d.code (a.status % 32) x.0))
-          from (inr x) = record {
-            online = λ says. search (
-              arith,
-              (online_parts a says).0,
-              x.2.low ∙ told (λ z. search (arith, three, z)) (λ z. search (arith, three, z)) x.0 ∙ three,
-            );
-            away = λ says. none;
-            stays = λ brings is. (is, same_volume v);
-          }
+          from (inr x) = grind (arith, online_parts, told, none, same_volume)
 
   coded : (order : Order) → k.order ≡ order → (code : ℕ) → endcode order ≡ code → fault_of c k ≡ None
       → ((status : ℕ) → IsMute code status) → So
@@ -216,9 +165,6 @@ module _ (h : Hardware) (c : Settings) (online : Bool) (figure : ℕ) (sent : Li
   status_says : (of : k.order ≡ orders.UnitStatus) (none : fault_of c k ≡ None) → Says v v a
   status_says of none = from (text_reads h c.units e d)
     where
-      state : ends_formality d.code ≡ false → d.status ≡ unit_state v
-      state = state_told h c online figure sent immediate small d volume decided of none
-
       code : e.code ≡ 0x83
       code = ap (λ (x : End). x.code) (end_is h c online figure sent immediate small d volume decided of none)
 
@@ -239,13 +185,7 @@ module _ (h : Hardware) (c : Settings) (online : Bool) (figure : ℕ) (sent : Li
           → Says v v a
       from (inl x) = mute v a (subst (λ n. IsMute n (a.status % 32)) (sym x.1.code)
           (formal_mute d.code (a.status % 32) x.0))
-      from (inr x) = record {
-        online = λ says. state_good v
-            (ap (λ n. n % 32) (sym (state x.0)) ∙ sym x.2.low ∙ (online_parts a says).0);
-        away = λ says. away (a.status % 32) (x.2.low ∙ ap (λ n. n % 32) (state x.0))
-            (subst (λ n. IsAwayCode n (a.status % 32)) (x.2.code ∙ code) (away_parts a says));
-        stays = λ brings is. (is, same_volume v);
-      }
+      from (inr x) = grind arith
 
   pub reply_placed : So
   reply_placed = by (fault_of c k) refl
@@ -276,10 +216,8 @@ own_mute v b = own_cases v b
   where
     by : (status : ℕ) → IsPast status → IsMute (answer_by First (own_text b (own_refused b status))).code
         ((answer_by First (own_text b (own_refused b status))).status % 32)
-    by status (inl e) = subst (λ n. IsMute (answer_by First (own_text b (own_refused b n))).code
-        ((answer_by First (own_text b (own_refused b n))).status % 32)) (sym e) (other_mute _ _ (inl refl))
-    by status (inr e) = subst (λ n. IsMute (answer_by First (own_text b (own_refused b n))).code
-        ((answer_by First (own_text b (own_refused b n))).status % 32)) (sym e) (other_mute _ _ (inl refl))
+    by status (inl e) = grind arith
+    by status (inr e) = grind arith
 
 pub own_placed : (u : ℕ) {v w : Volume} (x : Option Volume) (b : List ℕ) (own : Own) → own_answer false x b ≡ Some own
     → IsAsWas v w → IsPlaced u v w (own_text b own)

@@ -1,6 +1,6 @@
 -- How a step went that ended otherwise than its drive told: its unit isn't online with its volume. And a transfer goes
 -- well only while it is.
-use Rattle.mscp_logged.proofs.Common.{Block, Bool, Buffer, Err, IsBegunStep, IsHow, IsOfBlock, List, MoveKind, Name, None, Ok, Option, Order, Outcome, Port, Record, Result, Some, Task, Upcoming, Verdict, Volume, and_parts, ap, arith, begun_record, begun_step, begun_task, block_begun, block_of, block_served, changed_verdict, cond, drive_of, false, false≢true, fault_with, faulted, find, has_changed, has_host_bytes, has_name, inl, inr, is_available, is_some, kept_of, known_task, move_of, move_task, moved_by, moved_step, nat_le, option_map, part_at, part_of, part_served, part_task, part_with, place_in, refl, refusal_of, subst, sym, takes_any_volume, task_of, true, unless_fault, upcoming_of, volume_at, volume_found, volume_in_place, writes, ℕ, ◌%◌, ◌&&◌, ◌==◌, ◌∙◌, ◌≡◌, ◌≤◌, ◌⊎◌}
+use Rattle.mscp_logged.proofs.Common.{Block, Bool, Buffer, Err, IsBegunStep, IsHow, List, MoveKind, Name, None, Ok, Option, Order, Outcome, Port, Record, Result, Some, Task, Upcoming, Verdict, Volume, arith, begun_record, begun_step, block_begun, block_of, block_served, changed_verdict, cond, drive_of, false, false≢true, fault_with, faulted, find, has_changed, has_host_bytes, has_name, inl, inr, is_available, is_some, known_task, move_of, move_task, moved_by, moved_step, nat_le, option_map, part_at, part_of, part_served, part_task, part_with, refl, refusal_of, subst, sym, takes_any_volume, task_of, true, unless_fault, upcoming_of, volume_at, volume_found, volume_in_place, writes, ℕ, ◌%◌, ◌&&◌, ◌==◌, ◌≡◌, ◌≤◌, ◌⊎◌}
 use Rattle.std.specs.Prelude.{not}
 use Rattle.mscp_packet.specs.declared.command.Order.TheVariants as orders
 use Rattle.mscp_drive.specs.declared.block.Block.TheVariants as blocks
@@ -36,11 +36,7 @@ drive_error : (moves : Bool) (v : Volume) → IsSure moves v (faulted 0x000B)
 drive_error moves v = inl (omega arith, omega arith)
 
 changed_sure : (moves : Bool) (v : Volume) → IsSure moves v (changed_verdict v)
-changed_sure moves v = by v.is_mounted refl
-  where
-    by : (c : Bool) → v.is_mounted ≡ c → IsSure moves v (cond c (faulted 0x000B) verdicts.NoVolume)
-    by true e = drive_error moves v
-    by false e = e
+changed_sure moves v = grind arith
 
 -- why a block isn't moved, or the unit is online
 abbrev IsSureEither : Volume → Option Verdict → Type 0
@@ -122,19 +118,11 @@ module _ (u : Upcoming) where
   move_sure b v (Some move) = by (part_with move.0 move.1 u.done b v) (part_sure move.0 move.1 u.done b v)
     where
       by : (part : Result (ℕ × ℕ) Verdict) → IsSureOr v part → IsSureTask true v (part_task part)
-      by (Ok part) s = task_cond true v (part.1 == 0) (tasks.Step (verdicts.Served blocks.Good)) tasks.Transfer
-          (λ zero moves. s) tt
+      by (Ok part) s = grind arith
       by (Err verdict) s = s
 
   task_sure : (b : Buffer) (v : Volume) → IsSureTask (moves_block u) v (task_of u b v)
-  task_sure b v = task_cond (moves_block u) v (is_available u.command.order)
-      (tasks.Step (verdicts.Served blocks.Good)) _
-      (λ e. none_moves v (move_of u) (available_still u.command.order u.lbn e))
-      (task_cond (moves_block u) v (v.is_there && takes_any_volume u.command.order)
-      (tasks.Step (verdicts.Served blocks.Good)) _ (λ e. none_moves v (move_of u) (any_still u.command.order u.lbn
-      (and_parts v.is_there (takes_any_volume u.command.order) e).1))
-      (task_cond (moves_block u) v (has_changed b v) (tasks.Step (changed_verdict v)) _
-      (λ e. changed_sure (moves_block u) v) (move_sure b v (move_of u))))
+  task_sure b v = grind (arith, task_cond, none_moves, available_still, any_still, changed_sure, move_sure)
 
   known_sure : (place : Option ℕ) (kept : Option Buffer) (volumes : List Volume)
       → IsSureTask (moves_block u) (volume_in_place volumes place) (known_task u place kept volumes)
@@ -152,11 +140,7 @@ at_sure (Some place) None kind block done volumes = drive_error true (volume_at 
 
 outcome_sure : (v : Volume) (outcome : Outcome) → v.is_mounted ≡ true
     → IsSure true v (verdicts.Served (block_of outcome))
-outcome_sure v outcome e = by (block_of outcome)
-  where
-    by : (b : Block) → IsSureBlock true v b
-    by blocks.Good = λ moves. e
-    by (blocks.Bad status) = inr (refl, e)
+outcome_sure v outcome e = grind arith
 
 module _ {K : Type 0} (old : Port K) (outcome : Outcome) (step : IsBegunStep old) (name : Name)
     (was : old.controller.begun ≡ Some name) (r : Record)
@@ -171,11 +155,7 @@ module _ {K : Type 0} (old : Port K) (outcome : Outcome) (step : IsBegunStep old
   begun_is = begun_record old.controller name r was found
 
   step_sure : (verdict : Verdict) → old.task ≡ tasks.Step verdict → IsSure (moves_block u) v verdict
-  step_sure verdict at = subst (λ t. IsSureTask (moves_block u) v t)
-      (sym (ap (begun_task old.controller.settings.units old.buffers.items old.volumes) begun_is)
-      ∙ sym (step (subst (λ t. IsOfBlock t) (sym at) tt)) ∙ at)
-      (known_sure u (place_in old.controller.settings.units u.command.unit)
-      (kept_of u.connection u.command.reference old.buffers.items) old.volumes)
+  step_sure verdict at = grind (arith, begun_is, known_sure)
 
   moved_sure : IsSure (moves_block u) v (block_served old outcome (block_begun old))
   moved_sure = subst (λ o. IsSure (moves_block u) v (block_served old outcome (moved_step o))) (sym begun_is)
@@ -188,8 +168,7 @@ module _ {K : Type 0} (old : Port K) (outcome : Outcome) (step : IsBegunStep old
       by : (move : Option (MoveKind × ℕ))
           → IsSure (is_some move) v (block_served old outcome (option_map (λ move. (u, move.0, move.1)) move))
       by None = drive_error false v
-      by (Some move) = served _ (at_sure (place_in old.controller.settings.units u.command.unit)
-          (kept_of u.connection u.command.reference old.buffers.items) move.0 move.1 u.done old.volumes)
+      by (Some move) = grind (arith, served, at_sure)
 
   pub told_sure : (verdict : Verdict) → IsHow old outcome verdict → IsSure (moves_block u) v verdict
   told_sure verdict (inl at) = step_sure verdict at

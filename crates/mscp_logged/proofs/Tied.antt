@@ -1,7 +1,6 @@
 -- What ties each end of a port's log to the command that it answers.
-use Rattle.mscp_logged.proofs.Common.{AllByRecursion, Answered, AsksAlways, Block, Bool, Call, End, First, Fits, IsAnswering, IsEnding, IsFault, IsFollowed, IsHow, IsMade, IsPast, IsReply, IsSaid, IsStepped, IsWhole, List, Name, None, Ok, Option, Order, Outcome, Outgoing, Picking, Port, ReadsBytes, Record, Settings, Some, TellsFaults, Verdict, Went, aborts_behind, answer_status, ap, arith, asked_before, awaited, block_told, command_of, controller_in, drop, ends_of, false, fault_of, find, has_name, inl, inr, is_apart, left_with, num, outcome_status, own_answer, own_cases, own_end_with, own_refused, own_text, refl, refused_apart, said_fits, sent_by, sent_says, slice_index, steps, subst, sym, true, volume_named, ℕ, ◌%◌, ◌<◌, ◌^◌, ◌∙◌, ◌∷◌, ◌≡◌, ◌⊎◌}
+use Rattle.mscp_logged.proofs.Common.{AllByRecursion, Answered, AsksAlways, Bool, Call, End, First, Fits, IsAnswering, IsEnding, IsFollowed, IsHow, IsMade, IsPast, IsReply, IsSaid, IsStepped, IsWhole, List, Name, None, Ok, Option, Order, Outcome, Outgoing, Picking, Port, ReadsBytes, Record, Settings, Some, TellsFaults, Verdict, Went, aborts_behind, answer_status, ap, arith, asked_before, awaited, command_of, controller_in, drop, ends_of, false, fault_of, find, has_name, inl, inr, is_apart, left_with, num, own_answer, own_cases, own_end_with, own_refused, own_text, refl, refused_apart, said_fits, sent_by, sent_says, slice_index, steps, subst, sym, true, volume_named, ℕ, ◌%◌, ◌<◌, ◌^◌, ◌∙◌, ◌∷◌, ◌≡◌, ◌⊎◌}
 use Rattle.mscp_port.specs.declared.port.OutgoingKind.TheVariants as kinds
-use Rattle.mscp_logged.proofs.Made.{given_is}
 use Rattle.mscp_ported.proofs.ByOpcode.{ends_said}
 use Rattle.mscp_logged.proofs.Answered.{own_suited}
 use Rattle.mscp_logged.proofs.Coded.{own_fits}
@@ -44,14 +43,8 @@ reply_two e x two = by (fault_of x.settings (command_of x.text)) refl
           | inr k ↦ search (arith, sym k ∙ h)
         ]
 
-given_two : (online : Bool) (o : Order) (k : Block) → IsFault k → outcome_status online o k % 32 ≡ 2 → ⊥
-given_two online o k fault e = grind (arith, fault, e)
-
 stepped_two : (e : End) → IsStepped IsToldOf e → e.status % 32 ≡ 2 → ⊥
-stepped_two e x two =
-    let g = given_is (block_told x.verdict) x.drive x.own e x.is in
-    given_two x.drive.online x.own.command.order (block_told x.verdict) x.told.0
-    (ap (λ (y : End). y.status % 32) g.end ∙ two)
+stepped_two e x two = grind arith
 
 -- drives tell what they may
 said_as : {K : Type 0} (c : Settings) (F : Type 0) (old : Port K) (aw : List (List ℕ)) (text t : List ℕ) → F
@@ -77,13 +70,7 @@ said_as c F old aw text t f s = record {
   where
     followed : {e : End} {es : List End} → IsFollowed (ToldIf F) aw e es → IsFollowed IsToldOf aw e es
     followed (inl x) = inl x
-    followed (inr (inl x)) = inr (inl (record {
-      own = x.own;
-      drive = x.drive;
-      verdict = x.verdict;
-      told = x.told f;
-      is = x.is;
-    }))
+    followed (inr (inl x)) = grind arith
     followed (inr (inr x)) = inr (inr x)
 
     by : IsMade c (ToldIf F) (left_with s.end s.decided) t → IsMade c IsToldOf (left_with s.end s.decided) t
@@ -228,7 +215,5 @@ never_aborted c old text o own kind two = own_cases (volume_named old text) text
     (ap (λ b. num b 10 2 % 32) (sym own.own.2) ∙ two)
   where
     by : (status : ℕ) → IsPast status → num (own_text text (own_refused text status)) 10 2 % 32 ≡ 2 → ⊥
-    by status (inl e) = subst (λ n. num (own_text text (own_refused text n)) 10 2 % 32 ≡ 2 → ⊥) (sym e)
-        (λ h. search (arith, h))
-    by status (inr e) = subst (λ n. num (own_text text (own_refused text n)) 10 2 % 32 ≡ 2 → ⊥) (sym e)
-        (λ h. search (arith, h))
+    by status (inl e) = grind arith
+    by status (inr e) = grind arith
