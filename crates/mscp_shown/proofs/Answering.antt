@@ -1,7 +1,6 @@
 -- What a message that is answered when it comes, and a step, change of what is outstanding: each ends as many as it
 -- takes away, and an answered message is one more.
-use Rattle.mscp_shown.proofs.Common.{AllByRecursion, Block, Bool, Command, Connection, End, Entry, Event, List, Moment, Name, None, Ok, Option, Order, Service, Settings, Some, Step, Trace, [], aborted, aborted_unless, aborts, answer, ap, arith, command_of, cond, connection, count_by, differ_is, ends_at, ends_in, ends_served, every_filter, every_from, every_weaker, false, fault_of, filter, filter_all, filter_filter, filter_on, if◌then◌else◌, is_differ, is_same, is_some, kept_own, name, name_on, not, option_map, outcome, own_end_with, reference, refl, same_connection, same_is, same_name, sent_bytes, service_name, slice_get, subst, sum_by_map, sum_by_push, sym, true, waiting, waiting_by, ℕ, ◌&&◌, ◌+◌, ◌∙◌, ◌∷◌, ◌≡◌, ◌≢◌}
-use Rattle.mscp_controller.proofs.Basics.{aborted_reference}
+use Rattle.mscp_shown.proofs.Common.{AllByRecursion, Block, Bool, Command, Connection, End, Entry, Event, List, Moment, Name, None, Ok, Option, Order, Service, Settings, Some, Step, Trace, [], aborted, aborted_reference, aborted_unless, aborts, answer, ap, arith, command_of, cond, connection, count_by, differ_is, ends_at, ends_in, ends_served, every_filter, every_from, every_weaker, false, fault_of, filter, filter_all, filter_filter, filter_on, if◌then◌else◌, is_differ, is_same, is_some, kept_own, name, name_on, not, option_map, outcome, own_end_with, reference, refl, same_connection, same_is, same_name, sent_bytes, service_name, slice_get, subst, sum_by_map, sum_by_push, sym, true, waiting, waiting_by, ℕ, ◌&&◌, ◌+◌, ◌∙◌, ◌∷◌, ◌≡◌, ◌≢◌}
 use Rattle.mscp_controller.specs.declared.entry.Sent.{Sent}
 use Rattle.mscp_shown.proofs.Counts.{one_gone, parted}
 use Rattle.mscp_shown.proofs.Owed.{kept, one_if}

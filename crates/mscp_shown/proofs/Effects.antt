@@ -1,6 +1,5 @@
 -- What the ends that a controller makes say of the states of their units.
-use Rattle.mscp_shown.proofs.Common.{Bad, Block, Bool, Command, Good, None, Order, Sent, Settings, arith, endcode, false, false≢true, is_immediate, is_moved, is_of_unit, is_queued, nat_eq, outcome_of, outcome_status, own_end, refl, state_after, true, unit_fault, unit_found, ℕ, ◌%◌, ◌&&◌, ◌/◌, ◌||◌, ◌∙◌, ◌≡◌, ◌≢◌, ◌≤◌}
-use Rattle.std.proofs.lemmas.Bool.{and_parts, eqb-true}
+use Rattle.mscp_shown.proofs.Common.{Bad, Block, Bool, Command, Good, None, Order, Sent, Settings, and_parts, arith, endcode, eqb-true, false, false≢true, is_immediate, is_moved, is_of_unit, is_queued, nat_eq, outcome_of, outcome_status, own_end, refl, state_after, true, unit_fault, unit_found, ℕ, ◌%◌, ◌&&◌, ◌/◌, ◌||◌, ◌∙◌, ◌≡◌, ◌≢◌, ◌≤◌}
 use Rattle.mscp_packet.specs.declared.command.Order.TheVariants as orders
 use Rattle.mscp_shown.proofs.Saying.{Says}
 use Rattle.mscp_shown.proofs.Suiting.{IsFault, valid_order}

@@ -1,14 +1,11 @@
 -- A take keeps all that holds, and the end that it shows keeps its rules.
-use Rattle.mscp_shown.proofs.Common.{AllByRecursion, Answered, ArrayVec, Bool, Connection, End, Entry, Event, IsOfKind, IsRight, Known, List, Moment, Out, Settings, Some, Trace, [], and_parts, answer_by, ap, append-nil, arith, cases_lt, command_at, cond, connection, count_by, drop, end_bytes, ends_in, eq-eqb, eqb-true, every_from, every_weaker, false, false≢true, get_or, get_or-take, has_abort, inr, is_apart, is_it, is_long, is_named, keeps_back, length, length-take-le, list_any, name, nat_eq, not, num, one_side, own_side, passes_none, place_of, polled_by, position, position-Some, reference, refl, same_connection, sent_by, shown, status_code, subst, sym, take, true, untaken, untaken_more, waiting, waiting_by, ℕ, ◌%◌, ◌&&◌, ◌++◌, ◌+◌, ◌<◌, ◌∙◌, ◌∷◌, ◌≡◌, ◌≤◌}
-use Rattle.mscp_controller.proofs.Basics.{First}
+use Rattle.mscp_shown.proofs.Common.{AllByRecursion, Answered, ArrayVec, Bool, Connection, End, Entry, Event, First, IsOfKind, IsRight, Known, List, Moment, Out, Settings, Some, Trace, [], and_parts, answer_by, ap, append-nil, arith, cases_lt, command_at, cond, connection, count_by, drop, end_bytes, ends_in, eq-eqb, eqb-true, every_from, every_weaker, false, false≢true, get_or, get_or-take, has_abort, inl, inr, is_apart, is_it, is_long, is_named, keeps_back, length, length-take-le, list_any, name, nat_eq, not, num, one_side, own_side, passes_none, place_of, polled_by, position, position-Some, reference, refl, same_connection, sent_by, shown, status_code, subst, suc, sym, take, true, unit_shape, untaken, untaken_more, waiting, waiting_by, ℕ, ⊎_elim, ◌%◌, ◌&&◌, ◌++◌, ◌+◌, ◌<◌, ◌||◌, ◌∙◌, ◌∷◌, ◌≡◌, ◌≤◌, ◌⊎◌}
 use Rattle.mscp_wire.specs.Wire as wire
-use Rattle.std.specs.Prelude.{◌||◌}
 use Rattle.mscp_wire.specs.declared.moment.Moment.TheVariants as moments
 use Rattle.mscp_shown.proofs.Strict.{after_end, outstanding}
 use Rattle.mscp_shown.proofs.Aborted.{Aborts, EndsAbort, IsAbort, IsBehind, aborts_after, aborts_rest, any_behind, any_out}
 use Rattle.mscp_shown.proofs.Counts.{each_counted, some_place}
 use Rattle.mscp_shown.proofs.Owed.{one_if, owed, owed_took, untaken_took}
-use Rattle.mscp_drive.specs.Settings.{unit_shape}
 use Rattle.mscp_shown.proofs.Identity.{IsTold, is_told, same_right, told_more}
 use Rattle.mscp_shown.proofs.Suited.{Keeps}
 use Rattle.mscp_shown.proofs.Owners.{Fits, IsOwed, IsOwn, every_drop, message, only_after, untold}
@@ -16,7 +13,6 @@ use Rattle.mscp_shown.proofs.Owning.{Owners, waits_more}
 use Rattle.mscp_shown.proofs.Reading.{IsFit, reads}
 use Rattle.mscp_shown.proofs.Shown.{placed, tally, tally_end}
 use Rattle.mscp_shown.proofs.Taking.{Takes, long_end, reference_read}
-use Rattle.std.proofs.Common.{⊎_elim, ◌⊎◌, inl, suc}
 use Rattle.mscp_shown.proofs.Heeded.{figure_right, heard_took}
 use Rattle.mscp_shown.proofs.Listening.{Heard}
 use Rattle.mscp_shown.proofs.Polling.{figure_told, poll_of}

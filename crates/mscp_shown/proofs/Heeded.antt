@@ -1,6 +1,5 @@
 -- A take keeps what hosts will hear, and its own figure is right.
-use Rattle.mscp_shown.proofs.Common.{AllByRecursion, Answer, Bool, Connection, End, First, List, Moment, Name, None, Option, Sent, Settings, Some, Trace, [], and_parts, ap, append-nil, append_assoc, arith, command_at, connection, count_by, drop, drop_more, ends, ends_at, eq-eqb, eqb-true, every_mapped, every_parts, every_weaker, false, find_cases, find_first, find_none, get_or, is_below, is_it, is_named, is_waiting, length, list_any, list_any-append, lt-ltb, map, name, name_before, name_on, nat_eq, own_side, place_of, polled_by, queues, reference, refl, same_connection, sent_by, subst, suc, sum_by, sum_by-cons, sym, take, take-append-drop, takes, true, true≢false, untaken, untaken_more, ℕ, ⊎_elim, ◌&&◌, ◌++◌, ◌+◌, ◌<◌, ◌||◌, ◌∙◌, ◌∷◌, ◌≡◌, ◌≤◌}
-use Rattle.mscp_controller.proofs.Basics.{find, nat_lt}
+use Rattle.mscp_shown.proofs.Common.{AllByRecursion, Answer, Bool, Connection, End, First, List, Moment, Name, None, Option, Sent, Settings, Some, Trace, [], and_parts, ap, append-nil, append_assoc, arith, command_at, connection, count_by, drop, drop_more, ends, ends_at, eq-eqb, eqb-true, every_mapped, every_parts, every_weaker, false, find, find_cases, find_first, find_none, get_or, is_below, is_it, is_named, is_waiting, length, list_any, list_any-append, lt-ltb, map, name, name_before, name_on, nat_eq, nat_lt, own_side, place_of, polled_by, queues, reference, refl, same_connection, sent_by, subst, suc, sum_by, sum_by-cons, sym, take, take-append-drop, takes, true, true≢false, untaken, untaken_more, ℕ, ⊎_elim, ◌&&◌, ◌++◌, ◌+◌, ◌<◌, ◌||◌, ◌∙◌, ◌∷◌, ◌≡◌, ◌≤◌}
 use Rattle.mscp_wire.specs.Wire as wire
 use Rattle.mscp_shown.proofs.Strict.{after_end, has_figure, hears, may_tell}
 use Rattle.mscp_shown.proofs.Chaining.{goes_told, heard, tells}

@@ -1,15 +1,7 @@
 -- What an end tells of its unit, and how the rules of the wire read it.
-use Rattle.mscp_shown.proofs.Common.{Answer, Away, BodyKind, EndBody, History, Identity, Noted, Open, Sent, State, Told, agrees, answer_by, brings, fits, is_known_unit, is_same_unit, is_single, is_unsure, kind_of_body, kind_of_code, later_of, learns, leaves, little_bytes, noted_other, noted_own, num, says_away, status_code, tells_unit, told, told_after_end, told_after_message, turned, was_online}
-use Rattle.std.proofs.Common.{◌≡◌, ℕ, ◌%◌, arith, Bool, true, false, not, ◌&&◌, ◌||◌, refl, ap, sym, ◌∙◌, subst, List, Option, Some, None}
-use Rattle.std.specs.Prelude.{if◌then◌else◌, nat_eq}
-use Rattle.std.proofs.lemmas.Bool.{and_parts, eq-eqb, eqb-true}
-use Rattle.mscp_packet.specs.Ends.{IsOfKind, end_bytes}
+use Rattle.mscp_shown.proofs.Common.{Answer, Away, BodyKind, Bool, Connection, End, EndBody, History, Identity, IsOfKind, List, None, Noted, Open, Option, Sent, Settings, Shape, Some, State, Told, agrees, and_parts, answer_by, ap, arith, brings, end_bytes, eq-eqb, eqb-true, false, fits, if◌then◌else◌, is_known_unit, is_same_unit, is_single, is_unsure, kind_of_body, kind_of_code, later_of, learns, leaves, little_bytes, nat_eq, not, noted_other, noted_own, num, refl, says_away, status_code, subst, sym, tells_unit, told, told_after_end, told_after_message, true, turned, unit_shape, was_online, ℕ, ◌%◌, ◌&&◌, ◌||◌, ◌∙◌, ◌≡◌}
 use Rattle.mscp_packet.specs.declared.end.BodyKind.TheVariants as kinds
-use Rattle.mscp_packet.specs.declared.end.End.{End}
 use Rattle.mscp_packet.specs.declared.end.EndBody.TheVariants as bodies
-use Rattle.mscp_drive.specs.Shape.{Shape}
-use Rattle.mscp_drive.specs.Settings.{Settings, unit_shape}
-use Rattle.mscp_drive.specs.declared.connection.Connection.{Connection}
 use Rattle.mscp_wire.specs.Wire.{same_connection}
 
 -- a body tells of a unit what it is

@@ -1,16 +1,10 @@
 -- All that keeps the stricter rules of figures is right to the judge of the wire.
-use Rattle.mscp_shown.proofs.Common.{Answer, Asked, Gone, History, Nothing, Oldest, Seen, Sent, Standing, Told, answer_by, command_at, find, find_none, fold_push, has_credit, is_below, is_named, is_polled, moment_at, or_parts, pairs_append, place_of, polled_by, sent_by}
-use Rattle.std.proofs.Common.{◌≡◌, ℕ, zero, suc, ◌+◌, ◌<◌, ◌≤◌, Bool, true, false, cond, not, ◌&&◌, ◌||◌, List, [], ◌∷◌, ◌++◌, length, get_or, take, drop, map, refl, ap, sym, ◌∙◌, subst, arith, Option, Some, None}
-use Rattle.std.specs.Prelude.{if◌then◌else◌, nat_eq}
-use Rattle.std.specs.List.{AllByRecursion, list_any}
-use Rattle.std.proofs.lemmas.Bool.{false≢true}
-use Rattle.mscp_queue.proofs.Lists.{every_from, every_weaker}
+use Rattle.mscp_shown.proofs.Common.{AllByRecursion, Answer, Asked, Bool, Connection, Gone, History, List, None, Nothing, Oldest, Option, Seen, Sent, Some, Standing, Told, [], answer_by, ap, arith, command_at, cond, drop, every_from, every_weaker, false, false≢true, find, find_none, fold_push, get_or, has_credit, if◌then◌else◌, is_below, is_named, is_polled, length, list_any, map, moment_at, nat_eq, not, or_parts, pairs_append, place_of, polled_by, refl, sent_by, subst, suc, sym, take, true, zero, ℕ, ◌&&◌, ◌++◌, ◌+◌, ◌<◌, ◌||◌, ◌∙◌, ◌∷◌, ◌≡◌, ◌≤◌}
 use Rattle.mscp_wire.specs.Wire as wire
 use Rattle.mscp_wire.specs.Wire.{is_immediate, same_connection}
 use Rattle.mscp_wire.specs.declared.moment.Moment.{Moment}
 use Rattle.mscp_wire.specs.declared.moment.Moment.TheVariants as moments
 use Rattle.mscp_wire.specs.declared.rule.Rule.TheVariants as rules
-use Rattle.mscp_drive.specs.declared.connection.Connection.{Connection}
 use Rattle.mscp_shown.proofs.Alike.{Alike, alike_any, alike_at, alike_count, alike_drop, alike_position, alike_take, bare}
 use Rattle.mscp_shown.proofs.Lenient.{Falls, apart_at, apart_from, falls_found, falls_one, hears_bare, linked_end, named_turned, pairs_take}
 use Rattle.mscp_shown.proofs.Linking.{Alone, AsksOf, IsLow, Linked, asks_at, below_lower, linked_alike, linked_sent, nobody}

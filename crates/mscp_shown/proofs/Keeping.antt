@@ -1,10 +1,6 @@
 -- An end that suits what a command asks for keeps the rules that look at that command alone.
-use Rattle.mscp_shown.proofs.Common.{Answer, EndBody, MoveKind, Opcode, Sent, bit_or, count_of, endcode, has_code, has_count, has_status, inr, is_about, is_about_another, is_counted, is_it, is_known, is_refused, is_required, is_short, is_transfer, is_unknown, least_message, may_have, move_byte, moves, names_unit, nat_le, nat_lt, refused_body, row_of, status_code, succeeds, was_online}
-use Rattle.std.proofs.Common.{◌≡◌, ◌≢◌, ◌⊎◌, inl, ⊎_elim, ℕ, ◌+◌, ◌/◌, ◌%◌, ◌<◌, ◌≤◌, Bool, true, false, not, ◌&&◌, ◌||◌, refl, ap, sym, ◌∙◌, subst, arith, Option, Some, None}
-use Rattle.std.proofs.lemmas.Bool.{eq-eqb, eqb-true, lt-ltb}
-use Rattle.std.specs.Prelude.{is_some, if◌then◌else◌, nat_eq}
+use Rattle.mscp_shown.proofs.Common.{Answer, Bool, EndBody, MoveKind, None, Opcode, Option, Order, Sent, Some, ap, arith, bit_or, count_of, endcode, eq-eqb, eqb-true, false, has_code, has_count, has_status, if◌then◌else◌, inl, inr, is_about, is_about_another, is_counted, is_it, is_known, is_refused, is_required, is_short, is_some, is_transfer, is_unknown, least_message, lt-ltb, may_have, move_byte, moves, names_unit, nat_eq, nat_le, nat_lt, not, refl, refused_body, row_of, status_code, subst, succeeds, sym, true, was_online, ℕ, ⊎_elim, ◌%◌, ◌&&◌, ◌+◌, ◌/◌, ◌<◌, ◌||◌, ◌∙◌, ◌≡◌, ◌≢◌, ◌≤◌, ◌⊎◌}
 use Rattle.mscp_packet.specs.declared.class.Opcode.TheVariants as codes
-use Rattle.mscp_packet.specs.declared.command.Order.{Order}
 use Rattle.mscp_packet.specs.declared.command.Order.TheVariants as orders
 use Rattle.mscp_shown.proofs.Reading.{BodyReads}
 use Rattle.mscp_shown.proofs.Saying.{IsLong, IsShort, Says}

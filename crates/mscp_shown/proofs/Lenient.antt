@@ -1,12 +1,5 @@
 -- A history that keeps the stricter rules of figures keeps those of the judge of the wire.
-use Rattle.mscp_shown.proofs.Common.{Answer, Asked, Gone, Nothing, Oldest, Pairs, Sent, find, is_below, is_it, is_named, is_polled, or_parts, polled_by}
-use Rattle.std.proofs.Common.{◌≡◌, ℕ, zero, suc, ◌<◌, Bool, true, false, cond, ◌&&◌, ◌||◌, List, [], ◌∷◌, ◌++◌, length, get_or, take, drop, map, refl, ap, sym, ◌∙◌, subst, arith, Option, Some, None}
-use Rattle.std.specs.Prelude.{if◌then◌else◌, nat_eq}
-use Rattle.std.specs.List.{AllByRecursion, list_any}
-use Rattle.std.proofs.lemmas.Bool.{and_parts, eqb-true, false≢true}
-use Rattle.std.proofs.lemmas.List.Folds.{list_any-append}
-use Rattle.mscp_queue.proofs.Lists.{every_append, every_parts, every_weaker}
-use Rattle.mscp_drive.specs.declared.connection.Connection.{Connection}
+use Rattle.mscp_shown.proofs.Common.{AllByRecursion, Answer, Asked, Bool, Connection, Gone, List, None, Nothing, Oldest, Option, Pairs, Sent, Some, [], and_parts, ap, arith, cond, drop, eqb-true, every_append, every_parts, every_weaker, false, false≢true, find, get_or, if◌then◌else◌, is_below, is_it, is_named, is_polled, length, list_any, list_any-append, map, nat_eq, or_parts, polled_by, refl, subst, suc, sym, take, true, zero, ℕ, ◌&&◌, ◌++◌, ◌<◌, ◌||◌, ◌∙◌, ◌∷◌, ◌≡◌}
 use Rattle.mscp_wire.specs.Wire as wire
 use Rattle.mscp_wire.specs.Wire.{is_immediate, left, same_connection}
 use Rattle.mscp_shown.proofs.Alike.{bare}

@@ -1,11 +1,5 @@
 -- What the judge of the wire keeps of outstanding commands, beside what stricter rules of figures keep of them.
-use Rattle.mscp_shown.proofs.Common.{Asked, First, Gone, Nothing, Oldest, Pairs, Sent, asked_about, asked_by, asking, find, has_number, is_below, is_hasty, is_named, is_oldest, ltb-true, may_ask, sent_by, timed, waits_on}
-use Rattle.std.proofs.Common.{◌≡◌, ℕ, zero, suc, ◌≤◌, Bool, true, false, cond, not, ◌&&◌, ◌||◌, List, [], ◌∷◌, ◌++◌, get_or, take, refl, ap, sym, ◌∙◌, subst, arith, append-nil, append_assoc, Option, Some, None}
-use Rattle.std.specs.Prelude.{if◌then◌else◌, nat_eq}
-use Rattle.std.specs.List.{AllByRecursion, list_any}
-use Rattle.std.proofs.lemmas.Bool.{and_parts, false≢true, lt-ltb}
-use Rattle.mscp_queue.proofs.Lists.{every_weaker}
-use Rattle.mscp_drive.specs.declared.connection.Connection.{Connection}
+use Rattle.mscp_shown.proofs.Common.{AllByRecursion, Asked, Bool, Connection, First, Gone, List, None, Nothing, Oldest, Option, Pairs, Sent, Some, [], and_parts, ap, append-nil, append_assoc, arith, asked_about, asked_by, asking, cond, every_weaker, false, false≢true, find, get_or, has_number, if◌then◌else◌, is_below, is_hasty, is_named, is_oldest, list_any, lt-ltb, ltb-true, may_ask, nat_eq, not, refl, sent_by, subst, suc, sym, take, timed, true, waits_on, zero, ℕ, ◌&&◌, ◌++◌, ◌||◌, ◌∙◌, ◌∷◌, ◌≡◌, ◌≤◌}
 use Rattle.mscp_wire.specs.Wire.{is_immediate, same_connection}
 use Rattle.mscp_shown.proofs.Alike.{Alike, alike_any, bare}
 

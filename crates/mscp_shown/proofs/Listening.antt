@@ -1,6 +1,5 @@
 -- Each moment keeps what hosts will hear: figures that are at least 1 and fall.
-use Rattle.mscp_shown.proofs.Common.{AllByRecursion, Bool, Connection, Contains, End, IsPatient, List, Moment, Name, None, Option, Polls, Promise, Sent, Settings, Some, Trace, [], and_parts, ap, arith, cond, connection, count_by, ends, ends_at, eq-eqb, eqb-true, every_weaker, false, figure, figure_found, figure_of, if◌then◌else◌, inl, inr, is_below, is_it, is_named, is_step, is_waiting, length, length_push, lt-ltb, moment, moment_before, moment_last, name, name_before, name_last, name_on, nat_eq, own_side, queued_name, queues, reference, refl, same_connection, same_is, same_name, sent_by, some_same, subst, sum_by, sum_by-append, sum_by-cons, sym, take, take_all, take_at, takes, true, true≢false, untaken, untaken_more, waiting, waiting_by, waiting_waits, waits_in, ℕ, ⊎_elim, ◌&&◌, ◌++◌, ◌<◌, ◌∙◌, ◌∷◌, ◌≡◌, ◌≤◌, ◌⊎◌}
-use Rattle.mscp_controller.proofs.Basics.{find, cases_lt}
+use Rattle.mscp_shown.proofs.Common.{AllByRecursion, Bool, Connection, Contains, End, IsPatient, List, Moment, Name, None, Option, Polls, Promise, Sent, Settings, Some, Trace, [], and_parts, ap, arith, cases_lt, cond, connection, count_by, ends, ends_at, eq-eqb, eqb-true, every_weaker, false, figure, figure_found, figure_of, find, if◌then◌else◌, inl, inr, is_below, is_it, is_named, is_step, is_waiting, length, length_push, lt-ltb, moment, moment_before, moment_last, name, name_before, name_last, name_on, nat_eq, own_side, queued_name, queues, reference, refl, same_connection, same_is, same_name, sent_by, some_same, subst, sum_by, sum_by-append, sum_by-cons, sym, take, take_all, take_at, takes, true, true≢false, untaken, untaken_more, waiting, waiting_by, waiting_waits, waits_in, ℕ, ⊎_elim, ◌&&◌, ◌++◌, ◌<◌, ◌∙◌, ◌∷◌, ◌≡◌, ◌≤◌, ◌⊎◌}
 use Rattle.mscp_wire.specs.Wire as wire
 use Rattle.mscp_shown.proofs.Chaining.{Chain, Goes, chain_silent, is_over, last_silent, last_told, silent_of, tells}
 use Rattle.mscp_shown.proofs.Counts.{none_any, none_passes}

@@ -1,6 +1,5 @@
 -- The ends that a moment makes: each fits the command that is outstanding under its name.
-use Rattle.mscp_shown.proofs.Common.{AllByRecursion, AreBytes, Bad, Block, Bool, Connection, End, Entry, Event, Good, IsRight, IsServed, List, Moment, Name, None, Option, Order, Pairs, Promise, Report, Sent, Service, Settings, Some, Trace, [], aborted, aborted_end, aborted_unless, answer, ap, arith, command, command_of, cond, connection, count_by, cut, done, done_before, done_last, drop_last, ends_in, every_append, every_both, every_filter, every_parts, every_weaker, false, false≢true, fault_of, figure_asked, figure_of, filter, get_or, goes_on, good, good_before, if◌then◌else◌, is_good, is_named, is_online, is_queued, is_some, left, length, map, moment, name, name_on, not, order, outcome, own_end, pairs_append, queues, reference, refl, same_is, same_name, sent_by, sent_bytes, serves_in, some_same, subst, sym, true, unit, waiting, waiting_below, waiting_more, waits_below, ℕ, ◌%◌, ◌&&◌, ◌++◌, ◌+◌, ◌<◌, ◌^◌, ◌∙◌, ◌∷◌, ◌≡◌, ◌≢◌}
-use Rattle.mscp_controller.proofs.Basics.{First}
+use Rattle.mscp_shown.proofs.Common.{AllByRecursion, AreBytes, Bad, Block, Bool, Connection, End, Entry, Event, First, Good, IsRight, IsServed, List, Moment, Name, None, Option, Order, Pairs, Promise, Report, Sent, Service, Settings, Some, Trace, [], aborted, aborted_end, aborted_unless, answer, ap, arith, command, command_of, cond, connection, count_by, cut, done, done_before, done_last, drop_last, ends_in, every_append, every_both, every_filter, every_parts, every_weaker, false, false≢true, fault_of, figure_asked, figure_of, filter, get_or, goes_on, good, good_before, if◌then◌else◌, is_good, is_named, is_online, is_queued, is_some, left, length, map, moment, name, name_on, not, order, outcome, own_end, pairs_append, queues, reference, refl, same_is, same_name, sent_by, sent_bytes, serves_in, some_same, subst, sym, true, unit, waiting, waiting_below, waiting_more, waits_below, ℕ, ◌%◌, ◌&&◌, ◌++◌, ◌+◌, ◌<◌, ◌^◌, ◌∙◌, ◌∷◌, ◌≡◌, ◌≢◌}
 use Rattle.mscp_shown.proofs.Aborted.{Aborts, EndsAbort, IsAbort, IsBehind, aborts_answer, named_each, outcome_apart, own_apart}
 use Rattle.mscp_shown.proofs.Answering.{own_number}
 use Rattle.mscp_shown.proofs.Fitting.{IsSmallCommand, aborted_fit, own_fit, served_fit, small_command}

@@ -1,6 +1,5 @@
 -- A message that a controller takes keeps each rule of a host.
-use Rattle.mscp_shown.proofs.Common.{Bool, Connection, Covers, End, IsTaken, IsValid, List, Option, Sent, Settings, Trace, ap, arith, balance, cond, count_by, count_on, credits_of, every_from, false, has_credit, has_one_of, holds, is_named, le-leb, length, limit_of, map, nat_eq, not, num, outstanding, reference, sent_by, subst, sum_by, sum_by-append, sum_by_map, sum_on, sym, true, untaken, waiting_by, ℕ, ◌&&◌, ◌+◌, ◌-◌, ◌||◌, ◌∙◌, ◌≡◌, ◌≤◌}
-use Rattle.mscp_controller.proofs.Basics.{nat_lt}
+use Rattle.mscp_shown.proofs.Common.{Bool, Connection, Covers, End, IsTaken, IsValid, List, Option, Sent, Settings, Trace, ap, arith, balance, cond, count_by, count_on, credits_of, every_from, false, has_credit, has_one_of, holds, is_named, le-leb, length, limit_of, map, nat_eq, nat_lt, not, num, outstanding, reference, sent_by, subst, sum_by, sum_by-append, sum_by_map, sum_on, sym, true, untaken, waiting_by, ℕ, ◌&&◌, ◌+◌, ◌-◌, ◌||◌, ◌∙◌, ◌≡◌, ◌≤◌}
 use Rattle.mscp_wire.specs.Wire.{is_immediate, same_connection}
 use Rattle.mscp_shown.proofs.Counts.{all_pass, none_any, none_passes}
 use Rattle.mscp_shown.proofs.Owed.{owed}

@@ -1,8 +1,6 @@
 -- Each moment of a legal trace keeps what its parts keep, so that the whole trace does.
-use Rattle.mscp_shown.proofs.Common.{All, AllByRecursion, ArrayVec, Bad, Block, Bool, Command, Connection, Covers, End, Entry, Err, Event, Good, IsLegal, IsOfKind, IsPatient, IsPossible, IsRight, Known, LegalTracesAreRight, Moment, Name, None, Ok, Option, Report, Settings, Some, Trace, [], answer, ap, append-nil, arith, arrival, arrives, bound, collect, command_of, count_by, drop, each_queued, ends, ends_at, ends_more, every_append, every_parts, false, figure, figure_found, figure_of, get_or-take, if◌then◌else◌, is_online_empty, is_queued, known, length, length-take-le, moment, more_at, name, one_side, progress, recursion_from_All, reference, refl, same_connection, same_name, shaped, shown, subst, suc, sym, take, take-take, take_all, takes, true, untaken, waiting, waits_below, zero, ℕ, ◌++◌, ◌+◌, ◌<◌, ◌^◌, ◌∙◌, ◌∷◌, ◌≡◌, ◌≤◌}
-use Rattle.mscp_controller.proofs.Basics.{IsValid, find}
+use Rattle.mscp_shown.proofs.Common.{All, AllByRecursion, ArrayVec, Bad, Block, Bool, Command, Connection, Covers, End, Entry, Err, Event, Good, IsLegal, IsOfKind, IsPatient, IsPossible, IsRight, IsValid, Known, LegalTracesAreRight, Moment, Name, None, Ok, Option, Report, Settings, Some, Trace, [], answer, ap, append-nil, arith, arrival, arrives, bound, collect, command_of, count_by, drop, each_queued, ends, ends_at, ends_more, every_append, every_parts, false, figure, figure_found, figure_of, find, get_or-take, if◌then◌else◌, is_online_empty, is_queued, known, length, length-take-le, moment, more_at, name, one_side, progress, recursion_from_All, reference, refl, same_connection, same_name, shaped, shown, subst, suc, sym, take, take-append-drop, take-take, take_all, takes, true, untaken, waiting, waits_below, zero, ℕ, ◌++◌, ◌+◌, ◌<◌, ◌^◌, ◌∙◌, ◌∷◌, ◌≡◌, ◌≤◌}
 use Rattle.mscp_controller.specs.declared.entry.Sent.{Sent}
-use Rattle.std.proofs.lemmas.List.{take-append-drop}
 use Rattle.mscp_shown.proofs.Judged.{lenient}
 use Rattle.mscp_shown.proofs.Standing.{Stands, message_stands, quiet_stands}
 use Rattle.mscp_shown.proofs.Stepping.{step_stands}

@@ -1,7 +1,5 @@
 -- What holds of each element of a list and each after it.
-use Rattle.std.proofs.Common.{◌≡◌, ℕ, zero, suc, ◌+◌, ◌<◌, Bool, false, ◌||◌, List, [], ◌∷◌, ◌++◌, length, get_or, take, drop, map, refl, ap, ◌∙◌, arith}
-use Rattle.std.specs.List.{AllByRecursion, list_any}
-use Rattle.mscp_queue.specs.Pairs.{Pairs}
+use Rattle.mscp_shown.proofs.Common.{AllByRecursion, Bool, List, Pairs, [], ap, arith, drop, false, get_or, length, list_any, map, refl, suc, take, zero, ℕ, ◌++◌, ◌+◌, ◌<◌, ◌||◌, ◌∙◌, ◌∷◌, ◌≡◌}
 
 module _ {X : Type 0} where
   pub every_index : (P : X → Type 0) (xs : List X) (d : X) → ((j : ℕ) → j < length xs → P (get_or xs j d))

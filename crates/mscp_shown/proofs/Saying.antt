@@ -1,13 +1,7 @@
 -- What a message says on the wire, by what it asks for.
-use Rattle.mscp_shown.proofs.Common.{Opcode, Sent, find, found_is, inr, invalid_length, invalid_opcode, is_about_another, is_required, is_short, le-leb, least, ltb-false, ltb-true, move_byte, nat_le, nat_lt, num, opcode_of, opcodes, order_with, parameters, row_of, sent_by, slice_index}
-use Rattle.std.proofs.Common.{◌≡◌, ◌⊎◌, inl, ℕ, ◌<◌, ◌≤◌, Bool, true, false, List, length, refl, ap, sym, arith, Option, Some, None}
-use Rattle.std.proofs.lemmas.Bool.{eqb-true, false≢true, le-ltb}
-use Rattle.std.specs.Prelude.{if◌then◌else◌, nat_eq}
-use Rattle.mscp_packet.specs.Commands.{command_of}
+use Rattle.mscp_shown.proofs.Common.{Bool, Connection, List, None, Opcode, Option, Order, Sent, Some, ap, arith, command_of, eqb-true, false, false≢true, find, found_is, if◌then◌else◌, inl, inr, invalid_length, invalid_opcode, is_about_another, is_required, is_short, le-leb, le-ltb, least, length, ltb-false, ltb-true, move_byte, nat_eq, nat_le, nat_lt, num, opcode_of, opcodes, order_with, parameters, refl, row_of, sent_by, slice_index, sym, true, ℕ, ◌<◌, ◌≡◌, ◌≤◌, ◌⊎◌}
 use Rattle.mscp_packet.specs.declared.class.Opcode.TheVariants as codes
-use Rattle.mscp_packet.specs.declared.command.Order.{Order}
 use Rattle.mscp_packet.specs.declared.command.Order.TheVariants as orders
-use Rattle.mscp_drive.specs.declared.connection.Connection.{Connection}
 
 -- it is shorter than its opcode asks
 pub record IsShort (o : Opcode) (number fault : ℕ) (s : Sent) : Type 0 where

@@ -1,7 +1,6 @@
 -- A message keeps all that holds.
-use Rattle.mscp_shown.proofs.Common.{AllByRecursion, AreBytes, ArrayVec, Bool, Connection, End, Entry, Event, IsPatient, IsTaken, Known, List, Moment, None, Ok, Option, Settings, Some, Trace, [], aborted_reference, answer, ap, append-nil, arith, arrival, arrives, command_of, cond, connection, count_by, ends_at, ends_in, every_filter, every_from, every_weaker, false, false≢true, if◌then◌else◌, is_queued, name, not, num, one_side, outstanding_in, own_side, reference, refl, same_connection, sent_by, shown, subst, sym, true, untaken, waiting, waiting_by, ℕ, ◌&&◌, ◌++◌, ◌+◌, ◌∙◌, ◌∷◌, ◌≡◌}
+use Rattle.mscp_shown.proofs.Common.{AllByRecursion, AreBytes, ArrayVec, Bool, Connection, End, Entry, Event, IsPatient, IsTaken, Known, List, Moment, None, Ok, Option, Settings, Some, Trace, [], aborted_reference, answer, ap, append-nil, arith, arrival, arrives, balance, command_of, cond, connection, count_by, ends_at, ends_in, every_filter, every_from, every_weaker, false, false≢true, if◌then◌else◌, is_queued, name, name_on, not, num, one_side, outstanding_in, own_side, reference, refl, same_connection, sent_by, shown, subst, sym, true, untaken, waiting, waiting_by, ℕ, ◌&&◌, ◌++◌, ◌+◌, ◌∙◌, ◌∷◌, ◌≡◌}
 use Rattle.mscp_controller.specs.declared.entry.Sent.{Sent}
-use Rattle.mscp_controller.specs.Account.{balance}
 use Rattle.mscp_wire.specs.Wire as wire
 use Rattle.mscp_wire.specs.declared.moment.Moment.TheVariants as moments
 use Rattle.mscp_shown.proofs.Strict.{outstanding}
@@ -15,7 +14,6 @@ use Rattle.mscp_shown.proofs.Owners.{IsNew, IsOnly, IsOwed, new_one}
 use Rattle.mscp_shown.proofs.Owning.{Owners, only_new, own_last, owners_more, still_aborts, still_owed, still_own}
 use Rattle.mscp_shown.proofs.Reading.{IsFit}
 use Rattle.mscp_shown.proofs.Shown.{tally_sent}
-use Rattle.mscp_queue.specs.Names.{name_on}
 use Rattle.mscp_shown.proofs.Asking.{asked_order, its_end, poll_about, poll_answer, poll_figure, silent_answer}
 use Rattle.mscp_shown.proofs.Listening.{Heard, Tells, heard_sent, tells_none, tells_poll}
 use Rattle.mscp_shown.proofs.Polling.{asked_by, poll_of}

@@ -1,10 +1,5 @@
 -- What is outstanding on the wire after one more moment.
-use Rattle.mscp_shown.proofs.Common.{Answer, First, History, Sent, Wired, command_at, flat_map-append, fold_push, is_named, num, place_of, polled_by, position-Some, sent_by, shown, shown_by, sum_by_push}
-use Rattle.std.proofs.Common.{◌≡◌, ℕ, ◌+◌, ◌<◌, Bool, true, cond, ◌&&◌, List, [], ◌∷◌, ◌++◌, length, refl, ap, sym, ◌∙◌, append-nil, arith, Option, Some, None}
-use Rattle.std.proofs.lemmas.Bool.{and_parts, eqb-true, false≢true}
-use Rattle.std.specs.Prelude.{count_by}
-use Rattle.mscp_drive.specs.declared.connection.Connection.{Connection}
-use Rattle.mscp_controller.specs.History.{Moment, Trace}
+use Rattle.mscp_shown.proofs.Common.{Answer, Bool, Connection, First, History, List, Moment, None, Option, Sent, Some, Trace, Wired, [], and_parts, ap, append-nil, arith, command_at, cond, count_by, eqb-true, false≢true, flat_map-append, fold_push, is_named, length, num, place_of, polled_by, position-Some, refl, sent_by, shown, shown_by, sum_by_push, sym, true, ℕ, ◌&&◌, ◌++◌, ◌+◌, ◌<◌, ◌∙◌, ◌∷◌, ◌≡◌}
 use Rattle.mscp_wire.specs.Wire.{same_connection}
 use Rattle.mscp_shown.proofs.Strict.{after, after_end, hears, outstanding}
 use Rattle.mscp_shown.proofs.Counts.{removed}

@@ -1,6 +1,5 @@
 -- A step keeps it that what hosts are told of the states of units suits how they are.
-use Rattle.mscp_shown.proofs.Common.{AllByRecursion, Block, Bool, Connection, End, IsServed, Known, List, Moment, None, Option, Serves, Service, Settings, Some, Step, Trace, [], alone, ap, append-nil, arith, changes, command, controller_of, cut, ends_at, eqb-false, eqb-true, false, false≢true, good, if◌then◌else◌, inl, inr, is_online, is_online_ended, is_online_other, is_online_unended, is_queued, moment, name_on, nat_eq, option_to_list, order, outcome, queues, refl, same_connection, service_in, shown, shown_by, state_after, subst, sym, takes, told, true, unit, unit_fault, unit_found, untaken, untaken_more, waiting, waits_below, ℕ, ⊎_elim, ◌++◌, ◌∙◌, ◌∷◌, ◌≡◌, ◌≢◌, ◌⊎◌}
-use Rattle.mscp_packet.specs.declared.command.Order.{Order}
+use Rattle.mscp_shown.proofs.Common.{AllByRecursion, Block, Bool, Connection, End, IsServed, Known, List, Moment, None, Option, Order, Serves, Service, Settings, Some, Step, Trace, [], alone, ap, append-nil, arith, changes, command, controller_of, cut, ends_at, eqb-false, eqb-true, false, false≢true, good, if◌then◌else◌, inl, inr, is_online, is_online_ended, is_online_other, is_online_unended, is_queued, moment, name_on, nat_eq, option_to_list, order, outcome, queues, refl, same_connection, service_in, shown, shown_by, state_after, subst, sym, takes, told, true, unit, unit_fault, unit_found, untaken, untaken_more, waiting, waits_below, ℕ, ⊎_elim, ◌++◌, ◌∙◌, ◌∷◌, ◌≡◌, ◌≢◌, ◌⊎◌}
 use Rattle.mscp_packet.specs.declared.command.Order.TheVariants as orders
 use Rattle.mscp_shown.proofs.Effects.{Effects, served_effects}
 use Rattle.mscp_shown.proofs.Placing.{at_waiting}

@@ -1,11 +1,5 @@
 -- An end that a host takes, as the rules of the wire read it.
-use Rattle.mscp_shown.proofs.Common.{AreBytes, BodyKind, cases_lt, end_length, endcodes, find, four, get_or_past, is_long, kind_of_body, least_length, length_span, nat_le, num, slice_index}
-use Rattle.std.proofs.Common.{◌≡◌, ℕ, ◌+◌, ◌^◌, ◌<◌, true, List, [], ◌∷◌, length, refl, ap, subst, arith, ⊎_elim, Option, Some, None}
-use Rattle.std.proofs.lemmas.Bool.{eqb-true}
-use Rattle.std.specs.Prelude.{nat_eq, option_map, slice_get}
-use Rattle.arrayvec.specs.ArrayVec.{ArrayVec}
-use Rattle.mscp_packet.specs.Ends.{IsOfKind, end_bytes}
-use Rattle.mscp_packet.specs.declared.end.End.{End}
+use Rattle.mscp_shown.proofs.Common.{AreBytes, ArrayVec, BodyKind, End, IsOfKind, List, None, Option, Some, [], ap, arith, cases_lt, end_bytes, end_length, endcodes, eqb-true, find, four, get_or_past, is_long, kind_of_body, least_length, length, length_span, nat_eq, nat_le, num, option_map, refl, slice_get, slice_index, subst, true, ℕ, ⊎_elim, ◌+◌, ◌<◌, ◌^◌, ◌∷◌, ◌≡◌}
 use Rattle.mscp_shown.proofs.Counts.{found_passes}
 
 -- ---- numbers

@@ -1,8 +1,7 @@
 -- What is known of the order of all that is outstanding, and what each moment keeps of it.
-use Rattle.mscp_shown.proofs.Common.{AllByRecursion, Bool, Command, Connection, End, First, List, None, Option, Order, Pairs, Sent, Settings, Some, Trace, [], ap, arith, command, command_of, connection, count_by, eq-eqb, eqb-true, every_filter, every_from, false, false≢true, fault_of, get_or, get_or-le-sum_by, inr, is_apart, is_immediate, is_named, is_queued, is_waiting, keeps_back, length, list_any, moment, nat_eq, one_side, order, own_end, own_end_with, own_side, pairs_append, position-Some, queued_open, reference, refl, sent_by, sent_bytes, subst, sym, true, true≢false, unit, untaken, waiting, waiting_by, waiting_waits, ℕ, ◌%◌, ◌&&◌, ◌++◌, ◌<◌, ◌||◌, ◌∙◌, ◌∷◌, ◌≡◌, ◌≢◌, ◌≤◌, ◌⊎◌}
+use Rattle.mscp_shown.proofs.Common.{AllByRecursion, Bool, Command, Connection, End, First, List, None, Option, Order, Pairs, Sent, Settings, Some, Trace, [], ap, arith, command, command_of, connection, count_by, eq-eqb, eqb-true, every_filter, every_from, false, false≢true, fault_of, get_or, get_or-le-sum_by, inr, is_apart, is_immediate, is_named, is_queued, is_waiting, keeps_back, length, list_any, moment, nat_eq, one_side, order, own_end, own_end_with, own_side, pairs_append, position-Some, queued_open, reference, refl, same_connection, sent_by, sent_bytes, subst, sym, true, true≢false, unit, untaken, waiting, waiting_by, waiting_waits, ℕ, ◌%◌, ◌&&◌, ◌++◌, ◌<◌, ◌||◌, ◌∙◌, ◌∷◌, ◌≡◌, ◌≢◌, ◌≤◌, ◌⊎◌}
 use Rattle.mscp_packet.specs.declared.command.Order.TheVariants as orders
 use Rattle.mscp_controller.specs.Passing as passing
-use Rattle.mscp_queue.specs.Names.{same_connection}
 use Rattle.mscp_queue.specs.Orders as queue
 use Rattle.mscp_wire.specs.Wire as wire
 use Rattle.mscp_shown.proofs.Counts.{none_passes, some_place}
