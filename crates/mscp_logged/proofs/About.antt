@@ -1,6 +1,5 @@
 -- Each end of an ABORT or a poll in a port's log succeeds, and is about the command that its message names.
-use Rattle.mscp_logged.proofs.Common.{Answer, Bool, First, Fits, IsCodeFor, IsWhole, List, None, Sent, Some, answer_by, ap, arith, cond, eq-eqb, false, false≢true, inl, inr, is_about, is_about_another, is_refused, kind_of_code, le-leb, length, nat_eq, nat_le, not, num, other_of, refl, sent_by, slice_index, succeeds, sym, true, ℕ, ◌∙◌, ◌≡◌, ◌≤◌, ◌⊎◌}
-use Rattle.std.proofs.Common.{◌&&◌}
+use Rattle.mscp_logged.proofs.Common.{Answer, Bool, First, Fits, IsCodeFor, IsWhole, List, None, Sent, Some, answer_by, ap, arith, cond, eq-eqb, false, false≢true, inl, inr, is_about, is_about_another, is_refused, kind_of_code, le-leb, length, nat_eq, nat_le, not, num, other_of, refl, sent_by, slice_index, succeeds, sym, true, ℕ, ◌&&◌, ◌∙◌, ◌≡◌, ◌≤◌, ◌⊎◌}
 use Rattle.mscp_packet.specs.declared.end.BodyKind.TheVariants as bodykinds
 use Rattle.mscp_logged.proofs.Wired.{stem}
 

@@ -1,6 +1,5 @@
 -- A message as it is handed over says what it says itself, but for its unit.
-use Rattle.mscp_logged.proofs.Common.{AreBytes, Bool, First, IsLong, IsText, List, Order, Says, Sent, Shape, arith, asks_for_next, command_of, cond, drop, endcode, false, handed, inl, inr, is_formality, length, little_bytes, next_unit, num, refl, sent_by, sent_long, sent_says, slice_index, stand_in, subst, suc, sym, take, true, zero, ℕ, ◌++◌, ◌<◌, ◌^◌, ◌∷◌, ◌≡◌, ◌≤◌}
-use Rattle.std.proofs.Common.{◌%◌, ◌/◌}
+use Rattle.mscp_logged.proofs.Common.{AreBytes, Bool, First, IsLong, IsText, List, Order, Says, Sent, Shape, arith, asks_for_next, command_of, cond, drop, endcode, false, handed, inl, inr, is_formality, length, little_bytes, next_unit, num, refl, sent_by, sent_long, sent_says, slice_index, stand_in, subst, suc, sym, take, true, zero, ℕ, ◌%◌, ◌++◌, ◌/◌, ◌<◌, ◌^◌, ◌∷◌, ◌≡◌, ◌≤◌}
 use Rattle.mscp_packet.specs.declared.command.Order.TheVariants as orders
 
 -- the command of a message, of which this is the unit

@@ -1,6 +1,5 @@
 -- An end that fits its message has the unit and the endcode of its command.
-use Rattle.mscp_logged.proofs.Common.{Answer, Bool, First, Fits, IsCodeFor, IsUnitFor, List, None, Outgoing, Port, Sent, ap, arith, eq-eqb, eqb-true, false, false≢true, has_endcode, inl, inr, is_required, names_unit, nat_eq, num, opcode_of, own_answer, own_coded, refl, sent_by, slice_index, small_unit, sym, true, two, volume_named, ℕ, ◌+◌, ◌||◌, ◌∙◌, ◌≡◌, ◌⊎◌}
-use Rattle.std.specs.Prelude.{◌<◌, ◌^◌, ◌≢◌}
+use Rattle.mscp_logged.proofs.Common.{Answer, Bool, First, Fits, IsCodeFor, IsUnitFor, List, None, Outgoing, Port, Sent, ap, arith, eq-eqb, eqb-true, false, false≢true, has_endcode, inl, inr, is_required, names_unit, nat_eq, num, opcode_of, own_answer, own_coded, refl, sent_by, slice_index, small_unit, sym, true, two, volume_named, ℕ, ◌+◌, ◌<◌, ◌^◌, ◌||◌, ◌∙◌, ◌≡◌, ◌≢◌, ◌⊎◌}
 use Rattle.mscp_port.specs.declared.port.OutgoingKind.TheVariants as kinds
 use Rattle.mscp_logged.proofs.Own.{IsOwn, of_disk}
 use Rattle.mscp_logged.proofs.Wired.{stem}

@@ -1,9 +1,8 @@
 -- Over a whole list of calls a unit that is online with its volume is online in the controller, too.
-use Rattle.mscp_logged.proofs.Common.{Answered, AsksAlways, Bool, Call, Dies, Drive, First, Hears, Holdings, IsAsNew, IsFaultTold, IsPassive, List, Next, None, Ok, Option, Picking, Port, ReadsBytes, SendFault, Shape, Some, Stage, Task, Volume, Wants, WasRead, Went, WriteIp, [], aborting, after_message, answered_end, ap, arith, asked_before, awaited, balance_of, blocks, command_of, cond, drive_now, false, few_ends, find, handed, held_unless, history, inl, inr, is_dead, is_queued, map, none_or_some, option_map, outstanding_of, own_end_of, passive_stays, queued, refl, refusal, steps, sym, true, unit_found, volume_at, with_end, ℕ, ◌<◌, ◌∙◌, ◌∷◌, ◌≡◌, ◌⊎◌}
+use Rattle.mscp_logged.proofs.Common.{Answered, AsksAlways, Bool, Call, Dies, Drive, First, Hears, Holdings, IsAsNew, IsFaultTold, IsPassive, List, Next, None, Ok, Option, Picking, Port, ReadsBytes, SendFault, Shape, Some, Stage, Task, Volume, Wants, WasRead, Went, WriteIp, [], aborting, after_message, answered_end, ap, arith, asked_before, awaited, balance_of, blocks, command_of, cond, drive_now, false, few_ends, find, handed, held_unless, history, inl, inr, is_dead, is_queued, map, none-some, none_or_some, option_map, outstanding_of, own_end_of, passive_stays, queued, refl, refusal, steps, sym, true, unit_found, volume_at, with_end, ℕ, ◌<◌, ◌∙◌, ◌∷◌, ◌≡◌, ◌⊎◌}
 use Rattle.mscp_queue.specs.Drives.{has_number}
 use Rattle.mscp_port.specs.declared.stage.Stage.TheVariants as stages
 use Rattle.mscp_port.specs.declared.task.Task.TheVariants as tasks
-use Rattle.mscp_port.proofs.Common.{none-some}
 use Rattle.mscp_logged.proofs.Driven.{AreDriven}
 use Rattle.mscp_logged.proofs.Moored.{AreAsWere, next_volumes, passive_volumes, read_volumes, volumes_still}
 use Rattle.mscp_logged.proofs.Orderly.{fits, numbers_kept, ordering, promised}

@@ -1,6 +1,5 @@
 -- After each call of a port no end that waits has passed a command that it had to wait for.
-use Rattle.mscp_logged.proofs.Common.{Action, AllByRecursion, At, Block, Bool, Call, Command, Connection, Decided, Dies, Drive, End, First, Fitting, Goes, Holdings, IsNoReset, IsOf, IsServable, IsUnitIn, Kept, List, Next, None, Ok, Option, Outcome, Port, Record, Second, Serves, Settings, Some, Stays, TakesEnd, Verdict, Wants, Went, [], advanced, and_parts, ap, append-nil, append_assoc, arith, block_told, brought_for, cond, decided_by, drive_in, drop, drop_more, end_given, end_number, end_served, ended_none, ends_begun, ends_of, ends_said_by, eq-eqb, false, fences, filter, filter-append, first_of_one, has_number, inl, inr, is_affordable, is_dead, is_in_service, is_numbered, is_same, is_some, left_awaited, length, list_all, map, name_of, name_on, nat_eq, not, nothing_two, num, record_at, refl, said, says_is, served_goes_on, served_itself, served_other, served_waits, serves_grow, since, some_none, step_charge, still_none, subst, sym, take, take-append-drop, taken_by, this_one, true, unit_found, waiting_after, went_is, whole, without_ends, ℕ, ◌++◌, ◌+◌, ◌∙◌, ◌∷◌, ◌≡◌, ◌≤◌, ◌⊎◌}
-use Rattle.std.proofs.Common.{nat_lt}
+use Rattle.mscp_logged.proofs.Common.{Action, AllByRecursion, At, Block, Bool, Call, Command, Connection, Decided, Dies, Drive, End, First, Fitting, Goes, Holdings, IsNoReset, IsOf, IsServable, IsUnitIn, Kept, List, Next, None, Ok, Option, Outcome, Port, Record, Second, Serves, Settings, Some, Stays, TakesEnd, Verdict, Wants, Went, [], advanced, and_parts, ap, append-nil, append_assoc, arith, block_told, brought_for, cond, decided_by, drive_in, drop, drop_more, end_given, end_number, end_served, ended_none, ends_begun, ends_of, ends_said_by, eq-eqb, false, fences, filter, filter-append, first_of_one, has_number, inl, inr, is_affordable, is_dead, is_in_service, is_numbered, is_same, is_some, left_awaited, length, list_all, map, name_of, name_on, nat_eq, nat_lt, not, nothing_two, num, record_at, refl, said, says_is, served_goes_on, served_itself, served_other, served_waits, serves_grow, since, some_none, step_charge, still_none, subst, sym, take, take-append-drop, taken_by, this_one, true, unit_found, waiting_after, went_is, whole, without_ends, ℕ, ◌++◌, ◌+◌, ◌∙◌, ◌∷◌, ◌≡◌, ◌≤◌, ◌⊎◌}
 use Rattle.mscp_logged.proofs.Clear.{AreClear, IsGood, Ordered, is_ended, ordered_as, ordered_forgotten, ordered_stepped, ordered_taken, some_ended, unended}
 use Rattle.mscp_logged.proofs.Fences.{IsWaiting, serves_free}
 use Rattle.mscp_logged.proofs.Passes.{overtakes}

@@ -1,9 +1,7 @@
 -- What begins to go out as a port answers a message itself.
-use Rattle.mscp_logged.proofs.Common.{Answered, AnswersItself, Becomes, Bool, Call, Descriptor, End, Hardware, Hears, Holdings, IsAnswering, IsMadeOf, IsSomeAnd, IsWhole, List, None, Ok, Option, Outgoing, Own, Picking, Port, Some, WasRead, [], ap, arith, bytes_small, end_bytes, end_kind, ends_of, false, inl, inr, is_foreign, length, none-some, none_waits, num, own_answer, own_end_of, own_so, own_text, own_whole, refl, slice_index, subst, sym, volume_named, ℕ, ◌∙◌, ◌∷◌, ◌≡◌, ◌≤◌}
-use Rattle.std.specs.Prelude.{◌<◌, ◌^◌}
+use Rattle.mscp_logged.proofs.Common.{Answered, AnswersItself, Becomes, Bool, Call, Descriptor, End, Hardware, Hears, Holdings, IsAnswering, IsMadeOf, IsSomeAnd, IsWhole, List, None, Ok, Option, Outgoing, Own, Picking, Port, Some, WasRead, [], ap, arith, bytes_small, end_bytes, end_kind, ends_of, false, inl, inr, is_foreign, length, none-some, none_waits, num, own_answer, own_end_of, own_number, own_so, own_text, own_whole, refl, slice_index, subst, sym, volume_named, ℕ, ◌<◌, ◌^◌, ◌∙◌, ◌∷◌, ◌≡◌, ◌≤◌}
 use Rattle.mscp_port.specs.declared.port.OutgoingKind.TheVariants as kinds
 use Rattle.mscp_port.specs.declared.task.Task.TheVariants as tasks
-use Rattle.mscp_ported.proofs.Itself.{own_number}
 
 -- it has the number of its message, is an end of the disk's just if that is for the disks, and is whole then
 pub record IsOwn {K : Type 0} (old : Port K) (text : List ℕ) (o : Outgoing) : Type 0 where

@@ -1,7 +1,6 @@
 -- What is known of each command that is outstanding: its figure isn't above the one that was told of it last; and of a
 -- poll which figure comes, and that it may be told.
-use Rattle.mscp_logged.proofs.Common.{AllByRecursion, Answer, Asked, Bool, First, List, None, Nothing, Oldest, Option, Pending, Sent, Some, [], and_parts, ap, arith, asked_about, asked_by, asks_oldest, command_at, cond, eqb-true, false, false≢true, find_cases, inl, inr, is_known, is_named, is_refused, length, list_any, may_ask, may_be, nat_eq, none-some, not, or_left, or_right, polled_by, position, position_first, position_none, refl, same_Some, same_connection, sent_by, subst, sym, true, ℕ, ◌++◌, ◌<◌, ◌∙◌, ◌∷◌, ◌≡◌, ◌≤◌, ◌⊎◌}
-use Rattle.std.proofs.Common.{◌&&◌, find, nat_lt}
+use Rattle.mscp_logged.proofs.Common.{AllByRecursion, Answer, Asked, Bool, First, List, None, Nothing, Oldest, Option, Pending, Sent, Some, [], and_parts, ap, arith, asked_about, asked_by, asks_oldest, command_at, cond, eqb-true, false, false≢true, find, find_cases, inl, inr, is_known, is_named, is_refused, length, list_any, may_ask, may_be, nat_eq, nat_lt, none-some, not, or_left, or_right, polled_by, position, position_first, position_none, refl, same_Some, same_connection, sent_by, subst, sym, true, ℕ, ◌&&◌, ◌++◌, ◌<◌, ◌∙◌, ◌∷◌, ◌≡◌, ◌≤◌, ◌⊎◌}
 use Rattle.mscp_logged.proofs.Left.{at_front}
 use Rattle.mscp_logged.proofs.Wired.{named}
 

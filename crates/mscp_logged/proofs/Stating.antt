@@ -1,7 +1,6 @@
 -- An end that answers a message, or that of a command which is aborted, says that its unit is online, or that it isn't,
 -- only if that is so.
-use Rattle.mscp_logged.proofs.Common.{Answer, AsksFor, Bool, Command, Decided, End, First, Hardware, IsPast, List, None, Option, Order, Own, Record, Sent, Settings, Shape, Some, Volume, aborted_record, answer_by, ap, arith, command_of, cond, end_with_body, endcode, ends_formality, eqb-true, false, false≢true, fault_of, inl, inr, is_queued, move_fault, order_fault, own_answer, own_cases, own_end, own_end_with, own_refused, own_text, refl, refused_apart, sent_by, sent_says, slice_index, status_after, subst, sym, true, unit_fault, unit_state, ℕ, ◌%◌, ◌+◌, ◌/◌, ◌<◌, ◌^◌, ◌∙◌, ◌≡◌, ◌⊎◌}
-use Rattle.std.specs.Prelude.{not}
+use Rattle.mscp_logged.proofs.Common.{Answer, AsksFor, Bool, Command, Decided, End, First, Hardware, IsPast, List, None, Option, Order, Own, Record, Sent, Settings, Shape, Some, Volume, aborted_record, answer_by, ap, arith, command_of, cond, end_with_body, endcode, ends_formality, eqb-true, false, false≢true, fault_of, inl, inr, is_queued, move_fault, not, order_fault, own_answer, own_cases, own_end, own_end_with, own_refused, own_text, refl, refused_apart, sent_by, sent_says, slice_index, status_after, subst, sym, true, unit_fault, unit_state, ℕ, ◌%◌, ◌+◌, ◌/◌, ◌<◌, ◌^◌, ◌∙◌, ◌≡◌, ◌⊎◌}
 use Rattle.mscp_packet.specs.declared.command.Order.TheVariants as orders
 use Rattle.mscp_drive.specs.Settings.{unit_found}
 use Rattle.mscp_drive.specs.UnitList as list

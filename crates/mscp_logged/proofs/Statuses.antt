@@ -1,6 +1,5 @@
 -- The status with which an end is told suits its command, as that does with which the controller made it.
-use Rattle.mscp_logged.proofs.Common.{Block, Bool, EndBody, IsFine, Order, Says, Sent, Suits, Verdict, Volume, arith, cond, endcode, false, is_immediate, is_move, refl, status_after, true, unit_state, ℕ, ◌<◌, ◌==◌, ◌^◌, ◌||◌, ◌≡◌, ◌≢◌}
-use Rattle.std.specs.Prelude.{not}
+use Rattle.mscp_logged.proofs.Common.{Block, Bool, EndBody, IsFine, Order, Says, Sent, Suits, Verdict, Volume, arith, cond, endcode, false, is_immediate, is_move, not, refl, status_after, true, unit_state, ℕ, ◌<◌, ◌==◌, ◌^◌, ◌||◌, ◌≡◌, ◌≢◌}
 use Rattle.mscp_packet.specs.declared.command.MoveKind.TheVariants as kinds
 use Rattle.mscp_packet.specs.declared.command.Order.TheVariants as orders
 use Rattle.mscp_port.specs.declared.verdict.Verdict.TheVariants as verdicts

@@ -1,7 +1,6 @@
 -- How a step went that ended otherwise than its drive told: its unit isn't online with its volume. And a transfer goes
 -- well only while it is.
-use Rattle.mscp_logged.proofs.Common.{Block, Bool, Buffer, Err, IsBegunStep, IsHow, List, MoveKind, Name, None, Ok, Option, Order, Outcome, Port, Record, Result, Some, Task, Upcoming, Verdict, Volume, arith, begun_record, begun_step, block_begun, block_of, block_served, changed_verdict, cond, drive_of, false, false≢true, fault_with, faulted, find, has_changed, has_host_bytes, has_name, inl, inr, is_available, is_some, known_task, move_of, move_task, moved_by, moved_step, nat_le, option_map, part_at, part_of, part_served, part_task, part_with, refl, refusal_of, subst, sym, takes_any_volume, task_of, true, unless_fault, upcoming_of, volume_at, volume_found, volume_in_place, writes, ℕ, ◌%◌, ◌&&◌, ◌==◌, ◌≡◌, ◌≤◌, ◌⊎◌}
-use Rattle.std.specs.Prelude.{not}
+use Rattle.mscp_logged.proofs.Common.{Block, Bool, Buffer, Err, IsBegunStep, IsHow, List, MoveKind, Name, None, Ok, Option, Order, Outcome, Port, Record, Result, Some, Task, Upcoming, Verdict, Volume, arith, begun_record, begun_step, block_begun, block_of, block_served, changed_verdict, cond, drive_of, false, false≢true, fault_with, faulted, find, has_changed, has_host_bytes, has_name, inl, inr, is_available, is_some, known_task, move_of, move_task, moved_by, moved_step, nat_le, not, option_map, part_at, part_of, part_served, part_task, part_with, refl, refusal_of, subst, sym, takes_any_volume, task_of, true, unless_fault, upcoming_of, volume_at, volume_found, volume_in_place, writes, ℕ, ◌%◌, ◌&&◌, ◌==◌, ◌≡◌, ◌≤◌, ◌⊎◌}
 use Rattle.mscp_packet.specs.declared.command.Order.TheVariants as orders
 use Rattle.mscp_drive.specs.declared.block.Block.TheVariants as blocks
 use Rattle.mscp_port.specs.declared.task.Task.TheVariants as tasks
