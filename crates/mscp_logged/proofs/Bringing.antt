@@ -65,8 +65,6 @@ module _ {K : Type 0} {picks : Picking K} (run : Begun picks) (keeping : IsKeepi
 
       by : (call : Call) → AsksAlways (call ∷ calls) → ReadsBytes (call ∷ calls) → (F → TellsFaults (call ∷ calls))
           → (a : Answered picks start (call ∷ calls) p) → call ≢ WriteIp → IsOther call → Spoken p call calls a
-      by WriteIp asks reads fine a never other = absurd (never refl)
-      by (Next blocks action bytes) asks reads fine a never other = absurd (other blocks action bytes refl)
       by (WasRead bytes (Ok done)) asks reads fine a never other =
           let x = read_speaks bytes done a.0 p (awaited picks start a.0 calls a.1)
           (numbers_kept run keeping a.0 calls reads.1 a.1) a.2 reads.0 (whole a.0 calls a.1).ends.long lives hardware c
@@ -76,7 +74,7 @@ module _ {K : Type 0} {picks : Picking K} (run : Begun picks) (keeping : IsKeepi
           let x = went_told run keeping p outcome done calls asks reads a (driving run keeping a.0 calls
           (asked_before (Went outcome (Ok done)) calls asks) reads a.1) lives F (λ f. (fine f).0) in
           (x.0, x.1.0, λ b u e. search (arith, e))
-      by call asks reads fine a never other = passive call a tt
+      by call asks reads fine a never other = grind (arith, passive)
 
   module _ (p : Port K) (call : Call) (calls : List Call) (asks : AsksAlways (call ∷ calls))
       (reads : ReadsBytes (call ∷ calls)) (fine : F → TellsFaults (call ∷ calls))
@@ -100,9 +98,7 @@ module _ {K : Type 0} {picks : Picking K} (run : Begun picks) (keeping : IsKeepi
     begun_none = by a.0.outgoing p.outgoing
       where
         by : (x y : Option Outgoing) → begins x y ≡ [] → ends_begun x y ≡ []
-        by None None e = refl
-        by None (Some o) e = search (arith, e)
-        by (Some o) y e = refl
+        by x y e = grind arith
 
     begun_other : (o : Outgoing) → a.0.outgoing ≡ None → p.outgoing ≡ Some o → (k : OutgoingKind) → o.kind ≡ k
         → ends_begun a.0.outgoing p.outgoing ≡ end_said k o.bytes.items
@@ -193,8 +189,7 @@ module _ {K : Type 0} {picks : Picking K} (run : Begun picks) (keeping : IsKeepi
         not_next x e never blocks action bytes f = never blocks action bytes (sym e ∙ f)
 
         no_end : (x : Call) → call ≡ x → IsOther x → (text : List ℕ) → ends_said_by call a.0 p ≡ text ∷ [] → ⊥
-        no_end (Next b y z) e never text said = never b y z refl
-        no_end x e never text said = search (arith, sym (ap (λ y. ends_said_by y a.0 p) e) ∙ said)
+        no_end x e never text said = grind arith
 
         other : (x : Call) → call ≡ x → IsOther x → Deals (awaited picks start a.0 calls a.1) call a.0 p → Brought
         other x e never (inl q) = plain (begun_none q.begun) (not_next x e never)

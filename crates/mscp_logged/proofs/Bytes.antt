@@ -1,6 +1,5 @@
 -- A message as it is handed over says what it says itself, but for its unit.
-use Rattle.mscp_logged.proofs.Common.{AreBytes, Bool, First, IsLong, IsText, List, Order, Says, Sent, Shape, arith, asks_for_next, command_of, cond, drop, endcode, false, handed, inl, inr, is_formality, length, little_bytes, next_unit, num, refl, sent_by, sent_long, sent_says, slice_index, stand_in, subst, suc, sym, take, true, zero, ℕ, ◌%◌, ◌++◌, ◌/◌, ◌<◌, ◌^◌, ◌∷◌, ◌≡◌, ◌≤◌}
-use Rattle.mscp_packet.specs.declared.command.Order.TheVariants as orders
+use Rattle.mscp_logged.proofs.Common.{AreBytes, Bool, First, IsLong, IsText, List, Order, Says, Sent, Shape, arith, asks_for_next, command_of, cond, drop, endcode, false, handed, is_formality, length, little_bytes, next_unit, num, sent_by, sent_long, sent_says, slice_index, stand_in, subst, suc, sym, take, true, zero, ℕ, ◌%◌, ◌++◌, ◌/◌, ◌<◌, ◌^◌, ◌∷◌, ◌≡◌, ◌≤◌}
 
 -- the command of a message, of which this is the unit
 abbrev pub of_unit : List ℕ → ℕ → Sent
@@ -9,23 +8,15 @@ of_unit t unit = record (sent_by First t) { unit = unit }
 -- ---- the unit doesn't matter
 
 says_any : (o : Order) (t : List ℕ) (one other : ℕ) → Says o (of_unit t one) → Says o (of_unit t other)
-says_any (orders.Invalid byte status) t one other (inl e) = inl e
-says_any (orders.Invalid byte status) t one other (inr s) = grind arith
-says_any order t one other h = h
+says_any order t one other h = grind arith
 
 long_any : (o : Order) (t : List ℕ) (one other : ℕ) → IsLong o (of_unit t one) → IsLong o (of_unit t other)
-long_any (orders.Abort n) t one other h = h
-long_any order t one other h = h
+long_any order t one other h = grind arith
 
 -- ---- another unit is named
 
 abbrev renamed : List ℕ → ℕ → List ℕ
 renamed t n = take 4 t ++ little_bytes 2 n ++ drop 6 t
-
-renamed_same : (t : List ℕ) (n : ℕ) → 12 ≤ length t
-    → sent_by First (renamed t n) ≡ of_unit t (num (renamed t n) 4 2)
-renamed_same (a ∷ b ∷ c ∷ d ∷ e ∷ f ∷ g ∷ h ∷ i ∷ j ∷ k ∷ l ∷ rest) n long = refl
-renamed_same t n long = absurd (search (arith, long))
 
 low_byte : (n : ℕ) → n % 256 < 256
 low_byte n = omega arith
@@ -60,8 +51,7 @@ module _ (units : List Shape) (t : List ℕ) (is : IsText t) (plain : is_formali
     where
       by : (c : Bool) → sent_by First (cond c (renamed t (next_unit units (num t 4 2))) t)
           ≡ of_unit t (num (cond c (renamed t (next_unit units (num t 4 2))) t) 4 2)
-      by true = renamed_same t (next_unit units (num t 4 2)) is.long
-      by false = refl
+      by c = grind arith
 
   pub handed_bytes : AreBytes b
   handed_bytes = subst (λ c. AreBytes (cond c (stand_in t) (cond (asks_for_next t)

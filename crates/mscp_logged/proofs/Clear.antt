@@ -1,5 +1,5 @@
 -- No end of a controller's that waits has passed a command that it had to wait for.
-use Rattle.mscp_logged.proofs.Common.{Bool, Decided, End, List, Record, Settings, [], any_more, ap, arith, cond, drop, ends_numbered, eq-eqb, eqb-true, false, false≢true, filter, filter-append, first_of_one, has_number, inl, inr, is_apart, is_in_service, is_numbered, is_some, length, list_any, nat_eq, none_beside, not, num, or_parts, refl, sole_comes, sole_left, some_none, subst, sym, true, unit_found, ℕ, ◌%◌, ◌++◌, ◌∙◌, ◌∷◌, ◌≡◌, ◌⊎◌}
+use Rattle.mscp_logged.proofs.Common.{Bool, Decided, End, List, Record, Settings, [], any_more, ap, arith, cond, drop, ends_numbered, eqb-true, false, false≢true, filter, filter-append, first_of_one, has_number, inl, inr, is_apart, is_in_service, is_numbered, is_some, length, list_any, nat_eq, none_beside, not, num, or_parts, refl, sole_comes, sole_left, some_none, subst, sym, true, unit_found, ℕ, ◌%◌, ◌++◌, ◌∙◌, ◌∷◌, ◌≡◌, ◌⊎◌}
 use Rattle.mscp_logged.proofs.Passes.{any_fewer, keeps, overtakes, passes_beside, passes_fewer}
 use Rattle.mscp_logged.proofs.Queueing.{InOrder, NoneBehind, order_as, order_left, order_more}
 
@@ -36,8 +36,7 @@ unended_answered : (es : List End) (aw : List (List ℕ)) (m : List ℕ) → is_
 unended_answered es aw m e = none_beside (λ t. not (is_ended es t)) aw m (ap not e)
 
 turned : (a b : ℕ) (c : Bool) → nat_eq a b ≡ c → nat_eq b a ≡ c
-turned a b true e = eq-eqb b a (sym (eqb-true a b e))
-turned a b false e = grind arith
+turned a b c e = grind arith
 
 pub none_ended : (m : List ℕ) (es : List End) → filter (ends_numbered (num m 0 4)) es ≡ [] → is_ended es m ≡ false
 none_ended m [] none = refl
@@ -55,8 +54,7 @@ some_ended m es x sole = by (is_ended es m) refl
         (turned (num m 0 4) e.reference false p.0) ∙ nothing es p.1
 
     by : (b : Bool) → is_ended es m ≡ b → is_ended es m ≡ true
-    by true h = h
-    by false h = absurd (some_none x [] (sym sole ∙ nothing es h))
+    by b h = grind (arith, some_none, nothing)
 
 -- ---- the ends
 
@@ -71,9 +69,8 @@ AreClear aw (e ∷ es) [] = Unit {0}
 AreClear aw (e ∷ es) (d ∷ ds) = IsClear aw e d × AreClear (without e.reference aw) es ds
 
 pub clear_forgotten : (es : List End) (ds : List Decided) → AreClear [] es ds
-clear_forgotten [] ds = tt
-clear_forgotten (e ∷ es) [] = tt
 clear_forgotten (e ∷ es) (d ∷ ds) = (inr refl, clear_forgotten es ds)
+clear_forgotten es ds = grind arith
 
 clear_more : (aw : List (List ℕ)) (es fs : List End) (ds gs : List Decided) → length es ≡ length ds
     → AreClear aw es ds → AreClear (unended es aw) fs gs → AreClear aw (es ++ fs) (ds ++ gs)
@@ -87,8 +84,6 @@ clear_more aw (e ∷ es) fs (d ∷ ds) gs long all more = (
 
 clear_beside : (m : List ℕ) (aw : List (List ℕ)) (es : List End) (ds : List Decided) → is_ended es m ≡ false
     → AreClear aw es ds → AreClear (aw ++ m ∷ []) es ds
-clear_beside m aw [] ds none all = tt
-clear_beside m aw (e ∷ es) [] none all = tt
 clear_beside m aw (e ∷ es) (d ∷ ds) none all =
     let p = or_parts (has_number e.reference m) (is_ended es m) none in (
       one p.0 all.0,
@@ -100,6 +95,7 @@ clear_beside m aw (e ∷ es) (d ∷ ds) none all =
     one : has_number e.reference m ≡ false → IsClear aw e d → IsClear (aw ++ m ∷ []) e d
     one apart (inl x) = inl x
     one apart (inr x) = inr (passes_beside (has_number e.reference) keeps aw m apart ∙ x)
+clear_beside m aw es ds none all = grind arith
 
 -- ---- all that is kept
 

@@ -1,5 +1,5 @@
 -- An end that fits its message has the unit and the endcode of its command.
-use Rattle.mscp_logged.proofs.Common.{Answer, Bool, First, Fits, IsCodeFor, IsUnitFor, List, None, Outgoing, Port, Sent, ap, arith, eq-eqb, eqb-true, false, false≢true, has_endcode, inl, inr, is_required, names_unit, nat_eq, num, opcode_of, own_answer, own_coded, refl, sent_by, slice_index, small_unit, sym, true, two, volume_named, ℕ, ◌+◌, ◌<◌, ◌^◌, ◌||◌, ◌∙◌, ◌≡◌, ◌≢◌, ◌⊎◌}
+use Rattle.mscp_logged.proofs.Common.{Answer, Bool, First, Fits, IsCodeFor, IsUnitFor, List, None, Outgoing, Port, Sent, ap, arith, eq-eqb, eqb-true, false, false≢true, has_endcode, inl, inr, is_required, names_unit, nat_eq, num, opcode_of, own_answer, own_coded, refl, sent_by, slice_index, small_unit, sym, true, two, volume_named, ℕ, ◌+◌, ◌<◌, ◌^◌, ◌∙◌, ◌≡◌, ◌≢◌, ◌⊎◌}
 use Rattle.mscp_port.specs.declared.port.OutgoingKind.TheVariants as kinds
 use Rattle.mscp_logged.proofs.Own.{IsOwn, of_disk}
 use Rattle.mscp_logged.proofs.Wired.{stem}
@@ -42,12 +42,10 @@ own_fits old text o small own kind = record {
         (ap (λ f. own_answer f (volume_named old text) text) (sym (of_disk old text o own kind)) ∙ own.own.1)
 
     neither : (slice_index o.bytes.items 8 ≡ 0x81) ⊎ (slice_index o.bytes.items 8 ≡ 0x82) → ⊥
-    neither (inl x) = coded.2 (sym (ap (λ b. slice_index b 8) own.own.2) ∙ x)
-    neither (inr x) = coded.1 (sym (ap (λ b. slice_index b 8) own.own.2) ∙ x)
+    neither x = grind (arith, coded)
 
 -- ---- units
 
 pub unit_right : (y : Sent) (e : Answer) (message : List ℕ) → stem y ≡ sent_by First message → IsUnitFor e.unit message
     → names_unit y e ≡ true
-unit_right y e message is (inr next) = ap (λ b. b || nat_eq e.unit y.unit) (ap (λ (s : Sent). s.next) is ∙ next)
-unit_right y e message is (inl same) = grind arith
+unit_right y e message is x = grind arith

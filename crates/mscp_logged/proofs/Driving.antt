@@ -1,5 +1,5 @@
 -- Over a whole list of calls a unit that is online with its volume is online in the controller, too.
-use Rattle.mscp_logged.proofs.Common.{Answered, AsksAlways, Bool, Call, Dies, Drive, First, Hears, Holdings, IsAsNew, IsFaultTold, IsPassive, List, Next, None, Ok, Option, Picking, Port, ReadsBytes, SendFault, Shape, Some, Stage, Task, Volume, Wants, WasRead, Went, WriteIp, [], aborting, after_message, answered_end, ap, arith, asked_before, awaited, balance_of, blocks, command_of, cond, drive_now, false, few_ends, find, handed, held_unless, history, inl, inr, is_dead, is_queued, map, none-some, none_or_some, option_map, outstanding_of, own_end_of, passive_stays, queued, refl, refusal, steps, sym, true, unit_found, volume_at, with_end, ℕ, ◌<◌, ◌∙◌, ◌∷◌, ◌≡◌, ◌⊎◌}
+use Rattle.mscp_logged.proofs.Common.{Answered, AsksAlways, Bool, Call, Dies, Drive, First, Hears, Holdings, IsAsNew, IsFaultTold, IsPassive, List, Next, Ok, Option, Picking, Port, ReadsBytes, SendFault, Shape, Some, Stage, Task, Volume, Wants, WasRead, Went, WriteIp, [], after_message, ap, arith, asked_before, awaited, balance_of, blocks, command_of, drive_now, false, few_ends, find, handed, held_unless, history, inl, inr, is_dead, map, none-some, none_or_some, option_map, outstanding_of, own_end_of, passive_stays, refl, refusal, steps, sym, true, unit_found, volume_at, ℕ, ◌<◌, ◌∙◌, ◌∷◌, ◌≡◌, ◌⊎◌}
 use Rattle.mscp_queue.specs.Drives.{has_number}
 use Rattle.mscp_port.specs.declared.stage.Stage.TheVariants as stages
 use Rattle.mscp_port.specs.declared.task.Task.TheVariants as tasks
@@ -22,15 +22,8 @@ find_drives f same u (s ∷ units) = grind (arith, find_drives f same u units)
 message_drives : {K : Type 0} (h : Holdings K) (b : List ℕ) → (after_message First h b).drives ≡ h.drives
 message_drives {K} h b = by (refusal (balance_of First h) (outstanding_of First h) b)
   where
-    taken : (q : Bool) → (cond q (queued First h (command_of b))
-        (with_end First (aborting First h (command_of b).order) (answered_end First h (command_of b)))).drives
-        ≡ h.drives
-    taken true = refl
-    taken false = refl
-
     by : (o : Option SendFault) → (held_unless First h (command_of b) o).drives ≡ h.drives
-    by (Some fault) = refl
-    by None = taken (is_queued h.settings (command_of b))
+    by o = grind arith
 
 module _ {K : Type 0} (old new : Port K) where
   next_drives : (picks : List _ → ℕ → Type 0) (blocks : Bool) (action : _) → Wants picks blocks old action new

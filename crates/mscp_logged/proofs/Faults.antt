@@ -1,9 +1,7 @@
 -- What a controller is told of a step is what a drive may tell, and a unit that isn't online ends no other command
 -- than a transfer.
-use Rattle.mscp_logged.proofs.Common.{Bool, Buffer, Err, IsBegunStep, IsFault, IsFaultTold, IsHow, List, MoveKind, Name, None, Ok, Option, Order, Outcome, Port, Record, Result, Some, Task, Upcoming, Verdict, Volume, arith, begun_step, block_begun, block_of, block_served, block_told, changed_verdict, cond, drive_of, false, fault_with, faulted, find, has_changed, has_name, inl, inr, is_move, known_task, move_of, move_task, moved_by, moved_step, option_map, part_at, part_of, part_served, part_task, part_with, place_in, refl, refusal_of, subst, sym, task_of, true, unless_fault, upcoming_of, volume_at, ℕ, ◌%◌, ◌<◌, ◌==◌, ◌^◌, ◌≡◌, ◌≤◌}
-use Rattle.mscp_packet.specs.declared.command.Order.TheVariants as orders
+use Rattle.mscp_logged.proofs.Common.{Bool, Buffer, Err, IsBegunStep, IsFault, IsFaultTold, IsHow, List, MoveKind, Name, None, Ok, Option, Order, Outcome, Port, Record, Result, Some, Task, Upcoming, Verdict, Volume, arith, begun_step, block_begun, block_served, block_told, changed_verdict, cond, drive_of, fault_with, faulted, find, has_changed, has_name, inl, inr, is_move, known_task, move_of, move_task, moved_by, moved_step, option_map, part_at, part_of, part_served, part_task, part_with, place_in, refl, refusal_of, subst, sym, task_of, true, unless_fault, upcoming_of, ℕ, ◌%◌, ◌<◌, ◌^◌, ◌≡◌, ◌≤◌}
 use Rattle.mscp_drive.specs.declared.block.Block.TheVariants as blocks
-use Rattle.mscp_port.specs.declared.action.Outcome.TheVariants as outcomes
 use Rattle.mscp_port.specs.declared.task.Task.TheVariants as tasks
 use Rattle.mscp_port.specs.declared.verdict.Verdict.TheVariants as verdicts
 
@@ -31,12 +29,10 @@ IsFineTask order task = Unit {0}
 
 module _ (order : Order) where
   fine_cond : (c : Bool) (x y : Option Verdict) → IsFineIf order x → IsFineIf order y → IsFineIf order (cond c x y)
-  fine_cond true x y a b = a
-  fine_cond false x y a b = b
+  fine_cond c x y a b = grind arith
 
   fine_task : (c : Bool) (x y : Task) → IsFineTask order x → IsFineTask order y → IsFineTask order (cond c x y)
-  fine_task true x y a b = a
-  fine_task false x y a b = b
+  fine_task c x y a b = grind arith
 
   fault : (n : ℕ) → (n < 2 ^ 16) × (5 ≤ n % 32) × (n % 32 ≤ 11) → IsFine order (faulted n)
   fault n h = (h, λ e. absurd (search (arith, e)))
@@ -62,27 +58,21 @@ module _ (order : Order) where
       (refusal_fine move kind block b v)) (part_of b done)
     where
       by : (o : Option Verdict) → IsFineIf order o → (part : Option (ℕ × ℕ)) → IsFineOr order (unless_fault o part)
-      by (Some verdict) f part = f
-      by None f None = fault 0x0069 (omega arith, omega arith, omega arith)
-      by None f (Some part) = tt
+      by o f part = grind arith
 
   at_fine : is_move order ≡ true → (place : Option ℕ) (kept : Option Buffer) (kind : MoveKind) (block done : ℕ)
       (volumes : List Volume) → IsFineOr order (part_at place kept kind block done volumes)
-  at_fine move (Some place) (Some b) kind block done volumes = grind (arith, part_fine)
-  at_fine move None kept kind block done volumes = drive_error
-  at_fine move (Some place) None kind block done volumes = drive_error
+  at_fine move place kept kind block done volumes = grind (arith, part_fine, drive_error)
 
 -- ---- a step
 
 moved_is : (order : Order) (lbn : Option ℕ) (move : MoveKind × ℕ) → moved_by order lbn ≡ Some move
     → is_move order ≡ true
-moved_is (orders.Move kind count first) lbn move e = refl
-moved_is order lbn move e = search (arith, e)
+moved_is order lbn move e = grind arith
 
 part_task_fine : (order : Order) (part : Result (ℕ × ℕ) Verdict) → IsFineOr order part
     → IsFineTask order (part_task part)
-part_task_fine order (Ok part) fine = fine_task order (part.1 == 0) _ tasks.Transfer (good order) tt
-part_task_fine order (Err verdict) fine = fine
+part_task_fine order part fine = grind arith
 
 module _ (u : Upcoming) where
   abbrev order : Order
@@ -99,20 +89,9 @@ module _ (u : Upcoming) where
 
   known_fine : (place : Option ℕ) (kept : Option Buffer) (volumes : List Volume)
       → IsFineTask order (known_task u place kept volumes)
-  known_fine (Some place) (Some b) volumes = task_fine b (volume_at volumes place)
-  known_fine None kept volumes = drive_error order
-  known_fine (Some place) None volumes = drive_error order
+  known_fine place kept volumes = grind (arith, task_fine, drive_error)
 
 -- ---- what is told
-
-outcome_fine : (order : Order) (outcome : Outcome) → IsFaultTold outcome
-    → IsFine order (verdicts.Served (block_of outcome))
-outcome_fine order outcomes.Done h = good order
-outcome_fine order outcomes.Missing h = fault order 0x0069 (omega arith, omega arith, omega arith)
-outcome_fine order outcomes.Parity h = fault order 0x0089 (omega arith, omega arith, omega arith)
-outcome_fine order outcomes.Unmapped h = fault order 0x00A9 (omega arith, omega arith, omega arith)
-outcome_fine order outcomes.Different h = fault order 0x0007 (omega arith, omega arith, omega arith)
-outcome_fine order (outcomes.Failed status) h = fault order status h
 
 module _ {K : Type 0} (old : Port K) (outcome : Outcome) (told : IsFaultTold outcome) (step : IsBegunStep old)
     (name : Name) (was : old.controller.begun ≡ Some name) (r : Record)
@@ -131,8 +110,7 @@ module _ {K : Type 0} (old : Port K) (outcome : Outcome) (told : IsFaultTold out
       (moved_step o)) r) (sym begun_is) (by (move_of u) refl)
     where
       served : (part : Result (ℕ × ℕ) Verdict) → IsFineOr r.command.order part → IsToldOf (part_served outcome part) r
-      served (Ok part) fine = outcome_fine r.command.order outcome told
-      served (Err verdict) fine = fine
+      served part fine = grind arith
 
       by : (move : Option (MoveKind × ℕ)) → move_of u ≡ move
           → IsToldOf (block_served old outcome (option_map (λ move. (u, move.0, move.1)) move)) r

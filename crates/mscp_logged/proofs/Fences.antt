@@ -16,21 +16,11 @@ use Rattle.mscp_logged.proofs.Suited.{formal_opcode}
 
 says_sequential : (o : Order) (s : Sent) → Says o s → ((byte why : ℕ) → o ≢ orders.Invalid byte why)
     → wire.is_sequential s.opcode ≡ true → queue.is_sequential o ≡ true
-says_sequential (orders.Abort other) s says valid e = absurd (false≢true (sym (ap wire.is_sequential says.0) ∙ e))
-says_sequential (orders.Status other) s says valid e = absurd (false≢true (sym (ap wire.is_sequential says.0) ∙ e))
-says_sequential orders.UnitStatus s says valid e = absurd (false≢true (sym (ap wire.is_sequential says) ∙ e))
-says_sequential (orders.SetController version) s says valid e = grind arith
-says_sequential (orders.Move kind count block) s says valid e = grind arith
-says_sequential (orders.Invalid byte why) s says valid e = absurd (valid byte why refl)
-says_sequential order s says valid e = refl
+says_sequential order s says valid e = grind arith
 
 says_immediate : (o : Order) (s : Sent) → Says o s → is_immediate o ≡ true
     → (wire.is_sequential s.opcode ≡ false) × (wire.is_ordered s.opcode ≡ false)
-says_immediate (orders.Abort other) s says h = (ap wire.is_sequential says.0, ap wire.is_ordered says.0)
-says_immediate (orders.Status other) s says h = (ap wire.is_sequential says.0, ap wire.is_ordered says.0)
-says_immediate orders.UnitStatus s says h = (ap wire.is_sequential says, ap wire.is_ordered says)
-says_immediate (orders.SetController version) s says h = (ap wire.is_sequential says, ap wire.is_ordered says)
-says_immediate o s says h = search (arith, h)
+says_immediate o s says h = grind arith
 
 formal_free : (n : ℕ) → is_formality n ≡ true → wire.is_sequential n ≡ false
 formal_free n e = formal_opcode (λ n. wire.is_sequential n ≡ false) refl refl refl n e
@@ -73,12 +63,10 @@ pub same_unit : (t u : List ℕ) → keeps t u ≡ true → num u 4 2 ≡ num t 
 same_unit t u e = eqb-true (num u 4 2) (num t 4 2) (and_parts (nat_eq (num u 4 2) (num t 4 2)) _ e).0
 
 pub unit_later : (unit : ℕ) (t u : List ℕ) → keeps t u ≡ true → IsUnitIn unit t → unit ≡ num t 4 2
-unit_later unit t u e (inl same) = same.0
-unit_later unit t u e (inr next) = grind (arith, unplaced, asks_third)
+unit_later unit t u e x = grind (arith, unplaced, asks_third)
 
 pub unit_earlier : (unit : ℕ) (t u : List ℕ) → keeps t u ≡ true → IsUnitIn unit u → unit ≡ num u 4 2
-unit_earlier unit t u e (inl same) = same.0
-unit_earlier unit t u e (inr next) = grind (arith, none_keeps, asks_third)
+unit_earlier unit t u e x = grind (arith, none_keeps, asks_third)
 
 -- the command of this message waits
 pub record IsWaiting (rs : List Record) (t : List ℕ) : Type 0 where
@@ -163,23 +151,16 @@ module _ (rs xs : List Record) (r0 : Record) (ys : List Record) (whole : rs ≡ 
           (λ t h. (and_parts (has_number n t) (keeps t u) h).0) us e)) p.0 other) ∙ p.1))
 
       by : (b : Bool) → has_number n u ≡ b → cond b false (list_any (λ t. has_number n t && keeps t u) us) ≡ false
-      by true is = refl
-      by false is = none is (list_any (λ t. has_number n t && keeps t u) us) refl
+      by b is = grind (arith, none)
 
 -- ---- what is answered at once
 
 is_not : (status n : ℕ) → is_apart (n % 32) ≡ false → is_apart (status % 32) ≡ true → (b : Bool)
     → nat_eq status n ≡ b → b ≡ false
-is_not status n apart is false e = refl
-is_not status n apart is true e = grind arith
+is_not status n apart is b e = grind arith
 
 pick : (a b x y : Bool) (u v n : ℕ) → x ≡ false → y ≡ false → cond (a && x) u (cond (b && y) v n) ≡ n
-pick a b true y u v n p q = absurd (false≢true (sym p))
-pick a b false true u v n p q = absurd (false≢true (sym q))
-pick true true false false u v n p q = refl
-pick true false false false u v n p q = refl
-pick false true false false u v n p q = refl
-pick false false false false u v n p q = refl
+pick a b x y u v n p q = grind arith
 
 after_apart : (block : Block) (code status : ℕ) (v : Volume) → is_apart (status % 32) ≡ true
     → status_after (verdicts.Served block) code status v ≡ status
@@ -198,12 +179,10 @@ aborted_apart code v = grind arith
 -- the code of a message that is no formality is that of none
 pub plain_code : (code : ℕ) (t : List ℕ) → is_formality (slice_index t 8) ≡ false → IsCodeFor code t
     → ends_formality code ≡ false
-plain_code code t plain (inl e) = ap ends_formality e.0
-plain_code code t plain (inr e) = grind arith
+plain_code code t plain x = grind arith
 
 apart_of : (status : ℕ) → (status % 32 ≡ 1) ⊎ (status % 32 ≡ 3) → is_apart (status % 32) ≡ true
-apart_of status (inl e) = ap is_apart e
-apart_of status (inr e) = ap is_apart e
+apart_of status x = grind arith
 
 pub reply_clear : (c : Settings) (online : Bool) (figure : ℕ) (t : List ℕ) → IsText t
     → is_formality (slice_index t 8) ≡ false → is_queued c (command_of (handed c.units t)) ≡ false → (code : ℕ)

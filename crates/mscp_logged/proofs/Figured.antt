@@ -122,8 +122,6 @@ module _ {K : Type 0} (Tie : List ℕ → List ℕ → Type 0) (G O : Type 0) (c
             → begun_of a.0.outgoing p.outgoing ++ pending_held p ≡ pending_held a.0 ++ passing.more
             → begins a.0.outgoing p.outgoing ≡ [] → Stated Tie G O (h ++ ms) ts (held a.0) → Mid ms
             → Known p (call ∷ calls) a
-        by None None was_out is_out b none s1 mid = grind (arith, to_log, figured_as, passing, append-nil)
-        by None (Some x) was_out is_out b none s1 mid = grind arith
         by (Some o) (Some x) was_out is_out b none s1 mid = to_log (Some o) (Some x) was_out is_out
             (figured_as (h ++ ms) ((h ++ ms) ++ []) (coming a.0 ++ passing.more) (out_of (Some x) ++ pending_held p)
             (figure_on p) S' (append-nil (h ++ ms))
@@ -133,6 +131,7 @@ module _ {K : Type 0} (Tie : List ℕ → List ℕ → Type 0) (G O : Type 0) (c
             ∙ ap (λ z. (out_of z ++ pending_held a.0) ++ passing.more) (sym was_out)) mid)
         by (Some o) None was_out is_out b none s1 mid =
             grind (arith, to_log, leaving, figured_as, passing, append_assoc)
+        by x y was_out is_out b none s1 mid = grind (arith, to_log, figured_as, passing, append-nil)
 
     begun : (ms : History) (o : Outgoing) → messages_by call a.0 ≡ ms → a.0.outgoing ≡ None → p.outgoing ≡ Some o
         → Mid ms → Known p (call ∷ calls) a

@@ -21,8 +21,7 @@ known_unit c unit o waits sound = grind arith
 
 module _ (rs : List Record) where
   left_behind : (order : Order) (a b : ℕ) → NoneBehind a b rs → NoneBehind a b (unaborted First rs order)
-  left_behind (orders.Abort m) a b h = behind_left a b (λ r. not (is_numbered m r)) rs h
-  left_behind order a b h = h
+  left_behind order a b h = grind (arith, behind_left)
 
   left_before : (order : Order) (n : ℕ) (r : Record) → filter (is_numbered n) (unaborted First rs order) ≡ r ∷ []
       → filter (is_numbered n) rs ≡ r ∷ []
@@ -107,8 +106,7 @@ module _ {c : Settings} {Told : Verdict → Record → Type 0} {K : Type 0} (byt
       plain = by (is_formality (slice_index bytes 8)) refl
         where
           by : (x : Bool) → is_formality (slice_index bytes 8) ≡ x → x ≡ false
-          by false e = refl
-          by true e = grind (arith, formal_queued)
+          by x e = grind (arith, formal_queued)
 
       informal : ends_formality own.code ≡ false
       informal = grind (arith, plain_code, plain, answered_code, handed_coded)

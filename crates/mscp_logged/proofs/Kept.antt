@@ -1,5 +1,5 @@
 -- Which rules of the wire a port keeps, if its host is right.
-use Rattle.mscp_logged.proofs.Common.{AllByRecursion, Answer, Bool, First, History, HostIsRight, Keeps, List, Moment, None, Option, Rule, Said, Seen, Sent, Settings, Some, [], aborts, answer_by, ap, arith, command_at, controller, controller_after, controller_in, drop, eqb-true, false, fold, has_abort, inl, is_of_drives, is_of_polls, is_same_unit, is_some, later_of, length, list_any, moment_at, nat_eq, not, outstanding, refl, status_code, suc, suits_state, take, true, zero, ℕ, ◌+◌, ◌<◌, ◌||◌, ◌∙◌, ◌∷◌, ◌≡◌}
+use Rattle.mscp_logged.proofs.Common.{AllByRecursion, Answer, Bool, First, History, HostIsRight, Keeps, List, Moment, None, Option, Rule, Said, Seen, Sent, Settings, [], aborts, answer_by, ap, arith, command_at, controller, controller_after, controller_in, drop, eqb-true, false, fold, has_abort, inl, is_of_drives, is_of_polls, is_same_unit, is_some, length, list_any, moment_at, nat_eq, not, outstanding, refl, status_code, suc, suits_state, take, true, zero, ℕ, ◌+◌, ◌<◌, ◌||◌, ◌∙◌, ◌∷◌, ◌≡◌}
 use Rattle.mscp_wire.specs.declared.moment.Moment.TheVariants as moments
 use Rattle.mscp_wire.specs.declared.rule.Rule.TheVariants as rules
 use Rattle.mscp_logged.proofs.About.{about_right, success_right}
@@ -16,20 +16,13 @@ use Rattle.mscp_logged.proofs.Tied.{IsEndOf}
 
 -- ---- what is told of the controller
 
-later_known : (c : Settings) (new old : Option ℕ) → IsKnown c new → IsKnown c old
-    → IsKnown c (later_of new old)
-later_known c None old new was = was
-later_known c (Some n) old new was = new
-
 abbrev IsKnownBy : Settings → Moment → Type 0
 IsKnownBy c (moments.End via b) = IsKnown c (controller_in b.items)
 IsKnownBy c m = Unit {0}
 
 after_known : (c : Settings) (told : Option ℕ) (m : Moment) → IsKnownBy c m → IsKnown c told
     → IsKnown c (controller_after told m)
-after_known c told (moments.End via b) new was = later_known c (controller_in b.items) told new was
-after_known c told moments.Reset new was = inl refl
-after_known c told m new was = was
+after_known c told m new was = grind arith
 
 all_known : (c : Settings) (h : History) (told : Option ℕ) → AllByRecursion (IsKnownBy c) h → IsKnown c told
     → IsKnown c (fold controller_after told h)
@@ -103,8 +96,7 @@ keeps_rules c F limit x h aw held s host f shown same suits = keeps_rule (IsEndO
     b.items tied more.1 more.2 x f more.0) host
   where
     known : (prefix : History) (m : Moment) → IsSeen (IsEndOf c F) F (Unit {0}) prefix m → IsKnownBy c m
-    known prefix (moments.End via b) is = is.1.tie.known
-    known prefix m is = tt
+    known prefix m is = grind arith
 
     told : (i : ℕ) → IsKnown c (controller (take i h))
     told i = all_known c (take i h) None

@@ -13,8 +13,7 @@ use Rattle.mscp_logged.proofs.Wired.{nothing_wired}
 -- a message that the controller takes is for the disks
 pub taken_disk : {K : Type 0} (call : Call) (old : Port K) (t : List ℕ) → taken_by call old ≡ t ∷ []
     → is_foreign old.task ≡ false
-taken_disk (WasRead bytes (Ok done)) old t e = grind arith
-taken_disk call old t e = absurd (search (arith, e))
+taken_disk call old t e = grind arith
 
 pub small_of : (call : Call) (calls : List Call) (t : List ℕ) (done : Unit) → ReadsBytes (call ∷ calls)
     → call ≡ WasRead t (Ok done) → (i : ℕ) → slice_index t i < 2 ^ 8

@@ -1,5 +1,5 @@
 -- Each end of a port's log is as long as its endcode asks.
-use Rattle.mscp_logged.proofs.Common.{All-from_recursion, AllByRecursion, Answered, AsksAlways, BodyKind, Bool, Call, Deals, IsWhole, Keeps, List, Moment, None, Option, Outgoing, OutgoingKind, Picking, Port, PortsEndWhatTheyTook, PortsTellInOrder, ReadsBytes, Said, Seen, Sent, Some, WriteIp, [], and_parts, arith, asked_before, awaited, begins, begun_one, cond, end_length, end_of, end_said, endcodes, ends_in, eqb-true, every_append, every_parts, false, find, flat_map, held, inl, inr, is_dead, is_long, kind_of_code, le-leb, least_length, leaves, length, list_all, logged, map, message_of, moment_at, nat_eq, nat_le, none-some, option_map, option_to_list, outstanding, refl, said, said_in, same_Some, since_alive, slice_index, subst, sym, take, true, ℕ, ◌++◌, ◌∷◌, ◌≡◌, ◌≢◌, ◌≤◌}
+use Rattle.mscp_logged.proofs.Common.{All-from_recursion, AllByRecursion, Answered, AsksAlways, BodyKind, Bool, Call, Deals, IsWhole, Keeps, List, Moment, None, Option, Outgoing, Picking, Port, PortsEndWhatTheyTook, PortsTellInOrder, ReadsBytes, Said, Seen, Sent, Some, WriteIp, [], and_parts, arith, asked_before, awaited, begins, begun_one, cond, end_length, endcodes, ends_in, eqb-true, every_append, every_parts, false, find, flat_map, held, inl, inr, is_dead, is_long, kind_of_code, le-leb, least_length, leaves, length, list_all, logged, map, message_of, moment_at, nat_eq, nat_le, none-some, option_map, option_to_list, outstanding, refl, said, said_in, same_Some, since_alive, slice_index, subst, sym, take, true, ℕ, ◌∷◌, ◌≡◌, ◌≢◌, ◌≤◌}
 use Rattle.mscp_logged.proofs.Begun.{Begun}
 use Rattle.mscp_port.specs.declared.port.OutgoingKind.TheVariants as kinds
 use Rattle.mscp_wire.specs.declared.rule.Rule.TheVariants as rules
@@ -109,21 +109,12 @@ module _ {K : Type 0} {picks : Picking K} (run : Begun picks) (ends : PortsEndWh
   -- ---- all that is logged
 
   messages_long : (b : Bool) (ts : List (List ℕ)) → AllByRecursion IsLongMoment (cond b [] (map message_of ts))
-  messages_long true ts = tt
-  messages_long false [] = tt
   messages_long false (t ∷ ts) = (tt, messages_long false ts)
-
-  end_long : (kind : OutgoingKind) (text : List ℕ) → (kind ≡ kinds.End → is_long text ≡ true)
-      → AllByRecursion IsLongMoment (map end_of (end_said kind text) ++ [])
-  end_long kinds.Attention text long = tt
-  end_long kinds.End text long = (long refl, tt)
-  end_long kinds.UtilitiesEnd text long = tt
+  messages_long b ts = grind arith
 
   left_long : (old new : Option Outgoing) → AllByRecursion IsLong (map said_in (option_to_list old))
       → AllByRecursion IsLongMoment (flat_map ends_in (leaves old new))
-  left_long None new long = tt
-  left_long (Some o) (Some x) long = tt
-  left_long (Some o) None long = end_long o.kind o.bytes.items long.0
+  left_long old new long = grind arith
 
   pub logged_long : (p : Port K) (calls : List Call) → AsksAlways calls → ReadsBytes calls
       → (a : Answered picks start calls p) → AllByRecursion IsLongMoment (logged picks start p calls a)
@@ -151,6 +142,4 @@ module _ {K : Type 0} {picks : Picking K} (run : Begun picks) (ends : PortsEndWh
       low))
     where
       by : (xs : List Sent) (unit : Seen) (m : Moment) → IsLongMoment m → moment_holds xs unit m rules.Length ≡ true
-      by xs unit (moments.Message via b time) long = refl
-      by xs unit (moments.End via b) long = long
-      by xs unit m long = refl
+      by xs unit m long = grind arith

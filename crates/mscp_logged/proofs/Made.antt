@@ -51,16 +51,9 @@ told_after : (l : Leaving) (verdict : Verdict) (code : ℕ) → l.end.code ≡ c
     → l.fields.status ≡ status_after verdict code l.end.status x.0
 told_after l verdict code is formal same x = grind arith
 
--- and of another
-pub told_formal : (l : Leaving) (verdict : Verdict) → ends_formality l.fields.code ≡ true → IsToldSo verdict l
-    → (l.fields.status ≡ 0) ⊎ (l.fields.status ≡ 2)
-told_formal l verdict formal x = grind arith
-
 pub made_formal : (c : Settings) (Told : Verdict → Record → Type 0) (l : Leaving) (t : List ℕ) → IsMade c Told l t
     → ends_formality l.fields.code ≡ true → (l.fields.status ≡ 0) ⊎ (l.fields.status ≡ 2)
-made_formal c Told l t (inl x) formal = told_formal l (verdicts.Served blocks.Good) formal x.told
-made_formal c Told l t (inr (inl x)) formal = told_formal l (verdicts.Served blocks.Good) formal x.told
-made_formal c Told l t (inr (inr x)) formal = told_formal l x.verdict formal x.told
+made_formal c Told l t x formal = grind arith
 
 module _ (c : Settings) (l : Leaving) (t : List ℕ) (plain : is_formality (slice_index t 8) ≡ false)
     (formal : ends_formality l.fields.code ≡ false) (same : l.fields.code ≡ l.end.code) where

@@ -36,13 +36,11 @@ module _ {K : Type 0} (old new : Port K) where
 
   -- where there is no fatal error
   pub alive : {X : Type 0} → is_dead new.stage ≡ false → X ⊎ Dies old new → X
-  alive lives (inl x) = x
-  alive lives (inr d) = absurd (search (arith, lives, ap is_dead d.1.stage))
+  alive lives x = grind arith
 
   news_so : (units : List Shape) (o : Option ℕ) (out : Option Outgoing)
       → IsNews units old.volumes o out new.volumes → So
-  news_so units None out h = volumes_still h.1
-  news_so units (Some q) out h = grind (arith, set_as)
+  news_so units o out h = grind (arith, volumes_still, set_as)
 
   pub next_volumes : (picks : List _ → ℕ → Type 0) (blocks : Bool) (action : _) → Wants picks blocks old action new
       → So
@@ -60,8 +58,7 @@ module _ {K : Type 0} (old new : Port K) where
 
   with_one : (becomes : Volume → Volume) (o : Option ℕ) → ((v : Volume) → IsAsWas v (becomes v))
       → new.volumes ≡ volumes_with becomes o old.volumes → So
-  with_one becomes None was e = volumes_still e
-  with_one becomes (Some q) was e = grind (arith, set_as)
+  with_one becomes o was e = grind (arith, volumes_still, set_as)
 
   goes_so : (becomes : Volume → Volume) (o : Option ℕ) → ((v : Volume) → (becomes v).is_mounted ≡ false)
       → new.volumes ≡ volumes_with becomes o old.volumes → So
@@ -135,8 +132,7 @@ module _ (units : List Shape) (bs : List Buffer) (via : Connection) (vs : List V
 
 -- an AVAILABLE that succeeded leaves the unit offline, whoever asked for it
 available_offline : (kept : Option Buffer) (v : Volume) → (volume_heeded 0x88 kept v).is_mounted ≡ false
-available_offline None v = refl
-available_offline (Some b) v = refl
+available_offline kept v = grind arith
 
 set_off : (vs : List Volume) (q : ℕ) (x : Volume) → x.is_mounted ≡ false
     → (volume_at (set vs q x) q).is_mounted ≡ false

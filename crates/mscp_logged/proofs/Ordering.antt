@@ -1,5 +1,5 @@
 -- After each call of a port no end that waits has passed a command that it had to wait for.
-use Rattle.mscp_logged.proofs.Common.{Action, AllByRecursion, At, Block, Bool, Call, Command, Connection, Decided, Dies, Drive, End, First, Fitting, Goes, Holdings, IsNoReset, IsOf, IsServable, IsUnitIn, Kept, List, Next, None, Ok, Option, Outcome, Port, Record, Second, Serves, Settings, Some, Stays, TakesEnd, Verdict, Wants, Went, [], advanced, and_parts, ap, append-nil, append_assoc, arith, block_told, brought_for, cond, decided_by, drive_in, drop, drop_more, end_given, end_number, end_served, ended_none, ends_begun, ends_of, ends_said_by, eq-eqb, false, fences, filter, filter-append, first_of_one, has_number, inl, inr, is_affordable, is_dead, is_in_service, is_numbered, is_same, is_some, left_awaited, length, list_all, map, name_of, name_on, nat_eq, nat_lt, not, nothing_two, num, record_at, refl, said, says_is, served_goes_on, served_itself, served_other, served_waits, serves_grow, since, some_none, step_charge, still_none, subst, sym, take, take-append-drop, taken_by, this_one, true, unit_found, waiting_after, went_is, whole, without_ends, ℕ, ◌++◌, ◌+◌, ◌∙◌, ◌∷◌, ◌≡◌, ◌≤◌, ◌⊎◌}
+use Rattle.mscp_logged.proofs.Common.{Action, AllByRecursion, At, Block, Bool, Call, Command, Connection, Decided, Dies, Drive, End, First, Fitting, Goes, Holdings, IsNoReset, IsOf, IsServable, IsUnitIn, Kept, List, Next, None, Ok, Option, Outcome, Port, Record, Serves, Settings, Some, Stays, TakesEnd, Verdict, Wants, Went, [], advanced, and_parts, ap, append-nil, append_assoc, arith, block_told, brought_for, cond, decided_by, drive_in, drop, drop_more, end_given, end_number, end_served, ended_none, ends_begun, ends_of, ends_said_by, eq-eqb, false, fences, filter, filter-append, first_of_one, has_number, inl, inr, is_affordable, is_dead, is_in_service, is_numbered, is_same, is_some, left_awaited, length, list_all, map, name_of, name_on, nat_eq, nat_lt, not, nothing_two, num, record_at, refl, said, says_is, served_goes_on, served_itself, served_other, served_waits, serves_grow, since, some_none, step_charge, still_none, subst, sym, take, take-append-drop, taken_by, this_one, true, unit_found, waiting_after, went_is, whole, without_ends, ℕ, ◌++◌, ◌+◌, ◌∙◌, ◌∷◌, ◌≡◌, ◌≤◌, ◌⊎◌}
 use Rattle.mscp_logged.proofs.Clear.{AreClear, IsGood, Ordered, is_ended, ordered_as, ordered_forgotten, ordered_stepped, ordered_taken, some_ended, unended}
 use Rattle.mscp_logged.proofs.Fences.{IsWaiting, serves_free}
 use Rattle.mscp_logged.proofs.Passes.{overtakes}
@@ -198,9 +198,7 @@ module _ {c : Settings} {Told : Verdict → Record → Type 0} {K : Type 0} (old
 
       by : (via : Connection) (x : Option End) → r0.connection ≡ via → end_given b d r0 ≡ x
           → AreClear left (brought_for via x) (map made (brought_for via x))
-      by First None at given = tt
-      by First (Some e) at given = (inr (serves e.reference (mine e at given)), tt)
-      by Second x at given = tt
+      by via x at given = grind (arith, serves, mine)
 
 module _ {c : Settings} {Told : Verdict → Record → Type 0} {K : Type 0} (picks : List _ → ℕ → Type 0)
     (outcome : Outcome) (done : Unit) (old new : Port K)

@@ -1,5 +1,5 @@
 -- No end of a port's passes a command that it has to wait for, over a whole list of calls.
-use Rattle.mscp_logged.proofs.Common.{Action, AllByRecursion, Answered, At, Bool, Call, Decided, End, Fitting, IsNoReset, IsPassive, KeepsPromise, Kept, List, Made, Next, None, Ok, Option, Own, Picking, Port, ReadsBytes, Record, Settings, Shape, Some, TakesEnd, Verdict, Volume, Wants, WasRead, Went, WriteIp, [], ap, arith, awaited, begun_end, blocks, drop, ends_begun, ends_of, ends_said_by, false, false≢true, few_ends, filter, find_cases, find_none, first_of_one, fitting, inl, inr, is_apart, is_numbered, is_some, kept, knows, named, none-some, num, option_map, own_answer, own_refusal, own_refused, own_text, passive_said, passive_stays, passive_taken, place_in, position_first, refl, said, same_Some, says_is, slice_get, some_none, subst, sym, told_end, true, unit_found, volume_named, whole, ℕ, ◌%◌, ◌∙◌, ◌∷◌, ◌≡◌, ◌⊎◌}
+use Rattle.mscp_logged.proofs.Common.{Action, AllByRecursion, Answered, At, Bool, Call, Decided, End, Fitting, IsNoReset, IsPassive, KeepsPromise, Kept, List, Made, Next, None, Ok, Option, Own, Picking, Port, ReadsBytes, Record, Settings, Shape, Some, TakesEnd, Verdict, Volume, Wants, WasRead, Went, WriteIp, [], ap, arith, awaited, begun_end, blocks, drop, ends_begun, ends_of, ends_said_by, false, false≢true, few_ends, filter, find_cases, find_none, first_of_one, fitting, inl, inr, is_apart, is_numbered, is_some, kept, knows, named, none-some, num, option_map, own_answer, own_refusal, own_refused, own_text, passive_said, passive_stays, passive_taken, place_in, position_first, refl, said, says_is, slice_get, subst, sym, told_end, true, unit_found, volume_named, whole, ℕ, ◌%◌, ◌∙◌, ◌∷◌, ◌≡◌, ◌⊎◌}
 use Rattle.mscp_logged.proofs.Clear.{IsClear, Ordered, clear_forgotten, unended, unended_none}
 use Rattle.mscp_logged.proofs.Fences.{IsWaiting, same_unit, unit_earlier}
 use Rattle.mscp_logged.proofs.Hearing.{read_ordered}
@@ -14,8 +14,7 @@ use Rattle.mscp_logged.proofs.Turns.{IsApartOr}
 -- the oldest, with what was decided of it
 first_clear : (c : Settings) (aw : List (List ℕ)) (rs : List Record) (e : End) (es : List End) (ds : List Decided)
     (d : Decided) → slice_get ds 0 ≡ Some d → Ordered c aw rs (e ∷ es) ds → IsClear aw e d
-first_clear c aw rs e es [] d some o = absurd (none-some d some)
-first_clear c aw rs e es (x ∷ ds) d some o = subst (λ y. IsClear aw e y) (same_Some x d some) o.clear.0
+first_clear c aw rs e es ds d some o = grind arith
 
 module _ {c : Settings} {K : Type 0} (blocks : Bool) (action : Action) (bytes : List ℕ) (old new : Port K)
     (aw : List (List ℕ)) (k : Kept old aw) (o : OrderedIn c old aw) (picks : List _ → ℕ → Type 0)
@@ -32,8 +31,7 @@ module _ {c : Settings} {K : Type 0} (blocks : Bool) (action : Action) (bytes : 
     where
       by : {n : ℕ} → num text 0 4 ≡ n → (is_apart (d.status % 32) ≡ true) ⊎ (overtakes n aw ≡ false)
           → (is_apart (d.status % 32) ≡ true) ⊎ (overtakes (num text 0 4) aw ≡ false)
-      by number (inl a) = inl a
-      by number (inr h) = inr (subst (λ m. overtakes m aw ≡ false) (sym number) h)
+      by number x = grind arith
 
   pub said_clear : (text : List ℕ) → ends_begun old.outgoing new.outgoing ≡ text ∷ []
       → (is_apart (d.status % 32) ≡ true) ⊎ (overtakes (num text 0 4) aw ≡ false)
@@ -57,8 +55,7 @@ no_unit : (units : List Shape) (n : ℕ) → place_in units n ≡ None → unit_
 no_unit units n none = grind (arith, find_cases, find_none, position_first)
 
 no_place : (f : ℕ → Volume) (o : Option ℕ) → option_map f o ≡ None → o ≡ None
-no_place f None e = refl
-no_place f (Some place) e = absurd (none-some (f place) (sym e))
+no_place f o e = grind arith
 
 -- ---- calls
 
@@ -92,8 +89,7 @@ module _ {K : Type 0} {picks : Picking K} (run : Begun picks) (keeping : IsKeepi
       (passive_said call a.0 p is) (passive_taken call a.0 is) (passive_stays picks call a.0 p a.2 is)
     where
       calm : (call : Call) → IsPassive call → IsNoReset call
-      calm WriteIp is = absurd is
-      calm call is = record { texts = λ s xs ys. refl }
+      calm call is = grind arith
 
   pub ordering : (p : Port K) (calls : List Call) → ReadsBytes calls → (a : Answered picks start calls p)
       → OrderedIn c p (awaited picks start p calls a)
@@ -105,9 +101,7 @@ module _ {K : Type 0} {picks : Picking K} (run : Begun picks) (keeping : IsKeepi
     where
       none : (n : ℕ) (r : Record) → filter (is_numbered n) p.controller.waiting ≡ r ∷ []
           → At [] p.controller.waiting (ends_of p.controller) n → ⊥
-      none n r e (inl z) = some_none r [] (sym e ∙ z.1)
-      none n r e (inr (inl w)) = some_none w.text [] (sym w.message)
-      none n r e (inr (inr x)) = some_none x.text [] (sym x.message)
+      none n r e x = grind arith
   ordering p (call ∷ calls) reads a = by call a reads (ordering a.0 calls (reads_before call calls reads) a.1)
     where
       by : (call : Call) (a : Answered picks start (call ∷ calls) p) → ReadsBytes (call ∷ calls)

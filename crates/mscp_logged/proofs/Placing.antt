@@ -42,13 +42,10 @@ abbrev IsGone : ℕ → Type 0
 IsGone code = (code ≡ 4) ⊎ (code ≡ 3)
 
 zero_gone : (n : ℕ) → n ≡ 0 → IsGone n → ⊥
-zero_gone n zero (inl e) = search (arith, zero, e)
-zero_gone n zero (inr e) = search (arith, zero, e)
+zero_gone n x y = grind arith
 
 error_bad : (online : Bool) (order : Order) → bad_status online 0x000B order % 32 ≡ 0 → ⊥
-error_bad true (orders.Move kind count block) e = search (arith, e)
-error_bad false (orders.Move kind count block) e = search (arith, e)
-error_bad online order e = search (arith, e)
+error_bad online order e = grind arith
 
 -- where one of them is told, the unit isn't online, and no ONLINE succeeded
 abbrev IsOff : Volume → ℕ → ℕ → Type 0
@@ -101,8 +98,7 @@ module _ (h : Hardware) (units : List Shape) (verdict : Verdict) (online : Bool)
   off_now off = by w.is_mounted refl
     where
       never : (v.is_mounted ≡ true) ⊎ ((e.code ≡ 0x89) × (e.status % 32 ≡ 0)) → ⊥
-      never (inl on) = false≢true (sym off.0 ∙ on)
-      never (inr new) = off.1 new.0 new.1
+      never x = grind arith
 
       by : (b : Bool) → w.is_mounted ≡ b → w.is_mounted ≡ false
       by false on = on
@@ -153,9 +149,7 @@ module _ (h : Hardware) (units : List Shape) (verdict : Verdict) (online : Bool)
         off_now (off.0, λ c good. off.1 (sym given.code ∙ c) (ap (λ n. n % 32) (sym given.status) ∙ good))
 
     away_so : IsAwayCode a.code (a.status % 32) → w.is_mounted ≡ false
-    away_so (inl x) = grind arith
-    away_so (inr (inl x)) = gone_now (inl x.0)
-    away_so (inr (inr x)) = gone_now (inr x.0)
+    away_so x = grind (arith, gone_now)
 
   pub step_says : (brings a ≡ false → IsAsWas v w) → Says v w a
   step_says stays = by (text_reads h units e d)

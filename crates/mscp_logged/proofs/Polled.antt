@@ -119,12 +119,10 @@ module _ (F : ℕ → ℕ) (S : ℕ → Type 0) (F' : ℕ → ℕ) (S' : ℕ →
       less a b h = search (arith, h)
 
       told : (o : Option ℕ) → z.told ≡ o → (F other ≡ 0) ⊎ (may_be (Oldest o) false (F other) ≡ true)
-      told None h = inr refl
-      told (Some l) h = grind (arith, low_or, less, is, x)
+      told o h = grind (arith, low_or, less, is, x)
 
       by : (b : Bool) → IsRight (cond b (Oldest z.told) Nothing)
-      by false = nothing_right
-      by true = grind (arith, told, x)
+      by b = grind (arith, nothing_right, told, x)
 
   pub asked_right : (y : Sent) → y.connection ≡ First → IsRight (asked_by timeout xs y (Some other))
   asked_right y via = by (nat_eq other y.reference)
@@ -169,7 +167,4 @@ polled_so y e other h = by (is_known e) refl (nat_eq y.opcode 2) refl (not (is_r
   where
     by : (a : Bool) → is_known e ≡ a → (b : Bool) → nat_eq y.opcode 2 ≡ b → (c : Bool)
         → cond (a && b && c) y.parameter None ≡ Some other → Polls y e other
-    by true known true code true h = record { known = known; opcode = eqb-true y.opcode 2 code; parameter = h }
-    by true known true code false h = absurd (none-some other h)
-    by true known false code c h = absurd (none-some other h)
-    by false known b code c h = absurd (none-some other h)
+    by a known b code c h = grind arith

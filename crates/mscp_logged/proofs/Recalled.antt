@@ -1,5 +1,5 @@
 -- What was told of a unit, as a log tells it, is borne out by the ends in the log, and by those that are still to come.
-use Rattle.mscp_logged.proofs.Common.{Away, Bool, First, History, Identity, List, Moment, None, Open, Option, Shape, Shared, Some, State, Told, Volume, [], answer_by, ap, append-nil, append_assoc, arith, cond, each_push, end_of, eq-eqb, false, fold_push, is_known_unit, is_same_unit, length, map, message_of, moment_at, not, num, outstanding, refl, sent_by, settles, standing_after, standing_first, subst, suits_state, sym, take, told, told_after, told_after_message, told_nothing, true, unit_before, unit_found, volume_found, ℕ, ◌++◌, ◌<◌, ◌∙◌, ◌∷◌, ◌≡◌}
+use Rattle.mscp_logged.proofs.Common.{Away, Bool, First, History, Identity, List, Moment, None, Option, Shape, Some, State, Told, Volume, [], answer_by, ap, append-nil, append_assoc, arith, cond, each_push, end_of, eq-eqb, false, fold_push, is_known_unit, is_same_unit, length, map, message_of, moment_at, not, num, outstanding, refl, sent_by, settles, standing_after, standing_first, subst, suits_state, sym, take, told, told_after, told_after_message, told_nothing, true, unit_before, unit_found, volume_found, ℕ, ◌++◌, ◌<◌, ◌∙◌, ◌∷◌, ◌≡◌}
 use Rattle.mscp_wire.specs.declared.moment.Moment.TheVariants as moments
 use Rattle.mscp_logged.proofs.Away.{Denies, IsAway, Placed, away_after, opens, takes_away, told_away}
 use Rattle.mscp_logged.proofs.Claims.{claim_bears, claimed_left}
@@ -86,8 +86,7 @@ module _ (F : Type 0) (units : List Shape) (volumes : List Volume) where
             ∙ ap not (claim_bears (Denies (num q 4 2)) (opens (num q 4 2)) (takes_away (num q 4 2))
             (IsAway (volume_found units volumes (num q 4 2))) (told_away (told h First (num q 4 2)).state) q qs
             (r.placed f (num q 4 2)) tt (ap told_away e) (eq-eqb (num q 4 2) (num q 4 2) refl))
-        known Open e = ap (λ s. suits_state s (answer_by First q)) e
-        known Shared e = ap (λ s. suits_state s (answer_by First q)) e
+        known s e = grind arith
 
         by : (b : Bool)
             → suits_state (cond b (told h First (num q 4 2)) told_nothing).state (answer_by First q) ≡ true

@@ -1,5 +1,5 @@
 -- What was told of units is borne out over a whole list of calls.
-use Rattle.mscp_logged.proofs.Common.{Answered, AsksAlways, Bool, Call, First, History, List, None, Option, Outgoing, Picking, Port, PortsEndWhatTheyTook, PortsTellInOrder, ReadsBytes, Said, Some, TellsFaults, WriteIp, [], accepted_by, ap, append-nil, append_assoc, arith, asked_before, came, cond, end_of, end_said, ends_begun, ends_in, ends_of, ends_said, false, flat_map, held, inl, inr, is_dead, is_foreign, leaves, logged, map, message_of, messages_by, option_to_list, refl, said, said_in, since_alive, sym, told, true, unit_found, volume_found, zipped, ℕ, ◌++◌, ◌∙◌, ◌∷◌, ◌≡◌, ◌≢◌}
+use Rattle.mscp_logged.proofs.Common.{Answered, AsksAlways, Bool, Call, First, History, List, None, Option, Outgoing, Picking, Port, PortsEndWhatTheyTook, PortsTellInOrder, ReadsBytes, Said, Some, TellsFaults, WriteIp, [], accepted_by, ap, append-nil, append_assoc, arith, asked_before, came, cond, end_of, end_said, ends_begun, ends_in, ends_of, ends_said, false, flat_map, held, inl, inr, is_dead, is_foreign, leaves, logged, map, message_of, messages_by, refl, said, since_alive, sym, told, true, unit_found, volume_found, zipped, ℕ, ◌++◌, ◌∙◌, ◌∷◌, ◌≡◌, ◌≢◌}
 use Rattle.mscp_ported.proofs.Ending.{Ends}
 use Rattle.mscp_logged.proofs.Recalled.{Recalled, ends_recalled, messages_recalled, nothing_recalled, recalled_as, volumes_recalled}
 use Rattle.mscp_logged.proofs.Begun.{Begun, IsKeeping, nothing_held, same_held}
@@ -37,8 +37,7 @@ module _ {K : Type 0} {picks : Picking K} (run : Begun picks) (keeping : IsKeepi
       nothing = nothing_held run tell p calls asks a none
 
       out : (o : Option Outgoing) → p.outgoing ≡ o → out_texts p.outgoing ≡ []
-      out None e = ap out_texts e
-      out (Some o) e = search (arith, sym (ap (λ z. map said_in (option_to_list z)) e) ∙ nothing)
+      out o e = grind (arith, nothing)
 
   module _ (p : Port K) (call : Call) (calls : List Call) (asks : AsksAlways (call ∷ calls))
       (a : Answered picks start (call ∷ calls) p) (never : call ≢ WriteIp)
@@ -104,8 +103,7 @@ module _ {K : Type 0} {picks : Picking K} (run : Begun picks) (keeping : IsKeepi
             ∙ ap (λ z. (out_texts z ++ old) ++ more) (sym was_out)) r)
           where
             out_is : (z : Option Outgoing) → y ≡ z → out_texts y ++ now ≡ ends_begun None y ++ now
-            out_is None e = ap (λ z. out_texts z ++ now) e ∙ ap (λ z. ends_begun None z ++ now) (sym e)
-            out_is (Some o) e = ap (λ z. out_texts z ++ now) e ∙ ap (λ z. ends_begun None z ++ now) (sym e)
+            out_is z e = grind arith
         by (Some o) (Some x) was_out is_out comes r =
             to_log (Some o) (Some x) was_out is_out (still (Some o) (Some x) _ refl
             (ap (λ (z : Said). end_said z.kind z.text ++ now)

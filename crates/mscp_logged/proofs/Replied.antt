@@ -137,11 +137,7 @@ module _ (h : Hardware) (c : Settings) (online : Bool) (figure : ℕ) (sent : Li
   reply_told = by (fault_of c k) refl
     where
       open_so : fault_of c k ≡ None → (order : Order) → k.order ≡ order → So
-      open_so none orders.UnitStatus of = status_so of none
-      open_so none (orders.Abort other) of = coded (orders.Abort other) of 0x81 refl none (λ t. search (arith, t))
-      open_so none (orders.Status other) of = coded (orders.Status other) of 0x82 refl none (λ t. search (arith, t))
-      open_so none (orders.SetController version) of = grind (arith, coded)
-      open_so none order of = search (arith, of, none, immediate)
+      open_so none order of = grind (arith, status_so, coded, of)
 
       by : (o : Option ℕ) → fault_of c k ≡ o → So
       by None none = open_so none k.order refl
@@ -158,8 +154,7 @@ own_silent v b = own_cases v b (λ own. describes (answer_by First (own_text b o
     (λ status moves past. by status past)
   where
     by : (status : ℕ) → IsPast status → describes (answer_by First (own_text b (own_refused b status))) ≡ true → ⊥
-    by status (inl e) = grind arith
-    by status (inr e) = grind arith
+    by status x = grind arith
 
 pub own_told : (u : ℕ) (o : Option Shape) {v w : Volume} (x : Option Volume) (b : List ℕ) (own : Own)
     → own_answer false x b ≡ Some own → IsAsWas v w → IsTold u o v w (own_text b own)

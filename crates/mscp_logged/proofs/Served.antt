@@ -168,12 +168,7 @@ module _ {c : Settings} {K : Type 0} {outcome : Outcome} {verdict : Verdict} {ol
 
     is_online : (order : Order) → is_immediate order ≡ false → ((byte why : ℕ) → order ≢ orders.Invalid byte why)
         → endcode order ≡ 0x89 → order ≡ orders.Online
-    is_online orders.Online waits valid code = refl
-    is_online orders.SetUnit waits valid code = search (arith, code)
-    is_online orders.Available waits valid code = search (arith, code)
-    is_online (orders.Move kind count block) waits valid code = grind (arith, code)
-    is_online (orders.Invalid byte why) waits valid code = absurd (valid byte why refl)
-    is_online order waits valid code = search (arith, waits)
+    is_online order waits valid code = grind arith
 
     goes_online : e.code ≡ 0x89 → e.status % 32 ≡ 0 → (online : Bool)
         → state_left online r.command.order (Some e) ≡ true
@@ -188,8 +183,7 @@ module _ {c : Settings} {K : Type 0} {outcome : Outcome} {verdict : Verdict} {ol
         by true x = absurd (false≢true (sym (ap (λ vs. (volume_found c.units vs u).is_mounted) s.volumes
             ∙ available_off c.units old.buffers.items First old.volumes e u
             (its_end.code ∙ ap endcode (sym is)) (eqb-true (e.status % 32) 0 x) (plain.unit ∙ same)) ∙ on))
-    stays_online orders.Online is u on same = grind arith
-    stays_online order is u on same = refl
+    stays_online order is u on same = grind arith
 
     pub served_driven : ((u : ℕ) (unit : Shape) → unit_found c.units u ≡ Some unit
         → (x : Drive) × (find (has_number u) old.controller.drives ≡ Some x))

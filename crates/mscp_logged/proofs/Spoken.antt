@@ -95,7 +95,6 @@ module _ {c : Settings} {Told : Verdict → Record → Type 0} {K : Type 0} (pic
         where
           by : (y : Option End) → ended ≡ y → (order : Order) → r0.command.order ≡ order
               → state_left true order y ≡ true
-          by None e order of = refl
           by (Some end) e orders.Available of = off (is_success end.status) refl
             where
               plain : IsPlainEnd r0 end
@@ -108,8 +107,7 @@ module _ {c : Settings} {Told : Verdict → Record → Type 0} {K : Type 0} (pic
                   settings ∙ ap (λ y. volumes_after c.units old.buffers.items r0.connection y old.volumes) e)
                   ∙ available_off c.units old.buffers.items r0.connection old.volumes end u
                   (plain.code ∙ ap endcode of) (eqb-true (end.status % 32) 0 z) (plain.unit ∙ own)) ∙ on))
-          by (Some end) e orders.Online of = grind arith
-          by (Some end) e order of = refl
+          by y e order of = grind arith
 
       driven_so : AreDriven c.units new.volumes new.controller.drives
       driven_so u on = subst (λ ds. (drive_of ds u).online ≡ true) (sym (s.drives
@@ -155,8 +153,7 @@ module _ {c : Settings} {Told : Verdict → Record → Type 0} {K : Type 0} (pic
       )
 
       some_unit : (y : Option Shape) → is_some y ≡ true → (unit : Shape) × (y ≡ Some unit)
-      some_unit None z = search (arith, z)
-      some_unit (Some unit) z = (unit, refl)
+      some_unit y z = grind arith
 
       comes_so : So
       comes_so =

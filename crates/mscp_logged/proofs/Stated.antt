@@ -83,15 +83,12 @@ module _ (Tie : List ℕ → List ℕ → Type 0) (G O : Type 0) where
 
         apart : (n : ℕ) (own : Sent) → filter (named n) xs ≡ own ∷ [] → (b : Bool) → nat_eq (num t 0 4) n ≡ b
             → b ≡ false
-        apart n own sole true e = grind (arith, new_none, new)
-        apart n own sole false e = refl
+        apart n own sole b e = grind (arith, new_none)
 
         beside : (kind : OutgoingKind) (n : ℕ) → (kind ≡ kinds.End → nat_eq (num t 0 4) n ≡ false) → (x : Sent)
             → stem x ≡ sent_by First t → AreLined (left_by kind n xs) aw
             → AreLined (left_by kind n (xs ++ x ∷ [])) (aw ++ t ∷ [])
-        beside kinds.Attention n other x is all = lined_more xs aw x t all is
-        beside kinds.UtilitiesEnd n other x is all = lined_more xs aw x t all is
-        beside kinds.End n other x is all = grind (arith, filter-append, lined_more)
+        beside kind n other x is all = grind (arith, lined_more, filter-append)
 
         by : (held : List Said) → AreOwed Tie xs aw held → AreLined (without_held held xs) aw → (x : Sent)
             → stem x ≡ sent_by First t → AreLined (without_held held (xs ++ x ∷ [])) (aw ++ t ∷ [])
@@ -200,8 +197,6 @@ module _ (Tie : List ℕ → List ℕ → Type 0) (G O : Type 0) where
     pub left : (old new : Option Outgoing) → Stated h aw (map said_in (option_to_list old)) → begins old new ≡ []
         → ((o x : Outgoing) → old ≡ Some o → new ≡ Some x → said_in o ≡ said_in x)
         → Stated (h ++ flat_map ends_in (leaves old new)) aw (map said_in (option_to_list new))
-    left None None s none same = as_it_is (h ++ []) aw [] [] (append-nil h) refl refl s
-    left None (Some x) s none same = absurd (begun_none None (Some x) x refl refl none)
     left (Some o) (Some x) s none same =
         as_it_is (h ++ []) aw (said_in o ∷ []) (said_in x ∷ []) (append-nil h) refl
         (ap (λ y. y ∷ []) (sym (same o x refl refl))) s
@@ -211,3 +206,4 @@ module _ (Tie : List ℕ → List ℕ → Type 0) (G O : Type 0) where
         by kinds.End e = subst (λ k. Stated (h ++ (map end_of (end_said k o.bytes.items) ++ [])) aw []) (sym e)
             (leaves_end (said_in o) s e)
         by other e = grind (arith, as_it_is, append-nil, leaves_other)
+    left old new s none same = grind (arith, as_it_is, append-nil, begun_none)

@@ -1,6 +1,6 @@
 -- An end that answers a message, or that of a command which is aborted, says that its unit is online, or that it isn't,
 -- only if that is so.
-use Rattle.mscp_logged.proofs.Common.{Answer, AsksFor, Bool, Command, Decided, End, First, Hardware, IsPast, List, None, Option, Order, Own, Record, Sent, Settings, Shape, Some, Volume, aborted_record, answer_by, ap, arith, command_of, cond, end_with_body, endcode, ends_formality, eqb-true, false, false≢true, fault_of, inl, inr, is_queued, move_fault, not, order_fault, own_answer, own_cases, own_end, own_end_with, own_refused, own_text, refl, refused_apart, sent_by, sent_says, slice_index, status_after, subst, sym, true, unit_fault, unit_state, ℕ, ◌%◌, ◌+◌, ◌/◌, ◌<◌, ◌^◌, ◌∙◌, ◌≡◌, ◌⊎◌}
+use Rattle.mscp_logged.proofs.Common.{Answer, AsksFor, Bool, Command, Decided, End, First, Hardware, IsPast, List, None, Option, Order, Own, Record, Sent, Settings, Shape, Some, Volume, aborted_record, answer_by, ap, arith, command_of, end_with_body, endcode, ends_formality, eqb-true, false, fault_of, inl, inr, is_queued, order_fault, own_answer, own_cases, own_end, own_end_with, own_refused, own_text, refl, refused_apart, sent_by, sent_says, slice_index, status_after, subst, sym, true, unit_state, ℕ, ◌%◌, ◌+◌, ◌/◌, ◌<◌, ◌^◌, ◌∙◌, ◌≡◌, ◌⊎◌}
 use Rattle.mscp_packet.specs.declared.command.Order.TheVariants as orders
 use Rattle.mscp_drive.specs.Settings.{unit_found}
 use Rattle.mscp_drive.specs.UnitList as list
@@ -75,27 +75,9 @@ aborted_placed h units r d v u w decided = mute_placed u v (text_with h units (a
     (ap (λ n. n % 32) (decided.status plain ∙ kept_after w (aborted_record r).code 2 (λ e. search (arith, e))
     (λ e. search (arith, e)))))))
 
--- Unit-Offline is told of no unit that is there
-move_some : (c : Settings) (count block status : ℕ) (unit : Shape) → move_fault c count block (Some unit) ≡ Some status
-    → status % 32 ≡ 3 → ⊥
-move_some c count block status unit e three = grind (arith, e, three)
-
 module _ (c : Settings) (unit status : ℕ) (three : status % 32 ≡ 3) where
-  unit_none : (o : Option Shape) → unit_fault o ≡ Some status → o ≡ None
-  unit_none None e = refl
-  unit_none (Some s) e = search (arith, e)
-
-  move_none : (count block : ℕ) (o : Option Shape) → move_fault c count block o ≡ Some status → o ≡ None
-  move_none count block None e = refl
-  move_none count block (Some s) e = absurd (move_some c count block status s e three)
-
   offline_none : (o : Order) (s : Sent) → AsksFor o s → order_fault c unit o ≡ Some status → unit_found c unit ≡ None
-  offline_none (orders.Move kind count block) s says e = move_none count block (unit_found c unit) e
-  offline_none (orders.SetController version) s says e = grind (arith, e, three)
-  offline_none (orders.Invalid byte why) s says e = grind arith
-  offline_none (orders.Abort other) s says e = search (arith, e)
-  offline_none (orders.Status other) s says e = search (arith, e)
-  offline_none order s says e = unit_none (unit_found c unit) e
+  offline_none order s says e = grind arith
 
 -- ---- a reply
 
@@ -167,16 +149,8 @@ module _ (h : Hardware) (c : Settings) (online : Bool) (figure : ℕ) (sent : Li
       code : e.code ≡ 0x83
       code = ap (λ (x : End). x.code) (end_is h c online figure sent immediate small d volume decided of none)
 
-      available : (x y : Bool) → v.is_mounted ≡ y → cond (not x) 0x23 (cond (not y) 4 0) % 32 ≡ 4
-          → v.is_mounted ≡ false
-      available false y is g = search (arith, g)
-      available true false is g = is
-      available true true is g = search (arith, g)
-
       away : (s : ℕ) → s ≡ unit_state v % 32 → IsAwayCode 0x83 s → v.is_mounted ≡ false
-      away s is (inl x) = search (arith, x.1)
-      away s is (inr (inl x)) = available v.is_there v.is_mounted refl (sym is ∙ x.0)
-      away s is (inr (inr x)) = absurd (false≢true x.1)
+      away s is x = grind arith
 
       from : ((ends_formality d.code ≡ true) × Reads a d.code d.status)
           ⊎ ((ends_formality d.code ≡ false)
@@ -190,14 +164,13 @@ module _ (h : Hardware) (c : Settings) (online : Bool) (figure : ℕ) (sent : Li
   reply_placed = by (fault_of c k) refl
     where
       open_so : fault_of c k ≡ None → (order : Order) → k.order ≡ order → So
-      open_so none orders.UnitStatus of = own_so (status_says of none)
       open_so none (orders.Abort other) of = coded (orders.Abort other) of 0x81 refl none
           (λ status. ((λ bit zero on. grind (arith, on)), λ away. grind (arith, away)))
       open_so none (orders.Status other) of = coded (orders.Status other) of 0x82 refl none
           (λ status. ((λ bit zero on. grind (arith, on)), λ away. grind (arith, away)))
       open_so none (orders.SetController version) of = coded (orders.SetController version) of 0x84 refl none
           (λ status. ((λ bit zero on. grind (arith, on)), λ away. grind (arith, away)))
-      open_so none order of = search (arith, of, none, immediate)
+      open_so none order of = grind (arith, own_so, status_says, none)
 
       by : (o : Option ℕ) → fault_of c k ≡ o → So
       by None none = open_so none k.order refl
@@ -215,8 +188,7 @@ own_mute v b = own_cases v b
   where
     by : (status : ℕ) → IsPast status → IsMute (answer_by First (own_text b (own_refused b status))).code
         ((answer_by First (own_text b (own_refused b status))).status % 32)
-    by status (inl e) = grind arith
-    by status (inr e) = grind arith
+    by status x = grind arith
 
 pub own_placed : (u : ℕ) {v w : Volume} (x : Option Volume) (b : List ℕ) (own : Own) → own_answer false x b ≡ Some own
     → IsAsWas v w → IsPlaced u v w (own_text b own)

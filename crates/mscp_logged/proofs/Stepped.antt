@@ -1,9 +1,7 @@
 -- An end that a step gives tells of its unit what is so, of the volume that is there then.
-use Rattle.mscp_logged.proofs.Common.{Answer, Bool, Buffer, Decided, End, First, Hardware, List, Option, Order, Shape, Some, Verdict, Volume, answer_by, ap, arith, block_told, brings, code_told, cond, decided_code, decided_status, describes, end_decided, end_with_body, endcode, ends_formality, false, false≢true, formal_status, found_decided, inl, inr, is_immediate, is_some, is_success, moved_by, nat_eq, online_body, outcome_body, outcome_status, refl, status_after, status_told, subst, sym, told_same, true, unit_found, ℕ, ◌%◌, ◌/◌, ◌==◌, ◌∙◌, ◌≡◌, ◌≢◌, ◌⊎◌}
+use Rattle.mscp_logged.proofs.Common.{Answer, Bool, Buffer, Decided, End, First, Hardware, List, Option, Order, Shape, Some, Verdict, Volume, answer_by, ap, arith, block_told, brings, code_told, cond, decided_code, decided_status, describes, end_decided, end_with_body, endcode, ends_formality, false, formal_status, found_decided, inl, inr, is_immediate, is_some, is_success, moved_by, nat_eq, online_body, outcome_body, outcome_status, refl, status_after, status_told, subst, sym, told_same, true, unit_found, ℕ, ◌%◌, ◌/◌, ◌==◌, ◌∙◌, ◌≡◌, ◌≢◌, ◌⊎◌}
 use Rattle.mscp_packet.specs.declared.command.Order.TheVariants as orders
 use Rattle.mscp_packet.specs.declared.end.EndBody.TheVariants as bodies
-use Rattle.mscp_drive.specs.declared.block.Block.TheVariants as blocks
-use Rattle.mscp_port.specs.declared.verdict.Verdict.TheVariants as verdicts
 use Rattle.mscp_logged.proofs.Describing.{IsAsWas, IsIdentityOf, IsSame, Tells, identity_of}
 use Rattle.mscp_logged.proofs.Sure.{IsSure}
 use Rattle.mscp_logged.proofs.Texts.{text_with}
@@ -53,10 +51,7 @@ pub record IsOnlineTold (v : Volume) (given told : ℕ) : Type 0 where
 pub online_told : (v : Volume) (verdict : Verdict) (online : Bool) → IsSure false v verdict
     → IsOnlineTold v (outcome_status online orders.Online (block_told verdict))
     (status_after verdict 0x89 (outcome_status online orders.Online (block_told verdict)) v)
-online_told v (verdicts.Served blocks.Good) online sure = grind arith
-online_told v (verdicts.Served (blocks.Bad n)) online (inr moves) = absurd (false≢true moves.0)
-online_told v (verdicts.Served (blocks.Bad n)) online (inl bad) = grind arith
-online_told v verdict online sure = record { back = λ e. search (arith, e); was = λ e bit. search (arith, e) }
+online_told v verdict online sure = grind arith
 
 -- ---- ends
 
@@ -75,9 +70,7 @@ abbrev pub IsTelling : ℕ → Type 0
 IsTelling code = (code ≡ 0x83) ⊎ (code ≡ 0x89) ⊎ (code ≡ 0x8A)
 
 pub formal_telling : (code : ℕ) → ends_formality code ≡ true → IsTelling code → ⊥
-formal_telling code e (inl h) = search (arith, sym (ap ends_formality h) ∙ e)
-formal_telling code e (inr (inl h)) = search (arith, sym (ap ends_formality h) ∙ e)
-formal_telling code e (inr (inr h)) = search (arith, sym (ap ends_formality h) ∙ e)
+formal_telling code e x = grind arith
 
 -- what a step gives
 pub record IsGivenEnd (order : Order) (online : Bool) (verdict : Verdict) (e : End) : Type 0 where
@@ -114,8 +107,7 @@ module _ (h : Hardware) (units : List Shape) (verdict : Verdict) (online : Bool)
   }
     where
       by : (a.code ≡ 0x83) ⊎ ((a.code ≡ 0x89) × (a.status / 256 % 2 ≡ 1)) → IsTelling a.code
-      by (inl x) = inl x
-      by (inr x) = inr (inl x.0)
+      by x = grind arith
 
   formal_so : ends_formality d.code ≡ true → Reads a d.code d.status → So
   formal_so is reads = silent (λ t. formal_telling d.code is (subst (λ c. IsTelling c) reads.code t))
@@ -153,8 +145,7 @@ module _ (h : Hardware) (units : List Shape) (verdict : Verdict) (online : Bool)
 
         by : a.status % 32 ≡ 0 → (a.code ≡ 0x83) ⊎ ((a.code ≡ 0x89) × (a.status / 256 % 2 ≡ 1))
             → (v.is_mounted ≡ true) × IsSame v w
-        by good (inl x) = search (arith, sym x ∙ reads.code ∙ given.code)
-        by good (inr x) = grind (arith, told_so, status)
+        by good x = grind (arith, told_so, status)
 
     set_so : (given : IsGivenEnd orders.SetUnit online verdict e) → So
     set_so given = record {
@@ -166,8 +157,7 @@ module _ (h : Hardware) (units : List Shape) (verdict : Verdict) (online : Bool)
     }
       where
         by : (a.code ≡ 0x83) ⊎ ((a.code ≡ 0x89) × (a.status / 256 % 2 ≡ 1)) → (v.is_mounted ≡ true) × IsSame v w
-        by (inl x) = search (arith, sym x ∙ reads.code ∙ given.code)
-        by (inr x) = search (arith, sym x.0 ∙ reads.code ∙ given.code)
+        by x = grind arith
 
     other_so : (order : Order) (code : ℕ) → IsGivenEnd order online verdict e → endcode order ≡ code
         → (IsTelling code → ⊥) → So

@@ -1,6 +1,6 @@
 -- An end of the controller's as it goes out keeps the rules of statuses and of bytes, and tells no other identifier of
 -- the controller than its own.
-use Rattle.mscp_logged.proofs.Common.{Answer, BodyReads, Bool, Decided, End, EndBody, First, Hardware, IsBodyFit, IsCodeFor, IsMade, IsSaid, IsToldSo, Leaving, List, None, Option, Port, Record, Settings, Shape, Some, Verdict, Volume, answer_by, ap, arith, block_told, code_of, command_of, cond, controller_end, controller_in, count_of, end_bytes, end_with_body, ends_formality, eqb-true, false, formal_status, handed, has_code, has_count, has_status, head, inl, inr, is_formality, is_plain, keeps, kind_of_body, left_with, length, little_bytes, nat_eq, nat_le, nat_lt, not, num, points_into, refl, sent_by, slice_index, status_after, status_code, status_told, subst, sym, true, two, unit_found, unit_state, ℕ, ◌%◌, ◌&&◌, ◌+◌, ◌<◌, ◌^◌, ◌||◌, ◌∙◌, ◌≡◌, ◌≤◌, ◌⊎◌}
+use Rattle.mscp_logged.proofs.Common.{Answer, BodyReads, Bool, Decided, End, EndBody, First, Hardware, IsBodyFit, IsCodeFor, IsMade, IsSaid, IsToldSo, Leaving, List, None, Option, Port, Record, Settings, Shape, Some, Verdict, Volume, answer_by, ap, arith, block_told, code_of, command_of, cond, controller_end, controller_in, count_of, end_bytes, end_with_body, ends_formality, eqb-true, false, formal_status, handed, has_code, has_count, has_status, head, inl, inr, is_formality, is_plain, keeps, kind_of_body, left_with, length, little_bytes, nat_eq, nat_le, nat_lt, not, num, points_into, refl, sent_by, slice_index, status_after, status_code, status_told, subst, sym, true, two, unit_found, ℕ, ◌%◌, ◌&&◌, ◌+◌, ◌<◌, ◌^◌, ◌||◌, ◌∙◌, ◌≡◌, ◌≤◌, ◌⊎◌}
 use Rattle.mscp_packet.specs.declared.end.BodyKind.TheVariants as kinds
 use Rattle.mscp_packet.specs.declared.end.EndBody.TheVariants as bodies
 use Rattle.mscp_drive.specs.declared.block.Block.TheVariants as blocks
@@ -105,28 +105,10 @@ told_two : (verdict : Verdict) (code status : ℕ) (v : Volume) → status_told 
 told_two verdict code status v h = by (ends_formality code) h
   where
     formal : (b : Bool) → nat_eq status 2 ≡ b → cond b 2 0 % 32 ≡ 2 → status % 32 ≡ 2
-    formal true is e = ap (λ n. n % 32) (eqb-true status 2 is)
-    formal false is e = search (arith, e)
-
-    state : (a b : Bool) → cond (not a) 0x23 (cond (not b) 4 0) % 32 ≡ 2 → status % 32 ≡ 2
-    state false b e = search (arith, e)
-    state true false e = search (arith, e)
-    state true true e = search (arith, e)
-
-    served : (x y m : Bool) → cond x (unit_state v) (cond y (cond m 0x0100 0) status) % 32 ≡ 2 → status % 32 ≡ 2
-    served true y m e = state v.is_there v.is_mounted e
-    served false true true e = search (arith, e)
-    served false true false e = search (arith, e)
-    served false false m e = e
-
-    after : (w : Verdict) → status_after w code status v % 32 ≡ 2 → status % 32 ≡ 2
-    after verdicts.NoVolume e = search (arith, e)
-    after verdicts.NotOnline e = search (arith, e)
-    after (verdicts.Served block) e = served _ _ v.is_mounted e
+    formal b is e = grind arith
 
     by : (b : Bool) → cond b (formal_status status) (status_after verdict code status v) % 32 ≡ 2 → status % 32 ≡ 2
-    by true e = formal (nat_eq status 2) refl e
-    by false e = after verdict e
+    by b e = grind arith
 
 module _ {K : Type 0} (c : Settings) (Told : Verdict → Record → Type 0) (old : Port K) (aw : List (List ℕ))
     (text t : List ℕ) (s : IsSaid c Told old aw text t) where
@@ -168,12 +150,10 @@ module _ {K : Type 0} (c : Settings) (Told : Verdict → Record → Type 0) (old
           let m = made_code c Told l t s.fits.made in m.is ∙ stood_code m.units t m.message.long formal
 
       never : is_formality (slice_index t 8) ≡ true → IsCodeFor e.code t → ⊥
-      never formal (inl h) = search (arith, sym h.0 ∙ stood formal)
-      never formal (inr h) = no_formality (slice_index t 8) formal (sym h ∙ stood formal)
+      never formal x = grind (arith, stood, no_formality)
 
       by : (b : Bool) → is_formality (slice_index t 8) ≡ b → b ≡ false
-      by false h = refl
-      by true h = absurd (never h (code_for false is))
+      by b h = grind (arith, never, code_for)
 
   -- ---- what it tells of the controller
 
@@ -200,8 +180,7 @@ module _ {K : Type 0} (c : Settings) (Told : Verdict → Record → Type 0) (old
       told_id : (b : Bool) (timeout id : ℕ) → e.body ≡ bodies.Controller timeout id
           → num (cond b (controller_end e d old.hardware timeout id) (end_bytes (record e { status = d.status }))) 20 8
           ≡ num (little_bytes 8 id) 0 8
-      told_id true timeout id body = refl
-      told_id false timeout id body = grind arith
+      told_id b timeout id body = grind arith
 
       other : (body : EndBody) → e.body ≡ body → (kind_of_body body ≡ kinds.Controller → ⊥) → num text 20 8
           ≡ identifier c
@@ -226,11 +205,9 @@ module _ {K : Type 0} (c : Settings) (Told : Verdict → Record → Type 0) (old
 
       by : (x : Bool) → nat_eq (slice_index text 8) 0x84 ≡ x → (y : Bool) → nat_eq (num text 10 2 % 32) 0 ≡ y
           → (z : Bool) → nat_le 28 (length text) ≡ z → IsKnown c (controller_in text)
-      by false h y k z m = inl (in_it false y z h k m)
-      by true h false k z m = inl (in_it true false z h k m)
-      by true h true k false m = inl (in_it true true false h k m)
       by true h true k true m = inr (in_it true true true h k m ∙ ap Some (formal (ends_formality d.code) refl
           (eqb-true (slice_index text 8) 0x84 h) (eqb-true (num text 10 2 % 32) 0 k)))
+      by x h y k z m = grind arith
 
   -- ---- whether it says that its command was aborted
 

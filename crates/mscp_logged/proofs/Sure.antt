@@ -1,7 +1,6 @@
 -- How a step went that ended otherwise than its drive told: its unit isn't online with its volume. And a transfer goes
 -- well only while it is.
-use Rattle.mscp_logged.proofs.Common.{Block, Bool, Buffer, Err, IsBegunStep, IsHow, List, MoveKind, Name, None, Ok, Option, Order, Outcome, Port, Record, Result, Some, Task, Upcoming, Verdict, Volume, arith, begun_record, begun_step, block_begun, block_of, block_served, changed_verdict, cond, drive_of, false, false≢true, fault_with, faulted, find, has_changed, has_host_bytes, has_name, inl, inr, is_available, is_some, known_task, move_of, move_task, moved_by, moved_step, nat_le, not, option_map, part_at, part_of, part_served, part_task, part_with, refl, refusal_of, subst, sym, takes_any_volume, task_of, true, unless_fault, upcoming_of, volume_at, volume_found, volume_in_place, writes, ℕ, ◌%◌, ◌&&◌, ◌==◌, ◌≡◌, ◌≤◌, ◌⊎◌}
-use Rattle.mscp_packet.specs.declared.command.Order.TheVariants as orders
+use Rattle.mscp_logged.proofs.Common.{Block, Bool, Buffer, Err, IsBegunStep, IsHow, List, MoveKind, Name, None, Ok, Option, Order, Outcome, Port, Record, Result, Some, Task, Upcoming, Verdict, Volume, arith, begun_record, begun_step, block_begun, block_served, changed_verdict, cond, drive_of, false, false≢true, fault_with, faulted, find, has_changed, has_host_bytes, has_name, inl, is_available, is_some, known_task, move_of, move_task, moved_by, moved_step, nat_le, not, option_map, part_at, part_of, part_served, part_task, part_with, refl, refusal_of, subst, sym, takes_any_volume, task_of, true, unless_fault, upcoming_of, volume_found, volume_in_place, writes, ℕ, ◌%◌, ◌&&◌, ◌==◌, ◌≡◌, ◌≤◌, ◌⊎◌}
 use Rattle.mscp_drive.specs.declared.block.Block.TheVariants as blocks
 use Rattle.mscp_port.specs.declared.task.Task.TheVariants as tasks
 use Rattle.mscp_port.specs.declared.verdict.Verdict.TheVariants as verdicts
@@ -44,8 +43,7 @@ IsSureEither v (Some verdict) = IsSure true v verdict
 
 either_cond : (v : Volume) (c : Bool) (x y : Option Verdict) → IsSureEither v x → IsSureEither v y
     → IsSureEither v (cond c x y)
-either_cond v true x y a b = a
-either_cond v false x y a b = b
+either_cond v c x y a b = grind arith
 
 refusal_sure : (kind : MoveKind) (block : ℕ) (b : Buffer) (v : Volume) → IsSureEither v (refusal_of kind block b v)
 refusal_sure kind block b v = by v.is_mounted refl
@@ -71,8 +69,7 @@ refusal_sure kind block b v = by v.is_mounted refl
         (cond (writes kind && v.is_protected_by_host) (Some (faulted 0x1006))
         (cond (writes kind && v.is_protected) (Some (faulted 0x2006))
         (cond (nat_le v.size block) (Some (faulted 0x000B)) None))))))
-    by false e = e
-    by true e = rest e
+    by c e = grind (arith, rest)
 
 part_sure : (kind : MoveKind) (block done : ℕ) (b : Buffer) (v : Volume)
     → IsSureOr v (part_with kind block done b v)
@@ -81,16 +78,13 @@ part_sure kind block done b v = by (fault_with kind block b v)
     (refusal_sure kind block b v)) (part_of b done)
   where
     by : (o : Option Verdict) → IsSureEither v o → (part : Option (ℕ × ℕ)) → IsSureOr v (unless_fault o part)
-    by (Some verdict) f part = f
-    by None f None = fault true v 0x0069 (omega arith, omega arith)
-    by None f (Some part) = f
+    by o f part = grind arith
 
 -- ---- a step
 
 task_cond : (moves : Bool) (v : Volume) (c : Bool) (x y : Task) → (c ≡ true → IsSureTask moves v x)
     → IsSureTask moves v y → IsSureTask moves v (cond c x y)
-task_cond moves v true x y a b = a refl
-task_cond moves v false x y a b = b
+task_cond moves v c x y a b = grind arith
 
 -- it moves a block
 abbrev pub moves_block : Upcoming → Bool
@@ -98,17 +92,13 @@ moves_block u = is_some (move_of u)
 
 none_moves : (v : Volume) (move : Option (MoveKind × ℕ)) → move ≡ None
     → IsSure (is_some move) v (verdicts.Served blocks.Good)
-none_moves v None e = λ moves. absurd (false≢true moves)
-none_moves v (Some move) e = search (arith, e)
+none_moves v move e = grind arith
 
 available_still : (order : Order) (lbn : Option ℕ) → is_available order ≡ true → moved_by order lbn ≡ None
-available_still orders.Available lbn e = refl
-available_still order lbn e = search arith
+available_still order lbn e = grind arith
 
 any_still : (order : Order) (lbn : Option ℕ) → takes_any_volume order ≡ true → moved_by order lbn ≡ None
-any_still orders.Online lbn e = refl
-any_still orders.SetUnit lbn e = refl
-any_still order lbn e = search arith
+any_still order lbn e = grind arith
 
 module _ (u : Upcoming) where
   move_sure : (b : Buffer) (v : Volume) (move : Option (MoveKind × ℕ))
@@ -117,29 +107,20 @@ module _ (u : Upcoming) where
   move_sure b v (Some move) = by (part_with move.0 move.1 u.done b v) (part_sure move.0 move.1 u.done b v)
     where
       by : (part : Result (ℕ × ℕ) Verdict) → IsSureOr v part → IsSureTask true v (part_task part)
-      by (Ok part) s = grind arith
-      by (Err verdict) s = s
+      by part s = grind arith
 
   task_sure : (b : Buffer) (v : Volume) → IsSureTask (moves_block u) v (task_of u b v)
   task_sure b v = grind (arith, task_cond, none_moves, available_still, any_still, changed_sure, move_sure)
 
   known_sure : (place : Option ℕ) (kept : Option Buffer) (volumes : List Volume)
       → IsSureTask (moves_block u) (volume_in_place volumes place) (known_task u place kept volumes)
-  known_sure (Some place) (Some b) volumes = task_sure b (volume_at volumes place)
-  known_sure None kept volumes = drive_error (moves_block u) (volume_in_place volumes None)
-  known_sure (Some place) None volumes = drive_error (moves_block u) (volume_at volumes place)
+  known_sure place kept volumes = grind (arith, task_sure, drive_error)
 
 at_sure : (place : Option ℕ) (kept : Option Buffer) (kind : MoveKind) (block done : ℕ) (volumes : List Volume)
     → IsSureOr (volume_in_place volumes place) (part_at place kept kind block done volumes)
-at_sure (Some place) (Some b) kind block done volumes = part_sure kind block done b (volume_at volumes place)
-at_sure None kept kind block done volumes = drive_error true (volume_in_place volumes None)
-at_sure (Some place) None kind block done volumes = drive_error true (volume_at volumes place)
+at_sure place kept kind block done volumes = grind (arith, part_sure, drive_error)
 
 -- ---- what is told
-
-outcome_sure : (v : Volume) (outcome : Outcome) → v.is_mounted ≡ true
-    → IsSure true v (verdicts.Served (block_of outcome))
-outcome_sure v outcome e = grind arith
 
 module _ {K : Type 0} (old : Port K) (outcome : Outcome) (step : IsBegunStep old) (name : Name)
     (was : old.controller.begun ≡ Some name) (r : Record)
@@ -161,14 +142,11 @@ module _ {K : Type 0} (old : Port K) (outcome : Outcome) (step : IsBegunStep old
       (by (move_of u))
     where
       served : (part : Result (ℕ × ℕ) Verdict) → IsSureOr v part → IsSure true v (part_served outcome part)
-      served (Ok part) s = outcome_sure v outcome s
-      served (Err verdict) s = s
+      served part s = grind arith
 
       by : (move : Option (MoveKind × ℕ))
           → IsSure (is_some move) v (block_served old outcome (option_map (λ move. (u, move.0, move.1)) move))
-      by None = drive_error false v
-      by (Some move) = grind (arith, served, at_sure)
+      by move = grind (arith, drive_error, served, at_sure)
 
   pub told_sure : (verdict : Verdict) → IsHow old outcome verdict → IsSure (moves_block u) v verdict
-  told_sure verdict (inl at) = step_sure verdict at
-  told_sure verdict (inr h) = subst (λ x. IsSure (moves_block u) v x) (sym h.1) moved_sure
+  told_sure verdict x = grind (arith, step_sure, moved_sure)

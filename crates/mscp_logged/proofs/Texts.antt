@@ -1,6 +1,6 @@
 -- The texts of the disk's ends that are still to come: of what goes out, and behind it of those that wait in the
 -- controller, each with what was decided of it. By each call more come behind them.
-use Rattle.mscp_logged.proofs.Common.{Action, Bool, Decided, End, Hardware, List, None, Option, Outgoing, Port, Shape, Some, TakesEnd, Wants, [], ap, append-nil, arith, begun_end, drop, end_said, end_told, ends_begun, ends_of, length, map, none-some, refl, same_Some, says_is, slice_get, told_end, unit_found, zipped, ℕ, ◌++◌, ◌∷◌, ◌≡◌}
+use Rattle.mscp_logged.proofs.Common.{Action, Bool, Decided, End, Hardware, List, None, Option, Outgoing, Port, Shape, Some, TakesEnd, Wants, [], ap, append-nil, arith, begun_end, drop, end_said, end_told, ends_begun, ends_of, length, map, refl, same_Some, says_is, slice_get, told_end, unit_found, zipped, ℕ, ◌++◌, ◌∷◌, ◌≡◌}
 
 -- what waits, with what was decided of each
 module _ (h : Hardware) (units : List Shape) where
@@ -48,10 +48,9 @@ module _ (h : Hardware) (units : List Shape) where
       taken : (es : List End) (ds : List Decided) → length es ≡ length ds → (e : End) → slice_get es 0 ≡ Some e
           → (d : Decided) × (slice_get ds 0 ≡ Some d)
           × (texts_of es ds ≡ text_with e d ∷ texts_of (drop 1 es) (drop 1 ds))
-      taken [] ds long e some = absurd (none-some e some)
-      taken (x ∷ es) [] long e some = search (arith, long)
       taken (x ∷ es) (d ∷ ds) long e some =
           (d, refl, ap (λ y. text_with y d ∷ texts_of es ds) (same_Some x e some))
+      taken es ds long e some = grind arith
 
       text_is : (e : End) (d : Decided) → slice_get old.decided.items 0 ≡ Some d → told_end old e ≡ text_with e d
       text_is e d some = grind arith

@@ -87,8 +87,7 @@ said_as c F old aw text t f s = record {
     }))
 
 pub faults_before : (call : Call) (calls : List Call) → TellsFaults (call ∷ calls) → TellsFaults calls
-faults_before (Went outcome result) calls h = h.1
-faults_before call calls h = h
+faults_before call calls h = grind arith
 
 -- what is asked of calls
 abbrev pub IsFineUntil : Type 0 → List Call → Type 0
@@ -215,5 +214,4 @@ never_aborted c old text o own kind two = own_cases (volume_named old text) text
     (ap (λ b. num b 10 2 % 32) (sym own.own.2) ∙ two)
   where
     by : (status : ℕ) → IsPast status → num (own_text text (own_refused text status)) 10 2 % 32 ≡ 2 → ⊥
-    by status (inl e) = grind arith
-    by status (inr e) = grind arith
+    by status x = grind arith

@@ -1,5 +1,5 @@
 -- What the text of an end says of its code, its status, its unit and what that is, as whoever judges the wire reads it.
-use Rattle.mscp_logged.proofs.Common.{Answer, Bool, Decided, End, First, Hardware, List, Option, Shape, answer_by, arith, body_unit, brings, cond, describes, end_with_body, ends_formality, false, head, is_unsure, num, tells_unit, true, two, unit_found, ℕ, ◌%◌, ◌/◌, ◌<◌, ◌^◌, ◌≡◌, ◌⊎◌}
+use Rattle.mscp_logged.proofs.Common.{Answer, Bool, Decided, End, First, Hardware, List, Option, Shape, answer_by, arith, brings, cond, describes, end_with_body, ends_formality, false, head, is_unsure, num, tells_unit, true, unit_found, ℕ, ◌%◌, ◌/◌, ◌<◌, ◌^◌, ◌≡◌, ◌⊎◌}
 use Rattle.mscp_logged.proofs.Texts.{text_with}
 
 -- ---- a text
@@ -29,8 +29,7 @@ module _ (h : Hardware) (units : List Shape) (e : End) (d : Decided) where
     where
       by : (b : Bool) → num (cond b (head e.reference e.unit d.code d.status) (end_with_body e.body e d o h)) 4 2
           ≡ e.unit
-      by true = two e.unit small
-      by false = body_unit e.body e d o h small
+      by b = grind arith
 
 -- ---- a unit
 

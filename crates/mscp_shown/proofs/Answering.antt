@@ -3,7 +3,7 @@
 use Rattle.mscp_shown.proofs.Common.{AllByRecursion, Block, Bool, Command, Connection, End, Entry, Event, List, Moment, Name, None, Ok, Option, Order, Service, Settings, Some, Step, Trace, [], aborted, aborted_reference, aborted_unless, aborts, answer, ap, arith, command_of, cond, connection, count_by, differ_is, ends_at, ends_in, ends_served, every_filter, every_from, every_weaker, false, fault_of, filter, filter_all, filter_filter, filter_on, if◌then◌else◌, is_differ, is_same, is_some, kept_own, name, name_on, not, option_map, outcome, own_end_with, reference, refl, same_connection, same_is, same_name, sent_bytes, service_name, slice_get, subst, sum_by_map, sum_by_push, sym, true, waiting, waiting_by, ℕ, ◌&&◌, ◌+◌, ◌∙◌, ◌∷◌, ◌≡◌, ◌≢◌}
 use Rattle.mscp_controller.specs.declared.entry.Sent.{Sent}
 use Rattle.mscp_shown.proofs.Counts.{one_gone, parted}
-use Rattle.mscp_shown.proofs.Owed.{kept, one_if}
+use Rattle.mscp_shown.proofs.Owed.{kept}
 
 -- the answer to a message of a connection that aborts the command of this reference number, or none
 abbrev pub Answer : Connection → ℕ → Option ℕ → Entry
@@ -60,15 +60,12 @@ module _ (via : Connection) (t : Trace) (q : ℕ) (p : ℕ → Bool) where
   aborted_left : (o : Order) (f : Option ℕ) (a : Option ℕ)
       → a ≡ option_map (reference t) (slice_get (aborted_unless via t o f) 0)
       → numbered (left a) + numbered (aborted_unless via t o f) ≡ numbered (waiting_by via t)
-  aborted_left o (Some fault) a first = none_named a [] refl first
-  aborted_left (Order.Abort other) None a first = grind (arith, named_left)
-  aborted_left o None a first = search (arith, none_named)
+  aborted_left o f a first = grind (arith, none_named, named_left)
 
 -- ---- the ends of an answer
 pub own_number : (c : Settings) (online : Bool) (figure : ℕ) (k : Command) (f : Option ℕ)
     → (own_end_with c online figure k f).reference ≡ k.reference
-own_number c online figure k None = refl
-own_number c online figure k (Some status) = refl
+own_number c online figure k f = grind arith
 
 answer_numbers : (c : Settings) (via : Connection) (t : Trace) (b : List ℕ) (p : ℕ → Bool)
     → count_by (λ (e : End). p e.reference) (answer c via t b)
@@ -128,5 +125,4 @@ module _ (c : Settings) (via : Connection) (t : Trace) (m : Moment) (s : Service
       one_end : (here : Bool) (e : End) → e.reference ≡ reference t y
           → count_by (λ (e : End). p e.reference) (if here then e ∷ [] else [])
           ≡ cond (here && p (reference t y)) 1 0
-      one_end true e h = ap (λ r. 0 + one_if (p r)) h ∙ omega arith
-      one_end false e h = refl
+      one_end here e h = grind arith

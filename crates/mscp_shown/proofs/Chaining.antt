@@ -1,5 +1,5 @@
 -- What the ends that weren't taken will tell of a command: each figure is lower than the one before.
-use Rattle.mscp_shown.proofs.Common.{AllByRecursion, Bool, Connection, End, List, None, Option, Sent, Some, [], ap, arith, false, false≢true, if◌then◌else◌, is_below, is_it, is_named, list_any, nat_eq, refl, true, true≢false, ℕ, ◌&&◌, ◌++◌, ◌<◌, ◌∷◌, ◌≡◌}
+use Rattle.mscp_shown.proofs.Common.{AllByRecursion, Bool, Connection, End, List, None, Option, Sent, Some, [], ap, arith, false, if◌then◌else◌, is_below, is_it, is_named, list_any, nat_eq, refl, true, ℕ, ◌&&◌, ◌++◌, ◌<◌, ◌∷◌, ◌≡◌}
 use Rattle.mscp_shown.proofs.Polling.{figure_told, poll_of}
 
 -- an end's command is among these
@@ -34,25 +34,13 @@ is_over n us = list_any (λ (e : End). nat_eq e.reference n) us
 
 -- ---- one step
 goes_map : (o a b : Bool) (A B C D : Type 0) → a ≡ b → (A → C) → (B → D) → Goes o a A B → Goes o b C D
-goes_map true a b A B C D e f g h = tt
-goes_map false true true A B C D e f g h = f h
-goes_map false false false A B C D e f g h = g h
-goes_map false true false A B C D e f g h = absurd (true≢false e)
-goes_map false false true A B C D e f g h = absurd (false≢true e)
-
-goes_over : (o a : Bool) (A B : Type 0) → o ≡ true → Goes o a A B
-goes_over true a A B e = tt
-goes_over false a A B e = absurd (false≢true e)
+goes_map o a b A B C D e f g h = grind arith
 
 pub goes_told : (o a : Bool) (A B : Type 0) → o ≡ false → a ≡ true → Goes o a A B → A
-goes_told true a A B e f h = absurd (true≢false e)
-goes_told false true A B e f h = h
-goes_told false false A B e f h = absurd (false≢true f)
+goes_told o a A B e f h = grind arith
 
 pub goes_by : (o a : Bool) (A B : Type 0) → o ≡ false → a ≡ false → Goes o a A B → B
-goes_by true a A B e f h = absurd (true≢false e)
-goes_by false true A B e f h = absurd (true≢false f)
-goes_by false false A B e f h = h
+goes_by o a A B e f h = grind arith
 
 module _ (via : Connection) (n : ℕ) where
   -- the same commands hear
@@ -84,9 +72,7 @@ module _ (via : Connection) (n : ℕ) where
           → (is_over n us ≡ false → Chain via later n (last_told via later n l us) vs) → Chain via later n l (us ++ vs))
           → (o : Bool) → nat_eq e.reference n ≡ o → (a : Bool) → tells via later n e ≡ a
           → Chain via later n last (e ∷ us ++ vs)
-      by_own on true p a q = goes_over (nat_eq e.reference n) (tells via later n e) _ _ p
-      by_own on false p true q = grind arith
-      by_own on false p false q = grind arith
+      by_own on o p a q = grind arith
 
   pub last_append : (later : List Sent) (last : Option ℕ) (us vs : List End)
       → last_told via later n last (us ++ vs) ≡ last_told via later n (last_told via later n last us) vs

@@ -1,5 +1,5 @@
 -- What the ends that a controller makes say of the states of their units.
-use Rattle.mscp_shown.proofs.Common.{Bad, Block, Bool, Command, Good, None, Order, Sent, Settings, and_parts, arith, endcode, eqb-true, false, false≢true, is_immediate, is_moved, is_of_unit, is_queued, nat_eq, outcome_of, outcome_status, own_end, refl, state_after, true, unit_fault, unit_found, ℕ, ◌%◌, ◌&&◌, ◌/◌, ◌||◌, ◌∙◌, ◌≡◌, ◌≢◌, ◌≤◌}
+use Rattle.mscp_shown.proofs.Common.{Bad, Block, Bool, Command, Good, None, Order, Sent, Settings, and_parts, arith, endcode, eqb-true, false, is_immediate, is_moved, is_of_unit, is_queued, nat_eq, outcome_of, outcome_status, own_end, refl, state_after, true, unit_fault, unit_found, ℕ, ◌%◌, ◌&&◌, ◌/◌, ◌||◌, ◌∙◌, ◌≡◌, ◌≢◌, ◌≤◌}
 use Rattle.mscp_packet.specs.declared.command.Order.TheVariants as orders
 use Rattle.mscp_shown.proofs.Saying.{Says}
 use Rattle.mscp_shown.proofs.Suiting.{IsFault, valid_order}
@@ -61,10 +61,7 @@ bad_effects online new code status h same = record {
   where
     which : (a x b w c y : Bool) → ((a && x) || (b && w) || (c && y)) ≡ true → (a ≡ true → ⊥) → (b ≡ true → ⊥)
         → (c ≡ true → ⊥) → ⊥
-    which true x b w c y e p q r = p refl
-    which false x true w c y e p q r = q refl
-    which false x false w true y e p q r = r refl
-    which false x false w false y e p q r = absurd (false≢true e)
+    which a x b w c y e p q r = grind arith
 
 outcome_effects : (online : Bool) (o : Order) (k : Block) → IsFault k → is_immediate o ≡ false
     → ((byte why : ℕ) → o ≢ orders.Invalid byte why)

@@ -1,7 +1,6 @@
 -- The numbers of the ends that a controller makes fit their places, where its messages are bytes.
-use Rattle.mscp_shown.proofs.Common.{AreBytes, Block, BodyKind, Bool, Command, List, None, Opcode, Option, Order, Settings, Shape, Some, aborted_end, arith, command_of, endcode, false, fault_of, if◌then◌else◌, is_queued, is_success, kind_of_code, moved_body, opcode_of, order_with, outcome_body, outcome_of, outcome_status, own_end, own_end_with, refl, refused_body, slice_index, true, zero_body, ℕ, ◌%◌, ◌<◌, ◌^◌, ◌≡◌}
+use Rattle.mscp_shown.proofs.Common.{AreBytes, Block, BodyKind, Bool, Command, List, None, Opcode, Option, Order, Settings, Shape, Some, aborted_end, arith, command_of, false, fault_of, if◌then◌else◌, is_queued, is_success, kind_of_code, moved_body, opcode_of, order_with, outcome_body, outcome_of, outcome_status, own_end, own_end_with, refl, refused_body, slice_index, true, zero_body, ℕ, ◌%◌, ◌<◌, ◌^◌, ◌≡◌}
 use Rattle.mscp_packet.specs.declared.command.Order.TheVariants as orders
-use Rattle.mscp_packet.specs.declared.end.BodyKind.TheVariants as kinds
 use Rattle.mscp_packet.specs.declared.end.EndBody.TheVariants as bodies
 use Rattle.mscp_shown.proofs.Reading.{IsBodyFit, IsFit}
 use Rattle.mscp_shown.proofs.Suiting.{IsFault}
@@ -35,25 +34,17 @@ module _ (b : List ℕ) (h : AreBytes b) where
 
 -- ---- bodies
 zero_fit : (kind : Option BodyKind) → IsBodyFit (zero_body kind)
-zero_fit (Some kinds.Abort) = omega arith
-zero_fit (Some kinds.Status) = (omega arith, omega arith)
-zero_fit (Some kinds.Moved) = omega arith
-zero_fit x = tt
+zero_fit x = grind arith
 
 refused_fit : (code : ℕ) → IsBodyFit (refused_body code)
 refused_fit code = zero_fit (kind_of_code code)
 
 moved_fit : (o : Order) (good : ℕ) → IsSmallOrder o → IsBodyFit (moved_body o good)
-moved_fit (orders.Move kind count block) good h = omega (arith, h)
-moved_fit (orders.Abort other) good h = refused_fit (endcode (orders.Abort other))
-moved_fit (orders.Status other) good h = refused_fit (endcode (orders.Status other))
-moved_fit (orders.Invalid byte fault) good h = refused_fit (endcode (orders.Invalid byte fault))
-moved_fit order good h = tt
+moved_fit order good h = grind (arith, refused_fit)
 
 online_fit : (s : Shape) (success : Bool)
     → IsBodyFit (if success then bodies.Online s.id s.media s.size s.serial else bodies.Online 0 0 0 0)
-online_fit s true = tt
-online_fit s false = tt
+online_fit s success = grind arith
 
 pub outcome_fit : (s : Shape) (status : ℕ) (o : Order) (good : ℕ) → IsSmallOrder o → IsBodyFit
     (outcome_body s status o good)

@@ -1,5 +1,5 @@
 -- What hosts hear of the other commands when they take an end.
-use Rattle.mscp_shown.proofs.Common.{AllByRecursion, Answer, Bool, Connection, End, List, None, Option, Sent, Some, [], and_parts, ap, arith, drop, eqb-true, every_weaker, false, get_or, if◌then◌else◌, is_named, length, list_any, map, nat_eq, refl, subst, suc, sym, take, true, zero, ℕ, ◌++◌, ◌+◌, ◌<◌, ◌||◌, ◌∙◌, ◌∷◌, ◌≡◌}
+use Rattle.mscp_shown.proofs.Common.{AllByRecursion, Answer, Bool, Connection, End, List, Option, Sent, Some, [], and_parts, ap, arith, drop, eqb-true, every_weaker, false, get_or, if◌then◌else◌, is_named, length, list_any, map, nat_eq, subst, suc, sym, take, true, zero, ℕ, ◌++◌, ◌+◌, ◌<◌, ◌||◌, ◌∙◌, ◌∷◌, ◌≡◌}
 use Rattle.mscp_wire.specs.Wire as wire
 use Rattle.mscp_shown.proofs.Strict.{hears}
 use Rattle.mscp_shown.proofs.Chaining.{Chain, chain_same, goes_by, heard, last_same, last_told, tells}
@@ -23,8 +23,7 @@ module _ (a : Answer) (o : Option ℕ) where
 -- of another connection it hears nothing
 hears_none : (a : Answer) (o : Option ℕ) (via : Connection) (s : Sent) → wire.same_connection s.connection via ≡ true
     → wire.same_connection a.connection via ≡ false → hears a o s ≡ s
-hears_none a None via s q n = refl
-hears_none a (Some other) via s q n = grind arith
+hears_none a o via s q n = grind arith
 
 -- what it is told then
 told_is : (a : Answer) (own : Connection) (later : List Sent) (e : End) (s : Sent) → a.connection ≡ own
@@ -43,9 +42,8 @@ chain_next via later n last e rest other h = grind arith
 
 any_gone : (p : Sent → Bool) (f : Sent → Sent) → ((s : Sent) → p (f s) ≡ p s) → (i : ℕ) (xs : List Sent) (d : Sent)
     → i < length xs → p (get_or xs i d) ≡ false → list_any p xs ≡ list_any p (map f (take i xs) ++ drop (suc i) xs)
-any_gone p f same i [] d l n = absurd (omega (arith, l))
-any_gone p f same zero (x ∷ xs) d l n = ap (λ b. b || list_any p xs) n
 any_gone p f same (suc i) (x ∷ xs) d l n = grind (arith, any_gone p f same i xs d (omega (arith, l)) n)
+any_gone p f same i xs d l n = grind arith
 
 any_index : (p : Sent → Bool) (i : ℕ) (xs : List Sent) (d : Sent) → i < length xs → p (get_or xs i d) ≡ true
     → list_any p xs ≡ true
@@ -97,8 +95,6 @@ module _ (a : Answer) (own : Connection) (e : End) (rest : List End) (d : Sent) 
       → AllByRecursion Other (take i xs) → AllByRecursion Other (drop (suc i) xs)
       → AllByRecursion (λ (k : End). nat_eq k.reference e.reference ≡ false) rest → Chains own xs (e ∷ rest)
       → Chains own (map hear (take i xs) ++ drop (suc i) xs) rest
-  chains_gone i [] l named f b n h = absurd (omega (arith, l))
-  chains_gone zero (y ∷ xs) l named f b n h = chains_rest xs b h.1
   chains_gone (suc i) (s ∷ xs) l named f b n h = (
     λ q.
         let here : wire.same_connection s.connection own ≡ true =
@@ -112,14 +108,13 @@ module _ (a : Answer) (own : Connection) (e : End) (rest : List End) (d : Sent) 
         (heard_left i xs (omega (arith, l)) named n) number,
     chains_gone i xs (omega (arith, l)) named f.1 b n h.1,
   )
+  chains_gone i xs l named f b n h = grind (arith, chains_rest)
 
   pub lasts_gone : (number : ℕ) (P : Option ℕ → Type 0) (i : ℕ) (xs : List Sent) → i < length xs
       → is_named own e.reference (get_or xs i d) ≡ true → AllByRecursion Other (drop (suc i) xs)
       → AllByRecursion (λ (k : End). nat_eq k.reference e.reference ≡ false) rest
       → Lasts (record { connection = own; reference = number }) P (e ∷ rest) xs
       → Lasts (record { connection = own; reference = number }) P rest (map hear (take i xs) ++ drop (suc i) xs)
-  lasts_gone number P i [] l named b n h = absurd (omega (arith, l))
-  lasts_gone number P zero (y ∷ xs) l named b n h = lasts_rest number P xs b h.1
   lasts_gone number P (suc i) (s ∷ xs) l named b n h = (
     λ q.
         let here : is_named own number s ≡ true = sym (hears_named a (poll_of e) own number s) ∙ q in
@@ -135,6 +130,7 @@ module _ (a : Answer) (own : Connection) (e : End) (rest : List End) (d : Sent) 
         (subst (λ o. P (last_told own xs number o rest)) (sym told) (h.0 here)),
     lasts_gone number P i xs (omega (arith, l)) named b n h.1,
   )
+  lasts_gone number P i xs l named b n h = grind (arith, lasts_rest)
 
 -- ---- an end of the other connection
 module _ (a : Answer) (o : Option ℕ) (via : Connection) (us : List End) (d : Sent)
@@ -149,8 +145,6 @@ module _ (a : Answer) (o : Option ℕ) (via : Connection) (us : List End) (d : S
   pub chains_other : (i : ℕ) (xs : List Sent) → i < length xs
       → wire.same_connection (get_or xs i d).connection via ≡ false → Chains via xs us
       → Chains via (map (hears a o) (take i xs) ++ drop (suc i) xs) us
-  chains_other i [] l n h = absurd (omega (arith, l))
-  chains_other zero (y ∷ xs) l n h = h.1
   chains_other (suc i) (s ∷ xs) l n h = (
     λ q.
         let here : wire.same_connection s.connection via ≡ true =
@@ -160,13 +154,12 @@ module _ (a : Answer) (o : Option ℕ) (via : Connection) (us : List End) (d : S
         (chain_same via s.reference xs later s.told us (still_heard i xs (omega (arith, l)) n us) (h.0 here)),
     chains_other i xs (omega (arith, l)) n h.1,
   )
+  chains_other i xs l n h = grind arith
 
   pub lasts_other : (number : ℕ) (P : Option ℕ → Type 0) (i : ℕ) (xs : List Sent) → i < length xs
       → wire.same_connection (get_or xs i d).connection via ≡ false
       → Lasts (record { connection = via; reference = number }) P us xs
       → Lasts (record { connection = via; reference = number }) P us (map (hears a o) (take i xs) ++ drop (suc i) xs)
-  lasts_other number P i [] l n h = absurd (omega (arith, l))
-  lasts_other number P zero (y ∷ xs) l n h = h.1
   lasts_other number P (suc i) (s ∷ xs) l n h = (
     λ q.
         let here : is_named via number s ≡ true = sym (hears_named a o via number s) ∙ q in
@@ -177,6 +170,7 @@ module _ (a : Answer) (o : Option ℕ) (via : Connection) (us : List End) (d : S
         (subst (λ z. P (last_told via xs number z.told us)) (sym (hears_none a o via s parts.0 other)) (h.0 here)),
     lasts_other number P i xs (omega (arith, l)) n h.1,
   )
+  lasts_other number P i xs l n h = grind arith
 
 -- ---- figures of commands that are outstanding
 pub stands_gone : (own : Connection) (xs ys : List Sent) (e : End) (before us : List End)

@@ -90,10 +90,7 @@ module _ (c : Settings) (via : Connection) (e : End) (kind : IsOfKind e) (tells 
     where
       by_code : {P : Type 0} (x y z : Bool) → (x || y || z) ≡ true → (x ≡ true → P) → (y ≡ true → P)
           → (z ≡ true → P) → P
-      by_code true y z h p q r = p refl
-      by_code false true z h p q r = q refl
-      by_code false false true h p q r = r refl
-      by_code false false false h p q r = cc
+      by_code x y z h p q r = grind arith
 
   -- and so does what brings it online
   pub brought_right : a.status ≡ e.status → brings a ≡ true → HasOf (unit_shape c e.unit) a.identity
@@ -133,15 +130,12 @@ controller_read c via e kind controls st n h = grind (arith, some_kind, eqb-true
 pub fits_controller : (c : Settings) (known told : Option ℕ)
     → ((n : ℕ) → known ≡ Some n → n ≡ own_identifier c) → ((n : ℕ) → told ≡ Some n → n ≡ own_identifier c)
     → fits known told ≡ true
-fits_controller c None told p q = refl
-fits_controller c (Some m) None p q = refl
-fits_controller c (Some m) (Some n) p q = eq-eqb m n (p m refl ∙ sym (q n refl))
+fits_controller c known told p q = grind arith
 
 pub later_controller : (c : Settings) (told known : Option ℕ)
     → ((n : ℕ) → told ≡ Some n → n ≡ own_identifier c) → ((n : ℕ) → known ≡ Some n → n ≡ own_identifier c)
     → (n : ℕ) → later_of told known ≡ Some n → n ≡ own_identifier c
-later_controller c None known p q n h = q n h
-later_controller c (Some m) known p q n h = p n h
+later_controller c told known p q n h = grind arith
 
 -- ---- what is known of units
 -- what is known of each unit is what it is
@@ -213,5 +207,4 @@ same_right s was a known tells = by_identity was.identity known
       where
         by_tells : (b : Bool) → (b ≡ true → HasOf s a.identity)
             → (not b || is_unsure a || agrees a.identity j) ≡ true
-        by_tells false f = grind arith
-        by_tells true f = grind (arith, agrees_same)
+        by_tells b f = grind (arith, agrees_same)

@@ -27,9 +27,8 @@ every_both P Q (x ∷ xs) h k = ((h.0, k.0), every_both P Q xs h.1 k.1)
 
 any_split : (q : Sent → Bool) (i : ℕ) (xs : List Sent) (d : Sent) → i < length xs
     → list_any q xs ≡ (list_any q (take i xs) || (q (get_or xs i d) || list_any q (drop (suc i) xs)))
-any_split q i [] d l = absurd (omega (arith, l))
-any_split q zero (x ∷ xs) d l = refl
 any_split q (suc i) (x ∷ xs) d l = grind (arith, any_split q i xs d (omega (arith, l)))
+any_split q i xs d l = grind arith
 
 found_first : (q : Sent → Bool) (P : Sent → Type 0) (xs : List Sent) → list_any q xs ≡ true → AllByRecursion P xs
     → (x : Sent) × (find q xs ≡ Some x) × (q x ≡ true) × P x
@@ -43,9 +42,8 @@ found_first q P (x ∷ xs) h all =
     ] refl h
 
 more_taken : (h : History) (n : ℕ) → n < length h → take (suc n) h ≡ take n h ++ moment_at h n ∷ []
-more_taken [] n l = absurd (omega (arith, l))
-more_taken (m ∷ h) zero l = refl
 more_taken (m ∷ h) (suc n) l = ap (λ t. m ∷ t) (more_taken h n (omega (arith, l)))
+more_taken h n l = grind arith
 
 -- ---- what is kept
 record State (xs ys : List Sent) : Type 0 where
@@ -189,13 +187,11 @@ module _ (xs ys : List Sent) (h : State xs ys) (u : Seen) (b : List ℕ) (e : An
     tells_right : (figure : Option ℕ) (a : Asked) → AsksOf (take i xs) y a
         → may_tell figure (list_any q xs) (find q (take i xs)) ≡ true
         → wire.may_tell a (list_any q (drop (i + 1) ys)) figure ≡ true
-    tells_right None a asked k = cc
-    tells_right (Some figure) Nothing asked k = grind arith
-    tells_right (Some figure) (Gone last) asked k = grind (arith, side, find_none, every_none, gone_tells)
     tells_right (Some figure) (Oldest last) asked k =
         let s = asked n here in
         oldest_tells (Some figure) last (subst (λ v. list_any (is_named v n) (take i xs) ≡ true) side s.1.0)
         (subst (λ v. AllByRecursion (IsLow v n last) (take i xs)) side s.1.1) k
+    tells_right figure a asked k = grind (arith, side, find_none, every_none, gone_tells)
 
   figure_right : (o : Option ℕ) → p ≡ o → strict.has_figure xs (take i xs) e o ≡ true
       → wire.has_figure (drop (i + 1) ys) y e o ≡ true
@@ -223,8 +219,7 @@ module _ (xs ys : List Sent) (h : State xs ys) (u : Seen) (b : List ℕ) (e : An
       → wire.unless (wire.is_long b) rules.Length
       (wire.broken_at ys (record { unit = if settled then u.unit else wire.told_nothing; controller = u.controller }) e
       (place_of ys e)) ≡ None
-  end_right false stated known = grind (arith, place_same, same, aborted_right, order_right, asks, figure_right)
-  end_right true stated known = grind (arith, place_same, same, aborted_right, order_right, asks, figure_right)
+  end_right settled stated known = grind (arith, place_same, same, aborted_right, order_right, asks, figure_right)
 
 -- ---- a moment
 step : (credits timeout : Option ℕ) (xs ys : List Sent) (units : Connection → ℕ → Told) (known : Option ℕ) (m : Moment)
@@ -245,8 +240,7 @@ step credits timeout xs ys units known (moments.End via b) h r stated =
           (subst (λ o. State (strict.after_end xs e (Some r.0)) (wire.after_end ys e o)) (sym found)
           (end_kept xs ys h u b.items e r.0 r.1)),
     )
-step credits timeout xs ys units known moments.Reset h r stated = (refl, record { link = tt; alone = tt })
-step credits timeout xs ys units known (moments.Closed via) h r stated = absurd r
+step credits timeout xs ys units known m h r stated = grind arith
 
 states : (credits : Option ℕ) (h : History) → strict.AreRight credits h → strict.AreStated h → (n : ℕ) → n ≤ length h
     → State (strict.outstanding (take n h)) (wire.outstanding (take n h))

@@ -1,6 +1,5 @@
 -- An end that suits what a command asks for keeps the rules that look at that command alone.
 use Rattle.mscp_shown.proofs.Common.{Answer, Bool, EndBody, MoveKind, None, Opcode, Option, Order, Sent, Some, ap, arith, bit_or, count_of, endcode, eq-eqb, eqb-true, false, has_code, has_count, has_status, if◌then◌else◌, inl, inr, is_about, is_about_another, is_counted, is_it, is_known, is_refused, is_required, is_short, is_some, is_transfer, is_unknown, least_message, lt-ltb, may_have, move_byte, moves, names_unit, nat_eq, nat_le, nat_lt, not, refl, refused_body, row_of, status_code, subst, succeeds, sym, true, was_online, ℕ, ⊎_elim, ◌%◌, ◌&&◌, ◌+◌, ◌/◌, ◌<◌, ◌||◌, ◌∙◌, ◌≡◌, ◌≢◌, ◌≤◌, ◌⊎◌}
-use Rattle.mscp_packet.specs.declared.class.Opcode.TheVariants as codes
 use Rattle.mscp_packet.specs.declared.command.Order.TheVariants as orders
 use Rattle.mscp_shown.proofs.Reading.{BodyReads}
 use Rattle.mscp_shown.proofs.Saying.{IsLong, IsShort, Says}
@@ -188,8 +187,7 @@ module _ (s : Sent) (a : Answer) where
   -- none of its bytes were moved
   none_moved : (o : Opcode) → status_code a ≡ 1
       → BodyReads (refused_body (bit_or (row_of o).byte 0x80)) a → has_count a (wanted (row_of o).byte s) ≡ true
-  none_moved (codes.Move kind) one q = grind arith
-  none_moved code one q = refl
+  none_moved code one q = grind arith
 
   short_keeps : (o : Opcode) (byte fault status : ℕ) (body : EndBody) → IsShort o byte fault s
       → a.unit ≡ s.unit → status ≡ fault → body ≡ refused_body (endcode (orders.Invalid byte fault))

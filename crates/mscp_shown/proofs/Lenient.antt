@@ -1,5 +1,5 @@
 -- A history that keeps the stricter rules of figures keeps those of the judge of the wire.
-use Rattle.mscp_shown.proofs.Common.{AllByRecursion, Answer, Asked, Bool, Connection, Gone, List, None, Nothing, Oldest, Option, Pairs, Sent, Some, [], and_parts, ap, arith, cond, drop, eqb-true, every_append, every_parts, every_weaker, false, false≢true, find, get_or, if◌then◌else◌, is_below, is_it, is_named, is_polled, length, list_any, list_any-append, map, nat_eq, or_parts, polled_by, refl, subst, suc, sym, take, true, zero, ℕ, ◌&&◌, ◌++◌, ◌<◌, ◌||◌, ◌∙◌, ◌∷◌, ◌≡◌}
+use Rattle.mscp_shown.proofs.Common.{AllByRecursion, Answer, Asked, Bool, Connection, List, None, Oldest, Option, Pairs, Sent, Some, [], and_parts, ap, arith, cond, drop, eqb-true, every_append, every_parts, every_weaker, false, false≢true, find, get_or, if◌then◌else◌, is_below, is_it, is_named, is_polled, length, list_any, list_any-append, map, nat_eq, or_parts, polled_by, refl, subst, suc, sym, take, true, zero, ℕ, ◌&&◌, ◌++◌, ◌<◌, ◌||◌, ◌∙◌, ◌∷◌, ◌≡◌}
 use Rattle.mscp_wire.specs.Wire as wire
 use Rattle.mscp_wire.specs.Wire.{is_immediate, left, same_connection}
 use Rattle.mscp_shown.proofs.Alike.{bare}
@@ -17,8 +17,6 @@ named_turned a b h = grind arith
 pub apart_at : (i : ℕ) (xs : List Sent) (d : Sent) → i < length xs → Alone xs
     → AllByRecursion (λ t. is_named (get_or xs i d).connection (get_or xs i d).reference t ≡ false) (take i xs)
     × AllByRecursion (λ t. is_named (get_or xs i d).connection (get_or xs i d).reference t ≡ false) (drop (suc i) xs)
-apart_at i [] d l a = absurd (omega (arith, l))
-apart_at zero (x ∷ xs) d l a = (tt, a.0)
 apart_at (suc i) (x ∷ xs) d l a =
     let rest = apart_at i xs d (omega (arith, l)) a.1 in (
       (
@@ -34,18 +32,17 @@ apart_at (suc i) (x ∷ xs) d l a =
     every_get P i [] d l h = absurd (omega (arith, l))
     every_get P zero (y ∷ ys) d l h = h.0
     every_get P (suc i) (y ∷ ys) d l h = every_get P i ys d (omega (arith, l)) h.1
+apart_at i xs d l a = grind arith
 
 -- one of a name stands before a place, so none does behind
 pub apart_from : (via : Connection) (n : ℕ) (i : ℕ) (xs : List Sent) → Alone xs
     → list_any (is_named via n) (take i xs) ≡ true → AllByRecursion (λ t. is_named via n t ≡ false) (drop (suc i) xs)
-apart_from via n zero xs a h = absurd (false≢true h)
-apart_from via n (suc i) [] a h = tt
 apart_from via n (suc i) (x ∷ xs) a h = grind (arith, apart_from via n i xs a.1, every_drop, none_behind)
+apart_from via n i xs a h = grind arith
 
 pub pairs_take : (R : Sent → Sent → Type 0) (i : ℕ) (xs : List Sent) → Pairs R xs → Pairs R (take i xs)
-pairs_take R zero xs h = tt
-pairs_take R (suc i) [] h = tt
 pairs_take R (suc i) (x ∷ xs) h = (every_take (R x) i xs h.0, pairs_take R i xs h.1)
+pairs_take R i xs h = grind arith
 
 -- ---- what stricter rules say of the command that is polled
 abbrev pub Falls : Answer → Option ℕ → Sent → Type 0
@@ -76,16 +73,13 @@ falls_found e n stands (t ∷ ts) a h =
 -- ---- an end comes
 hears_told : (e : Answer) (p : Option ℕ) (t : Sent)
     → (hears e p t).told ≡ (if is_polled e.connection p t then e.figure else t.told)
-hears_told e None t = refl
-hears_told e (Some n) t = grind arith
+hears_told e p t = grind arith
 
 pub hears_bare : (e : Answer) (p : Option ℕ) (t : Sent) → bare (hears e p t) ≡ bare t
-hears_bare e None t = refl
-hears_bare e (Some n) t = grind arith
+hears_bare e p t = grind arith
 
 polled_alike : (via : Connection) (p : Option ℕ) (t u : Sent) → bare t ≡ bare u → is_polled via p t ≡ is_polled via p u
-polled_alike via None t u h = refl
-polled_alike via (Some n) t u h = ap (is_named via n) h
+polled_alike via p t u h = grind arith
 
 -- the end e of x, which is y to the judge, and tells the figure of p
 module _ (e : Answer) (p : Option ℕ) (x y : Sent) (alike : bare x ≡ bare y) (asks : polled_by y e ≡ p) where
@@ -156,8 +150,6 @@ module _ (e : Answer) (p : Option ℕ) (x y : Sent) (alike : bare x ≡ bare y) 
   -- what is asked of a poll then
   asks_then : (before after : List Sent) (u : Sent) (a : Asked) → Kept before after → AsksOf before u a
       → AsksOf after (lax u) (if wire.polls y u then left a else a)
-  asks_then before after u Nothing k h = grind arith
-  asks_then before after u (Gone last) k h = grind arith
   asks_then before after u (Oldest last) k h =
       let P : Bool → Type 0 = λ b. wire.polls y u ≡ b
       → AsksOf after (lax u) (if b then left (Oldest last) else Oldest last) in
@@ -184,6 +176,7 @@ module _ (e : Answer) (p : Option ℕ) (x y : Sent) (alike : bare x ≡ bare y) 
       other : (n : ℕ) → wire.polls y u ≡ false → u.parameter ≡ Some n → nat_eq u.opcode 2 ≡ true
           → is_named u.connection n x ≡ false
       other n w q poll = grind arith
+  asks_then before after u a k h = grind arith
 
   -- a command before it
   opcode_same : (t : Sent) → is_immediate (strict t).opcode ≡ is_immediate t.opcode
@@ -225,23 +218,19 @@ module _ (e : Answer) (p : Option ℕ) (x y : Sent) (alike : bare x ≡ bare y) 
 
   back : (before after ts us : List Sent) → Linked before ts us → Kept before after
       → AllByRecursion (λ t. IsApart t × IsSilent t) ts → Linked after ts (map lax us)
-  back before after [] [] h k all = tt
-  back before after [] (u ∷ us) h k all = absurd h
-  back before after (t ∷ ts) [] h k all = absurd h
   back before after (t ∷ ts) (u ∷ us) h k all = (
     back_same t u all.0.1 h.0,
     asks_then before after u u.asked k h.1,
     back (before ++ t ∷ []) (after ++ t ∷ []) ts us h.2
         (kept_push before after t t k refl (λ via n last low. low) all.0.0) all.1,
   )
+  back before after ts us h k all = grind arith
 
   front : (i : ℕ) (before after ts us : List Sent) (d : Sent) → i < length ts → get_or ts i d ≡ x
       → Linked before ts us → Kept before after
       → AllByRecursion (λ t. IsApart t × Falls e p t) (take i ts)
       → AllByRecursion (λ t. IsApart t × IsSilent t) (drop (suc i) ts)
       → Linked after (map strict (take i ts) ++ drop (suc i) ts) (map lax (take i us ++ drop (suc i) us))
-  front i before after [] us d l here h k f b = absurd (omega (arith, l))
-  front i before after (t ∷ ts) [] d l here h k f b = absurd h
   front zero before after (t ∷ ts) (u ∷ us) d l here h k f b =
       back (before ++ t ∷ []) after ts us h.2 (kept_gone before after t k here) b
   front (suc i) before after (t ∷ ts) (u ∷ us) d l here h k f b = (
@@ -250,6 +239,7 @@ module _ (e : Answer) (p : Option ℕ) (x y : Sent) (alike : bare x ≡ bare y) 
     front i (before ++ t ∷ []) (after ++ strict t ∷ []) ts us d (omega (arith, l)) here h.2
         (kept_push before after t (strict t) k (hears_bare e p t) (front_low t f.0.1) f.0.0) f.1 b,
   )
+  front i before after ts us d l here h k f b = grind arith
 
   kept_none : Kept [] []
   kept_none = grind arith

@@ -1,5 +1,5 @@
 -- What the judge of the wire keeps of outstanding commands, beside what stricter rules of figures keep of them.
-use Rattle.mscp_shown.proofs.Common.{AllByRecursion, Asked, Bool, Connection, First, Gone, List, None, Nothing, Oldest, Option, Pairs, Sent, Some, [], and_parts, ap, append-nil, append_assoc, arith, asked_about, asked_by, asking, cond, every_weaker, false, false≢true, find, get_or, has_number, if◌then◌else◌, is_below, is_hasty, is_named, is_oldest, list_any, lt-ltb, ltb-true, may_ask, nat_eq, not, refl, sent_by, subst, suc, sym, take, timed, true, waits_on, zero, ℕ, ◌&&◌, ◌++◌, ◌||◌, ◌∙◌, ◌∷◌, ◌≡◌, ◌≤◌}
+use Rattle.mscp_shown.proofs.Common.{AllByRecursion, Asked, Bool, Connection, First, Gone, List, None, Nothing, Oldest, Option, Pairs, Sent, Some, [], and_parts, ap, append-nil, append_assoc, arith, asked_about, asked_by, asking, cond, every_weaker, false, false≢true, find, get_or, has_number, if◌then◌else◌, is_below, is_hasty, is_named, is_oldest, list_any, may_ask, nat_eq, not, refl, sent_by, subst, suc, sym, take, timed, true, waits_on, zero, ℕ, ◌&&◌, ◌++◌, ◌||◌, ◌∙◌, ◌∷◌, ◌≡◌, ◌≤◌}
 use Rattle.mscp_wire.specs.Wire.{is_immediate, same_connection}
 use Rattle.mscp_shown.proofs.Alike.{Alike, alike_any, bare}
 
@@ -29,15 +29,12 @@ Lower None (Some n) = ⊥
 Lower (Some m) (Some n) = m ≤ n
 
 pub lower_same : (o : Option ℕ) → Lower o o
-lower_same None = tt
-lower_same (Some n) = omega arith
+lower_same o = grind arith
 
 -- a figure below the one is below the other
 pub below_lower : (strict lax : Option ℕ) (figure : ℕ) → Lower strict lax → is_below strict figure ≡ true
     → is_below lax figure ≡ true
-below_lower strict None figure h k = refl
-below_lower None (Some n) figure h k = absurd h
-below_lower (Some m) (Some n) figure h k = lt-ltb figure n (omega (arith, h, ltb-true figure m k))
+below_lower strict lax figure h k = grind arith
 
 -- ---- two commands at the same place
 pub record Same (x y : Sent) : Type 0 where
@@ -65,10 +62,8 @@ Linked before (x ∷ xs) [] = ⊥
 Linked before (x ∷ xs) (y ∷ ys) = Same x y × AsksOf before y y.asked × Linked (before ++ x ∷ []) xs ys
 
 pub linked_alike : (before xs ys : List Sent) → Linked before xs ys → Alike xs ys
-linked_alike before [] [] h = tt
-linked_alike before [] (y ∷ ys) h = absurd h
-linked_alike before (x ∷ xs) [] h = absurd h
 linked_alike before (x ∷ xs) (y ∷ ys) h = (h.0.alike, linked_alike (before ++ x ∷ []) xs ys h.2)
+linked_alike before xs ys h = grind arith
 
 pub linked_push : (before xs ys : List Sent) (x y : Sent) → Linked before xs ys → Same x y
     → AsksOf (before ++ xs) y y.asked → Linked before (xs ++ x ∷ []) (ys ++ y ∷ [])
@@ -112,9 +107,6 @@ or_true b = grind arith
 found_low : (before xs ys : List Sent) (via : Connection) (n : ℕ) (z : Sent) → Linked before xs ys → Alone xs
     → find (is_named via n) ys ≡ Some z → is_immediate z.opcode ≡ false
     → (list_any (is_named via n) xs ≡ true) × AllByRecursion (IsLow via n z.told) xs
-found_low before [] [] via n z h a e k = cc
-found_low before [] (y ∷ ys) via n z h a e k = absurd h
-found_low before (x ∷ xs) [] via n z h a e k = absurd h
 found_low before (x ∷ xs) (y ∷ ys) via n z h a e k =
     let named : is_named via n x ≡ is_named via n y = ap (is_named via n) h.0.alike in
     let P : Bool → Type 0 = λ b. is_named via n y ≡ b → cond b (Some y) (find (is_named via n) ys) ≡ Some z
@@ -138,6 +130,7 @@ found_low before (x ∷ xs) (y ∷ ys) via n z h a e k =
             ((λ t. absurd (false≢true (sym (named ∙ q) ∙ t))), rest.1),
           )
     ] refl e
+found_low before xs ys via n z h a e k = grind arith
 
 eqb_turned : (m n : ℕ) → nat_eq m n ≡ false → nat_eq n m ≡ false
 eqb_turned m n h = grind arith
@@ -197,8 +190,7 @@ module _ (timeout time : Option ℕ) (xs ys : List Sent) (s : Sent) (link : Link
       second a b c h = grind arith
 
   about_parameter : (p : Option ℕ) → nat_eq z.opcode 2 ≡ true → z.parameter ≡ p → New (asked_by timeout ys z p)
-  about_parameter None poll e = tt
-  about_parameter (Some other) poll e = grind (arith, about_named)
+  about_parameter p poll e = grind (arith, about_named)
 
   pub asks_new : AsksOf xs (asking timeout ys z) (asking timeout ys z).asked
   asks_new = grind (arith, about_parameter)

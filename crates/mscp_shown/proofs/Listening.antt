@@ -201,9 +201,7 @@ module _ (c : Settings) (own : Connection) (t : Trace) (m : Moment) (xs : List S
         by_told _ (nat_eq e.reference s.reference) (tells own (back ++ sent_by own b ∷ []) s.reference e) told
       where
         by_told : (A : Type 0) (o d : Bool) → (d ≡ true → A) → Goes o d A (Unit {0})
-        by_told A true d f = tt
-        by_told A false true f = f refl
-        by_told A false false f = tt
+        by_told A o d f = grind arith
 
         told : tells own (back ++ sent_by own b ∷ []) s.reference e ≡ true
             → (0 < figure_told e)

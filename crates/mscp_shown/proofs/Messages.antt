@@ -48,8 +48,7 @@ module _ (c : Settings) (via : Connection) (t : Trace) where
 credit_of : (n all waits ended : ℕ) (immediate : Bool) → all ≤ n → (all - waits - ended ≡ 0 → ⊥)
     → (nat_eq (all - waits - ended) 1 && not immediate) ≡ false
     → (nat_lt (waits + ended + 1) n || (nat_eq (waits + ended + 1) n && immediate)) ≡ true
-credit_of n all waits ended true few some last = grind arith
-credit_of n all waits ended false few some last = grind arith
+credit_of n all waits ended immediate few some last = grind arith
 
 -- no connection has more credits than its host is told, or is taken to have
 abbrev pub HasRoom : Option ℕ → Settings → Type 0

@@ -1,5 +1,5 @@
 -- Each moment of a legal trace keeps what its parts keep, so that the whole trace does.
-use Rattle.mscp_shown.proofs.Common.{All, AllByRecursion, ArrayVec, Bad, Block, Bool, Command, Connection, Covers, End, Entry, Err, Event, Good, IsLegal, IsOfKind, IsPatient, IsPossible, IsRight, IsValid, Known, LegalTracesAreRight, Moment, Name, None, Ok, Option, Report, Settings, Some, Trace, [], answer, ap, append-nil, arith, arrival, arrives, bound, collect, command_of, count_by, drop, each_queued, ends, ends_at, ends_more, every_append, every_parts, false, figure, figure_found, figure_of, find, get_or-take, if◌then◌else◌, is_online_empty, is_queued, known, length, length-take-le, moment, more_at, name, one_side, progress, recursion_from_All, reference, refl, same_connection, same_name, shaped, shown, subst, suc, sym, take, take-append-drop, take-take, take_all, takes, true, untaken, waiting, waits_below, zero, ℕ, ◌++◌, ◌+◌, ◌<◌, ◌^◌, ◌∙◌, ◌∷◌, ◌≡◌, ◌≤◌}
+use Rattle.mscp_shown.proofs.Common.{All, AllByRecursion, ArrayVec, Block, Bool, Command, Connection, Covers, End, Entry, Err, Event, IsLegal, IsOfKind, IsPatient, IsPossible, IsRight, IsValid, Known, LegalTracesAreRight, Moment, Name, None, Ok, Option, Report, Settings, Some, Trace, [], answer, ap, append-nil, arith, arrival, arrives, bound, collect, command_of, count_by, drop, each_queued, ends, ends_at, ends_more, every_append, every_parts, false, figure, figure_found, figure_of, find, get_or-take, if◌then◌else◌, is_online_empty, is_queued, known, length, length-take-le, moment, more_at, name, one_side, progress, recursion_from_All, reference, refl, same_connection, same_name, shaped, shown, subst, suc, sym, take, take-append-drop, take-take, take_all, takes, true, untaken, waiting, waits_below, zero, ℕ, ◌++◌, ◌+◌, ◌<◌, ◌^◌, ◌∙◌, ◌∷◌, ◌≡◌, ◌≤◌}
 use Rattle.mscp_controller.specs.declared.entry.Sent.{Sent}
 use Rattle.mscp_shown.proofs.Judged.{lenient}
 use Rattle.mscp_shown.proofs.Standing.{Stands, message_stands, quiet_stands}
@@ -25,8 +25,7 @@ unfolding untaken
 untaken_all P c via t h = every_drop P (count_by (λ (m : Moment). takes via m.1) t) (ends c via t) h
 
 fault_of : (k : Block) → IsPossible (Event.Step k) → IsFault k
-fault_of Good h = tt
-fault_of (Bad status) h = h
+fault_of k h = grind arith
 
 module _ (c : Settings) (t : Trace) (k : Known c t)
     (kinds : (via : Connection) → AllByRecursion IsOfKind (ends c via t)) (facts : Facts c t) (h : Inv c t) where
@@ -194,8 +193,7 @@ module _ (c : Settings) (t : Trace) (valid : IsValid c) (legal : IsLegal c t)
       found_small p (find (λ x. same_name (name p x) n) (waiting p)) ((progress c t valid legal).small i h)
     where
       found_small : (p : Trace) (o : Option ℕ) → ((x : ℕ) → figure c p x ≤ bound c) → figure_found c p o < 2 ^ 32
-      found_small p None all = omega arith
-      found_small p (Some x) all = omega (arith, all x, valid.small_bound)
+      found_small p o all = grind arith
 
   patient_part : (j : ℕ) → j ≤ length t → IsPatient (take j t)
   unfolding moment

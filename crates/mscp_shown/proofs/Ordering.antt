@@ -1,5 +1,5 @@
 -- Of a unit no command ends before an earlier one that it waits for.
-use Rattle.mscp_shown.proofs.Common.{AllByRecursion, Answer, Bool, Connection, End, List, None, Option, Pairs, Sent, Some, Trace, [], aborted_end, ap, append-nil, append_assoc, arith, command, eq-eqb, eqb-true, every_from, false, good, inl, inr, is_apart, is_named, keeps_back, list_any, map, nat_eq, pairs_append, refl, subst, sym, true, true≢false, ℕ, ⊎_elim, ◌%◌, ◌&&◌, ◌++◌, ◌||◌, ◌∙◌, ◌∷◌, ◌≡◌, ◌⊎◌}
+use Rattle.mscp_shown.proofs.Common.{AllByRecursion, Answer, Bool, Connection, End, List, Option, Pairs, Sent, Some, Trace, [], aborted_end, ap, append-nil, append_assoc, arith, command, eq-eqb, eqb-true, every_from, false, good, inl, inr, is_apart, is_named, keeps_back, list_any, map, nat_eq, pairs_append, refl, subst, sym, true, true≢false, ℕ, ⊎_elim, ◌%◌, ◌&&◌, ◌++◌, ◌||◌, ◌∙◌, ◌∷◌, ◌≡◌, ◌⊎◌}
 use Rattle.mscp_wire.specs.Wire as wire
 use Rattle.mscp_shown.proofs.Strict.{after_end, hears}
 use Rattle.mscp_shown.proofs.Pairing.{pairs_first, pairs_out, pairs_weaker}
@@ -21,8 +21,7 @@ Ordered via xs before (e ∷ rest) =
 -- ---- commands that hear
 told_same : (Q : Sent → Type 0) → ((s : Sent) (f : Option ℕ) → Q s → Q (record s { told = f })) → (a : Answer)
     (o : Option ℕ) (s : Sent) → Q s → Q (hears a o s)
-told_same Q g a None s h = h
-told_same Q g a (Some other) s h = grind arith
+told_same Q g a o s h = grind arith
 
 -- what doesn't see figures stays once an end came
 pub pairs_after : (R : Sent → Sent → Type 0) → ((s z : Sent) (f : Option ℕ) → R s z → R (record s { told = f }) z)

@@ -1,5 +1,5 @@
 -- Which ends are those of polls, and what they tell.
-use Rattle.mscp_shown.proofs.Common.{Answer, Block, Bool, Command, End, EndBody, None, Option, Order, Sent, Settings, Some, aborted_end, arith, endcode, false, if◌then◌else◌, is_queued, nat_eq, outcome_of, own_end, polled_by, refl, true, ℕ, ◌%◌, ◌≡◌}
+use Rattle.mscp_shown.proofs.Common.{Answer, Block, Bool, Command, End, EndBody, None, Option, Order, Sent, Settings, Some, aborted_end, arith, endcode, false, if◌then◌else◌, is_queued, nat_eq, outcome_of, own_end, polled_by, true, ℕ, ◌%◌, ◌≡◌}
 use Rattle.mscp_packet.specs.declared.command.Order.TheVariants as orders
 use Rattle.mscp_packet.specs.declared.end.EndBody.TheVariants as bodies
 use Rattle.mscp_shown.proofs.Suited.{Suits}
@@ -27,21 +27,10 @@ asked_by (orders.Status other) = Some other
 asked_by order = None
 
 -- ---- what the wire says
-no_poll : (s : Sent) (a : Answer) (op : ℕ) → s.opcode ≡ op → nat_eq op 2 ≡ false → polled_by s a ≡ None
-no_poll s a op e n = grind arith
-
 -- the end of an order says what it asks about as a poll
 pub polled_says : (o : Order) (s : Sent) (a : Answer) (status : ℕ) (body : EndBody) → Says o s → Suits o status body
     → a.status ≡ status → a.code ≡ endcode o → polled_by s a ≡ asked_by o
-polled_says (orders.Abort other) s a status body says suits st c = no_poll s a 1 says.0 refl
-polled_says (orders.Status other) s a status body says suits st c = grind arith
-polled_says orders.UnitStatus s a status body says suits st c = no_poll s a 3 says refl
-polled_says (orders.SetController version) s a status body says suits st c = no_poll s a 4 says refl
-polled_says orders.Available s a status body says suits st c = no_poll s a 8 says refl
-polled_says orders.Online s a status body says suits st c = no_poll s a 9 says refl
-polled_says orders.SetUnit s a status body says suits st c = no_poll s a 10 says refl
-polled_says (orders.Move kind count block) s a status body says suits st c = grind arith
-polled_says (orders.Invalid byte fault) s a status body says suits st c = grind arith
+polled_says o s a status body says suits st c = grind arith
 
 -- ---- what the ends of a controller say
 pub own_polls : (c : Settings) (online : Bool) (figure : ℕ) (k : Command) (s : Sent) → is_queued c k ≡ false

@@ -1,6 +1,5 @@
 -- What a message says on the wire, by what it asks for.
-use Rattle.mscp_shown.proofs.Common.{Bool, Connection, List, None, Opcode, Option, Order, Sent, Some, ap, arith, command_of, eqb-true, false, false≢true, find, found_is, if◌then◌else◌, inl, inr, invalid_length, invalid_opcode, is_about_another, is_required, is_short, le-leb, le-ltb, least, length, ltb-false, ltb-true, move_byte, nat_eq, nat_le, nat_lt, num, opcode_of, opcodes, order_with, parameters, refl, row_of, sent_by, slice_index, sym, true, ℕ, ◌<◌, ◌≡◌, ◌≤◌, ◌⊎◌}
-use Rattle.mscp_packet.specs.declared.class.Opcode.TheVariants as codes
+use Rattle.mscp_shown.proofs.Common.{Bool, Connection, List, None, Opcode, Option, Order, Sent, Some, arith, command_of, eqb-true, false, false≢true, find, found_is, if◌then◌else◌, inl, inr, invalid_length, invalid_opcode, is_about_another, is_required, is_short, le-ltb, least, length, ltb-false, ltb-true, move_byte, nat_eq, nat_lt, opcode_of, opcodes, order_with, parameters, refl, row_of, sent_by, slice_index, true, ℕ, ◌<◌, ◌≡◌, ◌≤◌, ◌⊎◌}
 use Rattle.mscp_packet.specs.declared.command.Order.TheVariants as orders
 
 -- it is shorter than its opcode asks
@@ -38,11 +37,6 @@ abbrev pub IsLong : Order → Sent → Type 0
 IsLong (orders.Invalid byte status) s = Unit {0}
 IsLong order s = (is_short s ≡ false) × (span order ≤ s.bytes)
 
--- a message that is long enough has its parameter
-there : (b : List ℕ) (n : ℕ) → 16 ≤ n → n ≤ length b
-    → (if nat_le 16 (length b) then Some (num b 12 4) else None) ≡ Some (num b 12 4)
-there b n l h = ap (λ t. if t then Some (num b 12 4) else None) (le-leb 16 (length b) (omega (arith, l, h)))
-
 -- a byte that a controller may not leave out is in the table
 required_found : (b : ℕ) → find (λ o. nat_eq (row_of o).byte b) opcodes ≡ None → is_required b ≡ false
 required_found b h = grind (arith, false≢true)
@@ -58,10 +52,7 @@ module _ (via : Connection) (b : List ℕ) where
 
   says_long : (o : Opcode) → (row_of o).byte ≡ slice_index b 8 → least o ≤ length b
       → Says (parameters o b) (sent_by via b)
-  says_long codes.Abort e h = (sym e, there b 16 (omega arith) h)
-  says_long codes.Status e h = (sym e, there b 16 (omega arith) h)
-  says_long (codes.Move kind) e h = (sym e, there b 32 (omega arith) h)
-  says_long code e h = sym e
+  says_long code e h = grind arith
 
   says_short : (o : Opcode) → (row_of o).byte ≡ slice_index b 8 → length b < least o
       → IsShort o (slice_index b 8) invalid_length (sent_by via b)

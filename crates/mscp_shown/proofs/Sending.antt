@@ -103,8 +103,7 @@ module _ (c : Settings) (t : Trace) (own : Connection) (b : ArrayVec ℕ) (k : K
       (every_from (λ x. Unit {0}) (λ x. tt) (waiting t)))
     where
       stays : (x : ℕ) (a : Option ℕ) → connection t x ≡ via → not (ends_in (name t x) (Answer own q a)) ≡ true
-      stays x None e = refl
-      stays x (Some other) e = grind arith
+      stays x a e = grind arith
 
   answer_turns : (via : Connection) (q : ℕ) (a : Option ℕ) (p : ℕ → Bool) (here : Bool)
       → same_connection own via ≡ here → a ≡ aborted_reference c own t (command_of b.items)

@@ -1,5 +1,5 @@
 -- What is outstanding on the wire after one more moment.
-use Rattle.mscp_shown.proofs.Common.{Answer, Bool, Connection, First, History, List, Moment, None, Option, Sent, Some, Trace, Wired, [], and_parts, ap, append-nil, arith, command_at, cond, count_by, eqb-true, false≢true, flat_map-append, fold_push, is_named, length, num, place_of, polled_by, position-Some, refl, sent_by, shown, shown_by, sum_by_push, sym, true, ℕ, ◌&&◌, ◌++◌, ◌+◌, ◌<◌, ◌∙◌, ◌∷◌, ◌≡◌}
+use Rattle.mscp_shown.proofs.Common.{Answer, Bool, Connection, First, History, List, Moment, Option, Sent, Some, Trace, Wired, [], and_parts, ap, append-nil, arith, command_at, cond, count_by, eqb-true, false≢true, flat_map-append, fold_push, is_named, length, num, place_of, polled_by, position-Some, sent_by, shown, shown_by, sum_by_push, sym, true, ℕ, ◌&&◌, ◌++◌, ◌+◌, ◌<◌, ◌∙◌, ◌∷◌, ◌≡◌}
 use Rattle.mscp_wire.specs.Wire.{same_connection}
 use Rattle.mscp_shown.proofs.Strict.{after, after_end, hears, outstanding}
 use Rattle.mscp_shown.proofs.Counts.{removed}
@@ -27,8 +27,7 @@ one_side a b h = grind (arith, false≢true)
 pub hears_apart : (e : Answer) (o : Option ℕ) (via : Connection) (p : ℕ → Bool) (s : Sent)
     → (same_connection (hears e o s).connection via && p (hears e o s).reference)
     ≡ (same_connection s.connection via && p s.reference)
-hears_apart e None via p s = refl
-hears_apart e (Some other) via p s = search arith
+hears_apart e o via p s = grind arith
 
 -- the command that an end answers has its name
 pub record IsPlace (xs : List Sent) (e : Answer) (i : ℕ) : Type 0 where

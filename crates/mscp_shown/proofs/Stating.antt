@@ -1,5 +1,5 @@
 -- What hosts are told of the states of units suits what the ends that they haven't taken yet say.
-use Rattle.mscp_shown.proofs.Common.{AllByRecursion, Answer, Away, Bool, Connection, End, History, List, None, Open, Settings, Shared, State, Told, [], after_other, answer_by, ap, append-nil, append_assoc, arith, brings, end_bytes, false, if◌then◌else◌, nat_eq, not, refl, says_away, says_online, sent_by, subst, suits_state, sym, told, told_after_end, told_after_message, true, true≢false, turned, unit, ℕ, ⊎_elim, ◌&&◌, ◌++◌, ◌||◌, ◌∙◌, ◌∷◌, ◌≡◌, ◌⊎◌}
+use Rattle.mscp_shown.proofs.Common.{AllByRecursion, Answer, Away, Bool, Connection, End, History, List, None, Open, Settings, Shared, State, Told, [], after_other, answer_by, ap, append-nil, append_assoc, arith, brings, end_bytes, false, if◌then◌else◌, nat_eq, not, refl, says_away, says_online, sent_by, subst, suits_state, sym, told, told_after_end, told_after_message, true, turned, unit, ℕ, ⊎_elim, ◌&&◌, ◌++◌, ◌||◌, ◌∙◌, ◌∷◌, ◌≡◌, ◌⊎◌}
 use Rattle.mscp_wire.specs.Wire as wire
 use Rattle.mscp_shown.proofs.Effects.{Effects, away_of, brings_of, online_of}
 use Rattle.mscp_shown.proofs.Reading.{IsFit, reads}
@@ -59,10 +59,7 @@ opened unit online (e ∷ es) h = (
         else Away) es
         → Stated unit online (if here then (if away then turned Open Away else (if on then turned Open Open else Open))
         else Open) es
-    by_bools false away on f k = f k
-    by_bools true true on f k = k
-    by_bools true false true f k = k
-    by_bools true false false f k = f k
+    by_bools here away on f k = grind arith
 
 pub stated_unsettled : (unit : ℕ) (online : Bool) (s : State) (e : End) (es : List End)
     → brings_of e.code e.status ≡ false → Stated unit online (state_then unit s e) es → Stated unit online s es
@@ -73,19 +70,12 @@ stated_unsettled unit online s e es none h =
         → Stated unit online
         (if here then (if away then turned s Away else (if on then turned s Open else s)) else s) es
         → Stated unit online s es
-    by_bools false away on none s k = k
-    by_bools true true on none Shared k = k
-    by_bools true true on none Away k = k
-    by_bools true true on none Open k = opened unit online es k
-    by_bools true false true none s k = absurd (true≢false none)
-    by_bools true false false none s k = k
+    by_bools here away on none s k = grind (arith, opened)
 
 -- one end more
 last_fits : (old new : Bool) (s : State) (code status : ℕ) → Effects old new code status → (s ≡ Away → old ≡ false)
     → fits_state s (online_of code status) ≡ true
-last_fits old new Open code status f h = refl
-last_fits old new Shared code status f h = refl
-last_fits old new Away code status f h = grind arith
+last_fits old new s code status f h = grind arith
 
 last_state : (old new : Bool) (s : State) (code status : ℕ) → Effects old new code status → (s ≡ Away → old ≡ false)
     → own_state s code status ≡ Away → new ≡ false
@@ -95,11 +85,7 @@ last_state old new s code status f h =
     by_bools : (a b : Bool) (s : State) → (a ≡ true → new ≡ false) → (b ≡ false → old ≡ false → new ≡ false)
         → (s ≡ Away → old ≡ false)
         → (if a then turned s Away else (if b then turned s Open else s)) ≡ Away → new ≡ false
-    by_bools true b s away stays h e = away refl
-    by_bools false true Open away stays h e = cc
-    by_bools false true Away away stays h e = cc
-    by_bools false true Shared away stays h e = cc
-    by_bools false false s away stays h e = stays refl (h e)
+    by_bools a b s away stays h e = grind arith
 
 last_one : (unit : ℕ) (old new : Bool) (s : State) (e : End)
     → (nat_eq e.unit unit ≡ true → Effects old new e.code e.status)
@@ -144,9 +130,7 @@ module _ (c : Settings) (own : Connection) (e : End) (fit : IsFit c e) where
     where
       by_state : (s : State) → says_online a ≡ online_of e.code e.status
           → fits_state s (online_of e.code e.status) ≡ true → suits_state s a ≡ true
-      by_state Away same h = ap not same ∙ h
-      by_state Open same h = refl
-      by_state Shared same h = refl
+      by_state s same h = grind arith
 
 -- what a host was told of a unit is that it is shared
 abbrev pub IsShared : History → Connection → ℕ → Type 0
@@ -179,6 +163,4 @@ shared_end via unit settled t a h =
           state = if w then turned t.state Away else (if b then turned t.state Open else t.state);
           noted = wire.noted_own t.noted a;
         } else after_other t a)).state ≡ Shared
-    by_bools false side w b = h
-    by_bools true true w b = own w b
-    by_bools true false w b = h
+    by_bools here side w b = grind arith

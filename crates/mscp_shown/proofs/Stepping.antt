@@ -1,5 +1,5 @@
 -- A step keeps it that what hosts are told of the states of units suits how they are.
-use Rattle.mscp_shown.proofs.Common.{AllByRecursion, Block, Bool, Connection, End, IsServed, Known, List, Moment, None, Option, Order, Serves, Service, Settings, Some, Step, Trace, [], alone, ap, append-nil, arith, changes, command, controller_of, cut, ends_at, eqb-false, eqb-true, false, false≢true, good, if◌then◌else◌, inl, inr, is_online, is_online_ended, is_online_other, is_online_unended, is_queued, moment, name_on, nat_eq, option_to_list, order, outcome, queues, refl, same_connection, service_in, shown, shown_by, state_after, subst, sym, takes, told, true, unit, unit_fault, unit_found, untaken, untaken_more, waiting, waits_below, ℕ, ⊎_elim, ◌++◌, ◌∙◌, ◌∷◌, ◌≡◌, ◌≢◌, ◌⊎◌}
+use Rattle.mscp_shown.proofs.Common.{AllByRecursion, Block, Bool, Connection, End, IsServed, Known, List, Moment, None, Option, Order, Serves, Service, Settings, Some, Step, Trace, [], alone, ap, append-nil, arith, changes, command, controller_of, cut, ends_at, eqb-false, eqb-true, false, false≢true, good, if◌then◌else◌, is_online, is_online_ended, is_online_other, is_online_unended, is_queued, moment, name_on, nat_eq, option_to_list, order, outcome, queues, refl, same_connection, service_in, shown, shown_by, state_after, subst, sym, takes, told, true, unit, unit_fault, unit_found, untaken, untaken_more, waiting, waits_below, ℕ, ⊎_elim, ◌++◌, ◌∙◌, ◌∷◌, ◌≡◌, ◌≢◌, ◌⊎◌}
 use Rattle.mscp_packet.specs.declared.command.Order.TheVariants as orders
 use Rattle.mscp_shown.proofs.Effects.{Effects, served_effects}
 use Rattle.mscp_shown.proofs.Placing.{at_waiting}
@@ -12,19 +12,14 @@ use Rattle.mscp_shown.proofs.Standing.{Shares, Stands, nothing_stands, waits_mor
 -- ---- a step
 -- only an ONLINE brings a unit online
 stays_off : (o : Order) (status : ℕ) → o ≢ orders.Online → state_after false o status ≡ false
-stays_off orders.Online status n = absurd (n refl)
-stays_off orders.Available status n = grind arith
-stays_off order status n = refl
+stays_off order status n = grind arith
 
 comes_on : (old : Bool) (o : Order) (status : ℕ) → state_after old o status ≡ true
     → (old ≡ true) ⊎ (o ≡ orders.Online)
-comes_on old orders.Online status h = inr refl
-comes_on old orders.Available status h = grind arith
-comes_on old order status h = inl h
+comes_on old order status h = grind arith
 
 is_online_order : (o : Order) → (o ≡ orders.Online) ⊎ (o ≢ orders.Online)
-is_online_order orders.Online = inl refl
-is_online_order order = inr (λ e. cc)
+is_online_order order = grind arith
 
 module _ (c : Settings) (t : Trace) (m : Moment) (known : Known c t) (h : Stands c t)
     (queued : AllByRecursion (λ x. is_queued c (command t x) ≡ true) (waiting t)) where
@@ -90,8 +85,7 @@ module _ (c : Settings) (t : Trace) (m : Moment) (known : Known c t) (h : Stands
 
         by_unit : (b : Bool) → nat_eq here unit ≡ b
             → Stated unit (is_online after unit) (told (shown t) via unit).state (untaken c via t)
-        by_unit true q = grind (arith, off_or_shared)
-        by_unit false q = grind (arith, other_state)
+        by_unit b q = grind (arith, off_or_shared, other_state)
 
     still_there : (unit : ℕ) → is_online after unit ≡ true → unit_fault (unit_found c unit) ≡ None
     still_there unit on = by_unit (nat_eq here unit) refl

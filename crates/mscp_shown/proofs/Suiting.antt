@@ -1,5 +1,5 @@
 -- The ends that a controller makes suit their commands.
-use Rattle.mscp_shown.proofs.Common.{Bad, Block, Bool, Command, End, EndBody, Good, MoveKind, None, Option, Order, Sent, Settings, Shape, Some, aborted_end, ap, arith, cond, endcode, false, fault_of, goes_on, inr, is_good_block, is_immediate, is_queued, may_have, min, move_byte, move_fault, nat_tests, order_fault, order_weight, outcome_body, outcome_of, outcome_status, own_end, own_end_with, queued_open, refl, refused_body, some_same, sym, touches, true, true≢false, unit_fault, unit_found, unit_shape, version_fault, ℕ, ◌%◌, ◌&&◌, ◌*◌, ◌+◌, ◌-◌, ◌/◌, ◌<◌, ◌^◌, ◌≡◌, ◌≢◌, ◌≤◌, ◌⊎◌}
+use Rattle.mscp_shown.proofs.Common.{Bad, Block, Bool, Command, End, EndBody, Good, MoveKind, None, Option, Order, Sent, Settings, Shape, Some, aborted_end, arith, cond, endcode, false, fault_of, goes_on, is_good_block, is_immediate, is_queued, may_have, min, move_byte, move_fault, nat_tests, order_fault, order_weight, outcome_body, outcome_of, outcome_status, own_end, own_end_with, queued_open, refl, refused_body, touches, true, true≢false, unit_shape, ℕ, ◌%◌, ◌&&◌, ◌*◌, ◌+◌, ◌-◌, ◌<◌, ◌^◌, ◌≡◌, ◌≢◌, ◌≤◌, ◌⊎◌}
 use Rattle.mscp_packet.specs.declared.command.Order.TheVariants as orders
 use Rattle.mscp_shown.proofs.Saying.{Says}
 use Rattle.mscp_shown.proofs.Suited.{IsFine, Suits}
@@ -25,45 +25,14 @@ move_suits : (kind : MoveKind) (count block status : ℕ) → (status % 32 ≡ 1
     → Suits (orders.Move kind count block) status (refused (orders.Move kind count block))
 move_suits kind count block status h = grind arith
 
-pub unit_refused : (status : ℕ) (u : Option Shape) → unit_fault u ≡ Some status → status ≡ 3
-unit_refused status u h = grind arith
-
-pub version_refused : (status version : ℕ) → version_fault version ≡ Some status → status ≡ 0x0C01
-version_refused status version h = grind arith
-
 refused_suits : (c : Settings) (unit status : ℕ) (o : Order) → order_fault c unit o ≡ Some status
     → Suits o status (refused o)
-refused_suits c unit status (orders.Invalid byte fault) h = (some_same status fault (sym h), refl)
-refused_suits c unit status (orders.Abort other) h = cc
-refused_suits c unit status (orders.Status other) h = cc
-refused_suits c unit status (orders.Move kind count block) h = grind (arith, move_suits, move_refused)
-refused_suits c unit status orders.UnitStatus h = grind arith
-refused_suits c unit status orders.Available h = grind arith
-refused_suits c unit status orders.Online h = grind arith
-refused_suits c unit status orders.SetUnit h = grind arith
-refused_suits c unit status (orders.SetController version) h = grind arith
-
-offline_fine : (status : ℕ) → status ≡ 3 → (status % 32 ≡ 0 → status ≡ 0) × (status % 32 ≢ 1)
-offline_fine status e = grind arith
-
-version_fine : (status : ℕ) → status ≡ 0x0C01
-    → (status % 32 ≡ 0 → status ≡ 0) × (status % 32 ≡ 1 → status / 256 < 14)
-version_fine status e = grind arith
+refused_suits c unit status o h = grind (arith, move_suits, move_refused)
 
 refused_fine : (c : Settings) (unit status : ℕ) (o : Order) → order_fault c unit o ≡ Some status → IsFine o status
-refused_fine c unit status (orders.Invalid byte fault) h = tt
-refused_fine c unit status (orders.Abort other) h = cc
-refused_fine c unit status (orders.Status other) h = cc
-refused_fine c unit status (orders.Move kind count block) h = grind arith
-refused_fine c unit status orders.Online h = grind arith
-refused_fine c unit status (orders.SetController version) h = version_fine status (version_refused status version h)
-refused_fine c unit status order h = offline_fine status (unit_refused status (unit_found c unit) h)
+refused_fine c unit status order h = grind arith
 
 -- ---- answered when it comes
--- Success without a sub-code
-zero_fine : IsFine orders.Available 0
-zero_fine = ((λ z. refl), λ z. omega (arith, z))
-
 own_with : (c : Settings) (online : Bool) (figure : ℕ) (k : Command) (f : Option ℕ) → fault_of c k ≡ f
     → (f ≡ None → is_immediate k.order ≡ true)
     → Ends k (own_end_with c online figure k f)
@@ -106,8 +75,6 @@ module _ (shape : Shape) (good done : ℕ) (same : good ≡ done) where
       → let o = orders.Move kind count block in
       let status = outcome_status online o k in
       Suits o status (outcome_body shape status o (good + cond (touches online o && is_good_block k) 1 0))
-  move_ends kind count block true Good fault last = grind arith
-  move_ends kind count block false Good fault last = grind arith
   move_ends kind count block true (Bad status) fault last = (
     fault_of_move kind (status % 32) fault.1 fault.2,
     min count (512 * (good + 0)),
@@ -115,7 +82,7 @@ module _ (shape : Shape) (good done : ℕ) (same : good ≡ done) where
     omega arith,
     λ z. absurd (omega (arith, z, fault.1)),
   )
-  move_ends kind count block false (Bad status) fault last = grind arith
+  move_ends kind count block online k fault last = grind arith
 
   pub outcome_suits : (online : Bool) (o : Order) (k : Block) → IsFault k → is_immediate o ≡ false
       → ((byte why : ℕ) → o ≢ orders.Invalid byte why)
@@ -134,29 +101,9 @@ module _ (shape : Shape) (good done : ℕ) (same : good ≡ done) where
   outcome_suits online (orders.Invalid byte why) k fault h n last = absurd (n byte why refl)
   outcome_suits online o k fault h n last = cc
 
--- a status that a drive or a medium may have is neither Success nor Invalid Command
-bad_fine : (status n : ℕ) → 5 ≤ status % 32
-    → (status % 32 ≡ 0 → status ≡ 0) × (status % 32 ≡ 1 → status / 256 < n)
-bad_fine status n h = ((λ z. absurd (omega (arith, h, z))), λ z. absurd (omega (arith, h, z)))
-
-bad_apart : (status : ℕ) → 5 ≤ status % 32 → (status % 32 ≡ 0 → status ≡ 0) × (status % 32 ≢ 1)
-bad_apart status h = ((λ z. absurd (omega (arith, h, z))), λ z. omega (arith, h, z))
-
 pub outcome_fine : (online : Bool) (o : Order) (k : Block) → IsFault k → is_immediate o ≡ false
     → ((byte why : ℕ) → o ≢ orders.Invalid byte why) → IsFine o (outcome_status online o k)
-outcome_fine true (orders.Move kind count block) Good fault h n = ((λ z. refl), λ z. absurd (omega (arith, z)))
-outcome_fine false (orders.Move kind count block) Good fault h n = grind arith
-outcome_fine true (orders.Move kind count block) (Bad status) fault h n = bad_fine status 32 fault.1
-outcome_fine false (orders.Move kind count block) (Bad status) fault h n = grind arith
-outcome_fine online orders.Available Good fault h n = zero_fine
-outcome_fine online orders.Available (Bad status) fault h n = bad_apart status fault.1
-outcome_fine true orders.Online Good fault h n = λ z. omega (arith, z)
-outcome_fine false orders.Online Good fault h n = λ z. omega (arith, z)
-outcome_fine online orders.Online (Bad status) fault h n = λ z. omega (arith, z, fault.1)
-outcome_fine online orders.SetUnit Good fault h n = zero_fine
-outcome_fine online orders.SetUnit (Bad status) fault h n = bad_apart status fault.1
-outcome_fine online (orders.Invalid byte why) k fault h n = absurd (n byte why refl)
-outcome_fine online o k fault h n = cc
+outcome_fine online o k fault h n = grind arith
 
 -- ---- the ends of commands that were queued
 -- a command that is queued is none that a message can't ask for
@@ -186,9 +133,4 @@ outcome_ends c online k good done block q fault same last =
 pub refused_apart : (c : Settings) (unit status : ℕ) (o : Order) (s : Sent) → Says o s
     → order_fault c unit o ≡ Some status
     → (status % 32 ≡ 1) ⊎ (status % 32 ≡ 3)
-refused_apart c unit status (orders.Invalid byte fault) s says h = grind arith
-refused_apart c unit status (orders.Abort other) s says h = cc
-refused_apart c unit status (orders.Status other) s says h = cc
-refused_apart c unit status (orders.Move kind count block) s says h = grind arith
-refused_apart c unit status (orders.SetController version) s says h = grind arith
-refused_apart c unit status order s says h = inr (ap (λ n. n % 32) (unit_refused status (unit_found c unit) h))
+refused_apart c unit status order s says h = grind arith

@@ -31,12 +31,7 @@ pub record Orders (c : Settings) (t : Trace) (xs : List Sent) : Type 0 where
 -- a command that was queued is sequential on the wire and in the queue alike
 sequential_same : (o : Order) (s : Sent) → Says o s → is_immediate o ≡ false
     → ((byte why : ℕ) → o ≢ orders.Invalid byte why) → wire.is_sequential s.opcode ≡ queue.is_sequential o
-sequential_same orders.Available s says h n = ap wire.is_sequential says
-sequential_same orders.Online s says h n = ap wire.is_sequential says
-sequential_same orders.SetUnit s says h n = ap wire.is_sequential says
-sequential_same (orders.Move kind count block) s says h n = grind arith
-sequential_same (orders.Invalid byte why) s says h n = absurd (n byte why refl)
-sequential_same o s says h n = cc
+sequential_same o s says h n = grind arith
 
 fence_of : (a b c d : Bool) → ((a && (b || c)) || (d && b)) ≡ true → (a || b) ≡ true
 fence_of a b c d h = grind (arith, false≢true)
@@ -165,11 +160,7 @@ module _ (c : Settings) (t : Trace) (xs : List Sent) (tallied : (via : Connectio
 -- ---- the end of an answer
 immediate_apart : (o : Order) (s : Sent) → Says o s → is_immediate o ≡ true
     → (wire.is_sequential s.opcode ≡ false) × (wire.is_ordered s.opcode ≡ false)
-immediate_apart (orders.Abort other) s says h = (ap wire.is_sequential says.0, ap wire.is_ordered says.0)
-immediate_apart (orders.Status other) s says h = (ap wire.is_sequential says.0, ap wire.is_ordered says.0)
-immediate_apart orders.UnitStatus s says h = (ap wire.is_sequential says, ap wire.is_ordered says)
-immediate_apart (orders.SetController version) s says h = (ap wire.is_sequential says, ap wire.is_ordered says)
-immediate_apart o s says h = cc
+immediate_apart o s says h = grind arith
 
 keeps_none : (a b seq tr : Bool) (y : Bool) (z : Bool) → y ≡ false → z ≡ false
     → (a && b && ((seq && (y || z)) || (tr && y))) ≡ false
