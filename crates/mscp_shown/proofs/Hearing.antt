@@ -73,10 +73,8 @@ lasts_append a P Q f (s ∷ later) us vs n h = (
 pub stands_append : (via : Connection) (xs : List Sent) (before us vs : List End) → Stands via xs before us
     → Stands via xs (before ++ us) vs → Stands via xs before (us ++ vs)
 stands_append via xs before [] vs h k = subst (λ b. Stands via xs b vs) (append-nil before) k
-stands_append via xs before (e ∷ us) vs h k = grind (
-  arith,
-  stands_append via xs (before ++ e ∷ []) us vs h.1 (subst (λ b. Stands via xs b vs) (sym (append_assoc before (e ∷ []) us)) k),
-)
+stands_append via xs before (e ∷ us) vs h k =
+    (h.0, stands_append via xs (before ++ e ∷ []) us vs h.1 (rw append_assoc k))
 
 pub stands_silent : (via : Connection) (xs : List Sent) (before us : List End)
     → AllByRecursion (λ (e : End). poll_of e ≡ None) us → Stands via xs before us

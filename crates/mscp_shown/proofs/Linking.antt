@@ -70,11 +70,8 @@ pub linked_push : (before xs ys : List Sent) (x y : Sent) → Linked before xs y
 linked_push before [] [] x y h s a = (s, subst (λ b. AsksOf b y y.asked) (append-nil before) a, tt)
 linked_push before [] (z ∷ ys) x y h s a = absurd h
 linked_push before (z ∷ xs) [] x y h s a = absurd h
-linked_push before (z ∷ xs) (u ∷ ys) x y h s a = grind (
-  arith,
-  linked_push (before ++ z ∷ []) xs ys x y h.2 s
-      (subst (λ b. AsksOf b y y.asked) (sym (append_assoc before (z ∷ []) xs)) a),
-)
+linked_push before (z ∷ xs) (u ∷ ys) x y h s a =
+    (h.0, h.1, linked_push (before ++ z ∷ []) xs ys x y h.2 s (rw append_assoc a))
 
 -- what is asked of the one at a place
 abbrev pub nobody : Sent

@@ -33,11 +33,8 @@ pairs_after R g k xs a i h = grind (arith, pairs_out, told_same)
 pub ordered_append : (via : Connection) (xs : List Sent) (before us vs : List End) → Ordered via xs before us
     → Ordered via xs (before ++ us) vs → Ordered via xs before (us ++ vs)
 ordered_append via xs before [] vs h k = subst (λ b. Ordered via xs b vs) (append-nil before) k
-ordered_append via xs before (e ∷ us) vs h k = grind (
-  arith,
-  ordered_append via xs (before ++ e ∷ []) us vs h.1
-      (subst (λ b. Ordered via xs b vs) (sym (append_assoc before (e ∷ []) us)) k),
-)
+ordered_append via xs before (e ∷ us) vs h k =
+    (h.0, ordered_append via xs (before ++ e ∷ []) us vs h.1 (rw append_assoc k))
 
 pub ordered_push : (via : Connection) (xs : List Sent) (z : Sent) (before us : List End)
     → AllByRecursion (λ (e : End). is_named via e.reference z ≡ false) us → Ordered via xs before us
