@@ -1,12 +1,13 @@
 -- Each end of a port's log is as long as its endcode asks.
-use Rattle.mscp_logged.proofs.Common.{All-from_recursion, AllByRecursion, Answered, AsksAlways, BodyKind, Bool, Call, Deals, IsWhole, Keeps, List, Moment, None, Option, Outgoing, Picking, Port, PortsEndWhatTheyTook, PortsTellInOrder, ReadsBytes, Said, Seen, Sent, Some, WriteIp, [], and_parts, arith, asked_before, awaited, begins, begun_one, cond, end_length, endcodes, ends_in, eqb-true, every_append, every_parts, false, find, flat_map, held, inl, inr, is_dead, is_long, kind_of_code, le-leb, least_length, leaves, length, list_all, logged, map, message_of, moment_at, nat_eq, nat_le, none-some, option_map, option_to_list, outstanding, refl, said, said_in, same_Some, since_alive, slice_index, subst, sym, take, true, ℕ, ◌∷◌, ◌≡◌, ◌≢◌, ◌≤◌}
+use Rattle.mscp_logged.proofs.Common.{All-from_recursion, AllByRecursion, Answered, AsksAlways, BodyKind, Bool, Call, Deals, IsWhole, Keeps, List, Moment, None, Option, Outgoing, Picking, Port, PortsEndWhatTheyTook, PortsTellInOrder, ReadsBytes, Said, Seen, Sent, Some, [], and_parts, arith, asked_before, awaited, begins, begun_one, cond, end_length, endcodes, ends_in, eqb-true, every_append, every_parts, false, find, flat_map, held, inl, inr, is_long, kind_of_code, le-leb, least_length, leaves, length, list_all, logged, map, message_of, moment_at, nat_eq, nat_le, none-some, option_map, option_to_list, outstanding, refl, said, said_in, same_Some, since_alive, slice_index, subst, sym, take, true, ℕ, ◌∷◌, ◌≡◌, ◌≤◌}
 use Rattle.mscp_logged.proofs.Begun.{Begun}
 use Rattle.mscp_port.specs.declared.port.OutgoingKind.TheVariants as kinds
 use Rattle.mscp_wire.specs.declared.rule.Rule.TheVariants as rules
 use Rattle.mscp_wire.specs.declared.moment.Moment.TheVariants as moments
 use Rattle.mscp_logged.proofs.Breaking.{keeps_so, moment_holds}
 use Rattle.mscp_logged.proofs.Own.{answers_so, own_is_whole}
-use Rattle.mscp_logged.proofs.Seen.{is_reset, reads_before, since_dead, since_reset}
+use Rattle.mscp_logged.proofs.Seen.{reads_before}
+use Rattle.mscp_logged.proofs.Walking.{IsCall, walk}
 
 -- ---- a whole end is long
 
@@ -80,23 +81,13 @@ module _ {K : Type 0} {picks : Picking K} (run : Begun picks) (ends : PortsEndWh
         tt,
       )
 
-  said_long : (p : Port K) (calls : List Call) → ReadsBytes calls → (a : Answered picks start calls p)
-      → AllByRecursion IsLong (said picks start p calls a)
-  said_long p [] reads a = tt
-  said_long p (call ∷ calls) reads a = elim (is_reset call) [
-    | inl reset ↦ subst (λ ss. AllByRecursion IsLong ss) (sym (since_reset p.stage call _ _ reset)) tt
-    | inr never ↦ by (said_long a.0 calls (reads_before call calls reads) a.1) never (is_dead p.stage) refl
-  ]
-    where
-      by : AllByRecursion IsLong (said picks start a.0 calls a.1) → call ≢ WriteIp → (b : Bool) → is_dead p.stage ≡ b
-          → AllByRecursion IsLong (said picks start p (call ∷ calls) a)
-      by so_far never true dead = subst (λ ss. AllByRecursion IsLong ss) (sym (since_dead p.stage call _ _ dead)) tt
-      by so_far never false lives =
-          let d = ends c before controller hardware credits start p call calls valid was quiet made reads a never
-          lives in
-          subst (λ ss. AllByRecursion IsLong ss) (sym (since_alive p.stage call _ _ never lives))
-          (every_append IsLong (said picks start a.0 calls a.1) (map said_in (begins a.0.outgoing p.outgoing))
-          so_far (begun_long p call calls a d.1))
+  said_long : (p : Port K) (calls : List Call) → AsksAlways calls → ReadsBytes calls
+      → (a : Answered picks start calls p) → AllByRecursion IsLong (said picks start p calls a)
+  said_long = walk run ends (λ p calls a. AllByRecursion IsLong (said picks start p calls a))
+      (λ p calls asks a none. rw none.said tt) (λ p call calls a is so_far.
+      subst (λ ss. AllByRecursion IsLong ss) (sym (since_alive p.stage call _ _ is.never is.lives))
+      (every_append IsLong (said picks start a.0 calls a.1) (map said_in (begins a.0.outgoing p.outgoing))
+      so_far (begun_long p call calls a is.deals)))
 
   -- what goes out is of that
   held_long : (p : Port K) (calls : List Call) → AsksAlways calls → ReadsBytes calls
@@ -104,7 +95,7 @@ module _ {K : Type 0} {picks : Picking K} (run : Begun picks) (ends : PortsEndWh
   held_long p calls asks reads a =
       let t = (tell hardware credits controller start p calls made asks a).0 in
       (every_parts IsLong t.0 (held p)
-      (subst (λ ss. AllByRecursion IsLong ss) (sym t.1) (said_long p calls reads a))).1
+      (subst (λ ss. AllByRecursion IsLong ss) (sym t.1) (said_long p calls asks reads a))).1
 
   -- ---- all that is logged
 
@@ -116,20 +107,16 @@ module _ {K : Type 0} {picks : Picking K} (run : Begun picks) (ends : PortsEndWh
       → AllByRecursion IsLongMoment (flat_map ends_in (leaves old new))
   left_long old new long = grind arith
 
+  moment_long : (p : Port K) (call : Call) (calls : List Call) (a : Answered picks start (call ∷ calls) p)
+      → IsCall picks start p call calls a → AllByRecursion IsLongMoment (logged picks start a.0 calls a.1)
+      → AllByRecursion IsLongMoment (logged picks start p (call ∷ calls) a)
+  moment_long p call calls a is so_far =
+      grind (arith, since_alive, every_append, messages_long, left_long, held_long, asked_before, reads_before)
+
   pub logged_long : (p : Port K) (calls : List Call) → AsksAlways calls → ReadsBytes calls
       → (a : Answered picks start calls p) → AllByRecursion IsLongMoment (logged picks start p calls a)
-  logged_long p [] asks reads a = tt
-  logged_long p (call ∷ calls) asks reads a = elim (is_reset call) [
-    | inl reset ↦ subst (λ h. AllByRecursion IsLongMoment h) (sym (since_reset p.stage call _ _ reset)) tt
-    | inr never ↦ by (logged_long a.0 calls (asked_before call calls asks) (reads_before call calls reads) a.1) never
-        (is_dead p.stage) refl
-  ]
-    where
-      by : AllByRecursion IsLongMoment (logged picks start a.0 calls a.1) → call ≢ WriteIp → (b : Bool)
-          → is_dead p.stage ≡ b → AllByRecursion IsLongMoment (logged picks start p (call ∷ calls) a)
-      by so_far never true dead = subst (λ h. AllByRecursion IsLongMoment h) (sym (since_dead p.stage call _ _ dead)) tt
-      by so_far never false lives =
-          grind (arith, since_alive, every_append, messages_long, left_long, held_long, asked_before, reads_before)
+  logged_long = walk run ends (λ p calls a. AllByRecursion IsLongMoment (logged picks start p calls a))
+      (λ p calls asks a none. rw none.logged tt) (λ p call calls a is so_far. moment_long p call calls a is so_far)
 
   -- ---- the law
 
