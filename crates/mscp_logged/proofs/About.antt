@@ -1,12 +1,7 @@
 -- Each end of an ABORT or a poll in a port's log succeeds, and is about the command that its message names.
-use Rattle.mscp_logged.proofs.Common.{Answer, Bool, First, Fits, IsCodeFor, IsWhole, List, None, Sent, Some, answer_by, ap, arith, cond, eq-eqb, false, inl, inr, is_about, is_about_another, is_refused, kind_of_code, le-leb, length, nat_eq, nat_le, not, num, other_of, refl, sent_by, slice_index, succeeds, true, ℕ, ◌&&◌, ◌∙◌, ◌≡◌, ◌≤◌, ◌⊎◌}
+use Rattle.mscp_logged.proofs.Common.{Answer, Bool, First, Fits, IsWhole, List, None, Sent, Some, answer_by, ap, arith, eq-eqb, false, inl, inr, is_about, is_about_another, is_refused, kind_of_code, le-leb, length, nat_eq, nat_le, not, num, other_of, refl, sent_by, slice_index, succeeds, true, ℕ, ◌≡◌, ◌≤◌, ◌⊎◌}
 use Rattle.mscp_packet.specs.declared.end.BodyKind.TheVariants as bodykinds
 use Rattle.mscp_logged.proofs.Wired.{stem}
-
--- the code of the end of such a command, if it is known
-about_code : (code opcode : ℕ) (message : List ℕ) → opcode ≡ slice_index message 8 → nat_eq code 0x80 ≡ false
-    → is_about_another opcode ≡ true → IsCodeFor code message → (code ≡ 0x81) ⊎ (code ≡ 0x82)
-about_code code opcode message is known about x = grind arith
 
 -- its end has the number of the command that it is about
 about_long : (text : List ℕ) → IsWhole text → (slice_index text 8 ≡ 0x81) ⊎ (slice_index text 8 ≡ 0x82)
@@ -29,23 +24,9 @@ module _ (y : Sent) (text message : List ℕ) (is : stem y ≡ sent_by First mes
   other_or = by (nat_eq (slice_index text 8) 0x80) refl (is_about_another y.opcode) refl (not (is_refused y e)) refl
       (nat_le 16 (length message)) refl
     where
-      low : (n m : ℕ) → nat_le n m ≡ true → n ≤ m
-      low n m h = search (arith, h)
-
-      guard : (a b c : Bool) → nat_eq (slice_index text 8) 0x80 ≡ a → is_about_another y.opcode ≡ b
-          → not (is_refused y e) ≡ c → other_of y e ≡ cond (not a && b && c) y.parameter None
-      guard a b c h k l = grind arith
-
-      parameter : (d : Bool) → nat_le 16 (length message) ≡ d → y.parameter ≡ cond d (Some (num message 12 4)) None
-      parameter d long = ap (λ (s : Sent). s.parameter) is ∙ ap (λ x. cond x (Some (num message 12 4)) None) long
-
       by : (a : Bool) → nat_eq (slice_index text 8) 0x80 ≡ a → (b : Bool) → is_about_another y.opcode ≡ b → (c : Bool)
           → not (is_refused y e) ≡ c → (d : Bool) → nat_le 16 (length message) ≡ d → (other_of y e ≡ None) ⊎ Names
-      by false h true k true l true long = inr (record {
-        long = low 16 (length message) long;
-        code = about_code (slice_index text 8) y.opcode message (ap (λ (s : Sent). s.opcode) is) h k fits.code;
-        is_it = guard false true true h k l ∙ parameter true long;
-      })
+      by false h true k true l true long = grind arith
       by a h b k c l d long = grind arith
 
   pub about_right : is_about e (other_of y e) ≡ true

@@ -1,5 +1,5 @@
 -- By each call ends come behind those that are still to come, and tell of their units what is so.
-use Rattle.mscp_logged.proofs.Common.{Action, Answered, AsksAlways, Bool, Call, Deals, First, Hardware, History, Holdings, IsAnswering, IsPassive, List, Next, None, Ok, Option, Outgoing, OutgoingKind, Picking, Port, ReadsBytes, Settings, Shape, Some, TellsFaults, WasRead, Went, Whole, WriteIp, [], ap, append-nil, arith, asked_before, awaited, begins, blocks, came, end_kind, end_said, ends_begun, ends_of, ends_said, ends_said_by, false, inl, inr, is_dead, logged, no_ends, nothing_two, numbers, numbers_ended, of, own_answer, passive_stays, refl, said, subst, sym, taken_by, true, unit_found, volume_found, volume_named, waiting_on, whole_kept, ℕ, ◌++◌, ◌∙◌, ◌∷◌, ◌≡◌, ◌≢◌}
+use Rattle.mscp_logged.proofs.Common.{Action, Answered, AsksAlways, Bool, Call, Deals, First, Hardware, History, Holdings, IsAnswering, IsPassive, List, Next, None, Ok, Outgoing, OutgoingKind, Picking, Port, ReadsBytes, Settings, Shape, Some, TellsFaults, WasRead, Went, Whole, WriteIp, [], ap, append-nil, arith, asked_before, awaited, begins, blocks, came, end_kind, end_said, ends_begun, ends_of, ends_said, ends_said_by, false, inl, inr, is_dead, logged, no_ends, nothing_two, numbers, numbers_ended, of, own_answer, passive_stays, refl, said, subst, sym, taken_by, true, unit_found, volume_found, volume_named, waiting_on, whole_kept, ℕ, ◌++◌, ◌∙◌, ◌∷◌, ◌≡◌, ◌≢◌}
 use Rattle.mscp_logged.proofs.Begun.{Begun, IsKeeping}
 use Rattle.mscp_port.specs.declared.port.OutgoingKind.TheVariants as kinds
 use Rattle.mscp_logged.proofs.Describing.{IsAsWas, IsTold}
@@ -95,10 +95,7 @@ module _ {K : Type 0} {picks : Picking K} (run : Begun picks) (keeping : IsKeepi
     -- ---- what comes
 
     begun_none : begins a.0.outgoing p.outgoing ≡ [] → ends_begun a.0.outgoing p.outgoing ≡ []
-    begun_none = by a.0.outgoing p.outgoing
-      where
-        by : (x y : Option Outgoing) → begins x y ≡ [] → ends_begun x y ≡ []
-        by x y e = grind arith
+    begun_none = grind arith
 
     begun_other : (o : Outgoing) → a.0.outgoing ≡ None → p.outgoing ≡ Some o → (k : OutgoingKind) → o.kind ≡ k
         → ends_begun a.0.outgoing p.outgoing ≡ end_said k o.bytes.items

@@ -44,14 +44,7 @@ module _ (units : List Shape) (t : List ℕ) (is : IsText t) (plain : is_formali
   b = handed units t
 
   handed_same : sent_by First b ≡ of_unit t (num b 4 2)
-  handed_same = subst (λ c. sent_by First (cond c (stand_in t) (cond (asks_for_next t)
-      (renamed t (next_unit units (num t 4 2))) t))
-      ≡ of_unit t (num (cond c (stand_in t) (cond (asks_for_next t) (renamed t (next_unit units (num t 4 2))) t)) 4 2))
-      (sym plain) (by (asks_for_next t))
-    where
-      by : (c : Bool) → sent_by First (cond c (renamed t (next_unit units (num t 4 2))) t)
-          ≡ of_unit t (num (cond c (renamed t (next_unit units (num t 4 2))) t) 4 2)
-      by c = grind arith
+  handed_same = grind arith
 
   pub handed_bytes : AreBytes b
   handed_bytes = subst (λ c. AreBytes (cond c (stand_in t) (cond (asks_for_next t)

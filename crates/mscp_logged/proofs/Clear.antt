@@ -1,5 +1,5 @@
 -- No end of a controller's that waits has passed a command that it had to wait for.
-use Rattle.mscp_logged.proofs.Common.{Bool, Decided, End, List, Record, Settings, [], any_more, ap, arith, cond, drop, ends_numbered, eqb-true, false, false≢true, filter, filter-append, first_of_one, has_number, inl, inr, is_apart, is_in_service, is_numbered, is_some, length, list_any, nat_eq, none_beside, not, num, or_parts, refl, sole_comes, sole_left, some_none, subst, sym, true, unit_found, ℕ, ◌%◌, ◌++◌, ◌∙◌, ◌∷◌, ◌≡◌, ◌⊎◌}
+use Rattle.mscp_logged.proofs.Common.{Bool, Decided, End, List, Record, Settings, [], any_more, ap, arith, cond, drop, ends_numbered, eqb-true, false, false≢true, filter, filter-append, first_of_one, has_number, inr, is_apart, is_in_service, is_numbered, is_some, length, list_any, nat_eq, none_beside, not, num, or_parts, refl, sole_comes, sole_left, some_none, subst, sym, true, unit_found, ℕ, ◌%◌, ◌++◌, ◌∙◌, ◌∷◌, ◌≡◌, ◌⊎◌}
 use Rattle.mscp_logged.proofs.Passes.{any_fewer, keeps, overtakes, passes_beside, passes_fewer}
 use Rattle.mscp_logged.proofs.Queueing.{InOrder, NoneBehind, order_as, order_left, order_more}
 
@@ -93,8 +93,7 @@ clear_beside m aw (e ∷ es) (d ∷ ds) none all =
     )
   where
     one : has_number e.reference m ≡ false → IsClear aw e d → IsClear (aw ++ m ∷ []) e d
-    one apart (inl x) = inl x
-    one apart (inr x) = inr (passes_beside (has_number e.reference) keeps aw m apart ∙ x)
+    one apart x = grind (arith, passes_beside)
 clear_beside m aw es ds none all = grind arith
 
 -- ---- all that is kept

@@ -1,5 +1,5 @@
 -- An end that fits its message has the unit and the endcode of its command.
-use Rattle.mscp_logged.proofs.Common.{Answer, Bool, First, Fits, IsCodeFor, IsUnitFor, List, None, Outgoing, Port, Sent, ap, arith, eq-eqb, eqb-true, false, false≢true, has_endcode, inl, inr, is_required, names_unit, nat_eq, num, opcode_of, own_answer, own_coded, refl, sent_by, slice_index, small_unit, sym, true, two, volume_named, ℕ, ◌+◌, ◌<◌, ◌^◌, ◌∙◌, ◌≡◌, ◌≢◌, ◌⊎◌}
+use Rattle.mscp_logged.proofs.Common.{Answer, First, Fits, IsCodeFor, IsUnitFor, List, None, Outgoing, Port, Sent, ap, arith, eq-eqb, eqb-true, false, false≢true, has_endcode, inl, inr, is_required, names_unit, num, opcode_of, own_answer, own_coded, sent_by, slice_index, small_unit, sym, true, two, volume_named, ℕ, ◌+◌, ◌<◌, ◌^◌, ◌∙◌, ◌≡◌, ◌≢◌, ◌⊎◌}
 use Rattle.mscp_port.specs.declared.port.OutgoingKind.TheVariants as kinds
 use Rattle.mscp_logged.proofs.Own.{IsOwn, of_disk}
 use Rattle.mscp_logged.proofs.Wired.{stem}
@@ -10,22 +10,7 @@ none_required n e = grind (arith, e)
 
 pub endcode_right : (y : Sent) (e : Answer) (message : List ℕ) → y.opcode ≡ slice_index message 8
     → IsCodeFor e.code message → has_endcode y e ≡ true
-endcode_right y e message is code = by (nat_eq e.code 0x80) refl code
-  where
-    zero : (n : ℕ) → n + 0x80 ≡ 0x80 → n ≡ 0
-    zero n h = omega (arith, h)
-
-    unknown : is_required y.opcode ≡ false → nat_eq e.code 0x80 ≡ true → has_endcode y e ≡ true
-    unknown none c = grind arith
-
-    known : nat_eq e.code 0x80 ≡ false → e.code ≡ y.opcode + 0x80 → has_endcode y e ≡ true
-    known c same = grind arith
-
-    by : (b : Bool) → nat_eq e.code 0x80 ≡ b → IsCodeFor e.code message → has_endcode y e ≡ true
-    by true c (inl h) = unknown (ap is_required is ∙ none_required (slice_index message 8) h.1) c
-    by true c (inr h) = grind (arith, unknown, zero, eqb-true)
-    by false c (inl h) = absurd (false≢true (sym c ∙ eq-eqb e.code 0x80 h.0))
-    by false c (inr h) = known c (h ∙ ap (λ n. n + 0x80) (sym is))
+endcode_right y e message is code = grind (arith, none_required, eqb-true, false≢true, eq-eqb)
 
 -- an answer of the port's own fits its message, as an end of the controller's does
 pub own_fits : {K : Type 0} (old : Port K) (text : List ℕ) (o : Outgoing) → ((i : ℕ) → slice_index text i < 2 ^ 8)

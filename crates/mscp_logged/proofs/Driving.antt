@@ -74,13 +74,7 @@ module _ {K : Type 0} {picks : Picking K} (run : Begun picks) (keeping : IsKeepi
 
   passive : (p : Port K) (call : Call) (calls : List Call) (a : Answered picks start (call ∷ calls) p) → IsPassive call
       → So a.0 → So p
-  passive p call calls a is s = elim (passive_volumes a.0 p picks call a.2 is) [
-    | inr d ↦ as_new (stages.Dead d.0) a.0 p d.1
-    | inl still ↦ elim (passive_stays picks call a.0 p a.2 is) [
-      | inr d ↦ as_new (stages.Dead d.0) a.0 p d.1
-      | inl same ↦ stays_so a.0 p still (ap (λ (h : Holdings K). h.drives) same.0) s
-    ]
-  ]
+  passive p call calls a is s = grind (arith, passive_volumes, as_new, passive_stays, stays_so)
 
   -- what is told of a step, while there is no fatal error
   pub went_told : (p : Port K) (outcome : _) (done : Unit) (calls : List Call)

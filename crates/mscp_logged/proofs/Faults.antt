@@ -1,6 +1,6 @@
 -- What a controller is told of a step is what a drive may tell, and a unit that isn't online ends no other command
 -- than a transfer.
-use Rattle.mscp_logged.proofs.Common.{Bool, Buffer, Err, IsBegunStep, IsFault, IsFaultTold, IsHow, List, MoveKind, Name, None, Ok, Option, Order, Outcome, Port, Record, Result, Some, Task, Upcoming, Verdict, Volume, arith, begun_step, block_begun, block_served, block_told, changed_verdict, cond, drive_of, fault_with, faulted, find, has_changed, has_name, inl, inr, is_move, known_task, move_of, move_task, moved_by, moved_step, option_map, part_at, part_of, part_served, part_task, part_with, place_in, refl, refusal_of, subst, sym, task_of, true, unless_fault, upcoming_of, ℕ, ◌%◌, ◌<◌, ◌^◌, ◌≡◌, ◌≤◌}
+use Rattle.mscp_logged.proofs.Common.{Bool, Buffer, Err, IsBegunStep, IsFault, IsFaultTold, IsHow, List, MoveKind, Name, None, Ok, Option, Order, Outcome, Port, Record, Result, Some, Task, Upcoming, Verdict, Volume, arith, begun_step, block_begun, block_served, block_told, changed_verdict, cond, drive_of, faulted, find, has_name, inl, inr, is_move, known_task, move_of, move_task, moved_by, moved_step, option_map, part_at, part_served, part_task, part_with, place_in, refl, subst, sym, task_of, true, upcoming_of, ℕ, ◌%◌, ◌<◌, ◌^◌, ◌≡◌, ◌≤◌}
 use Rattle.mscp_drive.specs.declared.block.Block.TheVariants as blocks
 use Rattle.mscp_port.specs.declared.task.Task.TheVariants as tasks
 use Rattle.mscp_port.specs.declared.verdict.Verdict.TheVariants as verdicts
@@ -15,10 +15,6 @@ IsFine order verdict =
 abbrev pub IsToldOf : Verdict → Record → Type 0
 IsToldOf verdict r = IsFine r.command.order verdict
 
-abbrev IsFineIf : Order → Option Verdict → Type 0
-IsFineIf order None = Unit {0}
-IsFineIf order (Some verdict) = IsFine order verdict
-
 abbrev IsFineOr : Order → Result (ℕ × ℕ) Verdict → Type 0
 IsFineOr order (Ok part) = Unit {0}
 IsFineOr order (Err verdict) = IsFine order verdict
@@ -28,9 +24,6 @@ IsFineTask order (tasks.Step verdict) = IsFine order verdict
 IsFineTask order task = Unit {0}
 
 module _ (order : Order) where
-  fine_cond : (c : Bool) (x y : Option Verdict) → IsFineIf order x → IsFineIf order y → IsFineIf order (cond c x y)
-  fine_cond c x y a b = grind arith
-
   fine_task : (c : Bool) (x y : Task) → IsFineTask order x → IsFineTask order y → IsFineTask order (cond c x y)
   fine_task c x y a b = grind arith
 
@@ -46,19 +39,9 @@ module _ (order : Order) where
   changed_fine : (v : Volume) → IsFine order (changed_verdict v)
   changed_fine v = grind arith
 
-  -- why a block isn't moved
-  refusal_fine : is_move order ≡ true → (kind : MoveKind) (block : ℕ) (b : Buffer) (v : Volume)
-      → IsFineIf order (refusal_of kind block b v)
-  refusal_fine move kind block b v = grind (arith, fine_cond, fault, drive_error)
-
   part_fine : is_move order ≡ true → (kind : MoveKind) (block done : ℕ) (b : Buffer) (v : Volume)
       → IsFineOr order (part_with kind block done b v)
-  part_fine move kind block done b v = by (fault_with kind block b v)
-      (fine_cond (has_changed b v) (Some (changed_verdict v)) (refusal_of kind block b v) (changed_fine v)
-      (refusal_fine move kind block b v)) (part_of b done)
-    where
-      by : (o : Option Verdict) → IsFineIf order o → (part : Option (ℕ × ℕ)) → IsFineOr order (unless_fault o part)
-      by o f part = grind arith
+  part_fine move kind block done b v = grind arith
 
   at_fine : is_move order ≡ true → (place : Option ℕ) (kept : Option Buffer) (kind : MoveKind) (block done : ℕ)
       (volumes : List Volume) → IsFineOr order (part_at place kept kind block done volumes)

@@ -142,13 +142,7 @@ module _ (rs xs : List Record) (r0 : Record) (ys : List Record) (whole : rs ≡ 
       (by (has_number n u) refl) (serves_free us order.1 all.1)
     where
       none : has_number n u ≡ false → (b : Bool) → list_any (λ t. has_number n t && keeps t u) us ≡ b → b ≡ false
-      none other false e = refl
-      none other true e =
-          let x = any_all (IsWaiting rs) (λ t. has_number n t && keeps t u) us e all.1 in
-          let p = and_parts (has_number n x.0) (keeps x.0 u) x.2 in
-          absurd (false≢true (sym (one_free x.0 u x.1 all.0 (order.0 n
-          (any_as (λ t. has_number n t && keeps t u) (has_number n)
-          (λ t h. (and_parts (has_number n t) (keeps t u) h).0) us e)) p.0 other) ∙ p.1))
+      none other b e = grind (arith, any_all, and_parts, false≢true, one_free, any_as)
 
       by : (b : Bool) → has_number n u ≡ b → cond b false (list_any (λ t. has_number n t && keeps t u) us) ≡ false
       by b is = grind (arith, none)

@@ -1,5 +1,5 @@
 -- Which rules of the wire a port keeps, if its host is right.
-use Rattle.mscp_logged.proofs.Common.{AllByRecursion, Answer, Bool, First, History, HostIsRight, Keeps, List, Moment, None, Option, Rule, Said, Seen, Sent, Settings, [], aborts, answer_by, ap, arith, command_at, controller, controller_after, controller_in, drop, eqb-true, false, fold, has_abort, inl, is_of_drives, is_of_polls, is_same_unit, is_some, length, list_any, moment_at, nat_eq, not, outstanding, refl, status_code, suc, suits_state, take, true, zero, ℕ, ◌+◌, ◌<◌, ◌||◌, ◌∙◌, ◌∷◌, ◌≡◌}
+use Rattle.mscp_logged.proofs.Common.{AllByRecursion, Answer, First, History, HostIsRight, Keeps, List, Moment, None, Option, Rule, Said, Seen, Sent, Settings, [], answer_by, ap, arith, command_at, controller, controller_after, controller_in, drop, eqb-true, fold, inl, is_of_drives, is_of_polls, is_same_unit, is_some, length, moment_at, outstanding, refl, suc, suits_state, take, true, zero, ℕ, ◌+◌, ◌<◌, ◌∙◌, ◌∷◌, ◌≡◌}
 use Rattle.mscp_wire.specs.declared.moment.Moment.TheVariants as moments
 use Rattle.mscp_wire.specs.declared.rule.Rule.TheVariants as rules
 use Rattle.mscp_logged.proofs.About.{about_right, success_right}
@@ -57,11 +57,7 @@ module _ (c : Settings) (F : Type 0) (xs : List Sent) (unit : Seen) (known : IsK
   command_right rules.Endcode f polls =
       endcode_right y e tied.message (ap (λ (s : Sent). s.opcode) tied.command) tied.tie.fits.code
   command_right rules.Status f polls = grind arith
-  command_right rules.Aborted f polls = aborted_right (nat_eq (status_code e) 2) refl
-    where
-      aborted_right : (b : Bool) → nat_eq (status_code e) 2 ≡ b → has_abort (drop (tied.place + 1) xs) y e ≡ true
-      aborted_right true is = grind (arith, eqb-true)
-      aborted_right false is = ap (λ b. not b || list_any (aborts y) (drop (tied.place + 1) xs)) is
+  command_right rules.Aborted f polls = grind (arith, eqb-true)
   command_right rules.Order f polls = tied.order tt
   command_right rules.Figure f polls =
       figure_right (drop (tied.place + 1) xs) y b (whole_long b tied.tie.whole)

@@ -1,5 +1,5 @@
 -- An end that leaves answers a command that is outstanding, and takes it away.
-use Rattle.mscp_logged.proofs.Common.{Answer, First, Found, List, Said, Sent, Some, [], aborts, after_end, and_false, and_parts, answer_by, ap, arith, command_at, cond, drop, eqb-true, false, filter, filter-append, find_cases, hears, inl, inr, keeps_back, length, list_any, map, nat_eq, not, num, place_of, position, position_first, refl, sent_by, slice_index_or, some_none, subst, sym, take, true, ℕ, ◌++◌, ◌+◌, ◌∙◌, ◌∷◌, ◌≡◌}
+use Rattle.mscp_logged.proofs.Common.{Answer, First, Found, List, Said, Sent, Some, [], aborts, after_end, and_false, and_parts, answer_by, ap, arith, command_at, cond, drop, eqb-true, false, filter, filter-append, find_cases, hears, inl, inr, keeps_back, length, list_any, map, nat_eq, not, num, place_of, position, position_first, refl, sent_by, slice_index_or, subst, sym, take, true, ℕ, ◌++◌, ◌+◌, ◌∙◌, ◌∷◌, ◌≡◌}
 use Rattle.mscp_port.specs.declared.port.OutgoingKind.TheVariants as kinds
 use Rattle.mscp_logged.proofs.Lined.{all_left, behind, behind_aborts}
 use Rattle.mscp_logged.proofs.Passes.{passes, passes_found}
@@ -119,7 +119,4 @@ module _ (Tie : List ℕ → List ℕ → Type 0) (xs : List Sent) (aw : List (L
     }
 
   pub end_leaves : IsAnswered
-  end_leaves = elim (find_cases (named n) xs) [
-    | inl none ↦ absurd (some_none owed.own [] (sym owed.sole ∙ none_front (named n) xs none))
-    | inr some ↦ answered some.0 some.1 some.2 some.3
-  ]
+  end_leaves = grind (arith, find_cases, none_front, answered)

@@ -1,5 +1,5 @@
 -- By a message that is read the ends that come tell of their units what is so.
-use Rattle.mscp_logged.proofs.Common.{Answers, Bool, Command, End, First, Gets, Hardware, Hears, Holdings, Kept, List, None, Ok, Option, Port, Record, Settings, Some, Volume, WasRead, [], aborted_record, answer_decided, answer_ends, answered_end, ap, append-nil, arith, command_of, drive_of, ends_of, false, fault_of, figure_polled, handed, inl, inr, is_dead, kept_of, length, map, option_map, option_to_list, own_end_with, read_is, record_aborted, slice_index, subst, sym, taken_by, unit_found, volume_found, ℕ, ◌++◌, ◌<◌, ◌^◌, ◌∙◌, ◌∷◌, ◌≡◌}
+use Rattle.mscp_logged.proofs.Common.{Answers, Bool, Command, End, First, Gets, Hardware, Hears, Holdings, Kept, List, None, Ok, Option, Port, Record, Settings, Some, Volume, WasRead, [], aborted_record, answer_decided, answer_ends, answered_end, ap, append-nil, arith, command_of, drive_of, ends_of, false, figure_polled, handed, inl, inr, is_dead, kept_of, length, map, option_map, option_to_list, read_is, record_aborted, slice_index, subst, sym, taken_by, unit_found, volume_found, ℕ, ◌++◌, ◌<◌, ◌^◌, ◌∙◌, ◌∷◌, ◌≡◌}
 use Rattle.mscp_drive.specs.declared.block.Block.TheVariants as blocks
 use Rattle.mscp_port.specs.declared.verdict.Verdict.TheVariants as verdicts
 use Rattle.mscp_ported.proofs.Tables.{answer_by}
@@ -70,10 +70,7 @@ module _ {K : Type 0} (bytes : List ℕ) (done : Unit) (old new : Port K) (aw : 
     figure = figure_polled h.settings First h.waiting command.order
 
     unit_is : own.unit ≡ command.unit
-    unit_is = by (fault_of h.settings command)
-      where
-        by : (o : Option ℕ) → (own_end_with h.settings online figure command o).unit ≡ command.unit
-        by o = grind arith
+    unit_is = grind arith
 
     own_decided : IsDecided h.settings.units (verdicts.Served blocks.Good) (W command.unit) (W command.unit) own
         (answer_by old new own)

@@ -1,5 +1,5 @@
 -- Each end of a port's log is as long as its endcode asks.
-use Rattle.mscp_logged.proofs.Common.{All-from_recursion, AllByRecursion, Answered, AsksAlways, BodyKind, Bool, Call, Deals, IsWhole, Keeps, List, Moment, None, Option, Outgoing, Picking, Port, PortsEndWhatTheyTook, PortsTellInOrder, ReadsBytes, Said, Seen, Sent, Some, [], and_parts, arith, asked_before, awaited, begins, begun_one, cond, end_length, endcodes, ends_in, eqb-true, every_append, every_parts, false, find, flat_map, held, inl, inr, is_long, kind_of_code, le-leb, least_length, leaves, length, list_all, logged, map, message_of, moment_at, nat_eq, nat_le, none-some, option_map, option_to_list, outstanding, refl, said, said_in, same_Some, since_alive, slice_index, subst, sym, take, true, ℕ, ◌∷◌, ◌≡◌, ◌≤◌}
+use Rattle.mscp_logged.proofs.Common.{All-from_recursion, AllByRecursion, Answered, AsksAlways, BodyKind, Bool, Call, Deals, IsWhole, Keeps, List, Moment, None, Option, Outgoing, Picking, Port, PortsEndWhatTheyTook, PortsTellInOrder, ReadsBytes, Said, Seen, Sent, Some, [], and_parts, arith, asked_before, awaited, begins, begun_one, cond, end_length, ends_in, eqb-true, every_append, every_parts, false, find, flat_map, held, inl, inr, is_long, kind_of_code, le-leb, least_length, leaves, length, list_all, logged, map, message_of, moment_at, nat_le, none-some, option_to_list, outstanding, refl, said, said_in, same_Some, since_alive, slice_index, subst, sym, take, true, ℕ, ◌∷◌, ◌≡◌, ◌≤◌}
 use Rattle.mscp_logged.proofs.Begun.{Begun}
 use Rattle.mscp_port.specs.declared.port.OutgoingKind.TheVariants as kinds
 use Rattle.mscp_wire.specs.declared.rule.Rule.TheVariants as rules
@@ -22,20 +22,7 @@ least_none : (code : ℕ) → kind_of_code code ≡ None → least_length code �
 least_none code e = grind (arith, e)
 
 least_some : (code : ℕ) (kind : BodyKind) → kind_of_code code ≡ Some kind → least_length code ≤ end_length kind
-least_some code kind e = by (find (λ entry. nat_eq entry.0 code) endcodes) refl e
-  where
-    is_low : (n m : ℕ) → nat_le n m ≡ true → n ≤ m
-    is_low n m h = search (arith, h)
-
-    by : (o : Option (ℕ × BodyKind)) → find (λ entry. nat_eq entry.0 code) endcodes ≡ o
-        → option_map (λ entry. entry.1) o ≡ Some kind → least_length code ≤ end_length kind
-    by None found h = absurd (none-some kind h)
-    by (Some entry) found h =
-        let f = found_passes (λ entry. nat_eq entry.0 code)
-        (λ entry. nat_le (least_length entry.0) (end_length entry.1)) endcodes entry found refl in
-        subst (λ n. least_length n ≤ end_length kind) (eqb-true entry.0 code f.0)
-        (subst (λ k. least_length entry.0 ≤ end_length k) (same_Some entry.1 kind h)
-        (is_low (least_length entry.0) (end_length entry.1) f.1))
+least_some code kind e = grind (arith, none-some, found_passes, eqb-true, same_Some)
 
 pub whole_long : (text : List ℕ) → IsWhole text → is_long text ≡ true
 whole_long text whole = by (kind_of_code (slice_index text 8)) refl

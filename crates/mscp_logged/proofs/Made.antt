@@ -34,12 +34,7 @@ pub record HasCode (e : End) (t : List ℕ) : Type 0 where
 
 module _ (c : Settings) (Told : Verdict → Record → Type 0) (l : Leaving) (t : List ℕ) where
   pub made_code : IsMade c Told l t → HasCode l.end t
-  made_code (inl x) = record {
-    units = c.units;
-    message = x.message;
-    is = ap (λ (e : End). e.code) x.end ∙
-        (own_ends c x.online x.figure (command_of (handed c.units t)) x.immediate).code;
-  }
+  made_code (inl x) = grind arith
   made_code (inr (inl x)) = grind arith
   made_code (inr (inr x)) = grind arith
 

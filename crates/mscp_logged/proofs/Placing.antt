@@ -95,14 +95,7 @@ module _ (h : Hardware) (units : List Shape) (verdict : Verdict) (online : Bool)
   given_status = outcome_status online order (block_told verdict)
 
   off_now : IsOff v e.code e.status → w.is_mounted ≡ false
-  off_now off = by w.is_mounted refl
-    where
-      never : (v.is_mounted ≡ true) ⊎ ((e.code ≡ 0x89) × (e.status % 32 ≡ 0)) → ⊥
-      never x = grind arith
-
-      by : (b : Bool) → w.is_mounted ≡ b → w.is_mounted ≡ false
-      by false on = on
-      by true on = absurd (never (mounted on))
+  off_now off = grind arith
 
   module _ (plain : ends_formality d.code ≡ false) (reads : Reads a e.code d.status) where
     status : d.status ≡ status_after verdict (endcode order) given_status v
@@ -143,10 +136,7 @@ module _ (h : Hardware) (units : List Shape) (verdict : Verdict) (online : Bool)
         by order good on sure bit waits valid = search (arith, waits)
 
     gone_now : IsGone (a.status % 32) → w.is_mounted ≡ false
-    gone_now gone =
-        let off = gone_off v online driven order verdict given.waits given.valid _ sure fault
-        (subst (λ n. IsGone n) low gone) in
-        off_now (off.0, λ c good. off.1 (sym given.code ∙ c) (ap (λ n. n % 32) (sym given.status) ∙ good))
+    gone_now gone = grind (arith, gone_off, low, off_now)
 
     away_so : IsAwayCode a.code (a.status % 32) → w.is_mounted ≡ false
     away_so x = grind (arith, gone_now)

@@ -1,6 +1,6 @@
 -- What is known of each command that is outstanding: its figure isn't above the one that was told of it last; and of a
 -- poll which figure comes, and that it may be told.
-use Rattle.mscp_logged.proofs.Common.{AllByRecursion, Answer, Asked, Bool, First, List, None, Nothing, Oldest, Option, Pending, Sent, Some, [], and_parts, ap, arith, asked_about, asked_by, asks_oldest, command_at, cond, eqb-true, false, false≢true, find, find_cases, inl, inr, is_known, is_named, is_refused, length, list_any, may_ask, may_be, nat_eq, nat_lt, none-some, not, or_left, or_right, polled_by, position, position_first, position_none, refl, same_Some, same_connection, sent_by, subst, sym, true, ℕ, ◌&&◌, ◌++◌, ◌<◌, ◌∙◌, ◌∷◌, ◌≡◌, ◌≤◌, ◌⊎◌}
+use Rattle.mscp_logged.proofs.Common.{AllByRecursion, Answer, Asked, Bool, First, List, None, Nothing, Oldest, Option, Pending, Sent, Some, [], and_parts, ap, arith, asked_about, asked_by, asks_oldest, command_at, cond, eqb-true, false, false≢true, find, find_cases, inl, inr, is_known, is_named, length, list_any, may_ask, may_be, nat_eq, nat_lt, none-some, or_left, or_right, polled_by, position, position_first, position_none, refl, same_Some, same_connection, sent_by, subst, sym, true, ℕ, ◌++◌, ◌<◌, ◌∙◌, ◌∷◌, ◌≡◌, ◌≤◌, ◌⊎◌}
 use Rattle.mscp_logged.proofs.Left.{at_front}
 use Rattle.mscp_logged.proofs.Wired.{named}
 
@@ -163,8 +163,4 @@ pub record Polls (y : Sent) (e : Answer) (other : ℕ) : Type 0 where
   pub parameter : y.parameter ≡ Some other
 
 pub polled_so : (y : Sent) (e : Answer) (other : ℕ) → polled_by y e ≡ Some other → Polls y e other
-polled_so y e other h = by (is_known e) refl (nat_eq y.opcode 2) refl (not (is_refused y e)) h
-  where
-    by : (a : Bool) → is_known e ≡ a → (b : Bool) → nat_eq y.opcode 2 ≡ b → (c : Bool)
-        → cond (a && b && c) y.parameter None ≡ Some other → Polls y e other
-    by a known b code c h = grind arith
+polled_so y e other h = grind arith

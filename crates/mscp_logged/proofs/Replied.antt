@@ -22,16 +22,7 @@ silent_told u o v text never = grind arith
 told_plain : (h : Hardware) (units : List Shape) (e : End) (d : Decided)
     → (ends_formality d.code ≡ false → Reads (answer_by First (text_with h units e d)) e.code d.status → ⊥)
     → describes (answer_by First (text_with h units e d)) ≡ true → ⊥
-told_plain h units e d never is = by (text_reads h units e d)
-  where
-    a : Answer
-    a = answer_by First (text_with h units e d)
-
-    by : ((ends_formality d.code ≡ true) × Reads a d.code d.status)
-        ⊎ ((ends_formality d.code ≡ false)
-        × (text_with h units e d ≡ end_with_body e.body e d (unit_found units e.unit) h) × Reads a e.code d.status) → ⊥
-    by (inl x) = formal_telling d.code x.0 (subst (λ c. IsTelling c) x.1.code (describes_so a is).code)
-    by (inr x) = never x.0 x.2
+told_plain h units e d never is = grind (arith, text_reads, formal_telling, describes_so)
 
 -- and with no status that is no Success
 failed : (h : Hardware) (units : List Shape) (e : End) (d : Decided)

@@ -148,16 +148,7 @@ module _ (h : Hardware) (units : List Shape) (verdict : Verdict) (online : Bool)
         by good x = grind (arith, told_so, status)
 
     set_so : (given : IsGivenEnd orders.SetUnit online verdict e) → So
-    set_so given = record {
-      described = described orders.SetUnit 0x8A given.code refl refl
-          (let b = online_shaped given.body.0 (outcome_status online orders.SetUnit (block_told verdict)) in
-          (b.0, b.1, b.2, b.3, given.body.2 ∙ b.4));
-      told = λ is unsure. by (tells_so a is unsure).1;
-      stays = stays (λ code good. search (arith, sym code ∙ given.code));
-    }
-      where
-        by : (a.code ≡ 0x83) ⊎ ((a.code ≡ 0x89) × (a.status / 256 % 2 ≡ 1)) → (v.is_mounted ≡ true) × IsSame v w
-        by x = grind arith
+    set_so given = grind arith
 
     other_so : (order : Order) (code : ℕ) → IsGivenEnd order online verdict e → endcode order ≡ code
         → (IsTelling code → ⊥) → So

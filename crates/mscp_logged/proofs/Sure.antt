@@ -1,6 +1,6 @@
 -- How a step went that ended otherwise than its drive told: its unit isn't online with its volume. And a transfer goes
 -- well only while it is.
-use Rattle.mscp_logged.proofs.Common.{Block, Bool, Buffer, Err, IsBegunStep, IsHow, List, MoveKind, Name, None, Ok, Option, Order, Outcome, Port, Record, Result, Some, Task, Upcoming, Verdict, Volume, arith, begun_record, begun_step, block_begun, block_served, changed_verdict, cond, drive_of, false, false≢true, fault_with, faulted, find, has_changed, has_host_bytes, has_name, inl, is_available, is_some, known_task, move_of, move_task, moved_by, moved_step, nat_le, not, option_map, part_at, part_of, part_served, part_task, part_with, refl, refusal_of, subst, sym, takes_any_volume, task_of, true, unless_fault, upcoming_of, volume_found, volume_in_place, writes, ℕ, ◌%◌, ◌&&◌, ◌==◌, ◌≡◌, ◌≤◌, ◌⊎◌}
+use Rattle.mscp_logged.proofs.Common.{Block, Bool, Buffer, Err, IsBegunStep, IsHow, List, MoveKind, Name, None, Ok, Option, Order, Outcome, Port, Record, Result, Some, Task, Upcoming, Verdict, Volume, arith, begun_record, begun_step, block_begun, block_served, changed_verdict, cond, drive_of, false, false≢true, faulted, find, has_name, inl, is_available, is_some, known_task, move_of, move_task, moved_by, moved_step, option_map, part_at, part_served, part_with, subst, sym, takes_any_volume, task_of, true, upcoming_of, volume_found, volume_in_place, ℕ, ◌%◌, ◌≡◌, ◌≤◌, ◌⊎◌}
 use Rattle.mscp_drive.specs.declared.block.Block.TheVariants as blocks
 use Rattle.mscp_port.specs.declared.task.Task.TheVariants as tasks
 use Rattle.mscp_port.specs.declared.verdict.Verdict.TheVariants as verdicts
@@ -27,58 +27,15 @@ abbrev IsSureTask : Bool → Volume → Task → Type 0
 IsSureTask moves v (tasks.Step verdict) = IsSure moves v verdict
 IsSureTask moves v task = Unit {0}
 
-fault : (moves : Bool) (v : Volume) (n : ℕ) → (5 ≤ n % 32) × (n % 32 ≤ 11) → IsSure moves v (faulted n)
-fault moves v n h = inl h
-
 drive_error : (moves : Bool) (v : Volume) → IsSure moves v (faulted 0x000B)
 drive_error moves v = inl (omega arith, omega arith)
 
 changed_sure : (moves : Bool) (v : Volume) → IsSure moves v (changed_verdict v)
 changed_sure moves v = grind arith
 
--- why a block isn't moved, or the unit is online
-abbrev IsSureEither : Volume → Option Verdict → Type 0
-IsSureEither v None = v.is_mounted ≡ true
-IsSureEither v (Some verdict) = IsSure true v verdict
-
-either_cond : (v : Volume) (c : Bool) (x y : Option Verdict) → IsSureEither v x → IsSureEither v y
-    → IsSureEither v (cond c x y)
-either_cond v c x y a b = grind arith
-
-refusal_sure : (kind : MoveKind) (block : ℕ) (b : Buffer) (v : Volume) → IsSureEither v (refusal_of kind block b v)
-refusal_sure kind block b v = by v.is_mounted refl
-  where
-    rest : v.is_mounted ≡ true → IsSureEither v
-        (cond (has_host_bytes kind && b.address % 2 == 1) (Some (faulted 0x0029))
-        (cond (b.count % 2 == 1) (Some (faulted 0x0049))
-        (cond (writes kind && v.is_protected_by_host) (Some (faulted 0x1006))
-        (cond (writes kind && v.is_protected) (Some (faulted 0x2006))
-        (cond (nat_le v.size block) (Some (faulted 0x000B)) None)))))
-    rest e = either_cond v (has_host_bytes kind && b.address % 2 == 1) (Some (faulted 0x0029)) _
-        (fault true v 0x0029 (omega arith, omega arith))
-        (either_cond v (b.count % 2 == 1) (Some (faulted 0x0049)) _ (fault true v 0x0049 (omega arith, omega arith))
-        (either_cond v (writes kind && v.is_protected_by_host) (Some (faulted 0x1006)) _
-        (fault true v 0x1006 (omega arith, omega arith))
-        (either_cond v (writes kind && v.is_protected) (Some (faulted 0x2006)) _
-        (fault true v 0x2006 (omega arith, omega arith))
-        (either_cond v (nat_le v.size block) (Some (faulted 0x000B)) None (drive_error true v) e))))
-
-    by : (c : Bool) → v.is_mounted ≡ c → IsSureEither v (cond (not c) (Some verdicts.NotOnline)
-        (cond (has_host_bytes kind && b.address % 2 == 1) (Some (faulted 0x0029))
-        (cond (b.count % 2 == 1) (Some (faulted 0x0049))
-        (cond (writes kind && v.is_protected_by_host) (Some (faulted 0x1006))
-        (cond (writes kind && v.is_protected) (Some (faulted 0x2006))
-        (cond (nat_le v.size block) (Some (faulted 0x000B)) None))))))
-    by c e = grind (arith, rest)
-
 part_sure : (kind : MoveKind) (block done : ℕ) (b : Buffer) (v : Volume)
     → IsSureOr v (part_with kind block done b v)
-part_sure kind block done b v = by (fault_with kind block b v)
-    (either_cond v (has_changed b v) (Some (changed_verdict v)) (refusal_of kind block b v) (changed_sure true v)
-    (refusal_sure kind block b v)) (part_of b done)
-  where
-    by : (o : Option Verdict) → IsSureEither v o → (part : Option (ℕ × ℕ)) → IsSureOr v (unless_fault o part)
-    by o f part = grind arith
+part_sure kind block done b v = grind arith
 
 -- ---- a step
 
@@ -104,10 +61,7 @@ module _ (u : Upcoming) where
   move_sure : (b : Buffer) (v : Volume) (move : Option (MoveKind × ℕ))
       → IsSureTask (is_some move) v (move_task u move b v)
   move_sure b v None = λ moves. absurd (false≢true moves)
-  move_sure b v (Some move) = by (part_with move.0 move.1 u.done b v) (part_sure move.0 move.1 u.done b v)
-    where
-      by : (part : Result (ℕ × ℕ) Verdict) → IsSureOr v part → IsSureTask true v (part_task part)
-      by part s = grind arith
+  move_sure b v (Some move) = grind arith
 
   task_sure : (b : Buffer) (v : Volume) → IsSureTask (moves_block u) v (task_of u b v)
   task_sure b v = grind (arith, task_cond, none_moves, available_still, any_still, changed_sure, move_sure)

@@ -1,5 +1,5 @@
 -- What ties each end of a port's log to the command that it answers.
-use Rattle.mscp_logged.proofs.Common.{AllByRecursion, Answered, AsksAlways, Bool, Call, End, First, Fits, IsAnswering, IsEnding, IsFollowed, IsHow, IsMade, IsPast, IsReply, IsSaid, IsStepped, IsWhole, List, Name, None, Ok, Option, Order, Outcome, Outgoing, Picking, Port, ReadsBytes, Record, Settings, Some, TellsFaults, Verdict, Went, aborts_behind, answer_status, ap, arith, asked_before, awaited, command_of, controller_in, drop, ends_of, false, fault_of, find, has_name, inl, inr, is_apart, left_with, num, own_answer, own_cases, own_end_with, own_refused, own_text, refl, refused_apart, said_fits, sent_by, sent_says, slice_index, steps, subst, sym, true, volume_named, ℕ, ◌%◌, ◌<◌, ◌^◌, ◌∙◌, ◌∷◌, ◌≡◌, ◌⊎◌}
+use Rattle.mscp_logged.proofs.Common.{AllByRecursion, Answered, AsksAlways, Bool, Call, End, First, Fits, IsAnswering, IsEnding, IsFollowed, IsHow, IsMade, IsReply, IsSaid, IsStepped, IsWhole, List, Name, None, Ok, Option, Order, Outcome, Outgoing, Picking, Port, ReadsBytes, Record, Settings, Some, TellsFaults, Verdict, Went, aborts_behind, answer_status, ap, arith, asked_before, awaited, command_of, controller_in, drop, ends_of, false, fault_of, find, has_name, inl, inr, is_apart, left_with, num, own_answer, own_end_with, refl, refused_apart, said_fits, sent_by, sent_says, slice_index, steps, subst, sym, true, volume_named, ℕ, ◌%◌, ◌<◌, ◌^◌, ◌∙◌, ◌∷◌, ◌≡◌, ◌⊎◌}
 use Rattle.mscp_port.specs.declared.port.OutgoingKind.TheVariants as kinds
 use Rattle.mscp_ported.proofs.ByOpcode.{ends_said}
 use Rattle.mscp_logged.proofs.Answered.{own_suited}
@@ -76,15 +76,7 @@ said_as c F old aw text t f s = record {
     by : IsMade c (ToldIf F) (left_with s.end s.decided) t → IsMade c IsToldOf (left_with s.end s.decided) t
     by (inl x) = inl x
     by (inr (inl x)) = inr (inl x)
-    by (inr (inr x)) = inr (inr (record {
-      own = x.own;
-      of = x.of;
-      drive = x.drive;
-      verdict = x.verdict;
-      is = x.is f;
-      end = x.end;
-      told = x.told;
-    }))
+    by (inr (inr x)) = grind arith
 
 pub faults_before : (call : Call) (calls : List Call) → TellsFaults (call ∷ calls) → TellsFaults calls
 faults_before call calls h = grind arith
@@ -208,10 +200,4 @@ own_end_of c F old text o small own kind =
 -- which says of no command that it was aborted
 pub never_aborted : {K : Type 0} (c : Settings) (old : Port K) (text : List ℕ) (o : Outgoing) → IsOwn old text o
     → o.kind ≡ kinds.End → num o.bytes.items 10 2 % 32 ≡ 2 → ⊥
-never_aborted c old text o own kind two = own_cases (volume_named old text) text
-    (λ x. num (own_text text x) 10 2 % 32 ≡ 2 → ⊥) (λ asks e. search (arith, e)) (λ status moves past. by status past)
-    own.own.0 (ap (λ f. own_answer f (volume_named old text) text) (sym (of_disk old text o own kind)) ∙ own.own.1)
-    (ap (λ b. num b 10 2 % 32) (sym own.own.2) ∙ two)
-  where
-    by : (status : ℕ) → IsPast status → num (own_text text (own_refused text status)) 10 2 % 32 ≡ 2 → ⊥
-    by status x = grind arith
+never_aborted c old text o own kind two = grind arith

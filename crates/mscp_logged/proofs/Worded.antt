@@ -1,5 +1,5 @@
 -- What the text of an end says of its code, its status, its unit and what that is, as whoever judges the wire reads it.
-use Rattle.mscp_logged.proofs.Common.{Answer, Bool, Decided, End, First, Hardware, List, Option, Shape, answer_by, arith, brings, cond, describes, end_with_body, ends_formality, false, head, is_unsure, num, tells_unit, true, unit_found, ℕ, ◌%◌, ◌/◌, ◌<◌, ◌^◌, ◌≡◌, ◌⊎◌}
+use Rattle.mscp_logged.proofs.Common.{Answer, Decided, End, First, Hardware, List, Option, Shape, answer_by, arith, brings, describes, end_with_body, ends_formality, false, is_unsure, num, tells_unit, true, unit_found, ℕ, ◌%◌, ◌/◌, ◌<◌, ◌^◌, ◌≡◌, ◌⊎◌}
 use Rattle.mscp_logged.proofs.Texts.{text_with}
 
 -- ---- a text
@@ -25,11 +25,7 @@ module _ (h : Hardware) (units : List Shape) (e : End) (d : Decided) where
 
   -- the unit that it names
   pub text_unit : e.unit < 2 ^ 16 → num (text_with h units e d) 4 2 ≡ e.unit
-  text_unit small = by (ends_formality d.code)
-    where
-      by : (b : Bool) → num (cond b (head e.reference e.unit d.code d.status) (end_with_body e.body e d o h)) 4 2
-          ≡ e.unit
-      by b = grind arith
+  text_unit small = grind arith
 
 -- ---- a unit
 
