@@ -66,9 +66,10 @@ module _ {K : Type 0} (Tie : List ℕ → List ℕ → Type 0) (G O : Type 0) {p
     calm : (ms : History) (xs : List (List ℕ)) → messages_by call a.0 ≡ ms → begins a.0.outgoing p.outgoing ≡ []
         → awaited picks start p (call ∷ calls) a ≡ xs → Stated Tie G O (h ++ ms) xs (held a.0)
         → State p (call ∷ calls) a
-    calm ms xs e none f x = as_it_is Tie G O ((h ++ ms) ++ flat_map ends_in (leaves a.0.outgoing p.outgoing)) xs (logged picks start p (call ∷ calls) a)
+    calm ms xs e none f x = as_it_is Tie G O _ xs (logged picks start p (call ∷ calls) a)
         (awaited picks start p (call ∷ calls) a) (held p) (held p) (log_is is ms e) f refl
-        (left Tie G O (h ++ ms) xs a.0.outgoing p.outgoing x none (same_held run tell p call calls is.asks a is.never is.lives))
+        (left Tie G O (h ++ ms) xs a.0.outgoing p.outgoing x none
+        (same_held run tell p call calls is.asks a is.never is.lives))
 
     -- or something does
     begun : (ms : History) (xs : List (List ℕ)) (o : Outgoing) → messages_by call a.0 ≡ ms → a.0.outgoing ≡ None
@@ -118,9 +119,10 @@ module _ {K : Type 0} (Tie : List ℕ → List ℕ → Type 0) (G O : Type 0) {p
             let shown : messages_by call a.0 ≡ message_of q.message ∷ [] =
             ap (λ b. cond b [] (map message_of (accepted_by call a.0))) task ∙ ap (map message_of) q.accepted in
             begun (message_of q.message ∷ []) aw q.out shown q.nothing q.begun still
-            (answers Tie G O h aw (said_in q.out) q.message (none_out q.nothing) (is_new_now is limit host q.message shown)
-            (own_named a.0 q.message q.out own small) (tie_own a.0 q.message q.out small own kind) kind
-            (late_own a.0 q.message q.out own kind) (turn_own p call calls is.reads fine a q own kind))
+            (answers Tie G O h aw (said_in q.out) q.message (none_out q.nothing)
+            (is_new_now is limit host q.message shown) (own_named a.0 q.message q.out own small)
+            (tie_own a.0 q.message q.out small own kind) kind (late_own a.0 q.message q.out own kind)
+            (turn_own p call calls is.reads fine a q own kind))
 
     pub deals_so : Deals aw call a.0 p → State p (call ∷ calls) a
     deals_so (inl q) = calm [] aw (none_by is q.accepted) q.begun (awaited_is is [] [] q.ended q.taken ∙ append-nil aw)

@@ -70,14 +70,7 @@ pub own_fit : (c : Settings) (online : Bool) (figure : ℕ) (k : Command) → is
 own_fit c online figure k q h l = own_fit_with c online figure k (fault_of c k) refl q h l
 
 pub aborted_fit : (c : Settings) (k : Command) (good : ℕ) → IsSmallCommand k → IsFit c (aborted_end k good)
-aborted_fit c k good h = record {
-  reference = h.reference;
-  unit = h.unit;
-  status = omega arith;
-  body = moved_fit k.order good h.order;
-  tells = λ z. absurd (omega (arith, z));
-  controls = λ z. absurd (omega (arith, z));
-}
+aborted_fit c k good h = grind arith
 
 pub served_fit : (c : Settings) (online : Bool) (k : Command) (good : ℕ) (block : Block) → is_queued c k ≡ true
     → IsSmallCommand k → IsFault block → IsFit c (outcome_of c online k good block)

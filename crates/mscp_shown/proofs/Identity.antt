@@ -1,5 +1,5 @@
 -- What an end tells of its unit, and how the rules of the wire read it.
-use Rattle.mscp_shown.proofs.Common.{Answer, Away, BodyKind, Bool, Connection, End, EndBody, History, Identity, IsOfKind, List, None, Noted, Open, Option, Sent, Settings, Shape, Some, State, Told, agrees, and_parts, answer_by, ap, arith, brings, end_bytes, eq-eqb, eqb-true, false, fits, if◌then◌else◌, is_known_unit, is_same_unit, is_single, is_unsure, kind_of_body, kind_of_code, later_of, learns, leaves, little_bytes, nat_eq, not, noted_other, noted_own, num, refl, says_away, status_code, subst, sym, tells_unit, told, told_after_end, told_after_message, true, turned, unit_shape, was_online, ℕ, ◌%◌, ◌&&◌, ◌||◌, ◌∙◌, ◌≡◌}
+use Rattle.mscp_shown.proofs.Common.{Answer, Away, BodyKind, Bool, Connection, End, EndBody, History, Identity, IsOfKind, List, None, Noted, Open, Option, Sent, Settings, Shape, Some, State, Told, agrees, and_parts, answer_by, ap, arith, brings, end_bytes, eq-eqb, eqb-true, false, fits, if◌then◌else◌, is_known_unit, is_same_unit, is_single, kind_of_body, kind_of_code, later_of, learns, leaves, little_bytes, nat_eq, not, noted_other, noted_own, num, refl, says_away, status_code, subst, sym, tells_unit, told, told_after_end, told_after_message, true, turned, unit_shape, was_online, ℕ, ◌%◌, ◌&&◌, ◌||◌, ◌∙◌, ◌≡◌}
 use Rattle.mscp_packet.specs.declared.end.BodyKind.TheVariants as kinds
 use Rattle.mscp_packet.specs.declared.end.EndBody.TheVariants as bodies
 use Rattle.mscp_wire.specs.Wire.{same_connection}
@@ -203,8 +203,4 @@ same_right s was a known tells = by_identity was.identity known
   where
     by_identity : (o : Option Identity) → ((i : Identity) → o ≡ Some i → IsOf s i) → is_known_unit o a ≡ true
     by_identity None k = refl
-    by_identity (Some j) k = by_tells (tells_unit a) tells
-      where
-        by_tells : (b : Bool) → (b ≡ true → HasOf s a.identity)
-            → (not b || is_unsure a || agrees a.identity j) ≡ true
-        by_tells b f = grind (arith, agrees_same)
+    by_identity (Some j) k = grind (arith, agrees_same)

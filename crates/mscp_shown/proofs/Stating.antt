@@ -1,8 +1,8 @@
 -- What hosts are told of the states of units suits what the ends that they haven't taken yet say.
-use Rattle.mscp_shown.proofs.Common.{AllByRecursion, Answer, Away, Bool, Connection, End, History, List, None, Open, Settings, Shared, State, Told, [], after_other, answer_by, ap, append-nil, append_assoc, arith, brings, end_bytes, false, if◌then◌else◌, nat_eq, not, refl, says_away, says_online, sent_by, subst, suits_state, sym, told, told_after_end, told_after_message, true, turned, unit, ℕ, ⊎_elim, ◌&&◌, ◌++◌, ◌||◌, ◌∙◌, ◌∷◌, ◌≡◌, ◌⊎◌}
+use Rattle.mscp_shown.proofs.Common.{AllByRecursion, Answer, Away, Bool, Connection, End, History, List, None, Open, Settings, Shared, State, Told, [], after_other, answer_by, append-nil, append_assoc, arith, brings, end_bytes, false, if◌then◌else◌, nat_eq, not, refl, says_away, sent_by, subst, suits_state, sym, told, told_after_end, told_after_message, true, turned, unit, ℕ, ⊎_elim, ◌&&◌, ◌++◌, ◌||◌, ◌∙◌, ◌∷◌, ◌≡◌, ◌⊎◌}
 use Rattle.mscp_wire.specs.Wire as wire
 use Rattle.mscp_shown.proofs.Effects.{Effects, away_of, brings_of, online_of}
-use Rattle.mscp_shown.proofs.Reading.{IsFit, reads}
+use Rattle.mscp_shown.proofs.Reading.{IsFit}
 
 -- ---- ends
 -- the state of a unit once an end of its own was told
@@ -124,13 +124,7 @@ module _ (c : Settings) (own : Connection) (e : End) (fit : IsFit c e) where
   -- what it says suits the state that was told
   pub fits_read : (t : Told) → fits_state t.state (online_of e.code e.status) ≡ true
       → suits_state t.state a ≡ true
-  fits_read t h =
-      let r = reads c own e fit in
-      by_state t.state (ap (λ k. online_of k a.status) r.code ∙ ap (online_of e.code) r.status) h
-    where
-      by_state : (s : State) → says_online a ≡ online_of e.code e.status
-          → fits_state s (online_of e.code e.status) ≡ true → suits_state s a ≡ true
-      by_state s same h = grind arith
+  fits_read t h = grind arith
 
 -- what a host was told of a unit is that it is shared
 abbrev pub IsShared : History → Connection → ℕ → Type 0

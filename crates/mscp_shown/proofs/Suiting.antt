@@ -1,5 +1,5 @@
 -- The ends that a controller makes suit their commands.
-use Rattle.mscp_shown.proofs.Common.{Bad, Block, Bool, Command, End, EndBody, Good, MoveKind, None, Option, Order, Sent, Settings, Shape, Some, aborted_end, arith, cond, endcode, false, fault_of, goes_on, is_good_block, is_immediate, is_queued, may_have, min, move_byte, move_fault, nat_tests, order_fault, order_weight, outcome_body, outcome_of, outcome_status, own_end, own_end_with, queued_open, refl, refused_body, touches, true, true≢false, unit_shape, ℕ, ◌%◌, ◌&&◌, ◌*◌, ◌+◌, ◌-◌, ◌<◌, ◌^◌, ◌≡◌, ◌≢◌, ◌≤◌, ◌⊎◌}
+use Rattle.mscp_shown.proofs.Common.{Bad, Block, Bool, Command, End, EndBody, Good, MoveKind, None, Option, Order, Sent, Settings, Shape, Some, aborted_end, arith, cond, endcode, false, fault_of, goes_on, is_good_block, is_immediate, is_queued, may_have, move_fault, nat_tests, order_fault, order_weight, outcome_body, outcome_of, outcome_status, own_end, own_end_with, queued_open, refl, refused_body, touches, true, unit_shape, ℕ, ◌%◌, ◌&&◌, ◌+◌, ◌-◌, ◌<◌, ◌^◌, ◌≡◌, ◌≢◌, ◌≤◌, ◌⊎◌}
 use Rattle.mscp_packet.specs.declared.command.Order.TheVariants as orders
 use Rattle.mscp_shown.proofs.Saying.{Says}
 use Rattle.mscp_shown.proofs.Suited.{IsFine, Suits}
@@ -48,10 +48,7 @@ own_with c online figure k (Some status) e h = record {
 -- the end of a command that isn't queued
 pub own_ends : (c : Settings) (online : Bool) (figure : ℕ) (k : Command) → is_queued c k ≡ false
     → Ends k (own_end c online figure k)
-own_ends c online figure k h = own_with c online figure k (fault_of c k) refl (λ e. immediate e)
-  where
-    immediate : fault_of c k ≡ None → is_immediate k.order ≡ true
-    immediate e = grind (arith, true≢false)
+own_ends c online figure k h = grind (arith, own_with)
 
 -- ---- aborted
 -- ---- served
@@ -59,9 +56,6 @@ own_ends c online figure k h = own_with c online figure k (fault_of c k) refl (�
 abbrev pub IsFault : Block → Type 0
 IsFault Good = Unit {0}
 IsFault (Bad status) = (status < 2 ^ 16) × (5 ≤ status % 32) × (status % 32 ≤ 11)
-
-fault_of_move : (kind : MoveKind) (code : ℕ) → 5 ≤ code → code ≤ 11 → may_have (move_byte kind) code ≡ true
-fault_of_move kind code low high = grind (arith, nat_tests)
 
 fault_of_online : (code : ℕ) → 5 ≤ code → code ≤ 11 → may_have 9 code ≡ true
 fault_of_online code low high = grind (arith, nat_tests)
@@ -75,13 +69,7 @@ module _ (shape : Shape) (good done : ℕ) (same : good ≡ done) where
       → let o = orders.Move kind count block in
       let status = outcome_status online o k in
       Suits o status (outcome_body shape status o (good + cond (touches online o && is_good_block k) 1 0))
-  move_ends kind count block true (Bad status) fault last = (
-    fault_of_move kind (status % 32) fault.1 fault.2,
-    min count (512 * (good + 0)),
-    refl,
-    omega arith,
-    λ z. absurd (omega (arith, z, fault.1)),
-  )
+  move_ends kind count block true (Bad status) fault last = grind arith
   move_ends kind count block online k fault last = grind arith
 
   pub outcome_suits : (online : Bool) (o : Order) (k : Block) → IsFault k → is_immediate o ≡ false
