@@ -166,13 +166,10 @@ module _ {K : Type 0} {picks : Picking K} (run : Begun picks) (keeping : IsKeepi
           record {
             comes = ap (λ xs. xs ++ now) (begun_other q.out q.nothing q.begun kinds.End kind)
                 ∙ ap (λ xs. q.out.bytes.items ∷ xs) is_none ∙ sym (ap (λ xs. xs ++ q.out.bytes.items ∷ []) was_none);
-            told = λ u. subst (λ b. IsTold u (unit_found c.units u) (volume_found c.units a.0.volumes u)
-                (volume_found c.units p.volumes u) b) (sym own.own.2)
-                (own_told u (unit_found c.units u) (volume_named a.0 q.message) q.message own.own.0 answered
-                (still u));
-            placed = λ f u. subst (λ b. IsPlaced u (volume_found c.units a.0.volumes u)
-                (volume_found c.units p.volumes u) b) (sym own.own.2)
-                (own_placed u (volume_named a.0 q.message) q.message own.own.0 answered (still u));
+            told = λ u. rw own.own.2 (own_told u (unit_found c.units u) (volume_named a.0 q.message) q.message own.own.0
+                answered (still u));
+            placed = λ f u. rw own.own.2 (own_placed u (volume_named a.0 q.message) q.message own.own.0 answered (still
+                u));
           },
         )
           where

@@ -1,5 +1,5 @@
 -- A message as it is handed over says what it says itself, but for its unit.
-use Rattle.mscp_logged.proofs.Common.{AreBytes, Bool, First, IsLong, IsText, List, Order, Says, Sent, Shape, arith, asks_for_next, command_of, cond, drop, endcode, false, handed, is_formality, length, little_bytes, next_unit, num, sent_by, sent_long, sent_says, slice_index, stand_in, subst, suc, sym, take, true, zero, ℕ, ◌%◌, ◌++◌, ◌/◌, ◌<◌, ◌^◌, ◌∷◌, ◌≡◌, ◌≤◌}
+use Rattle.mscp_logged.proofs.Common.{AreBytes, Bool, First, IsLong, IsText, List, Order, Says, Sent, Shape, arith, asks_for_next, command_of, cond, drop, endcode, false, handed, is_formality, length, little_bytes, next_unit, num, sent_by, sent_long, sent_says, slice_index, suc, take, true, zero, ℕ, ◌%◌, ◌++◌, ◌/◌, ◌<◌, ◌^◌, ◌∷◌, ◌≡◌, ◌≤◌}
 
 -- the command of a message, of which this is the unit
 abbrev pub of_unit : List ℕ → ℕ → Sent
@@ -47,20 +47,17 @@ module _ (units : List Shape) (t : List ℕ) (is : IsText t) (plain : is_formali
   handed_same = grind arith
 
   pub handed_bytes : AreBytes b
-  handed_bytes = subst (λ c. AreBytes (cond c (stand_in t) (cond (asks_for_next t)
-      (renamed t (next_unit units (num t 4 2))) t))) (sym plain) (by (asks_for_next t))
+  handed_bytes = rw plain (by (asks_for_next t))
     where
       by : (c : Bool) → AreBytes (cond c (renamed t (next_unit units (num t 4 2))) t)
       by true i low = renamed_bytes t (next_unit units (num t 4 2)) is.long is.small i
       by false i low = is.small i
 
   pub handed_says : (unit : ℕ) → Says (command_of b).order (of_unit t unit)
-  handed_says unit = says_any (command_of b).order t (num b 4 2) unit
-      (subst (λ s. Says (command_of b).order s) handed_same (sent_says First b))
+  handed_says unit = says_any (command_of b).order t (num b 4 2) unit (rw (← handed_same) (sent_says First b))
 
   pub handed_long : (unit : ℕ) → IsLong (command_of b).order (of_unit t unit)
-  handed_long unit = long_any (command_of b).order t (num b 4 2) unit
-      (subst (λ s. IsLong (command_of b).order s) handed_same (sent_long First b))
+  handed_long unit = long_any (command_of b).order t (num b 4 2) unit (rw (← handed_same) (sent_long First b))
 
 -- what stands in for a formality has the endcode of an ACCESS
 pub stood_code : (units : List Shape) (t : List ℕ) → 12 ≤ length t → is_formality (slice_index t 8) ≡ true

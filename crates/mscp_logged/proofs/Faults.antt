@@ -1,6 +1,6 @@
 -- What a controller is told of a step is what a drive may tell, and a unit that isn't online ends no other command
 -- than a transfer.
-use Rattle.mscp_logged.proofs.Common.{Bool, Buffer, Err, IsBegunStep, IsFault, IsFaultTold, IsHow, List, MoveKind, Name, None, Ok, Option, Order, Outcome, Port, Record, Result, Some, Task, Upcoming, Verdict, Volume, arith, begun_step, block_begun, block_served, block_told, changed_verdict, cond, drive_of, faulted, find, has_name, inl, inr, is_move, known_task, move_of, move_task, moved_by, moved_step, option_map, part_at, part_served, part_task, part_with, place_in, refl, subst, sym, task_of, true, upcoming_of, ℕ, ◌%◌, ◌<◌, ◌^◌, ◌≡◌, ◌≤◌}
+use Rattle.mscp_logged.proofs.Common.{Bool, Buffer, Err, IsBegunStep, IsFault, IsFaultTold, IsHow, List, MoveKind, Name, None, Ok, Option, Order, Outcome, Port, Record, Result, Some, Task, Upcoming, Verdict, Volume, arith, begun_step, block_begun, block_served, block_told, changed_verdict, cond, drive_of, faulted, find, has_name, inl, inr, is_move, known_task, move_of, move_task, moved_by, option_map, part_at, part_served, part_task, part_with, place_in, refl, subst, sym, task_of, true, upcoming_of, ℕ, ◌%◌, ◌<◌, ◌^◌, ◌≡◌, ◌≤◌}
 use Rattle.mscp_drive.specs.declared.block.Block.TheVariants as blocks
 use Rattle.mscp_port.specs.declared.task.Task.TheVariants as tasks
 use Rattle.mscp_port.specs.declared.verdict.Verdict.TheVariants as verdicts
@@ -89,8 +89,7 @@ module _ {K : Type 0} (old : Port K) (outcome : Outcome) (told : IsFaultTold out
   step_is_fine verdict at = grind (arith, begun_is, known_fine)
 
   moved_is_fine : IsToldOf (block_served old outcome (block_begun old)) r
-  moved_is_fine = subst (λ o. IsToldOf (block_served old outcome
-      (moved_step o)) r) (sym begun_is) (by (move_of u) refl)
+  moved_is_fine = rw begun_is (by (move_of u) refl)
     where
       served : (part : Result (ℕ × ℕ) Verdict) → IsFineOr r.command.order part → IsToldOf (part_served outcome part) r
       served part fine = grind arith

@@ -32,12 +32,9 @@ of_sequential r t of e = by (is_formality (slice_index t 8)) refl
   where
     by : (b : Bool) → is_formality (slice_index t 8) ≡ b → queue.is_sequential r.command.order ≡ true
     by true formal = absurd (false≢true (sym (formal_free (slice_index t 8) formal) ∙ e))
-    by false plain = subst (λ k. queue.is_sequential k.order ≡ true) (sym of.command)
-        (says_sequential (command_of (handed of.settings.units t)).order (of_unit t 0)
-        (handed_says of.settings.units t of.message plain 0)
-        (subst (λ k. (byte why : ℕ) → k.order ≢ orders.Invalid byte why) of.command
-        (valid_order of.settings r.command.unit r.command.order
-        (queued_open of.settings r.command of.queued).sound)) e)
+    by false plain = rw of.command (says_sequential (command_of (handed of.settings.units t)).order (of_unit t 0)
+        (handed_says of.settings.units t of.message plain 0) (rw (← of.command) (valid_order of.settings r.command.unit
+        r.command.order (queued_open of.settings r.command of.queued).sound)) e)
 
 -- ---- who keeps whom back
 
@@ -124,16 +121,14 @@ module _ (rs xs : List Record) (r0 : Record) (ys : List Record) (whole : rs ≡ 
       in_front = elim (other_one (is_numbered a) xs ys r0 earlier.own
           (ap (filter (is_numbered a)) (sym whole) ∙ earlier.sole) (apart (is_numbered a r0) refl)) [
             | inl h ↦ h.0
-            | inr h ↦ absurd (some_none earlier.own [] (sym h.1
-                ∙ behind_is a n xs r0 ys (subst (λ zs. NoneBehind a n zs) whole behind) mine))
+            | inr h ↦ absurd (some_none earlier.own [] (sym h.1 ∙ behind_is a n xs r0 ys (rw (← whole) behind) mine))
           ]
 
       by : (b : Bool) → keeps t u ≡ b → keeps t u ≡ false
       by false e = e
-      by true e = absurd (false≢true (sym (ap not (kept_fences r0 earlier.own t u
-          (subst (λ z. IsUnitIn z.command.unit t) (sym is_later) later.unit)
-          (subst (λ z. IsOf z t) (sym is_later) later.of) earlier.unit earlier.of e))
-          ∙ all_sole (λ z. not (fences r0 z)) (is_numbered a) xs earlier.own free in_front))
+      by true e = absurd (false≢true (sym (ap not (kept_fences r0 earlier.own t u (rw is_later later.unit) (rw is_later
+          later.of) earlier.unit earlier.of e)) ∙ all_sole (λ z. not (fences r0 z)) (is_numbered a) xs earlier.own free
+          in_front))
 
   pub serves_free : (ts : List (List ℕ)) → InOrder ts rs → AllByRecursion (IsWaiting rs) ts → overtakes n ts ≡ false
   serves_free [] order all = refl

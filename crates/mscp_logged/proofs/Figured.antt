@@ -6,7 +6,7 @@ use Rattle.mscp_logged.proofs.Figuring.{coming, ending_lowers, lowers_by, not_po
 use Rattle.mscp_logged.proofs.Figures.{Figured, apart_from, begun_of, end_figured, figured_as, four_is, goes_on, message_comes, no_step, out_of, takes_poll}
 use Rattle.mscp_logged.proofs.Logging.{small_of}
 use Rattle.mscp_logged.proofs.Own.{IsOwn, answers_so, of_disk, own_named}
-use Rattle.mscp_logged.proofs.Polled.{AreFigured, IsFigured, Lowers, figure_of}
+use Rattle.mscp_logged.proofs.Polled.{IsFigured, Lowers, figure_of}
 use Rattle.mscp_logged.proofs.Seen.{reads_before}
 use Rattle.mscp_logged.proofs.Walking.{IsCall, awaited_is, host_before, is_new_now, log_is, none_by, walk}
 use Rattle.mscp_logged.proofs.Stated.{Stated, as_it_is, takes, new_none}
@@ -145,9 +145,8 @@ module _ {K : Type 0} (Tie : List ℕ → List ℕ → Type 0) (G O : Type 0) (c
     come_in : (t : List ℕ) → AllByRecursion (IsFigured (xs ++ asking (timeout h) xs (timed None (sent_by First t)) ∷ [])
         (coming a.0 ++ passing.more) (figure_on p) S')
         (xs ++ asking (timeout h) xs (timed None (sent_by First t)) ∷ []) → Mid (message_of t ∷ [])
-    come_in t now = message_comes h t (coming a.0) (coming a.0 ++ passing.more) (figure_on a.0) (figure_on p) S S' f
-        (subst (λ zs. AreFigured zs (coming a.0 ++ passing.more) (figure_on p) S')
-        (sym (outstanding_more h (message_of t))) now)
+    come_in t now = message_comes h t (coming a.0) (coming a.0 ++ passing.more) (figure_on a.0) (figure_on p) S S' f (rw
+        (outstanding_more h (message_of t)) now)
 
     taking : IsTaking call a.0 p → Known p (call ∷ calls) a
     taking q = calm (message_of q.message ∷ []) (aw ++ q.message ∷ []) shown q.begun

@@ -112,8 +112,7 @@ module _ {K : Type 0} (Tie : List ℕ → List ℕ → Type 0) (call : Call) (ol
   ending_lowers m head begun number is n = by (nat_eq m n) refl
     where
       by : (b : Bool) → nat_eq m n ≡ b → Lowers F S F' S' n
-      by true same low = absurd ((holds' n).waits low (ap (filter (has_number n)) is
-          ∙ subst (λ k. filter (has_number k) (filter (λ t. not (has_number m t)) aw) ≡ []) (eqb-true m n same)
+      by true same low = absurd ((holds' n).waits low (ap (filter (has_number n)) is ∙ rw (← eqb-true m n same)
           (none_of_it (has_number m) aw)))
       by false apart low = grind (arith, lowers_by, sole_left, other_number)
 

@@ -1,5 +1,5 @@
 -- Behind a message that a port read no end that waits has passed a command that it had to wait for.
-use Rattle.mscp_logged.proofs.Common.{All, AllByRecursion, Answers, Bool, Command, Decided, End, First, Fitting, Gets, Hears, Holdings, IsNoReset, IsNothing, IsText, IsValid, Kept, List, None, Ok, Option, Order, Port, Queues, Record, Settings, Some, Verdict, WasRead, [], aborted_record, answer_decided, answer_ends, answer_told, answered_code, answered_end, ap, apart_numbers, arith, bare_same, command_of, decided_code, drive_of, end_named, ends_formality, ends_of, eq-eqb, eqb-true, false, figure_polled, filter, formal_queued, fresh_record, handed, handed_coded, has_number, inl, inr, is_apart, is_formality, is_immediate, is_numbered, is_of, is_some, its_own, map, nat_eq, no_other, no_such, none_of_it, not, num, option_map, option_to_list, or_right, order_fault, queued_open, read_is, record_aborted, refl, since, slice_index, sole_left, some_none, status_told, subst, sym, taken_by, true, unaborted, unit_found, ℕ, ◌%◌, ◌++◌, ◌<◌, ◌^◌, ◌||◌, ◌∙◌, ◌∷◌, ◌≡◌, ◌⊎◌}
+use Rattle.mscp_logged.proofs.Common.{All, AllByRecursion, Answers, Bool, Command, Decided, End, First, Fitting, Gets, Hears, Holdings, IsNoReset, IsNothing, IsText, IsValid, Kept, List, None, Ok, Option, Order, Port, Queues, Record, Settings, Some, Verdict, WasRead, [], aborted_record, answer_decided, answer_ends, answer_told, answered_code, answered_end, ap, apart_numbers, arith, bare_same, command_of, decided_code, drive_of, end_named, ends_formality, ends_of, eq-eqb, eqb-true, false, figure_polled, filter, formal_queued, fresh_record, handed, handed_coded, has_number, inl, inr, is_apart, is_formality, is_immediate, is_numbered, is_of, is_some, its_own, map, nat_eq, no_other, no_such, none_of_it, not, num, option_map, option_to_list, or_right, order_fault, queued_open, read_is, record_aborted, refl, since, slice_index, sole_left, some_none, status_told, sym, taken_by, true, unaborted, unit_found, ℕ, ◌%◌, ◌++◌, ◌<◌, ◌^◌, ◌||◌, ◌∙◌, ◌∷◌, ◌≡◌, ◌⊎◌}
 use Rattle.mscp_packet.specs.declared.command.Order.TheVariants as orders
 use Rattle.mscp_drive.specs.declared.block.Block.TheVariants as blocks
 use Rattle.mscp_port.specs.declared.verdict.Verdict.TheVariants as verdicts
@@ -28,9 +28,7 @@ module _ (rs : List Record) where
   left_before (orders.Abort m) n r e = by (nat_eq m n) refl
     where
       by : (b : Bool) → nat_eq m n ≡ b → filter (is_numbered n) rs ≡ r ∷ []
-      by true is = absurd (some_none r [] (sym e
-          ∙ subst (λ j. filter (is_numbered j) (filter (λ r. not (is_numbered m r)) rs) ≡ []) (eqb-true m n is)
-          (none_of_it (is_numbered m) rs)))
+      by true is = absurd (some_none r [] (sym e ∙ rw (← eqb-true m n is) (none_of_it (is_numbered m) rs)))
       by false is = grind (arith, sole_left, apart_numbers)
   left_before order n r e = e
 
@@ -72,15 +70,12 @@ module _ {c : Settings} {Told : Verdict → Record → Type 0} {K : Type 0} (byt
 
     -- it is queued
     queued_so : Queues g.slot bytes old new → Fits
-    queued_so q =
-        ordered_as c (aw ++ bytes ∷ []) (h.waiting ++ fresh_record First command ∷ []) new.controller.waiting
-        (ends_of h) (ends_of new.controller) old.decided.items new.decided.items
-        (ap (λ (x : Holdings K). x.waiting) q.holds) (ap (λ (x : Holdings K). ends_of x) q.holds) q.sends.decided
-        (ordered_queued c aw h.waiting (ends_of h) old.decided.items o bytes no_end (fresh_record First command)
-        nothing.1 (none_any (has_number n) aw nothing.0) (its_own g k) (no_other g k) refl
-        (subst (λ s. is_some (unit_found s.units command.unit) ≡ true) settings
-        (known_unit h.settings command.unit command.order (queued_open h.settings command q.later).waits
-        (queued_open h.settings command q.later).sound)))
+    queued_so q = ordered_as c (aw ++ bytes ∷ []) (h.waiting ++ fresh_record First command ∷ []) new.controller.waiting
+        (ends_of h) (ends_of new.controller) old.decided.items new.decided.items (ap (λ (x : Holdings K). x.waiting)
+        q.holds) (ap (λ (x : Holdings K). ends_of x) q.holds) q.sends.decided (ordered_queued c aw h.waiting (ends_of h)
+        old.decided.items o bytes no_end (fresh_record First command) nothing.1 (none_any (has_number n) aw nothing.0)
+        (its_own g k) (no_other g k) refl (rw (← settings) (known_unit h.settings command.unit command.order
+        (queued_open h.settings command q.later).waits (queued_open h.settings command q.later).sound)))
 
     -- or it is answered at once
     module _ (a : Answers g.slot bytes old new) where

@@ -53,12 +53,9 @@ module _ {K : Type 0} (bytes : List ℕ) (done : Unit) (old new : Port K) (aw : 
 
     decided : (e : End) → IsDecided c.units (verdicts.Served blocks.Good) (volume_found c.units new.volumes e.unit)
         (volume_found c.units new.volumes e.unit) e (answer_by old new e)
-    decided e = subst (λ s. IsDecided s.units (verdicts.Served blocks.Good)
-        (volume_found s.units new.volumes e.unit) (volume_found s.units new.volumes e.unit) e (answer_by old new e))
-        now (decided_so new.controller.settings.units (verdicts.Served blocks.Good)
-        (volume_found new.controller.settings.units new.volumes e.unit)
-        (volume_found new.controller.settings.units new.volumes e.unit) e
-        (kept_of First e.reference old.buffers.items) new.flags)
+    decided e = rw (← now) (decided_so new.controller.settings.units (verdicts.Served blocks.Good) (volume_found
+        new.controller.settings.units new.volumes e.unit) (volume_found new.controller.settings.units new.volumes
+        e.unit) e (kept_of First e.reference old.buffers.items) new.flags)
 
     abbrev W : ℕ → Volume
     W u = volume_found c.units new.volumes u
@@ -116,12 +113,8 @@ module _ {K : Type 0} (bytes : List ℕ) (done : Unit) (old new : Port K) (aw : 
             ∙ texts_more hw c.units (ends_of h)
             (aborted (record_aborted First h.waiting command.order) ++ own ∷ []) old.decided.items
             (answer_by old new) long;
-        told = λ u. subst (λ vs. Each (IsTold u (unit_found c.units u)) (volume_found c.units vs u) (W u)
-            (map text (aborted (record_aborted First h.waiting command.order) ++ own ∷ []))) volumes
-            (told_so (record_aborted First h.waiting command.order) u);
-        placed = λ f u. subst (λ vs. Each (IsPlaced u) (volume_found c.units vs u) (W u)
-            (map text (aborted (record_aborted First h.waiting command.order) ++ own ∷ []))) volumes
-            (placed_so (record_aborted First h.waiting command.order) u);
+        told = λ u. rw (← volumes) (told_so (record_aborted First h.waiting command.order) u);
+        placed = λ f u. rw (← volumes) (placed_so (record_aborted First h.waiting command.order) u);
       },
       λ taken. absurd (search (arith, sym g.taken ∙ taken)),
     )

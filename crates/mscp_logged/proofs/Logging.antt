@@ -1,5 +1,5 @@
 -- What is known of a port's log, over a whole list of calls.
-use Rattle.mscp_logged.proofs.Common.{AllByRecursion, Answered, AsksAlways, Bool, Call, Deals, History, HostIsRight, IsAnswering, IsEnding, IsTaking, List, None, Ok, Option, Outgoing, Picking, Port, PortsEndWhatTheyTook, PortsTellInOrder, ReadsBytes, Said, Some, WasRead, [], aborts_behind, accepted_by, ap, append-nil, arith, awaited, begins, cond, end_kind, ends_in, false, filter, flat_map, has_number, held, inl, inr, is_foreign, leaves, logged, map, message_of, messages_by, not, num, refl, said_in, slice_index, subst, sym, taken_by, true, ℕ, ◌%◌, ◌++◌, ◌<◌, ◌^◌, ◌∙◌, ◌∷◌, ◌≡◌}
+use Rattle.mscp_logged.proofs.Common.{AllByRecursion, Answered, AsksAlways, Bool, Call, Deals, History, HostIsRight, IsAnswering, IsEnding, IsTaking, List, None, Ok, Option, Outgoing, Picking, Port, PortsEndWhatTheyTook, PortsTellInOrder, ReadsBytes, Said, Some, WasRead, [], aborts_behind, accepted_by, ap, append-nil, arith, awaited, begins, cond, end_kind, false, filter, has_number, held, inl, inr, is_foreign, logged, map, message_of, messages_by, not, num, refl, said_in, slice_index, subst, sym, taken_by, true, ℕ, ◌%◌, ◌++◌, ◌<◌, ◌^◌, ◌∙◌, ◌∷◌, ◌≡◌}
 use Rattle.mscp_logged.proofs.Begun.{Begun, nothing_held, same_held}
 use Rattle.mscp_port.specs.declared.port.OutgoingKind.TheVariants as kinds
 use Rattle.mscp_logged.proofs.Own.{IsOwn, answers_so, own_named}

@@ -15,9 +15,8 @@ found_as units u vs ws was = grind arith
 set_as : (vs : List Volume) (q : ℕ) (x : Volume) → IsAsWas (volume_at vs q) x → AreAsWere vs (set vs q x)
 set_as vs q x was place = elim (cases_eq place q) [
   | inl same ↦ elim (cases_lt place (length vs)) [
-    | inl within ↦ subst (λ w. IsAsWas (volume_at vs place) w)
-        (sym (ap (λ i. volume_at (set vs i x) place) (sym same) ∙ get_or-set_same vs place x no_volume within))
-        (subst (λ i. IsAsWas (volume_at vs i) x) (sym same) was)
+    | inl within ↦ rw (ap (λ i. volume_at (set vs i x) place) (sym same) ∙ get_or-set_same vs place x no_volume within)
+        (rw same was)
     | inr past ↦ λ is. absurd (false≢true (sym (ap (λ (v : Volume). v.is_mounted)
         (get_or_past (set vs q x) place no_volume (search (arith, past, length-set vs q x)))) ∙ is))
   ]
@@ -86,9 +85,8 @@ set_same : (vs : List Volume) (q place : ℕ) (x : Volume) → IsSame (volume_at
     → IsSame (volume_at vs place) (volume_at (set vs q x) place)
 set_same vs q place x same = elim (cases_eq place q) [
   | inl here ↦ elim (cases_lt place (length vs)) [
-    | inl within ↦ subst (λ w. IsSame (volume_at vs place) w)
-        (sym (ap (λ i. volume_at (set vs i x) place) (sym here) ∙ get_or-set_same vs place x no_volume within))
-        (subst (λ i. IsSame (volume_at vs i) x) (sym here) same)
+    | inl within ↦ rw (ap (λ i. volume_at (set vs i x) place) (sym here) ∙ get_or-set_same vs place x no_volume within)
+        (rw here same)
     | inr past ↦ alike (volume_at vs place) (volume_at (set vs q x) place)
         (get_or_past (set vs q x) place no_volume (search (arith, past, length-set vs q x))
         ∙ sym (get_or_past vs place no_volume (search (arith, past))))

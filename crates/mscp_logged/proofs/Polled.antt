@@ -129,8 +129,7 @@ module _ (F : ℕ → ℕ) (S : ℕ → Type 0) (F' : ℕ → ℕ) (S' : ℕ →
     where
       by : (b : Bool) → IsRight (cond b Nothing (asked_about timeout xs y (find (is_named y.connection other) xs)))
       by true = nothing_right
-      by false = subst (λ v. IsRight (asked_about timeout xs y (find (is_named v other) xs))) (sym via)
-          (about_right y (find (named other) xs) refl)
+      by false = rw via (about_right y (find (named other) xs) refl)
 
 -- ---- an end leaves
 

@@ -1,5 +1,5 @@
 -- What was told of a unit, as a log tells it, is borne out by the ends in the log, and by those that are still to come.
-use Rattle.mscp_logged.proofs.Common.{Away, Bool, First, History, Identity, List, Moment, None, Option, Shape, Some, State, Told, Volume, [], answer_by, ap, append-nil, append_assoc, arith, cond, each_push, end_of, eq-eqb, false, fold_push, is_known_unit, is_same_unit, length, map, message_of, moment_at, not, num, outstanding, refl, sent_by, settles, standing_after, standing_first, subst, suits_state, sym, take, told, told_after, told_after_message, told_nothing, true, unit_before, unit_found, volume_found, ℕ, ◌++◌, ◌<◌, ◌∙◌, ◌∷◌, ◌≡◌}
+use Rattle.mscp_logged.proofs.Common.{Away, Bool, First, History, Identity, List, Moment, None, Option, Shape, Some, State, Told, Volume, [], answer_by, ap, append-nil, append_assoc, arith, cond, each_push, end_of, eq-eqb, false, fold_push, is_known_unit, is_same_unit, length, map, message_of, moment_at, not, num, outstanding, refl, sent_by, settles, standing_after, standing_first, suits_state, sym, take, told, told_after, told_after_message, told_nothing, true, unit_before, unit_found, volume_found, ℕ, ◌++◌, ◌<◌, ◌∙◌, ◌∷◌, ◌≡◌}
 use Rattle.mscp_wire.specs.declared.moment.Moment.TheVariants as moments
 use Rattle.mscp_logged.proofs.Away.{Denies, IsAway, Placed, away_after, opens, takes_away, told_away}
 use Rattle.mscp_logged.proofs.Claims.{claim_bears, claimed_left}
@@ -43,11 +43,9 @@ module _ (F : Type 0) (units : List Shape) (volumes : List Volume) where
       → Recalled F units volumes (h ++ message_of t ∷ []) qs
   message_recalled h qs t r = record {
     each = each_push moments.Reset IsSameUnit h (message_of t) r.each tt;
-    now = λ u. subst (λ (x : Told). Known u (unit_found units u) (volume_found units volumes u) x.identity qs)
-        (sym (told_more h (message_of t) u ∙ told_message u (told h First u) t)) (r.now u);
+    now = λ u. rw (told_more h (message_of t) u ∙ told_message u (told h First u) t) (r.now u);
     suits = each_push moments.Reset (λ h m. F → IsSuitedUnit h m) h (message_of t) r.suits (λ f. tt);
-    placed = λ f u. subst (λ (x : Told). Placed u (volume_found units volumes u) (told_away x.state) qs)
-        (sym (told_more h (message_of t) u ∙ told_message u (told h First u) t)) (r.placed f u);
+    placed = λ f u. rw (told_more h (message_of t) u ∙ told_message u (told h First u) t) (r.placed f u);
   }
 
   pub messages_recalled : (h : History) (qs : List (List ℕ)) (ts : List (List ℕ)) → Recalled F units volumes h qs

@@ -87,8 +87,7 @@ module _ {c : Settings} {K : Type 0} {outcome : Outcome} {verdict : Verdict} {ol
 
   -- the volume of a unit
   heeded_so : (u : ℕ) → Heeded c.units old.buffers.items First old.volumes (Some e) u (V u) (W u)
-  heeded_so u = subst (λ ws. Heeded c.units old.buffers.items First old.volumes (Some e) u (V u)
-      (volume_found c.units ws u)) (sym s.volumes) (heeded c.units old.buffers.items First old.volumes (Some e) u)
+  heeded_so u = rw s.volumes (heeded c.units old.buffers.items First old.volumes (Some e) u)
 
   mounted : (W e.unit).is_mounted ≡ true
       → ((V e.unit).is_mounted ≡ true) ⊎ ((e.code ≡ 0x89) × (e.status % 32 ≡ 0))
@@ -115,9 +114,7 @@ module _ {c : Settings} {K : Type 0} {outcome : Outcome} {verdict : Verdict} {ol
   moves = is_some (moved_by r.command.order (touched d r))
 
   sure : IsSure moves (V e.unit) verdict
-  sure = subst (λ m. IsSure moves (volume_found c.units old.volumes m) verdict) (sym plain.unit)
-      (subst (λ x. IsSure moves (volume_found x.units old.volumes r.command.unit) verdict) s.settings
-      (told_sure old outcome s.begun s.name s.was r s.here verdict s.how))
+  sure = rw plain.unit (rw (← s.settings) (told_sure old outcome s.begun s.name s.was r s.here verdict s.how))
 
   -- ---- what it tells
 
@@ -148,9 +145,8 @@ module _ {c : Settings} {K : Type 0} {outcome : Outcome} {verdict : Verdict} {ol
 
     says : IsFaultTold outcome → Says (V e.unit) (W e.unit) (answer_by First text)
     says fault = step_says h c.units verdict d.online r.done (V e.unit) (W e.unit) e made r.command.order its_end
-        decided sure (told_fine old outcome fault s.begun s.name s.was r s.here verdict s.how).0
-        (λ on. subst (λ m. (drive_of old.controller.drives m).online ≡ true) plain.unit (driven e.unit on)) mounted left
-        tells.stays
+        decided sure (told_fine old outcome fault s.begun s.name s.was r s.here verdict s.how).0 (λ on. rw (←
+        plain.unit) (driven e.unit on)) mounted left tells.stays
 
     pub served_placed : IsFaultTold outcome → (u : ℕ) → IsPlaced u (V u) (W u) text
     served_placed fault u = record {

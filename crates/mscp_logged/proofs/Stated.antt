@@ -19,9 +19,8 @@ module _ {X : Type 0} (R : List X → X → Type 0) (d : X) where
   each_front xs ys each i low = grind (arith, get_or_append_left, take-append-le, length-append)
 
   pub each_at : (xs : List X) (x : X) (ys : List X) → Each (xs ++ x ∷ ys) → R xs x
-  each_at xs x ys each = subst (λ z. R xs z) (at_front xs x ys d)
-      (subst (λ zs. R zs (slice_index_or (xs ++ x ∷ ys) (length xs) d)) (front_of xs x ys)
-      (each (length xs) (search (arith, length-append xs (x ∷ ys)))))
+  each_at xs x ys each = rw (← at_front xs x ys d) (subst (λ zs. R zs (slice_index_or (xs ++ x ∷ ys) (length xs) d))
+      (front_of xs x ys) (each (length xs) (search (arith, length-append xs (x ∷ ys)))))
 
 -- a host's right message has a new number
 pub right_new : (credits : Option ℕ) (h : History) (t : List ℕ) → IsRight credits h (message_of t)
@@ -70,12 +69,9 @@ module _ (Tie : List ℕ → List ℕ → Type 0) (G O : Type 0) where
       each = each_push moments.Reset IsSeen h (message_of t) s.each tt;
       wired = subst (λ xs. Wired Tie xs (aw ++ t ∷ []) held) (sym (outstanding_more h (message_of t)))
           (message_taken Tie (outstanding h) aw t _ refl (new_none (outstanding h) t new) held s.wired);
-      lined = subst (λ xs. AreLined (without_held held xs) (aw ++ t ∷ [])) (sym (outstanding_more h (message_of t)))
-          (by held s.wired.owed s.lined _ refl);
-      late = subst (λ xs. AreLate G xs held) (sym (outstanding_more h (message_of t)))
-          (late_more G (outstanding h) _ held s.late);
-      turned = subst (λ xs. AreTurned O xs held) (sym (outstanding_more h (message_of t)))
-          (turned_by held s.wired.owed s.turned _ refl);
+      lined = rw (outstanding_more h (message_of t)) (by held s.wired.owed s.lined _ refl);
+      late = rw (outstanding_more h (message_of t)) (late_more G (outstanding h) _ held s.late);
+      turned = rw (outstanding_more h (message_of t)) (turned_by held s.wired.owed s.turned _ refl);
     }
       where
         xs : List Sent
@@ -113,8 +109,7 @@ module _ (Tie : List ℕ → List ℕ → Type 0) (G O : Type 0) where
       each = each_push moments.Reset IsSeen h (message_of t) s.each tt;
       wired = subst (λ xs. Wired Tie xs aw (o ∷ [])) (sym (outstanding_more h (message_of t)))
           (message_answered Tie (outstanding h) aw t _ refl (new_none (outstanding h) t new) o s.wired same tie);
-      lined = subst (λ xs. AreLined (left_by o.kind (num o.text 0 4) xs) aw) (sym (outstanding_more h (message_of t)))
-          (here _ refl);
+      lined = rw (outstanding_more h (message_of t)) (here _ refl);
       late = ((λ kind g aborted. absurd (never g aborted)), tt);
       turned = subst (λ xs. AreTurned O xs (o ∷ [])) (sym (outstanding_more h (message_of t)))
           ((λ kind g. turn_new (outstanding h) aw o.text t _ refl none s.lined (free g)), tt);
@@ -128,16 +123,14 @@ module _ (Tie : List ℕ → List ℕ → Type 0) (G O : Type 0) where
 
         by : (x : Sent) → stem x ≡ sent_by First t
             → AreLined (filter (λ y. not (named (num o.text 0 4) y)) (xs ++ x ∷ [])) aw
-        by x is = subst (λ zs. AreLined zs aw) (sym (filter-append (λ y. not (named (num o.text 0 4) y)) xs (x ∷ [])
-            ∙ ap (λ zs. zs ++ filter (λ y. not (named (num o.text 0 4) y)) (x ∷ []))
-            (all_left (named (num o.text 0 4)) xs none)
-            ∙ ap (λ b. xs ++ cond (not b) (x ∷ []) []) (ap (named (num o.text 0 4)) is
-            ∙ eq-eqb (num t 0 4) (num o.text 0 4) (sym same)) ∙ append-nil xs)) s.lined
+        by x is = rw (filter-append (λ y. not (named (num o.text 0 4) y)) xs (x ∷ []) ∙ ap (λ zs. zs ++ filter (λ y. not
+            (named (num o.text 0 4) y)) (x ∷ [])) (all_left (named (num o.text 0 4)) xs none) ∙ ap (λ b. xs ++ cond (not
+            b) (x ∷ []) []) (ap (named (num o.text 0 4)) is ∙ eq-eqb (num t 0 4) (num o.text 0 4) (sym same)) ∙
+            append-nil xs) s.lined
 
         here : (x : Sent) → stem x ≡ sent_by First t
             → AreLined (left_by o.kind (num o.text 0 4) (outstanding h ++ x ∷ [])) aw
-        here x is =
-            subst (λ k. AreLined (left_by k (num o.text 0 4) (outstanding h ++ x ∷ [])) aw) (sym kind) (by x is)
+        here x is = rw kind (by x is)
 
     -- something begins to go out
     pub begins_end : (o : Said) (m : List ℕ) → Stated h aw [] → filter (has_number (num o.text 0 4)) aw ≡ m ∷ []
@@ -148,9 +141,7 @@ module _ (Tie : List ℕ → List ℕ → Type 0) (G O : Type 0) where
     begins_end o m s only tie kind late turn = record {
       each = s.each;
       wired = end_begins Tie (outstanding h) aw o m s.wired only tie;
-      lined = subst (λ k. AreLined (left_by k (num o.text 0 4) (outstanding h))
-          (filter (λ t. not (has_number (num o.text 0 4) t)) aw)) (sym kind)
-          (lined_left (num o.text 0 4) (outstanding h) aw s.lined);
+      lined = rw kind (lined_left (num o.text 0 4) (outstanding h) aw s.lined);
       late = (
         (λ kind g aborted. let z = late g aborted in
             (z.0, lined_behind (num o.text 0 4) z.0 (outstanding h) aw s.lined z.1)),
@@ -182,10 +173,9 @@ module _ (Tie : List ℕ → List ℕ → Type 0) (G O : Type 0) where
           );
           wired = subst (λ xs. Wired Tie xs aw []) (sym (outstanding_more h (end_of o.text)
               ∙ ap (Rattle.mscp_wire.specs.Wire.after_end (outstanding h) (answer_by First o.text)) x.at)) x.left;
-          lined = subst (λ xs. AreLined xs aw) (sym (outstanding_more h (end_of o.text)
-              ∙ ap (Rattle.mscp_wire.specs.Wire.after_end (outstanding h) (answer_by First o.text)) x.at ∙ x.after))
-              (lined_map _ (λ y. refl) x.others aw (subst (λ zs. AreLined zs aw) x.without
-              (subst (λ k. AreLined (left_by k (num o.text 0 4) (outstanding h)) aw) kind s.lined)));
+          lined = rw (outstanding_more h (end_of o.text) ∙ ap (Rattle.mscp_wire.specs.Wire.after_end (outstanding h)
+              (answer_by First o.text)) x.at ∙ x.after) (lined_map _ (λ y. refl) x.others aw (subst (λ zs. AreLined zs
+              aw) x.without (subst (λ k. AreLined (left_by k (num o.text 0 4) (outstanding h)) aw) kind s.lined)));
           late = tt;
           turned = tt;
         }
@@ -203,7 +193,6 @@ module _ (Tie : List ℕ → List ℕ → Type 0) (G O : Type 0) where
     left (Some o) None s none same = by o.kind refl
       where
         by : (k : OutgoingKind) → o.kind ≡ k → Stated (h ++ (map end_of (end_said o.kind o.bytes.items) ++ [])) aw []
-        by kinds.End e = subst (λ k. Stated (h ++ (map end_of (end_said k o.bytes.items) ++ [])) aw []) (sym e)
-            (leaves_end (said_in o) s e)
+        by kinds.End e = rw e (leaves_end (said_in o) s e)
         by other e = grind (arith, as_it_is, append-nil, leaves_other)
     left old new s none same = grind (arith, as_it_is, append-nil, begun_none)

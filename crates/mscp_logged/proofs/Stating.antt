@@ -1,6 +1,6 @@
 -- An end that answers a message, or that of a command which is aborted, says that its unit is online, or that it isn't,
 -- only if that is so.
-use Rattle.mscp_logged.proofs.Common.{Answer, AsksFor, Bool, Command, Decided, End, First, Hardware, IsPast, List, None, Option, Order, Own, Record, Sent, Settings, Shape, Some, Volume, aborted_record, answer_by, ap, arith, command_of, end_with_body, endcode, ends_formality, eqb-true, false, fault_of, inl, inr, is_queued, order_fault, own_answer, own_cases, own_end, own_end_with, own_refused, own_text, refl, refused_apart, sent_by, sent_says, slice_index, status_after, subst, sym, true, unit_state, ℕ, ◌%◌, ◌+◌, ◌/◌, ◌<◌, ◌^◌, ◌∙◌, ◌≡◌, ◌⊎◌}
+use Rattle.mscp_logged.proofs.Common.{Answer, AsksFor, Bool, Command, Decided, End, First, Hardware, IsPast, List, None, Option, Order, Own, Record, Sent, Settings, Shape, Some, Volume, aborted_record, answer_by, ap, arith, command_of, end_with_body, endcode, ends_formality, eqb-true, false, fault_of, inl, inr, is_queued, order_fault, own_answer, own_cases, own_end, own_end_with, own_refused, own_text, refl, refused_apart, sent_by, sent_says, slice_index, status_after, true, unit_state, ℕ, ◌%◌, ◌+◌, ◌/◌, ◌<◌, ◌^◌, ◌∙◌, ◌≡◌, ◌⊎◌}
 use Rattle.mscp_packet.specs.declared.command.Order.TheVariants as orders
 use Rattle.mscp_drive.specs.Settings.{unit_found}
 use Rattle.mscp_drive.specs.UnitList as list
@@ -54,10 +54,8 @@ module _ (h : Hardware) (units : List Shape) (e : End) (d : Decided) where
           ⊎ ((ends_formality d.code ≡ false)
           × (text_with h units e d ≡ end_with_body e.body e d (list.unit_found units e.unit) h)
           × Reads end_answer e.code d.status) → IsMute end_answer.code (end_answer.status % 32)
-      by (inl x) = subst (λ n. IsMute n (end_answer.status % 32)) (sym x.1.code)
-          (formal_mute d.code (end_answer.status % 32) x.0)
-      by (inr x) = subst (λ n. IsMute n (end_answer.status % 32)) (sym x.2.code)
-          (subst (λ n. IsMute e.code n) (sym x.2.low) (m x.0))
+      by (inl x) = rw x.1.code (formal_mute d.code (end_answer.status % 32) x.0)
+      by (inr x) = rw x.2.code (rw x.2.low (m x.0))
 
 -- ---- statuses
 
@@ -133,15 +131,13 @@ module _ (h : Hardware) (c : Settings) (online : Bool) (figure : ℕ) (sent : Li
               ⊎ ((ends_formality d.code ≡ false)
               × (text ≡ end_with_body e.body e d (list.unit_found c.units e.unit) h) × Reads a e.code d.status)
               → Says v v a
-          from (inl x) = mute v a (subst (λ n. IsMute n (a.status % 32)) (sym x.1.code)
-              (formal_mute d.code (a.status % 32) x.0))
+          from (inl x) = mute v a (rw x.1.code (formal_mute d.code (a.status % 32) x.0))
           from (inr x) = grind (arith, online_parts, told, none, same_volume)
 
   coded : (order : Order) → k.order ≡ order → (code : ℕ) → endcode order ≡ code → fault_of c k ≡ None
       → ((status : ℕ) → IsMute code status) → So
-  coded order of code is none m = never_so (λ plain. subst (λ n. IsMute n (d.status % 32))
-      (sym (ap (λ o. (own_end_with c online figure (command_of sent) o).code) none ∙ ap endcode of ∙ is))
-      (m (d.status % 32)))
+  coded order of code is none m = never_so (λ plain. rw (ap (λ o. (own_end_with c online figure (command_of sent)
+      o).code) none ∙ ap endcode of ∙ is) (m (d.status % 32)))
 
   status_says : (of : k.order ≡ orders.UnitStatus) (none : fault_of c k ≡ None) → Says v v a
   status_says of none = from (text_reads h c.units e d)
@@ -156,8 +152,7 @@ module _ (h : Hardware) (c : Settings) (online : Bool) (figure : ℕ) (sent : Li
           ⊎ ((ends_formality d.code ≡ false)
           × (text ≡ end_with_body e.body e d (list.unit_found c.units e.unit) h) × Reads a e.code d.status)
           → Says v v a
-      from (inl x) = mute v a (subst (λ n. IsMute n (a.status % 32)) (sym x.1.code)
-          (formal_mute d.code (a.status % 32) x.0))
+      from (inl x) = mute v a (rw x.1.code (formal_mute d.code (a.status % 32) x.0))
       from (inr x) = grind arith
 
   pub reply_placed : So

@@ -1,6 +1,6 @@
 -- How a step went that ended otherwise than its drive told: its unit isn't online with its volume. And a transfer goes
 -- well only while it is.
-use Rattle.mscp_logged.proofs.Common.{Block, Bool, Buffer, Err, IsBegunStep, IsHow, List, MoveKind, Name, None, Ok, Option, Order, Outcome, Port, Record, Result, Some, Task, Upcoming, Verdict, Volume, arith, begun_record, begun_step, block_begun, block_served, changed_verdict, cond, drive_of, false, false≢true, faulted, find, has_name, inl, is_available, is_some, known_task, move_of, move_task, moved_by, moved_step, option_map, part_at, part_served, part_with, subst, sym, takes_any_volume, task_of, true, upcoming_of, volume_found, volume_in_place, ℕ, ◌%◌, ◌≡◌, ◌≤◌, ◌⊎◌}
+use Rattle.mscp_logged.proofs.Common.{Block, Bool, Buffer, Err, IsBegunStep, IsHow, List, MoveKind, Name, None, Ok, Option, Order, Outcome, Port, Record, Result, Some, Task, Upcoming, Verdict, Volume, arith, begun_record, begun_step, block_begun, block_served, changed_verdict, cond, drive_of, false, false≢true, faulted, find, has_name, inl, is_available, is_some, known_task, move_of, move_task, moved_by, option_map, part_at, part_served, part_with, takes_any_volume, task_of, true, upcoming_of, volume_found, volume_in_place, ℕ, ◌%◌, ◌≡◌, ◌≤◌, ◌⊎◌}
 use Rattle.mscp_drive.specs.declared.block.Block.TheVariants as blocks
 use Rattle.mscp_port.specs.declared.task.Task.TheVariants as tasks
 use Rattle.mscp_port.specs.declared.verdict.Verdict.TheVariants as verdicts
@@ -92,8 +92,7 @@ module _ {K : Type 0} (old : Port K) (outcome : Outcome) (step : IsBegunStep old
   step_sure verdict at = grind (arith, begun_is, known_sure)
 
   moved_sure : IsSure (moves_block u) v (block_served old outcome (block_begun old))
-  moved_sure = subst (λ o. IsSure (moves_block u) v (block_served old outcome (moved_step o))) (sym begun_is)
-      (by (move_of u))
+  moved_sure = rw begun_is (by (move_of u))
     where
       served : (part : Result (ℕ × ℕ) Verdict) → IsSureOr v part → IsSure true v (part_served outcome part)
       served part s = grind arith

@@ -52,8 +52,7 @@ module _ {K : Type 0} {picks : Picking K} {start p : Port K} {call : Call} {call
     pub is_new_now : (t : List ℕ) → messages_by call a.0 ≡ message_of t ∷ []
         → is_new (outstanding h) (sent_by First t) ≡ true
     is_new_now t e = right_new limit h t (each_at (λ x m. is_message m ≡ true → IsRight limit x m) moments.Reset h
-        (message_of t) gone (subst (λ x. HostIsRight limit x) (log_is (message_of t ∷ []) e
-        ∙ append_assoc h (message_of t ∷ []) gone) host) refl)
+        (message_of t) gone (rw (← log_is (message_of t ∷ []) e ∙ append_assoc h (message_of t ∷ []) gone) host) refl)
 
 -- ---- all of them
 

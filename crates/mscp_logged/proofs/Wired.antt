@@ -160,8 +160,7 @@ module _ (Tie : List ℕ → List ℕ → Type 0) (xs : List Sent) (aw : List (L
       where
         one : s.kind ≡ kinds.End → IsOwed Tie (xs ++ x ∷ []) ts s.text
         one kind = let o = owed.0 kind in elim (same_or number (num s.text 0 4)) [
-          | inl e ↦ absurd (some_none o.own [] (sym o.sole
-              ∙ subst (λ j. filter (named j) xs ≡ []) e new))
+          | inl e ↦ absurd (some_none o.own [] (sym o.sole ∙ rw (← e) new))
           | inr d ↦ record {
             own = o.own;
             message = o.message;
@@ -218,8 +217,7 @@ module _ (Tie : List ℕ → List ℕ → Type 0) (xs : List Sent) (aw : List (L
     module _ (s : Said) (w : Wired Tie xs aw []) (same : num s.text 0 4 ≡ num t 0 4) (tie : Tie s.text t) where
       answered_each : (k : ℕ) → At (xs ++ x ∷ []) aw k
       answered_each k = elim (same_or number k) [
-        | inl e ↦ subst (λ j. At (xs ++ x ∷ []) aw j) e
-            (inr (record { own = x; sole = here; awaited = inl (is_free [] w) }))
+        | inl e ↦ rw (← e) (inr (record { own = x; sole = here; awaited = inl (is_free [] w) }))
         | inr d ↦ elim (w.each k) [
           | inl free ↦ inl (there k d ∙ free.0, free.1)
           | inr o ↦ inr (record { own = o.own; sole = there k d ∙ o.sole; awaited = o.awaited })

@@ -100,12 +100,9 @@ module _ (c : Settings) (own : Connection) (t : Trace) (m : Moment) (xs : List S
 
     pub heard_took : Heard c (t ++ m ∷ []) (after_end xs a (Some i))
     heard_took = record {
-      chains = λ via. subst (λ ys. Chains via ys (untaken c via (t ++ m ∷ []))) (sym left_is)
-          (by_side (λ v es. Chains v gone es)
-          (chains_gone a own e rest d side figure i xs low named parts.0 parts.1 others
-          (subst (Chains own xs) us (h.chains own)))
-          (λ via q. chains_other a (poll_of e) via (untaken c via t) d (not_own via q) i xs low (not_there via q)
-          (h.chains via)) via);
+      chains = λ via. rw left_is (by_side (λ v es. Chains v gone es) (chains_gone a own e rest d side figure i xs low
+          named parts.0 parts.1 others (subst (Chains own xs) us (h.chains own))) (λ via q. chains_other a (poll_of e)
+          via (untaken c via t) d (not_own via q) i xs low (not_there via q) (h.chains via)) via);
       lasts = λ x w.
           let lx = low_of x w in
           let wx = waited t m x lx w in

@@ -145,8 +145,7 @@ module _ (xs ys : List Sent) (h : State xs ys) (u : Seen) (b : List ℕ) (e : An
       (every_both (λ t. is_named x.connection x.reference t ≡ false) (IsSilent y.asked p) (drop (suc i) xs) apart.1
       silent) in
       record {
-        link = subst (λ n. Linked [] (map (hears e p) (take i xs) ++ drop n xs)
-            (map (wire.hears y e) (take i ys ++ drop n ys))) one link;
+        link = rw (← one) link;
         alone = pairs_out (hears e p) (λ s t. is_named s.connection s.reference t ≡ false)
             (λ s t k. ap (λ (z : Sent). is_named z.connection z.reference t) (hears_bare e p s) ∙ k)
             (λ s t k. ap (λ z. is_named s.connection s.reference z) (hears_bare e p t) ∙ k) i xs h.alone;
@@ -236,9 +235,7 @@ step credits timeout xs ys units known (moments.End via b) h r stated =
     let u = told_at units known (moments.End via b) in
     let found = place_same xs ys h u b.items e r.0 r.1 in (
       end_right xs ys h u b.items e r.0 r.1 (wire.settles ys e) stated.0 stated.1,
-      subst (λ o. State (strict.after_end xs e o) (wire.after_end ys e (place_of ys e))) (sym r.1.outstanding)
-          (subst (λ o. State (strict.after_end xs e (Some r.0)) (wire.after_end ys e o)) (sym found)
-          (end_kept xs ys h u b.items e r.0 r.1)),
+      rw r.1.outstanding (rw found (end_kept xs ys h u b.items e r.0 r.1)),
     )
 step credits timeout xs ys units known m h r stated = grind arith
 

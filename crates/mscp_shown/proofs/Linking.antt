@@ -174,8 +174,7 @@ module _ (timeout time : Option ℕ) (xs ys : List Sent) (s : Sent) (link : Link
                     ∙ never (same_connection z.connection z.connection),
                 poll,
               ),
-              subst (λ k. (list_any (is_named z.connection k) xs ≡ true)
-                  × AllByRecursion (IsLow z.connection k x.told) xs) same low,
+              rw (← same) low,
             )
         | false ↦ λ e. tt
       ] refl

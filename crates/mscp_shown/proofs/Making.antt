@@ -166,8 +166,7 @@ module _ (c : Settings) (own : Connection) (t : Trace) (xs : List Sent) (b : Lis
       (every_weaker (λ x. IsAbort (reference t x) (sent_by own b))
       (λ x. EndsAbort own (xs ++ sent_by own b ∷ []) (reference t x) e)
       (λ x h. (
-        subst (λ n. IsOnly own n (xs ++ sent_by own b ∷ []) (IsAbort (reference t x))) (sym numbered)
-            (only_new c own t xs b new owners (IsAbort (reference t x)) h),
+        rw numbered (only_new c own t xs b new owners (IsAbort (reference t x)) h),
         behind_last (reference t x) e numbered,
       )) ys
       (named_each own t (sent_by own b) k.order (fault_of c k) says))

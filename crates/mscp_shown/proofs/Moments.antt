@@ -44,9 +44,8 @@ module _ (c : Settings) (t : Trace) (k : Known c t)
   more (Event.Send own b) (Entry.Sent other (Err fault)) may patient r =
       stills c t (Event.Send own b, Entry.Sent other (Err fault)) h k r refl (λ via p. (refl, refl)) (λ n. refl) refl
       (λ via. refl)
-  more (Event.Send own b) (Entry.Sent other (Ok (Sent.Queued q))) may patient r =
-      subst (λ o. More c t (Event.Send own b, Entry.Sent o (Ok (Sent.Queued q)))) (sym r.0)
-      (queued_more c t own b k q h r.1)
+  more (Event.Send own b) (Entry.Sent other (Ok (Sent.Queued q))) may patient r = rw r.0 (queued_more c t own b k q h
+      r.1)
   more (Event.Send own b) (Entry.Sent other (Ok (Sent.Answered q a))) may patient r =
       subst (λ o. More c t (Event.Send own b, Entry.Sent o (Ok (Sent.Answered q a)))) (sym r.0)
       (answered_more c t own b k q a h facts
@@ -64,8 +63,7 @@ module _ (c : Settings) (t : Trace) (k : Known c t)
   more (Event.Take own) (Entry.Taken other None) may patient r =
       stills c t (Event.Take own, Entry.Taken other None) h k r refl (λ via p. (refl, refl)) (λ n. refl) refl
       (λ via. refl)
-  more (Event.Take own) (Entry.Taken other (Some b)) may patient r =
-      subst (λ o. More c t (Event.Take own, Entry.Taken o (Some b))) (sym r.0) (take_one own b (refl, r.1))
+  more (Event.Take own) (Entry.Taken other (Some b)) may patient r = rw r.0 (take_one own b (refl, r.1))
   more Event.Look (Entry.Looked list) may patient r =
       stills c t (Event.Look, Entry.Looked list) h k r refl (λ via p. (refl, refl)) (λ n. refl) refl (λ via. refl)
   more event entry may patient r = absurd r
@@ -97,9 +95,8 @@ module _ (c : Settings) (t : Trace) (k : Known c t)
       by_side : (via : Connection) (here : Bool) → same_connection own via ≡ here
           → AllByRecursion (Holds c own t b.items s) (answer c own t b.items)
           → AllByRecursion (Holds c own t b.items s) ((if here then answer c via t b.items else []) ++ [])
-      by_side via true e all =
-          subst (λ v. AllByRecursion (Holds c own t b.items s) (answer c v t b.items ++ [])) (one_side own via e)
-          (subst (AllByRecursion (Holds c own t b.items s)) (sym (append-nil (answer c own t b.items))) all)
+      by_side via true e all = rw (← one_side own via e) (subst (AllByRecursion (Holds c own t b.items s)) (sym
+          (append-nil (answer c own t b.items))) all)
       by_side via false e all = tt
 
   stands_more : (event : Event) (entry : Entry) → IsPossible event → IsRight c t event entry
@@ -109,9 +106,7 @@ module _ (c : Settings) (t : Trace) (k : Known c t)
   stands_more (Event.Send own b) (Entry.Sent other (Ok (Sent.Queued q))) may r =
       message_stands c t (Event.Send own b, Entry.Sent other (Ok (Sent.Queued q))) k s own b refl refl (λ via. refl)
       (λ via. tt) (λ e. refl)
-  stands_more (Event.Send own b) (Entry.Sent other (Ok (Sent.Answered q a))) may r =
-      subst (λ o. Stands c (t ++ (Event.Send own b, Entry.Sent o (Ok (Sent.Answered q a))) ∷ [])) (sym r.0)
-      (answer_told own b q a r.1)
+  stands_more (Event.Send own b) (Entry.Sent other (Ok (Sent.Answered q a))) may r = rw r.0 (answer_told own b q a r.1)
   stands_more (Event.Step block) (Entry.Stepped Report.Idle) may r =
       quiet_stands c t (Event.Step block, Entry.Stepped Report.Idle) k s refl refl (λ via. refl) (λ via. refl) refl
   stands_more (Event.Step block) (Entry.Stepped (Report.Served other reference unit lbn started seek ended)) may r =
@@ -119,8 +114,7 @@ module _ (c : Settings) (t : Trace) (k : Known c t)
       h.queued _ block r.0 refl r.1 (fault_of block may) refl (λ via. refl) (λ via. refl) refl
   stands_more (Event.Take own) (Entry.Taken other None) may r =
       quiet_stands c t (Event.Take own, Entry.Taken other None) k s refl refl (λ via. refl) (λ via. refl) refl
-  stands_more (Event.Take own) (Entry.Taken other (Some b)) may r =
-      subst (λ o. Stands c (t ++ (Event.Take own, Entry.Taken o (Some b)) ∷ [])) (sym r.0) (take_told own b (refl, r.1))
+  stands_more (Event.Take own) (Entry.Taken other (Some b)) may r = rw r.0 (take_told own b (refl, r.1))
   stands_more Event.Look (Entry.Looked list) may r =
       quiet_stands c t (Event.Look, Entry.Looked list) k s refl refl (λ via. refl) (λ via. refl) refl
   stands_more event entry may r = absurd r

@@ -128,9 +128,8 @@ module _ (c : Settings) (t : Trace) (own : Connection) (b : ArrayVec ℕ) (k : K
   each_answer : (via : Connection) (P : Connection → List End → Type 0) (here : Bool)
       → same_connection own via ≡ here → P via [] → P own (answer c own t b.items)
       → P via ((if here then answer c via t b.items else []) ++ [])
-  each_answer via P true e none h =
-      subst (λ v. P v (answer c v t b.items ++ [])) (one_side own via e)
-      (subst (P own) (sym (append-nil (answer c own t b.items))) h)
+  each_answer via P true e none h = rw (← one_side own via e) (subst (P own) (sym (append-nil (answer c own t b.items)))
+      h)
   each_answer via P false e none h = none
 
   -- what it has to tell of a poll, if it is one

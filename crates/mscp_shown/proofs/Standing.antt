@@ -73,8 +73,7 @@ module _ (c : Settings) (t : Trace) (m : Moment) (known : Known c t) (h : Stands
             (subst (λ b. Stated unit b (told (shown t) via unit).state (untaken c via t)) (sym (same unit))
             (h.stated via unit)));
         there = same_there same;
-        shared = subst (λ w. AllByRecursion (λ x. Shares w (moment t' x)) (waiting t')) (sym is)
-            (waits_more t m (shown t) h.shared (λ e. absurd (false≢true (sym late ∙ e))));
+        shared = rw is (waits_more t m (shown t) h.shared (λ e. absurd (false≢true (sym late ∙ e))));
         controller = λ n e. h.controller n (sym (ap controller_of is) ∙ e);
         are = subst AreStated (sym is) h.are;
       }

@@ -20,9 +20,8 @@ PlacedOf a b x y earlier s = is_named a.connection a.reference earlier ≡ true
 module _ (t : Trace) (m : Moment) (xs : List Sent) where
   placed_before : (x y : ℕ) → x < length t → y < length t → Pairs (IsPlaced t x y) xs
       → Pairs (IsPlaced (t ++ m ∷ []) x y) xs
-  placed_before x y l k h =
-      subst (λ b. Pairs (PlacedOf (name (t ++ m ∷ []) x) b x y) xs) (sym (name_before t m y k))
-      (subst (λ a. Pairs (PlacedOf a (name t y) x y) xs) (sym (name_before t m x l)) h)
+  placed_before x y l k h = subst (λ b. Pairs (PlacedOf (name (t ++ m ∷ []) x) b x y) xs) (sym (name_before t m y k))
+      (rw (name_before t m x l) h)
 
   -- a moment that queues nobody
   pub placed_more : queues m.1 ≡ false
@@ -130,13 +129,9 @@ module _ (c : Settings) (own : Connection) (t : Trace) (xs : List Sent) (b : Lis
 
     pub queued_placed : (x y : ℕ) → is_waiting later x ≡ true → is_waiting later y ≡ true
         → Pairs (IsPlaced later x y) (xs ++ z ∷ [])
-    queued_placed x y wx wy = ⊎_elim
-        (λ lx. ⊎_elim
-        (λ ly. placed_before t m (xs ++ z ∷ []) x y lx ly (old_pairs x y (waited t m x lx wx) (waited t m y ly wy)))
-        (λ last. subst (λ y. Pairs (IsPlaced later x y) (xs ++ z ∷ [])) (sym last.0) (to_last x lx))
-        (below_or_last t m y wy))
-        (λ last. subst (λ x. Pairs (IsPlaced later x y) (xs ++ z ∷ [])) (sym last.0) (from_last y))
-        (below_or_last t m x wx)
+    queued_placed x y wx wy = ⊎_elim (λ lx. ⊎_elim (λ ly. placed_before t m (xs ++ z ∷ []) x y lx ly (old_pairs x y
+        (waited t m x lx wx) (waited t m y ly wy))) (λ last. rw last.0 (to_last x lx)) (below_or_last t m y wy)) (λ
+        last. rw last.0 (from_last y)) (below_or_last t m x wx)
 
 -- ---- a take
 module _ (c : Settings) (own : Connection) (t : Trace) (m : Moment) (xs : List Sent) (a : Answer) (i : ℕ)
