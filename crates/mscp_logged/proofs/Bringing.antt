@@ -168,8 +168,8 @@ module _ {K : Type 0} {picks : Picking K} (run : Begun picks) (keeping : IsKeepi
                 ∙ ap (λ xs. q.out.bytes.items ∷ xs) is_none ∙ sym (ap (λ xs. xs ++ q.out.bytes.items ∷ []) was_none);
             told = λ u. rw own.own.2 (own_told u (unit_found c.units u) (volume_named a.0 q.message) q.message own.own.0
                 answered (still u));
-            placed = λ f u. rw own.own.2 (own_placed u (volume_named a.0 q.message) q.message own.own.0 answered (still
-                u));
+            placed = λ f u. rw own.own.2 (own_placed u (volume_named a.0 q.message) q.message own.own.0 answered
+                (still u));
           },
         )
           where

@@ -87,8 +87,8 @@ clear_beside : (m : List ℕ) (aw : List (List ℕ)) (es : List End) (ds : List 
 clear_beside m aw (e ∷ es) (d ∷ ds) none all =
     let p = or_parts (has_number e.reference m) (is_ended es m) none in (
       one p.0 all.0,
-      rw (filter-append (λ t. not (has_number e.reference t)) aw (m ∷ []) ∙ ap (λ c. without e.reference aw ++ cond (not
-          c) (m ∷ []) []) p.0) (clear_beside m (without e.reference aw) es ds p.1 all.1),
+      rw (filter-append (λ t. not (has_number e.reference t)) aw (m ∷ []) ∙ ap (λ c. without e.reference aw ++ cond
+          (not c) (m ∷ []) []) p.0) (clear_beside m (without e.reference aw) es ds p.1 all.1),
     )
   where
     one : has_number e.reference m ≡ false → IsClear aw e d → IsClear (aw ++ m ∷ []) e d
@@ -133,8 +133,8 @@ module _ (c : Settings) (aw : List (List ℕ)) (rs : List Record) (es : List End
         → ((n : ℕ) → nat_eq (num m 0 4) n ≡ false → is_numbered n r ≡ false) → is_in_service r ≡ false
         → is_some (unit_found c.units r.command.unit) ≡ true → Ordered c (aw ++ m ∷ []) (rs ++ r ∷ []) es ds
     ordered_queued r free new mine others fresh known = record {
-      lined = rw (unended_beside es aw m none) (order_more rs m r free others (unended es aw) (any_fewer (has_number
-          (num m 0 4)) (λ t. not (is_ended es t)) aw new) o.lined);
+      lined = rw (unended_beside es aw m none) (order_more rs m r free others (unended es aw)
+          (any_fewer (has_number (num m 0 4)) (λ t. not (is_ended es t)) aw new) o.lined);
       own = λ n x e. rw (unended_beside es aw m none) (by n x e (nat_eq (num m 0 4) n) refl);
       clear = clear_beside m aw es ds none o.clear;
     }

@@ -101,9 +101,9 @@ module _ (k : Block) (ds : List Drive) (r : Record) (ended : Option End) (v w : 
     pub own_driven : (w.is_mounted ≡ true
         → state_left (drive_of ds r.command.unit).online r.command.order ended ≡ true) → So
     own_driven is on = rw (← same) (ap (λ (o : Option Drive). (unwrap_or o (fresh_drive one_block)).online)
-        (find_replaced r.command.unit new own r.command.unit ds ∙ ap (option_map (λ d. cond (has_number r.command.unit
-        d) new d)) found) ∙ ap (λ (b : Bool). (cond b new d).online) (found_is (has_number r.command.unit) ds d found) ∙
-        is on)
+        (find_replaced r.command.unit new own r.command.unit ds
+        ∙ ap (option_map (λ d. cond (has_number r.command.unit d) new d)) found)
+        ∙ ap (λ (b : Bool). (cond b new d).online) (found_is (has_number r.command.unit) ds d found) ∙ is on)
       where
         own : has_number r.command.unit new ≡ true
         own = ap (λ (o : Option Drive). has_number r.command.unit (unwrap_or o (fresh_drive one_block))) found

@@ -33,8 +33,9 @@ of_sequential r t of e = by (is_formality (slice_index t 8)) refl
     by : (b : Bool) → is_formality (slice_index t 8) ≡ b → queue.is_sequential r.command.order ≡ true
     by true formal = absurd (false≢true (sym (formal_free (slice_index t 8) formal) ∙ e))
     by false plain = rw of.command (says_sequential (command_of (handed of.settings.units t)).order (of_unit t 0)
-        (handed_says of.settings.units t of.message plain 0) (rw (← of.command) (valid_order of.settings r.command.unit
-        r.command.order (queued_open of.settings r.command of.queued).sound)) e)
+        (handed_says of.settings.units t of.message plain 0)
+        (rw (← of.command) (valid_order of.settings r.command.unit r.command.order (queued_open of.settings r.command
+        of.queued).sound)) e)
 
 -- ---- who keeps whom back
 
@@ -126,9 +127,10 @@ module _ (rs xs : List Record) (r0 : Record) (ys : List Record) (whole : rs ≡ 
 
       by : (b : Bool) → keeps t u ≡ b → keeps t u ≡ false
       by false e = e
-      by true e = absurd (false≢true (sym (ap not (kept_fences r0 earlier.own t u (rw is_later later.unit) (rw is_later
-          later.of) earlier.unit earlier.of e)) ∙ all_sole (λ z. not (fences r0 z)) (is_numbered a) xs earlier.own free
-          in_front))
+      by true e = absurd
+          (false≢true
+          (sym (ap not (kept_fences r0 earlier.own t u (rw is_later later.unit) (rw is_later later.of) earlier.unit
+          earlier.of e)) ∙ all_sole (λ z. not (fences r0 z)) (is_numbered a) xs earlier.own free in_front))
 
   pub serves_free : (ts : List (List ℕ)) → InOrder ts rs → AllByRecursion (IsWaiting rs) ts → overtakes n ts ≡ false
   serves_free [] order all = refl

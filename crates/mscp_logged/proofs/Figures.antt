@@ -51,8 +51,8 @@ module _ (Tie : List ℕ → List ℕ → Type 0) (code_of : (text message : Lis
       record {
         each = each_push moments.Reset IsShownAt h (end_of o.text) f.each
             (is_shown F S (outstanding h) P _ o.text x.place x.at refl refl coded f.now);
-        now = rw (outstanding_more h (end_of o.text) ∙ ap (after_end (outstanding h) (answer_by First o.text)) x.at ∙
-            x.after ∙ ap (map (hears (command_at (outstanding h) x.place) (answer_by First o.text))) (sym x.without))
+        now = rw (outstanding_more h (end_of o.text) ∙ ap (after_end (outstanding h) (answer_by First o.text)) x.at
+            ∙ x.after ∙ ap (map (hears (command_at (outstanding h) x.place) (answer_by First o.text))) (sym x.without))
             (figured_left F S (outstanding h) P _ o.text x.place x.at refl refl coded f.now);
       }
 

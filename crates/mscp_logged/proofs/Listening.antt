@@ -53,9 +53,9 @@ module _ {K : Type 0} (bytes : List ℕ) (done : Unit) (old new : Port K) (aw : 
 
     decided : (e : End) → IsDecided c.units (verdicts.Served blocks.Good) (volume_found c.units new.volumes e.unit)
         (volume_found c.units new.volumes e.unit) e (answer_by old new e)
-    decided e = rw (← now) (decided_so new.controller.settings.units (verdicts.Served blocks.Good) (volume_found
-        new.controller.settings.units new.volumes e.unit) (volume_found new.controller.settings.units new.volumes
-        e.unit) e (kept_of First e.reference old.buffers.items) new.flags)
+    decided e = rw (← now) (decided_so new.controller.settings.units (verdicts.Served blocks.Good)
+        (volume_found new.controller.settings.units new.volumes e.unit) (volume_found new.controller.settings.units
+        new.volumes e.unit) e (kept_of First e.reference old.buffers.items) new.flags)
 
     abbrev W : ℕ → Volume
     W u = volume_found c.units new.volumes u

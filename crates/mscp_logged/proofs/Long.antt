@@ -70,10 +70,10 @@ module _ {K : Type 0} {picks : Picking K} (run : Begun picks) (ends : PortsEndWh
 
   said_long : (p : Port K) (calls : List Call) → AsksAlways calls → ReadsBytes calls
       → (a : Answered picks start calls p) → AllByRecursion IsLong (said picks start p calls a)
-  said_long = walk run ends (λ p calls a. AllByRecursion IsLong (said picks start p calls a)) (λ p calls asks a none. rw
-      none.said tt) (λ p call calls a is so_far. rw (since_alive p.stage call _ _ is.never is.lives) (every_append
-      IsLong (said picks start a.0 calls a.1) (map said_in (begins a.0.outgoing p.outgoing)) so_far (begun_long p call
-      calls a is.deals)))
+  said_long = walk run ends (λ p calls a. AllByRecursion IsLong (said picks start p calls a))
+      (λ p calls asks a none. rw none.said tt) (λ p call calls a is so_far. rw (since_alive p.stage call _ _ is.never
+      is.lives) (every_append IsLong (said picks start a.0 calls a.1) (map said_in (begins a.0.outgoing p.outgoing))
+      so_far (begun_long p call calls a is.deals)))
 
   -- what goes out is of that
   held_long : (p : Port K) (calls : List Call) → AsksAlways calls → ReadsBytes calls

@@ -118,11 +118,12 @@ module _ (c : Settings) (l : Leaving) (t : List ℕ) (plain : is_formality (slic
       units = of.settings.units;
       message = of.message;
       code = ap (λ (e : End). e.code) is ∙ code ∙ ap (λ (k : Command). endcode k.order) of.command;
-      apt = rw (← of.command) (subst (λ n. IsApt r.command.order n l.end.body) (sym (told_after l verdict (endcode
-          r.command.order) (ap (λ (e : End). e.code) is ∙ code) formal same told)) (told_apt _ r.command.order verdict
-          l.end.status told.0 l.end.body (subst (λ (k : Command). Says k.order (of_unit t 0)) (sym of.command)
-          (handed_says of.settings.units t of.message plain 0)) waits valid move (subst (λ (e : End). IsApt
-          r.command.order e.status e.body) (sym is) apt)));
+      apt = rw (← of.command) (subst (λ n. IsApt r.command.order n l.end.body)
+          (sym (told_after l verdict (endcode r.command.order) (ap (λ (e : End). e.code) is ∙ code) formal same told))
+          (told_apt _ r.command.order verdict l.end.status told.0 l.end.body
+          (subst (λ (k : Command). Says k.order (of_unit t 0)) (sym of.command)
+          (handed_says of.settings.units t of.message plain 0)) waits valid move
+          (subst (λ (e : End). IsApt r.command.order e.status e.body) (sym is) apt)));
       fit = subst (λ (e : End). IsBodyFit e.body) (sym is) fit;
     }
 

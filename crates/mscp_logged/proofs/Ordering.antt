@@ -185,10 +185,11 @@ module _ {c : Settings} {Told : Verdict → Record → Type 0} {K : Type 0} (old
   pub step_ordered : (made : End → Decided) → Ordered c aw (waiting_after b d waiting place)
       (ends_of old.controller ++ brought_for r0.connection (end_given b d r0))
       (old.decided.items ++ map made (brought_for r0.connection (end_given b d r0)))
-  step_ordered made = ordered_stepped c aw waiting (ends_of old.controller) old.decided.items o (waiting_after b d
-      waiting place) (brought_for r0.connection (end_given b d r0)) (map made (brought_for r0.connection (end_given b d
-      r0))) f.long (λ x y h. behind_served x y (step_charge r0) (take place waiting) r0 (drop (place + 1) waiting)
-      (end_given b d r0) (rw parts h)) still_good (by r0.connection (end_given b d r0) refl refl)
+  step_ordered made = ordered_stepped c aw waiting (ends_of old.controller) old.decided.items o
+      (waiting_after b d waiting place) (brought_for r0.connection (end_given b d r0))
+      (map made (brought_for r0.connection (end_given b d r0))) f.long (λ x y h. behind_served x y (step_charge r0)
+      (take place waiting) r0 (drop (place + 1) waiting) (end_given b d r0) (rw parts h)) still_good
+      (by r0.connection (end_given b d r0) refl refl)
     where
       mine : (e : End) → r0.connection ≡ First → end_given b d r0 ≡ Some e → is_numbered e.reference r0 ≡ true
       mine e via given = subst (λ n. is_numbered n r0 ≡ true) (sym (end_number b d r0 e given))

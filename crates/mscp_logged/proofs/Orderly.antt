@@ -133,9 +133,10 @@ module _ {K : Type 0} {picks : Picking K} (run : Begun picks) (keeping : IsKeepi
       (AllByRecursion (λ u. keeps text u ≡ false) (awaited picks start p calls a))
   own_clear p calls reads a none text own answer = elim (own_or (volume_named p text) text own answer) [
     | inr apart ↦ inl apart
-    | inl absent ↦ inr (all_free (awaited picks start p calls a) (missing absent) (rw (← ap (λ es. unended es (awaited
-        picks start p calls a)) none ∙ unended_none (awaited picks start p calls a)) (all_waiting p (awaited picks start
-        p calls a) (numbers_kept p calls reads a) (fits p calls reads a))))
+    | inl absent ↦ inr (all_free (awaited picks start p calls a) (missing absent)
+        (rw (← ap (λ es. unended es (awaited picks start p calls a)) none ∙ unended_none
+        (awaited picks start p calls a)) (all_waiting p (awaited picks start p calls a) (numbers_kept p calls reads a)
+        (fits p calls reads a))))
   ]
     where
       missing : volume_named p text ≡ None → unit_found c.units (num text 4 2) ≡ None

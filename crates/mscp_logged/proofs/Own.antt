@@ -44,8 +44,8 @@ module _ {K : Type 0} (bytes : List ℕ) (done : Unit) (old new : Port K) (r : H
 
 pub answers_so : {K : Type 0} (picks : Picking K) (call : Call) (old new : Port K) → Becomes picks call old new
     → (d : IsAnswering call old new) → IsOwn old d.message d.out
-answers_so picks (WasRead bytes (Ok done)) old new r d = rw (← bytes_read bytes d.message d.read.0 (d.read.1)) (is_own
-    bytes done old new r d.out d.nothing d.begun)
+answers_so picks (WasRead bytes (Ok done)) old new r d = rw (← bytes_read bytes d.message d.read.0 (d.read.1))
+    (is_own bytes done old new r d.out d.nothing d.begun)
   where
     text_of : Call → List ℕ
     text_of (WasRead b x) = b

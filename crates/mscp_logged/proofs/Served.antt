@@ -145,8 +145,8 @@ module _ {c : Settings} {K : Type 0} {outcome : Outcome} {verdict : Verdict} {ol
 
     says : IsFaultTold outcome → Says (V e.unit) (W e.unit) (answer_by First text)
     says fault = step_says h c.units verdict d.online r.done (V e.unit) (W e.unit) e made r.command.order its_end
-        decided sure (told_fine old outcome fault s.begun s.name s.was r s.here verdict s.how).0 (λ on. rw (←
-        plain.unit) (driven e.unit on)) mounted left tells.stays
+        decided sure (told_fine old outcome fault s.begun s.name s.was r s.here verdict s.how).0
+        (λ on. rw (← plain.unit) (driven e.unit on)) mounted left tells.stays
 
     pub served_placed : IsFaultTold outcome → (u : ℕ) → IsPlaced u (V u) (W u) text
     served_placed fault u = record {

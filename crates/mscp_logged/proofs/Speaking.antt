@@ -24,13 +24,13 @@ pub known_goes : (u : ℕ) (o : Option Shape) (v w : Volume) (told : Option Iden
     → Each (IsTold u o) v w more → Known u o v told qs → Known u o w told (qs ++ more)
 known_goes u o v w told qs [] each k = rw (append-nil qs) (known_still u o v w each told qs k)
 known_goes u o v w told qs (q ∷ []) each k = known_more u o v w q each told qs k
-known_goes u o v w told qs (q ∷ r ∷ more) each k = rw (← append_assoc qs (q ∷ []) (r ∷ more)) (known_goes u o v w told
-    (qs ++ q ∷ []) (r ∷ more) each.1 (known_more u o v v q each.0 told qs k))
+known_goes u o v w told qs (q ∷ r ∷ more) each k = rw (← append_assoc qs (q ∷ []) (r ∷ more))
+    (known_goes u o v w told (qs ++ q ∷ []) (r ∷ more) each.1 (known_more u o v v q each.0 told qs k))
 
 -- and so does whether it is online
 pub placed_goes : (u : ℕ) (v w : Volume) (told : Option (Unit {0})) (qs more : List (List ℕ))
     → Each (IsPlaced u) v w more → Placed u v told qs → Placed u w told (qs ++ more)
 placed_goes u v w told qs [] each k = rw (append-nil qs) (placed_still u v w each told qs k)
 placed_goes u v w told qs (q ∷ []) each k = placed_more u v w q each told qs k
-placed_goes u v w told qs (q ∷ r ∷ more) each k = rw (← append_assoc qs (q ∷ []) (r ∷ more)) (placed_goes u v w told (qs
-    ++ q ∷ []) (r ∷ more) each.1 (placed_more u v v q each.0 told qs k))
+placed_goes u v w told qs (q ∷ r ∷ more) each k = rw (← append_assoc qs (q ∷ []) (r ∷ more))
+    (placed_goes u v w told (qs ++ q ∷ []) (r ∷ more) each.1 (placed_more u v v q each.0 told qs k))

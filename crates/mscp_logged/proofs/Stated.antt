@@ -123,10 +123,10 @@ module _ (Tie : List ℕ → List ℕ → Type 0) (G O : Type 0) where
 
         by : (x : Sent) → stem x ≡ sent_by First t
             → AreLined (filter (λ y. not (named (num o.text 0 4) y)) (xs ++ x ∷ [])) aw
-        by x is = rw (filter-append (λ y. not (named (num o.text 0 4) y)) xs (x ∷ []) ∙ ap (λ zs. zs ++ filter (λ y. not
-            (named (num o.text 0 4) y)) (x ∷ [])) (all_left (named (num o.text 0 4)) xs none) ∙ ap (λ b. xs ++ cond (not
-            b) (x ∷ []) []) (ap (named (num o.text 0 4)) is ∙ eq-eqb (num t 0 4) (num o.text 0 4) (sym same)) ∙
-            append-nil xs) s.lined
+        by x is = rw (filter-append (λ y. not (named (num o.text 0 4) y)) xs (x ∷ [])
+            ∙ ap (λ zs. zs ++ filter (λ y. not (named (num o.text 0 4) y)) (x ∷ [])) (all_left (named (num o.text 0 4))
+            xs none) ∙ ap (λ b. xs ++ cond (not b) (x ∷ []) []) (ap (named (num o.text 0 4)) is ∙ eq-eqb (num t 0 4)
+            (num o.text 0 4) (sym same)) ∙ append-nil xs) s.lined
 
         here : (x : Sent) → stem x ≡ sent_by First t
             → AreLined (left_by o.kind (num o.text 0 4) (outstanding h ++ x ∷ [])) aw
@@ -174,8 +174,9 @@ module _ (Tie : List ℕ → List ℕ → Type 0) (G O : Type 0) where
           wired = subst (λ xs. Wired Tie xs aw []) (sym (outstanding_more h (end_of o.text)
               ∙ ap (Rattle.mscp_wire.specs.Wire.after_end (outstanding h) (answer_by First o.text)) x.at)) x.left;
           lined = rw (outstanding_more h (end_of o.text) ∙ ap (Rattle.mscp_wire.specs.Wire.after_end (outstanding h)
-              (answer_by First o.text)) x.at ∙ x.after) (lined_map _ (λ y. refl) x.others aw (subst (λ zs. AreLined zs
-              aw) x.without (subst (λ k. AreLined (left_by k (num o.text 0 4) (outstanding h)) aw) kind s.lined)));
+              (answer_by First o.text)) x.at ∙ x.after) (lined_map _ (λ y. refl) x.others aw
+              (subst (λ zs. AreLined zs aw) x.without (subst (λ k. AreLined (left_by k (num o.text 0 4) (outstanding h))
+              aw) kind s.lined)));
           late = tt;
           turned = tt;
         }

@@ -136,8 +136,9 @@ module _ (h : Hardware) (c : Settings) (online : Bool) (figure : ℕ) (sent : Li
 
   coded : (order : Order) → k.order ≡ order → (code : ℕ) → endcode order ≡ code → fault_of c k ≡ None
       → ((status : ℕ) → IsMute code status) → So
-  coded order of code is none m = never_so (λ plain. rw (ap (λ o. (own_end_with c online figure (command_of sent)
-      o).code) none ∙ ap endcode of ∙ is) (m (d.status % 32)))
+  coded order of code is none m = never_so
+      (λ plain. rw (ap (λ o. (own_end_with c online figure (command_of sent) o).code) none ∙ ap endcode of ∙ is)
+      (m (d.status % 32)))
 
   status_says : (of : k.order ≡ orders.UnitStatus) (none : fault_of c k ≡ None) → Says v v a
   status_says of none = from (text_reads h c.units e d)

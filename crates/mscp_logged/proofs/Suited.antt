@@ -137,8 +137,8 @@ module _ {K : Type 0} (c : Settings) (Told : Verdict → Record → Type 0) (old
 
   formal_so : ends_formality d.code ≡ true → IsSuited text t
   formal_so is = rw (← text_is true is) (formal_suited t (made_code c Told l t s.fits.made).message.long e.reference
-      e.unit d.code d.status (formality_of (slice_index t 8) (rw (← formal_code is) is)) (formal_code is) (made_formal c
-      Told l t s.fits.made is))
+      e.unit d.code d.status (formality_of (slice_index t 8) (rw (← formal_code is) is)) (formal_code is)
+      (made_formal c Told l t s.fits.made is))
 
   -- any other is that of no formality
   plain : ends_formality d.code ≡ false → is_formality (slice_index t 8) ≡ false

@@ -175,10 +175,10 @@ module _ {K : Type 0} {picks : Picking K} (run : Begun picks) (keeping : IsKeepi
       → IsFineUntil F (call ∷ calls) → (a : Answered picks start (call ∷ calls) p) → (q : IsAnswering call a.0 p)
       → IsOwn a.0 q.message q.out → q.out.kind ≡ kinds.End → Unit {0} → IsApartOr q.out.bytes.items
       (AllByRecursion (λ u. keeps_waiting q.message u ≡ false) (awaited picks start a.0 calls a.1))
-  own_turn p call calls reads fine a q own kind g = rw own.own.2 (own_clear run keeping a.0 calls (reads_before call
-      calls reads) a.1 (none_left picks hardware credits controller start made p call calls a q) q.message own.own.0 (ap
-      (λ f. own_answer f (volume_named a.0 q.message) q.message) (sym (of_disk a.0 q.message q.out own kind)) ∙
-      own.own.1))
+  own_turn p call calls reads fine a q own kind g = rw own.own.2 (own_clear run keeping a.0 calls
+      (reads_before call calls reads) a.1 (none_left picks hardware credits controller start made p call calls a q)
+      q.message own.own.0 (ap (λ f. own_answer f (volume_named a.0 q.message) q.message)
+      (sym (of_disk a.0 q.message q.out own kind)) ∙ own.own.1))
 
 -- ---- one of the port's own
 

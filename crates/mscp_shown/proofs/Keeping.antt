@@ -1,8 +1,8 @@
 -- An end that suits what a command asks for keeps the rules that look at that command alone.
-use Rattle.mscp_shown.proofs.Common.{Answer, Bool, EndBody, MoveKind, None, Option, Order, Sent, Some, ap, arith, bit_or, count_of, endcode, eq-eqb, eqb-true, false, has_code, has_count, has_status, if◌then◌else◌, inl, inr, is_about, is_about_another, is_counted, is_it, is_known, is_refused, is_required, is_short, is_some, is_transfer, is_unknown, lt-ltb, may_have, move_byte, moves, names_unit, nat_eq, nat_le, not, refl, status_code, subst, succeeds, sym, true, ℕ, ◌%◌, ◌&&◌, ◌+◌, ◌/◌, ◌<◌, ◌||◌, ◌∙◌, ◌≡◌, ◌≢◌, ◌≤◌, ◌⊎◌}
+use Rattle.mscp_shown.proofs.Common.{Answer, Bool, EndBody, MoveKind, None, Opcode, Option, Order, Sent, Some, ap, arith, bit_or, count_of, endcode, eq-eqb, eqb-true, false, has_code, has_count, has_status, if◌then◌else◌, inl, inr, is_about, is_about_another, is_counted, is_it, is_known, is_refused, is_required, is_short, is_some, is_transfer, is_unknown, least_message, lt-ltb, may_have, move_byte, moves, names_unit, nat_eq, nat_le, nat_lt, not, refl, refused_body, row_of, status_code, subst, succeeds, sym, true, was_online, ℕ, ⊎_elim, ◌%◌, ◌&&◌, ◌+◌, ◌/◌, ◌<◌, ◌||◌, ◌∙◌, ◌≡◌, ◌≢◌, ◌≤◌, ◌⊎◌}
 use Rattle.mscp_packet.specs.declared.command.Order.TheVariants as orders
 use Rattle.mscp_shown.proofs.Reading.{BodyReads}
-use Rattle.mscp_shown.proofs.Saying.{IsLong, Says}
+use Rattle.mscp_shown.proofs.Saying.{IsLong, IsShort, Says}
 use Rattle.mscp_shown.proofs.Suited.{IsApt, IsFine, Keeps, Suits}
 
 -- what is told of the command that a command is about, if it is about one
@@ -43,6 +43,11 @@ module _ (s : Sent) (a : Answer) where
       → P (if about then s.parameter else None) ≡ true → P (other_when k about (is_refused s a) s.parameter) ≡ true
   unless_refused P k about e none some = grind arith
 
+  -- and one of an opcode that isn't known keeps it
+  by_nobody : (P : Option ℕ → Bool) (k about refused : Bool) → k ≡ false → P None ≡ true
+      → P (other_when k about refused s.parameter) ≡ true
+  by_nobody P k about refused e none = ap (λ b. P (other_when b about refused s.parameter)) e ∙ none
+
   or_false : (b : Bool) → (b || false) ≡ b
   or_false b = grind arith
 
@@ -53,10 +58,36 @@ module _ (s : Sent) (a : Answer) where
   has_all : has_code s a ≡ true → IsApt s a → has_status s a ≡ true
   has_all code apt = grind arith
 
+  or_true : (b : Bool) → (b || true) ≡ true
+  or_true b = grind arith
+
   -- of a message that is long enough: its Success has no sub-code, or is an ONLINE's
   long_apt : (n : ℕ) → is_short s ≡ false → n ≤ s.bytes
       → ((a.status % 32 ≡ 0 → a.status ≡ 0) ⊎ (s.opcode ≡ 9)) → (a.status % 32 ≡ 1 → a.status / 256 < n) → IsApt s a
   long_apt n long span plain points = grind (arith, lt-ltb, eqb-true)
+
+  -- of one that is too short
+  short_apt : is_short s ≡ true → status_code a ≡ 1 → IsApt s a
+  short_apt short one = grind arith
+
+  -- and of one whose opcode isn't known: the sub-code is that of its byte 8
+  unknown_apt : a.status ≡ 0x0801 → IsApt s a
+  unknown_apt is = record {
+    whole = ap (λ n. not (is_short s) || not (nat_eq (n % 32) 0)) is ∙ or_true (not (is_short s));
+    plain = ap (λ n. not (nat_eq (n % 32) 0) || not (was_online a) || nat_eq s.opcode 9 || is_unknown s.opcode) is
+        ∙ first (not (was_online a)) (nat_eq s.opcode 9) (is_unknown s.opcode);
+    points = ap (λ n. not (nat_eq (n % 32) 1) || is_short s || nat_lt (n / 256) s.bytes) is
+        ∙ short_or (least_message s.opcode) s.bytes (least_low s.opcode);
+  }
+    where
+      first : (x y z : Bool) → (true || x || y || z) ≡ true
+      first x y z = grind arith
+
+      least_low : (op : ℕ) → 12 ≤ least_message op
+      least_low op = grind arith
+
+      short_or : (least n : ℕ) → 12 ≤ least → (nat_lt n least || nat_lt 8 n) ≡ true
+      short_or least n h = grind arith
 
   -- an opcode that is known
   known : (op : ℕ) → s.opcode ≡ op → a.unit ≡ s.unit → is_known a ≡ true → nat_eq a.code (op + 0x80) ≡ true
@@ -84,6 +115,10 @@ module _ (s : Sent) (a : Answer) where
             (ap (is_about a) other ∙ about);
         count = ap (has_count a) whole ∙ count;
       }
+
+  -- one that isn't
+  unknown : a.unit ≡ s.unit → is_known a ≡ false → a.status ≡ 0x0801 → is_required s.opcode ≡ false → Keeps s a
+  unknown unit k is apart = grind (arith, its_unit, has_all, unknown_apt, by_nobody)
 
   -- an opcode that is about no command and moves nothing
   plain : (op code : ℕ) → s.opcode ≡ op → a.unit ≡ s.unit → a.code ≡ code → nat_eq code 0x80 ≡ false
@@ -126,6 +161,45 @@ module _ (s : Sent) (a : Answer) where
       (ap (has_count a) w ∙ ap (λ f. moves a f count) q ∙ moved_right moved count (status_code a) few all)
       (move_apart kind)
 
+  -- a command that is shorter than its opcode asks
+  short_about : (o : Opcode) (code : ℕ) → s.opcode ≡ (row_of o).byte → a.unit ≡ s.unit → status_code a ≡ 1
+      → (is_about_another (row_of o).byte ≡ true → s.parameter ≡ None) → a.code ≡ bit_or (row_of o).byte 0x80
+      → has_count a (wanted (row_of o).byte s) ≡ true → is_short s ≡ true → Keeps s a
+  short_about o code e unit one none c count short =
+      let op = (row_of o).byte in
+      let P : Bool → Type 0 = λ b. is_about_another op ≡ b → (if b then s.parameter else None) ≡ None in
+      let nobody : asked op s ≡ None = elim (is_about_another op) as P [
+        | true ↦ λ h. none h
+        | false ↦ λ h. refl
+      ] refl in
+      known op e unit (ap (λ n. not (nat_eq n 0x80)) c ∙ top o) (ap (λ n. nat_eq n (op + 0x80)) c ∙ right o)
+      (ap (may_have op) one) (short_apt short one) (ap (succeeds a) nobody) (ap (is_about a) nobody) count (apart o)
+    where
+      top : (o : Opcode) → not (nat_eq (bit_or (row_of o).byte 0x80) 0x80) ≡ true
+      top o = grind arith
+
+      right : (o : Opcode) → nat_eq (bit_or (row_of o).byte 0x80) ((row_of o).byte + 0x80) ≡ true
+      right o = grind arith
+
+      apart : (o : Opcode) → nat_eq (row_of o).byte 17 ≡ false
+      apart o = grind arith
+
+  -- none of its bytes were moved
+  none_moved : (o : Opcode) → status_code a ≡ 1
+      → BodyReads (refused_body (bit_or (row_of o).byte 0x80)) a → has_count a (wanted (row_of o).byte s) ≡ true
+  none_moved code one q = grind arith
+
+  short_keeps : (o : Opcode) (byte fault status : ℕ) (body : EndBody) → IsShort o byte fault s
+      → a.unit ≡ s.unit → status ≡ fault → body ≡ refused_body (endcode (orders.Invalid byte fault))
+      → a.code ≡ endcode (orders.Invalid byte fault) → a.status ≡ status → BodyReads body a → Keeps s a
+  short_keeps o byte fault status body h unit is whole c st q =
+      let code : endcode (orders.Invalid byte fault) ≡ bit_or (row_of o).byte 0x80 =
+      ap (λ f. endcode (orders.Invalid byte f)) h.why ∙ ap (λ b. bit_or b 0x80) h.byte in
+      let one : status_code a ≡ 1 = ap (λ n. n % 32) (st ∙ is ∙ h.why) in
+      let read = subst (λ b. BodyReads b a) (whole ∙ ap refused_body code) q in
+      short_about o (bit_or (row_of o).byte 0x80) h.opcode unit one h.about (c ∙ code) (none_moved o one read)
+      h.short
+
   -- the sub-codes of those that suit an order
   abbrev Fine : ℕ → ℕ → Type 0
   Fine n status = (status % 32 ≡ 0 → status ≡ 0) × (status % 32 ≡ 1 → status / 256 < n)
@@ -144,7 +218,10 @@ module _ (s : Sent) (a : Answer) where
   keeps (orders.Abort other) status body says long suits fine unit c st q =
       about_other 1 129 other says.0 unit c refl refl refl refl refl says.1 (subst (λ b. BodyReads b a) suits.1 q) refl
       (ap (λ n. n % 32) st ∙ suits.0) (apt_never 16 status st long fine)
-  keeps (orders.Status other) status body says long suits fine unit c st q = grind arith
+  keeps (orders.Status other) status body says long suits fine unit c st q =
+      about_other 2 130 other says.0 unit c refl refl refl refl refl says.1 (subst (λ b. BodyReads b a) suits.2 q).0
+      refl
+      (ap (λ n. n % 32) st ∙ suits.0) (apt_never 16 status st long fine)
   keeps orders.UnitStatus status body says long suits fine unit c st q =
       plain 3 131 says unit c refl refl refl refl refl (ap (λ n. may_have 3 (n % 32)) st ∙ suits)
       (apt_never 12 status st long fine)
@@ -164,4 +241,9 @@ module _ (s : Sent) (a : Answer) where
       transfer kind suits.1 count says.0 unit c says.1 (subst (λ b. BodyReads b a) suits.2 q)
       (ap (λ n. may_have (move_byte kind) (n % 32)) st ∙ suits.0) (apt_by 32 status st long fine) suits.3
       (λ z. suits.4 (ap (λ n. n % 32) (sym st) ∙ z))
-  keeps (orders.Invalid byte fault) status body says long suits fine unit c st q = grind arith
+  keeps (orders.Invalid byte fault) status body says long suits fine unit c st q = ⊎_elim
+      (λ e. unknown unit
+      (ap (λ n. not (nat_eq n 0x80)) (c ∙ ap (λ f. endcode (orders.Invalid byte f)) e.0))
+      (st ∙ (suits.0 ∙ e.0)) e.1)
+      (λ short. short_keeps short.0 byte fault status body short.1 unit suits.0 suits.1 c st q)
+      says

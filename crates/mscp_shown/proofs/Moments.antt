@@ -44,8 +44,8 @@ module _ (c : Settings) (t : Trace) (k : Known c t)
   more (Event.Send own b) (Entry.Sent other (Err fault)) may patient r =
       stills c t (Event.Send own b, Entry.Sent other (Err fault)) h k r refl (λ via p. (refl, refl)) (λ n. refl) refl
       (λ via. refl)
-  more (Event.Send own b) (Entry.Sent other (Ok (Sent.Queued q))) may patient r = rw r.0 (queued_more c t own b k q h
-      r.1)
+  more (Event.Send own b) (Entry.Sent other (Ok (Sent.Queued q))) may patient r = rw r.0
+      (queued_more c t own b k q h r.1)
   more (Event.Send own b) (Entry.Sent other (Ok (Sent.Answered q a))) may patient r =
       subst (λ o. More c t (Event.Send own b, Entry.Sent o (Ok (Sent.Answered q a)))) (sym r.0)
       (answered_more c t own b k q a h facts
@@ -95,8 +95,8 @@ module _ (c : Settings) (t : Trace) (k : Known c t)
       by_side : (via : Connection) (here : Bool) → same_connection own via ≡ here
           → AllByRecursion (Holds c own t b.items s) (answer c own t b.items)
           → AllByRecursion (Holds c own t b.items s) ((if here then answer c via t b.items else []) ++ [])
-      by_side via true e all = rw (← one_side own via e) (subst (AllByRecursion (Holds c own t b.items s)) (sym
-          (append-nil (answer c own t b.items))) all)
+      by_side via true e all = rw (← one_side own via e) (subst (AllByRecursion (Holds c own t b.items s))
+          (sym (append-nil (answer c own t b.items))) all)
       by_side via false e all = tt
 
   stands_more : (event : Event) (entry : Entry) → IsPossible event → IsRight c t event entry

@@ -129,9 +129,9 @@ module _ (c : Settings) (own : Connection) (t : Trace) (xs : List Sent) (b : Lis
 
     pub queued_placed : (x y : ℕ) → is_waiting later x ≡ true → is_waiting later y ≡ true
         → Pairs (IsPlaced later x y) (xs ++ z ∷ [])
-    queued_placed x y wx wy = ⊎_elim (λ lx. ⊎_elim (λ ly. placed_before t m (xs ++ z ∷ []) x y lx ly (old_pairs x y
-        (waited t m x lx wx) (waited t m y ly wy))) (λ last. rw last.0 (to_last x lx)) (below_or_last t m y wy)) (λ
-        last. rw last.0 (from_last y)) (below_or_last t m x wx)
+    queued_placed x y wx wy = ⊎_elim (λ lx. ⊎_elim (λ ly. placed_before t m (xs ++ z ∷ []) x y lx ly
+        (old_pairs x y (waited t m x lx wx) (waited t m y ly wy))) (λ last. rw last.0 (to_last x lx))
+        (below_or_last t m y wy)) (λ last. rw last.0 (from_last y)) (below_or_last t m x wx)
 
 -- ---- a take
 module _ (c : Settings) (own : Connection) (t : Trace) (m : Moment) (xs : List Sent) (a : Answer) (i : ℕ)

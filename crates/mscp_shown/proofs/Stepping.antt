@@ -151,9 +151,10 @@ module _ (c : Settings) (t : Trace) (m : Moment) (known : Known c t) (h : Stands
           (λ via. at via ∙ (ap (λ o. if same_connection s.connection via then option_to_list o else []) none
           ∙ no_end (same_connection s.connection via) [])) q late
       by_end (Some end) ended = record {
-        stated = λ via unit_of. rw is (subst (Stated unit_of (is_online after unit_of) (told (shown t) via
-            unit_of).state) (sym (left_of via ∙ ap (λ es. untaken c via t ++ es) (at via))) (ended_by end ended via
-            unit_of (same_connection s.connection via) refl));
+        stated = λ via unit_of. rw is
+            (subst (Stated unit_of (is_online after unit_of) (told (shown t) via unit_of).state)
+            (sym (left_of via ∙ ap (λ es. untaken c via t ++ es) (at via))) (ended_by end ended via unit_of
+            (same_connection s.connection via) refl));
         there = still_there s k y (step_of s k y e v).0 (step_of s k y e v).1 st end ended fault;
         shared = rw is (waits_more t m (shown t) h.shared (λ e. absurd (false≢true (sym late ∙ e))));
         controller = λ n e'. h.controller n (sym (ap controller_of is) ∙ e');

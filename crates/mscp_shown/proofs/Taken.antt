@@ -87,8 +87,8 @@ module _ (c : Settings) (t : Trace) (own : Connection) (b : ArrayVec ℕ) (known
       let online : (unit : ℕ) → is_online (t ++ taking ∷ []) unit ≡ is_online t unit =
       λ unit. is_online_kept t taking unit refl in
       record {
-        stated = λ via unit. rw is (rw (online unit) (rw (told_then via unit) (by_side via unit (same_connection own
-            via) refl)));
+        stated = λ via unit. rw is
+            (rw (online unit) (rw (told_then via unit) (by_side via unit (same_connection own via) refl)));
         there = λ unit on. h.there unit (sym (online unit) ∙ on);
         shared = subst (λ l. AllByRecursion (λ x. Shares l (moment (t ++ taking ∷ []) x)) (waiting (t ++ taking ∷ [])))
             (sym is)
@@ -117,18 +117,20 @@ module _ (c : Settings) (t : Trace) (own : Connection) (b : ArrayVec ℕ) (known
           → Stated unit (is_online t unit)
           (told_after_end own unit sure (told (shown t) own unit) (answer_by own (end_bytes e))).state rest
       own_told unit true q = grind arith
-      own_told unit false q = rw (state_other c own e fit own unit false (told (shown t) own unit) (never
-          (wire.same_connection own own))) (stated_unsettled unit (is_online t unit) (told (shown t) own unit).state e
-          rest (sym (ap (λ k. brings_of k (answer_by own (end_bytes e)).status) (reads c own e fit).code ∙ ap (brings_of
-          e.code) (reads c own e fit).status) ∙ unsettled_brings (outstanding (shown t)) (answer_by own (end_bytes e))
-          q) (subst (Stated unit (is_online t unit) (told (shown t) own unit).state) us (h.stated own unit)).1)
+      own_told unit false q = rw (state_other c own e fit own unit false (told (shown t) own unit)
+          (never (wire.same_connection own own))) (stated_unsettled unit (is_online t unit)
+          (told (shown t) own unit).state e rest (sym (ap (λ k. brings_of k (answer_by own (end_bytes e)).status)
+          (reads c own e fit).code ∙ ap (brings_of e.code) (reads c own e fit).status) ∙ unsettled_brings
+          (outstanding (shown t)) (answer_by own (end_bytes e)) q)
+          (subst (Stated unit (is_online t unit) (told (shown t) own unit).state) us (h.stated own unit)).1)
 
       by_side : (via : Connection) (unit : ℕ) (here : Bool) → same_connection own via ≡ here
           → Stated unit (is_online t unit)
           (told_after_end via unit settled (told (shown t) via unit) (answer_by own (end_bytes e))).state
           (untaken c via (t ++ taking ∷ []))
       by_side via unit true side = grind (arith, untaken_took, own_told)
-      by_side via unit false side = subst (Stated unit (is_online t unit) (told_after_end via unit settled (told (shown
-          t) via unit) (answer_by own (end_bytes e))).state) (sym (untaken_more c via t taking side (known.room.taken
-          via) ∙ append-nil (untaken c via t))) (rw (state_other c own e fit via unit settled (told (shown t) via unit)
+      by_side via unit false side = subst (Stated unit (is_online t unit) (told_after_end via unit settled
+          (told (shown t) via unit) (answer_by own (end_bytes e))).state)
+          (sym (untaken_more c via t taking side (known.room.taken via) ∙ append-nil (untaken c via t)))
+          (rw (state_other c own e fit via unit settled (told (shown t) via unit)
           (ap (λ b. b && settled) (same_sides own via ∙ side))) (h.stated via unit))
