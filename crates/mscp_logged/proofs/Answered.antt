@@ -5,9 +5,6 @@ use Rattle.mscp_logged.proofs.Suited.{IsKnown, IsSuited, formal_opcode, formal_s
 move_opcode : (P : ℕ → Type 0) → P 16 → P 18 → P 32 → P 33 → P 34 → (n : ℕ) → moves_opcode n ≡ true → P n
 move_opcode P a b c d f n e = grind (arith, eqb-true, false≢true)
 
-zero_moved : (n : ℕ) → (nat_le 0 n && (nat_eq 0 n || true)) ≡ true
-zero_moved n = grind arith
-
 module _ (b : List ℕ) (long : nat_le 32 (length b) ≡ true) where
   at_least : 32 ≤ length b
   at_least = search (arith, long)
@@ -70,13 +67,13 @@ module _ (b : List ℕ) (long : nat_le 32 (length b) ≡ true) where
     where
       none : (n : ℕ) → has_count (answer_by First (refused_text 0x1C01 n))
           (cond (nat_le 16 (length b)) (Some (num b 12 4)) None) ≡ true
-      none n = grind (arith, has_parameter, zero_moved)
+      none n = grind (arith, has_parameter)
   counts_none status (inr e) n is = subst (λ s. RefusedCount s n) (sym e)
       (move_opcode (RefusedCount 0x0C01) (none 16) (none 18) (none 32) (none 33) (none 34) n is)
     where
       none : (n : ℕ) → has_count (answer_by First (refused_text 0x0C01 n))
           (cond (nat_le 16 (length b)) (Some (num b 12 4)) None) ≡ true
-      none n = grind (arith, has_parameter, zero_moved)
+      none n = grind (arith, has_parameter)
 
   refused_status : (status : ℕ) → (status ≡ 0x1C01) ⊎ (status ≡ 0x0C01) → (n : ℕ) → moves_opcode n ≡ true
       → RefusedStatus status n

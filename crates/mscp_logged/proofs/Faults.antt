@@ -1,6 +1,6 @@
 -- What a controller is told of a step is what a drive may tell, and a unit that isn't online ends no other command
 -- than a transfer.
-use Rattle.mscp_logged.proofs.Common.{Bool, Buffer, Err, IsBegunStep, IsFault, IsFaultTold, IsHow, List, MoveKind, Name, None, Ok, Option, Order, Outcome, Port, Record, Result, Some, Task, Upcoming, Verdict, Volume, arith, begun_step, block_begun, block_served, block_told, changed_verdict, cond, drive_of, faulted, find, has_name, inl, inr, is_move, known_task, move_of, move_task, moved_by, option_map, part_at, part_served, part_task, part_with, place_in, refl, subst, sym, task_of, true, upcoming_of, ℕ, ◌%◌, ◌<◌, ◌^◌, ◌≡◌, ◌≤◌}
+use Rattle.mscp_logged.proofs.Common.{Buffer, Err, IsBegunStep, IsFault, IsFaultTold, IsHow, List, MoveKind, Name, None, Ok, Option, Order, Outcome, Port, Record, Result, Some, Task, Upcoming, Verdict, Volume, arith, begun_step, block_begun, block_served, block_told, drive_of, faulted, find, has_name, inl, inr, is_move, known_task, move_of, move_task, moved_by, option_map, part_at, part_served, part_task, part_with, place_in, refl, subst, sym, true, upcoming_of, ℕ, ◌%◌, ◌<◌, ◌^◌, ◌≡◌, ◌≤◌}
 use Rattle.mscp_drive.specs.declared.block.Block.TheVariants as blocks
 use Rattle.mscp_port.specs.declared.task.Task.TheVariants as tasks
 use Rattle.mscp_port.specs.declared.verdict.Verdict.TheVariants as verdicts
@@ -24,9 +24,6 @@ IsFineTask order (tasks.Step verdict) = IsFine order verdict
 IsFineTask order task = Unit {0}
 
 module _ (order : Order) where
-  fine_task : (c : Bool) (x y : Task) → IsFineTask order x → IsFineTask order y → IsFineTask order (cond c x y)
-  fine_task c x y a b = grind arith
-
   fault : (n : ℕ) → (n < 2 ^ 16) × (5 ≤ n % 32) × (n % 32 ≤ 11) → IsFine order (faulted n)
   fault n h = (h, λ e. absurd (search (arith, e)))
 
@@ -35,9 +32,6 @@ module _ (order : Order) where
 
   drive_error : IsFine order (faulted 0x000B)
   drive_error = fault 0x000B (omega arith, omega arith, omega arith)
-
-  changed_fine : (v : Volume) → IsFine order (changed_verdict v)
-  changed_fine v = grind arith
 
   part_fine : is_move order ≡ true → (kind : MoveKind) (block done : ℕ) (b : Buffer) (v : Volume)
       → IsFineOr order (part_with kind block done b v)
@@ -67,12 +61,9 @@ module _ (u : Upcoming) where
   move_task_fine b v (Some move) e = part_task_fine order (part_with move.0 move.1 u.done b v)
       (part_fine order (moved_is order u.lbn move e) move.0 move.1 u.done b v)
 
-  task_fine : (b : Buffer) (v : Volume) → IsFineTask order (task_of u b v)
-  task_fine b v = grind (arith, fine_task, good, changed_fine, move_task_fine)
-
   known_fine : (place : Option ℕ) (kept : Option Buffer) (volumes : List Volume)
       → IsFineTask order (known_task u place kept volumes)
-  known_fine place kept volumes = grind (arith, task_fine, drive_error)
+  known_fine place kept volumes = grind (arith, good, move_task_fine, drive_error)
 
 -- ---- what is told
 

@@ -42,16 +42,10 @@ of_sequential r t of e = by (is_formality (slice_index t 8)) refl
 fence_of : (a b c d : Bool) → ((a && (b || c)) || (d && b)) ≡ true → (a || b) ≡ true
 fence_of a b c d h = grind (arith, false≢true)
 
-none_back : (b seq ord y z : Bool) → y ≡ false → z ≡ false → (b && ((seq && (y || z)) || (ord && y))) ≡ false
-none_back b seq ord y z p q = grind arith
-
-none_keeps : (b seq ord y z : Bool) → seq ≡ false → ord ≡ false → (b && ((seq && (y || z)) || (ord && y))) ≡ false
-none_keeps b seq ord y z p q = grind arith
-
 -- a message that is no transfer's, nor a sequential command's, waits for none
 pub unplaced : (t : List ℕ) → wire.is_sequential (slice_index t 8) ≡ false → wire.is_ordered (slice_index t 8) ≡ false
     → (u : List ℕ) → keeps t u ≡ false
-unplaced t p q u = grind (arith, none_back)
+unplaced t p q u = grind arith
 
 asks_third : (t : List ℕ) → asks_next t ≡ true → slice_index t 8 ≡ 3
 asks_third t e = eqb-true (slice_index t 8) 3 (and_parts (slice_index t 8 == 3) (num t 10 2 % 2 == 1) e).0
@@ -64,7 +58,7 @@ pub unit_later : (unit : ℕ) (t u : List ℕ) → keeps t u ≡ true → IsUnit
 unit_later unit t u e x = grind (arith, unplaced, asks_third)
 
 pub unit_earlier : (unit : ℕ) (t u : List ℕ) → keeps t u ≡ true → IsUnitIn unit u → unit ≡ num u 4 2
-unit_earlier unit t u e x = grind (arith, none_keeps, asks_third)
+unit_earlier unit t u e x = grind (arith, asks_third)
 
 -- the command of this message waits
 pub record IsWaiting (rs : List Record) (t : List ℕ) : Type 0 where

@@ -48,10 +48,6 @@ module _ (Tie : List ℕ → List ℕ → Type 0) (xs : List Sent) (aw : List (L
         ≡ filter (named k) front ++ cond (named k x) (x ∷ filter (named k) back) (filter (named k) back)
     all_of k = ap (filter (named k)) f.is ∙ filter-append (named k) front (x ∷ back)
 
-    left_of : (k : ℕ) → filter (named k) (after_end xs answer (Some (length front)))
-        ≡ map hear (filter (named k) front ++ filter (named k) back)
-    left_of k = grind (arith, after, filter_map, filter-append)
-
     -- it is the only one of the number
     only : x ∷ filter (named n) back ≡ owed.own ∷ []
     only = grind (arith, all_of, none_front)
@@ -71,14 +67,14 @@ module _ (Tie : List ℕ → List ℕ → Type 0) (xs : List Sent) (aw : List (L
         none_behind = tail_of x owed.own (filter (named n) back) only
 
     none_left : filter (named n) (after_end xs answer (Some (length front))) ≡ []
-    none_left = grind (arith, left_of, none_front, only)
+    none_left = grind (arith, after, filter_map, filter-append, none_front, only)
 
     first_is : x ≡ owed.own
     first_is = grind (arith, only)
 
     other_left : (k : ℕ) → nat_eq n k ≡ false
         → filter (named k) (after_end xs answer (Some (length front))) ≡ map hear (filter (named k) xs)
-    other_left k d = grind (arith, left_of, all_of, eqb-true, and_parts, and_false)
+    other_left k d = grind (arith, after, filter_map, filter-append, all_of, eqb-true, and_parts, and_false)
 
     each_left : (k : ℕ) → At (after_end xs answer (Some (length front))) aw k
     each_left k = elim (same_or n k) [

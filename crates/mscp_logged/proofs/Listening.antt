@@ -66,12 +66,9 @@ module _ {K : Type 0} (bytes : List ℕ) (done : Unit) (old new : Port K) (aw : 
     abbrev figure : ℕ
     figure = figure_polled h.settings First h.waiting command.order
 
-    unit_is : own.unit ≡ command.unit
-    unit_is = grind arith
-
     own_decided : IsDecided h.settings.units (verdicts.Served blocks.Good) (W command.unit) (W command.unit) own
         (answer_by old new own)
-    own_decided = grind (arith, unit_is, decided)
+    own_decided = grind (arith, decided)
 
     few_unit : command.unit < 2 ^ 16
     few_unit = handed_small old.controller.settings.units bytes g.long small

@@ -1,5 +1,5 @@
 -- No end of a port's passes a command that it has to wait for, over a whole list of calls.
-use Rattle.mscp_logged.proofs.Common.{Action, AllByRecursion, Answered, At, Bool, Call, Decided, End, Fitting, IsNoReset, IsPassive, KeepsPromise, Kept, List, Made, Next, None, Ok, Option, Own, Picking, Port, ReadsBytes, Record, Settings, Shape, Some, TakesEnd, Verdict, Volume, Wants, WasRead, Went, WriteIp, [], ap, arith, awaited, begun_end, blocks, drop, ends_begun, ends_of, ends_said_by, false, false≢true, few_ends, filter, find_cases, find_none, first_of_one, fitting, inl, inr, is_apart, is_numbered, is_some, kept, knows, named, num, option_map, own_answer, own_text, passive_said, passive_stays, passive_taken, place_in, position_first, refl, said, says_is, slice_get, subst, sym, told_end, true, unit_found, volume_named, whole, ℕ, ◌%◌, ◌∙◌, ◌∷◌, ◌≡◌, ◌⊎◌}
+use Rattle.mscp_logged.proofs.Common.{Action, AllByRecursion, Answered, At, Bool, Call, Decided, End, Fitting, IsNoReset, IsPassive, KeepsPromise, Kept, List, Made, Next, None, Ok, Option, Own, Picking, Port, ReadsBytes, Record, Settings, Some, TakesEnd, Verdict, Volume, Wants, WasRead, Went, WriteIp, [], ap, arith, awaited, begun_end, blocks, drop, ends_begun, ends_of, ends_said_by, false, false≢true, few_ends, filter, find_cases, find_none, first_of_one, fitting, inl, inr, is_apart, is_numbered, is_some, kept, knows, named, num, own_answer, own_text, passive_said, passive_stays, passive_taken, position_first, refl, said, says_is, slice_get, subst, sym, told_end, true, unit_found, volume_named, whole, ℕ, ◌%◌, ◌∙◌, ◌∷◌, ◌≡◌, ◌⊎◌}
 use Rattle.mscp_logged.proofs.Clear.{IsClear, Ordered, clear_forgotten, unended, unended_none}
 use Rattle.mscp_logged.proofs.Fences.{IsWaiting, same_unit, unit_earlier}
 use Rattle.mscp_logged.proofs.Hearing.{read_ordered}
@@ -44,13 +44,6 @@ own_or : (v : Option Volume) (b : List ℕ) (own : Own) → own_answer false v b
     → (v ≡ None) ⊎ (is_apart (num (own_text b own) 10 2 % 32) ≡ true)
 own_or None b own h = inl refl
 own_or (Some v) b own h = grind arith
-
--- a unit that has no place isn't there
-no_unit : (units : List Shape) (n : ℕ) → place_in units n ≡ None → unit_found units n ≡ None
-no_unit units n none = grind (arith, find_cases, find_none, position_first)
-
-no_place : (f : ℕ → Volume) (o : Option ℕ) → option_map f o ≡ None → o ≡ None
-no_place f o e = grind arith
 
 -- ---- calls
 
@@ -140,7 +133,7 @@ module _ {K : Type 0} {picks : Picking K} (run : Begun picks) (keeping : IsKeepi
   ]
     where
       missing : volume_named p text ≡ None → unit_found c.units (num text 4 2) ≡ None
-      missing absent = grind (arith, promised, no_unit, no_place)
+      missing absent = grind (arith, promised, find_cases, find_none, position_first)
 
       free : unit_found c.units (num text 4 2) ≡ None → (u : List ℕ) → IsWaiting p.controller.waiting u → (b : Bool)
           → keeps text u ≡ b → b ≡ false

@@ -1,5 +1,5 @@
 -- An end that a step gives says that its unit is online, or that it isn't, only if that is so.
-use Rattle.mscp_logged.proofs.Common.{Answer, Block, Bool, Decided, End, First, Hardware, IsFault, List, MoveKind, Order, Shape, Verdict, Volume, and_parts, answer_by, ap, arith, bad_status, block_told, block_touched, brings, end_with_body, endcode, ends_formality, eqb-true, false, false≢true, inl, inr, is_immediate, is_moved, is_of_unit, is_some, moved_by, nat_eq, outcome_status, refl, says_away, says_online, status_after, subst, sym, true, unit_found, ℕ, ◌%◌, ◌/◌, ◌||◌, ◌∙◌, ◌≡◌, ◌≢◌, ◌⊎◌}
+use Rattle.mscp_logged.proofs.Common.{Answer, Bool, Decided, End, First, Hardware, IsFault, List, Order, Shape, Verdict, Volume, and_parts, answer_by, ap, arith, bad_status, block_told, block_touched, brings, end_with_body, endcode, ends_formality, eqb-true, false, false≢true, inl, inr, is_immediate, is_moved, is_of_unit, is_some, moved_by, nat_eq, outcome_status, refl, says_away, says_online, status_after, subst, sym, true, unit_found, ℕ, ◌%◌, ◌/◌, ◌||◌, ◌∙◌, ◌≡◌, ◌≢◌, ◌⊎◌}
 use Rattle.mscp_packet.specs.declared.command.Order.TheVariants as orders
 use Rattle.mscp_drive.specs.declared.block.Block.TheVariants as blocks
 use Rattle.mscp_port.specs.declared.verdict.Verdict.TheVariants as verdicts
@@ -56,12 +56,6 @@ module _ (v : Volume) (online : Bool) (driven : v.is_mounted ≡ true → online
   Told order verdict = IsGone (status_after verdict (endcode order)
       (outcome_status online order (block_told verdict)) v % 32)
 
-  -- of a transfer
-  move_gone : (kind : MoveKind) (count block : ℕ) (b : Block) → IsFault b
-      → Told (orders.Move kind count block) (verdicts.Served b)
-      → IsOff v (endcode (orders.Move kind count block)) (outcome_status online (orders.Move kind count block) b)
-  move_gone kind count block b fault gone = grind arith
-
   -- of any command that waited
   gone_off : (order : Order) (verdict : Verdict) → is_immediate order ≡ false
       → ((byte why : ℕ) → order ≢ orders.Invalid byte why) → (moves : Bool) → IsSure moves v verdict
@@ -69,7 +63,7 @@ module _ (v : Volume) (online : Bool) (driven : v.is_mounted ≡ true → online
       → IsOff v (endcode order) (outcome_status online order (block_told verdict))
   gone_off order verdicts.NoVolume waits valid moves sure fault h = (sure, λ code good. error_bad online order good)
   gone_off order verdicts.NotOnline waits valid moves sure fault h = (sure, λ code good. error_bad online order good)
-  gone_off (orders.Move kind count block) (verdicts.Served b) waits valid moves sure fault h = grind (arith, move_gone)
+  gone_off (orders.Move kind count block) (verdicts.Served b) waits valid moves sure fault h = grind arith
   gone_off orders.Online (verdicts.Served blocks.Good) waits valid moves sure fault h = grind arith
   gone_off orders.Online (verdicts.Served (blocks.Bad n)) waits valid moves sure fault h = grind arith
   gone_off orders.SetUnit (verdicts.Served blocks.Good) waits valid moves sure fault h = absurd (zero_gone 0 refl h)
@@ -93,9 +87,6 @@ module _ (h : Hardware) (units : List Shape) (verdict : Verdict) (online : Bool)
 
   abbrev given_status : ℕ
   given_status = outcome_status online order (block_told verdict)
-
-  off_now : IsOff v e.code e.status → w.is_mounted ≡ false
-  off_now off = grind arith
 
   module _ (plain : ends_formality d.code ≡ false) (reads : Reads a e.code d.status) where
     status : d.status ≡ status_after verdict (endcode order) given_status v
@@ -135,11 +126,8 @@ module _ (h : Hardware) (units : List Shape) (verdict : Verdict) (online : Bool)
         by (orders.Invalid byte why) good on sure bit waits valid = absurd (valid byte why refl)
         by order good on sure bit waits valid = search (arith, waits)
 
-    gone_now : IsGone (a.status % 32) → w.is_mounted ≡ false
-    gone_now gone = grind (arith, gone_off, low, off_now)
-
     away_so : IsAwayCode a.code (a.status % 32) → w.is_mounted ≡ false
-    away_so x = grind (arith, gone_now)
+    away_so x = grind (arith, gone_off, low)
 
   pub step_says : (brings a ≡ false → IsAsWas v w) → Says v w a
   step_says stays = by (text_reads h units e d)

@@ -1,5 +1,5 @@
 -- An end that answers a message, or that of a command which is aborted, tells of its unit what is so.
-use Rattle.mscp_logged.proofs.Common.{Answer, Bool, Command, Decided, End, First, Hardware, IsPast, List, None, Option, Order, Own, Record, Settings, Shape, Some, Volume, aborted_record, answer_by, ap, arith, brings, command_of, describes, end_with_body, endcode, ends_formality, eqb-true, false, fault_of, inl, inr, is_queued, of, or_right, own_answer, own_cases, own_end, own_end_with, own_formal, own_refused, own_text, refl, refused_apart, sent_by, sent_says, slice_index, status_after, subst, sym, tells_unit, true, unit_found, unit_state, ℕ, ◌%◌, ◌+◌, ◌<◌, ◌^◌, ◌∙◌, ◌≡◌, ◌⊎◌}
+use Rattle.mscp_logged.proofs.Common.{Answer, Bool, Command, Decided, End, First, Hardware, IsPast, List, None, Option, Order, Own, Record, Settings, Shape, Some, Volume, aborted_record, answer_by, ap, arith, brings, command_of, describes, end_with_body, ends_formality, eqb-true, false, fault_of, inl, inr, is_queued, of, or_right, own_answer, own_cases, own_end, own_end_with, own_formal, own_refused, own_text, refl, refused_apart, sent_by, sent_says, slice_index, status_after, subst, sym, tells_unit, true, unit_found, unit_state, ℕ, ◌%◌, ◌+◌, ◌<◌, ◌^◌, ◌∙◌, ◌≡◌, ◌⊎◌}
 use Rattle.mscp_packet.specs.declared.command.Order.TheVariants as orders
 use Rattle.mscp_drive.specs.declared.block.Block.TheVariants as blocks
 use Rattle.mscp_port.specs.declared.verdict.Verdict.TheVariants as verdicts
@@ -95,10 +95,6 @@ module _ (h : Hardware) (c : Settings) (online : Bool) (figure : ℕ) (sent : Li
       not_available : status % 32 ≡ 4 → ⊥
       not_available good = grind (arith, either)
 
-  coded : (order : Order) → k.order ≡ order → (code : ℕ) → endcode order ≡ code → fault_of c k ≡ None
-      → (IsTelling code → ⊥) → So
-  coded order of code is none never = grind (arith, never_so, uncoded)
-
   -- that of a GET UNIT STATUS
   module _ (of : k.order ≡ orders.UnitStatus) (none : fault_of c k ≡ None) where
     pub end_is : e ≡ own_end_with c online figure (record (command_of sent) { order = orders.UnitStatus }) None
@@ -121,14 +117,11 @@ module _ (h : Hardware) (c : Settings) (online : Bool) (figure : ℕ) (sent : Li
             (λ is. formal_telling d.code x.0 (subst (λ n. IsTelling n) x.1.code (describes_so a is).code))
         by (inr x) = grind arith
 
-    status_so : So
-    status_so u = grind (arith, same_volume, text_unit, end_is, eqb-true, tells)
-
   pub reply_told : So
   reply_told = by (fault_of c k) refl
     where
       open_so : fault_of c k ≡ None → (order : Order) → k.order ≡ order → So
-      open_so none order of = grind (arith, status_so, coded, of)
+      open_so none order of = grind (arith, same_volume, text_unit, end_is, eqb-true, tells, never_so, uncoded, of)
 
       by : (o : Option ℕ) → fault_of c k ≡ o → So
       by None none = open_so none k.order refl

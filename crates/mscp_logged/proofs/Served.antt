@@ -1,5 +1,5 @@
 -- The end that a step gives to the host tells of its unit what is so, and says whether that is online as that is so.
-use Rattle.mscp_logged.proofs.Common.{Block, Bool, Buffer, Decided, Drive, End, Ended, First, FitsBuffer, Hardware, IsBegunStep, IsFaultTold, IsHow, IsOf, IsPlainEnd, List, Name, Order, Outcome, Port, Record, Settings, Shape, Some, Verdict, Volume, [], answer_by, ap, arith, block_told, brought_for, code_told, cond, decided_by, decided_code, drive_after, drive_of, end_given, endcode, ends_formality, eq-eqb, eqb-true, false, false≢true, filter, find, given_of, has_name, inl, inr, is_formality, is_good_block, is_immediate, is_of, is_some, is_success, kept_of, kept_one, moved_by, num, one_ended, queued_open, refl, replaced, state_left, subst, sym, touched, touches, true, unit_found, valid_order, volume_found, volumes_after, ℕ, ◌%◌, ◌&&◌, ◌+◌, ◌<◌, ◌^◌, ◌∙◌, ◌∷◌, ◌≡◌, ◌≢◌, ◌⊎◌}
+use Rattle.mscp_logged.proofs.Common.{Block, Bool, Buffer, Decided, Drive, End, Ended, First, FitsBuffer, Hardware, IsBegunStep, IsFaultTold, IsHow, IsOf, IsPlainEnd, List, Name, Order, Outcome, Port, Record, Settings, Shape, Some, Verdict, Volume, [], answer_by, ap, arith, block_told, brought_for, code_told, cond, decided_by, decided_code, drive_after, drive_of, end_given, endcode, ends_formality, eq-eqb, eqb-true, false, false≢true, filter, find, given_of, has_name, inl, inr, is_formality, is_good_block, is_of, is_some, is_success, kept_of, kept_one, moved_by, num, one_ended, queued_open, refl, replaced, state_left, subst, sym, touched, touches, true, unit_found, valid_order, volume_found, volumes_after, ℕ, ◌%◌, ◌&&◌, ◌+◌, ◌<◌, ◌^◌, ◌∙◌, ◌∷◌, ◌≡◌, ◌⊎◌}
 use Rattle.mscp_logged.proofs.Bytes.{handed_small, stood_code}
 use Rattle.mscp_logged.proofs.Describing.{IsAsWas, IsTold, mine, Tells}
 use Rattle.mscp_logged.proofs.Made.{given_is}
@@ -156,13 +156,9 @@ module _ {c : Settings} {K : Type 0} {outcome : Outcome} {verdict : Verdict} {ol
 
     -- ---- and the controller's drive
 
-    is_online : (order : Order) → is_immediate order ≡ false → ((byte why : ℕ) → order ≢ orders.Invalid byte why)
-        → endcode order ≡ 0x89 → order ≡ orders.Online
-    is_online order waits valid code = grind arith
-
     goes_online : e.code ≡ 0x89 → e.status % 32 ≡ 0 → (online : Bool)
         → state_left online r.command.order (Some e) ≡ true
-    goes_online code good online = grind (arith, is_online, its_end)
+    goes_online code good online = grind (arith, its_end)
 
     stays_online : (order : Order) → order ≡ r.command.order → (u : ℕ) → (W u).is_mounted ≡ true
         → r.command.unit ≡ u → state_left true order (Some e) ≡ true

@@ -1,6 +1,6 @@
 -- An end of the controller's as it goes out keeps the rules of statuses and of bytes, and tells no other identifier of
 -- the controller than its own.
-use Rattle.mscp_logged.proofs.Common.{Answer, BodyReads, Bool, Decided, End, EndBody, First, Hardware, IsBodyFit, IsCodeFor, IsMade, IsSaid, IsToldSo, Leaving, List, None, Option, Port, Record, Settings, Shape, Some, Verdict, Volume, answer_by, ap, arith, block_told, code_of, command_of, cond, controller_end, controller_in, count_of, end_bytes, end_with_body, ends_formality, eqb-true, false, formal_status, handed, has_code, has_count, has_status, head, inl, inr, is_formality, is_plain, keeps, kind_of_body, left_with, length, little_bytes, nat_eq, nat_le, nat_lt, not, num, points_into, refl, sent_by, slice_index, status_after, status_code, status_told, subst, sym, true, two, unit_found, ℕ, ◌%◌, ◌&&◌, ◌+◌, ◌<◌, ◌^◌, ◌||◌, ◌∙◌, ◌≡◌, ◌≤◌, ◌⊎◌}
+use Rattle.mscp_logged.proofs.Common.{Answer, BodyReads, Bool, Decided, End, EndBody, First, Hardware, IsBodyFit, IsCodeFor, IsMade, IsSaid, IsToldSo, Leaving, List, None, Option, Port, Record, Settings, Shape, Some, Verdict, Volume, answer_by, ap, arith, block_told, code_of, command_of, cond, controller_in, count_of, end_with_body, ends_formality, eqb-true, false, formal_status, handed, has_code, has_count, has_status, head, inl, inr, is_formality, is_plain, keeps, kind_of_body, left_with, length, little_bytes, nat_eq, nat_le, nat_lt, not, num, points_into, refl, sent_by, slice_index, status_after, status_code, status_told, subst, sym, true, two, unit_found, ℕ, ◌%◌, ◌&&◌, ◌+◌, ◌<◌, ◌^◌, ◌||◌, ◌∙◌, ◌≡◌, ◌≤◌, ◌⊎◌}
 use Rattle.mscp_packet.specs.declared.end.BodyKind.TheVariants as kinds
 use Rattle.mscp_packet.specs.declared.end.EndBody.TheVariants as bodies
 use Rattle.mscp_drive.specs.declared.block.Block.TheVariants as blocks
@@ -176,17 +176,12 @@ module _ {K : Type 0} (c : Settings) (Told : Verdict → Record → Type 0) (old
           from (inr (inr x)) = absurd (of_code x.own t x.of
               (ap (λ (y : End). y.code) (given_is (block_told x.verdict) x.drive x.own e x.end).end ∙ code))
 
-      told_id : (b : Bool) (timeout id : ℕ) → e.body ≡ bodies.Controller timeout id
-          → num (cond b (controller_end e d old.hardware timeout id) (end_bytes (record e { status = d.status }))) 20 8
-          ≡ num (little_bytes 8 id) 0 8
-      told_id b timeout id body = grind arith
-
       other : (body : EndBody) → e.body ≡ body → (kind_of_body body ≡ kinds.Controller → ⊥) → num text 20 8
           ≡ identifier c
       other body same never = grind arith
 
       by : (body : EndBody) → e.body ≡ body → num text 20 8 ≡ identifier c
-      by (bodies.Controller timeout id) same = grind (arith, text_is, told_id, answered)
+      by (bodies.Controller timeout id) same = grind (arith, text_is, answered)
       by body same = other body same (λ k. search (arith, k))
 
   pub tells_known : IsKnown c (controller_in text)

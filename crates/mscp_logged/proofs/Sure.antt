@@ -1,6 +1,6 @@
 -- How a step went that ended otherwise than its drive told: its unit isn't online with its volume. And a transfer goes
 -- well only while it is.
-use Rattle.mscp_logged.proofs.Common.{Block, Bool, Buffer, Err, IsBegunStep, IsHow, List, MoveKind, Name, None, Ok, Option, Order, Outcome, Port, Record, Result, Some, Task, Upcoming, Verdict, Volume, arith, begun_record, begun_step, block_begun, block_served, changed_verdict, cond, drive_of, false, false≢true, faulted, find, has_name, inl, is_available, is_some, known_task, move_of, move_task, moved_by, option_map, part_at, part_served, part_with, takes_any_volume, task_of, true, upcoming_of, volume_found, volume_in_place, ℕ, ◌%◌, ◌≡◌, ◌≤◌, ◌⊎◌}
+use Rattle.mscp_logged.proofs.Common.{Block, Bool, Buffer, Err, IsBegunStep, IsHow, List, MoveKind, Name, None, Ok, Option, Outcome, Port, Record, Result, Some, Task, Upcoming, Verdict, Volume, arith, begun_record, begun_step, block_begun, block_served, drive_of, false, false≢true, faulted, find, has_name, inl, is_some, known_task, move_of, move_task, option_map, part_served, true, upcoming_of, volume_found, volume_in_place, ℕ, ◌%◌, ◌≡◌, ◌≤◌, ◌⊎◌}
 use Rattle.mscp_drive.specs.declared.block.Block.TheVariants as blocks
 use Rattle.mscp_port.specs.declared.task.Task.TheVariants as tasks
 use Rattle.mscp_port.specs.declared.verdict.Verdict.TheVariants as verdicts
@@ -30,32 +30,11 @@ IsSureTask moves v task = Unit {0}
 drive_error : (moves : Bool) (v : Volume) → IsSure moves v (faulted 0x000B)
 drive_error moves v = inl (omega arith, omega arith)
 
-changed_sure : (moves : Bool) (v : Volume) → IsSure moves v (changed_verdict v)
-changed_sure moves v = grind arith
-
-part_sure : (kind : MoveKind) (block done : ℕ) (b : Buffer) (v : Volume)
-    → IsSureOr v (part_with kind block done b v)
-part_sure kind block done b v = grind arith
-
 -- ---- a step
-
-task_cond : (moves : Bool) (v : Volume) (c : Bool) (x y : Task) → (c ≡ true → IsSureTask moves v x)
-    → IsSureTask moves v y → IsSureTask moves v (cond c x y)
-task_cond moves v c x y a b = grind arith
 
 -- it moves a block
 abbrev pub moves_block : Upcoming → Bool
 moves_block u = is_some (move_of u)
-
-none_moves : (v : Volume) (move : Option (MoveKind × ℕ)) → move ≡ None
-    → IsSure (is_some move) v (verdicts.Served blocks.Good)
-none_moves v move e = grind arith
-
-available_still : (order : Order) (lbn : Option ℕ) → is_available order ≡ true → moved_by order lbn ≡ None
-available_still order lbn e = grind arith
-
-any_still : (order : Order) (lbn : Option ℕ) → takes_any_volume order ≡ true → moved_by order lbn ≡ None
-any_still order lbn e = grind arith
 
 module _ (u : Upcoming) where
   move_sure : (b : Buffer) (v : Volume) (move : Option (MoveKind × ℕ))
@@ -63,16 +42,9 @@ module _ (u : Upcoming) where
   move_sure b v None = λ moves. absurd (false≢true moves)
   move_sure b v (Some move) = grind arith
 
-  task_sure : (b : Buffer) (v : Volume) → IsSureTask (moves_block u) v (task_of u b v)
-  task_sure b v = grind (arith, task_cond, none_moves, available_still, any_still, changed_sure, move_sure)
-
   known_sure : (place : Option ℕ) (kept : Option Buffer) (volumes : List Volume)
       → IsSureTask (moves_block u) (volume_in_place volumes place) (known_task u place kept volumes)
-  known_sure place kept volumes = grind (arith, task_sure, drive_error)
-
-at_sure : (place : Option ℕ) (kept : Option Buffer) (kind : MoveKind) (block done : ℕ) (volumes : List Volume)
-    → IsSureOr (volume_in_place volumes place) (part_at place kept kind block done volumes)
-at_sure place kept kind block done volumes = grind (arith, part_sure, drive_error)
+  known_sure place kept volumes = grind (arith, move_sure, drive_error)
 
 -- ---- what is told
 
@@ -88,9 +60,6 @@ module _ {K : Type 0} (old : Port K) (outcome : Outcome) (step : IsBegunStep old
   begun_is : begun_step old.controller ≡ Some u
   begun_is = begun_record old.controller name r was found
 
-  step_sure : (verdict : Verdict) → old.task ≡ tasks.Step verdict → IsSure (moves_block u) v verdict
-  step_sure verdict at = grind (arith, begun_is, known_sure)
-
   moved_sure : IsSure (moves_block u) v (block_served old outcome (block_begun old))
   moved_sure = rw begun_is (by (move_of u))
     where
@@ -99,7 +68,7 @@ module _ {K : Type 0} (old : Port K) (outcome : Outcome) (step : IsBegunStep old
 
       by : (move : Option (MoveKind × ℕ))
           → IsSure (is_some move) v (block_served old outcome (option_map (λ move. (u, move.0, move.1)) move))
-      by move = grind (arith, drive_error, served, at_sure)
+      by move = grind (arith, drive_error, served)
 
   pub told_sure : (verdict : Verdict) → IsHow old outcome verdict → IsSure (moves_block u) v verdict
-  told_sure verdict x = grind (arith, step_sure, moved_sure)
+  told_sure verdict x = grind (arith, begun_is, known_sure, moved_sure)

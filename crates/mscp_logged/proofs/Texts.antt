@@ -1,6 +1,6 @@
 -- The texts of the disk's ends that are still to come: of what goes out, and behind it of those that wait in the
 -- controller, each with what was decided of it. By each call more come behind them.
-use Rattle.mscp_logged.proofs.Common.{Action, Bool, Decided, End, Hardware, List, None, Option, Outgoing, Port, Shape, Some, TakesEnd, Wants, [], ap, append-nil, arith, begun_end, drop, end_said, end_told, ends_begun, ends_of, length, map, refl, same_Some, says_is, slice_get, told_end, unit_found, zipped, ℕ, ◌++◌, ◌∷◌, ◌≡◌}
+use Rattle.mscp_logged.proofs.Common.{Action, Bool, Decided, End, Hardware, List, None, Option, Outgoing, Port, Shape, Some, Wants, [], ap, append-nil, arith, begun_end, drop, end_said, end_told, ends_begun, ends_of, length, map, refl, same_Some, says_is, slice_get, unit_found, zipped, ℕ, ◌++◌, ◌∷◌, ◌≡◌}
 
 -- what waits, with what was decided of each
 module _ (h : Hardware) (units : List Shape) where
@@ -52,14 +52,8 @@ module _ (h : Hardware) (units : List Shape) where
           (d, refl, ap (λ y. text_with y d ∷ texts_of es ds) (same_Some x e some))
       taken es ds long e some = grind arith
 
-      text_is : (e : End) (d : Decided) → slice_get old.decided.items 0 ≡ Some d → told_end old e ≡ text_with e d
-      text_is e d some = grind arith
-
-      takes : TakesEnd old new → Comes []
-      takes t = grind (arith, taken, begun_end, text_is, append-nil)
-
       pub next_comes : Comes []
-      next_comes = grind (arith, says_is, takes, none_come)
+      next_comes = grind (arith, says_is, taken, begun_end, append-nil, none_come)
 
 -- ---- with what goes out
 
