@@ -122,6 +122,10 @@ module _ (units : List Shape) (bs : List Buffer) (via : Connection) (vs : List V
             (λ never is. inl (is, never)),
       )
 
+-- an AVAILABLE that succeeded leaves the unit offline, whoever asked for it
+available_offline : (kept : Option Buffer) (v : Volume) → (volume_heeded 0x88 kept v).is_mounted ≡ false
+available_offline kept v = grind arith
+
 set_off : (vs : List Volume) (q : ℕ) (x : Volume) → x.is_mounted ≡ false
     → (volume_at (set vs q x) q).is_mounted ≡ false
 set_off vs q x off = elim (cases_lt q (length vs)) [
@@ -133,7 +137,7 @@ set_off vs q x off = elim (cases_lt q (length vs)) [
 pub available_off : (units : List Shape) (bs : List Buffer) (via : Connection) (vs : List Volume) (e : End) (u : ℕ)
     → e.code ≡ 0x88 → e.status % 32 ≡ 0 → e.unit ≡ u
     → (volume_found units (volumes_after units bs via (Some e) vs) u).is_mounted ≡ false
-available_off units bs via vs e u code good of = grind (arith, set_off)
+available_off units bs via vs e u code good of = grind (arith, set_off, available_offline)
 
 -- where there is no such unit there is no volume
 pub missing : (units : List Shape) (vs : List Volume) (u : ℕ) → unit_found units u ≡ None

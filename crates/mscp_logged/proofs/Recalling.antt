@@ -1,5 +1,5 @@
 -- What was told of units is borne out over a whole list of calls.
-use Rattle.mscp_logged.proofs.Common.{Answered, AsksAlways, Bool, Call, First, History, List, None, Option, Outgoing, Picking, Port, PortsEndWhatTheyTook, PortsTellInOrder, ReadsBytes, Said, Some, TellsFaults, [], accepted_by, ap, append-nil, append_assoc, arith, came, cond, end_said, ends_begun, ends_in, ends_of, ends_said, false, flat_map, held, is_foreign, leaves, logged, map, message_of, messages_by, refl, sym, told, true, unit_found, volume_found, zipped, ℕ, ◌++◌, ◌∙◌, ◌∷◌, ◌≡◌}
+use Rattle.mscp_logged.proofs.Common.{end_of, Answered, AsksAlways, Bool, Call, First, History, List, None, Option, Outgoing, Picking, Port, PortsEndWhatTheyTook, PortsTellInOrder, ReadsBytes, Said, Some, TellsFaults, [], accepted_by, ap, append-nil, append_assoc, arith, came, cond, end_said, ends_begun, ends_in, ends_of, ends_said, false, flat_map, held, is_foreign, leaves, logged, map, message_of, messages_by, refl, sym, told, true, unit_found, volume_found, zipped, ℕ, ◌++◌, ◌∙◌, ◌∷◌, ◌≡◌}
 use Rattle.mscp_ported.proofs.Ending.{Ends}
 use Rattle.mscp_logged.proofs.Recalled.{Recalled, ends_recalled, messages_recalled, nothing_recalled, recalled_as, volumes_recalled}
 use Rattle.mscp_logged.proofs.Begun.{Begun, IsKeeping, nothing_held, same_held}
@@ -109,8 +109,14 @@ module _ {K : Type 0} {picks : Picking K} (run : Begun picks) (keeping : IsKeepi
             ∙ ap (λ z. out_texts (Some o) ++ z) (behind o (Some x) was_out is_out comes)
             ∙ sym (append_assoc (out_texts (Some o)) old more)
             ∙ ap (λ z. (out_texts z ++ old) ++ more) (sym was_out)) r)
-        by (Some o) None was_out is_out comes r =
-            grind (arith, to_log, recalled_as, ms, append-nil, ends_recalled, behind, append_assoc)
+        by (Some o) None was_out is_out comes r = to_log (Some o) None was_out is_out
+            (recalled_as F c.units p.volumes ((h ++ ms) ++ map end_of (end_said o.kind o.bytes.items)) _ now now
+            (ap (λ z. (h ++ ms) ++ z) (append-nil (map end_of (end_said o.kind o.bytes.items)))) refl
+            (ends_recalled F c.units p.volumes (h ++ ms) (end_said o.kind o.bytes.items) now
+            (recalled_as F c.units p.volumes (h ++ ms) (h ++ ms) _ _ refl
+            (ap (λ z. out_texts (Some o) ++ z) (behind o None was_out is_out comes)
+            ∙ sym (append_assoc (out_texts (Some o)) old more)
+            ∙ ap (λ z. (out_texts z ++ old) ++ more) (sym was_out)) r)))
 
   pub recalled : (p : Port K) (calls : List Call) → AsksAlways calls → ReadsBytes calls → (F → TellsFaults calls)
       → (a : Answered picks start calls p) → State p calls a

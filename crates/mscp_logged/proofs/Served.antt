@@ -108,7 +108,13 @@ module _ {c : Settings} {K : Type 0} {outcome : Outcome} {verdict : Verdict} {ol
       by false z = grind (arith, given_plain, its_end, is_code)
 
   decided : IsDecided c.units verdict (V e.unit) (W e.unit) e made
-  decided = grind (arith, decided_so)
+  decided = subst (λ x. IsDecided c.units verdict (volume_found x.units old.volumes e.unit) (W e.unit) e made)
+      s.settings (subst (λ x. IsDecided x.units verdict
+      (volume_found old.controller.settings.units old.volumes e.unit) (volume_found x.units new.volumes e.unit) e made)
+      s.now (decided_so new.controller.settings.units verdict
+      (volume_found old.controller.settings.units old.volumes e.unit)
+      (volume_found new.controller.settings.units new.volumes e.unit) e
+      (kept_of First e.reference old.buffers.items) new.flags))
 
   abbrev moves : Bool
   moves = is_some (moved_by r.command.order (touched d r))

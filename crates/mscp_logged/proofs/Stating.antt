@@ -103,8 +103,11 @@ module _ (h : Hardware) (c : Settings) (online : Bool) (figure : ℕ) (sent : Li
   abbrev So : Type 0
   So = (u : ℕ) → IsPlaced u (volume u) (volume u) text
 
+  unit_is : e.unit ≡ k.unit
+  unit_is = grind arith
+
   own_so : Says v v a → So
-  own_so says u = grind (arith, same_volume, text_unit, eqb-true)
+  own_so says u = grind (arith, same_volume, text_unit, unit_is, eqb-true)
 
   never_so : (ends_formality d.code ≡ false → IsMute e.code (d.status % 32)) → So
   never_so m u = mute_placed u (volume u) text (text_mute h c.units e d m)
@@ -112,8 +115,12 @@ module _ (h : Hardware) (c : Settings) (online : Bool) (figure : ℕ) (sent : Li
   refused : (status : ℕ) → fault_of c k ≡ Some status → So
   refused status fault = by (refused_apart c k.unit status k.order (sent_by First sent) (sent_says First sent) fault)
     where
+      told : (status % 32 ≡ 0 → ⊥) → (status % 32 ≡ 4 → ⊥) → ends_formality d.code ≡ false
+          → d.status % 32 ≡ status % 32
+      told never other plain = grind (arith, kept_after)
+
       by : (status % 32 ≡ 1) ⊎ (status % 32 ≡ 3) → So
-      by (inl one) = grind (arith, never_so, other_mute, kept_after)
+      by (inl one) = grind (arith, never_so, other_mute, told)
       by (inr three) = own_so (from (text_reads h c.units e d))
         where
           none : (volume k.unit).is_mounted ≡ false
@@ -125,7 +132,7 @@ module _ (h : Hardware) (c : Settings) (online : Bool) (figure : ℕ) (sent : Li
               × (text ≡ end_with_body e.body e d (list.unit_found c.units e.unit) h) × Reads a e.code d.status)
               → Says v v a
           from (inl x) = mute v a (rw x.1.code (formal_mute d.code (a.status % 32) x.0))
-          from (inr x) = grind (arith, online_parts, kept_after, none, same_volume)
+          from (inr x) = grind (arith, online_parts, told, none, same_volume)
 
   coded : (order : Order) → k.order ≡ order → (code : ℕ) → endcode order ≡ code → fault_of c k ≡ None
       → ((status : ℕ) → IsMute code status) → So
