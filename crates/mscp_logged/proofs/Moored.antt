@@ -1,5 +1,5 @@
 -- A unit that is online after a call was so before, with the same volume, unless the call ended an ONLINE of it.
-use Rattle.mscp_logged.proofs.Common.{Becomes, Bool, Buffer, Call, Connection, Dies, End, Ended, Err, Hears, IsNews, IsPassive, List, LookAgain, None, Ok, Option, Outgoing, Picking, Port, Protect, PutAside, ReadIp, Shape, Some, Tick, Volume, VolumeCame, VolumeWent, Wants, WasRead, Went, WriteSa, ap, arith, brought_for, cases_eq, cases_lt, ended_so, false, false≢true, find_cases, find_first, get_or-set_other, get_or-set_same, get_or_past, inl, inr, is_dead, length, length-set, looks_or_not, no_volume, place_in, position_none, refl, set, subst, sym, true, unit_found, volume_at, volume_found, volume_heeded, volume_in_place, volumes_after, volumes_with, ℕ, ◌%◌, ◌∙◌, ◌≡◌, ◌⊎◌}
+use Rattle.mscp_logged.proofs.Common.{Becomes, Bool, Buffer, Call, Connection, Dies, End, Ended, Err, Hears, IsNews, IsPassive, List, LookAgain, None, Ok, Option, Outgoing, Picking, Port, Protect, PutAside, ReadIp, Shape, Some, Tick, Volume, VolumeCame, VolumeWent, Wants, WasRead, Went, WriteSa, ap, arith, brought_for, cases_eq, cases_lt, ended_so, false, false≢true, find_cases, find_first, get_or-set_other, get_or-set_same, get_or_past, inl, inr, is_dead, length, length-set, looks_or_not, news_place, no_volume, place_in, position_none, refl, set, subst, sym, true, unit_found, volume_at, volume_found, volume_heeded, volume_in_place, volumes_after, volumes_with, ℕ, ◌%◌, ◌∙◌, ◌≡◌, ◌⊎◌}
 use Rattle.mscp_logged.proofs.Describing.{IsAsWas, IsSame, same_volume}
 
 abbrev pub AreAsWere : List Volume → List Volume → Type 0
@@ -15,8 +15,9 @@ found_as units u vs ws was = grind arith
 set_as : (vs : List Volume) (q : ℕ) (x : Volume) → IsAsWas (volume_at vs q) x → AreAsWere vs (set vs q x)
 set_as vs q x was place = elim (cases_eq place q) [
   | inl same ↦ elim (cases_lt place (length vs)) [
-    | inl within ↦ rw (ap (λ i. volume_at (set vs i x) place) (sym same) ∙ get_or-set_same vs place x no_volume within)
-        (rw same was)
+    | inl within ↦ subst (λ w. IsAsWas (volume_at vs place) w)
+        (sym (ap (λ i. volume_at (set vs i x) place) (sym same) ∙ get_or-set_same vs place x no_volume within))
+        (subst (λ i. IsAsWas (volume_at vs i) x) (sym same) was)
     | inr past ↦ λ is. absurd (false≢true (sym (ap (λ (v : Volume). v.is_mounted)
         (get_or_past (set vs q x) place no_volume (search (arith, past, length-set vs q x)))) ∙ is))
   ]
@@ -43,7 +44,13 @@ module _ {K : Type 0} (old new : Port K) where
 
   pub next_volumes : (picks : List _ → ℕ → Type 0) (blocks : Bool) (action : _) → Wants picks blocks old action new
       → So
-  next_volumes picks blocks action r = grind (arith, looks_or_not, volumes_still, news_so)
+  next_volumes picks blocks action r = elim (looks_or_not old) [
+    | inl looks ↦ elim (r.says.looks looks) [
+      | inl t ↦ volumes_still t.volumes
+      | inr n ↦ news_so old.controller.settings.units (news_place old) new.outgoing n.out
+    ]
+    | inr never ↦ volumes_still (r.says.keeps never).volumes
+  ]
 
   pub read_volumes : (bytes : List ℕ) (result : _) → Hears bytes old result new
       → (new.volumes ≡ old.volumes) ⊎ Dies old new
@@ -85,8 +92,9 @@ set_same : (vs : List Volume) (q place : ℕ) (x : Volume) → IsSame (volume_at
     → IsSame (volume_at vs place) (volume_at (set vs q x) place)
 set_same vs q place x same = elim (cases_eq place q) [
   | inl here ↦ elim (cases_lt place (length vs)) [
-    | inl within ↦ rw (ap (λ i. volume_at (set vs i x) place) (sym here) ∙ get_or-set_same vs place x no_volume within)
-        (rw here same)
+    | inl within ↦ subst (λ w. IsSame (volume_at vs place) w)
+        (sym (ap (λ i. volume_at (set vs i x) place) (sym here) ∙ get_or-set_same vs place x no_volume within))
+        (subst (λ i. IsSame (volume_at vs i) x) (sym here) same)
     | inr past ↦ alike (volume_at vs place) (volume_at (set vs q x) place)
         (get_or_past (set vs q x) place no_volume (search (arith, past, length-set vs q x))
         ∙ sym (get_or_past vs place no_volume (search (arith, past))))

@@ -62,7 +62,12 @@ module _ {c : Settings} {Told : Verdict → Record → Type 0} {K : Type 0} (pic
     -- the volume of a unit
     heeded_so : (via : Connection) (x : Option End) → r0.connection ≡ via → ended ≡ x → (u : ℕ)
         → Heeded c.units old.buffers.items via old.volumes x u (V u) (W u)
-    heeded_so via x first same u = grind (arith, volumes, heeded)
+    heeded_so via x first same u = subst (λ ws. Heeded c.units old.buffers.items via
+        old.volumes x u (V u) (volume_found c.units ws u))
+        (sym (volumes ∙ ap (λ s. volumes_after s.units old.buffers.items r0.connection ended old.volumes) settings
+        ∙ ap (λ v. volumes_after c.units old.buffers.items v ended old.volumes) first
+        ∙ ap (λ y. volumes_after c.units old.buffers.items via y old.volumes) same))
+        (heeded c.units old.buffers.items via old.volumes x u)
 
     came : (xs : List End) → brought_for r0.connection ended ≡ xs
         → (ends_of new.controller ≡ ends_of old.controller ++ xs)
