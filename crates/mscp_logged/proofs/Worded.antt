@@ -27,8 +27,6 @@ module _ (h : Hardware) (units : List Shape) (e : End) (d : Decided) where
   pub text_unit : e.unit < 2 ^ 16 → num (text_with h units e d) 4 2 ≡ e.unit
   text_unit small = grind arith
 
--- ---- a unit
-
 -- ---- what it says
 
 -- an end that tells what its unit is succeeded, and is one of these
