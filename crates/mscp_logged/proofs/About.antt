@@ -1,19 +1,7 @@
 -- Each end of an ABORT or a poll in a port's log succeeds, and is about the command that its message names.
-use Rattle.mscp_logged.proofs.Common.{Answer, Bool, First, Fits, IsCodeFor, IsWhole, List, None, Sent, Some, answer_by, ap, arith, cond, eq-eqb, eqb-true, false, false≢true, inl, inr, is_about, is_about_another, is_it, is_refused, kind_of_code, le-leb, length, nat_eq, nat_le, not, num, other_of, refl, sent_by, slice_index, succeeds, sym, true, ℕ, ◌%◌, ◌+◌, ◌∙◌, ◌≡◌, ◌≤◌, ◌⊎◌}
-use Rattle.std.proofs.Common.{◌&&◌}
+use Rattle.mscp_logged.proofs.Common.{Answer, Bool, First, Fits, IsWhole, List, None, Sent, Some, answer_by, ap, arith, eq-eqb, false, inl, inr, is_about, is_about_another, is_refused, kind_of_code, le-leb, length, nat_eq, nat_le, not, num, other_of, refl, sent_by, slice_index, succeeds, true, ℕ, ◌≡◌, ◌≤◌, ◌⊎◌}
 use Rattle.mscp_packet.specs.declared.end.BodyKind.TheVariants as bodykinds
 use Rattle.mscp_logged.proofs.Wired.{stem}
-
--- the code of the end of such a command, if it is known
-about_code : (code opcode : ℕ) (message : List ℕ) → opcode ≡ slice_index message 8 → nat_eq code 0x80 ≡ false
-    → is_about_another opcode ≡ true → IsCodeFor code message → (code ≡ 0x81) ⊎ (code ≡ 0x82)
-about_code code opcode message is known about (inl h) = absurd (false≢true (sym known ∙ eq-eqb code 0x80 h.0))
-about_code code opcode message is known about (inr h) = by (nat_eq opcode 1) refl about
-  where
-    by : (b : Bool) → nat_eq opcode 1 ≡ b → is_about_another opcode ≡ true → (code ≡ 0x81) ⊎ (code ≡ 0x82)
-    by true e a = inl (h ∙ ap (λ n. n + 0x80) (sym is ∙ eqb-true opcode 1 e))
-    by false e a = inr (h ∙ ap (λ n. n + 0x80) (sym is ∙ eqb-true opcode 2
-        (sym (ap (λ b. Rattle.std.specs.Prelude.◌||◌ b (nat_eq opcode 2)) e) ∙ a)))
 
 -- its end has the number of the command that it is about
 about_long : (text : List ℕ) → IsWhole text → (slice_index text 8 ≡ 0x81) ⊎ (slice_index text 8 ≡ 0x82)
@@ -36,40 +24,13 @@ module _ (y : Sent) (text message : List ℕ) (is : stem y ≡ sent_by First mes
   other_or = by (nat_eq (slice_index text 8) 0x80) refl (is_about_another y.opcode) refl (not (is_refused y e)) refl
       (nat_le 16 (length message)) refl
     where
-      low : (n m : ℕ) → nat_le n m ≡ true → n ≤ m
-      low n m h = search (arith, h)
-
-      guard : (a b c : Bool) → nat_eq (slice_index text 8) 0x80 ≡ a → is_about_another y.opcode ≡ b
-          → not (is_refused y e) ≡ c → other_of y e ≡ cond (not a && b && c) y.parameter None
-      guard a b c h k l = ap (λ x. cond (not x && is_about_another y.opcode && not (is_refused y e)) y.parameter None) h
-          ∙ ap (λ x. cond (not a && x && not (is_refused y e)) y.parameter None) k
-          ∙ ap (λ x. cond (not a && b && x) y.parameter None) l
-
-      parameter : (d : Bool) → nat_le 16 (length message) ≡ d → y.parameter ≡ cond d (Some (num message 12 4)) None
-      parameter d long = ap (λ (s : Sent). s.parameter) is ∙ ap (λ x. cond x (Some (num message 12 4)) None) long
-
       by : (a : Bool) → nat_eq (slice_index text 8) 0x80 ≡ a → (b : Bool) → is_about_another y.opcode ≡ b → (c : Bool)
           → not (is_refused y e) ≡ c → (d : Bool) → nat_le 16 (length message) ≡ d → (other_of y e ≡ None) ⊎ Names
-      by true h b k c l d long = inl (guard true b c h k l)
-      by false h false k c l d long = inl (guard false false c h k l)
-      by false h true k false l d long = inl (guard false true false h k l)
-      by false h true k true l false long = inl (guard false true true h k l ∙ parameter false long)
-      by false h true k true l true long = inr (record {
-        long = low 16 (length message) long;
-        code = about_code (slice_index text 8) y.opcode message (ap (λ (s : Sent). s.opcode) is) h k fits.code;
-        is_it = guard false true true h k l ∙ parameter true long;
-      })
+      by false h true k true l true long = grind arith
+      by a h b k c l d long = grind arith
 
   pub about_right : is_about e (other_of y e) ≡ true
-  about_right = elim other_or [
-    | inl none ↦ ap (is_about e) none
-    | inr n ↦ ap (is_about e) n.is_it ∙ ap (λ b. is_it (cond b (Some (num text 12 4)) None) (num message 12 4))
-        (le-leb 16 (length text) (about_long text whole n.code))
-        ∙ eq-eqb (num text 12 4) (num message 12 4) (fits.about n.code n.long)
-  ]
+  about_right = grind (arith, other_or, le-leb, about_long, eq-eqb)
 
   pub success_right : succeeds e (other_of y e) ≡ true
-  success_right = elim other_or [
-    | inl none ↦ ap (succeeds e) none
-    | inr n ↦ ap (succeeds e) n.is_it ∙ ap (λ x. nat_eq (x % 32) 0) (fits.succeeds n.code n.long)
-  ]
+  success_right = grind (arith, other_or)

@@ -3,20 +3,7 @@ use Rattle.mscp_logged.proofs.Common.{Bool, First, List, None, Option, Own, Sett
 use Rattle.mscp_logged.proofs.Suited.{IsKnown, IsSuited, formal_opcode, formal_suited}
 
 move_opcode : (P : ℕ → Type 0) → P 16 → P 18 → P 32 → P 33 → P 34 → (n : ℕ) → moves_opcode n ≡ true → P n
-move_opcode P a b c d f n e = by (nat_eq n 16) refl (nat_eq n 18) refl (nat_eq n 32) refl (nat_eq n 33) refl
-    (nat_eq n 34) refl e
-  where
-    by : (x : Bool) → nat_eq n 16 ≡ x → (y : Bool) → nat_eq n 18 ≡ y → (z : Bool) → nat_eq n 32 ≡ z → (v : Bool)
-        → nat_eq n 33 ≡ v → (w : Bool) → nat_eq n 34 ≡ w → (x || y || z || v || w) ≡ true → P n
-    by true h y k z l v m w o e = subst P (sym (eqb-true n 16 h)) a
-    by false h true k z l v m w o e = subst P (sym (eqb-true n 18 k)) b
-    by false h false k true l v m w o e = subst P (sym (eqb-true n 32 l)) c
-    by false h false k false l true m w o e = subst P (sym (eqb-true n 33 m)) d
-    by false h false k false l false m true o e = subst P (sym (eqb-true n 34 o)) f
-    by false h false k false l false m false o e = absurd (false≢true e)
-
-zero_moved : (n : ℕ) → (nat_le 0 n && (nat_eq 0 n || true)) ≡ true
-zero_moved n = grind arith
+move_opcode P a b c d f n e = grind (arith, eqb-true, false≢true)
 
 module _ (b : List ℕ) (long : nat_le 32 (length b) ≡ true) where
   at_least : 32 ≤ length b
@@ -71,8 +58,7 @@ module _ (b : List ℕ) (long : nat_le 32 (length b) ≡ true) where
     where
       points : (n : ℕ) → status_if 0x0C01 n (nat_lt (length b) 32) (nat_lt 12 (length b))
           ≡ status_if 0x0C01 n false true
-      points n =
-          ap (λ s. status_if 0x0C01 n s (nat_lt 12 (length b))) short ∙ ap (status_if 0x0C01 n false) has_count_byte
+      points n = grind (arith, short, has_count_byte)
 
   counts_none : (status : ℕ) → (status ≡ 0x1C01) ⊎ (status ≡ 0x0C01) → (n : ℕ) → moves_opcode n ≡ true
       → RefusedCount status n
@@ -81,15 +67,13 @@ module _ (b : List ℕ) (long : nat_le 32 (length b) ≡ true) where
     where
       none : (n : ℕ) → has_count (answer_by First (refused_text 0x1C01 n))
           (cond (nat_le 16 (length b)) (Some (num b 12 4)) None) ≡ true
-      none n = ap (λ x. has_count (answer_by First (refused_text 0x1C01 n)) (cond x (Some (num b 12 4)) None))
-          has_parameter ∙ zero_moved (num b 12 4)
+      none n = grind (arith, has_parameter)
   counts_none status (inr e) n is = subst (λ s. RefusedCount s n) (sym e)
       (move_opcode (RefusedCount 0x0C01) (none 16) (none 18) (none 32) (none 33) (none 34) n is)
     where
       none : (n : ℕ) → has_count (answer_by First (refused_text 0x0C01 n))
           (cond (nat_le 16 (length b)) (Some (num b 12 4)) None) ≡ true
-      none n = ap (λ x. has_count (answer_by First (refused_text 0x0C01 n)) (cond x (Some (num b 12 4)) None))
-          has_parameter ∙ zero_moved (num b 12 4)
+      none n = grind (arith, has_parameter)
 
   refused_status : (status : ℕ) → (status ≡ 0x1C01) ⊎ (status ≡ 0x0C01) → (n : ℕ) → moves_opcode n ≡ true
       → RefusedStatus status n

@@ -1,7 +1,6 @@
 -- What ends say of whether a unit is online is borne out by those that come behind them: of one that they said isn't
 -- none says that it is, before one brought it online.
-use Rattle.mscp_logged.proofs.Common.{Answer, Away, Bool, First, List, None, Open, Option, Sent, Shared, Some, State, Told, Volume, [], after_other, after_own, and_parts, answer_by, ap, brings, command_at, cond, count_on, eqb-true, false, false≢true, if◌then◌else◌, inl, inr, is_late, is_settled_at, is_turning, list_any, nat_eq, none-some, not, place_of, refl, says_away, says_online, settles, sym, told_after_end, true, turned, went, ℕ, ◌%◌, ◌&&◌, ◌++◌, ◌||◌, ◌∙◌, ◌∷◌, ◌≡◌, ◌⊎◌}
-use Rattle.std.proofs.Common.{nat_le}
+use Rattle.mscp_logged.proofs.Common.{Answer, Away, Bool, First, List, None, Open, Option, Sent, Shared, Some, State, Told, Volume, [], after_other, after_own, and_parts, answer_by, ap, brings, command_at, cond, count_on, eqb-true, false, false≢true, if◌then◌else◌, inl, inr, is_late, is_settled_at, is_turning, list_any, nat_eq, nat_le, none-some, not, place_of, refl, says_away, says_online, settles, sym, told_after_end, true, turned, went, ℕ, ◌%◌, ◌&&◌, ◌++◌, ◌||◌, ◌∙◌, ◌∷◌, ◌≡◌, ◌⊎◌}
 use Rattle.mscp_logged.proofs.Claims.{Claimed, claimed_as, claimed_more}
 use Rattle.mscp_logged.proofs.Describing.{IsAsWas, mine}
 

@@ -1,12 +1,9 @@
 -- Which rules a moment can't break: those of which a test holds.
-use Rattle.mscp_logged.proofs.Common.{Answer, Bool, Connection, History, Keeps, List, Moment, None, Option, Rule, Seen, Sent, Some, answer_by, ap, arith, broken, broken_at, broken_end, command_at, controller, count_of, drop, false, false≢true, fits, has_abort, has_count, has_endcode, has_figure, has_status, is_about, is_long, is_same_unit, is_some, length, moment_at, names_unit, not, other_of, outstanding, passes_none, place_of, polled_by, refl, seen_of, succeeds, suits_state, sym, take, told, true, unless, ℕ, ◌+◌, ◌<◌, ◌∙◌, ◌≡◌}
+use Rattle.mscp_logged.proofs.Common.{Answer, Bool, Connection, History, Keeps, List, Moment, None, Option, Rule, Seen, Sent, Some, answer_by, arith, broken, broken_at, broken_end, command_at, controller, count_of, drop, false, false≢true, fits, has_abort, has_count, has_endcode, has_figure, has_status, is_about, is_long, is_same_unit, is_some, length, moment_at, names_unit, not, other_of, outstanding, passes_none, place_of, polled_by, refl, seen_of, succeeds, suits_state, sym, take, told, true, unless, ℕ, ◌+◌, ◌<◌, ◌∙◌, ◌≡◌}
 use Rattle.mscp_wire.specs.declared.moment.Moment.TheVariants as moments
 use Rattle.mscp_wire.specs.declared.rule.Rule.TheVariants as rules
 
 -- ---- one after the other
-
-some_same : (r x : Rule) → Some r ≡ Some x → r ≡ x
-some_same r x e = search (arith, e)
 
 pub none_never : (x : Rule) → None ≡ Some x → ⊥
 none_never x e = search (arith, e)
@@ -18,8 +15,7 @@ module _ (holds : Rule → Bool) (x : Rule) where
 
   unless_fails : (r : Rule) (b : Bool) (rest : Option Rule) → (b ≡ false → holds r ≡ false)
       → (rest ≡ Some x → holds x ≡ false) → unless b r rest ≡ Some x → holds x ≡ false
-  unless_fails r true rest own later e = later e
-  unless_fails r false rest own later e = ap holds (sym (some_same r x e)) ∙ own refl
+  unless_fails r b rest own later e = grind arith
 
 -- ---- the end of a command
 
@@ -82,16 +78,13 @@ module _ (xs : List Sent) (unit : Seen) where
 
   end_fails : (via : Connection) (b : List ℕ) (x : Rule) (o : Option ℕ) → place_of xs (answer_by via b) ≡ o
       → broken_at xs unit (answer_by via b) o ≡ Some x → end_holds via b x ≡ false
-  end_fails via b x None at e =
-      ap (end_holds via b) (sym (some_same rules.Outstanding x e)) ∙ ap is_some at
+  end_fails via b x None at e = grind arith
   end_fails via b x (Some i) at e =
       by x (command_fails (take i xs) (drop (i + 1) xs) (command_at xs i) unit (answer_by via b) x e)
     where
       by : (x : Rule) → command_holds (take i xs) (drop (i + 1) xs) (command_at xs i) unit (answer_by via b) x ≡ false
           → end_holds via b x ≡ false
-      by rules.Length h = absurd (false≢true (sym h))
-      by rules.Outstanding h = absurd (false≢true (sym h))
-      by x h = ap (λ o. placed_holds (answer_by via b) o x) at ∙ h
+      by x h = grind arith
 
   pub moment_fails : (credits : Option ℕ) (m : Moment) (x : Rule) → broken credits xs unit m ≡ Some x
       → moment_holds m x ≡ false

@@ -1,5 +1,5 @@
 -- By each call ends come behind those that are still to come, and tell of their units what is so.
-use Rattle.mscp_logged.proofs.Common.{Action, Answered, AsksAlways, Bool, Call, Deals, First, Hardware, History, Holdings, IsAnswering, IsPassive, List, Next, None, Ok, Option, Outgoing, OutgoingKind, Picking, Port, ReadsBytes, Settings, Shape, Some, TellsFaults, WasRead, Went, Whole, WriteIp, [], ap, append-nil, arith, asked_before, awaited, begins, blocks, came, end_kind, end_said, ends_begun, ends_of, ends_said, ends_said_by, false, inl, inr, is_dead, logged, no_ends, nothing_two, numbers, numbers_ended, of, own_answer, passive_stays, refl, said, subst, sym, taken_by, true, unit_found, volume_found, volume_named, waiting_on, whole_kept, ℕ, ◌++◌, ◌∙◌, ◌∷◌, ◌≡◌, ◌≢◌}
+use Rattle.mscp_logged.proofs.Common.{Action, Answered, AsksAlways, Bool, Call, Deals, First, Hardware, History, Holdings, IsAnswering, IsPassive, List, Next, None, Ok, Outgoing, OutgoingKind, Picking, Port, ReadsBytes, Settings, Shape, Some, TellsFaults, WasRead, Went, Whole, WriteIp, [], ap, append-nil, arith, asked_before, awaited, begins, blocks, came, end_kind, end_said, ends_begun, ends_of, ends_said, ends_said_by, false, inl, inr, is_dead, logged, no_ends, nothing_two, numbers, numbers_ended, of, own_answer, passive_stays, refl, said, subst, sym, taken_by, true, unit_found, volume_found, volume_named, waiting_on, whole_kept, ℕ, ◌++◌, ◌∙◌, ◌∷◌, ◌≡◌, ◌≢◌}
 use Rattle.mscp_logged.proofs.Begun.{Begun, IsKeeping}
 use Rattle.mscp_port.specs.declared.port.OutgoingKind.TheVariants as kinds
 use Rattle.mscp_logged.proofs.Describing.{IsAsWas, IsTold}
@@ -65,8 +65,6 @@ module _ {K : Type 0} {picks : Picking K} (run : Begun picks) (keeping : IsKeepi
 
       by : (call : Call) → AsksAlways (call ∷ calls) → ReadsBytes (call ∷ calls) → (F → TellsFaults (call ∷ calls))
           → (a : Answered picks start (call ∷ calls) p) → call ≢ WriteIp → IsOther call → Spoken p call calls a
-      by WriteIp asks reads fine a never other = absurd (never refl)
-      by (Next blocks action bytes) asks reads fine a never other = absurd (other blocks action bytes refl)
       by (WasRead bytes (Ok done)) asks reads fine a never other =
           let x = read_speaks bytes done a.0 p (awaited picks start a.0 calls a.1)
           (numbers_kept run keeping a.0 calls reads.1 a.1) a.2 reads.0 (whole a.0 calls a.1).ends.long lives hardware c
@@ -76,7 +74,7 @@ module _ {K : Type 0} {picks : Picking K} (run : Begun picks) (keeping : IsKeepi
           let x = went_told run keeping p outcome done calls asks reads a (driving run keeping a.0 calls
           (asked_before (Went outcome (Ok done)) calls asks) reads a.1) lives F (λ f. (fine f).0) in
           (x.0, x.1.0, λ b u e. search (arith, e))
-      by call asks reads fine a never other = passive call a tt
+      by call asks reads fine a never other = grind (arith, passive)
 
   module _ (p : Port K) (call : Call) (calls : List Call) (asks : AsksAlways (call ∷ calls))
       (reads : ReadsBytes (call ∷ calls)) (fine : F → TellsFaults (call ∷ calls))
@@ -97,17 +95,11 @@ module _ {K : Type 0} {picks : Picking K} (run : Begun picks) (keeping : IsKeepi
     -- ---- what comes
 
     begun_none : begins a.0.outgoing p.outgoing ≡ [] → ends_begun a.0.outgoing p.outgoing ≡ []
-    begun_none = by a.0.outgoing p.outgoing
-      where
-        by : (x y : Option Outgoing) → begins x y ≡ [] → ends_begun x y ≡ []
-        by None None e = refl
-        by None (Some o) e = search (arith, e)
-        by (Some o) y e = refl
+    begun_none = grind arith
 
     begun_other : (o : Outgoing) → a.0.outgoing ≡ None → p.outgoing ≡ Some o → (k : OutgoingKind) → o.kind ≡ k
         → ends_begun a.0.outgoing p.outgoing ≡ end_said k o.bytes.items
-    begun_other o nothing some k kind = ap (λ x. ends_begun x p.outgoing) nothing ∙ ap (ends_begun None) some
-        ∙ ap (λ x. end_said x o.bytes.items) kind
+    begun_other o nothing some k kind = grind arith
 
     plain : ends_begun a.0.outgoing p.outgoing ≡ []
         → IsOther call → Brought
@@ -174,19 +166,15 @@ module _ {K : Type 0} {picks : Picking K} (run : Begun picks) (keeping : IsKeepi
           record {
             comes = ap (λ xs. xs ++ now) (begun_other q.out q.nothing q.begun kinds.End kind)
                 ∙ ap (λ xs. q.out.bytes.items ∷ xs) is_none ∙ sym (ap (λ xs. xs ++ q.out.bytes.items ∷ []) was_none);
-            told = λ u. subst (λ b. IsTold u (unit_found c.units u) (volume_found c.units a.0.volumes u)
-                (volume_found c.units p.volumes u) b) (sym own.own.2)
-                (own_told u (unit_found c.units u) (volume_named a.0 q.message) q.message own.own.0 answered
+            told = λ u. rw own.own.2 (own_told u (unit_found c.units u) (volume_named a.0 q.message) q.message own.own.0
+                answered (still u));
+            placed = λ f u. rw own.own.2 (own_placed u (volume_named a.0 q.message) q.message own.own.0 answered
                 (still u));
-            placed = λ f u. subst (λ b. IsPlaced u (volume_found c.units a.0.volumes u)
-                (volume_found c.units p.volumes u) b) (sym own.own.2)
-                (own_placed u (volume_named a.0 q.message) q.message own.own.0 answered (still u));
           },
         )
           where
             answered : own_answer false (volume_named a.0 q.message) q.message ≡ Some own.own.0
-            answered = ap (λ f. own_answer f (volume_named a.0 q.message) q.message)
-                (sym (of_disk a.0 q.message q.out own kind)) ∙ own.own.1
+            answered = grind (arith, of_disk, own)
 
     pub brings : Deals (awaited picks start a.0 calls a.1) call a.0 p → Brought
     brings d = by call refl
@@ -195,13 +183,11 @@ module _ {K : Type 0} {picks : Picking K} (run : Begun picks) (keeping : IsKeepi
         not_next x e never blocks action bytes f = never blocks action bytes (sym e ∙ f)
 
         no_end : (x : Call) → call ≡ x → IsOther x → (text : List ℕ) → ends_said_by call a.0 p ≡ text ∷ [] → ⊥
-        no_end (Next b y z) e never text said = never b y z refl
-        no_end x e never text said = search (arith, sym (ap (λ y. ends_said_by y a.0 p) e) ∙ said)
+        no_end x e never text said = grind arith
 
         other : (x : Call) → call ≡ x → IsOther x → Deals (awaited picks start a.0 calls a.1) call a.0 p → Brought
         other x e never (inl q) = plain (begun_none q.begun) (not_next x e never)
-        other x e never (inr (inl q)) =
-            plain (begun_other q.out q.nothing q.begun kinds.Attention q.kind) (not_next x e never)
+        other x e never (inr (inl q)) = grind (arith, plain, begun_other, not_next)
         other x e never (inr (inr (inl q))) = absurd (no_end x e never q.out.bytes.items q.ended)
         other x e never (inr (inr (inr (inl q)))) = plain (begun_none q.begun) (not_next x e never)
         other x e never (inr (inr (inr (inr q)))) = answering q

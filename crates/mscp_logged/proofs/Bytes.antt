@@ -1,7 +1,5 @@
 -- A message as it is handed over says what it says itself, but for its unit.
-use Rattle.mscp_logged.proofs.Common.{AreBytes, Bool, First, IsLong, IsText, List, Order, Says, Sent, Shape, arith, asks_for_next, command_of, cond, drop, endcode, false, handed, inl, inr, is_formality, length, little_bytes, next_unit, num, refl, sent_by, sent_long, sent_says, slice_index, small_unit, stand_in, stand_unit, subst, suc, sym, take, true, zero, ℕ, ◌*◌, ◌++◌, ◌+◌, ◌<◌, ◌^◌, ◌∷◌, ◌≡◌, ◌≤◌}
-use Rattle.std.proofs.Common.{◌%◌, ◌/◌}
-use Rattle.mscp_packet.specs.declared.command.Order.TheVariants as orders
+use Rattle.mscp_logged.proofs.Common.{AreBytes, Bool, First, IsLong, IsText, List, Order, Says, Sent, Shape, arith, asks_for_next, command_of, cond, drop, endcode, false, handed, is_formality, length, little_bytes, next_unit, num, sent_by, sent_long, sent_says, slice_index, suc, take, true, zero, ℕ, ◌%◌, ◌++◌, ◌/◌, ◌<◌, ◌^◌, ◌∷◌, ◌≡◌, ◌≤◌}
 
 -- the command of a message, of which this is the unit
 abbrev pub of_unit : List ℕ → ℕ → Sent
@@ -10,26 +8,15 @@ of_unit t unit = record (sent_by First t) { unit = unit }
 -- ---- the unit doesn't matter
 
 says_any : (o : Order) (t : List ℕ) (one other : ℕ) → Says o (of_unit t one) → Says o (of_unit t other)
-says_any (orders.Invalid byte status) t one other (inl e) = inl e
-says_any (orders.Invalid byte status) t one other (inr s) = inr (
-  s.0,
-  record { why = s.1.why; byte = s.1.byte; opcode = s.1.opcode; about = s.1.about; short = s.1.short },
-)
-says_any order t one other h = h
+says_any order t one other h = grind arith
 
 long_any : (o : Order) (t : List ℕ) (one other : ℕ) → IsLong o (of_unit t one) → IsLong o (of_unit t other)
-long_any (orders.Abort n) t one other h = h
-long_any order t one other h = h
+long_any order t one other h = grind arith
 
 -- ---- another unit is named
 
 abbrev renamed : List ℕ → ℕ → List ℕ
 renamed t n = take 4 t ++ little_bytes 2 n ++ drop 6 t
-
-renamed_same : (t : List ℕ) (n : ℕ) → 12 ≤ length t
-    → sent_by First (renamed t n) ≡ of_unit t (num (renamed t n) 4 2)
-renamed_same (a ∷ b ∷ c ∷ d ∷ e ∷ f ∷ g ∷ h ∷ i ∷ j ∷ k ∷ l ∷ rest) n long = refl
-renamed_same t n long = absurd (search (arith, long))
 
 low_byte : (n : ℕ) → n % 256 < 256
 low_byte n = omega arith
@@ -57,59 +44,30 @@ module _ (units : List Shape) (t : List ℕ) (is : IsText t) (plain : is_formali
   b = handed units t
 
   handed_same : sent_by First b ≡ of_unit t (num b 4 2)
-  handed_same = subst (λ c. sent_by First (cond c (stand_in t) (cond (asks_for_next t)
-      (renamed t (next_unit units (num t 4 2))) t))
-      ≡ of_unit t (num (cond c (stand_in t) (cond (asks_for_next t) (renamed t (next_unit units (num t 4 2))) t)) 4 2))
-      (sym plain) (by (asks_for_next t))
-    where
-      by : (c : Bool) → sent_by First (cond c (renamed t (next_unit units (num t 4 2))) t)
-          ≡ of_unit t (num (cond c (renamed t (next_unit units (num t 4 2))) t) 4 2)
-      by true = renamed_same t (next_unit units (num t 4 2)) is.long
-      by false = refl
+  handed_same = grind arith
 
   pub handed_bytes : AreBytes b
-  handed_bytes = subst (λ c. AreBytes (cond c (stand_in t) (cond (asks_for_next t)
-      (renamed t (next_unit units (num t 4 2))) t))) (sym plain) (by (asks_for_next t))
+  handed_bytes = rw plain (by (asks_for_next t))
     where
       by : (c : Bool) → AreBytes (cond c (renamed t (next_unit units (num t 4 2))) t)
       by true i low = renamed_bytes t (next_unit units (num t 4 2)) is.long is.small i
       by false i low = is.small i
 
   pub handed_says : (unit : ℕ) → Says (command_of b).order (of_unit t unit)
-  handed_says unit = says_any (command_of b).order t (num b 4 2) unit
-      (subst (λ s. Says (command_of b).order s) handed_same (sent_says First b))
+  handed_says unit = says_any (command_of b).order t (num b 4 2) unit (rw (← handed_same) (sent_says First b))
 
   pub handed_long : (unit : ℕ) → IsLong (command_of b).order (of_unit t unit)
-  handed_long unit = long_any (command_of b).order t (num b 4 2) unit
-      (subst (λ s. IsLong (command_of b).order s) handed_same (sent_long First b))
+  handed_long unit = long_any (command_of b).order t (num b 4 2) unit (rw (← handed_same) (sent_long First b))
 
 -- what stands in for a formality has the endcode of an ACCESS
 pub stood_code : (units : List Shape) (t : List ℕ) → 12 ≤ length t → is_formality (slice_index t 8) ≡ true
     → endcode (command_of (handed units t)).order ≡ 0x90
 unfolding command_of
-stood_code units t long formal = subst (λ c. endcode (command_of (cond c (stand_in t)
-    (cond (asks_for_next t) (renamed t (next_unit units (num t 4 2))) t))).order ≡ 0x90) (sym formal) (by t long)
-  where
-    by : (t : List ℕ) → 12 ≤ length t → endcode (command_of (stand_in t)).order ≡ 0x90
-    by (a ∷ b ∷ c ∷ d ∷ e ∷ f ∷ g ∷ h ∷ rest) long = refl
-    by t long = absurd (search (arith, long))
+stood_code units t long formal = grind arith
 
 -- ---- the unit of a message as it is handed over
-
-next_small : (n : ℕ) → 0 + n % 256 * 1 + n / 256 % 256 * 256 < 2 ^ 16
-next_small n = omega arith
-
-named_small : (b : List ℕ) (n : ℕ) → 12 ≤ length b → num (take 4 b ++ little_bytes 2 n ++ drop 6 b) 4 2 < 2 ^ 16
-named_small (a ∷ b ∷ c ∷ d ∷ e ∷ f ∷ g ∷ h ∷ i ∷ j ∷ k ∷ l ∷ rest) n long = next_small n
-named_small b n long = absurd (search (arith, long))
 
 pub handed_small : (units : List Shape) (b : List ℕ) → 12 ≤ length b → ((i : ℕ) → slice_index b i < 2 ^ 8)
     → (command_of (handed units b)).unit < 2 ^ 16
 unfolding command_of
-handed_small units b long small = by (is_formality (slice_index b 8)) (asks_for_next b)
-  where
-    by : (c d : Bool) → num (cond c (stand_in b) (cond d
-        (take 4 b ++ little_bytes 2 (next_unit units (num b 4 2)) ++ drop 6 b) b)) 4 2 < 2 ^ 16
-    by true d = subst (λ n. n < 2 ^ 16) (sym (stand_unit b long)) (small_unit b small)
-    by false true = named_small b (next_unit units (num b 4 2)) long
-    by false false = small_unit b small
+handed_small units b long small = grind arith

@@ -1,6 +1,5 @@
 -- No end of a controller's that waits has passed a command that it had to wait for.
-use Rattle.mscp_logged.proofs.Common.{Bool, Decided, End, List, Record, Settings, [], any_more, ap, arith, cond, ends_numbered, eq-eqb, eqb-true, false, false≢true, filter, filter-append, first_of_one, has_number, inl, inr, is_apart, is_in_service, is_numbered, is_some, length, list_any, nat_eq, none_beside, not, num, or_parts, refl, sole_comes, sole_left, some_none, subst, sym, true, unit_found, ℕ, ◌%◌, ◌++◌, ◌||◌, ◌∙◌, ◌∷◌, ◌≡◌, ◌⊎◌}
-use Rattle.std.specs.Prelude.{drop}
+use Rattle.mscp_logged.proofs.Common.{Bool, Decided, End, List, Record, Settings, [], any_more, ap, arith, cond, drop, ends_numbered, eqb-true, false, false≢true, filter, filter-append, first_of_one, has_number, inr, is_apart, is_in_service, is_numbered, is_some, length, list_any, nat_eq, none_beside, not, num, or_parts, refl, sole_comes, sole_left, some_none, subst, sym, true, unit_found, ℕ, ◌%◌, ◌++◌, ◌∙◌, ◌∷◌, ◌≡◌, ◌⊎◌}
 use Rattle.mscp_logged.proofs.Passes.{any_fewer, keeps, overtakes, passes_beside, passes_fewer}
 use Rattle.mscp_logged.proofs.Queueing.{InOrder, NoneBehind, order_as, order_left, order_more}
 
@@ -22,52 +21,26 @@ unended_none (t ∷ aw) = ap (λ ts. t ∷ ts) (unended_none aw)
 unended_taken : (e : End) (es : List End) (aw : List (List ℕ))
     → unended es (without e.reference aw) ≡ unended (e ∷ es) aw
 unended_taken e es [] = refl
-unended_taken e es (t ∷ aw) = by (has_number e.reference t) (unended_taken e es aw)
-  where
-    by : (b : Bool) → unended es (without e.reference aw) ≡ unended (e ∷ es) aw
-        → unended es (cond (not b) (t ∷ without e.reference aw) (without e.reference aw))
-        ≡ cond (not (b || is_ended es t)) (t ∷ unended (e ∷ es) aw) (unended (e ∷ es) aw)
-    by true rest = rest
-    by false rest = ap (λ ts. cond (not (is_ended es t)) (t ∷ ts) ts) rest
+unended_taken e es (t ∷ aw) = grind (arith, unended_taken e es aw)
 
 unended_more : (es fs : List End) (aw : List (List ℕ))
     → unended (es ++ fs) aw ≡ filter (λ t. not (is_ended (es ++ fs) t)) (unended es aw)
-unended_more es fs aw =
-    sym (sole_left (λ t. not (is_ended (es ++ fs) t)) (λ t. not (is_ended es t)) aw
-    (λ t h. by t h (is_ended es t) refl))
-  where
-    by : (t : List ℕ) → not (is_ended (es ++ fs) t) ≡ true → (b : Bool) → is_ended es t ≡ b → not (is_ended es t) ≡ true
-    by t h false is = ap not is
-    by t h true is =
-        absurd (false≢true (sym (ap not (any_more (λ (e : End). has_number e.reference t) es fs is)) ∙ h))
+unended_more es fs aw = grind (arith, sole_left, any_more)
 
 unended_beside : (es : List End) (aw : List (List ℕ)) (m : List ℕ) → is_ended es m ≡ false
     → unended es (aw ++ m ∷ []) ≡ unended es aw ++ m ∷ []
-unended_beside es aw m e = filter-append (λ t. not (is_ended es t)) aw (m ∷ [])
-    ∙ ap (λ c. unended es aw ++ cond (not c) (m ∷ []) []) e
+unended_beside es aw m e = grind (arith, filter-append)
 
 unended_answered : (es : List End) (aw : List (List ℕ)) (m : List ℕ) → is_ended es m ≡ true
     → unended es (aw ++ m ∷ []) ≡ unended es aw
 unended_answered es aw m e = none_beside (λ t. not (is_ended es t)) aw m (ap not e)
 
 turned : (a b : ℕ) (c : Bool) → nat_eq a b ≡ c → nat_eq b a ≡ c
-turned a b true e = eq-eqb b a (sym (eqb-true a b e))
-turned a b false e = by (nat_eq b a) refl
-  where
-    by : (c : Bool) → nat_eq b a ≡ c → c ≡ false
-    by false h = refl
-    by true h = absurd (false≢true (sym e ∙ eq-eqb a b (sym (eqb-true b a h))))
+turned a b c e = grind arith
 
 pub none_ended : (m : List ℕ) (es : List End) → filter (ends_numbered (num m 0 4)) es ≡ [] → is_ended es m ≡ false
 none_ended m [] none = refl
-none_ended m (e ∷ es) none = by (nat_eq e.reference (num m 0 4)) refl none (none_ended m es)
-  where
-    by : (b : Bool) → nat_eq e.reference (num m 0 4) ≡ b
-        → cond b (e ∷ filter (ends_numbered (num m 0 4)) es) (filter (ends_numbered (num m 0 4)) es) ≡ []
-        → (filter (ends_numbered (num m 0 4)) es ≡ [] → is_ended es m ≡ false)
-        → (has_number e.reference m || is_ended es m) ≡ false
-    by true is h rest = absurd (some_none e (filter (ends_numbered (num m 0 4)) es) h)
-    by false is h rest = ap (λ b. b || is_ended es m) (turned e.reference (num m 0 4) false is) ∙ rest h
+none_ended m (e ∷ es) none = grind (arith, none_ended m es)
 
 pub some_ended : (m : List ℕ) (es : List End) (x : End) → filter (ends_numbered (num m 0 4)) es ≡ x ∷ []
     → is_ended es m ≡ true
@@ -81,8 +54,7 @@ some_ended m es x sole = by (is_ended es m) refl
         (turned (num m 0 4) e.reference false p.0) ∙ nothing es p.1
 
     by : (b : Bool) → is_ended es m ≡ b → is_ended es m ≡ true
-    by true h = h
-    by false h = absurd (some_none x [] (sym sole ∙ nothing es h))
+    by b h = grind (arith, some_none, nothing)
 
 -- ---- the ends
 
@@ -97,9 +69,8 @@ AreClear aw (e ∷ es) [] = Unit {0}
 AreClear aw (e ∷ es) (d ∷ ds) = IsClear aw e d × AreClear (without e.reference aw) es ds
 
 pub clear_forgotten : (es : List End) (ds : List Decided) → AreClear [] es ds
-clear_forgotten [] ds = tt
-clear_forgotten (e ∷ es) [] = tt
 clear_forgotten (e ∷ es) (d ∷ ds) = (inr refl, clear_forgotten es ds)
+clear_forgotten es ds = grind arith
 
 clear_more : (aw : List (List ℕ)) (es fs : List End) (ds gs : List Decided) → length es ≡ length ds
     → AreClear aw es ds → AreClear (unended es aw) fs gs → AreClear aw (es ++ fs) (ds ++ gs)
@@ -108,25 +79,21 @@ clear_more aw [] fs (d ∷ ds) gs long all more = search (arith, long)
 clear_more aw (e ∷ es) fs [] gs long all more = search (arith, long)
 clear_more aw (e ∷ es) fs (d ∷ ds) gs long all more = (
   all.0,
-  clear_more (without e.reference aw) es fs ds gs (search (arith, long)) all.1
-      (subst (λ ts. AreClear ts fs gs) (sym (unended_taken e es aw)) more),
+  clear_more (without e.reference aw) es fs ds gs (search (arith, long)) all.1 (rw unended_taken more),
 )
 
 clear_beside : (m : List ℕ) (aw : List (List ℕ)) (es : List End) (ds : List Decided) → is_ended es m ≡ false
     → AreClear aw es ds → AreClear (aw ++ m ∷ []) es ds
-clear_beside m aw [] ds none all = tt
-clear_beside m aw (e ∷ es) [] none all = tt
 clear_beside m aw (e ∷ es) (d ∷ ds) none all =
     let p = or_parts (has_number e.reference m) (is_ended es m) none in (
       one p.0 all.0,
-      subst (λ ts. AreClear ts es ds) (sym (filter-append (λ t. not (has_number e.reference t)) aw (m ∷ [])
-          ∙ ap (λ c. without e.reference aw ++ cond (not c) (m ∷ []) []) p.0))
-          (clear_beside m (without e.reference aw) es ds p.1 all.1),
+      rw (filter-append (λ t. not (has_number e.reference t)) aw (m ∷ []) ∙ ap (λ c. without e.reference aw ++ cond
+          (not c) (m ∷ []) []) p.0) (clear_beside m (without e.reference aw) es ds p.1 all.1),
     )
   where
     one : has_number e.reference m ≡ false → IsClear aw e d → IsClear (aw ++ m ∷ []) e d
-    one apart (inl x) = inl x
-    one apart (inr x) = inr (passes_beside (has_number e.reference) keeps aw m apart ∙ x)
+    one apart x = grind (arith, passes_beside)
+clear_beside m aw es ds none all = grind arith
 
 -- ---- all that is kept
 
@@ -147,19 +114,7 @@ pub record Ordered (c : Settings) (aw : List (List ℕ)) (rs : List Record) (es 
 
 pub ordered_as : (c : Settings) (aw : List (List ℕ)) (rs rs' : List Record) (es es' : List End) (ds ds' : List Decided)
     → rs' ≡ rs → es' ≡ es → ds' ≡ ds → Ordered c aw rs es ds → Ordered c aw rs' es' ds'
-ordered_as c aw rs rs' es es' ds ds' e f g o = subst (λ x. Ordered c aw x es' ds') (sym e)
-    (subst (λ x. Ordered c aw rs x ds') (sym f) (subst (λ x. Ordered c aw rs es x) (sym g) o))
-
-pub nothing_ordered : (c : Settings) (aw : List (List ℕ)) (ds : List Decided) → Ordered c aw [] [] ds
-nothing_ordered c aw ds = record {
-  lined = any (unended [] aw);
-  own = λ n r e. absurd (some_none r [] (sym e));
-  clear = tt;
-}
-  where
-    any : (us : List (List ℕ)) → InOrder us []
-    any [] = tt
-    any (u ∷ us) = ((λ b is. tt), any us)
+ordered_as c aw rs rs' es es' ds ds' e f g o = grind arith
 
 module _ (c : Settings) (aw : List (List ℕ)) (rs : List Record) (es : List End) (ds : List Decided)
     (o : Ordered c aw rs es ds) where
@@ -178,11 +133,9 @@ module _ (c : Settings) (aw : List (List ℕ)) (rs : List Record) (es : List End
         → ((n : ℕ) → nat_eq (num m 0 4) n ≡ false → is_numbered n r ≡ false) → is_in_service r ≡ false
         → is_some (unit_found c.units r.command.unit) ≡ true → Ordered c (aw ++ m ∷ []) (rs ++ r ∷ []) es ds
     ordered_queued r free new mine others fresh known = record {
-      lined = subst (λ ts. InOrder ts (rs ++ r ∷ [])) (sym (unended_beside es aw m none))
-          (order_more rs m r free others (unended es aw)
+      lined = rw (unended_beside es aw m none) (order_more rs m r free others (unended es aw)
           (any_fewer (has_number (num m 0 4)) (λ t. not (is_ended es t)) aw new) o.lined);
-      own = λ n x e. subst (λ ts. IsGood c ts n x) (sym (unended_beside es aw m none))
-          (by n x e (nat_eq (num m 0 4) n) refl);
+      own = λ n x e. rw (unended_beside es aw m none) (by n x e (nat_eq (num m 0 4) n) refl);
       clear = clear_beside m aw es ds none o.clear;
     }
       where

@@ -1,6 +1,5 @@
 -- An end that fits its message has the unit and the endcode of its command.
-use Rattle.mscp_logged.proofs.Common.{Answer, Bool, First, Fits, IsCodeFor, IsUnitFor, List, None, Outgoing, Port, Sent, ap, arith, cond, eq-eqb, eqb-true, false, false≢true, has_endcode, inl, inr, is_required, names_unit, nat_eq, not, num, opcode_of, own_answer, own_coded, refl, sent_by, slice_index, small_unit, sym, true, two, volume_named, ℕ, ◌+◌, ◌||◌, ◌∙◌, ◌≡◌, ◌⊎◌}
-use Rattle.std.specs.Prelude.{◌<◌, ◌^◌, ◌≢◌}
+use Rattle.mscp_logged.proofs.Common.{Answer, First, Fits, IsCodeFor, IsUnitFor, List, None, Outgoing, Port, Sent, ap, arith, eq-eqb, eqb-true, false, false≢true, has_endcode, inl, inr, is_required, names_unit, num, opcode_of, own_answer, own_coded, sent_by, slice_index, small_unit, sym, true, two, volume_named, ℕ, ◌+◌, ◌<◌, ◌^◌, ◌∙◌, ◌≡◌, ◌≢◌, ◌⊎◌}
 use Rattle.mscp_port.specs.declared.port.OutgoingKind.TheVariants as kinds
 use Rattle.mscp_logged.proofs.Own.{IsOwn, of_disk}
 use Rattle.mscp_logged.proofs.Wired.{stem}
@@ -11,25 +10,7 @@ none_required n e = grind (arith, e)
 
 pub endcode_right : (y : Sent) (e : Answer) (message : List ℕ) → y.opcode ≡ slice_index message 8
     → IsCodeFor e.code message → has_endcode y e ≡ true
-endcode_right y e message is code = by (nat_eq e.code 0x80) refl code
-  where
-    zero : (n : ℕ) → n + 0x80 ≡ 0x80 → n ≡ 0
-    zero n h = omega (arith, h)
-
-    unknown : is_required y.opcode ≡ false → nat_eq e.code 0x80 ≡ true → has_endcode y e ≡ true
-    unknown none c = ap (λ b. cond (not b) (nat_eq e.code (y.opcode + 0x80)) (not (is_required y.opcode))) c
-        ∙ ap not none
-
-    known : nat_eq e.code 0x80 ≡ false → e.code ≡ y.opcode + 0x80 → has_endcode y e ≡ true
-    known c same = ap (λ b. cond (not b) (nat_eq e.code (y.opcode + 0x80)) (not (is_required y.opcode))) c
-        ∙ eq-eqb e.code (y.opcode + 0x80) same
-
-    by : (b : Bool) → nat_eq e.code 0x80 ≡ b → IsCodeFor e.code message → has_endcode y e ≡ true
-    by true c (inl h) = unknown (ap is_required is ∙ none_required (slice_index message 8) h.1) c
-    by true c (inr h) = unknown (ap is_required (is ∙ zero (slice_index message 8)
-        (sym h ∙ eqb-true e.code 0x80 c))) c
-    by false c (inl h) = absurd (false≢true (sym c ∙ eq-eqb e.code 0x80 h.0))
-    by false c (inr h) = known c (h ∙ ap (λ n. n + 0x80) (sym is))
+endcode_right y e message is code = grind (arith, none_required, eqb-true, false≢true, eq-eqb)
 
 -- an answer of the port's own fits its message, as an end of the controller's does
 pub own_fits : {K : Type 0} (old : Port K) (text : List ℕ) (o : Outgoing) → ((i : ℕ) → slice_index text i < 2 ^ 8)
@@ -46,17 +27,10 @@ own_fits old text o small own kind = record {
         (ap (λ f. own_answer f (volume_named old text) text) (sym (of_disk old text o own kind)) ∙ own.own.1)
 
     neither : (slice_index o.bytes.items 8 ≡ 0x81) ⊎ (slice_index o.bytes.items 8 ≡ 0x82) → ⊥
-    neither (inl x) = coded.2 (sym (ap (λ b. slice_index b 8) own.own.2) ∙ x)
-    neither (inr x) = coded.1 (sym (ap (λ b. slice_index b 8) own.own.2) ∙ x)
+    neither x = grind (arith, coded)
 
 -- ---- units
 
 pub unit_right : (y : Sent) (e : Answer) (message : List ℕ) → stem y ≡ sent_by First message → IsUnitFor e.unit message
     → names_unit y e ≡ true
-unit_right y e message is (inr next) = ap (λ b. b || nat_eq e.unit y.unit) (ap (λ (s : Sent). s.next) is ∙ next)
-unit_right y e message is (inl same) = by y.next
-    (eq-eqb e.unit y.unit (same ∙ sym (ap (λ (s : Sent). s.unit) is)))
-  where
-    by : (b : Bool) → nat_eq e.unit y.unit ≡ true → (b || nat_eq e.unit y.unit) ≡ true
-    by true h = refl
-    by false h = h
+unit_right y e message is x = grind arith

@@ -7,8 +7,8 @@ pub use Rattle.std.proofs.lemmas.List.Sums.{fold_push}
 pub use Rattle.std.proofs.lemmas.Option.{none-some, same_Some}
 pub use Rattle.std.specs.List.{AllByRecursion, list_all, list_any, position}
 pub use Rattle.std.specs.Prelude.{Err, Ok, Result, find, flat_map, fold, if◌then◌else◌, is_none, is_ok, is_some, nat_le, nat_lt, option_map, option_to_list, replicate, slice_get, slice_index, slice_index_or, unwrap_or, ◌%◌, ◌&&◌, ◌/◌, ◌==◌, ◌||◌}
-pub use Rattle.byteorder.specs.Endian.{little_bytes}
 pub use Rattle.arrayvec.specs.ArrayVec.{ArrayVec}
+pub use Rattle.byteorder.specs.Endian.{little_bytes}
 pub use Rattle.mscp_controller.proofs.Basics.{queued_open}
 pub use Rattle.mscp_controller.specs.Arrival.{fault_of, is_immediate, is_queued, move_fault, order_fault, refusal, unit_fault}
 pub use Rattle.mscp_controller.specs.Calls.{AnsweredCalls, Call as Made, history}
@@ -88,7 +88,7 @@ pub use Rattle.mscp_ported.proofs.Followed.{IsFollowed, IsReply, IsStepped}
 pub use Rattle.mscp_ported.proofs.Following.{asked_before}
 pub use Rattle.mscp_ported.proofs.Formal.{formal_queued}
 pub use Rattle.mscp_ported.proofs.Growing.{begun_one}
-pub use Rattle.mscp_ported.proofs.Itself.{IsPast, moves_opcode, own_cases, own_coded, own_formal, own_refused, own_whole, since_alive}
+pub use Rattle.mscp_ported.proofs.Itself.{IsPast, moves_opcode, own_cases, own_coded, own_formal, own_number, own_refused, own_whole, since_alive}
 pub use Rattle.mscp_ported.proofs.Keeping.{end_number}
 pub use Rattle.mscp_ported.proofs.Mounting.{Ended, ended_so, one_ended}
 pub use Rattle.mscp_ported.proofs.Moving.{IsBegunStep, steps}

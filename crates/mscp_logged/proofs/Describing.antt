@@ -64,9 +64,9 @@ told_agrees : (o : Option Shape) (v : Volume) (told : Option Identity) (known : 
     → Fits o v known → agrees told known ≡ true
 told_agrees None v told known is f = absurd is
 told_agrees (Some unit) v told known (inl e) f = subst (λ x. agrees x known ≡ true) (sym e) f
-told_agrees (Some unit) v told known (inr e) f = subst (λ x. agrees x known ≡ true) (sym e)
-    (without_size (nat_eq (identity_of unit v).identifier known.identifier)
-    (nat_eq (identity_of unit v).media known.media) (fits (identity_of unit v).size known.size) f)
+told_agrees (Some unit) v told known (inr e) f = rw e
+    (without_size (nat_eq (identity_of unit v).identifier known.identifier) (nat_eq (identity_of unit v).media
+    known.media) (fits (identity_of unit v).size known.size) f)
 
 both_same : (a b : ℕ) (z : Bool) → z ≡ true → (nat_eq a a && nat_eq b b && z) ≡ true
 both_same a b z e = ap (λ x. x && nat_eq b b && z) (eq-eqb a a refl) ∙ ap (λ x. x && z) (eq-eqb b b refl) ∙ e
@@ -75,13 +75,11 @@ both_same a b z e = ap (λ x. x && nat_eq b b && z) (eq-eqb a a refl) ∙ ap (λ
 told_fits : (o : Option Shape) (v : Volume) (told : Option Identity) (x : Identity) → IsIdentityOf o v told
     → told ≡ Some x → Fits o v x
 told_fits None v told x is e = absurd is
-told_fits (Some unit) v told x (inl same) e = subst (λ i. agrees (Some (identity_of unit v)) i ≡ true)
-    (same_Some (identity_of unit v) x (sym same ∙ e))
+told_fits (Some unit) v told x (inl same) e = rw (← same_Some (identity_of unit v) x (sym same ∙ e))
     (both_same (identity_of unit v).identifier (identity_of unit v).media _
     (eq-eqb (num (little_bytes 4 (cond v.is_there v.size unit.size)) 0 4)
     (num (little_bytes 4 (cond v.is_there v.size unit.size)) 0 4) refl))
-told_fits (Some unit) v told x (inr same) e = subst (λ i. agrees (Some (identity_of unit v)) i ≡ true)
-    (same_Some (sizeless (identity_of unit v)) x (sym same ∙ e))
+told_fits (Some unit) v told x (inr same) e = rw (← same_Some (sizeless (identity_of unit v)) x (sym same ∙ e))
     (both_same (identity_of unit v).identifier (identity_of unit v).media true refl)
 
 tells_online : (c s k x z : Bool) → (c && s) ≡ true → k ≡ true → (s && (x || (c && k) || z)) ≡ true

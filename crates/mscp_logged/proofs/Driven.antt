@@ -1,5 +1,5 @@
 -- A unit that is online with its volume is online in the controller, too: also behind a step.
-use Rattle.mscp_logged.proofs.Common.{Block, Bool, Drive, End, List, None, Option, Record, Shape, Some, Volume, [], ap, cond, drive_after, drive_of, eq-eqb, eqb-true, false, false≢true, find, found_is, fresh_drive, nat_eq, none-some, one_block, option_map, refl, replaced, state_left, subst, sym, true, unwrap_or, volume_found, ℕ, ◌∙◌, ◌∷◌, ◌≡◌}
+use Rattle.mscp_logged.proofs.Common.{Block, Bool, Drive, End, List, None, Option, Record, Shape, Some, Volume, [], ap, cond, drive_after, drive_of, eq-eqb, eqb-true, false, false≢true, find, found_is, fresh_drive, nat_eq, none-some, one_block, option_map, refl, replaced, state_left, sym, true, unwrap_or, volume_found, ℕ, ◌∙◌, ◌∷◌, ◌≡◌}
 use Rattle.mscp_queue.specs.Drives.{has_number}
 
 abbrev pub IsDriven : Volume → Drive → Type 0
@@ -100,8 +100,7 @@ module _ (k : Block) (ds : List Drive) (r : Record) (ended : Option End) (v w : 
   module _ (same : r.command.unit ≡ u) (d : Drive) (found : find (has_number r.command.unit) ds ≡ Some d) where
     pub own_driven : (w.is_mounted ≡ true
         → state_left (drive_of ds r.command.unit).online r.command.order ended ≡ true) → So
-    own_driven is on = subst (λ m. (drive_of (replaced r.command.unit new ds) m).online ≡ true) same
-        (ap (λ (o : Option Drive). (unwrap_or o (fresh_drive one_block)).online)
+    own_driven is on = rw (← same) (ap (λ (o : Option Drive). (unwrap_or o (fresh_drive one_block)).online)
         (find_replaced r.command.unit new own r.command.unit ds
         ∙ ap (option_map (λ d. cond (has_number r.command.unit d) new d)) found)
         ∙ ap (λ (b : Bool). (cond b new d).online) (found_is (has_number r.command.unit) ds d found) ∙ is on)

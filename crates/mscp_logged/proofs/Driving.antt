@@ -1,11 +1,10 @@
 -- Over a whole list of calls a unit that is online with its volume is online in the controller, too.
-use Rattle.mscp_logged.proofs.Common.{Answered, AsksAlways, Bool, Call, Dies, Drive, First, GoesOnWithBlock, Hears, Holdings, IsAsNew, IsFaultTold, IsPassive, IsReadingText, List, Next, None, Ok, Option, Picking, Port, ReadsBytes, SendFault, Shape, Some, Stage, Task, Volume, Wants, WasRead, Went, WriteIp, [], aborting, after_message, answered_end, ap, arith, asked_before, awaited, balance_of, blocks, command_of, cond, drive_now, false, false≢true, few_ends, find, handed, held_unless, history, inl, inr, is_dead, is_queued, looks_or_not, map, nat_eq, none_or_some, one_block, option_map, outstanding_of, own_end_of, passive_stays, place_in, position-Some, queued, refl, refusal, steps, subst, sym, taken_or_not, true, unit_found, volume_at, volume_in_place, with_end, ℕ, ◌<◌, ◌∙◌, ◌∷◌, ◌≡◌, ◌⊎◌}
+use Rattle.mscp_logged.proofs.Common.{Answered, AsksAlways, Bool, Call, Dies, Drive, First, Hears, Holdings, IsAsNew, IsFaultTold, IsPassive, List, Next, Ok, Option, Picking, Port, ReadsBytes, SendFault, Shape, Some, Stage, Task, Volume, Wants, WasRead, Went, WriteIp, [], after_message, ap, arith, asked_before, awaited, balance_of, blocks, command_of, drive_now, false, few_ends, find, handed, held_unless, history, inl, inr, is_dead, map, none-some, none_or_some, option_map, outstanding_of, own_end_of, passive_stays, refl, refusal, steps, sym, true, unit_found, volume_at, ℕ, ◌<◌, ◌∙◌, ◌∷◌, ◌≡◌, ◌⊎◌}
 use Rattle.mscp_queue.specs.Drives.{has_number}
 use Rattle.mscp_port.specs.declared.stage.Stage.TheVariants as stages
 use Rattle.mscp_port.specs.declared.task.Task.TheVariants as tasks
-use Rattle.mscp_port.proofs.Common.{none-some}
-use Rattle.mscp_logged.proofs.Driven.{AreDriven, driven_as}
-use Rattle.mscp_logged.proofs.Moored.{AreAsWere, found_as, next_volumes, passive_volumes, read_volumes, volumes_still}
+use Rattle.mscp_logged.proofs.Driven.{AreDriven}
+use Rattle.mscp_logged.proofs.Moored.{AreAsWere, next_volumes, passive_volumes, read_volumes, volumes_still}
 use Rattle.mscp_logged.proofs.Orderly.{fits, numbers_kept, ordering, promised}
 use Rattle.mscp_logged.proofs.Begun.{Begun, IsKeeping}
 use Rattle.mscp_logged.proofs.Seen.{reads_before}
@@ -17,40 +16,19 @@ use Rattle.mscp_logged.proofs.Spoken.{went_speaks}
 find_drives : (f : Shape → Drive) → ((s : Shape) → (f s).unit ≡ s) → (u : ℕ) (units : List Shape)
     → find (has_number u) (map f units) ≡ option_map f (unit_found units u)
 find_drives f same u [] = refl
-find_drives f same u (s ∷ units) =
-    ap (λ x. cond (nat_eq x.number u) (Some (f s)) (find (has_number u) (map f units))) (same s)
-    ∙ by (nat_eq s.number u) (find_drives f same u units)
-  where
-    by : (b : Bool) → find (has_number u) (map f units) ≡ option_map f (unit_found units u)
-        → cond b (Some (f s)) (find (has_number u) (map f units))
-        ≡ option_map f (cond b (Some s) (unit_found units u))
-    by true e = refl
-    by false e = e
+find_drives f same u (s ∷ units) = grind (arith, find_drives f same u units)
 
 -- no message changes one
 message_drives : {K : Type 0} (h : Holdings K) (b : List ℕ) → (after_message First h b).drives ≡ h.drives
 message_drives {K} h b = by (refusal (balance_of First h) (outstanding_of First h) b)
   where
-    taken : (q : Bool) → (cond q (queued First h (command_of b))
-        (with_end First (aborting First h (command_of b).order) (answered_end First h (command_of b)))).drives
-        ≡ h.drives
-    taken true = refl
-    taken false = refl
-
     by : (o : Option SendFault) → (held_unless First h (command_of b) o).drives ≡ h.drives
-    by (Some fault) = refl
-    by None = taken (is_queued h.settings (command_of b))
+    by o = grind arith
 
 module _ {K : Type 0} (old new : Port K) where
   next_drives : (picks : List _ → ℕ → Type 0) (blocks : Bool) (action : _) → Wants picks blocks old action new
       → new.controller.drives ≡ old.controller.drives
-  next_drives picks blocks action r = elim (looks_or_not old) [
-    | inl looks ↦ elim (r.says.looks looks) [
-      | inl t ↦ ap (λ (h : Holdings K). h.drives) t.controller
-      | inr n ↦ ap (λ (h : Holdings K). h.drives) n.controller
-    ]
-    | inr never ↦ ap (λ (h : Holdings K). h.drives) (r.says.keeps never).controller
-  ]
+  next_drives picks blocks action r = grind arith
 
   read_drives : (bytes : List ℕ) (done : Unit) → Hears bytes old (Ok done) new
       → (new.controller.drives ≡ old.controller.drives) ⊎ Dies old new
@@ -63,8 +41,7 @@ module _ {K : Type 0} (old new : Port K) where
         | inr own ↦ ap (λ (h : Holdings K). h.drives)
             (r.own slot size foreign at (λ none. none-some own.0 (sym none ∙ own.1)))
       ])
-      by t at = elim (r.nothing_else (λ h. subst (λ x. IsReadingText x) at h))
-          [ inl same ↦ inl (ap (λ (h : Holdings K). h.drives) same) | inr d ↦ inr d ]
+      by t at = grind arith
 
 -- ---- calls
 
@@ -86,33 +63,18 @@ module _ {K : Type 0} {picks : Picking K} (run : Begun picks) (keeping : IsKeepi
 
   -- none is online
   none_so : (p : Port K) → ((place : ℕ) → place < 16 → (volume_at p.volumes place).is_mounted ≡ false) → So p
-  none_so p off u on = absurd (false≢true (sym (by (place_in c.units u) refl) ∙ on))
-    where
-      by : (o : Option ℕ) → place_in c.units u ≡ o → (volume_in_place p.volumes (place_in c.units u)).is_mounted ≡ false
-      by None e = ap (λ o. (volume_in_place p.volumes o).is_mounted) e
-      by (Some place) e = ap (λ o. (volume_in_place p.volumes o).is_mounted) e ∙ off place (search (
-        arith,
-        (position-Some (λ (s : Shape). nat_eq s.number u) c.units place one_block e).0,
-        valid.unit_list.few,
-      ))
+  none_so p off u on = grind arith
 
   as_new : (s : Stage) (old p : Port K) → IsAsNew s old p → So p
   as_new s old p d = none_so p (λ place low. ap (λ (v : Volume). v.is_mounted) (d.volumes place low))
 
   stays_so : (old p : Port K) → AreAsWere old.volumes p.volumes → p.controller.drives ≡ old.controller.drives → So old
       → So p
-  stays_so old p still drives = driven_as c.units old.volumes p.volumes old.controller.drives p.controller.drives drives
-      (λ u on. (found_as c.units u old.volumes p.volumes still on).0)
+  stays_so old p still drives = grind arith
 
   passive : (p : Port K) (call : Call) (calls : List Call) (a : Answered picks start (call ∷ calls) p) → IsPassive call
       → So a.0 → So p
-  passive p call calls a is s = elim (passive_volumes a.0 p picks call a.2 is) [
-    | inr d ↦ as_new (stages.Dead d.0) a.0 p d.1
-    | inl still ↦ elim (passive_stays picks call a.0 p a.2 is) [
-      | inr d ↦ as_new (stages.Dead d.0) a.0 p d.1
-      | inl same ↦ stays_so a.0 p still (ap (λ (h : Holdings K). h.drives) same.0) s
-    ]
-  ]
+  passive p call calls a is s = grind (arith, passive_volumes, as_new, passive_stays, stays_so)
 
   -- what is told of a step, while there is no fatal error
   pub went_told : (p : Port K) (outcome : _) (done : Unit) (calls : List Call)
@@ -133,35 +95,14 @@ module _ {K : Type 0} {picks : Picking K} (run : Begun picks) (keeping : IsKeepi
       → ReadsBytes calls → (a : Answered picks start (Went outcome (Ok done) ∷ calls) p) → So a.0 → So p
   went p outcome done calls asks reads a s = by (is_dead p.stage) refl
     where
-      -- a port that is dead takes no step
-      stepped : is_dead p.stage ≡ true → GoesOnWithBlock (picks a.0.controller.picker) a.0 p → So p
-      stepped dead goes = by a.0.stage refl (sym (ap is_dead same) ∙ dead)
-        where
-          same : p.stage ≡ a.0.stage
-          same = elim (taken_or_not (picks a.0.controller.picker) a.0 p goes) [
-            | inl e ↦ ap (λ (q : Port K). q.stage) e
-            | inr t ↦ ap (λ (q : Port K). q.stage) t.2.finished.2.frame
-          ]
-
-          by : (x : Stage) → a.0.stage ≡ x → is_dead a.0.stage ≡ true → So p
-          by (stages.Dead code) at d = absurd (false≢true (a.2.dead code at))
-          by x at d = absurd (search (arith, at, d))
-
       by : (b : Bool) → is_dead p.stage ≡ b → So p
       by false lives =
           (went_told p outcome done calls asks reads a s lives ⊥ (λ never. absurd never)).1.1
-      by true dead = elim a.2.commands [
-        | inl x ↦ stays_so a.0 p (volumes_still a.0 p x.volumes) (ap (λ (h : Holdings K). h.drives) x.controller) s
-        | inr more ↦ elim more [
-          | inl block ↦ stepped dead block.1
-          | inr d ↦ as_new (stages.Dead d.0) a.0 p d.1
-        ]
-      ]
+      by true dead = grind arith
 
   pub driving : (p : Port K) (calls : List Call) → AsksAlways calls → ReadsBytes calls
       → (a : Answered picks start calls p) → So p
-  driving p [] asks reads a = none_so p (λ place low. ap (λ (q : Port K). (volume_at q.volumes place).is_mounted) a
-      ∙ ap (λ (v : Volume). v.is_mounted) (made.volumes place low))
+  driving p [] asks reads a = grind arith
   driving p (call ∷ calls) asks reads a = by call asks reads a
       (driving a.0 calls (asked_before call calls asks) (reads_before call calls reads) a.1)
     where

@@ -1,10 +1,7 @@
 -- What a controller is told of a step is what a drive may tell, and a unit that isn't online ends no other command
 -- than a transfer.
-use Rattle.mscp_logged.proofs.Common.{Bool, Buffer, Err, IsBegunStep, IsFault, IsFaultTold, IsHow, IsOfBlock, List, MoveKind, Name, None, Ok, Option, Order, Outcome, Port, Record, Result, Some, Task, Upcoming, Verdict, Volume, ap, arith, begun_step, begun_task, block_begun, block_of, block_served, block_told, changed_verdict, cond, drive_of, false, fault_with, faulted, find, has_changed, has_host_bytes, has_name, inl, inr, is_available, is_move, known_task, move_of, move_task, moved_by, moved_step, nat_le, option_map, part_at, part_of, part_served, part_task, part_with, place_in, refl, refusal_of, subst, sym, takes_any_volume, task_of, true, unless_fault, upcoming_begun, upcoming_of, volume_at, writes, ℕ, ◌%◌, ◌&&◌, ◌<◌, ◌==◌, ◌^◌, ◌∙◌, ◌≡◌, ◌≤◌}
-use Rattle.std.specs.Prelude.{not}
-use Rattle.mscp_packet.specs.declared.command.Order.TheVariants as orders
+use Rattle.mscp_logged.proofs.Common.{Buffer, Err, IsBegunStep, IsFault, IsFaultTold, IsHow, List, MoveKind, Name, None, Ok, Option, Order, Outcome, Port, Record, Result, Some, Task, Upcoming, Verdict, Volume, arith, begun_step, block_begun, block_served, block_told, drive_of, faulted, find, has_name, inl, inr, is_move, known_task, move_of, move_task, moved_by, option_map, part_at, part_served, part_task, part_with, place_in, refl, subst, sym, true, upcoming_of, ℕ, ◌%◌, ◌<◌, ◌^◌, ◌≡◌, ◌≤◌}
 use Rattle.mscp_drive.specs.declared.block.Block.TheVariants as blocks
-use Rattle.mscp_port.specs.declared.action.Outcome.TheVariants as outcomes
 use Rattle.mscp_port.specs.declared.task.Task.TheVariants as tasks
 use Rattle.mscp_port.specs.declared.verdict.Verdict.TheVariants as verdicts
 
@@ -18,10 +15,6 @@ IsFine order verdict =
 abbrev pub IsToldOf : Verdict → Record → Type 0
 IsToldOf verdict r = IsFine r.command.order verdict
 
-abbrev IsFineIf : Order → Option Verdict → Type 0
-IsFineIf order None = Unit {0}
-IsFineIf order (Some verdict) = IsFine order verdict
-
 abbrev IsFineOr : Order → Result (ℕ × ℕ) Verdict → Type 0
 IsFineOr order (Ok part) = Unit {0}
 IsFineOr order (Err verdict) = IsFine order verdict
@@ -31,19 +24,8 @@ IsFineTask order (tasks.Step verdict) = IsFine order verdict
 IsFineTask order task = Unit {0}
 
 module _ (order : Order) where
-  fine_cond : (c : Bool) (x y : Option Verdict) → IsFineIf order x → IsFineIf order y → IsFineIf order (cond c x y)
-  fine_cond true x y a b = a
-  fine_cond false x y a b = b
-
-  fine_task : (c : Bool) (x y : Task) → IsFineTask order x → IsFineTask order y → IsFineTask order (cond c x y)
-  fine_task true x y a b = a
-  fine_task false x y a b = b
-
   fault : (n : ℕ) → (n < 2 ^ 16) × (5 ≤ n % 32) × (n % 32 ≤ 11) → IsFine order (faulted n)
   fault n h = (h, λ e. absurd (search (arith, e)))
-
-  no_volume : IsFine order verdicts.NoVolume
-  no_volume = ((omega arith, omega arith, omega arith), λ e. absurd (search (arith, e)))
 
   good : IsFine order (verdicts.Served blocks.Good)
   good = (tt, λ e. absurd (search (arith, e)))
@@ -51,56 +33,23 @@ module _ (order : Order) where
   drive_error : IsFine order (faulted 0x000B)
   drive_error = fault 0x000B (omega arith, omega arith, omega arith)
 
-  changed_fine : (v : Volume) → IsFine order (changed_verdict v)
-  changed_fine v = by v.is_mounted
-    where
-      by : (c : Bool) → IsFine order (cond c (faulted 0x000B) verdicts.NoVolume)
-      by true = drive_error
-      by false = no_volume
-
-  -- why a block isn't moved
-  refusal_fine : is_move order ≡ true → (kind : MoveKind) (block : ℕ) (b : Buffer) (v : Volume)
-      → IsFineIf order (refusal_of kind block b v)
-  refusal_fine move kind block b v =
-      fine_cond (not v.is_mounted) (Some verdicts.NotOnline) _ ((omega arith, omega arith, omega arith), λ e. move)
-      (fine_cond (has_host_bytes kind && b.address % 2 == 1) (Some (faulted 0x0029)) _
-      (fault 0x0029 (omega arith, omega arith, omega arith))
-      (fine_cond (b.count % 2 == 1) (Some (faulted 0x0049)) _ (fault 0x0049 (omega arith, omega arith, omega arith))
-      (fine_cond (writes kind && v.is_protected_by_host) (Some (faulted 0x1006)) _
-      (fault 0x1006 (omega arith, omega arith, omega arith))
-      (fine_cond (writes kind && v.is_protected) (Some (faulted 0x2006)) _
-      (fault 0x2006 (omega arith, omega arith, omega arith))
-      (fine_cond (nat_le v.size block) (Some (faulted 0x000B)) None drive_error tt)))))
-
   part_fine : is_move order ≡ true → (kind : MoveKind) (block done : ℕ) (b : Buffer) (v : Volume)
       → IsFineOr order (part_with kind block done b v)
-  part_fine move kind block done b v = by (fault_with kind block b v)
-      (fine_cond (has_changed b v) (Some (changed_verdict v)) (refusal_of kind block b v) (changed_fine v)
-      (refusal_fine move kind block b v)) (part_of b done)
-    where
-      by : (o : Option Verdict) → IsFineIf order o → (part : Option (ℕ × ℕ)) → IsFineOr order (unless_fault o part)
-      by (Some verdict) f part = f
-      by None f None = fault 0x0069 (omega arith, omega arith, omega arith)
-      by None f (Some part) = tt
+  part_fine move kind block done b v = grind arith
 
   at_fine : is_move order ≡ true → (place : Option ℕ) (kept : Option Buffer) (kind : MoveKind) (block done : ℕ)
       (volumes : List Volume) → IsFineOr order (part_at place kept kind block done volumes)
-  at_fine move (Some place) (Some b) kind block done volumes =
-      part_fine move kind block done b (volume_at volumes place)
-  at_fine move None kept kind block done volumes = drive_error
-  at_fine move (Some place) None kind block done volumes = drive_error
+  at_fine move place kept kind block done volumes = grind (arith, part_fine, drive_error)
 
 -- ---- a step
 
 moved_is : (order : Order) (lbn : Option ℕ) (move : MoveKind × ℕ) → moved_by order lbn ≡ Some move
     → is_move order ≡ true
-moved_is (orders.Move kind count first) lbn move e = refl
-moved_is order lbn move e = search (arith, e)
+moved_is order lbn move e = grind arith
 
 part_task_fine : (order : Order) (part : Result (ℕ × ℕ) Verdict) → IsFineOr order part
     → IsFineTask order (part_task part)
-part_task_fine order (Ok part) fine = fine_task order (part.1 == 0) _ tasks.Transfer (good order) tt
-part_task_fine order (Err verdict) fine = fine
+part_task_fine order part fine = grind arith
 
 module _ (u : Upcoming) where
   abbrev order : Order
@@ -112,28 +61,11 @@ module _ (u : Upcoming) where
   move_task_fine b v (Some move) e = part_task_fine order (part_with move.0 move.1 u.done b v)
       (part_fine order (moved_is order u.lbn move e) move.0 move.1 u.done b v)
 
-  task_fine : (b : Buffer) (v : Volume) → IsFineTask order (task_of u b v)
-  task_fine b v = fine_task order (is_available order) _ _ (good order)
-      (fine_task order (v.is_there && takes_any_volume order) _ _ (good order)
-      (fine_task order (has_changed b v) (tasks.Step (changed_verdict v)) _ (changed_fine order v)
-      (move_task_fine b v (move_of u) refl)))
-
   known_fine : (place : Option ℕ) (kept : Option Buffer) (volumes : List Volume)
       → IsFineTask order (known_task u place kept volumes)
-  known_fine (Some place) (Some b) volumes = task_fine b (volume_at volumes place)
-  known_fine None kept volumes = drive_error order
-  known_fine (Some place) None volumes = drive_error order
+  known_fine place kept volumes = grind (arith, good, move_task_fine, drive_error)
 
 -- ---- what is told
-
-outcome_fine : (order : Order) (outcome : Outcome) → IsFaultTold outcome
-    → IsFine order (verdicts.Served (block_of outcome))
-outcome_fine order outcomes.Done h = good order
-outcome_fine order outcomes.Missing h = fault order 0x0069 (omega arith, omega arith, omega arith)
-outcome_fine order outcomes.Parity h = fault order 0x0089 (omega arith, omega arith, omega arith)
-outcome_fine order outcomes.Unmapped h = fault order 0x00A9 (omega arith, omega arith, omega arith)
-outcome_fine order outcomes.Different h = fault order 0x0007 (omega arith, omega arith, omega arith)
-outcome_fine order (outcomes.Failed status) h = fault order status h
 
 module _ {K : Type 0} (old : Port K) (outcome : Outcome) (told : IsFaultTold outcome) (step : IsBegunStep old)
     (name : Name) (was : old.controller.begun ≡ Some name) (r : Record)
@@ -142,22 +74,16 @@ module _ {K : Type 0} (old : Port K) (outcome : Outcome) (told : IsFaultTold out
   u = upcoming_of (drive_of old.controller.drives r.command.unit) r
 
   begun_is : begun_step old.controller ≡ Some u
-  begun_is = ap (upcoming_begun old.controller.drives old.controller.waiting) was
-      ∙ ap (option_map (λ x. upcoming_of (drive_of old.controller.drives x.command.unit) x)) found
+  begun_is = grind arith
 
   step_is_fine : (verdict : Verdict) → old.task ≡ tasks.Step verdict → IsToldOf verdict r
-  step_is_fine verdict at = subst (λ t. IsFineTask r.command.order t)
-      (sym (ap (begun_task old.controller.settings.units old.buffers.items old.volumes) begun_is)
-      ∙ sym (step (subst (λ t. IsOfBlock t) (sym at) tt)) ∙ at)
-      (known_fine u (place_in old.controller.settings.units u.command.unit) _ old.volumes)
+  step_is_fine verdict at = grind (arith, begun_is, known_fine)
 
   moved_is_fine : IsToldOf (block_served old outcome (block_begun old)) r
-  moved_is_fine = subst (λ o. IsToldOf (block_served old outcome
-      (moved_step o)) r) (sym begun_is) (by (move_of u) refl)
+  moved_is_fine = rw begun_is (by (move_of u) refl)
     where
       served : (part : Result (ℕ × ℕ) Verdict) → IsFineOr r.command.order part → IsToldOf (part_served outcome part) r
-      served (Ok part) fine = outcome_fine r.command.order outcome told
-      served (Err verdict) fine = fine
+      served part fine = grind arith
 
       by : (move : Option (MoveKind × ℕ)) → move_of u ≡ move
           → IsToldOf (block_served old outcome (option_map (λ move. (u, move.0, move.1)) move)) r

@@ -1,7 +1,6 @@
 -- Where a message keeps a later one back, no step serves the later one's command before that of the first ended; and a
 -- message that is answered at once waits for none, or ends with a status that may come at once.
-use Rattle.mscp_logged.proofs.Common.{AllByRecursion, Block, Bool, IsCodeFor, IsOf, IsText, IsUnitIn, List, MoveKind, None, Option, Order, Record, Says, Sent, Settings, Some, Volume, [], and_parts, ap, arith, asks_next, command_of, cond, ends_formality, eq-eqb, eqb-true, false, false≢true, fault_of, fences, filter, first_of_one, formal_status, handed, has_number, inl, inr, is_apart, is_formality, is_immediate, is_none, is_numbered, is_queued, list_all, list_any, move_byte, nat_eq, not, num, number_of, or_right, other_one, own_end, own_end_with, queued_open, refl, refused_apart, slice_index, some_none, status_after, status_told, subst, sym, this_one, true, unit_state, valid_order, ℕ, ◌%◌, ◌++◌, ◌+◌, ◌==◌, ◌||◌, ◌∙◌, ◌∷◌, ◌≡◌, ◌≢◌, ◌⊎◌}
-use Rattle.std.proofs.Common.{◌&&◌}
+use Rattle.mscp_logged.proofs.Common.{AllByRecursion, Block, Bool, IsCodeFor, IsOf, IsText, IsUnitIn, List, None, Option, Order, Record, Says, Sent, Settings, Some, Volume, [], and_parts, ap, arith, asks_next, command_of, cond, ends_formality, eq-eqb, eqb-true, false, false≢true, fault_of, fences, filter, formal_status, handed, has_number, inl, inr, is_apart, is_formality, is_immediate, is_numbered, is_queued, list_all, list_any, nat_eq, not, num, or_right, other_one, own_end, own_end_with, queued_open, refl, refused_apart, slice_index, some_none, status_after, status_told, subst, sym, this_one, true, unit_state, valid_order, ℕ, ◌%◌, ◌&&◌, ◌++◌, ◌==◌, ◌||◌, ◌∙◌, ◌∷◌, ◌≡◌, ◌≢◌, ◌⊎◌}
 use Rattle.mscp_packet.specs.declared.command.Order.TheVariants as orders
 use Rattle.mscp_drive.specs.declared.block.Block.TheVariants as blocks
 use Rattle.mscp_queue.specs.Orders as queue
@@ -15,28 +14,13 @@ use Rattle.mscp_logged.proofs.Suited.{formal_opcode}
 
 -- ---- orders and opcodes
 
-moves_free : (kind : MoveKind) → wire.is_sequential (move_byte kind) ≡ false
-moves_free kind = grind arith
-
 says_sequential : (o : Order) (s : Sent) → Says o s → ((byte why : ℕ) → o ≢ orders.Invalid byte why)
     → wire.is_sequential s.opcode ≡ true → queue.is_sequential o ≡ true
-says_sequential (orders.Abort other) s says valid e = absurd (false≢true (sym (ap wire.is_sequential says.0) ∙ e))
-says_sequential (orders.Status other) s says valid e = absurd (false≢true (sym (ap wire.is_sequential says.0) ∙ e))
-says_sequential orders.UnitStatus s says valid e = absurd (false≢true (sym (ap wire.is_sequential says) ∙ e))
-says_sequential (orders.SetController version) s says valid e =
-    absurd (false≢true (sym (ap wire.is_sequential says) ∙ e))
-says_sequential (orders.Move kind count block) s says valid e =
-    absurd (false≢true (sym (ap wire.is_sequential says.0 ∙ moves_free kind) ∙ e))
-says_sequential (orders.Invalid byte why) s says valid e = absurd (valid byte why refl)
-says_sequential order s says valid e = refl
+says_sequential order s says valid e = grind arith
 
 says_immediate : (o : Order) (s : Sent) → Says o s → is_immediate o ≡ true
     → (wire.is_sequential s.opcode ≡ false) × (wire.is_ordered s.opcode ≡ false)
-says_immediate (orders.Abort other) s says h = (ap wire.is_sequential says.0, ap wire.is_ordered says.0)
-says_immediate (orders.Status other) s says h = (ap wire.is_sequential says.0, ap wire.is_ordered says.0)
-says_immediate orders.UnitStatus s says h = (ap wire.is_sequential says, ap wire.is_ordered says)
-says_immediate (orders.SetController version) s says h = (ap wire.is_sequential says, ap wire.is_ordered says)
-says_immediate o s says h = search (arith, h)
+says_immediate o s says h = grind arith
 
 formal_free : (n : ℕ) → is_formality n ≡ true → wire.is_sequential n ≡ false
 formal_free n e = formal_opcode (λ n. wire.is_sequential n ≡ false) refl refl refl n e
@@ -48,29 +32,20 @@ of_sequential r t of e = by (is_formality (slice_index t 8)) refl
   where
     by : (b : Bool) → is_formality (slice_index t 8) ≡ b → queue.is_sequential r.command.order ≡ true
     by true formal = absurd (false≢true (sym (formal_free (slice_index t 8) formal) ∙ e))
-    by false plain = subst (λ k. queue.is_sequential k.order ≡ true) (sym of.command)
-        (says_sequential (command_of (handed of.settings.units t)).order (of_unit t 0)
+    by false plain = rw of.command (says_sequential (command_of (handed of.settings.units t)).order (of_unit t 0)
         (handed_says of.settings.units t of.message plain 0)
-        (subst (λ k. (byte why : ℕ) → k.order ≢ orders.Invalid byte why) of.command
-        (valid_order of.settings r.command.unit r.command.order
-        (queued_open of.settings r.command of.queued).sound)) e)
+        (rw (← of.command) (valid_order of.settings r.command.unit r.command.order (queued_open of.settings r.command
+        of.queued).sound)) e)
 
 -- ---- who keeps whom back
 
 fence_of : (a b c d : Bool) → ((a && (b || c)) || (d && b)) ≡ true → (a || b) ≡ true
 fence_of a b c d h = grind (arith, false≢true)
 
-none_back : (b seq ord y z : Bool) → y ≡ false → z ≡ false → (b && ((seq && (y || z)) || (ord && y))) ≡ false
-none_back b seq ord y z p q = grind arith
-
-none_keeps : (b seq ord y z : Bool) → seq ≡ false → ord ≡ false → (b && ((seq && (y || z)) || (ord && y))) ≡ false
-none_keeps b seq ord y z p q = grind arith
-
 -- a message that is no transfer's, nor a sequential command's, waits for none
 pub unplaced : (t : List ℕ) → wire.is_sequential (slice_index t 8) ≡ false → wire.is_ordered (slice_index t 8) ≡ false
     → (u : List ℕ) → keeps t u ≡ false
-unplaced t p q u = none_back (nat_eq (num u 4 2) (num t 4 2)) (wire.is_sequential (slice_index u 8))
-    (wire.is_ordered (slice_index u 8)) (wire.is_sequential (slice_index t 8)) (wire.is_ordered (slice_index t 8)) p q
+unplaced t p q u = grind arith
 
 asks_third : (t : List ℕ) → asks_next t ≡ true → slice_index t 8 ≡ 3
 asks_third t e = eqb-true (slice_index t 8) 3 (and_parts (slice_index t 8 == 3) (num t 10 2 % 2 == 1) e).0
@@ -80,16 +55,10 @@ pub same_unit : (t u : List ℕ) → keeps t u ≡ true → num u 4 2 ≡ num t 
 same_unit t u e = eqb-true (num u 4 2) (num t 4 2) (and_parts (nat_eq (num u 4 2) (num t 4 2)) _ e).0
 
 pub unit_later : (unit : ℕ) (t u : List ℕ) → keeps t u ≡ true → IsUnitIn unit t → unit ≡ num t 4 2
-unit_later unit t u e (inl same) = same.0
-unit_later unit t u e (inr next) = absurd (false≢true (sym (unplaced t (ap wire.is_sequential (asks_third t next))
-    (ap wire.is_ordered (asks_third t next)) u) ∙ e))
+unit_later unit t u e x = grind (arith, unplaced, asks_third)
 
 pub unit_earlier : (unit : ℕ) (t u : List ℕ) → keeps t u ≡ true → IsUnitIn unit u → unit ≡ num u 4 2
-unit_earlier unit t u e (inl same) = same.0
-unit_earlier unit t u e (inr next) = absurd (false≢true (sym (none_keeps (nat_eq (num u 4 2) (num t 4 2))
-    (wire.is_sequential (slice_index u 8)) (wire.is_ordered (slice_index u 8)) (wire.is_sequential (slice_index t 8))
-    (wire.is_ordered (slice_index t 8)) (ap wire.is_sequential (asks_third u next))
-    (ap wire.is_ordered (asks_third u next))) ∙ e))
+unit_earlier unit t u e x = grind (arith, asks_third)
 
 -- the command of this message waits
 pub record IsWaiting (rs : List Record) (t : List ℕ) : Type 0 where
@@ -123,13 +92,7 @@ kept_fences r z t u unit of other_unit other e =
 all_sole : {X : Type 0} (g f : X → Bool) (xs : List X) (x : X) → list_all g xs ≡ true → filter f xs ≡ x ∷ []
     → g x ≡ true
 all_sole g f [] x all sole = absurd (some_none x [] (sym sole))
-all_sole g f (y ∷ ys) x all sole = by (f y) sole (and_parts (g y) (list_all g ys) all)
-    (λ h k. all_sole g f ys x h k)
-  where
-    by : (b : Bool) → cond b (y ∷ filter f ys) (filter f ys) ≡ x ∷ [] → (g y ≡ true) × (list_all g ys ≡ true)
-        → (list_all g ys ≡ true → filter f ys ≡ x ∷ [] → g x ≡ true) → g x ≡ true
-    by true h p rest = subst (λ z. g z ≡ true) (first_of_one y x (filter f ys) h).0 p.0
-    by false h p rest = rest p.1 h
+all_sole g f (y ∷ ys) x all sole = grind (arith, all_sole g f ys x)
 
 module _ (rs xs : List Record) (r0 : Record) (ys : List Record) (whole : rs ≡ xs ++ r0 ∷ ys) (n : ℕ)
     (mine : is_numbered n r0 ≡ true) (free : list_all (λ z. not (fences r0 z)) xs ≡ true) where
@@ -147,23 +110,21 @@ module _ (rs xs : List Record) (r0 : Record) (ys : List Record) (whole : rs ≡ 
 
       apart : (b : Bool) → is_numbered a r0 ≡ b → b ≡ false
       apart false e = refl
-      apart true e = absurd (false≢true (sym other
-          ∙ eq-eqb (num u 0 4) n (sym (number_of a r0 e).1 ∙ (number_of n r0 mine).1)))
+      apart true e = grind arith
 
       in_front : filter (is_numbered a) xs ≡ earlier.own ∷ []
       in_front = elim (other_one (is_numbered a) xs ys r0 earlier.own
           (ap (filter (is_numbered a)) (sym whole) ∙ earlier.sole) (apart (is_numbered a r0) refl)) [
             | inl h ↦ h.0
-            | inr h ↦ absurd (some_none earlier.own [] (sym h.1
-                ∙ behind_is a n xs r0 ys (subst (λ zs. NoneBehind a n zs) whole behind) mine))
+            | inr h ↦ absurd (some_none earlier.own [] (sym h.1 ∙ behind_is a n xs r0 ys (rw (← whole) behind) mine))
           ]
 
       by : (b : Bool) → keeps t u ≡ b → keeps t u ≡ false
       by false e = e
-      by true e = absurd (false≢true (sym (ap not (kept_fences r0 earlier.own t u
-          (subst (λ z. IsUnitIn z.command.unit t) (sym is_later) later.unit)
-          (subst (λ z. IsOf z t) (sym is_later) later.of) earlier.unit earlier.of e))
-          ∙ all_sole (λ z. not (fences r0 z)) (is_numbered a) xs earlier.own free in_front))
+      by true e = absurd
+          (false≢true
+          (sym (ap not (kept_fences r0 earlier.own t u (rw is_later later.unit) (rw is_later later.of) earlier.unit
+          earlier.of e)) ∙ all_sole (λ z. not (fences r0 z)) (is_numbered a) xs earlier.own free in_front))
 
   pub serves_free : (ts : List (List ℕ)) → InOrder ts rs → AllByRecursion (IsWaiting rs) ts → overtakes n ts ≡ false
   serves_free [] order all = refl
@@ -172,33 +133,19 @@ module _ (rs xs : List Record) (r0 : Record) (ys : List Record) (whole : rs ≡ 
       (by (has_number n u) refl) (serves_free us order.1 all.1)
     where
       none : has_number n u ≡ false → (b : Bool) → list_any (λ t. has_number n t && keeps t u) us ≡ b → b ≡ false
-      none other false e = refl
-      none other true e =
-          let x = any_all (IsWaiting rs) (λ t. has_number n t && keeps t u) us e all.1 in
-          let p = and_parts (has_number n x.0) (keeps x.0 u) x.2 in
-          absurd (false≢true (sym (one_free x.0 u x.1 all.0 (order.0 n
-          (any_as (λ t. has_number n t && keeps t u) (has_number n)
-          (λ t h. (and_parts (has_number n t) (keeps t u) h).0) us e)) p.0 other) ∙ p.1))
+      none other b e = grind (arith, any_all, and_parts, false≢true, one_free, any_as)
 
       by : (b : Bool) → has_number n u ≡ b → cond b false (list_any (λ t. has_number n t && keeps t u) us) ≡ false
-      by true is = refl
-      by false is = none is (list_any (λ t. has_number n t && keeps t u) us) refl
+      by b is = grind (arith, none)
 
 -- ---- what is answered at once
 
 is_not : (status n : ℕ) → is_apart (n % 32) ≡ false → is_apart (status % 32) ≡ true → (b : Bool)
     → nat_eq status n ≡ b → b ≡ false
-is_not status n apart is false e = refl
-is_not status n apart is true e =
-    absurd (false≢true (sym apart ∙ ap (λ x. is_apart (x % 32)) (sym (eqb-true status n e)) ∙ is))
+is_not status n apart is b e = grind arith
 
 pick : (a b x y : Bool) (u v n : ℕ) → x ≡ false → y ≡ false → cond (a && x) u (cond (b && y) v n) ≡ n
-pick a b true y u v n p q = absurd (false≢true (sym p))
-pick a b false true u v n p q = absurd (false≢true (sym q))
-pick true true false false u v n p q = refl
-pick true false false false u v n p q = refl
-pick false true false false u v n p q = refl
-pick false false false false u v n p q = refl
+pick a b x y u v n p q = grind arith
 
 after_apart : (block : Block) (code status : ℕ) (v : Volume) → is_apart (status % 32) ≡ true
     → status_after (verdicts.Served block) code status v ≡ status
@@ -212,29 +159,15 @@ after_apart block code status v is = pick (code == 0x83) (code == 0x89) (status 
 -- one that was aborted is told so
 pub aborted_apart : (code : ℕ) (v : Volume)
     → is_apart (status_told (verdicts.Served blocks.Good) code 2 v % 32) ≡ true
-aborted_apart code v = by (ends_formality code)
-  where
-    by : (b : Bool)
-        → is_apart (cond b (formal_status 2) (status_after (verdicts.Served blocks.Good) code 2 v) % 32) ≡ true
-    by true = refl
-    by false = ap (λ n. is_apart (n % 32)) (after_apart blocks.Good code 2 v refl)
+aborted_apart code v = grind arith
 
 -- the code of a message that is no formality is that of none
 pub plain_code : (code : ℕ) (t : List ℕ) → is_formality (slice_index t 8) ≡ false → IsCodeFor code t
     → ends_formality code ≡ false
-plain_code code t plain (inl e) = ap ends_formality e.0
-plain_code code t plain (inr e) = ap ends_formality e ∙ by (ends_formality (slice_index t 8 + 0x80)) refl
-  where
-    formal : (n : ℕ) → ends_formality (n + 0x80) ≡ true → is_formality n ≡ true
-    formal n e = grind (arith, e)
-
-    by : (b : Bool) → ends_formality (slice_index t 8 + 0x80) ≡ b → b ≡ false
-    by false h = refl
-    by true h = absurd (false≢true (sym plain ∙ formal (slice_index t 8) h))
+plain_code code t plain x = grind arith
 
 apart_of : (status : ℕ) → (status % 32 ≡ 1) ⊎ (status % 32 ≡ 3) → is_apart (status % 32) ≡ true
-apart_of status (inl e) = ap is_apart e
-apart_of status (inr e) = ap is_apart e
+apart_of status x = grind arith
 
 pub reply_clear : (c : Settings) (online : Bool) (figure : ℕ) (t : List ℕ) → IsText t
     → is_formality (slice_index t 8) ≡ false → is_queued c (command_of (handed c.units t)) ≡ false → (code : ℕ)
@@ -252,21 +185,13 @@ reply_clear c online figure t message plain quick code formal v =
 
     at_once : fault_of c (command_of (handed c.units t)) ≡ None
         → is_immediate (command_of (handed c.units t)).order ≡ true
-    at_once none = now (is_immediate (command_of (handed c.units t)).order) refl quick
-      where
-        now : (b : Bool) → is_immediate (command_of (handed c.units t)).order ≡ b
-            → cond b false (is_none (fault_of c (command_of (handed c.units t)))) ≡ false
-            → is_immediate (command_of (handed c.units t)).order ≡ true
-        now true is h = is
-        now false is h = absurd (false≢true (sym h ∙ ap (λ x. is_none x) none))
+    at_once none = grind arith
 
     by : (f : Option ℕ) → fault_of c (command_of (handed c.units t)) ≡ f
         → (is_apart (status_told (verdicts.Served blocks.Good) code
         (own_end_with c online figure (command_of (handed c.units t)) f).status v % 32) ≡ true)
         ⊎ ((u : List ℕ) → keeps t u ≡ false)
-    by None is =
-        let free = says_immediate (command_of (handed c.units t)).order (of_unit t 0) says (at_once is) in
-        inr (unplaced t free.0 free.1)
+    by None is = grind (arith, says_immediate, says, at_once, unplaced)
     by (Some status) is =
         let apart = apart_of status (refused_apart c (command_of (handed c.units t)).unit status
         (command_of (handed c.units t)).order (of_unit t 0) says is) in

@@ -1,6 +1,5 @@
 -- What is known of the figures that a log tells, beside what comes.
-use Rattle.mscp_logged.proofs.Common.{Answer, Bool, Call, First, History, IsCodeFor, List, Moment, None, Ok, Option, Outgoing, Pending, Port, Said, Sent, Some, TakesPoll, TellsStep, WasRead, [], after_end, answer_by, ap, append_assoc, arith, begins, command_at, cond, each_push, end_of, eqb-true, false, false≢true, filter, flat_map, four_in, has_endcode, hears, is_known, is_required, length, list_any, map, message_of, moment_at, nat_eq, none-some, not, num, option_to_list, outstanding, pending_in, refl, said_in, same_Some, slice_index, subst, sym, take, taken_by, true, ℕ, ◌++◌, ◌+◌, ◌<◌, ◌∙◌, ◌∷◌, ◌≡◌, ◌≤◌}
-use Rattle.std.proofs.Common.{nat_le}
+use Rattle.mscp_logged.proofs.Common.{Answer, Call, First, History, IsCodeFor, List, Moment, Ok, Option, Outgoing, Pending, Port, Said, Sent, Some, TakesPoll, TellsStep, WasRead, [], after_end, answer_by, ap, arith, begins, command_at, cond, each_push, end_of, false, filter, flat_map, four_in, has_endcode, hears, is_known, length, list_any, map, message_of, moment_at, nat_eq, num, option_to_list, outstanding, pending_in, refl, said_in, slice_index, subst, sym, take, taken_by, true, ℕ, ◌++◌, ◌<◌, ◌∙◌, ◌∷◌, ◌≡◌, ◌≤◌}
 use Rattle.mscp_port.specs.declared.port.OutgoingKind.TheVariants as kinds
 use Rattle.mscp_wire.specs.declared.moment.Moment.TheVariants as moments
 use Rattle.mscp_logged.proofs.Coded.{endcode_right}
@@ -33,9 +32,7 @@ message_comes h t P P' F F' S S' f now =
 
 -- an end leaves
 pub coded_so : (y : Sent) (e : Answer) → has_endcode y e ≡ true → y.opcode ≡ 2 → is_known e ≡ true → e.code ≡ 0x82
-coded_so y e right code known = eqb-true e.code (y.opcode + 0x80)
-    (sym (ap (λ b. cond b (nat_eq e.code (y.opcode + 0x80)) (not (is_required y.opcode))) known) ∙ right)
-    ∙ ap (λ n. n + 0x80) code
+coded_so y e right code known = grind arith
 
 module _ (Tie : List ℕ → List ℕ → Type 0) (code_of : (text message : List ℕ) → Tie text message
     → IsCodeFor (slice_index text 8) message) (h : History) (aw : List (List ℕ)) (F : ℕ → ℕ) (S : ℕ → Type 0)
@@ -54,9 +51,8 @@ module _ (Tie : List ℕ → List ℕ → Type 0) (code_of : (text message : Lis
       record {
         each = each_push moments.Reset IsShownAt h (end_of o.text) f.each
             (is_shown F S (outstanding h) P _ o.text x.place x.at refl refl coded f.now);
-        now = subst (λ xs. AreFigured xs P F S) (sym (outstanding_more h (end_of o.text)
-            ∙ ap (after_end (outstanding h) (answer_by First o.text)) x.at ∙ x.after
-            ∙ ap (map (hears (command_at (outstanding h) x.place) (answer_by First o.text))) (sym x.without)))
+        now = rw (outstanding_more h (end_of o.text) ∙ ap (after_end (outstanding h) (answer_by First o.text)) x.at
+            ∙ x.after ∙ ap (map (hears (command_at (outstanding h) x.place) (answer_by First o.text))) (sym x.without))
             (figured_left F S (outstanding h) P _ o.text x.place x.at refl refl coded f.now);
       }
 
@@ -70,21 +66,14 @@ begun_of x y = flat_map pending_in (map said_in (begins x y))
 
 pub goes_on : (o : Said) (z : Said) (was now more : List Pending) → o ≡ z → now ≡ was ++ more
     → (pending_in z ++ []) ++ now ≡ ((pending_in o ++ []) ++ was) ++ more
-goes_on o z was now more same e = ap (λ s. (pending_in s ++ []) ++ now) (sym same)
-    ∙ ap (λ k. (pending_in o ++ []) ++ k) e ∙ sym (append_assoc (pending_in o ++ []) was more)
+goes_on o z was now more same e = grind arith
 
 pub four_is : (t : List ℕ) (other : ℕ) → four_in t 12 ≡ Some other → (16 ≤ length t) × (num t 12 4 ≡ other)
-four_is t other e = by (nat_le (12 + 4) (length t)) refl e
-  where
-    by : (b : Bool) → nat_le (12 + 4) (length t) ≡ b → cond b (Some (num t 12 4)) None ≡ Some other
-        → (16 ≤ length t) × (num t 12 4 ≡ other)
-    by true is h = (search (arith, is), same_Some (num t 12 4) other h)
-    by false is h = absurd (none-some other h)
+four_is t other e = grind arith
 
 pub takes_poll : {K : Type 0} (old : Port K) (call : Call) (t : List ℕ) (done : Unit) → call ≡ WasRead t (Ok done)
     → taken_by call old ≡ t ∷ [] → slice_index t 8 ≡ 2 → 16 ≤ length t → TakesPoll (num t 12 4) call old
-takes_poll old call t done is took poll long = subst (λ x. TakesPoll (num t 12 4) x old) (sym is)
-    (subst (λ x. taken_by x old ≡ t ∷ []) is took, poll, long, refl)
+takes_poll old call t done is took poll long = grind arith
 
 pub no_step : {K : Type 0} (old : Port K) (call : Call) (t : List ℕ) (done : Unit) → call ≡ WasRead t (Ok done)
     → TellsStep call old → ⊥
@@ -92,9 +81,4 @@ no_step old call t done is s = subst (λ x. TellsStep x old) is s
 
 pub apart_from : (xs : List Sent) (m n : ℕ) → filter (named m) xs ≡ [] → list_any (named n) xs ≡ true
     → nat_eq m n ≡ false
-apart_from xs m n none any = by (nat_eq m n) refl
-  where
-    by : (b : Bool) → nat_eq m n ≡ b → b ≡ false
-    by false e = refl
-    by true e = absurd (false≢true (sym (none_any (named n) xs
-        (subst (λ k. filter (named k) xs ≡ []) (eqb-true m n e) none)) ∙ any))
+apart_from xs m n none any = grind (arith, none_any)

@@ -1,34 +1,19 @@
 -- What is known of the figures of a port's log, by one call.
-use Rattle.mscp_logged.proofs.Common.{AllByRecursion, Bool, Call, End, First, HoldsAwaited, HoldsEnd, List, None, Nothing, Option, OutgoingKind, Own, PassesOn, Pending, Port, Said, Sent, Some, Volume, [], and_parts, any_more, ap, arith, asked_by, asking, asks_nothing, asks_oldest, begins, cond, eq-eqb, eqb-true, every_append, false, false≢true, figure_on, filter, flat_map, four_in, has_number, held, inl, inr, length, list_any, map, may_be, nat_eq, none-some, none_of_it, not, num, of, other_number, own_answer, own_cases, pending_end, pending_held, pending_in, pending_said, refl, said_in, sent_by, slice_index, sole_left, some_none, subst, sym, timed, true, ℕ, ◌++◌, ◌<◌, ◌||◌, ◌∙◌, ◌∷◌, ◌≡◌, ◌≢◌, ◌≤◌, ◌⊎◌}
-use Rattle.std.proofs.Common.{nat_le}
-use Rattle.mscp_port.specs.declared.port.OutgoingKind.TheVariants as kinds
+use Rattle.mscp_logged.proofs.Common.{AllByRecursion, Bool, Call, End, First, HoldsAwaited, HoldsEnd, List, None, Nothing, Option, Own, PassesOn, Pending, Port, Said, Sent, Some, Volume, [], any_more, ap, arith, asked_by, asking, asks_oldest, begins, cond, eq-eqb, eqb-true, every_append, false, figure_on, filter, flat_map, four_in, has_number, held, inl, inr, list_any, map, may_be, nat_eq, none-some, none_of_it, not, num, of, other_number, own_answer, pending_end, pending_held, pending_in, refl, said_in, sent_by, slice_index, sole_left, some_none, subst, sym, timed, true, ℕ, ◌++◌, ◌<◌, ◌∙◌, ◌∷◌, ◌≡◌, ◌≢◌, ◌≤◌, ◌⊎◌}
 use Rattle.mscp_logged.proofs.Polled.{AreFigured, IsBelow, IsFigured, IsPolled, Lowers, asked_right, figure_more, figure_of, figured_still}
-use Rattle.mscp_logged.proofs.Wired.{AreOwed, IsOwed, Wired, named, none_any as no_command}
+use Rattle.mscp_logged.proofs.Wired.{AreOwed, Wired, named, none_any as no_command}
 
 -- ---- what comes
 
 figure_behind : (n : ℕ) (es more : List Pending) → figure_of n es ≡ None
     → figure_of n (es ++ more) ≡ figure_of n more
 figure_behind n [] more e = refl
-figure_behind n (x ∷ es) more e = by (nat_eq x.number n) e (λ h. figure_behind n es more h)
-  where
-    by : (b : Bool) → cond b (Some x.figure) (figure_of n es) ≡ None
-        → (figure_of n es ≡ None → figure_of n (es ++ more) ≡ figure_of n more)
-        → cond b (Some x.figure) (figure_of n (es ++ more)) ≡ figure_of n more
-    by true h rest = absurd (none-some x.figure (sym h))
-    by false h rest = rest h
+figure_behind n (x ∷ es) more e = grind (arith, figure_behind n es more)
 
 none_held : (n : ℕ) (es : List End) → filter (λ (e : End). nat_eq e.reference n) es ≡ []
     → figure_of n (map pending_end es) ≡ None
 none_held n [] none = refl
-none_held n (e ∷ es) none = by (nat_eq e.reference n) none (none_held n es)
-  where
-    by : (b : Bool) → cond b (e ∷ filter (λ (e : End). nat_eq e.reference n) es)
-        (filter (λ (e : End). nat_eq e.reference n) es) ≡ []
-        → (filter (λ (e : End). nat_eq e.reference n) es ≡ [] → figure_of n (map pending_end es) ≡ None)
-        → cond b (Some (pending_end e).figure) (figure_of n (map pending_end es)) ≡ None
-    by true h rest = absurd (some_none e (filter (λ (e : End). nat_eq e.reference n) es) h)
-    by false h rest = rest h
+none_held n (e ∷ es) none = grind (arith, none_held n es)
 
 some_held : (n : ℕ) (es : List End) → filter (λ (e : End). nat_eq e.reference n) es ≢ []
     → (g : ℕ) × (figure_of n (map pending_end es) ≡ Some g)
@@ -49,12 +34,7 @@ coming p = flat_map pending_in (held p) ++ pending_held p
 
 -- the port answers no poll itself
 pub not_poll : (v : Option Volume) (t : List ℕ) (own : Own) → own_answer false v t ≡ Some own → slice_index t 8 ≡ 2 → ⊥
-not_poll v t own answer = own_cases v t (λ own. slice_index t 8 ≡ 2 → ⊥)
-    (λ asks e. false≢true (sym (ap asks_nothing e) ∙ asks))
-    (λ status moves past e. false≢true (sym (ap (λ n. nat_eq n 16 || nat_eq n 18 || nat_eq n 32 || nat_eq n 33
-    || nat_eq n 34) e) ∙ (and_parts (nat_eq (slice_index t 8) 16 || nat_eq (slice_index t 8) 18
-    || nat_eq (slice_index t 8) 32 || nat_eq (slice_index t 8) 33 || nat_eq (slice_index t 8) 34)
-    (nat_le 32 (length t)) moves).0)) own answer
+not_poll v t own answer = grind arith
 
 -- ---- a call
 
@@ -73,8 +53,7 @@ module _ {K : Type 0} (Tie : List ℕ → List ℕ → Type 0) (call : Call) (ol
 
   -- where none of a number is outstanding none waits, and none comes
   none_awaited : (n : ℕ) → filter (named n) xs ≡ [] → filter (has_number n) aw ≡ []
-  none_awaited n none = elim (w.each n)
-      [ inl free ↦ free.1 | inr o ↦ absurd (some_none o.own [] (sym o.sole ∙ none)) ]
+  none_awaited n none = grind arith
 
   outstanding_or : (n : ℕ) → list_any (named n) xs ≡ false → filter (named n) xs ≡ []
   outstanding_or n e = no_command (named n) xs e
@@ -101,25 +80,7 @@ module _ {K : Type 0} (Tie : List ℕ → List ℕ → Type 0) (call : Call) (ol
       out : (us : List Said) → AreOwed Tie xs aw us
           → figure_of n (flat_map pending_in us) ≡ None
       out [] owed = refl
-      out (u ∷ us) owed = by u.kind owed.0 (out us owed.1)
-        where
-          apart : (b : Bool) → nat_eq (num u.text 0 4) n ≡ b → (own : Sent)
-              → filter (named (num u.text 0 4)) xs ≡ own ∷ [] → b ≡ false
-          apart false e own sole = refl
-          apart true e own sole = absurd (some_none own [] (sym sole
-              ∙ subst (λ k. filter (named k) xs ≡ []) (sym (eqb-true (num u.text 0 4) n e)) none))
-
-          by : (kind : OutgoingKind) → (kind ≡ kinds.End
-              → IsOwed Tie xs aw u.text)
-              → figure_of n (flat_map pending_in us) ≡ None
-              → figure_of n (pending_said kind u.text ++ flat_map pending_in us) ≡ None
-          by kinds.Attention own rest = rest
-          by kinds.UtilitiesEnd own rest = rest
-          by kinds.End own rest =
-              let x = own refl in
-              ap (λ b. cond b (Some (cond (nat_eq (slice_index u.text 8) 0x82) (num u.text 16 4) 0))
-              (figure_of n (flat_map pending_in us)))
-              (apart (nat_eq (num u.text 0 4) n) refl x.own x.sole) ∙ rest
+      out (u ∷ us) owed = grind (arith, out us owed.1, some_none, eqb-true)
 
   -- an end that the controller holds is held still, if it doesn't begin to go out
   still_held : (n : ℕ) → ((g : ℕ) → figure_of n (flat_map pending_in (map said_in (begins old.outgoing new.outgoing))
@@ -151,13 +112,9 @@ module _ {K : Type 0} (Tie : List ℕ → List ℕ → Type 0) (call : Call) (ol
   ending_lowers m head begun number is n = by (nat_eq m n) refl
     where
       by : (b : Bool) → nat_eq m n ≡ b → Lowers F S F' S' n
-      by true same low = absurd ((holds' n).waits low (ap (filter (has_number n)) is
-          ∙ subst (λ k. filter (has_number k) (filter (λ t. not (has_number m t)) aw) ≡ []) (eqb-true m n same)
+      by true same low = absurd ((holds' n).waits low (ap (filter (has_number n)) is ∙ rw (← eqb-true m n same)
           (none_of_it (has_number m) aw)))
-      by false apart low = lowers_by n (ap (filter (has_number n)) is ∙ sole_left (has_number n)
-          (λ t. not (has_number m t)) aw (λ t. other_number n m apart (num t 0 4)))
-          (λ g e. sym (ap (λ b. cond b (Some head.figure) (figure_of n (pending_held new)))
-          (ap (λ k. nat_eq k n) number ∙ apart)) ∙ ap (λ es. figure_of n (es ++ pending_held new)) (sym begun) ∙ e) low
+      by false apart low = grind (arith, lowers_by, sole_left, other_number)
 
   -- no message comes
   pub same_figured : ((n : ℕ) → Lowers F S F' S' n)
@@ -177,15 +134,11 @@ module _ {K : Type 0} (Tie : List ℕ → List ℕ → Type 0) (call : Call) (ol
     xs' = xs ++ asking timeout xs (timed None (sent_by First t)) ∷ []
 
     others : AllByRecursion (IsFigured xs' (coming old ++ passing.more) F' S') xs
-    others = figured_still F S F' S' xs xs' (coming old) passing.more lowers
-        (λ n is. any_more (named n) xs (x ∷ []) is) all
+    others = grind (arith, figured_still, any_more)
 
     pub plain_figured : (slice_index t 8 ≡ 2 → ⊥)
         → AllByRecursion (IsFigured xs' (coming old ++ passing.more) F' S') xs'
-    plain_figured never = every_append (IsFigured xs' (coming old ++ passing.more) F' S') xs (x ∷ []) others (
-      record { via = refl; told = λ l e. absurd (none-some l e); poll = λ code other e. absurd (never code) },
-      tt,
-    )
+    plain_figured never = grind (arith, every_append, others)
 
     pub poll_figured : ((other : ℕ) → slice_index t 8 ≡ 2 → four_in t 12 ≡ Some other
         → (passing.more ≡ record { number = num t 0 4; figure = F other } ∷ []) × (1 ≤ F other → S other)

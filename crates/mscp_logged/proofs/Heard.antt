@@ -1,6 +1,5 @@
 -- What is known of the commands that are outstanding once an end left: they heard its figure, if it told one.
-use Rattle.mscp_logged.proofs.Common.{AllByRecursion, Answer, Asked, Bool, First, Gone, List, None, Nothing, Oldest, Option, Pending, Sent, Some, [], and_parts, answer_by, ap, asks_oldest, command_at, cond, eq-eqb, eqb-true, false, false≢true, filter, four_in, has_figure, hears, inl, inr, is_it, is_known, is_long, is_named, is_polled, least_length, left, length, list_any, map, may_be, may_tell, nat_eq, none-some, not, num, or_right, polled_by, polls, position, refl, same_Some, same_connection, slice_index, subst, sym, tells, true, ℕ, ◌+◌, ◌||◌, ◌∙◌, ◌∷◌, ◌≡◌, ◌⊎◌}
-use Rattle.std.proofs.Common.{◌&&◌, nat_le}
+use Rattle.mscp_logged.proofs.Common.{AllByRecursion, Answer, Asked, Bool, First, Gone, List, None, Nothing, Oldest, Option, Pending, Sent, Some, [], and_parts, answer_by, ap, asks_oldest, command_at, cond, eq-eqb, eqb-true, false, false≢true, filter, four_in, has_figure, hears, inl, inr, is_it, is_known, is_long, is_named, is_polled, least_length, left, length, list_any, map, may_be, may_tell, nat_eq, nat_le, none-some, not, num, or_right, polled_by, polls, position, refl, same_Some, same_connection, slice_index, subst, sym, tells, true, ℕ, ◌&&◌, ◌+◌, ◌||◌, ◌∙◌, ◌∷◌, ◌≡◌, ◌⊎◌}
 use Rattle.mscp_logged.proofs.Polled.{AreFigured, IsBelow, IsFigured, IsPolled, Polls, at_place, figure_of, polled_so}
 use Rattle.mscp_logged.proofs.Queueing.{flipped}
 use Rattle.mscp_logged.proofs.Wired.{named}

@@ -1,8 +1,7 @@
 -- Behind a message that a port read no end that waits has passed a command that it had to wait for.
-use Rattle.mscp_logged.proofs.Common.{All, AllByRecursion, Answers, Bool, Command, Decided, End, First, Fitting, Gets, Hears, Holdings, IsCodeFor, IsNoReset, IsNothing, IsText, IsValid, Kept, List, None, Ok, Option, Order, Port, Queues, Record, Settings, Shape, Some, Verdict, WasRead, [], aborted_record, answer_decided, answer_ends, answer_told, answered_code, answered_end, ap, apart_numbers, arith, bare_same, command_of, decided_code, drive_of, end_named, ends_formality, ends_of, eq-eqb, eqb-true, false, false≢true, fault_of, figure_polled, filter, formal_queued, fresh_record, handed, handed_coded, has_number, inl, inr, is_apart, is_formality, is_immediate, is_numbered, is_of, is_queued, is_some, its_own, map, nat_eq, no_other, no_such, none_of_it, not, num, option_map, option_to_list, or_right, order_fault, place_in, queued_open, read_is, record_aborted, refl, since, slice_index, sole_left, some_none, status_told, subst, sym, taken_by, true, unaborted, unit_found, volume_at, ℕ, ◌%◌, ◌++◌, ◌<◌, ◌^◌, ◌||◌, ◌∙◌, ◌∷◌, ◌≡◌, ◌⊎◌}
+use Rattle.mscp_logged.proofs.Common.{All, AllByRecursion, Answers, Bool, Command, Decided, End, First, Fitting, Gets, Hears, Holdings, IsNoReset, IsNothing, IsText, IsValid, Kept, List, None, Ok, Option, Order, Port, Queues, Record, Settings, Some, Verdict, WasRead, [], aborted_record, answer_decided, answer_ends, answer_told, answered_code, answered_end, ap, apart_numbers, arith, bare_same, command_of, decided_code, drive_of, end_named, ends_formality, ends_of, eq-eqb, eqb-true, false, figure_polled, filter, formal_queued, fresh_record, handed, handed_coded, has_number, inl, inr, is_apart, is_formality, is_immediate, is_numbered, is_of, is_some, its_own, map, nat_eq, no_other, no_such, none_of_it, not, num, option_map, option_to_list, or_right, order_fault, queued_open, read_is, record_aborted, refl, since, slice_index, sole_left, some_none, status_told, sym, taken_by, true, unaborted, unit_found, ℕ, ◌%◌, ◌++◌, ◌<◌, ◌^◌, ◌||◌, ◌∙◌, ◌∷◌, ◌≡◌, ◌⊎◌}
 use Rattle.mscp_packet.specs.declared.command.Order.TheVariants as orders
 use Rattle.mscp_drive.specs.declared.block.Block.TheVariants as blocks
-use Rattle.mscp_port.specs.Messages.{own_end}
 use Rattle.mscp_port.specs.declared.verdict.Verdict.TheVariants as verdicts
 use Rattle.mscp_ported.proofs.Tables.{answer_by}
 use Rattle.mscp_logged.proofs.Clear.{AreClear, IsClear, is_ended, none_ended, ordered_answered, ordered_as, ordered_queued, unended, without}
@@ -16,38 +15,21 @@ use Rattle.mscp_logged.proofs.Queueing.{NoneBehind, behind_left}
 -- is to a unit that is there
 known_unit : (c : Settings) (unit : ℕ) (o : Order) → is_immediate o ≡ false → order_fault c unit o ≡ None
     → is_some (unit_found c.units unit) ≡ true
-known_unit c unit o waits sound = by o waits sound
-  where
-    some : (x : Option Shape) → (x ≡ None → ⊥) → is_some x ≡ true
-    some None never = absurd (never refl)
-    some (Some u) never = refl
-
-    by : (o : Order) → is_immediate o ≡ false → order_fault c unit o ≡ None → is_some (unit_found c.units unit) ≡ true
-    by orders.Available waits sound = some (unit_found c.units unit) (λ none. search (arith, none, sound))
-    by orders.Online waits sound = some (unit_found c.units unit) (λ none. search (arith, none, sound))
-    by orders.SetUnit waits sound = some (unit_found c.units unit) (λ none. search (arith, none, sound))
-    by (orders.Move kind count block) waits sound =
-        some (unit_found c.units unit) (λ none. search (arith, none, sound))
-    by (orders.Invalid byte why) waits sound = search (arith, sound)
-    by o waits sound = search (arith, waits)
+known_unit c unit o waits sound = grind arith
 
 -- ---- a command that is aborted
 
 module _ (rs : List Record) where
   left_behind : (order : Order) (a b : ℕ) → NoneBehind a b rs → NoneBehind a b (unaborted First rs order)
-  left_behind (orders.Abort m) a b h = behind_left a b (λ r. not (is_numbered m r)) rs h
-  left_behind order a b h = h
+  left_behind order a b h = grind (arith, behind_left)
 
   left_before : (order : Order) (n : ℕ) (r : Record) → filter (is_numbered n) (unaborted First rs order) ≡ r ∷ []
       → filter (is_numbered n) rs ≡ r ∷ []
   left_before (orders.Abort m) n r e = by (nat_eq m n) refl
     where
       by : (b : Bool) → nat_eq m n ≡ b → filter (is_numbered n) rs ≡ r ∷ []
-      by true is = absurd (some_none r [] (sym e
-          ∙ subst (λ j. filter (is_numbered j) (filter (λ r. not (is_numbered m r)) rs) ≡ []) (eqb-true m n is)
-          (none_of_it (is_numbered m) rs)))
-      by false is = sym (sole_left (is_numbered n) (λ r. not (is_numbered m r)) rs
-          (λ r. apart_numbers n m r (λ same. false≢true (sym is ∙ eq-eqb m n (sym same))))) ∙ e
+      by true is = absurd (some_none r [] (sym e ∙ rw (← eqb-true m n is) (none_of_it (is_numbered m) rs)))
+      by false is = grind (arith, sole_left, apart_numbers)
   left_before order n r e = e
 
 -- ---- a message
@@ -88,15 +70,12 @@ module _ {c : Settings} {Told : Verdict → Record → Type 0} {K : Type 0} (byt
 
     -- it is queued
     queued_so : Queues g.slot bytes old new → Fits
-    queued_so q =
-        ordered_as c (aw ++ bytes ∷ []) (h.waiting ++ fresh_record First command ∷ []) new.controller.waiting
-        (ends_of h) (ends_of new.controller) old.decided.items new.decided.items
-        (ap (λ (x : Holdings K). x.waiting) q.holds) (ap (λ (x : Holdings K). ends_of x) q.holds) q.sends.decided
-        (ordered_queued c aw h.waiting (ends_of h) old.decided.items o bytes no_end (fresh_record First command)
-        nothing.1 (none_any (has_number n) aw nothing.0) (its_own g k) (no_other g k) refl
-        (subst (λ s. is_some (unit_found s.units command.unit) ≡ true) settings
-        (known_unit h.settings command.unit command.order (queued_open h.settings command q.later).waits
-        (queued_open h.settings command q.later).sound)))
+    queued_so q = ordered_as c (aw ++ bytes ∷ []) (h.waiting ++ fresh_record First command ∷ []) new.controller.waiting
+        (ends_of h) (ends_of new.controller) old.decided.items new.decided.items (ap (λ (x : Holdings K). x.waiting)
+        q.holds) (ap (λ (x : Holdings K). ends_of x) q.holds) q.sends.decided (ordered_queued c aw h.waiting (ends_of h)
+        old.decided.items o bytes no_end (fresh_record First command) nothing.1 (none_any (has_number n) aw nothing.0)
+        (its_own g k) (no_other g k) refl (rw (← settings) (known_unit h.settings command.unit command.order
+        (queued_open h.settings command q.later).waits (queued_open h.settings command q.later).sound)))
 
     -- or it is answered at once
     module _ (a : Answers g.slot bytes old new) where
@@ -116,27 +95,16 @@ module _ {c : Settings} {Told : Verdict → Record → Type 0} {K : Type 0} (byt
       bare = ap (λ m. filter (is_of First m) old.buffers.items) own_named ∙ (f.kept n).none nothing.1
 
       own_code : (answer_by old new own).code ≡ own.code
-      own_code = decided_code _ _ own new.controller.settings.units new.flags _
-          ∙ bare_same old.buffers.items own bytes bare
+      own_code = grind (arith, decided_code, bare_same, bare)
 
       plain : is_formality (slice_index bytes 8) ≡ false
       plain = by (is_formality (slice_index bytes 8)) refl
         where
           by : (x : Bool) → is_formality (slice_index bytes 8) ≡ x → x ≡ false
-          by false e = refl
-          by true e = search (
-            arith,
-            a.immediate,
-            subst (λ s. is_queued s (command_of (handed s.units bytes)) ≡ true) (sym settings)
-                (formal_queued c g.foreign (volume_at old.volumes) bytes valid sizes g.long
-                (subst (λ s. own_end g.foreign (option_map (volume_at old.volumes)
-                (place_in s.units (num bytes 4 2))) bytes ≡ None) settings g.none) e),
-          )
+          by x e = grind (arith, formal_queued)
 
       informal : ends_formality own.code ≡ false
-      informal = plain_code own.code bytes plain
-          (subst (λ x. IsCodeFor x bytes) (sym (answered_code h.settings _ _ command (fault_of h.settings command)))
-          (handed_coded old.controller.settings.units bytes g.long plain))
+      informal = grind (arith, plain_code, plain, answered_code, handed_coded)
 
       -- it waits for none, or says what may be said at once
       own_clear : (ts : List (List ℕ) → List (List ℕ))

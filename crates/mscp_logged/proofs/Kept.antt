@@ -1,5 +1,5 @@
 -- Which rules of the wire a port keeps, if its host is right.
-use Rattle.mscp_logged.proofs.Common.{AllByRecursion, Answer, Bool, First, History, HostIsRight, Keeps, List, Moment, None, Option, Rule, Said, Seen, Sent, Settings, Some, [], aborts, answer_by, ap, arith, command_at, controller, controller_after, controller_in, count_of, drop, eq-eqb, eqb-true, false, fits, fold, has_abort, has_count, has_status, inl, inr, is_of_drives, is_of_polls, is_same_unit, is_some, later_of, length, list_any, moment_at, nat_eq, not, outstanding, refl, status_code, subst, suc, suits_state, sym, take, true, zero, ℕ, ◌+◌, ◌<◌, ◌||◌, ◌∙◌, ◌∷◌, ◌≡◌}
+use Rattle.mscp_logged.proofs.Common.{AllByRecursion, Answer, First, History, HostIsRight, Keeps, List, Moment, None, Option, Rule, Said, Seen, Sent, Settings, [], answer_by, ap, arith, command_at, controller, controller_after, controller_in, drop, eqb-true, fold, inl, is_of_drives, is_of_polls, is_same_unit, is_some, length, moment_at, outstanding, refl, suc, suits_state, take, true, zero, ℕ, ◌+◌, ◌<◌, ◌∙◌, ◌∷◌, ◌≡◌}
 use Rattle.mscp_wire.specs.declared.moment.Moment.TheVariants as moments
 use Rattle.mscp_wire.specs.declared.rule.Rule.TheVariants as rules
 use Rattle.mscp_logged.proofs.About.{about_right, success_right}
@@ -11,15 +11,10 @@ use Rattle.mscp_logged.proofs.Long.{whole_long}
 use Rattle.mscp_logged.proofs.Placed.{keeps_rule}
 use Rattle.mscp_logged.proofs.Recalled.{IsSameUnit, IsSuitedUnit}
 use Rattle.mscp_logged.proofs.Stated.{IsSeen, IsTied, Stated}
-use Rattle.mscp_logged.proofs.Suited.{IsKnown, identifier}
+use Rattle.mscp_logged.proofs.Suited.{IsKnown}
 use Rattle.mscp_logged.proofs.Tied.{IsEndOf}
 
 -- ---- what is told of the controller
-
-later_known : (c : Settings) (new old : Option ℕ) → IsKnown c new → IsKnown c old
-    → IsKnown c (later_of new old)
-later_known c None old new was = was
-later_known c (Some n) old new was = new
 
 abbrev IsKnownBy : Settings → Moment → Type 0
 IsKnownBy c (moments.End via b) = IsKnown c (controller_in b.items)
@@ -27,9 +22,7 @@ IsKnownBy c m = Unit {0}
 
 after_known : (c : Settings) (told : Option ℕ) (m : Moment) → IsKnownBy c m → IsKnown c told
     → IsKnown c (controller_after told m)
-after_known c told (moments.End via b) new was = later_known c (controller_in b.items) told new was
-after_known c told moments.Reset new was = inl refl
-after_known c told m new was = was
+after_known c told m new was = grind arith
 
 all_known : (c : Settings) (h : History) (told : Option ℕ) → AllByRecursion (IsKnownBy c) h → IsKnown c told
     → IsKnown c (fold controller_after told h)
@@ -44,16 +37,6 @@ first_of P h each zero = tt
 first_of P [] each (suc n) = tt
 first_of P (m ∷ h) each (suc n) =
     (each 0 (search arith), first_of P h (λ i low. each (suc i) (search (arith, low))) n)
-
-fits_known : (c : Settings) (one other : Option ℕ) → IsKnown c one → IsKnown c other → fits one other ≡ true
-fits_known c one other (inl e) k = subst (λ o. fits o other ≡ true) (sym e) refl
-fits_known c one other (inr e) (inl k) = subst (λ o. fits one o ≡ true) (sym k) (none one)
-  where
-    none : (o : Option ℕ) → fits o None ≡ true
-    none None = refl
-    none (Some n) = refl
-fits_known c one other (inr e) (inr k) = subst (λ o. fits o other ≡ true) (sym e)
-    (subst (λ o. fits (Some (identifier c)) o ≡ true) (sym k) (eq-eqb (identifier c) (identifier c) refl))
 
 -- ---- the end of a command
 
@@ -73,26 +56,17 @@ module _ (c : Settings) (F : Type 0) (xs : List Sent) (unit : Seen) (known : IsK
   command_right rules.Unit f polls = unit_right y e tied.message tied.command tied.tie.fits.unit
   command_right rules.Endcode f polls =
       endcode_right y e tied.message (ap (λ (s : Sent). s.opcode) tied.command) tied.tie.fits.code
-  command_right rules.Status f polls =
-      subst (λ s. has_status s e ≡ true) (sym tied.command) (tied.tie.suited (f refl)).status
-  command_right rules.Aborted f polls = aborted_right (nat_eq (status_code e) 2) refl
-    where
-      aborted_right : (b : Bool) → nat_eq (status_code e) 2 ≡ b → has_abort (drop (tied.place + 1) xs) y e ≡ true
-      aborted_right true is = ap (λ b. not b || list_any (aborts y) (drop (tied.place + 1) xs)) is
-          ∙ tied.abort (f refl) (eqb-true (status_code e) 2 is)
-      aborted_right false is = ap (λ b. not b || list_any (aborts y) (drop (tied.place + 1) xs)) is
+  command_right rules.Status f polls = grind arith
+  command_right rules.Aborted f polls = grind (arith, eqb-true)
   command_right rules.Order f polls = tied.order tt
   command_right rules.Figure f polls =
       figure_right (drop (tied.place + 1) xs) y b (whole_long b tied.tie.whole)
       (coded_so y e (endcode_right y e tied.message (ap (λ (s : Sent). s.opcode) tied.command) tied.tie.fits.code))
       (polls refl tied.place tied.at)
-  command_right rules.Success f polls =
-      success_right y b tied.message tied.command tied.tie.fits tied.tie.whole
+  command_right rules.Success f polls = grind (arith, success_right)
   command_right rules.About f polls = about_right y b tied.message tied.command tied.tie.fits tied.tie.whole
-  command_right rules.Count f polls =
-      subst (λ s. has_count e (count_of s e) ≡ true) (sym tied.command) (tied.tie.suited (f refl)).count
-  command_right rules.Controller f polls =
-      fits_known c unit.controller (controller_in b) known tied.tie.known
+  command_right rules.Count f polls = grind arith
+  command_right rules.Controller f polls = grind arith
   command_right rules.Identity f polls = same
   command_right rules.State f polls = suits (f refl)
   command_right x f polls = refl
@@ -118,8 +92,7 @@ keeps_rules c F limit x h aw held s host f shown same suits = keeps_rule (IsEndO
     b.items tied more.1 more.2 x f more.0) host
   where
     known : (prefix : History) (m : Moment) → IsSeen (IsEndOf c F) F (Unit {0}) prefix m → IsKnownBy c m
-    known prefix (moments.End via b) is = is.1.tie.known
-    known prefix m is = tt
+    known prefix m is = grind arith
 
     told : (i : ℕ) → IsKnown c (controller (take i h))
     told i = all_known c (take i h) None

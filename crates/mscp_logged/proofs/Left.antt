@@ -1,5 +1,5 @@
 -- An end that leaves answers a command that is outstanding, and takes it away.
-use Rattle.mscp_logged.proofs.Common.{Answer, First, Found, List, Said, Sent, Some, [], aborts, after_end, and_false, and_parts, answer_by, ap, arith, command_at, cond, drop, eqb-true, false, filter, filter-append, find_cases, hears, inl, inr, keeps_back, length, list_any, map, nat_eq, not, num, place_of, position, position_first, refl, same_connection, sent_by, slice_index_or, some_none, subst, sym, take, true, ℕ, ◌++◌, ◌+◌, ◌∙◌, ◌∷◌, ◌≡◌}
+use Rattle.mscp_logged.proofs.Common.{Answer, First, Found, List, Said, Sent, Some, [], aborts, after_end, and_false, and_parts, answer_by, ap, arith, command_at, cond, drop, eqb-true, false, filter, filter-append, find_cases, hears, inl, inr, keeps_back, length, list_any, map, nat_eq, not, num, place_of, position, position_first, refl, sent_by, slice_index_or, subst, sym, take, true, ℕ, ◌++◌, ◌+◌, ◌∙◌, ◌∷◌, ◌≡◌}
 use Rattle.mscp_port.specs.declared.port.OutgoingKind.TheVariants as kinds
 use Rattle.mscp_logged.proofs.Lined.{all_left, behind, behind_aborts}
 use Rattle.mscp_logged.proofs.Passes.{passes, passes_found}
@@ -42,24 +42,15 @@ module _ (Tie : List ℕ → List ℕ → Type 0) (xs : List Sent) (aw : List (L
     at = ap (position (named n)) f.is ∙ position_first (named n) front x back f.before f.passed
 
     after : after_end xs answer (Some (length front)) ≡ map hear (front ++ back)
-    after = ap (λ zs. map hear (take (length front) zs ++ drop (length front + 1) zs)) f.is
-        ∙ ap (λ zs. map hear (zs ++ drop (length front + 1) (front ++ x ∷ back))) (front_of front x back)
-        ∙ ap (λ zs. map hear (front ++ zs)) (back_of front x back)
+    after = grind (arith, front_of, back_of)
 
     all_of : (k : ℕ) → filter (named k) xs
         ≡ filter (named k) front ++ cond (named k x) (x ∷ filter (named k) back) (filter (named k) back)
     all_of k = ap (filter (named k)) f.is ∙ filter-append (named k) front (x ∷ back)
 
-    left_of : (k : ℕ) → filter (named k) (after_end xs answer (Some (length front)))
-        ≡ map hear (filter (named k) front ++ filter (named k) back)
-    left_of k = ap (filter (named k)) after ∙ filter_map (named k) hear (λ y. refl) (front ++ back)
-        ∙ ap (map hear) (filter-append (named k) front back)
-
     -- it is the only one of the number
     only : x ∷ filter (named n) back ≡ owed.own ∷ []
-    only = sym (all_of n ∙ ap (λ zs. zs ++ cond (named n x) (x ∷ filter (named n) back) (filter (named n) back))
-        (none_front (named n) front f.before)
-        ∙ ap (λ b. cond b (x ∷ filter (named n) back) (filter (named n) back)) f.passed) ∙ owed.sole
+    only = grind (arith, all_of, none_front)
 
     -- the others are those that don't have its number
     without_it : filter (λ y. not (named n y)) xs ≡ front ++ back
@@ -76,30 +67,14 @@ module _ (Tie : List ℕ → List ℕ → Type 0) (xs : List Sent) (aw : List (L
         none_behind = tail_of x owed.own (filter (named n) back) only
 
     none_left : filter (named n) (after_end xs answer (Some (length front))) ≡ []
-    none_left = left_of n ∙ ap (λ zs. map hear (zs ++ filter (named n) back)) (none_front (named n) front f.before)
-        ∙ ap (map hear) (tail_of x owed.own (filter (named n) back) only)
-      where
-        tail_of : (y z : Sent) (ys : List Sent) → y ∷ ys ≡ z ∷ [] → ys ≡ []
-        tail_of y z ys e = search (arith, e)
+    none_left = grind (arith, after, filter_map, filter-append, none_front, only)
 
     first_is : x ≡ owed.own
-    first_is = head_of x owed.own (filter (named n) back) only
-      where
-        head_of : (y z : Sent) (ys : List Sent) → y ∷ ys ≡ z ∷ [] → y ≡ z
-        head_of y z ys e = search (arith, e)
+    first_is = grind (arith, only)
 
     other_left : (k : ℕ) → nat_eq n k ≡ false
         → filter (named k) (after_end xs answer (Some (length front))) ≡ map hear (filter (named k) xs)
-    other_left k d = left_of k ∙ ap (map hear) (sym (all_of k
-        ∙ ap (λ b. filter (named k) front ++ cond b (x ∷ filter (named k) back) (filter (named k) back)) apart))
-      where
-        number : x.reference ≡ n
-        number = eqb-true x.reference n
-            (and_parts (same_connection x.connection First) (nat_eq x.reference n) f.passed).1
-
-        apart : named k x ≡ false
-        apart = and_false (same_connection x.connection First) (nat_eq x.reference k)
-            (ap (λ j. nat_eq j k) number ∙ d)
+    other_left k d = grind (arith, after, filter_map, filter-append, all_of, eqb-true, and_parts, and_false)
 
     each_left : (k : ℕ) → At (after_end xs answer (Some (length front))) aw k
     each_left k = elim (same_or n k) [
@@ -140,7 +115,4 @@ module _ (Tie : List ℕ → List ℕ → Type 0) (xs : List Sent) (aw : List (L
     }
 
   pub end_leaves : IsAnswered
-  end_leaves = elim (find_cases (named n) xs) [
-    | inl none ↦ absurd (some_none owed.own [] (sym owed.sole ∙ none_front (named n) xs none))
-    | inr some ↦ answered some.0 some.1 some.2 some.3
-  ]
+  end_leaves = grind (arith, find_cases, none_front, answered)

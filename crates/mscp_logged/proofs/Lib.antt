@@ -8,6 +8,7 @@ pub mod Own
 pub mod Breaking
 pub mod Long
 pub mod Stated
+pub mod Walking
 pub mod Logging
 pub mod Placed
 pub mod Coded

@@ -1,7 +1,6 @@
 -- The commands that are outstanding stand in the order of their messages, and so an ABORT behind the command that it
 -- names.
-use Rattle.mscp_logged.proofs.Common.{AllByRecursion, Bool, Connection, First, List, None, OutgoingKind, Said, Second, Sent, Some, [], aborts, aborts_behind, and_parts, any_more, ap, cond, eqb-true, false, false≢true, filter, has_number, is_abort, is_it, length, list_any, map, nat_eq, nat_le, not, num, refl, same_connection, sent_by, slice_index, some_none, sym, true, ℕ, ◌%◌, ◌++◌, ◌||◌, ◌∙◌, ◌∷◌, ◌≡◌}
-use Rattle.std.proofs.Common.{◌&&◌}
+use Rattle.mscp_logged.proofs.Common.{AllByRecursion, Bool, Connection, First, List, None, OutgoingKind, Said, Second, Sent, Some, [], aborts, aborts_behind, and_parts, any_more, ap, cond, eqb-true, false, false≢true, filter, has_number, is_abort, is_it, length, list_any, map, nat_eq, nat_le, not, num, refl, same_connection, sent_by, slice_index, some_none, sym, true, ℕ, ◌%◌, ◌&&◌, ◌++◌, ◌||◌, ◌∙◌, ◌∷◌, ◌≡◌}
 use Rattle.mscp_port.specs.declared.port.OutgoingKind.TheVariants as kinds
 use Rattle.mscp_logged.proofs.Wired.{named, stem}
 

@@ -1,5 +1,5 @@
 -- By a message that is read the ends that come tell of their units what is so.
-use Rattle.mscp_logged.proofs.Common.{Answers, Bool, Command, End, First, Gets, Hardware, Hears, Holdings, Kept, List, None, Ok, Option, Port, Record, Settings, Some, Volume, WasRead, [], aborted_record, answer_decided, answer_ends, answered_end, ap, append-nil, arith, command_of, drive_of, ends_of, false, fault_of, figure_polled, handed, inl, inr, is_dead, kept_of, length, map, option_map, option_to_list, own_end_with, read_is, record_aborted, refl, slice_index, subst, sym, taken_by, unit_found, volume_found, ℕ, ◌++◌, ◌<◌, ◌^◌, ◌∙◌, ◌∷◌, ◌≡◌}
+use Rattle.mscp_logged.proofs.Common.{Answers, Bool, Command, End, First, Gets, Hardware, Hears, Holdings, Kept, List, None, Ok, Option, Port, Record, Settings, Some, Volume, WasRead, [], aborted_record, answer_decided, answer_ends, answered_end, ap, append-nil, arith, command_of, drive_of, ends_of, false, figure_polled, handed, inl, inr, is_dead, kept_of, length, map, option_map, option_to_list, read_is, record_aborted, slice_index, subst, sym, taken_by, unit_found, volume_found, ℕ, ◌++◌, ◌<◌, ◌^◌, ◌∙◌, ◌∷◌, ◌≡◌}
 use Rattle.mscp_drive.specs.declared.block.Block.TheVariants as blocks
 use Rattle.mscp_port.specs.declared.verdict.Verdict.TheVariants as verdicts
 use Rattle.mscp_ported.proofs.Tables.{answer_by}
@@ -11,7 +11,7 @@ use Rattle.mscp_logged.proofs.Away.{IsPlaced}
 use Rattle.mscp_logged.proofs.Stating.{aborted_placed, reply_placed}
 use Rattle.mscp_logged.proofs.Speaking.{Each, Speaks}
 use Rattle.mscp_logged.proofs.Stepped.{IsDecided, decided_so}
-use Rattle.mscp_logged.proofs.Texts.{text_with, texts_more, texts_of, waiting}
+use Rattle.mscp_logged.proofs.Texts.{text_with, texts_more, texts_of}
 
 module _ {K : Type 0} (bytes : List ℕ) (done : Unit) (old new : Port K) (aw : List (List ℕ)) (k : Kept old aw)
     (r : Hears bytes old (Ok done) new) (small : (i : ℕ) → slice_index bytes i < 2 ^ 8)
@@ -29,16 +29,7 @@ module _ {K : Type 0} (bytes : List ℕ) (done : Unit) (old new : Port K) (aw : 
   now = r.settings ∙ settings
 
   none_so : ends_of new.controller ≡ ends_of old.controller → new.decided.items ≡ old.decided.items → So
-  none_so ends decided = (
-    [],
-    record {
-      behind = ap (λ es. texts_of hw c.units es new.decided.items) ends
-          ∙ ap (texts_of hw c.units (ends_of old.controller)) decided ∙ sym (append-nil (waiting hw c.units old));
-      told = λ u. found_as c.units u old.volumes new.volumes (volumes_still old new volumes);
-      placed = λ f u. found_as c.units u old.volumes new.volumes (volumes_still old new volumes);
-    },
-    λ none. refl,
-  )
+  none_so ends decided = grind (arith, append-nil, found_as, volumes_still, volumes)
 
   -- the controller took it, and answers it at once
   module _ (g : Gets bytes done old new) (a : Answers g.slot bytes old new) where
@@ -62,12 +53,9 @@ module _ {K : Type 0} (bytes : List ℕ) (done : Unit) (old new : Port K) (aw : 
 
     decided : (e : End) → IsDecided c.units (verdicts.Served blocks.Good) (volume_found c.units new.volumes e.unit)
         (volume_found c.units new.volumes e.unit) e (answer_by old new e)
-    decided e = subst (λ s. IsDecided s.units (verdicts.Served blocks.Good)
-        (volume_found s.units new.volumes e.unit) (volume_found s.units new.volumes e.unit) e (answer_by old new e))
-        now (decided_so new.controller.settings.units (verdicts.Served blocks.Good)
-        (volume_found new.controller.settings.units new.volumes e.unit)
-        (volume_found new.controller.settings.units new.volumes e.unit) e
-        (kept_of First e.reference old.buffers.items) new.flags)
+    decided e = rw (← now) (decided_so new.controller.settings.units (verdicts.Served blocks.Good)
+        (volume_found new.controller.settings.units new.volumes e.unit) (volume_found new.controller.settings.units
+        new.volumes e.unit) e (kept_of First e.reference old.buffers.items) new.flags)
 
     abbrev W : ℕ → Volume
     W u = volume_found c.units new.volumes u
@@ -78,18 +66,9 @@ module _ {K : Type 0} (bytes : List ℕ) (done : Unit) (old new : Port K) (aw : 
     abbrev figure : ℕ
     figure = figure_polled h.settings First h.waiting command.order
 
-    unit_is : own.unit ≡ command.unit
-    unit_is = by (fault_of h.settings command)
-      where
-        by : (o : Option ℕ) → (own_end_with h.settings online figure command o).unit ≡ command.unit
-        by None = refl
-        by (Some status) = refl
-
     own_decided : IsDecided h.settings.units (verdicts.Served blocks.Good) (W command.unit) (W command.unit) own
         (answer_by old new own)
-    own_decided = subst (λ n. IsDecided h.settings.units (verdicts.Served blocks.Good) (W n) (W n) own
-        (answer_by old new own)) unit_is (subst (λ s. IsDecided s.units (verdicts.Served blocks.Good) (W own.unit)
-        (W own.unit) own (answer_by old new own)) (sym settings) (decided own))
+    own_decided = grind (arith, decided)
 
     few_unit : command.unit < 2 ^ 16
     few_unit = handed_small old.controller.settings.units bytes g.long small
@@ -131,12 +110,8 @@ module _ {K : Type 0} (bytes : List ℕ) (done : Unit) (old new : Port K) (aw : 
             ∙ texts_more hw c.units (ends_of h)
             (aborted (record_aborted First h.waiting command.order) ++ own ∷ []) old.decided.items
             (answer_by old new) long;
-        told = λ u. subst (λ vs. Each (IsTold u (unit_found c.units u)) (volume_found c.units vs u) (W u)
-            (map text (aborted (record_aborted First h.waiting command.order) ++ own ∷ []))) volumes
-            (told_so (record_aborted First h.waiting command.order) u);
-        placed = λ f u. subst (λ vs. Each (IsPlaced u) (volume_found c.units vs u) (W u)
-            (map text (aborted (record_aborted First h.waiting command.order) ++ own ∷ []))) volumes
-            (placed_so (record_aborted First h.waiting command.order) u);
+        told = λ u. rw (← volumes) (told_so (record_aborted First h.waiting command.order) u);
+        placed = λ f u. rw (← volumes) (placed_so (record_aborted First h.waiting command.order) u);
       },
       λ taken. absurd (search (arith, sym g.taken ∙ taken)),
     )

@@ -1,36 +1,18 @@
 -- What is known of a port's log, over a whole list of calls.
-use Rattle.mscp_logged.proofs.Common.{AllByRecursion, Answered, AsksAlways, Bool, Call, Deals, First, History, HostIsRight, IsAnswering, IsEnding, IsRight, IsTaking, List, None, Ok, Option, Outgoing, Picking, Port, PortsEndWhatTheyTook, PortsTellInOrder, ReadsBytes, Said, Some, Task, WasRead, WriteIp, [], aborts_behind, accepted_by, answer_to_message, ap, append-nil, append_assoc, arith, asked_before, awaited, begins, cond, end_kind, ends_in, ends_said_by, false, filter, flat_map, has_number, held, inl, inr, is_dead, is_foreign, is_message, is_new, is_none, is_ok, is_taken_text, leaves, logged, map, message_of, messages_by, not, num, option_to_list, outstanding, own_answer, refl, said, said_in, seen_by, sent_by, since_alive, slice_index, subst, sym, taken_by, text_handed, true, volume_named, without_ends, ℕ, ◌%◌, ◌++◌, ◌<◌, ◌^◌, ◌∙◌, ◌∷◌, ◌≡◌, ◌≢◌}
+use Rattle.mscp_logged.proofs.Common.{AllByRecursion, Answered, AsksAlways, Bool, Call, Deals, History, HostIsRight, IsAnswering, IsEnding, IsTaking, List, None, Ok, Option, Outgoing, Picking, Port, PortsEndWhatTheyTook, PortsTellInOrder, ReadsBytes, Said, Some, WasRead, [], aborts_behind, accepted_by, ap, append-nil, arith, awaited, begins, cond, end_kind, false, filter, has_number, held, inl, inr, is_foreign, logged, map, message_of, messages_by, not, num, refl, said_in, slice_index, subst, sym, taken_by, true, ℕ, ◌%◌, ◌++◌, ◌<◌, ◌^◌, ◌∙◌, ◌∷◌, ◌≡◌}
 use Rattle.mscp_logged.proofs.Begun.{Begun, nothing_held, same_held}
-use Rattle.std.proofs.Common.{◌&&◌}
 use Rattle.mscp_port.specs.declared.port.OutgoingKind.TheVariants as kinds
-use Rattle.mscp_port.specs.declared.task.Task.TheVariants as tasks
-use Rattle.mscp_wire.specs.declared.moment.Moment.TheVariants as moments
 use Rattle.mscp_logged.proofs.Own.{IsOwn, answers_so, own_named}
 use Rattle.mscp_logged.proofs.Passes.{keeps, overtakes}
-use Rattle.mscp_logged.proofs.Seen.{is_reset, no_message, reads_before, since_dead, since_reset}
-use Rattle.mscp_logged.proofs.Stated.{Stated, answers, as_it_is, begins_end, begins_other, each_at, each_front, left, nothing_stated, right_new, takes}
+use Rattle.mscp_logged.proofs.Walking.{IsCall, IsForgotten, awaited_is, host_before, is_new_now, log_is, none_by, walk}
+use Rattle.mscp_logged.proofs.Stated.{Stated, answers, as_it_is, begins_end, begins_other, left, nothing_stated, takes}
 use Rattle.mscp_logged.proofs.Turns.{IsApartOr}
 use Rattle.mscp_logged.proofs.Wired.{nothing_wired}
 
 -- a message that the controller takes is for the disks
 pub taken_disk : {K : Type 0} (call : Call) (old : Port K) (t : List ℕ) → taken_by call old ≡ t ∷ []
     → is_foreign old.task ≡ false
-taken_disk (WasRead bytes (Ok done)) old t e = by old.task refl
-  where
-    here : (task : Task) → old.task ≡ task
-        → cond (is_taken_text old bytes task) (bytes ∷ []) [] ≡ t ∷ []
-    here task at = ap (λ x. cond (is_taken_text old bytes x) (bytes ∷ []) []) (sym at) ∙ e
-
-    text : (foreign : Bool) → cond (is_none (own_answer foreign (volume_named old bytes) bytes)
-        && is_ok (answer_to_message First old.controller (text_handed old.controller.settings.units bytes)))
-        (bytes ∷ []) [] ≡ t ∷ [] → foreign ≡ false
-    text true h = absurd (search (arith, h))
-    text false h = refl
-
-    by : (task : Task) → old.task ≡ task → is_foreign old.task ≡ false
-    by (tasks.Text slot size foreign) at = ap is_foreign at ∙ text foreign (here (tasks.Text slot size foreign) at)
-    by task at = ap is_foreign at
-taken_disk call old t e = absurd (search (arith, e))
+taken_disk call old t e = grind arith
 
 pub small_of : (call : Call) (calls : List Call) (t : List ℕ) (done : Unit) → ReadsBytes (call ∷ calls)
     → call ≡ WasRead t (Ok done) → (i : ℕ) → slice_index t i < 2 ^ 8
@@ -67,17 +49,12 @@ module _ {K : Type 0} (Tie : List ℕ → List ℕ → Type 0) (G O : Type 0) {p
   State p calls a = Stated Tie G O (logged picks start p calls a) (awaited picks start p calls a) (held p)
 
   forgotten : (p : Port K) (calls : List Call) → AsksAlways calls → (a : Answered picks start calls p)
-      → said picks start p calls a ≡ [] → logged picks start p calls a ≡ [] → awaited picks start p calls a ≡ []
-      → State p calls a
-  forgotten p calls asks a none no_moment no_text =
-      as_it_is Tie G O [] [] (logged picks start p calls a) (awaited picks start p calls a) [] (held p) no_moment
-      no_text
-      (nothing_held run tell p calls asks a none) (nothing_stated Tie G O (nothing_wired Tie [] [] refl refl))
+      → IsForgotten picks start p calls a → State p calls a
+  forgotten p calls asks a none =
+      grind (arith, as_it_is, nothing_held, nothing_stated, nothing_wired, none.said, none.logged, none.awaited)
 
-  module _ (p : Port K) (call : Call) (calls : List Call) (asks : AsksAlways (call ∷ calls))
-      (reads : ReadsBytes (call ∷ calls)) (fine : Fine (call ∷ calls)) (a : Answered picks start (call ∷ calls) p)
-      (never : call ≢ WriteIp)
-      (lives : is_dead p.stage ≡ false) (s : State a.0 calls a.1)
+  module _ (p : Port K) (call : Call) (calls : List Call) (fine : Fine (call ∷ calls))
+      (a : Answered picks start (call ∷ calls) p) (is : IsCall picks start p call calls a) (s : State a.0 calls a.1)
       (host : HostIsRight limit (logged picks start p (call ∷ calls) a)) where
     abbrev h : History
     h = logged picks start a.0 calls a.1
@@ -85,58 +62,33 @@ module _ {K : Type 0} (Tie : List ℕ → List ℕ → Type 0) (G O : Type 0) {p
     abbrev aw : List (List ℕ)
     aw = awaited picks start a.0 calls a.1
 
-    abbrev gone : History
-    gone = flat_map ends_in (leaves a.0.outgoing p.outgoing)
-
-    log_is : (ms : History) → messages_by call a.0 ≡ ms → logged picks start p (call ∷ calls) a ≡ (h ++ ms) ++ gone
-    log_is ms e = since_alive p.stage call h (seen_by call a.0 p) never lives ∙ ap (λ x. h ++ (x ++ gone)) e
-        ∙ sym (append_assoc h ms gone)
-
-    awaited_is : (xs ys : List (List ℕ)) → ends_said_by call a.0 p ≡ xs → taken_by call a.0 ≡ ys
-        → awaited picks start p (call ∷ calls) a ≡ without_ends xs aw ++ ys
-    awaited_is xs ys e f = since_alive p.stage call _ _ never lives
-        ∙ ap (λ x. without_ends x aw ++ taken_by call a.0) e ∙ ap (λ y. without_ends xs aw ++ y) f
-
-    -- the message that comes is new
-    is_new_now : (t : List ℕ) → messages_by call a.0 ≡ message_of t ∷ []
-        → is_new (outstanding h) (sent_by First t) ≡ true
-    is_new_now t e = right_new limit h t (each_at (λ x m. is_message m ≡ true → IsRight limit x m) moments.Reset h
-        (message_of t) gone (subst (λ x. HostIsRight limit x) (log_is (message_of t ∷ []) e
-        ∙ append_assoc h (message_of t ∷ []) gone) host) refl)
-
     -- nothing begins to go out
     calm : (ms : History) (xs : List (List ℕ)) → messages_by call a.0 ≡ ms → begins a.0.outgoing p.outgoing ≡ []
         → awaited picks start p (call ∷ calls) a ≡ xs → Stated Tie G O (h ++ ms) xs (held a.0)
         → State p (call ∷ calls) a
-    calm ms xs e none f x = as_it_is Tie G O ((h ++ ms) ++ gone) xs (logged picks start p (call ∷ calls) a)
-        (awaited picks start p (call ∷ calls) a) (held p) (held p) (log_is ms e) f refl
-        (left Tie G O (h ++ ms) xs a.0.outgoing p.outgoing x none (same_held run tell p call calls asks a never lives))
+    calm ms xs e none f x = as_it_is Tie G O _ xs (logged picks start p (call ∷ calls) a)
+        (awaited picks start p (call ∷ calls) a) (held p) (held p) (log_is is ms e) f refl
+        (left Tie G O (h ++ ms) xs a.0.outgoing p.outgoing x none
+        (same_held run tell p call calls is.asks a is.never is.lives))
 
     -- or something does
     begun : (ms : History) (xs : List (List ℕ)) (o : Outgoing) → messages_by call a.0 ≡ ms → a.0.outgoing ≡ None
         → p.outgoing ≡ Some o → awaited picks start p (call ∷ calls) a ≡ xs
         → Stated Tie G O (h ++ ms) xs (said_in o ∷ []) → State p (call ∷ calls) a
-    begun ms xs o e nothing some f x = as_it_is Tie G O (h ++ ms) xs (logged picks start p (call ∷ calls) a)
-        (awaited picks start p (call ∷ calls) a) (said_in o ∷ []) (held p)
-        (log_is ms e ∙ ap (λ z. (h ++ ms) ++ flat_map ends_in (leaves z p.outgoing)) nothing ∙ append-nil (h ++ ms)) f
-        (ap (λ z. map said_in (option_to_list z)) some) x
+    begun ms xs o e nothing some f x = grind (arith, as_it_is, log_is is, append-nil)
 
     with_none : (xs : List (List ℕ)) (us : List Said) → Stated Tie G O h xs us → Stated Tie G O (h ++ []) xs us
     with_none xs us x = as_it_is Tie G O h xs (h ++ []) xs us us (append-nil h) refl refl x
 
     none_out : a.0.outgoing ≡ None → Stated Tie G O h aw []
-    none_out nothing = as_it_is Tie G O h aw h aw (held a.0) [] refl refl
-        (sym (ap (λ z. map said_in (option_to_list z)) nothing)) s
-
-    none_by : accepted_by call a.0 ≡ [] → messages_by call a.0 ≡ []
-    none_by e = no_message call a.0 (accepted_by call a.0) e
+    none_out nothing = grind arith
 
     ending : IsEnding aw call a.0 p → State p (call ∷ calls) a
-    ending q = begun [] (filter (λ t. not (has_number (num q.out.bytes.items 0 4) t)) aw) q.out (none_by q.accepted)
-        q.nothing q.begun (awaited_is (q.out.bytes.items ∷ []) [] q.ended q.taken ∙ append-nil _)
+    ending q = begun [] (filter (λ t. not (has_number (num q.out.bytes.items 0 4) t)) aw) q.out (none_by is q.accepted)
+        q.nothing q.begun (awaited_is is (q.out.bytes.items ∷ []) [] q.ended q.taken ∙ append-nil _)
         (with_none _ (said_in q.out ∷ []) (begins_end Tie G O h aw (said_in q.out) q.message (none_out q.nothing) q.only
-        (tie_end p call calls reads fine a q) q.kind (late_end p call calls reads fine a q)
-        (turn_end p call calls reads fine a q)))
+        (tie_end p call calls is.reads fine a q) q.kind (late_end p call calls is.reads fine a q)
+        (turn_end p call calls is.reads fine a q)))
 
     taking : IsTaking call a.0 p → State p (call ∷ calls) a
     taking q =
@@ -144,8 +96,8 @@ module _ {K : Type 0} (Tie : List ℕ → List ℕ → Type 0) (G O : Type 0) {p
         let shown : messages_by call a.0 ≡ message_of q.message ∷ [] =
         ap (λ b. cond b [] (map message_of (accepted_by call a.0))) disk ∙ ap (map message_of) q.accepted in
         calm (message_of q.message ∷ []) (aw ++ q.message ∷ []) shown q.begun
-        (awaited_is [] (q.message ∷ []) q.ended q.taken)
-        (takes Tie G O h aw (held a.0) q.message s (is_new_now q.message shown))
+        (awaited_is is [] (q.message ∷ []) q.ended q.taken)
+        (takes Tie G O h aw (held a.0) q.message s (is_new_now is limit host q.message shown))
 
     answering : (q : IsAnswering call a.0 p) → State p (call ∷ calls) a
     answering q = by own.foreign own.task own.kind
@@ -154,10 +106,10 @@ module _ {K : Type 0} (Tie : List ℕ → List ℕ → Type 0) (G O : Type 0) {p
         own = answers_so picks call a.0 p a.2 q
 
         small : (i : ℕ) → slice_index q.message i < 2 ^ 8
-        small = small_of call calls q.message q.read.0 reads q.read.1
+        small = small_of call calls q.message q.read.0 is.reads q.read.1
 
         still : awaited picks start p (call ∷ calls) a ≡ aw
-        still = awaited_is [] [] q.ended q.taken ∙ append-nil aw
+        still = awaited_is is [] [] q.ended q.taken ∙ append-nil aw
 
         by : (foreign : Bool) → is_foreign a.0.task ≡ foreign → q.out.kind ≡ end_kind foreign → State p (call ∷ calls) a
         by true task kind = begun [] aw q.out (ap (λ b. cond b [] (map message_of (accepted_by call a.0))) task)
@@ -167,15 +119,16 @@ module _ {K : Type 0} (Tie : List ℕ → List ℕ → Type 0) (G O : Type 0) {p
             let shown : messages_by call a.0 ≡ message_of q.message ∷ [] =
             ap (λ b. cond b [] (map message_of (accepted_by call a.0))) task ∙ ap (map message_of) q.accepted in
             begun (message_of q.message ∷ []) aw q.out shown q.nothing q.begun still
-            (answers Tie G O h aw (said_in q.out) q.message (none_out q.nothing) (is_new_now q.message shown)
-            (own_named a.0 q.message q.out own small) (tie_own a.0 q.message q.out small own kind) kind
-            (late_own a.0 q.message q.out own kind) (turn_own p call calls reads fine a q own kind))
+            (answers Tie G O h aw (said_in q.out) q.message (none_out q.nothing)
+            (is_new_now is limit host q.message shown) (own_named a.0 q.message q.out own small)
+            (tie_own a.0 q.message q.out small own kind) kind (late_own a.0 q.message q.out own kind)
+            (turn_own p call calls is.reads fine a q own kind))
 
     pub deals_so : Deals aw call a.0 p → State p (call ∷ calls) a
-    deals_so (inl q) = calm [] aw (none_by q.accepted) q.begun (awaited_is [] [] q.ended q.taken ∙ append-nil aw)
+    deals_so (inl q) = calm [] aw (none_by is q.accepted) q.begun (awaited_is is [] [] q.ended q.taken ∙ append-nil aw)
         (with_none aw (held a.0) s)
-    deals_so (inr (inl q)) = begun [] aw q.out (none_by q.accepted) q.nothing q.begun
-        (awaited_is [] [] q.ended q.taken ∙ append-nil aw) (with_none aw (said_in q.out ∷ [])
+    deals_so (inr (inl q)) = begun [] aw q.out (none_by is q.accepted) q.nothing q.begun
+        (awaited_is is [] [] q.ended q.taken ∙ append-nil aw) (with_none aw (said_in q.out ∷ [])
         (begins_other Tie G O h aw (said_in q.out) (none_out q.nothing) (λ e. search (arith, sym q.kind ∙ e))))
     deals_so (inr (inr (inl q))) = ending q
     deals_so (inr (inr (inr (inl q)))) = taking q
@@ -184,23 +137,8 @@ module _ {K : Type 0} (Tie : List ℕ → List ℕ → Type 0) (G O : Type 0) {p
   pub stated : (p : Port K) (calls : List Call) → AsksAlways calls → ReadsBytes calls → Fine calls
       → (a : Answered picks start calls p)
       → HostIsRight limit (logged picks start p calls a) → State p calls a
-  stated p [] asks reads fine a host = forgotten p [] asks a refl refl refl
-  stated p (call ∷ calls) asks reads fine a host = elim (is_reset call) [
-    | inl reset ↦ forgotten p (call ∷ calls) asks a (since_reset p.stage call _ _ reset)
-        (since_reset p.stage call _ _ reset) (since_reset p.stage call _ _ reset)
-    | inr never ↦ by (λ x. stated a.0 calls (asked_before call calls asks) (reads_before call calls reads)
-        (fine_before call calls fine) a.1 x) never
-        (is_dead p.stage) refl
-  ]
-    where
-      by : (HostIsRight limit (logged picks start a.0 calls a.1) → State a.0 calls a.1) → call ≢ WriteIp → (b : Bool)
-          → is_dead p.stage ≡ b → State p (call ∷ calls) a
-      by so_far never true dead = forgotten p (call ∷ calls) asks a (since_dead p.stage call _ _ dead)
-          (since_dead p.stage call _ _ dead) (since_dead p.stage call _ _ dead)
-      by so_far never false lives =
-          let d = ends c before controller hardware credits start p call calls valid was quiet made reads a never
-          lives in
-          let old_host = each_front (λ x m. is_message m ≡ true → IsRight limit x m) moments.Reset
-          (logged picks start a.0 calls a.1) (seen_by call a.0 p)
-          (subst (λ x. HostIsRight limit x) (since_alive p.stage call _ _ never lives) host) in
-          deals_so p call calls asks reads fine a never lives (so_far old_host) host d.1
+  stated p calls asks reads fine a host = walk run ends
+      (λ p calls a. Fine calls → HostIsRight limit (logged picks start p calls a) → State p calls a)
+      (λ p calls asks a none fine host. forgotten p calls asks a none)
+      (λ p call calls a is so_far fine host. deals_so p call calls fine a is
+      (so_far (fine_before call calls fine) (host_before is limit host)) host is.deals) p calls asks reads a fine host

@@ -1,14 +1,13 @@
 -- Each end of a port's log is as long as its endcode asks.
-use Rattle.mscp_logged.proofs.Common.{All-from_recursion, AllByRecursion, Answered, AsksAlways, BodyKind, Bool, Call, Deals, IsWhole, Keeps, List, Moment, None, Option, Outgoing, OutgoingKind, Picking, Port, PortsEndWhatTheyTook, PortsTellInOrder, ReadsBytes, Said, Seen, Sent, Some, WriteIp, [], accepted_by, and_from, arith, asked_before, awaited, begins, begun_one, cond, end_length, end_of, end_said, endcodes, ends_in, eqb-true, every_append, every_parts, false, find, flat_map, held, inl, inr, is_dead, is_foreign, is_long, kind_of_code, le-leb, least_length, leaves, length, list_all, logged, map, message_of, messages_by, moment_at, nat_eq, nat_le, none-some, option_map, option_to_list, outstanding, refl, said, said_in, same_Some, seen_by, since_alive, slice_index, subst, sym, true, ℕ, ◌++◌, ◌∙◌, ◌∷◌, ◌≡◌, ◌≢◌, ◌≤◌}
+use Rattle.mscp_logged.proofs.Common.{All-from_recursion, AllByRecursion, Answered, AsksAlways, BodyKind, Bool, Call, Deals, IsWhole, Keeps, List, Moment, None, Option, Outgoing, Picking, Port, PortsEndWhatTheyTook, PortsTellInOrder, ReadsBytes, Said, Seen, Sent, Some, [], and_parts, arith, asked_before, awaited, begins, begun_one, cond, end_length, ends_in, eqb-true, every_append, every_parts, false, find, flat_map, held, inl, inr, is_long, kind_of_code, le-leb, least_length, leaves, length, list_all, logged, map, message_of, moment_at, nat_le, none-some, option_to_list, outstanding, refl, said, said_in, same_Some, since_alive, slice_index, subst, sym, take, true, ℕ, ◌∷◌, ◌≡◌, ◌≤◌}
 use Rattle.mscp_logged.proofs.Begun.{Begun}
-use Rattle.std.specs.Prelude.{take}
-use Rattle.std.proofs.lemmas.Bool.{and_parts}
 use Rattle.mscp_port.specs.declared.port.OutgoingKind.TheVariants as kinds
 use Rattle.mscp_wire.specs.declared.rule.Rule.TheVariants as rules
 use Rattle.mscp_wire.specs.declared.moment.Moment.TheVariants as moments
 use Rattle.mscp_logged.proofs.Breaking.{keeps_so, moment_holds}
 use Rattle.mscp_logged.proofs.Own.{answers_so, own_is_whole}
-use Rattle.mscp_logged.proofs.Seen.{is_reset, reads_before, since_dead, since_reset}
+use Rattle.mscp_logged.proofs.Seen.{reads_before}
+use Rattle.mscp_logged.proofs.Walking.{IsCall, walk}
 
 -- ---- a whole end is long
 
@@ -23,20 +22,7 @@ least_none : (code : ℕ) → kind_of_code code ≡ None → least_length code �
 least_none code e = grind (arith, e)
 
 least_some : (code : ℕ) (kind : BodyKind) → kind_of_code code ≡ Some kind → least_length code ≤ end_length kind
-least_some code kind e = by (find (λ entry. nat_eq entry.0 code) endcodes) refl e
-  where
-    is_low : (n m : ℕ) → nat_le n m ≡ true → n ≤ m
-    is_low n m h = search (arith, h)
-
-    by : (o : Option (ℕ × BodyKind)) → find (λ entry. nat_eq entry.0 code) endcodes ≡ o
-        → option_map (λ entry. entry.1) o ≡ Some kind → least_length code ≤ end_length kind
-    by None found h = absurd (none-some kind h)
-    by (Some entry) found h =
-        let f = found_passes (λ entry. nat_eq entry.0 code)
-        (λ entry. nat_le (least_length entry.0) (end_length entry.1)) endcodes entry found refl in
-        subst (λ n. least_length n ≤ end_length kind) (eqb-true entry.0 code f.0)
-        (subst (λ k. least_length entry.0 ≤ end_length k) (same_Some entry.1 kind h)
-        (is_low (least_length entry.0) (end_length entry.1) f.1))
+least_some code kind e = grind (arith, none-some, found_passes, eqb-true, same_Some)
 
 pub whole_long : (text : List ℕ) → IsWhole text → is_long text ≡ true
 whole_long text whole = by (kind_of_code (slice_index text 8)) refl
@@ -45,8 +31,7 @@ whole_long text whole = by (kind_of_code (slice_index text 8)) refl
     at_least n low = le-leb n (length text) low
 
     long : least_length (slice_index text 8) ≤ length text → is_long text ≡ true
-    long low = and_from (nat_le 12 (length text)) (nat_le (least_length (slice_index text 8)) (length text))
-        (at_least 12 whole.long) (at_least (least_length (slice_index text 8)) low)
+    long low = grind (arith, at_least)
 
     by : (o : Option BodyKind) → kind_of_code (slice_index text 8) ≡ o → is_long text ≡ true
     by None e = long (search (arith, whole.long, least_none (slice_index text 8) e))
@@ -72,16 +57,9 @@ module _ {K : Type 0} {picks : Picking K} (run : Begun picks) (ends : PortsEndWh
       → Deals (awaited picks start a.0 calls a.1) call a.0 p
       → AllByRecursion IsLong (map said_in (begins a.0.outgoing p.outgoing))
   begun_long p call calls a (inl q) = subst (λ os. AllByRecursion IsLong (map said_in os)) (sym q.begun) tt
-  begun_long p call calls a (inr (inl q)) =
-      subst (λ os. AllByRecursion IsLong (map said_in os))
-      (sym (begun_one a.0.outgoing p.outgoing q.out q.nothing q.begun))
-      ((λ kind. absurd (search (arith, sym q.kind ∙ kind))), tt)
-  begun_long p call calls a (inr (inr (inl q))) =
-      subst (λ os. AllByRecursion IsLong (map said_in os))
-      (sym (begun_one a.0.outgoing p.outgoing q.out q.nothing q.begun))
-      ((λ kind. whole_long q.out.bytes.items q.whole), tt)
-  begun_long p call calls a (inr (inr (inr (inl q)))) =
-      subst (λ os. AllByRecursion IsLong (map said_in os)) (sym q.begun) tt
+  begun_long p call calls a (inr (inl q)) = grind arith
+  begun_long p call calls a (inr (inr (inl q))) = grind (arith, begun_one, whole_long)
+  begun_long p call calls a (inr (inr (inr (inl q)))) = grind arith
   begun_long p call calls a (inr (inr (inr (inr q)))) =
       subst (λ os. AllByRecursion IsLong (map said_in os))
       (sym (begun_one a.0.outgoing p.outgoing q.out q.nothing q.begun)) (
@@ -90,23 +68,12 @@ module _ {K : Type 0} {picks : Picking K} (run : Begun picks) (ends : PortsEndWh
         tt,
       )
 
-  said_long : (p : Port K) (calls : List Call) → ReadsBytes calls → (a : Answered picks start calls p)
-      → AllByRecursion IsLong (said picks start p calls a)
-  said_long p [] reads a = tt
-  said_long p (call ∷ calls) reads a = elim (is_reset call) [
-    | inl reset ↦ subst (λ ss. AllByRecursion IsLong ss) (sym (since_reset p.stage call _ _ reset)) tt
-    | inr never ↦ by (said_long a.0 calls (reads_before call calls reads) a.1) never (is_dead p.stage) refl
-  ]
-    where
-      by : AllByRecursion IsLong (said picks start a.0 calls a.1) → call ≢ WriteIp → (b : Bool) → is_dead p.stage ≡ b
-          → AllByRecursion IsLong (said picks start p (call ∷ calls) a)
-      by so_far never true dead = subst (λ ss. AllByRecursion IsLong ss) (sym (since_dead p.stage call _ _ dead)) tt
-      by so_far never false lives =
-          let d = ends c before controller hardware credits start p call calls valid was quiet made reads a never
-          lives in
-          subst (λ ss. AllByRecursion IsLong ss) (sym (since_alive p.stage call _ _ never lives))
-          (every_append IsLong (said picks start a.0 calls a.1) (map said_in (begins a.0.outgoing p.outgoing))
-          so_far (begun_long p call calls a d.1))
+  said_long : (p : Port K) (calls : List Call) → AsksAlways calls → ReadsBytes calls
+      → (a : Answered picks start calls p) → AllByRecursion IsLong (said picks start p calls a)
+  said_long = walk run ends (λ p calls a. AllByRecursion IsLong (said picks start p calls a))
+      (λ p calls asks a none. rw none.said tt) (λ p call calls a is so_far. rw (since_alive p.stage call _ _ is.never
+      is.lives) (every_append IsLong (said picks start a.0 calls a.1) (map said_in (begins a.0.outgoing p.outgoing))
+      so_far (begun_long p call calls a is.deals)))
 
   -- what goes out is of that
   held_long : (p : Port K) (calls : List Call) → AsksAlways calls → ReadsBytes calls
@@ -114,46 +81,28 @@ module _ {K : Type 0} {picks : Picking K} (run : Begun picks) (ends : PortsEndWh
   held_long p calls asks reads a =
       let t = (tell hardware credits controller start p calls made asks a).0 in
       (every_parts IsLong t.0 (held p)
-      (subst (λ ss. AllByRecursion IsLong ss) (sym t.1) (said_long p calls reads a))).1
+      (subst (λ ss. AllByRecursion IsLong ss) (sym t.1) (said_long p calls asks reads a))).1
 
   -- ---- all that is logged
 
   messages_long : (b : Bool) (ts : List (List ℕ)) → AllByRecursion IsLongMoment (cond b [] (map message_of ts))
-  messages_long true ts = tt
-  messages_long false [] = tt
   messages_long false (t ∷ ts) = (tt, messages_long false ts)
-
-  end_long : (kind : OutgoingKind) (text : List ℕ) → (kind ≡ kinds.End → is_long text ≡ true)
-      → AllByRecursion IsLongMoment (map end_of (end_said kind text) ++ [])
-  end_long kinds.Attention text long = tt
-  end_long kinds.End text long = (long refl, tt)
-  end_long kinds.UtilitiesEnd text long = tt
+  messages_long b ts = grind arith
 
   left_long : (old new : Option Outgoing) → AllByRecursion IsLong (map said_in (option_to_list old))
       → AllByRecursion IsLongMoment (flat_map ends_in (leaves old new))
-  left_long None new long = tt
-  left_long (Some o) (Some x) long = tt
-  left_long (Some o) None long = end_long o.kind o.bytes.items long.0
+  left_long old new long = grind arith
+
+  moment_long : (p : Port K) (call : Call) (calls : List Call) (a : Answered picks start (call ∷ calls) p)
+      → IsCall picks start p call calls a → AllByRecursion IsLongMoment (logged picks start a.0 calls a.1)
+      → AllByRecursion IsLongMoment (logged picks start p (call ∷ calls) a)
+  moment_long p call calls a is so_far =
+      grind (arith, since_alive, every_append, messages_long, left_long, held_long, asked_before, reads_before)
 
   pub logged_long : (p : Port K) (calls : List Call) → AsksAlways calls → ReadsBytes calls
       → (a : Answered picks start calls p) → AllByRecursion IsLongMoment (logged picks start p calls a)
-  logged_long p [] asks reads a = tt
-  logged_long p (call ∷ calls) asks reads a = elim (is_reset call) [
-    | inl reset ↦ subst (λ h. AllByRecursion IsLongMoment h) (sym (since_reset p.stage call _ _ reset)) tt
-    | inr never ↦ by (logged_long a.0 calls (asked_before call calls asks) (reads_before call calls reads) a.1) never
-        (is_dead p.stage) refl
-  ]
-    where
-      by : AllByRecursion IsLongMoment (logged picks start a.0 calls a.1) → call ≢ WriteIp → (b : Bool)
-          → is_dead p.stage ≡ b → AllByRecursion IsLongMoment (logged picks start p (call ∷ calls) a)
-      by so_far never true dead = subst (λ h. AllByRecursion IsLongMoment h) (sym (since_dead p.stage call _ _ dead)) tt
-      by so_far never false lives = subst (λ h. AllByRecursion IsLongMoment h)
-          (sym (since_alive p.stage call _ _ never lives))
-          (every_append IsLongMoment (logged picks start a.0 calls a.1) (seen_by call a.0 p)
-          so_far (every_append IsLongMoment (messages_by call a.0) (flat_map ends_in (leaves a.0.outgoing p.outgoing))
-          (messages_long (is_foreign a.0.task) (accepted_by call a.0))
-          (left_long a.0.outgoing p.outgoing (held_long a.0 calls (asked_before call calls asks)
-          (reads_before call calls reads) a.1))))
+  logged_long = walk run ends (λ p calls a. AllByRecursion IsLongMoment (logged picks start p calls a))
+      (λ p calls asks a none. rw none.logged tt) (λ p call calls a is so_far. moment_long p call calls a is so_far)
 
   -- ---- the law
 
@@ -166,6 +115,4 @@ module _ {K : Type 0} {picks : Picking K} (run : Begun picks) (ends : PortsEndWh
       low))
     where
       by : (xs : List Sent) (unit : Seen) (m : Moment) → IsLongMoment m → moment_holds xs unit m rules.Length ≡ true
-      by xs unit (moments.Message via b time) long = refl
-      by xs unit (moments.End via b) long = long
-      by xs unit m long = refl
+      by xs unit m long = grind arith

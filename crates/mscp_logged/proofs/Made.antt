@@ -1,6 +1,5 @@
 -- An end suits its command, however it was made, and is told with a status that suits it.
-use Rattle.mscp_logged.proofs.Common.{Block, BodyControls, Bool, Command, Drive, End, Ends, IsAborted, IsAnswer, IsBodyFit, IsMade, IsOf, IsOfKind, IsServed, IsSmallCommand, IsText, IsToldSo, Leaving, List, None, Order, Record, Says, Settings, Shape, Some, Verdict, aborted_ends, aborted_fit, ap, arith, block_told, command_of, cond, end_given, endcode, ended_small, ends_formality, false, formal_status, goes_on, handed, inl, inr, is_formality, is_good_block, is_immediate, is_move, kind_of_body, kind_of_code, left_of, none-some, order_weight, outcome_at, outcome_fine, outcome_fit, outcome_status, outcome_suits, own_ends, own_fit, queued_open, refl, same_Some, slice_index, small_command, status_after, subst, sym, touches, true, valid_order, ℕ, ◌%◌, ◌&&◌, ◌+◌, ◌-◌, ◌<◌, ◌^◌, ◌∙◌, ◌≡◌, ◌≢◌, ◌⊎◌}
-use Rattle.std.specs.Prelude.{nat_eq}
+use Rattle.mscp_logged.proofs.Common.{Block, BodyControls, Command, Drive, End, Ends, IsAborted, IsAnswer, IsBodyFit, IsMade, IsOf, IsOfKind, IsServed, IsSmallCommand, IsText, IsToldSo, Leaving, List, Record, Says, Settings, Shape, Some, Verdict, aborted_ends, aborted_fit, ap, arith, block_told, command_of, cond, end_given, endcode, ended_small, ends_formality, false, goes_on, handed, inl, inr, is_formality, is_good_block, is_immediate, is_move, kind_of_body, kind_of_code, left_of, order_weight, outcome_at, outcome_fine, outcome_fit, outcome_status, outcome_suits, own_ends, own_fit, queued_open, refl, slice_index, small_command, status_after, subst, sym, touches, true, valid_order, ℕ, ◌%◌, ◌&&◌, ◌+◌, ◌-◌, ◌<◌, ◌^◌, ◌∙◌, ◌≡◌, ◌≢◌, ◌⊎◌}
 use Rattle.mscp_packet.specs.declared.command.Order.TheVariants as orders
 use Rattle.mscp_packet.specs.declared.end.BodyKind.TheVariants as kinds
 use Rattle.mscp_packet.specs.declared.end.EndBody.TheVariants as bodies
@@ -24,13 +23,7 @@ pub record IsGiven (k : Block) (d : Drive) (r : Record) (e : End) : Type 0 where
   pub ends : goes_on d.online r.command.order k (left_of r) ≡ false
 
 pub given_is : (k : Block) (d : Drive) (r : Record) (e : End) → end_given k d r ≡ Some e → IsGiven k d r e
-given_is k d r e h = by (goes_on d.online r.command.order k (left_of r)) refl h
-  where
-    by : (b : Bool) → goes_on d.online r.command.order k (left_of r) ≡ b
-        → cond b None (Some (outcome_at d.unit d.online r.command r.good k)) ≡ Some e → IsGiven k d r e
-    by true is h = absurd (none-some e h)
-    by false is h =
-        record { end = same_Some (outcome_at d.unit d.online r.command r.good k) e h; ends = is }
+given_is k d r e h = grind arith
 
 -- ---- whose code it has
 
@@ -41,23 +34,9 @@ pub record HasCode (e : End) (t : List ℕ) : Type 0 where
 
 module _ (c : Settings) (Told : Verdict → Record → Type 0) (l : Leaving) (t : List ℕ) where
   pub made_code : IsMade c Told l t → HasCode l.end t
-  made_code (inl x) = record {
-    units = c.units;
-    message = x.message;
-    is = ap (λ (e : End). e.code) x.end ∙
-        (own_ends c x.online x.figure (command_of (handed c.units t)) x.immediate).code;
-  }
-  made_code (inr (inl x)) = record {
-    units = x.of.settings.units;
-    message = x.of.message;
-    is = ap (λ (e : End). e.code) x.end ∙ ap (λ (k : Command). endcode k.order) x.of.command;
-  }
-  made_code (inr (inr x)) = record {
-    units = x.of.settings.units;
-    message = x.of.message;
-    is = ap (λ (e : End). e.code) (sym (given_is (block_told x.verdict) x.drive x.own l.end x.end).end)
-        ∙ ap (λ (k : Command). endcode k.order) x.of.command;
-  }
+  made_code (inl x) = grind arith
+  made_code (inr (inl x)) = grind arith
+  made_code (inr (inr x)) = grind arith
 
 -- ---- with which status it is told
 
@@ -65,25 +44,11 @@ module _ (c : Settings) (Told : Verdict → Record → Type 0) (l : Leaving) (t 
 told_after : (l : Leaving) (verdict : Verdict) (code : ℕ) → l.end.code ≡ code → ends_formality l.fields.code ≡ false
     → l.fields.code ≡ l.end.code → (x : IsToldSo verdict l)
     → l.fields.status ≡ status_after verdict code l.end.status x.0
-told_after l verdict code is formal same x = x.1
-    ∙ ap (λ b. cond b (formal_status l.end.status) (status_after verdict l.fields.code l.end.status x.0)) formal
-    ∙ ap (λ n. status_after verdict n l.end.status x.0) (same ∙ is)
-
--- and of another
-pub told_formal : (l : Leaving) (verdict : Verdict) → ends_formality l.fields.code ≡ true → IsToldSo verdict l
-    → (l.fields.status ≡ 0) ⊎ (l.fields.status ≡ 2)
-told_formal l verdict formal x = by (nat_eq l.end.status 2)
-    (x.1 ∙ ap (λ b. cond b (formal_status l.end.status) (status_after verdict l.fields.code l.end.status x.0)) formal)
-  where
-    by : (b : Bool) → l.fields.status ≡ cond b 2 0 → (l.fields.status ≡ 0) ⊎ (l.fields.status ≡ 2)
-    by true e = inr e
-    by false e = inl e
+told_after l verdict code is formal same x = grind arith
 
 pub made_formal : (c : Settings) (Told : Verdict → Record → Type 0) (l : Leaving) (t : List ℕ) → IsMade c Told l t
     → ends_formality l.fields.code ≡ true → (l.fields.status ≡ 0) ⊎ (l.fields.status ≡ 2)
-made_formal c Told l t (inl x) formal = told_formal l (verdicts.Served blocks.Good) formal x.told
-made_formal c Told l t (inr (inl x)) formal = told_formal l (verdicts.Served blocks.Good) formal x.told
-made_formal c Told l t (inr (inr x)) formal = told_formal l x.verdict formal x.told
+made_formal c Told l t x formal = grind arith
 
 module _ (c : Settings) (l : Leaving) (t : List ℕ) (plain : is_formality (slice_index t 8) ≡ false)
     (formal : ends_formality l.fields.code ≡ false) (same : l.fields.code ≡ l.end.code) where
@@ -136,9 +101,6 @@ module _ (c : Settings) (l : Leaving) (t : List ℕ) (plain : is_formality (slic
   -- ---- the end of a command that waited
 
   module _ (r : Record) (of : IsOf r t) where
-    abbrev o : Order
-    o = r.command.order
-
     waits : is_immediate r.command.order ≡ false
     waits = (queued_open of.settings r.command of.queued).waits
 
@@ -156,12 +118,10 @@ module _ (c : Settings) (l : Leaving) (t : List ℕ) (plain : is_formality (slic
       units = of.settings.units;
       message = of.message;
       code = ap (λ (e : End). e.code) is ∙ code ∙ ap (λ (k : Command). endcode k.order) of.command;
-      apt = subst (λ (k : Command). IsApt k.order l.fields.status l.end.body) of.command
-          (subst (λ n. IsApt r.command.order n l.end.body)
+      apt = rw (← of.command) (subst (λ n. IsApt r.command.order n l.end.body)
           (sym (told_after l verdict (endcode r.command.order) (ap (λ (e : End). e.code) is ∙ code) formal same told))
           (told_apt _ r.command.order verdict l.end.status told.0 l.end.body
-          (subst (λ (k : Command). Says k.order
-          (of_unit t 0)) (sym of.command)
+          (subst (λ (k : Command). Says k.order (of_unit t 0)) (sym of.command)
           (handed_says of.settings.units t of.message plain 0)) waits valid move
           (subst (λ (e : End). IsApt r.command.order e.status e.body) (sym is) apt)));
       fit = subst (λ (e : End). IsBodyFit e.body) (sym is) fit;
@@ -200,15 +160,5 @@ module _ (c : Settings) (l : Leaving) (t : List ℕ) (plain : is_formality (slic
 
 -- ---- no end of a command that waited tells of the controller
 
-waiting_code : (o : Order) → is_immediate o ≡ false → ((byte fault : ℕ) → o ≢ orders.Invalid byte fault)
-    → endcode o ≡ 0x84 → ⊥
-waiting_code (orders.Invalid byte fault) waits valid e = valid byte fault refl
-waiting_code (orders.Move kind count block) waits valid e = moved kind e
-  where
-    moved : (kind : _) → endcode (orders.Move kind 0 0) ≡ 0x84 → ⊥
-    moved kind e = grind (arith, e)
-waiting_code o waits valid e = search (arith, waits, e)
-
 pub of_code : (r : Record) (t : List ℕ) → IsOf r t → endcode r.command.order ≡ 0x84 → ⊥
-of_code r t of = waiting_code r.command.order (queued_open of.settings r.command of.queued).waits
-    (valid_order of.settings r.command.unit r.command.order (queued_open of.settings r.command of.queued).sound)
+of_code r t of = grind arith

@@ -1,5 +1,5 @@
 -- A unit that is online after a call was so before, with the same volume, unless the call ended an ONLINE of it.
-use Rattle.mscp_logged.proofs.Common.{Becomes, Bool, Buffer, Call, Connection, Dies, End, Ended, Err, Hears, IsNews, IsPassive, List, LookAgain, None, Ok, Option, Outgoing, Picking, Port, Protect, PutAside, ReadIp, Shape, Some, Tick, Volume, VolumeCame, VolumeWent, Wants, WasRead, Went, WriteSa, ap, arith, brought_for, brought_online, cases_eq, cases_lt, cond, ended_so, eq-eqb, false, false≢true, find, find_cases, find_first, get_or-set_other, get_or-set_same, get_or_past, inl, inr, is_dead, kept_of, length, length-set, looks_or_not, nat_eq, news_place, no_volume, none-some, place_heeded, place_in, position_none, refl, set, subst, sym, true, unit_found, volume_at, volume_changed, volume_found, volume_heeded, volume_in_place, volume_protected, volume_put, volumes_after, volumes_heeded, volumes_with, ℕ, ◌%◌, ◌/◌, ◌==◌, ◌∙◌, ◌≡◌, ◌⊎◌}
+use Rattle.mscp_logged.proofs.Common.{Becomes, Bool, Buffer, Call, Connection, Dies, End, Ended, Err, Hears, IsNews, IsPassive, List, LookAgain, None, Ok, Option, Outgoing, Picking, Port, Protect, PutAside, ReadIp, Shape, Some, Tick, Volume, VolumeCame, VolumeWent, Wants, WasRead, Went, WriteSa, ap, arith, brought_for, cases_eq, cases_lt, ended_so, false, false≢true, find_cases, find_first, get_or-set_other, get_or-set_same, get_or_past, inl, inr, is_dead, length, length-set, looks_or_not, news_place, no_volume, place_in, position_none, refl, set, subst, sym, true, unit_found, volume_at, volume_found, volume_heeded, volume_in_place, volumes_after, volumes_with, ℕ, ◌%◌, ◌∙◌, ◌≡◌, ◌⊎◌}
 use Rattle.mscp_logged.proofs.Describing.{IsAsWas, IsSame, same_volume}
 
 abbrev pub AreAsWere : List Volume → List Volume → Type 0
@@ -10,11 +10,7 @@ same_as v w e = subst (λ x. IsAsWas v x) (sym e) (λ is. (is, same_volume v))
 
 pub found_as : (units : List Shape) (u : ℕ) (vs ws : List Volume) → AreAsWere vs ws
     → IsAsWas (volume_found units vs u) (volume_found units ws u)
-found_as units u vs ws was = by (place_in units u)
-  where
-    by : (o : Option ℕ) → IsAsWas (volume_in_place vs o) (volume_in_place ws o)
-    by None = λ is. absurd (false≢true is)
-    by (Some place) = was place
+found_as units u vs ws was = grind arith
 
 set_as : (vs : List Volume) (q : ℕ) (x : Volume) → IsAsWas (volume_at vs q) x → AreAsWere vs (set vs q x)
 set_as vs q x was place = elim (cases_eq place q) [
@@ -36,20 +32,15 @@ module _ {K : Type 0} (old new : Port K) where
   So = AreAsWere old.volumes new.volumes
 
   pub volumes_still : new.volumes ≡ old.volumes → So
-  volumes_still e = subst (λ ws. AreAsWere old.volumes ws) (sym e)
-      (λ place. same_as (volume_at old.volumes place) (volume_at old.volumes place) refl)
+  volumes_still e = grind arith
 
   -- where there is no fatal error
   pub alive : {X : Type 0} → is_dead new.stage ≡ false → X ⊎ Dies old new → X
-  alive lives (inl x) = x
-  alive lives (inr d) = absurd (search (arith, lives, ap is_dead d.1.stage))
+  alive lives x = grind arith
 
   news_so : (units : List Shape) (o : Option ℕ) (out : Option Outgoing)
       → IsNews units old.volumes o out new.volumes → So
-  news_so units None out h = volumes_still h.1
-  news_so units (Some q) out h = subst (λ ws. AreAsWere old.volumes ws) (sym h.1)
-      (set_as old.volumes q (record (volume_at old.volumes q) { is_news = false })
-      (λ is. (is, record { there = refl; media = refl; size = refl })))
+  news_so units o out h = grind (arith, volumes_still, set_as)
 
   pub next_volumes : (picks : List _ → ℕ → Type 0) (blocks : Bool) (action : _) → Wants picks blocks old action new
       → So
@@ -67,9 +58,7 @@ module _ {K : Type 0} (old new : Port K) where
 
   with_one : (becomes : Volume → Volume) (o : Option ℕ) → ((v : Volume) → IsAsWas v (becomes v))
       → new.volumes ≡ volumes_with becomes o old.volumes → So
-  with_one becomes None was e = volumes_still e
-  with_one becomes (Some q) was e = subst (λ ws. AreAsWere old.volumes ws) (sym e)
-      (set_as old.volumes q (becomes (volume_at old.volumes q)) (was (volume_at old.volumes q)))
+  with_one becomes o was e = grind (arith, volumes_still, set_as)
 
   goes_so : (becomes : Volume → Volume) (o : Option ℕ) → ((v : Volume) → (becomes v).is_mounted ≡ false)
       → new.volumes ≡ volumes_with becomes o old.volumes → So
@@ -77,48 +66,24 @@ module _ {K : Type 0} (old new : Port K) where
 
   pub passive_volumes : (picks : Picking K) (call : Call) → Becomes picks call old new → IsPassive call
       → AreAsWere old.volumes new.volumes ⊎ Dies old new
-  passive_volumes picks ReadIp r is =
-      elim r.frame [ inl e ↦ inl (volumes_still (ap (λ (q : Port K). q.volumes) e)) | inr d ↦ inr d ]
-  passive_volumes picks (WriteSa word) r is =
-      elim r.frame [ inl e ↦ inl (volumes_still (ap (λ (q : Port K). q.volumes) e)) | inr d ↦ inr d ]
+  passive_volumes picks ReadIp r is = grind arith
+  passive_volumes picks (WriteSa word) r is = grind arith
   passive_volumes picks PutAside r is = inl (volumes_still (ap (λ (q : Port K). q.volumes) r))
-  passive_volumes picks (WasRead bytes (Err unasked)) r is =
-      inl (volumes_still (ap (λ (q : Port K). q.volumes) r.unasked))
-  passive_volumes picks (Went outcome (Err unasked)) r is =
-      inl (volumes_still (ap (λ (q : Port K). q.volumes) r.unasked))
+  passive_volumes picks (WasRead bytes (Err unasked)) r is = grind arith
+  passive_volumes picks (Went outcome (Err unasked)) r is = grind arith
   passive_volumes picks LookAgain r is = inl (volumes_still (ap (λ (q : Port K). q.volumes) r))
-  passive_volumes picks Tick r is =
-      elim r.either [ inl e ↦ inl (volumes_still (ap (λ (q : Port K). q.volumes) e)) | inr d ↦ inr (9, d) ]
-  passive_volumes picks (VolumeCame m unit (Ok done)) r is = inl (goes_so (volume_put m)
-      (place_in old.controller.settings.units unit) (λ v. refl) (ap (λ (q : Port K). q.volumes) (r.came refl)))
-  passive_volumes picks (VolumeCame m unit (Err fault)) r is =
-      inl (volumes_still (ap (λ (q : Port K). q.volumes) r.refused))
-  passive_volumes picks (VolumeWent unit result) r is = inl (goes_so (volume_changed false)
-      (place_in old.controller.settings.units unit) (λ v. refl) (ap (λ (q : Port K). q.volumes) r.frame))
-  passive_volumes picks (Protect protected unit result) r is = inl (with_one (volume_protected protected)
-      (place_in old.controller.settings.units unit) (λ v is. (is, record { there = refl; media = refl; size = refl }))
-      (ap (λ (q : Port K). q.volumes) r.frame))
+  passive_volumes picks Tick r is = grind arith
+  passive_volumes picks (VolumeCame m unit (Ok done)) r is = grind (arith, goes_so)
+  passive_volumes picks (VolumeCame m unit (Err fault)) r is = grind arith
+  passive_volumes picks (VolumeWent unit result) r is = grind (arith, goes_so)
+  passive_volumes picks (Protect protected unit result) r is = grind (arith, with_one)
   passive_volumes picks call r is = absurd is
 
 -- ---- a step
 
 heeded_fields : (code : ℕ) (kept : Option Buffer) (v : Volume) → IsSame v (volume_heeded code kept v)
-heeded_fields code None v = by (code == 0x88)
-  where
-    by : (c : Bool) → IsSame v (cond c (record v { is_mounted = false; is_protected_by_host = false }) v)
-    by true = record { there = refl; media = refl; size = refl }
-    by false = same_volume v
-heeded_fields code (Some b) v = by (code == 0x88) (code == 0x89) (code == 0x8A) (b.modifiers / 4 % 2 == 1)
-  where
-    by : (c d f t : Bool) → IsSame v (cond c (record v { is_mounted = false; is_protected_by_host = false })
-        (cond d (cond t (record (brought_online v) { is_protected_by_host = b.flags / 0x1000 % 2 == 1 })
-        (brought_online v)) (cond f (cond t (record v { is_protected_by_host = b.flags / 0x1000 % 2 == 1 }) v) v)))
-    by true d f t = record { there = refl; media = refl; size = refl }
-    by false true f true = record { there = refl; media = refl; size = refl }
-    by false true f false = record { there = refl; media = refl; size = refl }
-    by false false true true = record { there = refl; media = refl; size = refl }
-    by false false true false = same_volume v
-    by false false false t = same_volume v
+heeded_fields code None v = grind arith
+heeded_fields code (Some b) v = grind arith
 
 alike : (v w : Volume) → w ≡ v → IsSame v w
 alike v w e = subst (λ x. IsSame v x) (sym e) (same_volume v)
@@ -143,17 +108,7 @@ module _ (units : List Shape) (bs : List Buffer) (via : Connection) (vs : List V
   ws = volumes_after units bs via ended vs
 
   heeded_same : (place : ℕ) → IsSame (volume_at vs place) (volume_at ws place)
-  heeded_same place = by ended
-    where
-      by : (o : Option End) → IsSame (volume_at vs place) (volume_at (volumes_after units bs via o vs) place)
-      by None = same_volume (volume_at vs place)
-      by (Some e) = at (place_heeded units e)
-        where
-          at : (o : Option ℕ) → IsSame (volume_at vs place)
-              (volume_at (volumes_heeded e.code (kept_of via e.reference bs) o vs) place)
-          at None = same_volume (volume_at vs place)
-          at (Some q) = set_same vs q place (volume_heeded e.code (kept_of via e.reference bs) (volume_at vs q))
-              (heeded_fields e.code (kept_of via e.reference bs) (volume_at vs q))
+  heeded_same place = grind (arith, same_volume, set_same, heeded_fields)
 
   -- what becomes of a unit's volume: it stays, and is online by an ONLINE that succeeded, or was so before, and no
   -- AVAILABLE succeeded
@@ -177,8 +132,7 @@ module _ (units : List Shape) (bs : List Buffer) (via : Connection) (vs : List V
 
 -- an AVAILABLE that succeeded leaves the unit offline, whoever asked for it
 available_offline : (kept : Option Buffer) (v : Volume) → (volume_heeded 0x88 kept v).is_mounted ≡ false
-available_offline None v = refl
-available_offline (Some b) v = refl
+available_offline kept v = grind arith
 
 set_off : (vs : List Volume) (q : ℕ) (x : Volume) → x.is_mounted ≡ false
     → (volume_at (set vs q x) q).is_mounted ≡ false
@@ -191,30 +145,9 @@ set_off vs q x off = elim (cases_lt q (length vs)) [
 pub available_off : (units : List Shape) (bs : List Buffer) (via : Connection) (vs : List Volume) (e : End) (u : ℕ)
     → e.code ≡ 0x88 → e.status % 32 ≡ 0 → e.unit ≡ u
     → (volume_found units (volumes_after units bs via (Some e) vs) u).is_mounted ≡ false
-available_off units bs via vs e u code good of = by (place_in units u) refl
-  where
-    kept : Option Buffer
-    kept = kept_of via e.reference bs
-
-    at : (o : Option ℕ) → place_in units u ≡ o → place_heeded units e ≡ o
-    at o here = ap (λ b. cond b (place_in units e.unit) None) (eq-eqb (e.status % 32) 0 good)
-        ∙ ap (place_in units) of ∙ here
-
-    by : (o : Option ℕ) → place_in units u ≡ o
-        → (volume_in_place (volumes_heeded e.code (kept_of via e.reference bs) (place_heeded units e) vs) o).is_mounted
-        ≡ false
-    by None here = refl
-    by (Some q) here = subst (λ o. (volume_at (volumes_heeded e.code (kept_of via e.reference bs) o vs) q).is_mounted
-        ≡ false) (sym (at (Some q) here)) (set_off vs q (volume_heeded e.code kept (volume_at vs q))
-        (ap (λ n. (volume_heeded n kept (volume_at vs q)).is_mounted) code
-        ∙ available_offline kept (volume_at vs q)))
+available_off units bs via vs e u code good of = grind (arith, set_off, available_offline)
 
 -- where there is no such unit there is no volume
 pub missing : (units : List Shape) (vs : List Volume) (u : ℕ) → unit_found units u ≡ None
     → (volume_found units vs u).is_mounted ≡ false
-missing units vs u none = elim (find_cases (λ (s : Shape). nat_eq s.number u) units) [
-  | inl all ↦ ap (λ o. (volume_in_place vs o).is_mounted) (position_none (λ (s : Shape). nat_eq s.number u) units all)
-  | inr some ↦ absurd (none-some _ (sym none
-      ∙ (ap (find (λ (s : Shape). nat_eq s.number u)) some.3.is
-      ∙ find_first (λ (s : Shape). nat_eq s.number u) some.0 some.1 some.2 some.3.before some.3.passed)))
-]
+missing units vs u none = grind (arith, find_cases, position_none, find_first)

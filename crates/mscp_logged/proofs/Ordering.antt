@@ -1,10 +1,9 @@
 -- After each call of a port no end that waits has passed a command that it had to wait for.
-use Rattle.mscp_logged.proofs.Common.{Action, AllByRecursion, At, Block, Bool, Call, Command, Connection, Decided, Dies, Drive, End, First, Fitting, Goes, Holdings, IsNoReset, IsOf, IsServable, IsUnitIn, Kept, List, Next, None, Ok, Option, Outcome, Port, Record, Second, Serves, Settings, Some, Stays, TakesEnd, Verdict, Wants, Went, [], advanced, and_parts, ap, append-nil, append_assoc, arith, block_told, brought_for, cond, decided_by, drive_in, drop, drop_more, end_given, end_number, end_served, ended_none, ends_begun, ends_of, ends_said_by, eq-eqb, false, false≢true, fences, filter, filter-append, first_of_one, has_number, inl, inr, is_affordable, is_dead, is_in_service, is_numbered, is_same, is_some, left_awaited, length, list_all, map, name_of, name_on, nat_eq, no_record, not, nothing_two, num, record_at, refl, said, says_is, served_goes_on, served_itself, served_other, served_waits, serves_grow, since, some_none, step_charge, still_none, subst, sym, take, take-append-drop, taken_by, this_one, true, unit_found, waiting_after, went_is, whole, without_ends, ℕ, ◌++◌, ◌+◌, ◌∙◌, ◌∷◌, ◌≡◌, ◌≤◌, ◌⊎◌}
-use Rattle.std.proofs.Common.{nat_lt}
-use Rattle.mscp_logged.proofs.Clear.{AreClear, IsGood, Ordered, is_ended, nothing_ordered, ordered_as, ordered_forgotten, ordered_stepped, ordered_taken, some_ended, unended}
+use Rattle.mscp_logged.proofs.Common.{Action, AllByRecursion, At, Block, Bool, Call, Command, Connection, Decided, Dies, Drive, End, First, Fitting, Goes, Holdings, IsNoReset, IsOf, IsServable, IsUnitIn, Kept, List, Next, None, Ok, Option, Outcome, Port, Record, Serves, Settings, Some, Stays, TakesEnd, Verdict, Wants, Went, [], advanced, and_parts, ap, append-nil, append_assoc, arith, block_told, brought_for, cond, decided_by, drive_in, drop, drop_more, end_given, end_number, end_served, ended_none, ends_begun, ends_of, ends_said_by, eq-eqb, false, fences, filter, filter-append, first_of_one, has_number, inl, inr, is_affordable, is_dead, is_in_service, is_numbered, is_same, is_some, left_awaited, length, list_all, map, name_of, name_on, nat_eq, nat_lt, not, nothing_two, num, record_at, refl, said, says_is, served_goes_on, served_itself, served_other, served_waits, serves_grow, since, some_none, step_charge, still_none, subst, sym, take, take-append-drop, taken_by, this_one, true, unit_found, waiting_after, went_is, whole, without_ends, ℕ, ◌++◌, ◌+◌, ◌∙◌, ◌∷◌, ◌≡◌, ◌≤◌, ◌⊎◌}
+use Rattle.mscp_logged.proofs.Clear.{AreClear, IsGood, Ordered, is_ended, ordered_as, ordered_forgotten, ordered_stepped, ordered_taken, some_ended, unended}
 use Rattle.mscp_logged.proofs.Fences.{IsWaiting, serves_free}
 use Rattle.mscp_logged.proofs.Passes.{overtakes}
-use Rattle.mscp_logged.proofs.Queueing.{NoneBehind, behind_served}
+use Rattle.mscp_logged.proofs.Queueing.{behind_served}
 
 abbrev pub OrderedIn : Settings → {K : Type 0} → Port K → List (List ℕ) → Type 0
 OrderedIn c p aw = Ordered c aw p.controller.waiting (ends_of p.controller) p.decided.items
@@ -33,10 +32,7 @@ module _ {c : Settings} {Told : Verdict → Record → Type 0} {K : Type 0} (p :
       mine = eq-eqb (num t 0 4) (num t 0 4) refl
 
       by : At aw rs es n → IsHere t
-      by (inl none) = absurd (some_none t (filter (has_number n) back)
-          (sym (ap (λ b. cond b (t ∷ filter (has_number n) back) (filter (has_number n) back)) mine)
-          ∙ (nothing_two (filter (has_number n) front) (filter (has_number n) (t ∷ back))
-          (sym (filter-append (has_number n) front (t ∷ back)) ∙ ap (filter (has_number n)) (sym e) ∙ none.0)).1))
+      by (inl none) = grind (arith, n, nothing_two, filter-append)
       by (inr (inl w)) =
           let same = (this_one (has_number n) front back t w.text (ap (filter (has_number n)) (sym e) ∙ w.message)
           mine).1 in
@@ -61,13 +57,7 @@ module _ {c : Settings} {Told : Verdict → Record → Type 0} {K : Type 0} (p :
     where
       left : (ts : List (List ℕ)) → AllByRecursion IsHere ts → AllByRecursion (IsWaiting rs) (unended es ts)
       left [] all = tt
-      left (t ∷ ts) all = by (is_ended es t) refl all.0 (left ts all.1)
-        where
-          by : (b : Bool) → is_ended es t ≡ b → IsHere t → AllByRecursion (IsWaiting rs) (unended es ts)
-              → AllByRecursion (IsWaiting rs) (cond (not b) (t ∷ unended es ts) (unended es ts))
-          by true is h rest = rest
-          by false is (inl w) rest = (w, rest)
-          by false is (inr e) rest = absurd (false≢true (sym is ∙ e))
+      left (t ∷ ts) all = grind (arith, left ts all.1)
 
 -- ---- calls
 
@@ -85,24 +75,15 @@ module _ {c : Settings} {K : Type 0} (call : Call) (old new : Port K) (aw : List
       by false = subst (λ z. OrderedIn c new z) (sym e) x
 
   pub died : Dies old new → So
-  died d = ordered_as c _ [] new.controller.waiting [] (ends_of new.controller) new.decided.items new.decided.items
-      (ap (λ (h : Holdings K). h.waiting) d.1.controller) (ap (λ (h : Holdings K). ends_of h) d.1.controller) refl
-      (nothing_ordered c _ new.decided.items)
+  died d = grind arith
 
   pub unchanged : ends_said_by call old new ≡ [] → taken_by call old ≡ []
       → new.controller.waiting ≡ old.controller.waiting → ends_of new.controller ≡ ends_of old.controller
       → new.decided.items ≡ old.decided.items → So
-  unchanged said taken waiting ends decided = became aw
-      (ap (λ xs. without_ends xs aw ++ taken_by call old) said ∙ ap (λ xs. aw ++ xs) taken ∙ append-nil aw)
-      (ordered_as c aw old.controller.waiting new.controller.waiting (ends_of old.controller) (ends_of new.controller)
-      old.decided.items new.decided.items waiting ends decided o)
+  unchanged said taken waiting ends decided = grind (arith, became, append-nil, ordered_as)
 
   pub stays : ends_said_by call old new ≡ [] → taken_by call old ≡ [] → Stays old new → So
-  stays said taken either = elim either [
-    | inr d ↦ died d
-    | inl s ↦ unchanged said taken (ap (λ (h : Holdings K). h.waiting) s.0) (ap (λ (h : Holdings K). ends_of h) s.0)
-        (ap (λ d. d.items) s.1)
-  ]
+  stays said taken either = grind (arith, died, unchanged)
 
 -- ---- an end is taken
 
@@ -153,19 +134,10 @@ module _ {c : Settings} {Told : Verdict → Record → Type 0} {K : Type 0} (old
   left = unended (ends_of old.controller) aw
 
   parts : take place waiting ++ r0 ∷ drop (place + 1) waiting ≡ waiting
-  parts = ap (λ zs. take place old.controller.waiting ++ zs)
-      (sym (drop_more old.controller.waiting place no_record can.inside))
-      ∙ take-append-drop place old.controller.waiting
+  parts = grind (arith, drop_more, take-append-drop)
 
   sole_of : (n : ℕ) → is_numbered n r0 ≡ true → filter (is_numbered n) waiting ≡ r0 ∷ []
-  sole_of n mine = by (k.each n)
-    where
-      by : At aw old.controller.waiting (ends_of old.controller) n
-          → filter (is_numbered n) old.controller.waiting ≡ r0 ∷ []
-      by (inl none) = absurd (served_waits n b d old.controller.waiting place can.inside mine none.1)
-      by (inr (inr x)) = absurd (served_waits n b d old.controller.waiting place can.inside mine x.none)
-      by (inr (inl w)) = w.sole ∙ ap (λ z. z ∷ [])
-          (sym (served_itself n b d old.controller.waiting place can.inside w.own w.sole mine))
+  sole_of n mine = grind (arith, served_waits, served_itself)
 
   -- what is served passes none
   serves : (n : ℕ) → is_numbered n r0 ≡ true → overtakes n left ≡ false
@@ -215,9 +187,8 @@ module _ {c : Settings} {Told : Verdict → Record → Type 0} {K : Type 0} (old
       (old.decided.items ++ map made (brought_for r0.connection (end_given b d r0)))
   step_ordered made = ordered_stepped c aw waiting (ends_of old.controller) old.decided.items o
       (waiting_after b d waiting place) (brought_for r0.connection (end_given b d r0))
-      (map made (brought_for r0.connection (end_given b d r0))) f.long
-      (λ x y h. behind_served x y (step_charge r0) (take place waiting) r0 (drop (place + 1) waiting)
-      (end_given b d r0) (subst (λ zs. NoneBehind x y zs) (sym parts) h)) still_good
+      (map made (brought_for r0.connection (end_given b d r0))) f.long (λ x y h. behind_served x y (step_charge r0)
+      (take place waiting) r0 (drop (place + 1) waiting) (end_given b d r0) (rw parts h)) still_good
       (by r0.connection (end_given b d r0) refl refl)
     where
       mine : (e : End) → r0.connection ≡ First → end_given b d r0 ≡ Some e → is_numbered e.reference r0 ≡ true
@@ -226,9 +197,7 @@ module _ {c : Settings} {Told : Verdict → Record → Type 0} {K : Type 0} (old
 
       by : (via : Connection) (x : Option End) → r0.connection ≡ via → end_given b d r0 ≡ x
           → AreClear left (brought_for via x) (map made (brought_for via x))
-      by First None at given = tt
-      by First (Some e) at given = (inr (serves e.reference (mine e at given)), tt)
-      by Second x at given = tt
+      by via x at given = grind (arith, serves, mine)
 
 module _ {c : Settings} {Told : Verdict → Record → Type 0} {K : Type 0} (picks : List _ → ℕ → Type 0)
     (outcome : Outcome) (done : Unit) (old new : Port K)

@@ -1,7 +1,6 @@
 -- No end of a port's passes a command that it has to wait for, over a whole list of calls.
-use Rattle.mscp_logged.proofs.Common.{Action, AllByRecursion, Answered, At, Bool, Call, Decided, End, Fitting, Holdings, IsNoReset, IsPassive, KeepsPromise, Kept, List, Made, Next, None, Ok, Option, Own, Picking, Port, ReadsBytes, Record, Settings, Shape, Some, TakesEnd, Verdict, Volume, Wants, WasRead, Went, WriteIp, [], ap, arith, awaited, begun_end, blocks, cond, drop, ends_begun, ends_of, ends_said_by, false, false≢true, few_ends, filter, find_cases, find_none, first_of_one, fitting, inl, inr, is_apart, is_numbered, is_some, kept, knows, moves_data, named, nat_eq, nat_le, nat_lt, none-some, num, option_map, own_answer, own_refusal, own_refused, own_text, passive_said, passive_stays, passive_taken, place_in, position, position_first, refl, said, same_Some, says_is, slice_get, some_none, subst, sym, told_end, true, unit_found, volume_at, volume_named, whole, ℕ, ◌%◌, ◌+◌, ◌∙◌, ◌∷◌, ◌≡◌, ◌⊎◌}
-use Rattle.std.proofs.Common.{◌&&◌}
-use Rattle.mscp_logged.proofs.Clear.{IsClear, Ordered, clear_forgotten, ordered_as, nothing_ordered, unended, unended_none}
+use Rattle.mscp_logged.proofs.Common.{Action, AllByRecursion, Answered, At, Bool, Call, Decided, End, Fitting, IsNoReset, IsPassive, KeepsPromise, Kept, List, Made, Next, None, Ok, Option, Own, Picking, Port, ReadsBytes, Record, Settings, Some, TakesEnd, Verdict, Volume, Wants, WasRead, Went, WriteIp, [], ap, arith, awaited, begun_end, blocks, drop, ends_begun, ends_of, ends_said_by, false, false≢true, few_ends, filter, find_cases, find_none, first_of_one, fitting, inl, inr, is_apart, is_numbered, is_some, kept, knows, named, num, own_answer, own_text, passive_said, passive_stays, passive_taken, position_first, refl, said, says_is, slice_get, subst, sym, told_end, true, unit_found, volume_named, whole, ℕ, ◌%◌, ◌∙◌, ◌∷◌, ◌≡◌, ◌⊎◌}
+use Rattle.mscp_logged.proofs.Clear.{IsClear, Ordered, clear_forgotten, unended, unended_none}
 use Rattle.mscp_logged.proofs.Fences.{IsWaiting, same_unit, unit_earlier}
 use Rattle.mscp_logged.proofs.Hearing.{read_ordered}
 use Rattle.mscp_logged.proofs.Ordering.{OrderedIn, all_waiting, next_ordered, stays, went_ordered}
@@ -15,8 +14,7 @@ use Rattle.mscp_logged.proofs.Turns.{IsApartOr}
 -- the oldest, with what was decided of it
 first_clear : (c : Settings) (aw : List (List ℕ)) (rs : List Record) (e : End) (es : List End) (ds : List Decided)
     (d : Decided) → slice_get ds 0 ≡ Some d → Ordered c aw rs (e ∷ es) ds → IsClear aw e d
-first_clear c aw rs e es [] d some o = absurd (none-some d some)
-first_clear c aw rs e es (x ∷ ds) d some o = subst (λ y. IsClear aw e y) (same_Some x d some) o.clear.0
+first_clear c aw rs e es ds d some o = grind arith
 
 module _ {c : Settings} {K : Type 0} (blocks : Bool) (action : Action) (bytes : List ℕ) (old new : Port K)
     (aw : List (List ℕ)) (k : Kept old aw) (o : OrderedIn c old aw) (picks : List _ → ℕ → Type 0)
@@ -33,60 +31,19 @@ module _ {c : Settings} {K : Type 0} (blocks : Bool) (action : Action) (bytes : 
     where
       by : {n : ℕ} → num text 0 4 ≡ n → (is_apart (d.status % 32) ≡ true) ⊎ (overtakes n aw ≡ false)
           → (is_apart (d.status % 32) ≡ true) ⊎ (overtakes (num text 0 4) aw ≡ false)
-      by number (inl a) = inl a
-      by number (inr h) = inr (subst (λ m. overtakes m aw ≡ false) (sym number) h)
+      by number x = grind arith
 
   pub said_clear : (text : List ℕ) → ends_begun old.outgoing new.outgoing ≡ text ∷ []
       → (is_apart (d.status % 32) ≡ true) ⊎ (overtakes (num text 0 4) aw ≡ false)
-  said_clear text said = elim (says_is old new r.says) [
-    | inl x ↦ clear_of text x.0 said
-    | inr n ↦ absurd (none_said (sym n.begun ∙ said))
-  ]
-    where
-      none_said : [] ≡ text ∷ [] → ⊥
-      none_said e = search (arith, e)
+  said_clear text said = grind (arith, says_is, clear_of)
 
 -- ---- the port's own
-
-past_is : (a x y : Bool) (status : ℕ)
-    → cond a (cond x (Some 0x1C01) (cond y (Some 0x0C01) None)) None ≡ Some status
-    → (status ≡ 0x1C01) ⊎ (status ≡ 0x0C01)
-past_is true true y status e = inl (sym (same_Some 0x1C01 status e))
-past_is true false true status e = inr (sym (same_Some 0x0C01 status e))
-past_is true false false status e = absurd (none-some status e)
-past_is false x y status e = absurd (none-some status e)
 
 -- it is of a unit that isn't there, or is refused
 own_or : (v : Option Volume) (b : List ℕ) (own : Own) → own_answer false v b ≡ Some own
     → (v ≡ None) ⊎ (is_apart (num (own_text b own) 10 2 % 32) ≡ true)
 own_or None b own h = inl refl
-own_or (Some v) b own h = inr (by (own_refusal b (Some v)) refl h)
-  where
-    refused : (status : ℕ) → (status ≡ 0x1C01) ⊎ (status ≡ 0x0C01)
-        → is_apart (num (own_text b (own_refused b status)) 10 2 % 32) ≡ true
-    refused status (inl e) =
-        subst (λ n. is_apart (num (own_text b (own_refused b n)) 10 2 % 32) ≡ true) (sym e) refl
-    refused status (inr e) =
-        subst (λ n. is_apart (num (own_text b (own_refused b n)) 10 2 % 32) ≡ true) (sym e) refl
-
-    by : (o : Option ℕ) → own_refusal b (Some v) ≡ o → option_map (own_refused b) o ≡ Some own
-        → is_apart (num (own_text b own) 10 2 % 32) ≡ true
-    by None is e = absurd (none-some own e)
-    by (Some status) is e = subst (λ x. is_apart (num (own_text b x) 10 2 % 32) ≡ true)
-        (same_Some (own_refused b status) own e) (refused status (past_is (v.is_there && moves_data b)
-        (nat_le v.size (num b 28 4)) (nat_lt v.size (num b 28 4 + blocks (num b 12 4))) status is))
-
--- a unit that has no place isn't there
-no_unit : (units : List Shape) (n : ℕ) → place_in units n ≡ None → unit_found units n ≡ None
-no_unit units n none = elim (find_cases (λ u. nat_eq u.number n) units) [
-  | inl all ↦ find_none (λ u. nat_eq u.number n) units all
-  | inr some ↦ absurd (none-some _ (sym none ∙ (ap (position (λ u. nat_eq u.number n)) some.3.is
-      ∙ position_first (λ u. nat_eq u.number n) some.0 some.1 some.2 some.3.before some.3.passed)))
-]
-
-no_place : (f : ℕ → Volume) (o : Option ℕ) → option_map f o ≡ None → o ≡ None
-no_place f None e = refl
-no_place f (Some place) e = absurd (none-some (f place) (sym e))
+own_or (Some v) b own h = grind arith
 
 -- ---- calls
 
@@ -120,8 +77,7 @@ module _ {K : Type 0} {picks : Picking K} (run : Begun picks) (keeping : IsKeepi
       (passive_said call a.0 p is) (passive_taken call a.0 is) (passive_stays picks call a.0 p a.2 is)
     where
       calm : (call : Call) → IsPassive call → IsNoReset call
-      calm WriteIp is = absurd is
-      calm call is = record { texts = λ s xs ys. refl }
+      calm call is = grind arith
 
   pub ordering : (p : Port K) (calls : List Call) → ReadsBytes calls → (a : Answered picks start calls p)
       → OrderedIn c p (awaited picks start p calls a)
@@ -133,17 +89,13 @@ module _ {K : Type 0} {picks : Picking K} (run : Begun picks) (keeping : IsKeepi
     where
       none : (n : ℕ) (r : Record) → filter (is_numbered n) p.controller.waiting ≡ r ∷ []
           → At [] p.controller.waiting (ends_of p.controller) n → ⊥
-      none n r e (inl z) = some_none r [] (sym e ∙ z.1)
-      none n r e (inr (inl w)) = some_none w.text [] (sym w.message)
-      none n r e (inr (inr x)) = some_none x.text [] (sym x.message)
+      none n r e x = grind arith
   ordering p (call ∷ calls) reads a = by call a reads (ordering a.0 calls (reads_before call calls reads) a.1)
     where
       by : (call : Call) (a : Answered picks start (call ∷ calls) p) → ReadsBytes (call ∷ calls)
           → OrderedIn c a.0 (awaited picks start a.0 calls a.1)
           → OrderedIn c p (awaited picks start p (call ∷ calls) a)
-      by WriteIp a reads o = ordered_as c [] [] p.controller.waiting [] (ends_of p.controller) p.decided.items
-          p.decided.items (ap (λ (h : Holdings K). h.waiting) a.2.controller) (ap (λ h. ends_of h) a.2.controller) refl
-          (nothing_ordered c [] p.decided.items)
+      by WriteIp a reads o = grind arith
       by (Next blocks action bytes) a reads o =
           next_ordered blocks action bytes a.0 p (awaited picks start a.0 calls a.1) (numbers_kept a.0 calls reads a.1)
           (fits a.0 calls reads a.1) o (picks a.0.controller.picker) a.2.0
@@ -175,15 +127,13 @@ module _ {K : Type 0} {picks : Picking K} (run : Begun picks) (keeping : IsKeepi
   own_clear p calls reads a none text own answer = elim (own_or (volume_named p text) text own answer) [
     | inr apart ↦ inl apart
     | inl absent ↦ inr (all_free (awaited picks start p calls a) (missing absent)
-        (subst (λ ts. AllByRecursion (IsWaiting p.controller.waiting) ts)
-        (ap (λ es. unended es (awaited picks start p calls a)) none ∙ unended_none (awaited picks start p calls a))
-        (all_waiting p (awaited picks start p calls a) (numbers_kept p calls reads a) (fits p calls reads a))))
+        (rw (← ap (λ es. unended es (awaited picks start p calls a)) none ∙ unended_none
+        (awaited picks start p calls a)) (all_waiting p (awaited picks start p calls a) (numbers_kept p calls reads a)
+        (fits p calls reads a))))
   ]
     where
       missing : volume_named p text ≡ None → unit_found c.units (num text 4 2) ≡ None
-      missing absent = subst (λ s. unit_found s.units (num text 4 2) ≡ None) (promised p calls a).1.settings
-          (no_unit p.controller.settings.units (num text 4 2) (no_place (volume_at p.volumes)
-          (place_in p.controller.settings.units (num text 4 2)) absent))
+      missing absent = grind (arith, promised, find_cases, find_none, position_first)
 
       free : unit_found c.units (num text 4 2) ≡ None → (u : List ℕ) → IsWaiting p.controller.waiting u → (b : Bool)
           → keeps text u ≡ b → b ≡ false

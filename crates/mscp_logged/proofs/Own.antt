@@ -1,9 +1,7 @@
 -- What begins to go out as a port answers a message itself.
-use Rattle.mscp_logged.proofs.Common.{Answered, AnswersItself, Becomes, Bool, Call, Descriptor, End, Hardware, Hears, Holdings, IsAnswering, IsMadeOf, IsSomeAnd, IsWhole, List, None, Ok, Option, Outgoing, Own, Picking, Port, Some, WasRead, [], ap, arith, bytes_small, end_bytes, end_kind, ends_of, false, inl, inr, is_foreign, length, none-some, none_waits, num, own_answer, own_end_of, own_so, own_text, own_whole, refl, slice_index, subst, sym, true, volume_named, ℕ, ◌∙◌, ◌∷◌, ◌≡◌, ◌≤◌}
-use Rattle.std.specs.Prelude.{◌<◌, ◌^◌}
+use Rattle.mscp_logged.proofs.Common.{Answered, AnswersItself, Becomes, Bool, Call, Descriptor, End, Hardware, Hears, Holdings, IsAnswering, IsMadeOf, IsSomeAnd, IsWhole, List, None, Ok, Option, Outgoing, Own, Picking, Port, Some, WasRead, [], ap, arith, bytes_small, end_bytes, end_kind, ends_of, false, inl, inr, is_foreign, length, none-some, none_waits, num, own_answer, own_end_of, own_number, own_so, own_text, own_whole, refl, slice_index, subst, sym, volume_named, ℕ, ◌<◌, ◌^◌, ◌∙◌, ◌∷◌, ◌≡◌, ◌≤◌}
 use Rattle.mscp_port.specs.declared.port.OutgoingKind.TheVariants as kinds
 use Rattle.mscp_port.specs.declared.task.Task.TheVariants as tasks
-use Rattle.mscp_ported.proofs.Itself.{own_number}
 
 -- it has the number of its message, is an end of the disk's just if that is for the disks, and is whole then
 pub record IsOwn {K : Type 0} (old : Port K) (text : List ℕ) (o : Outgoing) : Type 0 where
@@ -46,8 +44,7 @@ module _ {K : Type 0} (bytes : List ℕ) (done : Unit) (old new : Port K) (r : H
 
 pub answers_so : {K : Type 0} (picks : Picking K) (call : Call) (old new : Port K) → Becomes picks call old new
     → (d : IsAnswering call old new) → IsOwn old d.message d.out
-answers_so picks (WasRead bytes (Ok done)) old new r d =
-    subst (λ b. IsOwn old b d.out) (bytes_read bytes d.message d.read.0 (d.read.1))
+answers_so picks (WasRead bytes (Ok done)) old new r d = rw (← bytes_read bytes d.message d.read.0 (d.read.1))
     (is_own bytes done old new r d.out d.nothing d.begun)
   where
     text_of : Call → List ℕ
@@ -77,11 +74,7 @@ module _ {K : Type 0} (old : Port K) (text : List ℕ) (o : Outgoing) (is : IsOw
 
   -- the end of a message for the disks
   pub of_disk : o.kind ≡ kinds.End → is.foreign ≡ false
-  of_disk kind = by is.foreign (sym is.kind ∙ kind)
-    where
-      by : (b : Bool) → end_kind b ≡ kinds.End → b ≡ false
-      by true e = absurd (search (arith, e))
-      by false e = refl
+  of_disk kind = grind arith
 
   pub own_is_whole : o.kind ≡ kinds.End → IsWhole o.bytes.items
   own_is_whole kind = subst (λ b. IsWhole b) (sym is.own.2) (own_whole (volume_named old text) text is.own.0

@@ -1,6 +1,5 @@
 -- Whether one of a list that passes a test has another in front of it that keeps it back.
-use Rattle.mscp_logged.proofs.Common.{AllByRecursion, Bool, First, List, Sent, [], and_false, ap, cond, false, false≢true, filter, has_number, keeps_back, list_any, or_parts, refl, sent_by, some_none, sym, true, ℕ, ◌++◌, ◌||◌, ◌∙◌, ◌∷◌, ◌≡◌}
-use Rattle.std.proofs.Common.{◌&&◌}
+use Rattle.mscp_logged.proofs.Common.{AllByRecursion, Bool, First, List, Sent, [], and_false, ap, cond, false, false≢true, filter, has_number, keeps_back, list_any, or_parts, refl, sent_by, some_none, sym, true, ℕ, ◌&&◌, ◌++◌, ◌||◌, ◌∙◌, ◌∷◌, ◌≡◌}
 use Rattle.mscp_logged.proofs.Lined.{AreLined}
 use Rattle.mscp_logged.proofs.Wired.{named, stem}
 

@@ -1,7 +1,6 @@
 -- What is known of each command that is outstanding: its figure isn't above the one that was told of it last; and of a
 -- poll which figure comes, and that it may be told.
-use Rattle.mscp_logged.proofs.Common.{AllByRecursion, Answer, Asked, Bool, First, List, None, Nothing, Oldest, Option, Pending, Sent, Some, [], and_parts, ap, arith, asked_about, asked_by, asks_oldest, command_at, cond, eq-eqb, eqb-true, false, false≢true, find_cases, inl, inr, is_known, is_named, is_refused, length, list_any, may_ask, may_be, nat_eq, none-some, not, or_left, or_right, polled_by, position, position_first, position_none, refl, same_Some, same_connection, sent_by, subst, sym, true, ℕ, ◌++◌, ◌<◌, ◌||◌, ◌∙◌, ◌∷◌, ◌≡◌, ◌≤◌, ◌⊎◌}
-use Rattle.std.proofs.Common.{◌&&◌, find, nat_lt}
+use Rattle.mscp_logged.proofs.Common.{AllByRecursion, Answer, Asked, Bool, First, List, None, Nothing, Oldest, Option, Pending, Sent, Some, [], and_parts, ap, arith, asked_about, asked_by, asks_oldest, command_at, cond, eqb-true, false, false≢true, find, find_cases, inl, inr, is_known, is_named, length, list_any, may_ask, may_be, nat_eq, nat_lt, none-some, or_left, or_right, polled_by, position, position_first, position_none, refl, same_Some, same_connection, sent_by, subst, sym, true, ℕ, ◌++◌, ◌<◌, ◌∙◌, ◌∷◌, ◌≡◌, ◌≤◌, ◌⊎◌}
 use Rattle.mscp_logged.proofs.Left.{at_front}
 use Rattle.mscp_logged.proofs.Wired.{named}
 
@@ -14,13 +13,7 @@ figure_of n (e ∷ es) = cond (nat_eq e.number n) (Some e.figure) (figure_of n e
 
 pub figure_more : (n : ℕ) (es more : List Pending) (g : ℕ) → figure_of n es ≡ Some g → figure_of n (es ++ more) ≡ Some g
 figure_more n [] more g e = absurd (none-some g e)
-figure_more n (x ∷ es) more g e = by (nat_eq x.number n) e (λ h. figure_more n es more g h)
-  where
-    by : (b : Bool) → cond b (Some x.figure) (figure_of n es) ≡ Some g
-        → (figure_of n es ≡ Some g → figure_of n (es ++ more) ≡ Some g)
-        → cond b (Some x.figure) (figure_of n (es ++ more)) ≡ Some g
-    by true h rest = h
-    by false h rest = rest h
+figure_more n (x ∷ es) more g e = grind (arith, figure_more n es more g)
 
 -- a figure of 1 or more isn't above one that was told, and below it if this is so
 abbrev pub IsBelow : (ℕ → ℕ) → (ℕ → Type 0) → ℕ → ℕ → Type 0
@@ -51,24 +44,7 @@ Lowers F S F' S' n = 1 ≤ F' n → (1 ≤ F n) × (F' n ≤ F n) × (S' n → S
 
 module _ (F : ℕ → ℕ) (S : ℕ → Type 0) (F' : ℕ → ℕ) (S' : ℕ → Type 0) where
   below_as : (n g : ℕ) → Lowers F S F' S' n → IsBelow F S n g → IsBelow F' S' n g
-  below_as n g lowers below low =
-      let x = lowers low in
-      let b = below x.0 in (
-        least (F' n) (F n) g x.1 b.0,
-        λ s. elim (x.2 s) [
-          | inl so ↦ under (F' n) (F n) g x.1 (b.1 so)
-          | inr less ↦ beneath (F' n) (F n) g less b.0
-        ],
-      )
-    where
-      least : (a b c : ℕ) → a ≤ b → b ≤ c → a ≤ c
-      least a b c e f = omega (arith, e, f)
-
-      under : (a b c : ℕ) → a ≤ b → b < c → a < c
-      under a b c e f = omega (arith, e, f)
-
-      beneath : (a b c : ℕ) → a < b → b ≤ c → a < c
-      beneath a b c e f = omega (arith, e, f)
+  below_as n g lowers below low = grind arith
 
   module _ (xs xs' : List Sent) (P more : List Pending)
       (lowers : (n : ℕ) → list_any (named n) xs ≡ true → Lowers F S F' S' n)
@@ -96,8 +72,7 @@ module _ (F : ℕ → ℕ) (S : ℕ → Type 0) (F' : ℕ → ℕ) (S' : ℕ →
     )
       where
         itself : named s.reference s ≡ true
-        itself = ap (λ via. same_connection via First && nat_eq s.reference s.reference) all.0.via
-            ∙ eq-eqb s.reference s.reference refl
+        itself = grind arith
 
     pub figured_still : AreFigured xs P F S → AllByRecursion (IsFigured xs' (P ++ more) F' S') xs
     figured_still all = still_of xs (λ n h. h) all
@@ -108,24 +83,11 @@ module _ (F : ℕ → ℕ) (S : ℕ → Type 0) (F' : ℕ → ℕ) (S' : ℕ →
 found_by : (Q : Sent → Type 0) (f : Sent → Bool) (xs : List Sent) (z : Sent) → AllByRecursion Q xs → find f xs ≡ Some z
     → Q z × (f z ≡ true) × (list_any f xs ≡ true)
 found_by Q f [] z all e = absurd (none-some z e)
-found_by Q f (x ∷ xs) z all e = by (f x) refl e (λ h. found_by Q f xs z all.1 h)
-  where
-    by : (b : Bool) → f x ≡ b → cond b (Some x) (find f xs) ≡ Some z
-        → (find f xs ≡ Some z → Q z × (f z ≡ true) × (list_any f xs ≡ true))
-        → Q z × (f z ≡ true) × ((b || list_any f xs) ≡ true)
-    by true is h rest =
-        let same = same_Some x z h in
-        (subst Q same all.0, subst (λ y. f y ≡ true) same is, refl)
-    by false is h rest = rest h
+found_by Q f (x ∷ xs) z all e = grind (arith, found_by Q f xs z all.1)
 
 none_any : (f : Sent → Bool) (xs : List Sent) → find f xs ≡ None → list_any f xs ≡ false
 none_any f [] e = refl
-none_any f (x ∷ xs) e = by (f x) e (none_any f xs)
-  where
-    by : (b : Bool) → cond b (Some x) (find f xs) ≡ None → (find f xs ≡ None → list_any f xs ≡ false)
-        → (b || list_any f xs) ≡ false
-    by true h rest = absurd (none-some x (sym h))
-    by false h rest = rest h
+none_any f (x ∷ xs) e = grind (arith, none_any f xs)
 
 module _ (F : ℕ → ℕ) (S : ℕ → Type 0) (F' : ℕ → ℕ) (S' : ℕ → Type 0) (xs xs' : List Sent) (P : List Pending)
     (all : AreFigured xs P F S) (timeout : Option ℕ)
@@ -157,26 +119,17 @@ module _ (F : ℕ → ℕ) (S : ℕ → Type 0) (F' : ℕ → ℕ) (S' : ℕ →
       less a b h = search (arith, h)
 
       told : (o : Option ℕ) → z.told ≡ o → (F other ≡ 0) ⊎ (may_be (Oldest o) false (F other) ≡ true)
-      told None h = inr refl
-      told (Some l) h = elim (low_or (F other)) [
-        | inl none ↦ inl none
-        | inr low ↦ inr (less (F other) l ((subst (λ n. IsBelow F S n l) is (x.0.told l h) low).1 (serves low)))
-      ]
+      told o h = grind (arith, low_or, less, is, x)
 
       by : (b : Bool) → IsRight (cond b (Oldest z.told) Nothing)
-      by false = nothing_right
-      by true = (
-        told z.told refl,
-        λ h. (grow other x.2, λ low. ((lowers other x.2 low).1, λ s. absurd (never s))),
-      )
+      by b = grind (arith, nothing_right, told, x)
 
   pub asked_right : (y : Sent) → y.connection ≡ First → IsRight (asked_by timeout xs y (Some other))
   asked_right y via = by (nat_eq other y.reference)
     where
       by : (b : Bool) → IsRight (cond b Nothing (asked_about timeout xs y (find (is_named y.connection other) xs)))
       by true = nothing_right
-      by false = subst (λ v. IsRight (asked_about timeout xs y (find (is_named v other) xs))) (sym via)
-          (about_right y (find (named other) xs) refl)
+      by false = rw via (about_right y (find (named other) xs) refl)
 
 -- ---- an end leaves
 
@@ -209,11 +162,4 @@ pub record Polls (y : Sent) (e : Answer) (other : ℕ) : Type 0 where
   pub parameter : y.parameter ≡ Some other
 
 pub polled_so : (y : Sent) (e : Answer) (other : ℕ) → polled_by y e ≡ Some other → Polls y e other
-polled_so y e other h = by (is_known e) refl (nat_eq y.opcode 2) refl (not (is_refused y e)) h
-  where
-    by : (a : Bool) → is_known e ≡ a → (b : Bool) → nat_eq y.opcode 2 ≡ b → (c : Bool)
-        → cond (a && b && c) y.parameter None ≡ Some other → Polls y e other
-    by true known true code true h = record { known = known; opcode = eqb-true y.opcode 2 code; parameter = h }
-    by true known true code false h = absurd (none-some other h)
-    by true known false code c h = absurd (none-some other h)
-    by false known b code c h = absurd (none-some other h)
+polled_so y e other h = grind arith

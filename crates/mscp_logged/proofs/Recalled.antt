@@ -1,6 +1,5 @@
 -- What was told of a unit, as a log tells it, is borne out by the ends in the log, and by those that are still to come.
-use Rattle.mscp_logged.proofs.Common.{Away, Bool, First, History, Identity, List, Moment, None, Open, Option, Shape, Shared, Some, State, Told, Volume, [], answer_by, ap, append-nil, append_assoc, arith, cond, each_push, end_of, eq-eqb, false, fold_push, is_known_unit, is_same_unit, length, map, message_of, moment_at, nat_eq, not, num, outstanding, refl, sent_by, settles, standing_after, standing_first, subst, suits_state, sym, take, told, told_after, told_after_message, told_nothing, true, unit_before, unit_found, volume_found, ℕ, ◌++◌, ◌<◌, ◌∙◌, ◌∷◌, ◌≡◌}
-use Rattle.std.proofs.Common.{◌&&◌}
+use Rattle.mscp_logged.proofs.Common.{Away, Bool, First, History, Identity, List, Moment, None, Option, Shape, Some, State, Told, Volume, [], answer_by, ap, append-nil, append_assoc, arith, cond, each_push, end_of, eq-eqb, false, fold_push, is_known_unit, is_same_unit, length, map, message_of, moment_at, not, num, outstanding, refl, sent_by, settles, standing_after, standing_first, suits_state, sym, take, told, told_after, told_after_message, told_nothing, true, unit_before, unit_found, volume_found, ℕ, ◌++◌, ◌<◌, ◌∙◌, ◌∷◌, ◌≡◌}
 use Rattle.mscp_wire.specs.declared.moment.Moment.TheVariants as moments
 use Rattle.mscp_logged.proofs.Away.{Denies, IsAway, Placed, away_after, opens, takes_away, told_away}
 use Rattle.mscp_logged.proofs.Claims.{claim_bears, claimed_left}
@@ -12,12 +11,7 @@ told_more h m u = ap (λ s. s.units First u) (fold_push standing_after standing_
 
 -- a message of the host's tells it nothing
 told_message : (u : ℕ) (t : Told) (text : List ℕ) → told_after_message First u t (sent_by First text) ≡ t
-told_message u t text = by (nat_eq (sent_by First text).opcode 9) (nat_eq (sent_by First text).unit u)
-  where
-    by : (x y : Bool) → cond (x && y && false) (record t { state = Shared }) t ≡ t
-    by true true = refl
-    by true false = refl
-    by false y = refl
+told_message u t text = grind arith
 
 -- an end tells what is known of its unit
 abbrev pub IsSameUnit : History → Moment → Type 0
@@ -42,19 +36,16 @@ pub record Recalled (F : Type 0) (units : List Shape) (volumes : List Volume) (h
 module _ (F : Type 0) (units : List Shape) (volumes : List Volume) where
   pub recalled_as : (h h' : History) (qs qs' : List (List ℕ)) → h' ≡ h → qs' ≡ qs → Recalled F units volumes h qs
       → Recalled F units volumes h' qs'
-  recalled_as h h' qs qs' e f r = subst (λ x. Recalled F units volumes x qs') (sym e)
-      (subst (λ x. Recalled F units volumes h x) (sym f) r)
+  recalled_as h h' qs qs' e f r = grind arith
 
   -- messages come
   message_recalled : (h : History) (qs : List (List ℕ)) (t : List ℕ) → Recalled F units volumes h qs
       → Recalled F units volumes (h ++ message_of t ∷ []) qs
   message_recalled h qs t r = record {
     each = each_push moments.Reset IsSameUnit h (message_of t) r.each tt;
-    now = λ u. subst (λ (x : Told). Known u (unit_found units u) (volume_found units volumes u) x.identity qs)
-        (sym (told_more h (message_of t) u ∙ told_message u (told h First u) t)) (r.now u);
+    now = λ u. rw (told_more h (message_of t) u ∙ told_message u (told h First u) t) (r.now u);
     suits = each_push moments.Reset (λ h m. F → IsSuitedUnit h m) h (message_of t) r.suits (λ f. tt);
-    placed = λ f u. subst (λ (x : Told). Placed u (volume_found units volumes u) (told_away x.state) qs)
-        (sym (told_more h (message_of t) u ∙ told_message u (told h First u) t)) (r.placed f u);
+    placed = λ f u. rw (told_more h (message_of t) u ∙ told_message u (told h First u) t) (r.placed f u);
   }
 
   pub messages_recalled : (h : History) (qs : List (List ℕ)) (ts : List (List ℕ)) → Recalled F units volumes h qs
@@ -93,8 +84,7 @@ module _ (F : Type 0) (units : List Shape) (volumes : List Volume) where
             ∙ ap not (claim_bears (Denies (num q 4 2)) (opens (num q 4 2)) (takes_away (num q 4 2))
             (IsAway (volume_found units volumes (num q 4 2))) (told_away (told h First (num q 4 2)).state) q qs
             (r.placed f (num q 4 2)) tt (ap told_away e) (eq-eqb (num q 4 2) (num q 4 2) refl))
-        known Open e = ap (λ s. suits_state s (answer_by First q)) e
-        known Shared e = ap (λ s. suits_state s (answer_by First q)) e
+        known s e = grind arith
 
         by : (b : Bool)
             → suits_state (cond b (told h First (num q 4 2)) told_nothing).state (answer_by First q) ≡ true
@@ -127,12 +117,7 @@ module _ (F : Type 0) (units : List Shape) (volumes : List Volume) where
 -- where nothing was said
 pub nothing_recalled : (F : Type 0) (units : List Shape) (volumes : List Volume) (h : History) (qs : List (List ℕ))
     → h ≡ [] → qs ≡ [] → Recalled F units volumes h qs
-nothing_recalled F units volumes h qs none no_end = recalled_as F units volumes [] h [] qs none no_end (record {
-  each = λ i low. tt;
-  suits = λ i low f. tt;
-  now = λ u. record { own = λ x e. search (arith, e); each = tt };
-  placed = λ f u. record { own = λ x e. search (arith, e); each = tt };
-})
+nothing_recalled F units volumes h qs none no_end = grind arith
 
 -- the volume of a unit may go, and ends may come
 pub volumes_recalled : (F : Type 0) (units : List Shape) (volumes more : List Volume) (h : History)

@@ -1,9 +1,9 @@
 -- What was told of units is borne out over a whole list of calls.
-use Rattle.mscp_logged.proofs.Common.{Answered, AsksAlways, Bool, Call, First, History, List, None, Option, Outgoing, Picking, Port, PortsEndWhatTheyTook, PortsTellInOrder, ReadsBytes, Said, Some, TellsFaults, WriteIp, [], accepted_by, ap, append-nil, append_assoc, arith, asked_before, came, cond, end_of, end_said, ends_begun, ends_in, ends_of, ends_said, false, flat_map, held, inl, inr, is_dead, is_foreign, leaves, logged, map, message_of, messages_by, option_to_list, refl, said, said_in, seen_by, since_alive, sym, told, true, unit_found, volume_found, zipped, ℕ, ◌++◌, ◌∙◌, ◌∷◌, ◌≡◌, ◌≢◌}
+use Rattle.mscp_logged.proofs.Common.{end_of, Answered, AsksAlways, Bool, Call, First, History, List, None, Option, Outgoing, Picking, Port, PortsEndWhatTheyTook, PortsTellInOrder, ReadsBytes, Said, Some, TellsFaults, [], accepted_by, ap, append-nil, append_assoc, arith, came, cond, end_said, ends_begun, ends_in, ends_of, ends_said, false, flat_map, held, is_foreign, leaves, logged, map, message_of, messages_by, refl, sym, told, true, unit_found, volume_found, zipped, ℕ, ◌++◌, ◌∙◌, ◌∷◌, ◌≡◌}
 use Rattle.mscp_ported.proofs.Ending.{Ends}
 use Rattle.mscp_logged.proofs.Recalled.{Recalled, ends_recalled, messages_recalled, nothing_recalled, recalled_as, volumes_recalled}
 use Rattle.mscp_logged.proofs.Begun.{Begun, IsKeeping, nothing_held, same_held}
-use Rattle.mscp_logged.proofs.Seen.{is_reset, reads_before, since_dead, since_reset}
+use Rattle.mscp_logged.proofs.Walking.{IsCall, IsForgotten, log_is as call_log, walk}
 use Rattle.mscp_logged.proofs.Speaking.{known_goes, placed_goes}
 use Rattle.mscp_logged.proofs.Texts.{out_texts, texts_none, to_come, waiting}
 use Rattle.mscp_logged.proofs.Away.{told_away}
@@ -23,26 +23,23 @@ module _ {K : Type 0} {picks : Picking K} (run : Begun picks) (keeping : IsKeepi
 
   -- all was forgotten
   forgotten : (p : Port K) (calls : List Call) → AsksAlways calls → (a : Answered picks start calls p)
-      → said picks start p calls a ≡ [] → came picks start p calls a ≡ [] → logged picks start p calls a ≡ []
-      → State p calls a
-  forgotten p calls asks a none no_end no_moment = nothing_recalled F c.units p.volumes (logged picks start p calls a)
-      (to_come hardware c.units p) no_moment (ap (λ xs. xs ++ waiting hardware c.units p) (out p.outgoing refl)
+      → IsForgotten picks start p calls a → State p calls a
+  forgotten p calls asks a none = nothing_recalled F c.units p.volumes (logged picks start p calls a)
+      (to_come hardware c.units p) none.logged (ap (λ xs. xs ++ waiting hardware c.units p) (out p.outgoing refl)
       ∙ texts_none hardware c.units (ends_of p.controller) p.decided.items
-      (none_gone k.gone (zipped (ends_of p.controller) p.decided.items) (sym no_end ∙ k.all)))
+      (none_gone k.gone (zipped (ends_of p.controller) p.decided.items) (sym none.came ∙ k.all)))
     where
       k : Ends hardware c.units p (came picks start p calls a) (ends_said picks start p calls a)
       k = (whole run keeping F p calls a).ends
 
       nothing : held p ≡ []
-      nothing = nothing_held run tell p calls asks a none
+      nothing = nothing_held run tell p calls asks a none.said
 
       out : (o : Option Outgoing) → p.outgoing ≡ o → out_texts p.outgoing ≡ []
-      out None e = ap out_texts e
-      out (Some o) e = search (arith, sym (ap (λ z. map said_in (option_to_list z)) e) ∙ nothing)
+      out o e = grind (arith, nothing)
 
-  module _ (p : Port K) (call : Call) (calls : List Call) (asks : AsksAlways (call ∷ calls))
-      (a : Answered picks start (call ∷ calls) p) (never : call ≢ WriteIp)
-      (lives : is_dead p.stage ≡ false) where
+  module _ (p : Port K) (call : Call) (calls : List Call) (a : Answered picks start (call ∷ calls) p)
+      (is_call : IsCall picks start p call calls a) where
     abbrev h : History
     h = logged picks start a.0 calls a.1
 
@@ -67,8 +64,7 @@ module _ {K : Type 0} {picks : Picking K} (run : Begun picks) (keeping : IsKeepi
             by : (b : Bool) → Recalled F c.units a.0.volumes (h ++ cond b [] (map message_of (accepted_by call a.0)))
                 (to_come hardware c.units a.0)
             by true = recalled_as F c.units a.0.volumes h (h ++ []) _ _ (append-nil h) refl s
-            by false = messages_recalled F c.units a.0.volumes h (to_come hardware c.units a.0)
-                (accepted_by call a.0) s
+            by false = grind (arith, messages_recalled)
 
         moved : Recalled F c.units p.volumes (h ++ ms) (to_come hardware c.units a.0 ++ more)
         moved = volumes_recalled F c.units a.0.volumes p.volumes (h ++ ms) (to_come hardware c.units a.0)
@@ -80,23 +76,17 @@ module _ {K : Type 0} {picks : Picking K} (run : Begun picks) (keeping : IsKeepi
 
         log_is : (x y : Option Outgoing) → a.0.outgoing ≡ x → p.outgoing ≡ y
             → logged picks start p (call ∷ calls) a ≡ (h ++ ms) ++ flat_map ends_in (leaves x y)
-        log_is x y was_out is_out = since_alive p.stage call h (seen_by call a.0 p) never lives
-            ∙ sym (append_assoc h ms (flat_map ends_in (leaves a.0.outgoing p.outgoing)))
-            ∙ ap (λ z. (h ++ ms) ++ flat_map ends_in (leaves z p.outgoing)) was_out
-            ∙ ap (λ z. (h ++ ms) ++ flat_map ends_in (leaves x z)) is_out
+        log_is x y was_out is_out = grind (arith, call_log is_call ms refl)
 
         to_log : (x y : Option Outgoing) → a.0.outgoing ≡ x → p.outgoing ≡ y
             → Recalled F c.units p.volumes ((h ++ ms) ++ flat_map ends_in (leaves x y)) (out_texts y ++ now)
             → State p (call ∷ calls) a
-        to_log x y was_out is_out = recalled_as F c.units p.volumes ((h ++ ms) ++ flat_map ends_in (leaves x y))
-            (logged picks start p (call ∷ calls) a) (out_texts y ++ now) (to_come hardware c.units p)
-            (log_is x y was_out is_out) (ap (λ z. out_texts z ++ now) is_out)
+        to_log x y was_out is_out = grind (arith, recalled_as, ms, log_is)
 
         still : (x y : Option Outgoing) (qs : List (List ℕ)) → flat_map ends_in (leaves x y) ≡ []
             → out_texts y ++ now ≡ qs → Recalled F c.units p.volumes (h ++ ms) qs
             → Recalled F c.units p.volumes ((h ++ ms) ++ flat_map ends_in (leaves x y)) (out_texts y ++ now)
-        still x y qs none e = recalled_as F c.units p.volumes (h ++ ms) _ qs (out_texts y ++ now)
-            (ap (λ z. (h ++ ms) ++ z) none ∙ append-nil (h ++ ms)) e
+        still x y qs none e = grind (arith, recalled_as, ms, append-nil)
 
         behind : (o : Outgoing) (y : Option Outgoing) → a.0.outgoing ≡ Some o → p.outgoing ≡ y
             → ends_begun a.0.outgoing p.outgoing ++ now ≡ old ++ more → now ≡ old ++ more
@@ -111,12 +101,11 @@ module _ {K : Type 0} {picks : Picking K} (run : Begun picks) (keeping : IsKeepi
             ∙ ap (λ z. (out_texts z ++ old) ++ more) (sym was_out)) r)
           where
             out_is : (z : Option Outgoing) → y ≡ z → out_texts y ++ now ≡ ends_begun None y ++ now
-            out_is None e = ap (λ z. out_texts z ++ now) e ∙ ap (λ z. ends_begun None z ++ now) (sym e)
-            out_is (Some o) e = ap (λ z. out_texts z ++ now) e ∙ ap (λ z. ends_begun None z ++ now) (sym e)
+            out_is z e = grind arith
         by (Some o) (Some x) was_out is_out comes r =
             to_log (Some o) (Some x) was_out is_out (still (Some o) (Some x) _ refl
             (ap (λ (z : Said). end_said z.kind z.text ++ now)
-            (sym (same_held run tell p call calls asks a never lives o x was_out is_out))
+            (sym (same_held run tell p call calls is_call.asks a is_call.never is_call.lives o x was_out is_out))
             ∙ ap (λ z. out_texts (Some o) ++ z) (behind o (Some x) was_out is_out comes)
             ∙ sym (append_assoc (out_texts (Some o)) old more)
             ∙ ap (λ z. (out_texts z ++ old) ++ more) (sym was_out)) r)
@@ -131,20 +120,8 @@ module _ {K : Type 0} {picks : Picking K} (run : Begun picks) (keeping : IsKeepi
 
   pub recalled : (p : Port K) (calls : List Call) → AsksAlways calls → ReadsBytes calls → (F → TellsFaults calls)
       → (a : Answered picks start calls p) → State p calls a
-  recalled p [] asks reads fine a = forgotten p [] asks a refl refl refl
-  recalled p (call ∷ calls) asks reads fine a = elim (is_reset call) [
-    | inl reset ↦ forgotten p (call ∷ calls) asks a (since_reset p.stage call _ _ reset)
-        (since_reset p.stage call _ _ reset) (since_reset p.stage call _ _ reset)
-    | inr never ↦ by never (recalled a.0 calls (asked_before call calls asks) (reads_before call calls reads)
-        (λ f. faults_before call calls (fine f)) a.1)
-        (is_dead p.stage) refl
-  ]
-    where
-      by : call ≢ WriteIp → State a.0 calls a.1 → (b : Bool) → is_dead p.stage ≡ b → State p (call ∷ calls) a
-      by never s true dead = forgotten p (call ∷ calls) asks a (since_dead p.stage call _ _ dead)
-          (since_dead p.stage call _ _ dead) (since_dead p.stage call _ _ dead)
-      by never s false lives =
-          let d = ends c before controller hardware credits start p call calls valid was quiet made reads a never
-          lives in
-          let m = brings run keeping F p call calls asks reads fine a never lives d.1 in
-          goes p call calls asks a never lives m.0 m.1 s
+  recalled p calls asks reads fine a = walk run ends (λ p calls a. (F → TellsFaults calls) → State p calls a)
+      (λ p calls asks a none fine. forgotten p calls asks a none)
+      (λ p call calls a is so_far fine. let m = brings run keeping F p call calls is.asks is.reads fine a is.never
+      is.lives is.deals in
+      goes p call calls a is m.0 m.1 (so_far (λ f. faults_before call calls (fine f)))) p calls asks reads a fine

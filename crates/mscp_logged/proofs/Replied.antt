@@ -1,45 +1,28 @@
 -- An end that answers a message, or that of a command which is aborted, tells of its unit what is so.
-use Rattle.mscp_logged.proofs.Common.{Answer, Bool, Command, Decided, End, First, Hardware, IsPast, List, None, Option, Order, Own, Record, Settings, Shape, Some, Volume, aborted_record, answer_by, ap, arith, brings, command_of, cond, describes, end_with_body, endcode, ends_formality, eqb-true, false, fault_of, inl, inr, is_queued, little_bytes, num, of, or_right, order_fault, own_answer, own_cases, own_end, own_end_with, own_formal, own_refused, own_text, refl, refused_apart, sent_by, sent_says, slice_index, status_after, subst, sym, tells_unit, true, unit_fault, unit_found, unit_shape, unit_state, unit_status, ℕ, ◌%◌, ◌&&◌, ◌+◌, ◌<◌, ◌==◌, ◌^◌, ◌||◌, ◌∙◌, ◌≡◌, ◌⊎◌}
-use Rattle.std.specs.Prelude.{not}
+use Rattle.mscp_logged.proofs.Common.{Answer, Bool, Command, Decided, End, First, Hardware, IsPast, List, None, Option, Order, Own, Record, Settings, Shape, Some, Volume, aborted_record, answer_by, ap, arith, brings, command_of, describes, end_with_body, ends_formality, eqb-true, false, fault_of, inl, inr, is_queued, of, or_right, own_answer, own_cases, own_end, own_end_with, own_formal, own_refused, own_text, refl, refused_apart, sent_by, sent_says, slice_index, status_after, subst, sym, tells_unit, true, unit_found, unit_state, ℕ, ◌%◌, ◌+◌, ◌<◌, ◌^◌, ◌∙◌, ◌≡◌, ◌⊎◌}
 use Rattle.mscp_packet.specs.declared.command.Order.TheVariants as orders
 use Rattle.mscp_drive.specs.declared.block.Block.TheVariants as blocks
 use Rattle.mscp_port.specs.declared.verdict.Verdict.TheVariants as verdicts
-use Rattle.mscp_logged.proofs.Describing.{IsAsWas, IsIdentityOf, IsTold, Tells, identity_of, mine, same_volume, sizeless}
+use Rattle.mscp_logged.proofs.Describing.{IsAsWas, IsTold, Tells, same_volume}
 use Rattle.mscp_logged.proofs.Stepped.{IsDecided, IsTelling, formal_telling}
 use Rattle.mscp_logged.proofs.Suited.{formal_opcode}
 use Rattle.mscp_logged.proofs.Texts.{text_with}
-use Rattle.mscp_logged.proofs.Worded.{Reads, describes_so, status_identity, tells_so, text_reads, text_unit}
+use Rattle.mscp_logged.proofs.Worded.{Reads, describes_so, text_reads, text_unit}
 
 -- ---- one that doesn't tell what its unit is
 
 silent : (o : Option Shape) (v : Volume) (a : Answer) → (describes a ≡ true → ⊥) → Tells o v v a
-silent o v a never = record {
-  described = λ is. absurd (never is);
-  told = λ is unsure. absurd (never (or_right (brings a) (tells_unit a) is));
-  stays = λ none is. (is, same_volume v);
-}
+silent o v a never = grind arith
 
 pub silent_told : (u : ℕ) (o : Option Shape) (v : Volume) (text : List ℕ)
     → (describes (answer_by First text) ≡ true → ⊥) → IsTold u o v v text
-silent_told u o v text never = record {
-  own = λ here. silent o v (answer_by First text) never;
-  other = λ here is. (is, same_volume v);
-}
+silent_told u o v text never = grind arith
 
 -- one that describes its unit is told with its own code
 told_plain : (h : Hardware) (units : List Shape) (e : End) (d : Decided)
     → (ends_formality d.code ≡ false → Reads (answer_by First (text_with h units e d)) e.code d.status → ⊥)
     → describes (answer_by First (text_with h units e d)) ≡ true → ⊥
-told_plain h units e d never is = by (text_reads h units e d)
-  where
-    a : Answer
-    a = answer_by First (text_with h units e d)
-
-    by : ((ends_formality d.code ≡ true) × Reads a d.code d.status)
-        ⊎ ((ends_formality d.code ≡ false)
-        × (text_with h units e d ≡ end_with_body e.body e d (unit_found units e.unit) h) × Reads a e.code d.status) → ⊥
-    by (inl x) = formal_telling d.code x.0 (subst (λ c. IsTelling c) x.1.code (describes_so a is).code)
-    by (inr x) = never x.0 x.2
+told_plain h units e d never is = grind (arith, text_reads, formal_telling, describes_so)
 
 -- and with no status that is no Success
 failed : (h : Hardware) (units : List Shape) (e : End) (d : Decided)
@@ -59,27 +42,7 @@ uncoded h units e d never is = told_plain h units e d (λ plain reads. never (su
 -- the code of a status that is no Success, and isn't that of a unit that is available, stays
 bad_after : (v : Volume) (code status : ℕ) → (status % 32 ≡ 0 → ⊥) → (status % 32 ≡ 4 → ⊥)
     → status_after (verdicts.Served blocks.Good) code status v % 32 ≡ 0 → ⊥
-bad_after v code status never other is =
-    by (code == 0x83) (status == 0) refl (status == 4) refl (code == 0x89) (status == 0x0100) refl is
-  where
-    by : (x y : Bool) → (status == 0) ≡ y → (z : Bool) → (status == 4) ≡ z → (s t : Bool) → (status == 0x0100) ≡ t
-        → cond (x && (y || z)) (unit_state v) (cond (s && (y || t)) (cond v.is_mounted 0x0100 0) status) % 32 ≡ 0 → ⊥
-    by x true e z f s t g h = never (ap (λ n. n % 32) (eqb-true status 0 e))
-    by x false e true f s t g h = other (ap (λ n. n % 32) (eqb-true status 4 f))
-    by x false e false f s true g h = never (ap (λ n. n % 32) (eqb-true status 0x0100 g))
-    by true false e false f true false g h = never h
-    by true false e false f false false g h = never h
-    by false false e false f true false g h = never h
-    by false false e false f false false g h = never h
-
--- the state of a unit that is told is Success only if it is online
-pub state_good : (v : Volume) → unit_state v % 32 ≡ 0 → v.is_mounted ≡ true
-state_good v good = by v.is_there v.is_mounted refl good
-  where
-    by : (x y : Bool) → v.is_mounted ≡ y → cond (not x) 0x23 (cond (not y) 4 0) % 32 ≡ 0 → v.is_mounted ≡ true
-    by false y is g = search (arith, g)
-    by true false is g = search (arith, g)
-    by true true is g = is
+bad_after v code status never other is = grind (arith, eqb-true)
 
 -- ---- the end of a command that is aborted
 
@@ -130,36 +93,15 @@ module _ (h : Hardware) (c : Settings) (online : Bool) (figure : ℕ) (sent : Li
       not_good good = elim either [ inl x ↦ search (arith, sym x ∙ good) | inr x ↦ search (arith, sym x ∙ good) ]
 
       not_available : status % 32 ≡ 4 → ⊥
-      not_available good =
-          elim either [ inl x ↦ search (arith, sym x ∙ good) | inr x ↦ search (arith, sym x ∙ good) ]
-
-  coded : (order : Order) → k.order ≡ order → (code : ℕ) → endcode order ≡ code → fault_of c k ≡ None
-      → (IsTelling code → ⊥) → So
-  coded order of code is none never = never_so (uncoded h c.units e d (λ t. never (subst (λ n. IsTelling n)
-      (ap (λ o. (own_end_with c online figure (command_of sent) o).code) none ∙ ap endcode of ∙ is) t)))
+      not_available good = grind (arith, either)
 
   -- that of a GET UNIT STATUS
   module _ (of : k.order ≡ orders.UnitStatus) (none : fault_of c k ≡ None) where
     pub end_is : e ≡ own_end_with c online figure (record (command_of sent) { order = orders.UnitStatus }) None
-    end_is = ap (λ o. own_end_with c online figure (command_of sent) o) none
-        ∙ ap (λ o. own_end_with c online figure (record (command_of sent) { order = o }) None) of
-
-    there : (o : Option Shape) → unit_found c.units k.unit ≡ o → unit_fault o ≡ None
-        → (unit : Shape) × (unit_found c.units k.unit ≡ Some unit)
-    there None found f = search (arith, f)
-    there (Some unit) found f = (unit, found)
-
-    unit_is : (unit : Shape) × (unit_found c.units k.unit ≡ Some unit)
-    unit_is = there (unit_found c.units k.unit) refl
-        (sym (ap (λ o. order_fault c (command_of sent).unit o) of) ∙ none)
-
-    state : (b : Bool) → status_after (verdicts.Served blocks.Good) 0x83 (unit_status b) v ≡ unit_state v
-    state true = refl
-    state false = refl
+    end_is = grind arith
 
     pub state_told : ends_formality d.code ≡ false → d.status ≡ unit_state v
-    state_told plain = decided.status plain
-        ∙ ap (λ (x : End). status_after (verdicts.Served blocks.Good) x.code x.status v) end_is ∙ state online
+    state_told plain = grind arith
 
     tells : Tells (unit_found c.units k.unit) v v (answer_by First text)
     tells = by (text_reads h c.units e d)
@@ -173,55 +115,13 @@ module _ (h : Hardware) (c : Settings) (online : Bool) (figure : ℕ) (sent : Li
             → Tells (unit_found c.units k.unit) v v a
         by (inl x) = silent (unit_found c.units k.unit) v a
             (λ is. formal_telling d.code x.0 (subst (λ n. IsTelling n) x.1.code (describes_so a is).code))
-        by (inr x) = record {
-          described = λ is. subst (λ o. IsIdentityOf o v a.identity)
-              (sym unit_is.1) (inr (identity (sym x.2.low ∙ (describes_so a is).good)));
-          told = λ is unsure. (
-            state_good v (ap (λ n. n % 32) (sym (state_told x.0)) ∙ sym x.2.low ∙ (tells_so a is unsure).0),
-            same_volume v,
-          );
-          stays = λ brings is. (is, same_volume v);
-        }
-          where
-            code : e.code ≡ 0x83
-            code = ap (λ (x : End). x.code) end_is
-
-            unit : e.unit ≡ k.unit
-            unit = ap (λ (x : End). x.unit) end_is
-
-            shape : Shape
-            shape = unit_shape c k.unit
-
-            identity : d.status % 32 ≡ 0 → a.identity ≡ Some (sizeless (identity_of unit_is.0 v))
-            identity good = ap (λ b. (answer_by First b).identity) (x.1
-                ∙ ap (λ o. end_with_body e.body e d o h) (ap (unit_found c.units) unit ∙ unit_is.1)
-                ∙ ap (λ b. end_with_body b e d (Some unit_is.0) h) (ap (λ (y : End). y.body) end_is))
-                ∙ status_identity shape.id shape.media shape.track shape.group shape.cylinder e d unit_is.0 h code good
-                ∙ ap (λ m. Some (record {
-                  identifier = num (little_bytes 8 unit_is.0.id) 0 8;
-                  media = num (little_bytes 4 m) 0 4;
-                  size = None;
-                })) (decided.media unit_is.0 (ap (unit_found c.units) unit ∙ unit_is.1)
-                (ap (λ n. n == 0x84) code))
-
-    status_so : So
-    status_so u = record { own = λ here. own here; other = λ here is. (is, same_volume (volume u)) }
-      where
-        own : mine u text ≡ true → Tells (unit_found c.units u) (volume u) (volume u) (answer_by First text)
-        own here = subst (λ n. Tells (unit_found c.units n) (volume n) (volume n) (answer_by First text))
-            (sym (text_unit h c.units e d (subst (λ n. n < 2 ^ 16) (sym (ap (λ (x : End). x.unit) end_is)) small)
-            ∙ ap (λ (x : End). x.unit) end_is) ∙ eqb-true (num text 4 2) u here) tells
+        by (inr x) = grind arith
 
   pub reply_told : So
   reply_told = by (fault_of c k) refl
     where
       open_so : fault_of c k ≡ None → (order : Order) → k.order ≡ order → So
-      open_so none orders.UnitStatus of = status_so of none
-      open_so none (orders.Abort other) of = coded (orders.Abort other) of 0x81 refl none (λ t. search (arith, t))
-      open_so none (orders.Status other) of = coded (orders.Status other) of 0x82 refl none (λ t. search (arith, t))
-      open_so none (orders.SetController version) of =
-          coded (orders.SetController version) of 0x84 refl none (λ t. search (arith, t))
-      open_so none order of = search (arith, of, none, immediate)
+      open_so none order of = grind (arith, same_volume, text_unit, end_is, eqb-true, tells, never_so, uncoded, of)
 
       by : (o : Option ℕ) → fault_of c k ≡ o → So
       by None none = open_so none k.order refl
@@ -238,10 +138,7 @@ own_silent v b = own_cases v b (λ own. describes (answer_by First (own_text b o
     (λ status moves past. by status past)
   where
     by : (status : ℕ) → IsPast status → describes (answer_by First (own_text b (own_refused b status))) ≡ true → ⊥
-    by status (inl e) = subst (λ n. describes (answer_by First (own_text b (own_refused b n))) ≡ true → ⊥) (sym e)
-        (λ is. search (arith, (describes_so (answer_by First (own_text b (own_refused b 0x1C01))) is).good))
-    by status (inr e) = subst (λ n. describes (answer_by First (own_text b (own_refused b n))) ≡ true → ⊥) (sym e)
-        (λ is. search (arith, (describes_so (answer_by First (own_text b (own_refused b 0x0C01))) is).good))
+    by status x = grind arith
 
 pub own_told : (u : ℕ) (o : Option Shape) {v w : Volume} (x : Option Volume) (b : List ℕ) (own : Own)
     → own_answer false x b ≡ Some own → IsAsWas v w → IsTold u o v w (own_text b own)

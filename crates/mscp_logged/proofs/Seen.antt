@@ -1,19 +1,16 @@
 -- What a port's log shows: the ends in it are those that go out, and each answers a command that is outstanding.
-use Rattle.mscp_logged.proofs.Common.{Bool, Call, List, None, Option, Outgoing, Port, ReadsBytes, Some, Stage, WasRead, WriteIp, [], ap, arith, begins, cond, false, inl, inr, is_dead, is_foreign, map, message_of, refl, since, sym, true, ℕ, ◌++◌, ◌∙◌, ◌∷◌, ◌≡◌, ◌≢◌, ◌⊎◌}
+use Rattle.mscp_logged.proofs.Common.{Call, List, None, Option, Outgoing, Port, ReadsBytes, Some, Stage, WriteIp, [], ap, arith, begins, cond, is_dead, is_foreign, map, message_of, since, sym, true, ℕ, ◌++◌, ◌∙◌, ◌∷◌, ◌≡◌, ◌≢◌, ◌⊎◌}
 
 -- ---- since all was forgotten
 
 pub is_reset : (call : Call) → (call ≡ WriteIp) ⊎ (call ≢ WriteIp)
-is_reset WriteIp = inl refl
-is_reset call = inr (λ e. search (arith, e))
+is_reset call = grind arith
 
 pub since_reset : {X : Type 0} (s : Stage) (call : Call) (xs ys : List X) → call ≡ WriteIp → since s call xs ys ≡ []
-since_reset s WriteIp xs ys e = refl
-since_reset s call xs ys e = search (arith, e)
+since_reset s call xs ys e = grind arith
 
 pub since_dead : {X : Type 0} (s : Stage) (call : Call) (xs ys : List X) → is_dead s ≡ true → since s call xs ys ≡ []
-since_dead s WriteIp xs ys dead = refl
-since_dead s call xs ys dead = ap (λ b. cond b [] (xs ++ ys)) dead
+since_dead s call xs ys dead = grind arith
 
 -- ---- what is held
 
@@ -38,12 +35,7 @@ begun_none old new o none some e =
 module _ {K : Type 0} (call : Call) (old : Port K) where
   pub no_message : (accepted : List (List ℕ)) → accepted ≡ []
       → cond (is_foreign old.task) [] (map message_of accepted) ≡ []
-  no_message accepted e = ap (λ ts. cond (is_foreign old.task) [] (map message_of ts)) e ∙ by (is_foreign old.task)
-    where
-      by : (b : Bool) → cond b [] (map message_of []) ≡ []
-      by true = refl
-      by false = refl
+  no_message accepted e = grind arith
 
 pub reads_before : (call : Call) (calls : List Call) → ReadsBytes (call ∷ calls) → ReadsBytes calls
-reads_before (WasRead bytes result) calls reads = reads.1
-reads_before call calls reads = reads
+reads_before call calls reads = grind arith

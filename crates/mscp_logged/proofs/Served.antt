@@ -1,5 +1,5 @@
 -- The end that a step gives to the host tells of its unit what is so, and says whether that is online as that is so.
-use Rattle.mscp_logged.proofs.Common.{Block, Bool, Buffer, Command, Decided, Drive, End, Ended, First, FitsBuffer, Hardware, IsBegunStep, IsFaultTold, IsHow, IsOf, IsPlainEnd, List, Name, Order, Outcome, Port, Record, Settings, Shape, Some, Verdict, Volume, [], answer_by, ap, arith, block_told, brought_for, code_told, cond, decided_by, decided_code, drive_after, drive_of, end_given, endcode, ends_formality, eq-eqb, eqb-true, false, false≢true, filter, find, given_of, has_name, inl, inr, is_formality, is_good_block, is_immediate, is_of, is_some, is_success, kept_of, kept_one, moved_by, num, one_ended, queued_open, refl, replaced, state_after, state_left, subst, sym, touched, touches, true, unit_found, valid_order, volume_found, volumes_after, ℕ, ◌%◌, ◌&&◌, ◌+◌, ◌<◌, ◌^◌, ◌∙◌, ◌∷◌, ◌≡◌, ◌≢◌, ◌⊎◌}
+use Rattle.mscp_logged.proofs.Common.{Block, Bool, Buffer, Decided, Drive, End, Ended, First, FitsBuffer, Hardware, IsBegunStep, IsFaultTold, IsHow, IsOf, IsPlainEnd, List, Name, Order, Outcome, Port, Record, Settings, Shape, Some, Verdict, Volume, [], answer_by, ap, arith, block_told, brought_for, code_told, cond, decided_by, decided_code, drive_after, drive_of, end_given, endcode, ends_formality, eq-eqb, eqb-true, false, false≢true, filter, find, given_of, has_name, inl, inr, is_formality, is_good_block, is_of, is_some, is_success, kept_of, kept_one, moved_by, num, one_ended, queued_open, refl, replaced, state_left, subst, sym, touched, touches, true, unit_found, valid_order, volume_found, volumes_after, ℕ, ◌%◌, ◌&&◌, ◌+◌, ◌<◌, ◌^◌, ◌∙◌, ◌∷◌, ◌≡◌, ◌⊎◌}
 use Rattle.mscp_logged.proofs.Bytes.{handed_small, stood_code}
 use Rattle.mscp_logged.proofs.Describing.{IsAsWas, IsTold, mine, Tells}
 use Rattle.mscp_logged.proofs.Made.{given_is}
@@ -80,23 +80,18 @@ module _ {c : Settings} {K : Type 0} {outcome : Outcome} {verdict : Verdict} {ol
       }
 
   small : e.unit < 2 ^ 16
-  small = subst (λ m. m < 2 ^ 16) (sym (plain.unit ∙ ap (λ (y : Command). y.unit) of.command))
-      (handed_small of.settings.units s.message of.message.long of.message.small)
+  small = grind (arith, plain, of, handed_small)
 
   names : num text 4 2 ≡ e.unit
   names = text_unit h c.units e made small
 
   -- the volume of a unit
   heeded_so : (u : ℕ) → Heeded c.units old.buffers.items First old.volumes (Some e) u (V u) (W u)
-  heeded_so u = subst (λ ws. Heeded c.units old.buffers.items First old.volumes (Some e) u (V u)
-      (volume_found c.units ws u)) (sym s.volumes) (heeded c.units old.buffers.items First old.volumes (Some e) u)
+  heeded_so u = rw s.volumes (heeded c.units old.buffers.items First old.volumes (Some e) u)
 
   mounted : (W e.unit).is_mounted ≡ true
       → ((V e.unit).is_mounted ≡ true) ⊎ ((e.code ≡ 0x89) × (e.status % 32 ≡ 0))
-  mounted on = elim ((heeded_so e.unit).1 on) [
-    | inl y ↦ inl y.0
-    | inr y ↦ let q = one_ended First 0x89 e.unit e y in inr (q.0, q.2)
-  ]
+  mounted on = grind (arith, heeded_so, one_ended)
 
   -- it isn't a formality's, or its command has the code of what stands in for one
   formal : ends_formality made.code ≡ true → e.code ≡ 0x90
@@ -109,10 +104,8 @@ module _ {c : Settings} {K : Type 0} {outcome : Outcome} {verdict : Verdict} {ol
           ∙ kept_one r.command.reference old.buffers.items s.buffer s.kept)
 
       by : (y : Bool) → is_formality s.buffer.opcode ≡ y → e.code ≡ 0x90
-      by true z = plain.code ∙ ap (λ (y : Command). endcode y.order) of.command
-          ∙ stood_code of.settings.units s.message of.message.long (ap is_formality (sym s.fits.opcode) ∙ z)
-      by false z = absurd (given_plain r.command.order d.online verdict e its_end
-          (ap ends_formality (sym (is_code ∙ ap (λ y. cond y (s.buffer.opcode + 0x80) e.code) z)) ∙ formality))
+      by true z = grind (arith, plain, of, stood_code)
+      by false z = grind (arith, given_plain, its_end, is_code)
 
   decided : IsDecided c.units verdict (V e.unit) (W e.unit) e made
   decided = subst (λ x. IsDecided c.units verdict (volume_found x.units old.volumes e.unit) (W e.unit) e made)
@@ -127,9 +120,7 @@ module _ {c : Settings} {K : Type 0} {outcome : Outcome} {verdict : Verdict} {ol
   moves = is_some (moved_by r.command.order (touched d r))
 
   sure : IsSure moves (V e.unit) verdict
-  sure = subst (λ m. IsSure moves (volume_found c.units old.volumes m) verdict) (sym plain.unit)
-      (subst (λ x. IsSure moves (volume_found x.units old.volumes r.command.unit) verdict) s.settings
-      (told_sure old outcome s.begun s.name s.was r s.here verdict s.how))
+  sure = rw plain.unit (rw (← s.settings) (told_sure old outcome s.begun s.name s.was r s.here verdict s.how))
 
   -- ---- what it tells
 
@@ -140,13 +131,7 @@ module _ {c : Settings} {K : Type 0} {outcome : Outcome} {verdict : Verdict} {ol
 
   -- of another unit it tells nothing
   apart : (u : ℕ) → mine u text ≡ false → IsAsWas (V u) (W u)
-  apart u other on =
-      let z = heeded_so u in
-      elim (z.1 on) [
-        | inl y ↦ (y.0, z.0)
-        | inr y ↦ absurd (false≢true (sym other ∙ eq-eqb (num text 4 2) u
-            (names ∙ (one_ended First 0x89 u e y).1)))
-      ]
+  apart u other on = grind (arith, heeded_so, false≢true, eq-eqb, names, one_ended)
 
   unit_is : (u : ℕ) → mine u text ≡ true → e.unit ≡ u
   unit_is u here = sym names ∙ eqb-true (num text 4 2) u here
@@ -167,8 +152,7 @@ module _ {c : Settings} {K : Type 0} {outcome : Outcome} {verdict : Verdict} {ol
     says : IsFaultTold outcome → Says (V e.unit) (W e.unit) (answer_by First text)
     says fault = step_says h c.units verdict d.online r.done (V e.unit) (W e.unit) e made r.command.order its_end
         decided sure (told_fine old outcome fault s.begun s.name s.was r s.here verdict s.how).0
-        (λ on. subst (λ m. (drive_of old.controller.drives m).online ≡ true) plain.unit (driven e.unit on)) mounted left
-        tells.stays
+        (λ on. rw (← plain.unit) (driven e.unit on)) mounted left tells.stays
 
     pub served_placed : IsFaultTold outcome → (u : ℕ) → IsPlaced u (V u) (W u) text
     served_placed fault u = record {
@@ -178,20 +162,9 @@ module _ {c : Settings} {K : Type 0} {outcome : Outcome} {verdict : Verdict} {ol
 
     -- ---- and the controller's drive
 
-    is_online : (order : Order) → is_immediate order ≡ false → ((byte why : ℕ) → order ≢ orders.Invalid byte why)
-        → endcode order ≡ 0x89 → order ≡ orders.Online
-    is_online orders.Online waits valid code = refl
-    is_online orders.SetUnit waits valid code = search (arith, code)
-    is_online orders.Available waits valid code = search (arith, code)
-    is_online (orders.Move kind count block) waits valid code = grind (arith, code)
-    is_online (orders.Invalid byte why) waits valid code = absurd (valid byte why refl)
-    is_online order waits valid code = search (arith, waits)
-
     goes_online : e.code ≡ 0x89 → e.status % 32 ≡ 0 → (online : Bool)
         → state_left online r.command.order (Some e) ≡ true
-    goes_online code good online = ap (λ o. state_after online o e.status)
-        (is_online r.command.order its_end.waits its_end.valid (sym its_end.code ∙ code))
-        ∙ ap (λ b. cond b true online) (eq-eqb (e.status % 32) 0 good)
+    goes_online code good online = grind (arith, its_end)
 
     stays_online : (order : Order) → order ≡ r.command.order → (u : ℕ) → (W u).is_mounted ≡ true
         → r.command.unit ≡ u → state_left true order (Some e) ≡ true
@@ -202,12 +175,7 @@ module _ {c : Settings} {K : Type 0} {outcome : Outcome} {verdict : Verdict} {ol
         by true x = absurd (false≢true (sym (ap (λ vs. (volume_found c.units vs u).is_mounted) s.volumes
             ∙ available_off c.units old.buffers.items First old.volumes e u
             (its_end.code ∙ ap endcode (sym is)) (eqb-true (e.status % 32) 0 x) (plain.unit ∙ same)) ∙ on))
-    stays_online orders.Online is u on same = by (is_success e.status)
-      where
-        by : (b : Bool) → cond b true true ≡ true
-        by false = refl
-        by true = refl
-    stays_online order is u on same = refl
+    stays_online order is u on same = grind arith
 
     pub served_driven : ((u : ℕ) (unit : Shape) → unit_found c.units u ≡ Some unit
         → (x : Drive) × (find (has_number u) old.controller.drives ≡ Some x))

@@ -1,5 +1,5 @@
 -- What ends that come tell of units, and so what is known of those goes on.
-use Rattle.mscp_logged.proofs.Common.{Hardware, Identity, List, Option, Port, Shape, Volume, [], append-nil, append_assoc, subst, sym, unit_found, volume_found, ℕ, ◌++◌, ◌∷◌, ◌≡◌}
+use Rattle.mscp_logged.proofs.Common.{Hardware, Identity, List, Option, Port, Shape, Volume, [], append-nil, append_assoc, unit_found, volume_found, ℕ, ◌++◌, ◌∷◌, ◌≡◌}
 use Rattle.mscp_logged.proofs.Away.{IsPlaced, Placed, placed_more, placed_still}
 use Rattle.mscp_logged.proofs.Describing.{IsAsWas, IsTold, Known, known_more, known_still}
 use Rattle.mscp_logged.proofs.Texts.{waiting}
@@ -22,19 +22,15 @@ pub record Speaks (h : Hardware) (units : List Shape) (F : Type 0) {K : Type 0} 
 -- what is known of a unit goes on
 pub known_goes : (u : ℕ) (o : Option Shape) (v w : Volume) (told : Option Identity) (qs more : List (List ℕ))
     → Each (IsTold u o) v w more → Known u o v told qs → Known u o w told (qs ++ more)
-known_goes u o v w told qs [] each k =
-    subst (λ xs. Known u o w told xs) (sym (append-nil qs)) (known_still u o v w each told qs k)
+known_goes u o v w told qs [] each k = rw (append-nil qs) (known_still u o v w each told qs k)
 known_goes u o v w told qs (q ∷ []) each k = known_more u o v w q each told qs k
-known_goes u o v w told qs (q ∷ r ∷ more) each k =
-    subst (λ xs. Known u o w told xs) (append_assoc qs (q ∷ []) (r ∷ more))
+known_goes u o v w told qs (q ∷ r ∷ more) each k = rw (← append_assoc qs (q ∷ []) (r ∷ more))
     (known_goes u o v w told (qs ++ q ∷ []) (r ∷ more) each.1 (known_more u o v v q each.0 told qs k))
 
 -- and so does whether it is online
 pub placed_goes : (u : ℕ) (v w : Volume) (told : Option (Unit {0})) (qs more : List (List ℕ))
     → Each (IsPlaced u) v w more → Placed u v told qs → Placed u w told (qs ++ more)
-placed_goes u v w told qs [] each k =
-    subst (λ xs. Placed u w told xs) (sym (append-nil qs)) (placed_still u v w each told qs k)
+placed_goes u v w told qs [] each k = rw (append-nil qs) (placed_still u v w each told qs k)
 placed_goes u v w told qs (q ∷ []) each k = placed_more u v w q each told qs k
-placed_goes u v w told qs (q ∷ r ∷ more) each k =
-    subst (λ xs. Placed u w told xs) (append_assoc qs (q ∷ []) (r ∷ more))
+placed_goes u v w told qs (q ∷ r ∷ more) each k = rw (← append_assoc qs (q ∷ []) (r ∷ more))
     (placed_goes u v w told (qs ++ q ∷ []) (r ∷ more) each.1 (placed_more u v v q each.0 told qs k))

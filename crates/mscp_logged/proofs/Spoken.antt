@@ -1,5 +1,5 @@
 -- By a step the end that comes tells of its unit what is so, and each other unit stays as it is.
-use Rattle.mscp_logged.proofs.Common.{Block, Bool, Connection, Drive, End, Ended, First, FitsBuffer, Fitting, Goes, Hardware, Holdings, IsBegunStep, IsFaultTold, IsHow, IsPlainEnd, Kept, List, None, Ok, Option, Order, Outcome, Port, Record, Second, Serves, Settings, Shape, Some, Verdict, Volume, [], ap, append-nil, arith, block_told, brought_for, cond, controller, decided_by, drive_after, drive_in, drive_of, end_served, endcode, ends_of, eqb-true, false, false≢true, find, given_of, inl, inr, is_dead, is_some, is_success, length, map, of, record_at, refl, replaced, served_found, served_own, serves_grow, state_left, subst, sym, true, unit_found, volume_found, volumes_after, went_is, ℕ, ◌%◌, ◌++◌, ◌∙◌, ◌∷◌, ◌≡◌, ◌≤◌}
+use Rattle.mscp_logged.proofs.Common.{Block, Bool, Connection, Drive, End, Ended, First, FitsBuffer, Fitting, Goes, Hardware, IsBegunStep, IsFaultTold, IsHow, IsPlainEnd, Kept, List, None, Ok, Option, Order, Outcome, Port, Record, Second, Serves, Settings, Shape, Some, Verdict, Volume, [], ap, append-nil, arith, block_told, brought_for, cond, controller, decided_by, drive_after, drive_in, drive_of, end_served, endcode, ends_of, eqb-true, false, false≢true, find, given_of, inl, inr, is_dead, is_some, is_success, length, map, of, record_at, refl, replaced, served_found, served_own, serves_grow, state_left, subst, sym, true, unit_found, volume_found, volumes_after, went_is, ℕ, ◌%◌, ◌++◌, ◌∙◌, ◌∷◌, ◌≡◌, ◌≤◌}
 use Rattle.mscp_logged.proofs.Describing.{IsAsWas}
 use Rattle.mscp_logged.proofs.Moored.{Heeded, available_off, found_as, heeded, volumes_still}
 use Rattle.mscp_logged.proofs.Ordering.{OrderedIn}
@@ -37,23 +37,7 @@ module _ {c : Settings} {Told : Verdict → Record → Type 0} {K : Type 0} (pic
   now = r.settings ∙ settings
 
   none_so : new.volumes ≡ old.volumes → new.controller ≡ old.controller → new.decided.items ≡ old.decided.items → So
-  none_so volumes controller decided = (
-    [],
-    (
-      record {
-        behind = ap (λ (x : Holdings K). texts_of h c.units (ends_of x) new.decided.items) controller
-            ∙ ap (texts_of h c.units (ends_of old.controller)) decided
-            ∙ sym (append-nil (waiting h c.units old));
-        told = still;
-        placed = λ f. still;
-      },
-      driven_as c.units old.volumes new.volumes old.controller.drives new.controller.drives
-          (ap (λ (x : Holdings K). x.drives) controller) (λ u on. (still u on).0) driven,
-    ),
-  )
-    where
-      still : (u : ℕ) → IsAsWas (V u) (W u)
-      still u = found_as c.units u old.volumes new.volumes (volumes_still old new volumes)
+  none_so volumes controller decided = grind (arith, append-nil, driven_as, found_as, volumes_still)
 
   module _ (verdict : Verdict) (how : IsHow old outcome verdict) (s : Serves verdict old new) where
     abbrev r0 : Record
@@ -111,7 +95,6 @@ module _ {c : Settings} {Told : Verdict → Record → Type 0} {K : Type 0} (pic
         where
           by : (y : Option End) → ended ≡ y → (order : Order) → r0.command.order ≡ order
               → state_left true order y ≡ true
-          by None e order of = refl
           by (Some end) e orders.Available of = off (is_success end.status) refl
             where
               plain : IsPlainEnd r0 end
@@ -124,12 +107,7 @@ module _ {c : Settings} {Told : Verdict → Record → Type 0} {K : Type 0} (pic
                   settings ∙ ap (λ y. volumes_after c.units old.buffers.items r0.connection y old.volumes) e)
                   ∙ available_off c.units old.buffers.items r0.connection old.volumes end u
                   (plain.code ∙ ap endcode of) (eqb-true (end.status % 32) 0 z) (plain.unit ∙ own)) ∙ on))
-          by (Some end) e orders.Online of = on_success (is_success end.status)
-            where
-              on_success : (c : Bool) → cond c true true ≡ true
-              on_success false = refl
-              on_success true = refl
-          by (Some end) e order of = refl
+          by y e order of = grind arith
 
       driven_so : AreDriven c.units new.volumes new.controller.drives
       driven_so u on = subst (λ ds. (drive_of ds u).online ≡ true) (sym (s.drives
@@ -175,8 +153,7 @@ module _ {c : Settings} {Told : Verdict → Record → Type 0} {K : Type 0} (pic
       )
 
       some_unit : (y : Option Shape) → is_some y ≡ true → (unit : Shape) × (y ≡ Some unit)
-      some_unit None z = search (arith, z)
-      some_unit (Some unit) z = (unit, refl)
+      some_unit y z = grind arith
 
       comes_so : So
       comes_so =

@@ -1,8 +1,7 @@
 -- What is known of a log: each end in it has a tie to the command that it answers.
-use Rattle.mscp_logged.proofs.Common.{AllByRecursion, Bool, First, History, IsRight, List, Moment, None, Option, Outgoing, OutgoingKind, Rule, Said, Sent, Some, [], aborts, aborts_behind, answer_by, ap, append-nil, arith, begins, broken_message, command_at, cond, drop, each_push, end_of, end_said, ends_in, eq-eqb, eqb-true, false, filter, filter-append, flat_map, get_or_append_left, has_number, is_new, leaves, length, length-append, list_any, map, message_of, moment_at, nat_eq, not, num, option_to_list, outstanding, passes_none, place_of, refl, said_in, sent_by, slice_index_or, some_none, subst, sym, take, take-append-le, true, unless, ℕ, ◌%◌, ◌++◌, ◌+◌, ◌<◌, ◌∙◌, ◌∷◌, ◌≡◌}
+use Rattle.mscp_logged.proofs.Common.{AllByRecursion, Bool, First, History, IsRight, List, Moment, None, Option, Outgoing, OutgoingKind, Said, Sent, Some, [], aborts, aborts_behind, answer_by, ap, append-nil, arith, begins, command_at, cond, drop, each_push, end_of, end_said, ends_in, eq-eqb, false, filter, filter-append, flat_map, get_or_append_left, has_number, is_new, leaves, length, length-append, list_any, map, message_of, moment_at, nat_eq, not, num, option_to_list, outstanding, passes_none, place_of, refl, said_in, sent_by, slice_index_or, subst, sym, take, take-append-le, true, ℕ, ◌%◌, ◌++◌, ◌+◌, ◌<◌, ◌∙◌, ◌∷◌, ◌≡◌}
 use Rattle.mscp_port.specs.declared.port.OutgoingKind.TheVariants as kinds
 use Rattle.mscp_wire.specs.declared.moment.Moment.TheVariants as moments
-use Rattle.mscp_wire.specs.declared.rule.Rule.TheVariants as rules
 use Rattle.mscp_logged.proofs.Left.{at_front, end_leaves}
 use Rattle.mscp_logged.proofs.Lined.{AreLate, AreLined, all_left, late_more, left_by, lined_behind, lined_left, lined_map, lined_more, without_held}
 use Rattle.mscp_logged.proofs.Passes.{keeps, overtakes}
@@ -17,41 +16,20 @@ module _ {X : Type 0} (R : List X → X → Type 0) (d : X) where
   Each xs = (i : ℕ) → i < length xs → R (take i xs) (slice_index_or xs i d)
 
   pub each_front : (xs ys : List X) → Each (xs ++ ys) → Each xs
-  each_front xs ys each i low = subst (λ x. R (take i xs) x) (get_or_append_left xs ys d i low)
-      (subst (λ zs. R zs (slice_index_or (xs ++ ys) i d)) (take-append-le i xs ys (search (arith, low)))
-      (each i (search (arith, low, length-append xs ys))))
+  each_front xs ys each i low = grind (arith, get_or_append_left, take-append-le, length-append)
 
   pub each_at : (xs : List X) (x : X) (ys : List X) → Each (xs ++ x ∷ ys) → R xs x
-  each_at xs x ys each = subst (λ z. R xs z) (at_front xs x ys d)
-      (subst (λ zs. R zs (slice_index_or (xs ++ x ∷ ys) (length xs) d)) (front_of xs x ys)
-      (each (length xs) (search (arith, length-append xs (x ∷ ys)))))
+  each_at xs x ys each = rw (← at_front xs x ys d) (subst (λ zs. R zs (slice_index_or (xs ++ x ∷ ys) (length xs) d))
+      (front_of xs x ys) (each (length xs) (search (arith, length-append xs (x ∷ ys)))))
 
 -- a host's right message has a new number
 pub right_new : (credits : Option ℕ) (h : History) (t : List ℕ) → IsRight credits h (message_of t)
     → is_new (outstanding h) (sent_by First t) ≡ true
-right_new credits h t e = by (Rattle.mscp_wire.specs.Wire.is_message t) e
-  where
-    new : (b : Bool) (rest : Option Rule) → unless b rules.Number rest ≡ None → b ≡ true
-    new true rest x = refl
-    new false rest x = search (arith, x)
-
-    by : (b : Bool) → unless b rules.Message (broken_message credits (outstanding h) (sent_by First t)) ≡ None
-        → is_new (outstanding h) (sent_by First t) ≡ true
-    by true x = new (is_new (outstanding h) (sent_by First t)) _ x
-    by false x = search (arith, x)
+right_new credits h t e = grind arith
 
 pub new_none : (xs : List Sent) (t : List ℕ) → is_new xs (sent_by First t) ≡ true
     → filter (named (num t 0 4)) xs ≡ []
-new_none xs t e = none_any (named (num t 0 4)) xs (isnt _ e)
-  where
-    isnt : (b : Bool) → not b ≡ true → b ≡ false
-    isnt true h = search (arith, h)
-    isnt false h = refl
-
-none_left_by : (kind : OutgoingKind) (n : ℕ) (xs : List Sent) → (kind ≡ kinds.End → ⊥) → left_by kind n xs ≡ xs
-none_left_by kinds.Attention n xs never = refl
-none_left_by kinds.UtilitiesEnd n xs never = refl
-none_left_by kinds.End n xs never = absurd (never refl)
+new_none xs t e = grind (arith, none_any)
 
 module _ (Tie : List ℕ → List ℕ → Type 0) (G O : Type 0) where
   -- an end answers the command of a message at a place, and has its tie to that
@@ -77,14 +55,12 @@ module _ (Tie : List ℕ → List ℕ → Type 0) (G O : Type 0) where
     pub turned : AreTurned O (outstanding h) held
 
   pub nothing_stated : Wired Tie [] [] [] → Stated [] [] []
-  nothing_stated w =
-      record { each = λ i low. search (arith, low); wired = w; lined = tt; late = tt; turned = tt }
+  nothing_stated w = grind arith
 
   module _ (h : History) (aw : List (List ℕ)) where
     pub as_it_is : (h' : History) (aw' : List (List ℕ)) (held held' : List Said) → h' ≡ h → aw' ≡ aw → held' ≡ held
         → Stated h aw held → Stated h' aw' held'
-    as_it_is h' aw' held held' e f g s = subst (λ x. Stated x aw' held') (sym e)
-        (subst (λ x. Stated h x held') (sym f) (subst (λ x. Stated h aw x) (sym g) s))
+    as_it_is h' aw' held held' e f g s = grind arith
 
     -- a message comes
     pub takes : (held : List Said) (t : List ℕ) → Stated h aw held → is_new (outstanding h) (sent_by First t) ≡ true
@@ -93,12 +69,9 @@ module _ (Tie : List ℕ → List ℕ → Type 0) (G O : Type 0) where
       each = each_push moments.Reset IsSeen h (message_of t) s.each tt;
       wired = subst (λ xs. Wired Tie xs (aw ++ t ∷ []) held) (sym (outstanding_more h (message_of t)))
           (message_taken Tie (outstanding h) aw t _ refl (new_none (outstanding h) t new) held s.wired);
-      lined = subst (λ xs. AreLined (without_held held xs) (aw ++ t ∷ [])) (sym (outstanding_more h (message_of t)))
-          (by held s.wired.owed s.lined _ refl);
-      late = subst (λ xs. AreLate G xs held) (sym (outstanding_more h (message_of t)))
-          (late_more G (outstanding h) _ held s.late);
-      turned = subst (λ xs. AreTurned O xs held) (sym (outstanding_more h (message_of t)))
-          (turned_by held s.wired.owed s.turned _ refl);
+      lined = rw (outstanding_more h (message_of t)) (by held s.wired.owed s.lined _ refl);
+      late = rw (outstanding_more h (message_of t)) (late_more G (outstanding h) _ held s.late);
+      turned = rw (outstanding_more h (message_of t)) (turned_by held s.wired.owed s.turned _ refl);
     }
       where
         xs : List Sent
@@ -106,19 +79,12 @@ module _ (Tie : List ℕ → List ℕ → Type 0) (G O : Type 0) where
 
         apart : (n : ℕ) (own : Sent) → filter (named n) xs ≡ own ∷ [] → (b : Bool) → nat_eq (num t 0 4) n ≡ b
             → b ≡ false
-        apart n own sole true e = absurd (some_none own [] (sym sole
-            ∙ subst (λ k. filter (named k) xs ≡ []) (eqb-true (num t 0 4) n e) (new_none xs t new)))
-        apart n own sole false e = refl
+        apart n own sole b e = grind (arith, new_none)
 
         beside : (kind : OutgoingKind) (n : ℕ) → (kind ≡ kinds.End → nat_eq (num t 0 4) n ≡ false) → (x : Sent)
             → stem x ≡ sent_by First t → AreLined (left_by kind n xs) aw
             → AreLined (left_by kind n (xs ++ x ∷ [])) (aw ++ t ∷ [])
-        beside kinds.Attention n other x is all = lined_more xs aw x t all is
-        beside kinds.UtilitiesEnd n other x is all = lined_more xs aw x t all is
-        beside kinds.End n other x is all = subst (λ zs. AreLined zs (aw ++ t ∷ []))
-            (sym (filter-append (λ y. not (named n y)) xs (x ∷ [])
-            ∙ ap (λ b. filter (λ y. not (named n y)) xs ++ cond (not b) (x ∷ []) []) (ap (named n) is ∙ other refl)))
-            (lined_more (filter (λ y. not (named n y)) xs) aw x t all is)
+        beside kind n other x is all = grind (arith, lined_more, filter-append)
 
         by : (held : List Said) → AreOwed Tie xs aw held → AreLined (without_held held xs) aw → (x : Sent)
             → stem x ≡ sent_by First t → AreLined (without_held held (xs ++ x ∷ [])) (aw ++ t ∷ [])
@@ -143,8 +109,7 @@ module _ (Tie : List ℕ → List ℕ → Type 0) (G O : Type 0) where
       each = each_push moments.Reset IsSeen h (message_of t) s.each tt;
       wired = subst (λ xs. Wired Tie xs aw (o ∷ [])) (sym (outstanding_more h (message_of t)))
           (message_answered Tie (outstanding h) aw t _ refl (new_none (outstanding h) t new) o s.wired same tie);
-      lined = subst (λ xs. AreLined (left_by o.kind (num o.text 0 4) xs) aw) (sym (outstanding_more h (message_of t)))
-          (here _ refl);
+      lined = rw (outstanding_more h (message_of t)) (here _ refl);
       late = ((λ kind g aborted. absurd (never g aborted)), tt);
       turned = subst (λ xs. AreTurned O xs (o ∷ [])) (sym (outstanding_more h (message_of t)))
           ((λ kind g. turn_new (outstanding h) aw o.text t _ refl none s.lined (free g)), tt);
@@ -158,16 +123,14 @@ module _ (Tie : List ℕ → List ℕ → Type 0) (G O : Type 0) where
 
         by : (x : Sent) → stem x ≡ sent_by First t
             → AreLined (filter (λ y. not (named (num o.text 0 4) y)) (xs ++ x ∷ [])) aw
-        by x is = subst (λ zs. AreLined zs aw) (sym (filter-append (λ y. not (named (num o.text 0 4) y)) xs (x ∷ [])
-            ∙ ap (λ zs. zs ++ filter (λ y. not (named (num o.text 0 4) y)) (x ∷ []))
-            (all_left (named (num o.text 0 4)) xs none)
-            ∙ ap (λ b. xs ++ cond (not b) (x ∷ []) []) (ap (named (num o.text 0 4)) is
-            ∙ eq-eqb (num t 0 4) (num o.text 0 4) (sym same)) ∙ append-nil xs)) s.lined
+        by x is = rw (filter-append (λ y. not (named (num o.text 0 4) y)) xs (x ∷ [])
+            ∙ ap (λ zs. zs ++ filter (λ y. not (named (num o.text 0 4) y)) (x ∷ [])) (all_left (named (num o.text 0 4))
+            xs none) ∙ ap (λ b. xs ++ cond (not b) (x ∷ []) []) (ap (named (num o.text 0 4)) is ∙ eq-eqb (num t 0 4)
+            (num o.text 0 4) (sym same)) ∙ append-nil xs) s.lined
 
         here : (x : Sent) → stem x ≡ sent_by First t
             → AreLined (left_by o.kind (num o.text 0 4) (outstanding h ++ x ∷ [])) aw
-        here x is =
-            subst (λ k. AreLined (left_by k (num o.text 0 4) (outstanding h ++ x ∷ [])) aw) (sym kind) (by x is)
+        here x is = rw kind (by x is)
 
     -- something begins to go out
     pub begins_end : (o : Said) (m : List ℕ) → Stated h aw [] → filter (has_number (num o.text 0 4)) aw ≡ m ∷ []
@@ -178,9 +141,7 @@ module _ (Tie : List ℕ → List ℕ → Type 0) (G O : Type 0) where
     begins_end o m s only tie kind late turn = record {
       each = s.each;
       wired = end_begins Tie (outstanding h) aw o m s.wired only tie;
-      lined = subst (λ k. AreLined (left_by k (num o.text 0 4) (outstanding h))
-          (filter (λ t. not (has_number (num o.text 0 4) t)) aw)) (sym kind)
-          (lined_left (num o.text 0 4) (outstanding h) aw s.lined);
+      lined = rw kind (lined_left (num o.text 0 4) (outstanding h) aw s.lined);
       late = (
         (λ kind g aborted. let z = late g aborted in
             (z.0, lined_behind (num o.text 0 4) z.0 (outstanding h) aw s.lined z.1)),
@@ -190,13 +151,7 @@ module _ (Tie : List ℕ → List ℕ → Type 0) (G O : Type 0) where
     }
 
     pub begins_other : (o : Said) → Stated h aw [] → (o.kind ≡ kinds.End → ⊥) → Stated h aw (o ∷ [])
-    begins_other o s never = record {
-      each = s.each;
-      wired = record { each = s.wired.each; owed = ((λ kind. absurd (never kind)), tt) };
-      lined = subst (λ xs. AreLined xs aw) (sym (none_left_by o.kind (num o.text 0 4) (outstanding h) never)) s.lined;
-      late = ((λ kind. absurd (never kind)), tt);
-      turned = ((λ kind. absurd (never kind)), tt);
-    }
+    begins_other o s never = grind arith
 
     -- an end leaves
     pub leaves_end : (o : Said) → Stated h aw (o ∷ []) → o.kind ≡ kinds.End → Stated (h ++ end_of o.text ∷ []) aw []
@@ -218,37 +173,27 @@ module _ (Tie : List ℕ → List ℕ → Type 0) (G O : Type 0) where
           );
           wired = subst (λ xs. Wired Tie xs aw []) (sym (outstanding_more h (end_of o.text)
               ∙ ap (Rattle.mscp_wire.specs.Wire.after_end (outstanding h) (answer_by First o.text)) x.at)) x.left;
-          lined = subst (λ xs. AreLined xs aw) (sym (outstanding_more h (end_of o.text)
-              ∙ ap (Rattle.mscp_wire.specs.Wire.after_end (outstanding h) (answer_by First o.text)) x.at ∙ x.after))
-              (lined_map _ (λ y. refl) x.others aw (subst (λ zs. AreLined zs aw) x.without
-              (subst (λ k. AreLined (left_by k (num o.text 0 4) (outstanding h)) aw) kind s.lined)));
+          lined = rw (outstanding_more h (end_of o.text) ∙ ap (Rattle.mscp_wire.specs.Wire.after_end (outstanding h)
+              (answer_by First o.text)) x.at ∙ x.after) (lined_map _ (λ y. refl) x.others aw
+              (subst (λ zs. AreLined zs aw) x.without (subst (λ k. AreLined (left_by k (num o.text 0 4) (outstanding h))
+              aw) kind s.lined)));
           late = tt;
           turned = tt;
         }
 
     pub leaves_other : (o : Said) → Stated h aw (o ∷ []) → (o.kind ≡ kinds.End → ⊥) → Stated h aw []
-    leaves_other o s never = record {
-      each = s.each;
-      wired = record { each = s.wired.each; owed = tt };
-      lined = subst (λ xs. AreLined xs aw) (none_left_by o.kind (num o.text 0 4) (outstanding h) never) s.lined;
-      late = tt;
-      turned = tt;
-    }
+    leaves_other o s never = grind arith
 
     -- what goes out stays so, or leaves
     pub left : (old new : Option Outgoing) → Stated h aw (map said_in (option_to_list old)) → begins old new ≡ []
         → ((o x : Outgoing) → old ≡ Some o → new ≡ Some x → said_in o ≡ said_in x)
         → Stated (h ++ flat_map ends_in (leaves old new)) aw (map said_in (option_to_list new))
-    left None None s none same = as_it_is (h ++ []) aw [] [] (append-nil h) refl refl s
-    left None (Some x) s none same = absurd (begun_none None (Some x) x refl refl none)
     left (Some o) (Some x) s none same =
         as_it_is (h ++ []) aw (said_in o ∷ []) (said_in x ∷ []) (append-nil h) refl
         (ap (λ y. y ∷ []) (sym (same o x refl refl))) s
     left (Some o) None s none same = by o.kind refl
       where
         by : (k : OutgoingKind) → o.kind ≡ k → Stated (h ++ (map end_of (end_said o.kind o.bytes.items) ++ [])) aw []
-        by kinds.End e = subst (λ k. Stated (h ++ (map end_of (end_said k o.bytes.items) ++ [])) aw []) (sym e)
-            (leaves_end (said_in o) s e)
-        by other e = as_it_is (h ++ (map end_of (end_said o.kind o.bytes.items) ++ [])) aw [] []
-            (ap (λ k. h ++ (map end_of (end_said k o.bytes.items) ++ [])) e ∙ append-nil h) refl refl
-            (leaves_other (said_in o) s (λ k. search (arith, sym e ∙ k)))
+        by kinds.End e = rw e (leaves_end (said_in o) s e)
+        by other e = grind (arith, as_it_is, append-nil, leaves_other)
+    left old new s none same = grind (arith, as_it_is, append-nil, begun_none)

@@ -1,16 +1,15 @@
 -- An end that answers a message, or that of a command which is aborted, says that its unit is online, or that it isn't,
 -- only if that is so.
-use Rattle.mscp_logged.proofs.Common.{Answer, AsksFor, Bool, Command, Decided, End, First, Hardware, IsPast, List, None, Option, Order, Own, Record, Sent, Settings, Shape, Some, Volume, aborted_record, answer_by, ap, arith, command_of, cond, end_with_body, endcode, ends_formality, eqb-true, false, false≢true, fault_of, inl, inr, is_queued, move_fault, num, order_fault, own_answer, own_cases, own_end, own_end_with, own_refused, own_text, refl, refused_apart, sent_by, sent_says, slice_index, status_after, subst, sym, true, unit_fault, unit_state, ℕ, ⊎_elim, ◌%◌, ◌&&◌, ◌+◌, ◌/◌, ◌<◌, ◌==◌, ◌^◌, ◌||◌, ◌∙◌, ◌≡◌, ◌⊎◌}
-use Rattle.std.specs.Prelude.{not}
+use Rattle.mscp_logged.proofs.Common.{Answer, AsksFor, Bool, Command, Decided, End, First, Hardware, IsPast, List, None, Option, Order, Own, Record, Sent, Settings, Shape, Some, Volume, aborted_record, answer_by, ap, arith, command_of, end_with_body, endcode, ends_formality, eqb-true, false, fault_of, inl, inr, is_queued, order_fault, own_answer, own_cases, own_end, own_end_with, own_refused, own_text, refl, refused_apart, sent_by, sent_says, slice_index, status_after, true, unit_state, ℕ, ◌%◌, ◌+◌, ◌/◌, ◌<◌, ◌^◌, ◌∙◌, ◌≡◌, ◌⊎◌}
 use Rattle.mscp_packet.specs.declared.command.Order.TheVariants as orders
 use Rattle.mscp_drive.specs.Settings.{unit_found}
 use Rattle.mscp_drive.specs.UnitList as list
 use Rattle.mscp_drive.specs.declared.block.Block.TheVariants as blocks
 use Rattle.mscp_port.specs.declared.verdict.Verdict.TheVariants as verdicts
 use Rattle.mscp_logged.proofs.Away.{IsPlaced, Says}
-use Rattle.mscp_logged.proofs.Describing.{IsAsWas, mine, same_volume}
+use Rattle.mscp_logged.proofs.Describing.{IsAsWas, same_volume}
 use Rattle.mscp_logged.proofs.Placing.{IsAwayCode, IsOnlineCode, away_parts, formal_away, formal_online, online_parts}
-use Rattle.mscp_logged.proofs.Replied.{end_is, state_good, state_told}
+use Rattle.mscp_logged.proofs.Replied.{end_is}
 use Rattle.mscp_logged.proofs.Stepped.{IsDecided}
 use Rattle.mscp_logged.proofs.Suited.{formal_opcode}
 use Rattle.mscp_logged.proofs.Texts.{text_with}
@@ -31,10 +30,7 @@ mute v a m = record {
 
 pub mute_placed : (u : ℕ) (v : Volume) (text : List ℕ)
     → IsMute (answer_by First text).code ((answer_by First text).status % 32) → IsPlaced u v v text
-mute_placed u v text m = record {
-  own = λ here. mute v (answer_by First text) m;
-  other = λ here is. (is, same_volume v);
-}
+mute_placed u v text m = grind (arith, mute, same_volume)
 
 formal_mute : (code status : ℕ) → ends_formality code ≡ true → IsMute code status
 formal_mute code status is = ((λ bit zero on. formal_online code bit is on), λ away. formal_away code status is away)
@@ -44,19 +40,7 @@ abbrev IsOther : ℕ → Type 0
 IsOther status = (status ≡ 1) ⊎ (status ≡ 2)
 
 other_mute : (code status : ℕ) → IsOther status → IsMute code status
-other_mute code status is = ((λ bit zero on. none is zero), λ away. never is away)
-  where
-    none : IsOther status → status ≡ 0 → ⊥
-    none (inl e) zero = search (arith, e, zero)
-    none (inr e) zero = search (arith, e, zero)
-
-    never : IsOther status → IsAwayCode code status → ⊥
-    never (inl e) (inl x) = search (arith, e, x.0)
-    never (inl e) (inr (inl x)) = search (arith, e, x.0)
-    never (inl e) (inr (inr x)) = search (arith, e, x.0)
-    never (inr e) (inl x) = search (arith, e, x.0)
-    never (inr e) (inr (inl x)) = search (arith, e, x.0)
-    never (inr e) (inr (inr x)) = search (arith, e, x.0)
+other_mute code status is = grind arith
 
 module _ (h : Hardware) (units : List Shape) (e : End) (d : Decided) where
   abbrev end_answer : Answer
@@ -70,28 +54,15 @@ module _ (h : Hardware) (units : List Shape) (e : End) (d : Decided) where
           ⊎ ((ends_formality d.code ≡ false)
           × (text_with h units e d ≡ end_with_body e.body e d (list.unit_found units e.unit) h)
           × Reads end_answer e.code d.status) → IsMute end_answer.code (end_answer.status % 32)
-      by (inl x) = subst (λ n. IsMute n (end_answer.status % 32)) (sym x.1.code)
-          (formal_mute d.code (end_answer.status % 32) x.0)
-      by (inr x) = subst (λ n. IsMute n (end_answer.status % 32)) (sym x.2.code)
-          (subst (λ n. IsMute e.code n) (sym x.2.low) (m x.0))
+      by (inl x) = rw x.1.code (formal_mute d.code (end_answer.status % 32) x.0)
+      by (inr x) = rw x.2.code (rw x.2.low (m x.0))
 
 -- ---- statuses
 
 -- a status that is told as it is
 kept_after : (v : Volume) (code status : ℕ) → (status % 32 ≡ 0 → ⊥) → (status % 32 ≡ 4 → ⊥)
     → status_after (verdicts.Served blocks.Good) code status v ≡ status
-kept_after v code status never other =
-    by (code == 0x83) (status == 0) refl (status == 4) refl (code == 0x89) (status == 0x0100) refl
-  where
-    by : (x y : Bool) → (status == 0) ≡ y → (z : Bool) → (status == 4) ≡ z → (s t : Bool) → (status == 0x0100) ≡ t
-        → cond (x && (y || z)) (unit_state v) (cond (s && (y || t)) (cond v.is_mounted 0x0100 0) status) ≡ status
-    by x true e z f s t g = absurd (never (ap (λ n. n % 32) (eqb-true status 0 e)))
-    by x false e true f s t g = absurd (other (ap (λ n. n % 32) (eqb-true status 4 f)))
-    by x false e false f s true g = absurd (never (ap (λ n. n % 32) (eqb-true status 0x0100 g)))
-    by true false e false f true false g = refl
-    by true false e false f false false g = refl
-    by false false e false f true false g = refl
-    by false false e false f false false g = refl
+kept_after v code status never other = grind (arith, eqb-true)
 
 -- the end of a command that is aborted
 pub aborted_placed : (h : Hardware) (units : List Shape) (r : Record) (d : Decided) (v : Volume) (u : ℕ) (w : Volume)
@@ -102,31 +73,9 @@ aborted_placed h units r d v u w decided = mute_placed u v (text_with h units (a
     (ap (λ n. n % 32) (decided.status plain ∙ kept_after w (aborted_record r).code 2 (λ e. search (arith, e))
     (λ e. search (arith, e)))))))
 
--- Unit-Offline is told of no unit that is there
-move_some : (c : Settings) (count block status : ℕ) (unit : Shape) → move_fault c count block (Some unit) ≡ Some status
-    → status % 32 ≡ 3 → ⊥
-move_some c count block status unit e three = grind (arith, e, three)
-
 module _ (c : Settings) (unit status : ℕ) (three : status % 32 ≡ 3) where
-  unit_none : (o : Option Shape) → unit_fault o ≡ Some status → o ≡ None
-  unit_none None e = refl
-  unit_none (Some s) e = search (arith, e)
-
-  move_none : (count block : ℕ) (o : Option Shape) → move_fault c count block o ≡ Some status → o ≡ None
-  move_none count block None e = refl
-  move_none count block (Some s) e = absurd (move_some c count block status s e three)
-
   offline_none : (o : Order) (s : Sent) → AsksFor o s → order_fault c unit o ≡ Some status → unit_found c unit ≡ None
-  offline_none (orders.Move kind count block) s says e = move_none count block (unit_found c unit) e
-  offline_none (orders.SetController version) s says e = grind (arith, e, three)
-  offline_none (orders.Invalid byte why) s says e = absurd (apart (⊎_elim (λ x. ap (λ n. n % 32) x.0)
-      (λ short. ap (λ n. n % 32) short.1.why) says))
-    where
-      apart : why % 32 ≡ 1 → ⊥
-      apart one = search (arith, e, one, three)
-  offline_none (orders.Abort other) s says e = search (arith, e)
-  offline_none (orders.Status other) s says e = search (arith, e)
-  offline_none order s says e = unit_none (unit_found c unit) e
+  offline_none order s says e = grind arith
 
 -- ---- a reply
 
@@ -155,19 +104,10 @@ module _ (h : Hardware) (c : Settings) (online : Bool) (figure : ℕ) (sent : Li
   So = (u : ℕ) → IsPlaced u (volume u) (volume u) text
 
   unit_is : e.unit ≡ k.unit
-  unit_is = by (fault_of c k)
-    where
-      by : (o : Option ℕ) → (own_end_with c online figure (command_of sent) o).unit ≡ k.unit
-      by None = refl
-      by (Some status) = refl
+  unit_is = grind arith
 
   own_so : Says v v a → So
-  own_so says u = record { own = own; other = λ here is. (is, same_volume (volume u)) }
-    where
-      own : mine u text ≡ true → Says (volume u) (volume u) a
-      own here = subst (λ n. Says (volume n) (volume n) a)
-          (sym (text_unit h c.units e d (subst (λ n. n < 2 ^ 16) (sym unit_is) small) ∙ unit_is)
-          ∙ eqb-true (num text 4 2) u here) says
+  own_so says u = grind (arith, same_volume, text_unit, unit_is, eqb-true)
 
   never_so : (ends_formality d.code ≡ false → IsMute e.code (d.status % 32)) → So
   never_so m u = mute_placed u (volume u) text (text_mute h c.units e d m)
@@ -177,14 +117,10 @@ module _ (h : Hardware) (c : Settings) (online : Bool) (figure : ℕ) (sent : Li
     where
       told : (status % 32 ≡ 0 → ⊥) → (status % 32 ≡ 4 → ⊥) → ends_formality d.code ≡ false
           → d.status % 32 ≡ status % 32
-      told never other plain = ap (λ n. n % 32) (decided.status plain
-          ∙ ap (λ n. status_after (verdicts.Served blocks.Good) e.code n v)
-          (ap (λ o. (own_end_with c online figure (command_of sent) o).status) fault)
-          ∙ kept_after v e.code status never other)
+      told never other plain = grind (arith, kept_after)
 
       by : (status % 32 ≡ 1) ⊎ (status % 32 ≡ 3) → So
-      by (inl one) = never_so (λ plain. other_mute e.code (d.status % 32)
-          (inl (told (λ z. search (arith, one, z)) (λ z. search (arith, one, z)) plain ∙ one)))
+      by (inl one) = grind (arith, never_so, other_mute, told)
       by (inr three) = own_so (from (text_reads h c.units e d))
         where
           none : (volume k.unit).is_mounted ≡ false
@@ -195,70 +131,42 @@ module _ (h : Hardware) (c : Settings) (online : Bool) (figure : ℕ) (sent : Li
               ⊎ ((ends_formality d.code ≡ false)
               × (text ≡ end_with_body e.body e d (list.unit_found c.units e.unit) h) × Reads a e.code d.status)
               → Says v v a
-          from (inl x) = mute v a (subst (λ n. IsMute n (a.status % 32)) (sym x.1.code)
-              (formal_mute d.code (a.status % 32) x.0))
-          from (inr x) = record {
-            online = λ says. search (
-              arith,
-              (online_parts a says).0,
-              x.2.low ∙ told (λ z. search (arith, three, z)) (λ z. search (arith, three, z)) x.0 ∙ three,
-            );
-            away = λ says. none;
-            stays = λ brings is. (is, same_volume v);
-          }
+          from (inl x) = mute v a (rw x.1.code (formal_mute d.code (a.status % 32) x.0))
+          from (inr x) = grind (arith, online_parts, told, none, same_volume)
 
   coded : (order : Order) → k.order ≡ order → (code : ℕ) → endcode order ≡ code → fault_of c k ≡ None
       → ((status : ℕ) → IsMute code status) → So
-  coded order of code is none m = never_so (λ plain. subst (λ n. IsMute n (d.status % 32))
-      (sym (ap (λ o. (own_end_with c online figure (command_of sent) o).code) none ∙ ap endcode of ∙ is))
+  coded order of code is none m = never_so
+      (λ plain. rw (ap (λ o. (own_end_with c online figure (command_of sent) o).code) none ∙ ap endcode of ∙ is)
       (m (d.status % 32)))
 
   status_says : (of : k.order ≡ orders.UnitStatus) (none : fault_of c k ≡ None) → Says v v a
   status_says of none = from (text_reads h c.units e d)
     where
-      state : ends_formality d.code ≡ false → d.status ≡ unit_state v
-      state = state_told h c online figure sent immediate small d volume decided of none
-
       code : e.code ≡ 0x83
       code = ap (λ (x : End). x.code) (end_is h c online figure sent immediate small d volume decided of none)
 
-      available : (x y : Bool) → v.is_mounted ≡ y → cond (not x) 0x23 (cond (not y) 4 0) % 32 ≡ 4
-          → v.is_mounted ≡ false
-      available false y is g = search (arith, g)
-      available true false is g = is
-      available true true is g = search (arith, g)
-
       away : (s : ℕ) → s ≡ unit_state v % 32 → IsAwayCode 0x83 s → v.is_mounted ≡ false
-      away s is (inl x) = search (arith, x.1)
-      away s is (inr (inl x)) = available v.is_there v.is_mounted refl (sym is ∙ x.0)
-      away s is (inr (inr x)) = absurd (false≢true x.1)
+      away s is x = grind arith
 
       from : ((ends_formality d.code ≡ true) × Reads a d.code d.status)
           ⊎ ((ends_formality d.code ≡ false)
           × (text ≡ end_with_body e.body e d (list.unit_found c.units e.unit) h) × Reads a e.code d.status)
           → Says v v a
-      from (inl x) = mute v a (subst (λ n. IsMute n (a.status % 32)) (sym x.1.code)
-          (formal_mute d.code (a.status % 32) x.0))
-      from (inr x) = record {
-        online = λ says. state_good v
-            (ap (λ n. n % 32) (sym (state x.0)) ∙ sym x.2.low ∙ (online_parts a says).0);
-        away = λ says. away (a.status % 32) (x.2.low ∙ ap (λ n. n % 32) (state x.0))
-            (subst (λ n. IsAwayCode n (a.status % 32)) (x.2.code ∙ code) (away_parts a says));
-        stays = λ brings is. (is, same_volume v);
-      }
+      from (inl x) = mute v a (rw x.1.code (formal_mute d.code (a.status % 32) x.0))
+      from (inr x) = grind arith
 
   pub reply_placed : So
   reply_placed = by (fault_of c k) refl
     where
       open_so : fault_of c k ≡ None → (order : Order) → k.order ≡ order → So
-      open_so none orders.UnitStatus of = own_so (status_says of none)
       open_so none (orders.Abort other) of = coded (orders.Abort other) of 0x81 refl none
           (λ status. ((λ bit zero on. grind (arith, on)), λ away. grind (arith, away)))
       open_so none (orders.Status other) of = coded (orders.Status other) of 0x82 refl none
           (λ status. ((λ bit zero on. grind (arith, on)), λ away. grind (arith, away)))
       open_so none (orders.SetController version) of = coded (orders.SetController version) of 0x84 refl none
           (λ status. ((λ bit zero on. grind (arith, on)), λ away. grind (arith, away)))
-      open_so none order of = search (arith, of, none, immediate)
+      open_so none order of = grind (arith, own_so, status_says, none)
 
       by : (o : Option ℕ) → fault_of c k ≡ o → So
       by None none = open_so none k.order refl
@@ -276,10 +184,7 @@ own_mute v b = own_cases v b
   where
     by : (status : ℕ) → IsPast status → IsMute (answer_by First (own_text b (own_refused b status))).code
         ((answer_by First (own_text b (own_refused b status))).status % 32)
-    by status (inl e) = subst (λ n. IsMute (answer_by First (own_text b (own_refused b n))).code
-        ((answer_by First (own_text b (own_refused b n))).status % 32)) (sym e) (other_mute _ _ (inl refl))
-    by status (inr e) = subst (λ n. IsMute (answer_by First (own_text b (own_refused b n))).code
-        ((answer_by First (own_text b (own_refused b n))).status % 32)) (sym e) (other_mute _ _ (inl refl))
+    by status x = grind arith
 
 pub own_placed : (u : ℕ) {v w : Volume} (x : Option Volume) (b : List ℕ) (own : Own) → own_answer false x b ≡ Some own
     → IsAsWas v w → IsPlaced u v w (own_text b own)

@@ -1,13 +1,11 @@
 -- An end that a step gives tells of its unit what is so, of the volume that is there then.
-use Rattle.mscp_logged.proofs.Common.{Answer, Bool, Buffer, Decided, End, First, Hardware, List, MoveKind, Option, Order, Shape, Some, Verdict, Volume, answer_by, ap, arith, block_told, brings, code_told, cond, controller_decided, decided_code, decided_status, describes, end_decided, end_with_body, endcode, ends_formality, eqb-true, false, false≢true, formal_status, found_decided, inl, inr, is_immediate, is_some, is_success, little_bytes, moved_by, nat_eq, num, online_body, outcome_body, outcome_status, refl, status_after, status_told, subst, sym, told_same, true, unit_found, ℕ, ◌%◌, ◌/◌, ◌==◌, ◌||◌, ◌∙◌, ◌≡◌, ◌≢◌, ◌⊎◌}
+use Rattle.mscp_logged.proofs.Common.{Answer, Bool, Buffer, Decided, End, First, Hardware, List, Option, Order, Shape, Some, Verdict, Volume, answer_by, ap, arith, block_told, brings, code_told, cond, decided_code, decided_status, describes, end_decided, end_with_body, endcode, ends_formality, false, formal_status, found_decided, inl, inr, is_immediate, is_some, is_success, moved_by, nat_eq, online_body, outcome_body, outcome_status, refl, status_after, status_told, subst, sym, told_same, true, unit_found, ℕ, ◌%◌, ◌/◌, ◌==◌, ◌∙◌, ◌≡◌, ◌≢◌, ◌⊎◌}
 use Rattle.mscp_packet.specs.declared.command.Order.TheVariants as orders
 use Rattle.mscp_packet.specs.declared.end.EndBody.TheVariants as bodies
-use Rattle.mscp_drive.specs.declared.block.Block.TheVariants as blocks
-use Rattle.mscp_port.specs.declared.verdict.Verdict.TheVariants as verdicts
 use Rattle.mscp_logged.proofs.Describing.{IsAsWas, IsIdentityOf, IsSame, Tells, identity_of}
 use Rattle.mscp_logged.proofs.Sure.{IsSure}
 use Rattle.mscp_logged.proofs.Texts.{text_with}
-use Rattle.mscp_logged.proofs.Worded.{Reads, brings_is, describes_so, online_identity, tells_so, text_reads}
+use Rattle.mscp_logged.proofs.Worded.{Reads, brings_is, describes_so, tells_so, text_reads}
 
 -- ---- what is decided
 
@@ -41,9 +39,7 @@ decided_so units verdict v w e kept flags = record {
     unit_is : (unit : Shape) → unit_found units e.unit ≡ Some unit → (e.code == 0x84) ≡ false
         → end_decided (code_told kept e.code) (status_told verdict (code_told kept e.code) e.status v) e units flags w
         ≡ found_decided (code_told kept e.code) (status_told verdict (code_told kept e.code) e.status v) (Some unit) w
-    unit_is unit found other = ap (λ b. cond b (controller_decided code status flags)
-        (found_decided code status (unit_found units e.unit) w)) other
-        ∙ ap (λ o. found_decided code status o w) found
+    unit_is unit found other = grind arith
 
 -- ---- statuses
 
@@ -55,34 +51,7 @@ pub record IsOnlineTold (v : Volume) (given told : ℕ) : Type 0 where
 pub online_told : (v : Volume) (verdict : Verdict) (online : Bool) → IsSure false v verdict
     → IsOnlineTold v (outcome_status online orders.Online (block_told verdict))
     (status_after verdict 0x89 (outcome_status online orders.Online (block_told verdict)) v)
-online_told v (verdicts.Served blocks.Good) online sure = by online v.is_mounted refl
-  where
-    by : (b m : Bool) → v.is_mounted ≡ m → IsOnlineTold v (cond b 0x0100 0)
-        (cond (nat_eq (cond b 0x0100 0) 0 || nat_eq (cond b 0x0100 0) 0x0100) (cond v.is_mounted 0x0100 0)
-        (cond b 0x0100 0))
-    by true true e = subst (λ m. IsOnlineTold v 0x0100 (cond m 0x0100 0)) (sym e)
-        (record { back = λ x. refl; was = λ x y. e })
-    by true false e = subst (λ m. IsOnlineTold v 0x0100 (cond m 0x0100 0)) (sym e)
-        (record { back = λ x. refl; was = λ x y. search (arith, y) })
-    by false true e = subst (λ m. IsOnlineTold v 0 (cond m 0x0100 0)) (sym e)
-        (record { back = λ x. refl; was = λ x y. e })
-    by false false e = subst (λ m. IsOnlineTold v 0 (cond m 0x0100 0)) (sym e)
-        (record { back = λ x. refl; was = λ x y. search (arith, y) })
-online_told v (verdicts.Served (blocks.Bad n)) online (inr moves) = absurd (false≢true moves.0)
-online_told v (verdicts.Served (blocks.Bad n)) online (inl bad) = by (nat_eq n 0) refl (nat_eq n 0x0100) refl
-  where
-    never : n % 32 ≡ 0 → ⊥
-    never e = search (arith, e, bad)
-
-    by : (x : Bool) → nat_eq n 0 ≡ x → (y : Bool) → nat_eq n 0x0100 ≡ y
-        → IsOnlineTold v n (cond (nat_eq n 0 || nat_eq n 0x0100) (cond v.is_mounted 0x0100 0) n)
-    by true e y f = absurd (never (ap (λ k. k % 32) (eqb-true n 0 e)))
-    by false e true f = absurd (never (ap (λ k. k % 32) (eqb-true n 0x0100 f)))
-    by false e false f =
-        subst (λ b. IsOnlineTold v n (cond b (cond v.is_mounted 0x0100 0) n))
-        (sym (ap (λ b. b || nat_eq n 0x0100) e ∙ f))
-        (record { back = λ x. absurd (never x); was = λ x y. absurd (never x) })
-online_told v verdict online sure = record { back = λ e. search (arith, e); was = λ e bit. search (arith, e) }
+online_told v verdict online sure = grind arith
 
 -- ---- ends
 
@@ -101,12 +70,7 @@ abbrev pub IsTelling : ℕ → Type 0
 IsTelling code = (code ≡ 0x83) ⊎ (code ≡ 0x89) ⊎ (code ≡ 0x8A)
 
 pub formal_telling : (code : ℕ) → ends_formality code ≡ true → IsTelling code → ⊥
-formal_telling code e (inl h) = search (arith, sym (ap ends_formality h) ∙ e)
-formal_telling code e (inr (inl h)) = search (arith, sym (ap ends_formality h) ∙ e)
-formal_telling code e (inr (inr h)) = search (arith, sym (ap ends_formality h) ∙ e)
-
-move_telling : (kind : MoveKind) (count block : ℕ) → IsTelling (endcode (orders.Move kind count block)) → ⊥
-move_telling kind count block h = grind (arith, h)
+formal_telling code e x = grind arith
 
 -- what a step gives
 pub record IsGivenEnd (order : Order) (online : Bool) (verdict : Verdict) (e : End) : Type 0 where
@@ -132,11 +96,7 @@ module _ (h : Hardware) (units : List Shape) (verdict : Verdict) (online : Bool)
   So = Tells (unit_found units e.unit) v w a
 
   stays : ((e.code ≡ 0x89) → (e.status % 32 ≡ 0) → brings a ≡ true) → brings a ≡ false → IsAsWas v w
-  stays back none is = by (mounted is)
-    where
-      by : (v.is_mounted ≡ true) ⊎ ((e.code ≡ 0x89) × (e.status % 32 ≡ 0)) → (v.is_mounted ≡ true) × IsSame v w
-      by (inl was) = (was, same)
-      by (inr new) = absurd (false≢true (sym none ∙ back new.0 new.1))
+  stays back none is = grind arith
 
   -- it doesn't tell what its unit is
   silent : (IsTelling a.code → ⊥) → (e.code ≡ 0x89 → ⊥) → So
@@ -147,8 +107,7 @@ module _ (h : Hardware) (units : List Shape) (verdict : Verdict) (online : Bool)
   }
     where
       by : (a.code ≡ 0x83) ⊎ ((a.code ≡ 0x89) × (a.status / 256 % 2 ≡ 1)) → IsTelling a.code
-      by (inl x) = inl x
-      by (inr x) = inr (inl x.0)
+      by x = grind arith
 
   formal_so : ends_formality d.code ≡ true → Reads a d.code d.status → So
   formal_so is reads = silent (λ t. formal_telling d.code is (subst (λ c. IsTelling c) reads.code t))
@@ -159,27 +118,12 @@ module _ (h : Hardware) (units : List Shape) (verdict : Verdict) (online : Bool)
     -- what it tells is its volume
     identity : (x y z t : ℕ) → e.body ≡ bodies.Online x y z t → nat_eq e.code 0x83 ≡ false → (e.code == 0x84) ≡ false
         → d.status % 32 ≡ 0 → a.identity ≡ Some (identity_of unit w)
-    identity x y z t body code other good =
-        ap (λ b. (answer_by First b).identity) (worded ∙ ap (λ b. end_with_body b e d (unit_found units e.unit) h) body
-        ∙ ap (λ o. end_with_body (bodies.Online x y z t) e d o h) found)
-        ∙ online_identity x y z t e d unit h code good
-        ∙ ap (λ m. Some (record {
-          identifier = num (little_bytes 8 unit.id) 0 8;
-          media = num (little_bytes 4 m) 0 4;
-          size = Some (num (little_bytes 4 d.size) 0 4);
-        })) (decided.media unit found other)
-        ∙ ap (λ n. Some (record {
-          identifier = num (little_bytes 8 unit.id) 0 8;
-          media = num (little_bytes 4 (cond w.is_there w.media unit.media)) 0 4;
-          size = Some (num (little_bytes 4 n) 0 4);
-        })) (decided.size unit found other)
+    identity x y z t body code other good = grind arith
 
     described : (order : Order) (code : ℕ) → e.code ≡ code → nat_eq code 0x83 ≡ false → (code == 0x84) ≡ false
         → ((x : ℕ) × (y : ℕ) × (z : ℕ) × (t : ℕ) × (e.body ≡ bodies.Online x y z t)) → describes a ≡ true
         → IsIdentityOf (unit_found units e.unit) w a.identity
-    described order code is other apart body tells = subst (λ o. IsIdentityOf o w a.identity) (sym found)
-        (inl (identity body.0 body.1 body.2 body.3 body.4 (ap (λ n. nat_eq n 0x83) is ∙ other)
-        (ap (λ n. n == 0x84) is ∙ apart) (sym reads.low ∙ (describes_so a tells).good)))
+    described order code is other apart body tells = grind arith
 
     online_so : IsSure false v verdict → IsGivenEnd orders.Online online verdict e → So
     online_so sure given = record {
@@ -197,30 +141,14 @@ module _ (h : Hardware) (units : List Shape) (verdict : Verdict) (online : Bool)
 
         status : d.status
             ≡ status_after verdict 0x89 (outcome_status online orders.Online (block_told verdict)) v
-        status = decided.status plain ∙ ap (λ n. status_after verdict n e.status v) given.code
-            ∙ ap (λ n. status_after verdict 0x89 n v) given.status
+        status = grind arith
 
         by : a.status % 32 ≡ 0 → (a.code ≡ 0x83) ⊎ ((a.code ≡ 0x89) × (a.status / 256 % 2 ≡ 1))
             → (v.is_mounted ≡ true) × IsSame v w
-        by good (inl x) = search (arith, sym x ∙ reads.code ∙ given.code)
-        by good (inr x) = (
-          told_so.was (ap (λ n. n % 32) (sym status) ∙ sym reads.low ∙ good)
-              (ap (λ n. n / 256 % 2) (sym status) ∙ sym reads.bit ∙ x.1),
-          same,
-        )
+        by good x = grind (arith, told_so, status)
 
     set_so : (given : IsGivenEnd orders.SetUnit online verdict e) → So
-    set_so given = record {
-      described = described orders.SetUnit 0x8A given.code refl refl
-          (let b = online_shaped given.body.0 (outcome_status online orders.SetUnit (block_told verdict)) in
-          (b.0, b.1, b.2, b.3, given.body.2 ∙ b.4));
-      told = λ is unsure. by (tells_so a is unsure).1;
-      stays = stays (λ code good. search (arith, sym code ∙ given.code));
-    }
-      where
-        by : (a.code ≡ 0x83) ⊎ ((a.code ≡ 0x89) × (a.status / 256 % 2 ≡ 1)) → (v.is_mounted ≡ true) × IsSame v w
-        by (inl x) = search (arith, sym x ∙ reads.code ∙ given.code)
-        by (inr x) = search (arith, sym x.0 ∙ reads.code ∙ given.code)
+    set_so given = grind arith
 
     other_so : (order : Order) (code : ℕ) → IsGivenEnd order online verdict e → endcode order ≡ code
         → (IsTelling code → ⊥) → So
@@ -233,33 +161,15 @@ module _ (h : Hardware) (units : List Shape) (verdict : Verdict) (online : Bool)
     plain_so orders.SetUnit lbn sure given = set_so given
     plain_so orders.Available lbn sure given =
         other_so orders.Available 0x88 given refl (λ t. search (arith, t))
-    plain_so (orders.Move kind count block) lbn sure given =
-        other_so (orders.Move kind count block) _ given refl (move_telling kind count block)
+    plain_so (orders.Move kind count block) lbn sure given = grind arith
     plain_so (orders.Invalid byte why) lbn sure given = absurd (given.valid byte why refl)
     plain_so order lbn sure given = search (arith, given.waits)
 
   pub step_tells : (order : Order) (lbn : Option ℕ) → IsSure (is_some (moved_by order lbn)) v verdict
       → IsGivenEnd order online verdict e → So
-  step_tells order lbn sure given = by (text_reads h units e d)
-    where
-      by : ((ends_formality d.code ≡ true) × Reads a d.code d.status)
-          ⊎ ((ends_formality d.code ≡ false) × (text ≡ end_with_body e.body e d (unit_found units e.unit) h)
-          × Reads a e.code d.status) → So
-      by (inl x) = formal_so x.0 x.1
-      by (inr x) = plain_so x.0 x.2 x.1 order lbn sure given
+  step_tells order lbn sure given = grind (arith, text_reads, formal_so, plain_so)
 
 -- no such end has the code of a formality's
 pub given_plain : (order : Order) (online : Bool) (verdict : Verdict) (e : End) → IsGivenEnd order online verdict e
     → ends_formality e.code ≡ true → ⊥
-given_plain order online verdict e given is =
-    by order given.waits given.valid (sym (ap ends_formality given.code) ∙ is)
-  where
-    moved : (kind : MoveKind) (count block : ℕ)
-        → ends_formality (endcode (orders.Move kind count block)) ≡ true → ⊥
-    moved kind count block h = grind (arith, h)
-
-    by : (order : Order) → is_immediate order ≡ false → ((byte why : ℕ) → order ≢ orders.Invalid byte why)
-        → ends_formality (endcode order) ≡ true → ⊥
-    by (orders.Move kind count block) waits valid h = moved kind count block h
-    by (orders.Invalid byte why) waits valid h = valid byte why refl
-    by order waits valid h = search (arith, waits, h)
+given_plain order online verdict e given is = grind arith

@@ -1,7 +1,6 @@
 -- An end of the controller's as it goes out keeps the rules of statuses and of bytes, and tells no other identifier of
 -- the controller than its own.
-use Rattle.mscp_logged.proofs.Common.{Answer, BodyReads, Bool, Decided, End, EndBody, First, Hardware, IsBodyFit, IsCodeFor, IsMade, IsSaid, IsToldSo, Leaving, List, None, Option, Port, Record, Settings, Shape, Some, Verdict, Volume, answer_by, ap, arith, block_told, code_of, command_of, cond, controller_end, controller_in, count_of, end_bytes, end_left, end_with_body, ends_formality, eqb-true, false, false≢true, formal_status, four, handed, has_code, has_count, has_status, head, inl, inr, is_formality, is_plain, keeps, kind_of_body, kind_of_code, left_with, length, little_bytes, nat_eq, nat_le, nat_lt, not, num, points_into, refl, same_Some, sent_by, slice_index, status_after, status_code, status_told, subst, sym, true, two, unit_found, unit_state, ℕ, ◌%◌, ◌&&◌, ◌+◌, ◌/◌, ◌<◌, ◌^◌, ◌||◌, ◌∙◌, ◌≡◌, ◌≤◌, ◌⊎◌}
-use Rattle.std.specs.Prelude.{◌*◌}
+use Rattle.mscp_logged.proofs.Common.{Answer, BodyReads, Bool, Decided, End, EndBody, First, Hardware, IsBodyFit, IsCodeFor, IsMade, IsSaid, IsToldSo, Leaving, List, None, Option, Port, Record, Settings, Shape, Some, Verdict, Volume, answer_by, ap, arith, block_told, code_of, command_of, cond, controller_in, count_of, end_with_body, ends_formality, eqb-true, false, formal_status, handed, has_code, has_count, has_status, head, inl, inr, is_formality, is_plain, keeps, kind_of_body, left_with, length, little_bytes, nat_eq, nat_le, nat_lt, not, num, points_into, refl, sent_by, slice_index, status_after, status_code, status_told, subst, sym, true, two, unit_found, ℕ, ◌%◌, ◌&&◌, ◌+◌, ◌<◌, ◌^◌, ◌||◌, ◌∙◌, ◌≡◌, ◌≤◌, ◌⊎◌}
 use Rattle.mscp_packet.specs.declared.end.BodyKind.TheVariants as kinds
 use Rattle.mscp_packet.specs.declared.end.EndBody.TheVariants as bodies
 use Rattle.mscp_drive.specs.declared.block.Block.TheVariants as blocks
@@ -27,14 +26,7 @@ pub record IsSuited (text message : List ℕ) : Type 0 where
 -- ---- a formality's
 
 pub formal_opcode : (P : ℕ → Type 0) → P 11 → P 17 → P 19 → (n : ℕ) → is_formality n ≡ true → P n
-formal_opcode P a b c n e = by (nat_eq n 11) refl (nat_eq n 17) refl (nat_eq n 19) refl e
-  where
-    by : (x : Bool) → nat_eq n 11 ≡ x → (y : Bool) → nat_eq n 17 ≡ y → (z : Bool) → nat_eq n 19 ≡ z
-        → (x || y || z) ≡ true → P n
-    by true h y k z l e = subst P (sym (eqb-true n 11 h)) a
-    by false h true k z l e = subst P (sym (eqb-true n 17 k)) b
-    by false h false k true l e = subst P (sym (eqb-true n 19 l)) c
-    by false h false k false l e = absurd (false≢true e)
+formal_opcode P a b c n e = grind arith
 
 module _ (t : List ℕ) (long : 12 ≤ length t) (reference unit : ℕ) where
   abbrev text_of : ℕ → ℕ → List ℕ
@@ -88,23 +80,7 @@ body_status body e d o h small = grind (arith, two d.status small)
 
 body_reads : (body : EndBody) (e : End) (d : Decided) (o : Option Shape) (h : Hardware) → e.body ≡ body
     → IsBodyFit body → BodyReads body (answer_by First (end_with_body body e d o h))
-body_reads body e d o h same fit = by body same fit
-  where
-    by : (body : EndBody) → e.body ≡ body → IsBodyFit body
-        → BodyReads body (answer_by First (end_with_body body e d o h))
-    by (bodies.Abort other) same fit =
-        subst (λ b. BodyReads (bodies.Abort other)
-        (answer_by First (end_bytes (record e { status = d.status; body = b })))) (sym same) (ap Some (four other fit))
-    by (bodies.Status other figure) same fit =
-        subst (λ b. BodyReads (bodies.Status other figure)
-        (answer_by First (end_bytes (record e { status = d.status; body = b })))) (sym same) (
-          ap Some (four other fit.0),
-          ap Some (four figure fit.1),
-        )
-    by (bodies.Moved count) same fit =
-        subst (λ b. BodyReads (bodies.Moved count)
-        (answer_by First (end_bytes (record e { status = d.status; body = b })))) (sym same) (ap Some (four count fit))
-    by body same fit = tt
+body_reads body e d o h same fit = grind arith
 
 -- ---- codes
 
@@ -114,16 +90,10 @@ formality_of n e = grind (arith, e)
 no_formality : (n : ℕ) → is_formality n ≡ true → n + 0x80 ≡ 0x90 → ⊥
 no_formality n e h = grind (arith, e, h)
 
-formal_high : (code : ℕ) → code ≡ 0x80 → ends_formality code ≡ true → ⊥
-formal_high code e h = search (arith, sym h ∙ ap ends_formality e)
-
 -- ---- statuses
 
 pub low_bits : (x : ℕ) → num (little_bytes 2 x) 0 2 % 32 ≡ x % 32
-low_bits x = low x
-  where
-    low : (x : ℕ) → (0 + x % 256 * 1 + x / 256 % 256 * 256) % 32 ≡ x % 32
-    low x = omega arith
+low_bits x = grind arith
 
 pub body_bits : (body : EndBody) (e : End) (d : Decided) (o : Option Shape) (h : Hardware)
     → num (end_with_body body e d o h) 10 2 ≡ num (little_bytes 2 d.status) 0 2
@@ -135,28 +105,10 @@ told_two : (verdict : Verdict) (code status : ℕ) (v : Volume) → status_told 
 told_two verdict code status v h = by (ends_formality code) h
   where
     formal : (b : Bool) → nat_eq status 2 ≡ b → cond b 2 0 % 32 ≡ 2 → status % 32 ≡ 2
-    formal true is e = ap (λ n. n % 32) (eqb-true status 2 is)
-    formal false is e = search (arith, e)
-
-    state : (a b : Bool) → cond (not a) 0x23 (cond (not b) 4 0) % 32 ≡ 2 → status % 32 ≡ 2
-    state false b e = search (arith, e)
-    state true false e = search (arith, e)
-    state true true e = search (arith, e)
-
-    served : (x y m : Bool) → cond x (unit_state v) (cond y (cond m 0x0100 0) status) % 32 ≡ 2 → status % 32 ≡ 2
-    served true y m e = state v.is_there v.is_mounted e
-    served false true true e = search (arith, e)
-    served false true false e = search (arith, e)
-    served false false m e = e
-
-    after : (w : Verdict) → status_after w code status v % 32 ≡ 2 → status % 32 ≡ 2
-    after verdicts.NoVolume e = search (arith, e)
-    after verdicts.NotOnline e = search (arith, e)
-    after (verdicts.Served block) e = served _ _ v.is_mounted e
+    formal b is e = grind arith
 
     by : (b : Bool) → cond b (formal_status status) (status_after verdict code status v) % 32 ≡ 2 → status % 32 ≡ 2
-    by true e = formal (nat_eq status 2) refl e
-    by false e = after verdict e
+    by b e = grind arith
 
 module _ {K : Type 0} (c : Settings) (Told : Verdict → Record → Type 0) (old : Port K) (aw : List (List ℕ))
     (text t : List ℕ) (s : IsSaid c Told old aw text t) where
@@ -174,24 +126,18 @@ module _ {K : Type 0} (c : Settings) (Told : Verdict → Record → Type 0) (old
 
   text_is : (b : Bool) → ends_formality d.code ≡ b
       → cond b (head e.reference e.unit d.code d.status) (end_with_body e.body e d o old.hardware) ≡ text
-  text_is b is = ap (λ x. cond x (head e.reference e.unit d.code d.status) (end_with_body e.body e d o old.hardware))
-      (sym is) ∙ sym (ap (λ x. end_left e x o old.hardware) s.first) ∙ s.is
+  text_is b is = grind arith
 
   code_for : (b : Bool) → ends_formality d.code ≡ b → IsCodeFor (cond b d.code e.code) t
   code_for b is = subst (λ x. IsCodeFor (cond x d.code e.code) t) is s.fits.code
 
   -- the end of a formality
   formal_code : ends_formality d.code ≡ true → d.code ≡ slice_index t 8 + 0x80
-  formal_code is = by (code_for true is)
-    where
-      by : IsCodeFor d.code t → d.code ≡ slice_index t 8 + 0x80
-      by (inl h) = absurd (formal_high d.code h.0 is)
-      by (inr h) = h
+  formal_code is = grind arith
 
   formal_so : ends_formality d.code ≡ true → IsSuited text t
-  formal_so is = subst (λ x. IsSuited x t) (text_is true is)
-      (formal_suited t (made_code c Told l t s.fits.made).message.long e.reference e.unit d.code d.status
-      (formality_of (slice_index t 8) (subst (λ n. ends_formality n ≡ true) (formal_code is) is)) (formal_code is)
+  formal_so is = rw (← text_is true is) (formal_suited t (made_code c Told l t s.fits.made).message.long e.reference
+      e.unit d.code d.status (formality_of (slice_index t 8) (rw (← formal_code is) is)) (formal_code is)
       (made_formal c Told l t s.fits.made is))
 
   -- any other is that of no formality
@@ -203,21 +149,15 @@ module _ {K : Type 0} (c : Settings) (Told : Verdict → Record → Type 0) (old
           let m = made_code c Told l t s.fits.made in m.is ∙ stood_code m.units t m.message.long formal
 
       never : is_formality (slice_index t 8) ≡ true → IsCodeFor e.code t → ⊥
-      never formal (inl h) = search (arith, sym h.0 ∙ stood formal)
-      never formal (inr h) = no_formality (slice_index t 8) formal (sym h ∙ stood formal)
+      never formal x = grind (arith, stood, no_formality)
 
       by : (b : Bool) → is_formality (slice_index t 8) ≡ b → b ≡ false
-      by false h = refl
-      by true h = absurd (never h (code_for false is))
+      by b h = grind (arith, never, code_for)
 
   -- ---- what it tells of the controller
 
   tells_none : ends_formality d.code ≡ true → slice_index text 8 ≡ 0x84 → ⊥
-  tells_none is code = search (
-    arith,
-    sym is
-        ∙ ap ends_formality (ap (λ x. slice_index x 8) (text_is true is) ∙ code),
-  )
+  tells_none is code = grind arith
 
   tells_own : ends_formality d.code ≡ false → e.code ≡ 0x84 → num text 10 2 % 32 ≡ 0
       → num text 20 8 ≡ identifier c
@@ -232,28 +172,16 @@ module _ {K : Type 0} (c : Settings) (Told : Verdict → Record → Type 0) (old
               answer_controls c l t (plain is) is (s.fits.same is) x timeout id body s.shaped
               (ap (λ n. n % 32) (sym (body_status e.body e d o old.hardware kept.apt.small)
               ∙ ap (λ x. num x 10 2) (text_is false is)) ∙ good)
-          from (inr (inl x)) = absurd (of_code x.own t x.of
-              (sym (ap (λ (y : End). y.code) x.end) ∙ code))
+          from (inr (inl x)) = grind arith
           from (inr (inr x)) = absurd (of_code x.own t x.of
               (ap (λ (y : End). y.code) (given_is (block_told x.verdict) x.drive x.own e x.end).end ∙ code))
 
-      told_id : (b : Bool) (timeout id : ℕ) → e.body ≡ bodies.Controller timeout id
-          → num (cond b (controller_end e d old.hardware timeout id) (end_bytes (record e { status = d.status }))) 20 8
-          ≡ num (little_bytes 8 id) 0 8
-      told_id true timeout id body = refl
-      told_id false timeout id body =
-          ap (λ b. num (end_bytes (record e { status = d.status; body = b })) 20 8) body
-
       other : (body : EndBody) → e.body ≡ body → (kind_of_body body ≡ kinds.Controller → ⊥) → num text 20 8
           ≡ identifier c
-      other body same never = absurd (never (same_Some (kind_of_body body) kinds.Controller
-          (sym (s.shaped ∙ ap (λ b. Some (kind_of_body b)) same) ∙ ap kind_of_code code)))
+      other body same never = grind arith
 
       by : (body : EndBody) → e.body ≡ body → num text 20 8 ≡ identifier c
-      by (bodies.Controller timeout id) same = ap (λ x. num x 20 8) (sym (text_is false is))
-          ∙ ap (λ b. num (end_with_body b e d o old.hardware) 20 8) same
-          ∙ told_id (nat_eq d.status 0) timeout id same ∙ ap (λ n. num (little_bytes 8 n) 0 8)
-          (answered timeout id same)
+      by (bodies.Controller timeout id) same = grind (arith, text_is, answered)
       by body same = other body same (λ k. search (arith, k))
 
   pub tells_known : IsKnown c (controller_in text)
@@ -262,24 +190,18 @@ module _ {K : Type 0} (c : Settings) (Told : Verdict → Record → Type 0) (old
     where
       in_it : (x y z : Bool) → nat_eq (slice_index text 8) 0x84 ≡ x → nat_eq (num text 10 2 % 32) 0 ≡ y
           → nat_le 28 (length text) ≡ z → controller_in text ≡ cond (x && y && z) (Some (num text 20 8)) None
-      in_it x y z h k m =
-          ap (λ a. cond (a && nat_eq (num text 10 2 % 32) 0 && nat_le 28 (length text)) (Some (num text 20 8)) None) h
-          ∙ ap (λ a. cond (x && a && nat_le 28 (length text)) (Some (num text 20 8)) None) k
-          ∙ ap (λ a. cond (x && y && a) (Some (num text 20 8)) None) m
+      in_it x y z h k m = grind arith
 
       formal : (b : Bool) → ends_formality d.code ≡ b → slice_index text 8 ≡ 0x84 → num text 10 2 % 32 ≡ 0
           → num text 20 8 ≡ identifier c
       formal true is code good = absurd (tells_none is code)
-      formal false is code good = tells_own is (sym (code_of e.body e d o old.hardware)
-          ∙ ap (λ x. slice_index x 8) (text_is false is) ∙ code) good
+      formal false is code good = grind (arith, tells_own, code_of, text_is)
 
       by : (x : Bool) → nat_eq (slice_index text 8) 0x84 ≡ x → (y : Bool) → nat_eq (num text 10 2 % 32) 0 ≡ y
           → (z : Bool) → nat_le 28 (length text) ≡ z → IsKnown c (controller_in text)
-      by false h y k z m = inl (in_it false y z h k m)
-      by true h false k z m = inl (in_it true false z h k m)
-      by true h true k false m = inl (in_it true true false h k m)
       by true h true k true m = inr (in_it true true true h k m ∙ ap Some (formal (ends_formality d.code) refl
           (eqb-true (slice_index text 8) 0x84 h) (eqb-true (num text 10 2 % 32) 0 k)))
+      by x h y k z m = grind arith
 
   -- ---- whether it says that its command was aborted
 
@@ -288,9 +210,7 @@ module _ {K : Type 0} (c : Settings) (Told : Verdict → Record → Type 0) (old
     where
       by : (b : Bool) → ends_formality d.code ≡ b → d.status % 32 ≡ num text 10 2 % 32
       by true is = sym (low_bits d.status) ∙ ap (λ x. num x 10 2 % 32) (text_is true is)
-      by false is = sym (low_bits d.status)
-          ∙ ap (λ n. n % 32) (sym (body_bits e.body e d o old.hardware))
-          ∙ ap (λ x. num x 10 2 % 32) (text_is false is)
+      by false is = grind (arith, low_bits, body_bits, text_is)
 
   pub says_aborted : num text 10 2 % 32 ≡ 2 → e.status % 32 ≡ 2
   says_aborted h = by s.fits.made

@@ -1,8 +1,6 @@
 -- How a step went that ended otherwise than its drive told: its unit isn't online with its volume. And a transfer goes
 -- well only while it is.
-use Rattle.mscp_logged.proofs.Common.{Block, Bool, Buffer, Err, IsBegunStep, IsHow, IsOfBlock, List, MoveKind, Name, None, Ok, Option, Order, Outcome, Port, Record, Result, Some, Task, Upcoming, Verdict, Volume, and_parts, ap, arith, begun_record, begun_step, begun_task, block_begun, block_of, block_served, changed_verdict, cond, drive_of, false, false≢true, fault_with, faulted, find, has_changed, has_host_bytes, has_name, inl, inr, is_available, is_some, kept_of, known_task, move_of, move_task, moved_by, moved_step, nat_le, option_map, part_at, part_of, part_served, part_task, part_with, place_in, refl, refusal_of, subst, sym, takes_any_volume, task_of, true, unless_fault, upcoming_of, volume_at, volume_found, volume_in_place, writes, ℕ, ◌%◌, ◌&&◌, ◌==◌, ◌∙◌, ◌≡◌, ◌≤◌, ◌⊎◌}
-use Rattle.std.specs.Prelude.{not}
-use Rattle.mscp_packet.specs.declared.command.Order.TheVariants as orders
+use Rattle.mscp_logged.proofs.Common.{Block, Bool, Buffer, Err, IsBegunStep, IsHow, List, MoveKind, Name, None, Ok, Option, Outcome, Port, Record, Result, Some, Task, Upcoming, Verdict, Volume, arith, begun_record, begun_step, block_begun, block_served, drive_of, false, false≢true, faulted, find, has_name, inl, is_some, known_task, move_of, move_task, option_map, part_served, true, upcoming_of, volume_found, volume_in_place, ℕ, ◌%◌, ◌≡◌, ◌≤◌, ◌⊎◌}
 use Rattle.mscp_drive.specs.declared.block.Block.TheVariants as blocks
 use Rattle.mscp_port.specs.declared.task.Task.TheVariants as tasks
 use Rattle.mscp_port.specs.declared.verdict.Verdict.TheVariants as verdicts
@@ -29,134 +27,26 @@ abbrev IsSureTask : Bool → Volume → Task → Type 0
 IsSureTask moves v (tasks.Step verdict) = IsSure moves v verdict
 IsSureTask moves v task = Unit {0}
 
-fault : (moves : Bool) (v : Volume) (n : ℕ) → (5 ≤ n % 32) × (n % 32 ≤ 11) → IsSure moves v (faulted n)
-fault moves v n h = inl h
-
 drive_error : (moves : Bool) (v : Volume) → IsSure moves v (faulted 0x000B)
 drive_error moves v = inl (omega arith, omega arith)
 
-changed_sure : (moves : Bool) (v : Volume) → IsSure moves v (changed_verdict v)
-changed_sure moves v = by v.is_mounted refl
-  where
-    by : (c : Bool) → v.is_mounted ≡ c → IsSure moves v (cond c (faulted 0x000B) verdicts.NoVolume)
-    by true e = drive_error moves v
-    by false e = e
-
--- why a block isn't moved, or the unit is online
-abbrev IsSureEither : Volume → Option Verdict → Type 0
-IsSureEither v None = v.is_mounted ≡ true
-IsSureEither v (Some verdict) = IsSure true v verdict
-
-either_cond : (v : Volume) (c : Bool) (x y : Option Verdict) → IsSureEither v x → IsSureEither v y
-    → IsSureEither v (cond c x y)
-either_cond v true x y a b = a
-either_cond v false x y a b = b
-
-refusal_sure : (kind : MoveKind) (block : ℕ) (b : Buffer) (v : Volume) → IsSureEither v (refusal_of kind block b v)
-refusal_sure kind block b v = by v.is_mounted refl
-  where
-    rest : v.is_mounted ≡ true → IsSureEither v
-        (cond (has_host_bytes kind && b.address % 2 == 1) (Some (faulted 0x0029))
-        (cond (b.count % 2 == 1) (Some (faulted 0x0049))
-        (cond (writes kind && v.is_protected_by_host) (Some (faulted 0x1006))
-        (cond (writes kind && v.is_protected) (Some (faulted 0x2006))
-        (cond (nat_le v.size block) (Some (faulted 0x000B)) None)))))
-    rest e = either_cond v (has_host_bytes kind && b.address % 2 == 1) (Some (faulted 0x0029)) _
-        (fault true v 0x0029 (omega arith, omega arith))
-        (either_cond v (b.count % 2 == 1) (Some (faulted 0x0049)) _ (fault true v 0x0049 (omega arith, omega arith))
-        (either_cond v (writes kind && v.is_protected_by_host) (Some (faulted 0x1006)) _
-        (fault true v 0x1006 (omega arith, omega arith))
-        (either_cond v (writes kind && v.is_protected) (Some (faulted 0x2006)) _
-        (fault true v 0x2006 (omega arith, omega arith))
-        (either_cond v (nat_le v.size block) (Some (faulted 0x000B)) None (drive_error true v) e))))
-
-    by : (c : Bool) → v.is_mounted ≡ c → IsSureEither v (cond (not c) (Some verdicts.NotOnline)
-        (cond (has_host_bytes kind && b.address % 2 == 1) (Some (faulted 0x0029))
-        (cond (b.count % 2 == 1) (Some (faulted 0x0049))
-        (cond (writes kind && v.is_protected_by_host) (Some (faulted 0x1006))
-        (cond (writes kind && v.is_protected) (Some (faulted 0x2006))
-        (cond (nat_le v.size block) (Some (faulted 0x000B)) None))))))
-    by false e = e
-    by true e = rest e
-
-part_sure : (kind : MoveKind) (block done : ℕ) (b : Buffer) (v : Volume)
-    → IsSureOr v (part_with kind block done b v)
-part_sure kind block done b v = by (fault_with kind block b v)
-    (either_cond v (has_changed b v) (Some (changed_verdict v)) (refusal_of kind block b v) (changed_sure true v)
-    (refusal_sure kind block b v)) (part_of b done)
-  where
-    by : (o : Option Verdict) → IsSureEither v o → (part : Option (ℕ × ℕ)) → IsSureOr v (unless_fault o part)
-    by (Some verdict) f part = f
-    by None f None = fault true v 0x0069 (omega arith, omega arith)
-    by None f (Some part) = f
-
 -- ---- a step
-
-task_cond : (moves : Bool) (v : Volume) (c : Bool) (x y : Task) → (c ≡ true → IsSureTask moves v x)
-    → IsSureTask moves v y → IsSureTask moves v (cond c x y)
-task_cond moves v true x y a b = a refl
-task_cond moves v false x y a b = b
 
 -- it moves a block
 abbrev pub moves_block : Upcoming → Bool
 moves_block u = is_some (move_of u)
 
-none_moves : (v : Volume) (move : Option (MoveKind × ℕ)) → move ≡ None
-    → IsSure (is_some move) v (verdicts.Served blocks.Good)
-none_moves v None e = λ moves. absurd (false≢true moves)
-none_moves v (Some move) e = search (arith, e)
-
-available_still : (order : Order) (lbn : Option ℕ) → is_available order ≡ true → moved_by order lbn ≡ None
-available_still orders.Available lbn e = refl
-available_still order lbn e = search arith
-
-any_still : (order : Order) (lbn : Option ℕ) → takes_any_volume order ≡ true → moved_by order lbn ≡ None
-any_still orders.Online lbn e = refl
-any_still orders.SetUnit lbn e = refl
-any_still order lbn e = search arith
-
 module _ (u : Upcoming) where
   move_sure : (b : Buffer) (v : Volume) (move : Option (MoveKind × ℕ))
       → IsSureTask (is_some move) v (move_task u move b v)
   move_sure b v None = λ moves. absurd (false≢true moves)
-  move_sure b v (Some move) = by (part_with move.0 move.1 u.done b v) (part_sure move.0 move.1 u.done b v)
-    where
-      by : (part : Result (ℕ × ℕ) Verdict) → IsSureOr v part → IsSureTask true v (part_task part)
-      by (Ok part) s = task_cond true v (part.1 == 0) (tasks.Step (verdicts.Served blocks.Good)) tasks.Transfer
-          (λ zero moves. s) tt
-      by (Err verdict) s = s
-
-  task_sure : (b : Buffer) (v : Volume) → IsSureTask (moves_block u) v (task_of u b v)
-  task_sure b v = task_cond (moves_block u) v (is_available u.command.order)
-      (tasks.Step (verdicts.Served blocks.Good)) _
-      (λ e. none_moves v (move_of u) (available_still u.command.order u.lbn e))
-      (task_cond (moves_block u) v (v.is_there && takes_any_volume u.command.order)
-      (tasks.Step (verdicts.Served blocks.Good)) _ (λ e. none_moves v (move_of u) (any_still u.command.order u.lbn
-      (and_parts v.is_there (takes_any_volume u.command.order) e).1))
-      (task_cond (moves_block u) v (has_changed b v) (tasks.Step (changed_verdict v)) _
-      (λ e. changed_sure (moves_block u) v) (move_sure b v (move_of u))))
+  move_sure b v (Some move) = grind arith
 
   known_sure : (place : Option ℕ) (kept : Option Buffer) (volumes : List Volume)
       → IsSureTask (moves_block u) (volume_in_place volumes place) (known_task u place kept volumes)
-  known_sure (Some place) (Some b) volumes = task_sure b (volume_at volumes place)
-  known_sure None kept volumes = drive_error (moves_block u) (volume_in_place volumes None)
-  known_sure (Some place) None volumes = drive_error (moves_block u) (volume_at volumes place)
-
-at_sure : (place : Option ℕ) (kept : Option Buffer) (kind : MoveKind) (block done : ℕ) (volumes : List Volume)
-    → IsSureOr (volume_in_place volumes place) (part_at place kept kind block done volumes)
-at_sure (Some place) (Some b) kind block done volumes = part_sure kind block done b (volume_at volumes place)
-at_sure None kept kind block done volumes = drive_error true (volume_in_place volumes None)
-at_sure (Some place) None kind block done volumes = drive_error true (volume_at volumes place)
+  known_sure place kept volumes = grind (arith, move_sure, drive_error)
 
 -- ---- what is told
-
-outcome_sure : (v : Volume) (outcome : Outcome) → v.is_mounted ≡ true
-    → IsSure true v (verdicts.Served (block_of outcome))
-outcome_sure v outcome e = by (block_of outcome)
-  where
-    by : (b : Block) → IsSureBlock true v b
-    by blocks.Good = λ moves. e
-    by (blocks.Bad status) = inr (refl, e)
 
 module _ {K : Type 0} (old : Port K) (outcome : Outcome) (step : IsBegunStep old) (name : Name)
     (was : old.controller.begun ≡ Some name) (r : Record)
@@ -170,27 +60,15 @@ module _ {K : Type 0} (old : Port K) (outcome : Outcome) (step : IsBegunStep old
   begun_is : begun_step old.controller ≡ Some u
   begun_is = begun_record old.controller name r was found
 
-  step_sure : (verdict : Verdict) → old.task ≡ tasks.Step verdict → IsSure (moves_block u) v verdict
-  step_sure verdict at = subst (λ t. IsSureTask (moves_block u) v t)
-      (sym (ap (begun_task old.controller.settings.units old.buffers.items old.volumes) begun_is)
-      ∙ sym (step (subst (λ t. IsOfBlock t) (sym at) tt)) ∙ at)
-      (known_sure u (place_in old.controller.settings.units u.command.unit)
-      (kept_of u.connection u.command.reference old.buffers.items) old.volumes)
-
   moved_sure : IsSure (moves_block u) v (block_served old outcome (block_begun old))
-  moved_sure = subst (λ o. IsSure (moves_block u) v (block_served old outcome (moved_step o))) (sym begun_is)
-      (by (move_of u))
+  moved_sure = rw begun_is (by (move_of u))
     where
       served : (part : Result (ℕ × ℕ) Verdict) → IsSureOr v part → IsSure true v (part_served outcome part)
-      served (Ok part) s = outcome_sure v outcome s
-      served (Err verdict) s = s
+      served part s = grind arith
 
       by : (move : Option (MoveKind × ℕ))
           → IsSure (is_some move) v (block_served old outcome (option_map (λ move. (u, move.0, move.1)) move))
-      by None = drive_error false v
-      by (Some move) = served _ (at_sure (place_in old.controller.settings.units u.command.unit)
-          (kept_of u.connection u.command.reference old.buffers.items) move.0 move.1 u.done old.volumes)
+      by move = grind (arith, drive_error, served)
 
   pub told_sure : (verdict : Verdict) → IsHow old outcome verdict → IsSure (moves_block u) v verdict
-  told_sure verdict (inl at) = step_sure verdict at
-  told_sure verdict (inr h) = subst (λ x. IsSure (moves_block u) v x) (sym h.1) moved_sure
+  told_sure verdict x = grind (arith, begun_is, known_sure, moved_sure)

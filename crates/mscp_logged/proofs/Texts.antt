@@ -1,6 +1,6 @@
 -- The texts of the disk's ends that are still to come: of what goes out, and behind it of those that wait in the
 -- controller, each with what was decided of it. By each call more come behind them.
-use Rattle.mscp_logged.proofs.Common.{Action, Bool, Decided, End, Hardware, Holdings, List, None, Option, Outgoing, Port, Shape, Some, TakesEnd, Wants, [], ap, append-nil, arith, begun_end, drop, end_left, end_said, end_told, ends_begun, ends_of, inl, inr, length, map, none-some, refl, same_Some, says_is, slice_get, sym, told_end, unit_found, zipped, ℕ, ◌++◌, ◌∙◌, ◌∷◌, ◌≡◌}
+use Rattle.mscp_logged.proofs.Common.{Action, Bool, Decided, End, Hardware, List, None, Option, Outgoing, Port, Shape, Some, Wants, [], ap, append-nil, arith, begun_end, drop, end_said, end_told, ends_begun, ends_of, length, map, refl, same_Some, says_is, slice_get, unit_found, zipped, ℕ, ◌++◌, ◌∷◌, ◌≡◌}
 
 -- what waits, with what was decided of each
 module _ (h : Hardware) (units : List Shape) where
@@ -29,8 +29,7 @@ module _ (h : Hardware) (units : List Shape) where
   texts_more [] fs [] f long = texts_come fs f
   texts_more [] fs (d ∷ ds) f long = search (arith, long)
   texts_more (x ∷ es) fs [] f long = search (arith, long)
-  texts_more (x ∷ es) fs (d ∷ ds) f long =
-      ap (λ xs. text_with x d ∷ xs) (texts_more es fs ds f (search (arith, long)))
+  texts_more (x ∷ es) fs (d ∷ ds) f long = grind (arith, texts_more es fs ds f (search (arith, long)))
 
   module _ {K : Type 0} (old new : Port K) where
     -- what begins to go out is the oldest of them, and these come behind
@@ -39,9 +38,7 @@ module _ (h : Hardware) (units : List Shape) where
 
     pub none_come : ends_begun old.outgoing new.outgoing ≡ [] → ends_of new.controller ≡ ends_of old.controller
         → new.decided.items ≡ old.decided.items → Comes []
-    none_come none ends decided = ap (λ xs. xs ++ waiting new) none
-        ∙ ap (λ es. texts_of es new.decided.items) ends ∙ ap (texts_of (ends_of old.controller)) decided
-        ∙ sym (append-nil (waiting old))
+    none_come none ends decided = grind (arith, append-nil)
 
     -- ---- as something is wanted
 
@@ -51,32 +48,12 @@ module _ (h : Hardware) (units : List Shape) where
       taken : (es : List End) (ds : List Decided) → length es ≡ length ds → (e : End) → slice_get es 0 ≡ Some e
           → (d : Decided) × (slice_get ds 0 ≡ Some d)
           × (texts_of es ds ≡ text_with e d ∷ texts_of (drop 1 es) (drop 1 ds))
-      taken [] ds long e some = absurd (none-some e some)
-      taken (x ∷ es) [] long e some = search (arith, long)
       taken (x ∷ es) (d ∷ ds) long e some =
           (d, refl, ap (λ y. text_with y d ∷ texts_of es ds) (same_Some x e some))
-
-      text_is : (e : End) (d : Decided) → slice_get old.decided.items 0 ≡ Some d → told_end old e ≡ text_with e d
-      text_is e d some =
-          ap (λ o. end_left e o (unit_found old.controller.settings.units e.unit) old.hardware) some
-          ∙ ap (λ us. end_told e d (unit_found us e.unit) old.hardware) settings
-          ∙ ap (end_told e d (unit_found units e.unit)) hardware
-
-      takes : TakesEnd old new → Comes []
-      takes t =
-          let e = t.out.0 in
-          let x = taken (ends_of old.controller) old.decided.items long e t.out.1 in
-          ap (λ xs. xs ++ waiting new) (begun_end old new t ∙ ap (λ y. y ∷ []) (text_is e x.0 x.1))
-          ∙ ap (λ xs. text_with e x.0 ∷ xs) (ap (λ (c : Holdings K). texts_of (ends_of c) new.decided.items)
-          t.controller ∙ ap (texts_of (drop 1 (ends_of old.controller))) t.decided)
-          ∙ sym x.2 ∙ sym (append-nil (waiting old))
+      taken es ds long e some = grind arith
 
       pub next_comes : Comes []
-      next_comes = elim (says_is old new r.says) [
-        | inl x ↦ takes x.0
-        | inr n ↦
-            none_come n.begun (ap (λ (c : Holdings K). ends_of c) n.controller) (ap (λ d. d.items) n.decided)
-      ]
+      next_comes = grind (arith, says_is, taken, begun_end, append-nil, none_come)
 
 -- ---- with what goes out
 

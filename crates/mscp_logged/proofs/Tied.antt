@@ -1,7 +1,6 @@
 -- What ties each end of a port's log to the command that it answers.
-use Rattle.mscp_logged.proofs.Common.{AllByRecursion, Answered, AsksAlways, Block, Bool, Call, End, First, Fits, IsAnswering, IsEnding, IsFault, IsFollowed, IsHow, IsMade, IsPast, IsReply, IsSaid, IsStepped, IsWhole, List, Name, None, Ok, Option, Order, Outcome, Outgoing, Picking, Port, ReadsBytes, Record, Settings, Some, TellsFaults, Verdict, Went, aborts_behind, answer_status, ap, arith, asked_before, awaited, block_told, command_of, controller_in, drop, ends_of, false, fault_of, find, has_name, inl, inr, is_apart, left_with, num, outcome_status, own_answer, own_cases, own_end_with, own_refused, own_text, refl, refused_apart, said_fits, sent_by, sent_says, slice_index, steps, subst, sym, true, volume_named, ℕ, ◌%◌, ◌<◌, ◌^◌, ◌∙◌, ◌∷◌, ◌≡◌, ◌⊎◌}
+use Rattle.mscp_logged.proofs.Common.{AllByRecursion, Answered, AsksAlways, Bool, Call, End, First, Fits, IsAnswering, IsEnding, IsFollowed, IsHow, IsMade, IsReply, IsSaid, IsStepped, IsWhole, List, Name, None, Ok, Option, Order, Outcome, Outgoing, Picking, Port, ReadsBytes, Record, Settings, Some, TellsFaults, Verdict, Went, aborts_behind, answer_status, ap, arith, asked_before, awaited, command_of, controller_in, drop, ends_of, false, fault_of, find, has_name, inl, inr, is_apart, left_with, num, own_answer, own_end_with, refl, refused_apart, said_fits, sent_by, sent_says, slice_index, steps, subst, sym, true, volume_named, ℕ, ◌%◌, ◌<◌, ◌^◌, ◌∙◌, ◌∷◌, ◌≡◌, ◌⊎◌}
 use Rattle.mscp_port.specs.declared.port.OutgoingKind.TheVariants as kinds
-use Rattle.mscp_logged.proofs.Made.{given_is}
 use Rattle.mscp_ported.proofs.ByOpcode.{ends_said}
 use Rattle.mscp_logged.proofs.Answered.{own_suited}
 use Rattle.mscp_logged.proofs.Coded.{own_fits}
@@ -44,14 +43,8 @@ reply_two e x two = by (fault_of x.settings (command_of x.text)) refl
           | inr k ↦ search (arith, sym k ∙ h)
         ]
 
-given_two : (online : Bool) (o : Order) (k : Block) → IsFault k → outcome_status online o k % 32 ≡ 2 → ⊥
-given_two online o k fault e = grind (arith, fault, e)
-
 stepped_two : (e : End) → IsStepped IsToldOf e → e.status % 32 ≡ 2 → ⊥
-stepped_two e x two =
-    let g = given_is (block_told x.verdict) x.drive x.own e x.is in
-    given_two x.drive.online x.own.command.order (block_told x.verdict) x.told.0
-    (ap (λ (y : End). y.status % 32) g.end ∙ two)
+stepped_two e x two = grind arith
 
 -- drives tell what they may
 said_as : {K : Type 0} (c : Settings) (F : Type 0) (old : Port K) (aw : List (List ℕ)) (text t : List ℕ) → F
@@ -77,31 +70,16 @@ said_as c F old aw text t f s = record {
   where
     followed : {e : End} {es : List End} → IsFollowed (ToldIf F) aw e es → IsFollowed IsToldOf aw e es
     followed (inl x) = inl x
-    followed (inr (inl x)) = inr (inl (record {
-      own = x.own;
-      drive = x.drive;
-      verdict = x.verdict;
-      told = x.told f;
-      is = x.is;
-    }))
+    followed (inr (inl x)) = grind arith
     followed (inr (inr x)) = inr (inr x)
 
     by : IsMade c (ToldIf F) (left_with s.end s.decided) t → IsMade c IsToldOf (left_with s.end s.decided) t
     by (inl x) = inl x
     by (inr (inl x)) = inr (inl x)
-    by (inr (inr x)) = inr (inr (record {
-      own = x.own;
-      of = x.of;
-      drive = x.drive;
-      verdict = x.verdict;
-      is = x.is f;
-      end = x.end;
-      told = x.told;
-    }))
+    by (inr (inr x)) = grind arith
 
 pub faults_before : (call : Call) (calls : List Call) → TellsFaults (call ∷ calls) → TellsFaults calls
-faults_before (Went outcome result) calls h = h.1
-faults_before call calls h = h
+faults_before call calls h = grind arith
 
 -- what is asked of calls
 abbrev pub IsFineUntil : Type 0 → List Call → Type 0
@@ -197,13 +175,10 @@ module _ {K : Type 0} {picks : Picking K} (run : Begun picks) (keeping : IsKeepi
       → IsFineUntil F (call ∷ calls) → (a : Answered picks start (call ∷ calls) p) → (q : IsAnswering call a.0 p)
       → IsOwn a.0 q.message q.out → q.out.kind ≡ kinds.End → Unit {0} → IsApartOr q.out.bytes.items
       (AllByRecursion (λ u. keeps_waiting q.message u ≡ false) (awaited picks start a.0 calls a.1))
-  own_turn p call calls reads fine a q own kind g = subst (λ b. IsApartOr b
-      (AllByRecursion (λ u. keeps_waiting q.message u ≡ false) (awaited picks start a.0 calls a.1))) (sym own.own.2)
-      (own_clear run keeping a.0 calls
+  own_turn p call calls reads fine a q own kind g = rw own.own.2 (own_clear run keeping a.0 calls
       (reads_before call calls reads) a.1 (none_left picks hardware credits controller start made p call calls a q)
-      q.message own.own.0
-      (ap (λ f. own_answer f (volume_named a.0 q.message) q.message) (sym (of_disk a.0 q.message q.out own kind))
-      ∙ own.own.1))
+      q.message own.own.0 (ap (λ f. own_answer f (volume_named a.0 q.message) q.message)
+      (sym (of_disk a.0 q.message q.out own kind)) ∙ own.own.1))
 
 -- ---- one of the port's own
 
@@ -222,13 +197,4 @@ own_end_of c F old text o small own kind =
 -- which says of no command that it was aborted
 pub never_aborted : {K : Type 0} (c : Settings) (old : Port K) (text : List ℕ) (o : Outgoing) → IsOwn old text o
     → o.kind ≡ kinds.End → num o.bytes.items 10 2 % 32 ≡ 2 → ⊥
-never_aborted c old text o own kind two = own_cases (volume_named old text) text
-    (λ x. num (own_text text x) 10 2 % 32 ≡ 2 → ⊥) (λ asks e. search (arith, e)) (λ status moves past. by status past)
-    own.own.0 (ap (λ f. own_answer f (volume_named old text) text) (sym (of_disk old text o own kind)) ∙ own.own.1)
-    (ap (λ b. num b 10 2 % 32) (sym own.own.2) ∙ two)
-  where
-    by : (status : ℕ) → IsPast status → num (own_text text (own_refused text status)) 10 2 % 32 ≡ 2 → ⊥
-    by status (inl e) = subst (λ n. num (own_text text (own_refused text n)) 10 2 % 32 ≡ 2 → ⊥) (sym e)
-        (λ h. search (arith, h))
-    by status (inr e) = subst (λ n. num (own_text text (own_refused text n)) 10 2 % 32 ≡ 2 → ⊥) (sym e)
-        (λ h. search (arith, h))
+never_aborted c old text o own kind two = grind arith

@@ -1,5 +1,5 @@
 -- Which commands are outstanding on the wire, beside the messages whose ends a port owes.
-use Rattle.mscp_logged.proofs.Common.{AllByRecursion, Bool, First, History, List, Moment, None, Nothing, Said, Sent, [], after, ap, arith, cond, drop, eq-eqb, eqb-true, false, filter, filter-append, fold_push, has_number, inl, inr, is_named, length, list_any, map, nat_eq, none_beside, none_of_it, not, num, other_number, outstanding, refl, sent_by, sole_left, some_none, standing_after, standing_first, subst, suc, sym, take, timeout, true, ℕ, ◌++◌, ◌+◌, ◌||◌, ◌∙◌, ◌∷◌, ◌≡◌, ◌⊎◌}
+use Rattle.mscp_logged.proofs.Common.{AllByRecursion, Bool, First, History, List, Moment, None, Nothing, Said, Sent, [], after, ap, arith, cond, drop, eq-eqb, false, filter, filter-append, fold_push, has_number, inl, inr, is_named, length, list_any, map, nat_eq, none_beside, none_of_it, not, num, other_number, outstanding, refl, sent_by, sole_left, some_none, standing_after, standing_first, subst, sym, take, timeout, true, ℕ, ◌++◌, ◌+◌, ◌∙◌, ◌∷◌, ◌≡◌, ◌⊎◌}
 use Rattle.mscp_port.specs.declared.port.OutgoingKind.TheVariants as kinds
 
 -- ---- commands
@@ -19,12 +19,7 @@ named n s = is_named First n s
 module _ {X : Type 0} where
   pub none_any : (f : X → Bool) (xs : List X) → list_any f xs ≡ false → filter f xs ≡ []
   none_any f [] e = refl
-  none_any f (x ∷ xs) e = by (f x) e (none_any f xs)
-    where
-      by : (b : Bool) → (b || list_any f xs) ≡ false → (list_any f xs ≡ false → filter f xs ≡ [])
-          → cond b (x ∷ filter f xs) (filter f xs) ≡ []
-      by true h rest = absurd (search (arith, h))
-      by false h rest = rest h
+  none_any f (x ∷ xs) e = grind (arith, none_any f xs)
 
   pub none_front : (f : X → Bool) (xs : List X) → AllByRecursion (λ y. f y ≡ false) xs → filter f xs ≡ []
   none_front f [] all = refl
@@ -33,14 +28,7 @@ module _ {X : Type 0} where
   pub filter_map : (f : X → Bool) (g : X → X) → ((x : X) → f (g x) ≡ f x) → (xs : List X)
       → filter f (map g xs) ≡ map g (filter f xs)
   filter_map f g same [] = refl
-  filter_map f g same (x ∷ xs) =
-      ap (λ b. cond b (g x ∷ filter f (map g xs)) (filter f (map g xs))) (same x)
-      ∙ ap (λ zs. cond (f x) (g x ∷ zs) zs) (filter_map f g same xs) ∙ by (f x)
-    where
-      by : (b : Bool) → cond b (g x ∷ map g (filter f xs)) (map g (filter f xs))
-          ≡ map g (cond b (x ∷ filter f xs) (filter f xs))
-      by true = refl
-      by false = refl
+  filter_map f g same (x ∷ xs) = grind (arith, filter_map f g same xs)
 
   -- a list without the element at a place
   pub front_of : (front : List X) (x : X) (back : List X) → take (length front) (front ++ x ∷ back) ≡ front
@@ -49,10 +37,7 @@ module _ {X : Type 0} where
 
   pub back_of : (front : List X) (x : X) (back : List X) → drop (length front + 1) (front ++ x ∷ back) ≡ back
   back_of [] x back = refl
-  back_of (y ∷ ys) x back = ap (λ n. drop n (y ∷ ys ++ x ∷ back)) (one (length ys)) ∙ back_of ys x back
-    where
-      one : (n : ℕ) → suc n + 1 ≡ suc (n + 1)
-      one n = omega arith
+  back_of (y ∷ ys) x back = grind (arith, back_of ys x back)
 
 -- ---- one number
 
@@ -89,11 +74,7 @@ pub record Wired (Tie : List ℕ → List ℕ → Type 0) (xs : List Sent) (aw :
   pub owed : AreOwed Tie xs aw held
 
 pub same_or : (n k : ℕ) → (n ≡ k) ⊎ (nat_eq n k ≡ false)
-same_or n k = by (nat_eq n k) refl
-  where
-    by : (b : Bool) → nat_eq n k ≡ b → (n ≡ k) ⊎ (nat_eq n k ≡ false)
-    by true e = inl (eqb-true n k e)
-    by false e = inr e
+same_or n k = grind arith
 
 pub one_of : {X : Type 0} (x y : X) → x ∷ [] ≡ y ∷ [] → x ≡ y
 one_of x y e = search (arith, e)
@@ -101,10 +82,7 @@ one_of x y e = search (arith, e)
 module _ (Tie : List ℕ → List ℕ → Type 0) (xs : List Sent) (aw : List (List ℕ)) where
   -- nothing is there
   pub nothing_wired : xs ≡ [] → aw ≡ [] → Wired Tie xs aw []
-  nothing_wired none no_text = record {
-    each = λ n. inl (ap (filter (named n)) none, ap (filter (has_number n)) no_text);
-    owed = tt;
-  }
+  nothing_wired none no_text = grind arith
 
   -- ---- an end begins to go out
 
@@ -168,8 +146,7 @@ module _ (Tie : List ℕ → List ℕ → Type 0) (xs : List Sent) (aw : List (L
     other_name k d = ap (λ (s : Sent). named k s) is ∙ d
 
     here : filter (named number) (xs ++ x ∷ []) ≡ x ∷ []
-    here = filter-append (named number) xs (x ∷ []) ∙ ap (λ zs. zs ++ filter (named number) (x ∷ [])) new
-        ∙ ap (λ b. cond b (x ∷ []) []) own_name
+    here = grind (arith, filter-append, own_name)
 
     there : (k : ℕ) → nat_eq number k ≡ false → filter (named k) (xs ++ x ∷ []) ≡ filter (named k) xs
     there k d = none_beside (named k) xs x (other_name k d)
@@ -183,8 +160,7 @@ module _ (Tie : List ℕ → List ℕ → Type 0) (xs : List Sent) (aw : List (L
       where
         one : s.kind ≡ kinds.End → IsOwed Tie (xs ++ x ∷ []) ts s.text
         one kind = let o = owed.0 kind in elim (same_or number (num s.text 0 4)) [
-          | inl e ↦ absurd (some_none o.own [] (sym o.sole
-              ∙ subst (λ j. filter (named j) xs ≡ []) e new))
+          | inl e ↦ absurd (some_none o.own [] (sym o.sole ∙ rw (← e) new))
           | inr d ↦ record {
             own = o.own;
             message = o.message;
@@ -197,8 +173,7 @@ module _ (Tie : List ℕ → List ℕ → Type 0) (xs : List Sent) (aw : List (L
 
     module _ (held : List Said) (w : Wired Tie xs aw held) where
       is_free : filter (has_number number) aw ≡ []
-      is_free = elim (w.each number)
-          [ inl free ↦ free.1 | inr o ↦ absurd (some_none o.own [] (sym o.sole ∙ new)) ]
+      is_free = grind arith
 
       -- the controller takes it
       taken_each : (k : ℕ) → At (xs ++ x ∷ []) (aw ++ t ∷ []) k
@@ -242,8 +217,7 @@ module _ (Tie : List ℕ → List ℕ → Type 0) (xs : List Sent) (aw : List (L
     module _ (s : Said) (w : Wired Tie xs aw []) (same : num s.text 0 4 ≡ num t 0 4) (tie : Tie s.text t) where
       answered_each : (k : ℕ) → At (xs ++ x ∷ []) aw k
       answered_each k = elim (same_or number k) [
-        | inl e ↦ subst (λ j. At (xs ++ x ∷ []) aw j) e
-            (inr (record { own = x; sole = here; awaited = inl (is_free [] w) }))
+        | inl e ↦ rw (← e) (inr (record { own = x; sole = here; awaited = inl (is_free [] w) }))
         | inr d ↦ elim (w.each k) [
           | inl free ↦ inl (there k d ∙ free.0, free.1)
           | inr o ↦ inr (record { own = o.own; sole = there k d ∙ o.sole; awaited = o.awaited })

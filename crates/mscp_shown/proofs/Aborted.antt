@@ -1,11 +1,11 @@
 -- An aborted command's end stands before that of its ABORT, which is outstanding until then.
-use Rattle.mscp_shown.proofs.Common.{AllByRecursion, Answer, Block, Bool, Command, Connection, End, List, Name, None, Option, Order, Pairs, Sent, Settings, Some, Trace, [], aborted_end, aborted_unless, answer_status, ap, arith, command, drop, every_filter, every_from, every_weaker, false, fault_of, filter, get_or, good, inl, inr, is_named, length, list_any, map, name, name_on, outcome_status, own_end, own_end_with, pairs_append, reference, refl, same_is, same_name, suc, sym, true, true≢false, waiting, zero, ℕ, ⊎_elim, ◌%◌, ◌++◌, ◌<◌, ◌||◌, ◌∙◌, ◌∷◌, ◌≡◌, ◌≢◌, ◌⊎◌}
+use Rattle.mscp_shown.proofs.Common.{AllByRecursion, Answer, Block, Bool, Command, Connection, End, List, Name, None, Option, Order, Pairs, Sent, Settings, Some, Trace, [], aborted_end, aborted_unless, ap, arith, command, drop, every_filter, every_from, every_weaker, false, fault_of, filter, get_or, good, inl, inr, is_named, length, list_any, map, name, name_on, outcome_status, own_end, own_end_with, pairs_append, reference, refl, same_is, same_name, suc, sym, true, true≢false, waiting, ℕ, ⊎_elim, ◌%◌, ◌++◌, ◌<◌, ◌∙◌, ◌∷◌, ◌≡◌, ◌≢◌, ◌⊎◌}
 use Rattle.mscp_packet.specs.declared.command.Order.TheVariants as orders
 use Rattle.mscp_shown.proofs.Strict.{after_end}
 use Rattle.mscp_shown.proofs.Ordering.{pairs_after}
 use Rattle.mscp_shown.proofs.Owners.{IsOnly, only_after, only_push}
 use Rattle.mscp_shown.proofs.Saying.{Says}
-use Rattle.mscp_shown.proofs.Suiting.{IsFault, refused_apart}
+use Rattle.mscp_shown.proofs.Suiting.{IsFault}
 
 -- one of the elements is so
 abbrev pub AnyBy : {X : Type 0} → (X → Type 0) → List X → Type 0
@@ -49,27 +49,20 @@ any_out P Q (x ∷ xs) f h = ⊎_elim (λ k. (x, f.0, k)) (λ k. any_out P Q xs 
 
 pub any_at : {X : Type 0} (p : X → Bool) (xs : List X) (i : ℕ) (d : X) → i < length xs → p (get_or xs i d) ≡ true
     → list_any p xs ≡ true
-any_at p [] i d l h = absurd (omega (arith, l))
-any_at p (x ∷ xs) zero d l h = ap (λ b. b || list_any p xs) h
-any_at p (x ∷ xs) (suc i) d l h = ap (λ b. p x || b) (any_at p xs i d (omega (arith, l)) h) ∙ or_true (p x)
-  where
-    or_true : (b : Bool) → (b || true) ≡ true
-    or_true b = grind arith
+any_at p (x ∷ xs) (suc i) d l h = grind (arith, any_at p xs i d (omega (arith, l)) h)
+any_at p xs i d l h = grind arith
 
 -- one that stands behind a place
 pub any_behind : {X : Type 0} (p : X → Bool) (xs : List X) (i j : ℕ) (d : X) → i < j → j < length xs
     → p (get_or xs j d) ≡ true → list_any p (drop (suc i) xs) ≡ true
-any_behind p [] i j d l m h = absurd (omega (arith, m))
-any_behind p (x ∷ xs) i zero d l m h = absurd (omega (arith, l))
-any_behind p (x ∷ xs) zero (suc j) d l m h = any_at p xs j d (omega (arith, m)) h
 any_behind p (x ∷ xs) (suc i) (suc j) d l m h = any_behind p xs i j d (omega (arith, l)) (omega (arith, m)) h
+any_behind p xs i j d l m h = grind (arith, any_at)
 
 -- ---- from one list of ends, or of commands, to the next
 pub aborts_append : (via : Connection) (xs : List Sent) (us vs : List End) → Aborts via xs us → Aborts via xs vs
     → Aborts via xs (us ++ vs)
 aborts_append via xs [] vs h k = k
-aborts_append via xs (e ∷ us) vs h k =
-    ((λ z. any_front (EndsAbort via xs e.reference) us vs (h.0 z)), aborts_append via xs us vs h.1 k)
+aborts_append via xs (e ∷ us) vs h k = grind (arith, aborts_append via xs us vs h.1 k, any_front)
 
 -- none of these ends is lost
 aborts_weaker : (via : Connection) (xs ys : List Sent) (P : End → Type 0) (us : List End)
@@ -104,14 +97,12 @@ aborts_after via xs a i us h =
     )) (every_from (λ e. Unit {0}) (λ e. tt) us) h
 
 pub aborts_rest : (via : Connection) (xs : List Sent) (us : List End) → Aborts via xs us → Aborts via xs (drop 1 us)
-aborts_rest via xs [] h = tt
-aborts_rest via xs (e ∷ us) h = h.1
+aborts_rest via xs us h = grind arith
 
 -- ---- the end of an ABORT
 -- the commands that an ABORT names
 pub named_each : (own : Connection) (t : Trace) (s : Sent) (o : Order) (f : Option ℕ) → Says o s
     → AllByRecursion (λ x. IsAbort (reference t x) s) (aborted_unless own t o f)
-named_each own t s o (Some fault) says = tt
 named_each own t s (orders.Abort other) None says =
     every_weaker (λ x. Unit {0} × (same_name (name t x) (name_on own other) ≡ true)) (λ x. IsAbort (reference t x) s)
     (λ x k.
@@ -120,7 +111,7 @@ named_each own t s (orders.Abort other) None says =
     (filter (λ x. same_name (name t x) (name_on own other)) (waiting t))
     (every_filter (λ x. Unit {0}) (λ x. same_name (name t x) (name_on own other)) (waiting t)
     (every_from (λ x. Unit {0}) (λ x. tt) (waiting t)))
-named_each own t s o None says = grind arith
+named_each own t s o f says = grind arith
 
 pub aborts_answer : (own : Connection) (t : Trace) (xs : List Sent) (e : End) (ys : List ℕ)
     → AllByRecursion (λ x. EndsAbort own xs (reference t x) e) ys → e.status % 32 ≢ 2
@@ -132,19 +123,9 @@ aborts_answer own t xs e (x ∷ ys) h n = (
 )
 
 -- ---- statuses
-pub one_aborts : (via : Connection) (xs : List Sent) (e : End) → e.status % 32 ≢ 2 → Aborts via xs (e ∷ [])
-one_aborts via xs e n = ((λ z. absurd (n z)), tt)
-
-answered_apart : (online : Bool) (o : Order) → answer_status online o % 32 ≢ 2
-answered_apart online o h = grind arith
-
 own_apart_with : (c : Settings) (online : Bool) (figure : ℕ) (k : Command) (s : Sent) (f : Option ℕ)
     → fault_of c k ≡ f → Says k.order s → (own_end_with c online figure k f).status % 32 ≢ 2
-own_apart_with c online figure k s None e says h = answered_apart online k.order h
-own_apart_with c online figure k s (Some status) e says h = ⊎_elim
-    (λ q. absurd (omega (arith, h, q)))
-    (λ q. absurd (omega (arith, h, q)))
-    (refused_apart c k.unit status k.order s says e)
+own_apart_with c online figure k s f e says h = grind arith
 
 -- an answered command isn't aborted
 pub own_apart : (c : Settings) (online : Bool) (figure : ℕ) (k : Command) (s : Sent) → Says k.order s

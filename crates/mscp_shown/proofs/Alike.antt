@@ -1,10 +1,6 @@
 -- Lists of outstanding commands that differ only in times, in what was told of them, and in what polls ask, keep the
 -- same rules.
-use Rattle.mscp_shown.proofs.Common.{Nothing, Sent, nat_lt, position, position_or_len}
-use Rattle.std.proofs.Common.{◌≡◌, ℕ, zero, suc, ◌+◌, Bool, false, cond, not, ◌||◌, List, [], ◌∷◌, length, get_or, take, drop, refl, ap, sym, ◌∙◌, Some, None}
-use Rattle.std.specs.Prelude.{count_by}
-use Rattle.std.specs.List.{list_any}
-use Rattle.std.proofs.lemmas.List.Sums.{sum_by-cons}
+use Rattle.mscp_shown.proofs.Common.{Bool, List, None, Nothing, Sent, Some, [], ap, cond, count_by, drop, false, get_or, length, list_any, nat_lt, not, position, position_or_len, refl, suc, sum_by-cons, sym, take, zero, ℕ, ◌+◌, ◌||◌, ◌∙◌, ◌∷◌, ◌≡◌}
 
 -- a command, without what was told of it, what it asks, what ended beside it, and times
 abbrev pub bare : Sent → Sent

@@ -1,11 +1,9 @@
 -- What a message that is answered when it comes, and a step, change of what is outstanding: each ends as many as it
 -- takes away, and an answered message is one more.
-use Rattle.mscp_shown.proofs.Common.{AllByRecursion, Block, Bool, Command, Connection, End, Entry, Event, List, Moment, Name, None, Ok, Option, Order, Service, Settings, Some, Step, Trace, [], aborted, aborted_unless, aborts, answer, ap, arith, command, command_of, cond, connection, count_by, differ_is, ends_at, ends_in, ends_served, every_filter, every_from, every_weaker, false, fault_of, figure_asked, filter, filter_all, filter_filter, filter_on, good, if◌then◌else◌, is_differ, is_online, is_same, is_some, kept_own, map, name, name_on, not, option_map, outcome, own_end, own_end_with, reference, refl, same_connection, same_is, same_name, sent_bytes, service_name, slice_get, subst, sum_by_map, sum_by_push, sym, true, waiting, waiting_by, ℕ, ◌&&◌, ◌+◌, ◌∙◌, ◌∷◌, ◌≡◌, ◌≢◌}
-use Rattle.mscp_controller.proofs.Basics.{aborted_reference}
+use Rattle.mscp_shown.proofs.Common.{AllByRecursion, Block, Bool, Command, Connection, End, Entry, Event, List, Moment, Name, None, Ok, Option, Order, Service, Settings, Some, Step, Trace, [], aborted, aborted_reference, aborted_unless, aborts, answer, ap, arith, command_of, cond, connection, count_by, differ_is, ends_at, ends_in, ends_served, every_filter, every_from, every_weaker, false, fault_of, filter, filter_all, filter_filter, filter_on, if◌then◌else◌, is_differ, is_same, is_some, kept_own, name, name_on, not, option_map, outcome, own_end_with, reference, refl, same_connection, same_is, same_name, sent_bytes, service_name, slice_get, subst, sum_by_map, sum_by_push, sym, true, waiting, waiting_by, ℕ, ◌&&◌, ◌+◌, ◌∙◌, ◌∷◌, ◌≡◌, ◌≢◌}
 use Rattle.mscp_controller.specs.declared.entry.Sent.{Sent}
-use Rattle.mscp_queue.specs.Outcomes.{aborted_end}
 use Rattle.mscp_shown.proofs.Counts.{one_gone, parted}
-use Rattle.mscp_shown.proofs.Owed.{kept, one_if}
+use Rattle.mscp_shown.proofs.Owed.{kept}
 
 -- the answer to a message of a connection that aborts the command of this reference number, or none
 abbrev pub Answer : Connection → ℕ → Option ℕ → Entry
@@ -57,39 +55,23 @@ module _ (via : Connection) (t : Trace) (q : ℕ) (p : ℕ → Bool) where
 
   none_named : (a : Option ℕ) (xs : List ℕ) → xs ≡ [] → a ≡ option_map (reference t) (slice_get xs 0)
       → numbered (left a) + numbered xs ≡ numbered (waiting_by via t)
-  none_named a xs e first =
-      ap (λ ws. numbered ws + numbered xs) (none_left a (first ∙ ap
-      (λ ys. option_map (reference t) (slice_get ys 0)) e))
-      ∙ ap (λ ys. numbered (waiting_by via t) + numbered ys) e
-      ∙ omega arith
+  none_named a xs e first = grind (arith, none_left)
 
   aborted_left : (o : Order) (f : Option ℕ) (a : Option ℕ)
       → a ≡ option_map (reference t) (slice_get (aborted_unless via t o f) 0)
       → numbered (left a) + numbered (aborted_unless via t o f) ≡ numbered (waiting_by via t)
-  aborted_left o (Some fault) a first = none_named a [] refl first
-  aborted_left (Order.Abort other) None a first =
-      named_left other a (filter (λ x. same_name (name t x) (name_on via other)) (waiting t)) refl first
-  aborted_left o None a first = search (arith, none_named)
+  aborted_left o f a first = grind (arith, none_named, named_left)
 
 -- ---- the ends of an answer
 pub own_number : (c : Settings) (online : Bool) (figure : ℕ) (k : Command) (f : Option ℕ)
     → (own_end_with c online figure k f).reference ≡ k.reference
-own_number c online figure k None = refl
-own_number c online figure k (Some status) = refl
+own_number c online figure k f = grind arith
 
 answer_numbers : (c : Settings) (via : Connection) (t : Trace) (b : List ℕ) (p : ℕ → Bool)
     → count_by (λ (e : End). p e.reference) (answer c via t b)
     ≡ count_by (λ x. p (reference t x)) (aborted c via t (command_of b)) + cond (p (command_of b).reference) 1 0
 unfolding answer
-answer_numbers c via t b p =
-    let g : End → ℕ = λ e. cond (p e.reference) 1 0 in
-    let k = command_of b in
-    let xs = aborted c via t k in
-    let own = own_end c (is_online t k.unit) (figure_asked c via t k.order) k in
-    sum_by_push g (map (λ x. aborted_end (command t x) (good t x)) xs) own
-    ∙ ap (λ n. n + g own) (sum_by_map (λ x. aborted_end (command t x) (good t x)) g xs)
-    ∙ ap (λ r. count_by (λ x. p (reference t x)) xs + cond (p r) 1 0)
-    (own_number c (is_online t k.unit) (figure_asked c via t k.order) k (fault_of c k))
+answer_numbers c via t b p = grind (arith, sum_by_push, sum_by_map, own_number)
 
 -- an answered message is one more, whatever it aborts
 pub answered : (c : Settings) (via : Connection) (t : Trace) (event : Event) (q : ℕ) (a : Option ℕ) (p : ℕ → Bool)
@@ -143,5 +125,4 @@ module _ (c : Settings) (via : Connection) (t : Trace) (m : Moment) (s : Service
       one_end : (here : Bool) (e : End) → e.reference ≡ reference t y
           → count_by (λ (e : End). p e.reference) (if here then e ∷ [] else [])
           ≡ cond (here && p (reference t y)) 1 0
-      one_end true e h = ap (λ r. 0 + one_if (p r)) h ∙ omega arith
-      one_end false e h = refl
+      one_end here e h = grind arith

@@ -1,5 +1,5 @@
 -- The answer to a poll has one end, which tells the figure of the command that the poll is about.
-use Rattle.mscp_shown.proofs.Common.{AllByRecursion, Bool, Command, Connection, End, List, None, Option, Order, Sent, Settings, Some, Trace, [], aborted, aborted_end, aborted_unless, answer, ap, command, command_of, every_append, false, fault_of, figure_asked, figure_of, good, is_online, is_queued, map, name_on, own_end, refl, sent_by, subst, sym, ℕ, ◌++◌, ◌∙◌, ◌∷◌, ◌≡◌}
+use Rattle.mscp_shown.proofs.Common.{AllByRecursion, Bool, Command, Connection, End, List, None, Option, Order, Sent, Settings, Some, Trace, [], aborted, aborted_end, aborted_unless, answer, ap, command, command_of, every_append, false, fault_of, figure_asked, figure_of, good, is_online, is_queued, map, name_on, own_end, refl, sent_by, ℕ, ◌++◌, ◌∙◌, ◌∷◌, ◌≡◌}
 use Rattle.mscp_packet.specs.declared.command.Order.TheVariants as orders
 use Rattle.mscp_shown.proofs.Making.{Facts, aborted_silent}
 use Rattle.mscp_shown.proofs.Owners.{IsNew}
@@ -26,9 +26,7 @@ figure_own c online figure reference unit n = refl
 
 figure_with : (c : Settings) (online : Bool) (figure : ℕ) (k : Command) (n : ℕ) → k.order ≡ orders.Status n
     → figure_told (own_end c online figure k) ≡ figure
-figure_with c online figure k n h =
-    subst (λ o. figure_told (own_end c online figure (record { reference = k.reference; unit = k.unit; order = o }))
-    ≡ figure) (sym h) (figure_own c online figure k.reference k.unit n)
+figure_with c online figure k n h = rw h (figure_own c online figure k.reference k.unit n)
 
 module _ (c : Settings) (own : Connection) (t : Trace) (b : List ℕ) where
   -- the end of its own

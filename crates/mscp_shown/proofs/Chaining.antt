@@ -1,5 +1,5 @@
 -- What the ends that weren't taken will tell of a command: each figure is lower than the one before.
-use Rattle.mscp_shown.proofs.Common.{AllByRecursion, Bool, Connection, End, List, None, Option, Sent, Some, [], ap, arith, false, false≢true, if◌then◌else◌, is_below, is_it, is_named, list_any, nat_eq, refl, subst, sym, true, true≢false, ℕ, ◌&&◌, ◌++◌, ◌<◌, ◌||◌, ◌∙◌, ◌∷◌, ◌≡◌}
+use Rattle.mscp_shown.proofs.Common.{AllByRecursion, Bool, Connection, End, List, None, Option, Sent, Some, [], ap, arith, false, if◌then◌else◌, is_below, is_it, is_named, list_any, nat_eq, refl, true, ℕ, ◌&&◌, ◌++◌, ◌<◌, ◌∷◌, ◌≡◌}
 use Rattle.mscp_shown.proofs.Polling.{figure_told, poll_of}
 
 -- an end's command is among these
@@ -34,30 +34,13 @@ is_over n us = list_any (λ (e : End). nat_eq e.reference n) us
 
 -- ---- one step
 goes_map : (o a b : Bool) (A B C D : Type 0) → a ≡ b → (A → C) → (B → D) → Goes o a A B → Goes o b C D
-goes_map true a b A B C D e f g h = tt
-goes_map false true true A B C D e f g h = f h
-goes_map false false false A B C D e f g h = g h
-goes_map false true false A B C D e f g h = absurd (true≢false e)
-goes_map false false true A B C D e f g h = absurd (false≢true e)
-
-goes_over : (o a : Bool) (A B : Type 0) → o ≡ true → Goes o a A B
-goes_over true a A B e = tt
-goes_over false a A B e = absurd (false≢true e)
-
-goes_on : (o a : Bool) (A B : Type 0) → o ≡ false → a ≡ false → B → Goes o a A B
-goes_on true a A B e f h = tt
-goes_on false true A B e f h = absurd (true≢false f)
-goes_on false false A B e f h = h
+goes_map o a b A B C D e f g h = grind arith
 
 pub goes_told : (o a : Bool) (A B : Type 0) → o ≡ false → a ≡ true → Goes o a A B → A
-goes_told true a A B e f h = absurd (true≢false e)
-goes_told false true A B e f h = h
-goes_told false false A B e f h = absurd (false≢true f)
+goes_told o a A B e f h = grind arith
 
 pub goes_by : (o a : Bool) (A B : Type 0) → o ≡ false → a ≡ false → Goes o a A B → B
-goes_by true a A B e f h = absurd (true≢false e)
-goes_by false true A B e f h = absurd (true≢false f)
-goes_by false false A B e f h = h
+goes_by o a A B e f h = grind arith
 
 module _ (via : Connection) (n : ℕ) where
   -- the same commands hear
@@ -75,9 +58,7 @@ module _ (via : Connection) (n : ℕ) where
       → last_told via other n last us ≡ last_told via later n last us
   last_same later other last [] s = refl
   last_same later other last (e ∷ us) s =
-      let same : tells via other n e ≡ tells via later n e = ap (λ b. is_it (poll_of e) n && b) (sym s.0) in
-      ap (λ b. last_told via other n (if b then Some (figure_told e) else last) us) same
-      ∙ last_same later other (if tells via later n e then Some (figure_told e) else last) us s.1
+      grind (arith, last_same later other (if tells via later n e then Some (figure_told e) else last) us s.1)
 
   -- more ends
   pub chain_append : (later : List Sent) (last : Option ℕ) (us vs : List End) → Chain via later n last us
@@ -87,28 +68,11 @@ module _ (via : Connection) (n : ℕ) where
   chain_append later last (e ∷ us) vs h k =
       by_own (λ l c k. chain_append later l us vs c k) (nat_eq e.reference n) refl (tells via later n e) refl
     where
-      put_told : (A B : Type 0) (o a : Bool) → o ≡ false → a ≡ true → A → Goes o a A B
-      put_told A B true a e f h = tt
-      put_told A B false true e f h = h
-      put_told A B false false e f h = absurd (false≢true f)
-
       by_own : ((l : Option ℕ) → Chain via later n l us
           → (is_over n us ≡ false → Chain via later n (last_told via later n l us) vs) → Chain via later n l (us ++ vs))
           → (o : Bool) → nat_eq e.reference n ≡ o → (a : Bool) → tells via later n e ≡ a
           → Chain via later n last (e ∷ us ++ vs)
-      by_own on true p a q = goes_over (nat_eq e.reference n) (tells via later n e) _ _ p
-      by_own on false p true q =
-          let now = goes_told (nat_eq e.reference n) (tells via later n e) _ _ p q h in
-          let rest = on (Some (figure_told e)) now.2
-          (λ over. subst (λ l. Chain via later n (last_told via later n l us) vs)
-          (ap (λ b. if b then Some (figure_told e) else last) q) (k (ap (λ b. b || is_over n us) p ∙ over))) in
-          put_told _ _ (nat_eq e.reference n) (tells via later n e) p q (now.0, now.1, rest)
-      by_own on false p false q =
-          let now = goes_by (nat_eq e.reference n) (tells via later n e) _ _ p q h in
-          goes_on (nat_eq e.reference n) (tells via later n e) _ _ p q
-          (on last now
-          (λ over. subst (λ l. Chain via later n (last_told via later n l us) vs)
-          (ap (λ b. if b then Some (figure_told e) else last) q) (k (ap (λ b. b || is_over n us) p ∙ over))))
+      by_own on o p a q = grind arith
 
   pub last_append : (later : List Sent) (last : Option ℕ) (us vs : List End)
       → last_told via later n last (us ++ vs) ≡ last_told via later n (last_told via later n last us) vs
@@ -120,19 +84,12 @@ module _ (via : Connection) (n : ℕ) where
   pub chain_silent : (later : List Sent) (last : Option ℕ) (us : List End)
       → AllByRecursion (λ e. tells via later n e ≡ false) us → Chain via later n last us
   chain_silent later last [] s = tt
-  chain_silent later last (e ∷ us) s =
-      by_own _ _ (nat_eq e.reference n) (tells via later n e) s.0 (chain_silent later last us s.1)
-    where
-      by_own : (A B : Type 0) (o a : Bool) → a ≡ false → B → Goes o a A B
-      by_own A B true a e h = tt
-      by_own A B false true e h = absurd (true≢false e)
-      by_own A B false false e h = h
+  chain_silent later last (e ∷ us) s = grind (arith, chain_silent later last us s.1)
 
   pub last_silent : (later : List Sent) (last : Option ℕ) (us : List End)
       → AllByRecursion (λ e. tells via later n e ≡ false) us → last_told via later n last us ≡ last
   last_silent later last [] s = refl
-  last_silent later last (e ∷ us) s =
-      ap (λ b. last_told via later n (if b then Some (figure_told e) else last) us) s.0 ∙ last_silent later last us s.1
+  last_silent later last (e ∷ us) s = grind (arith, last_silent later last us s.1)
 
 -- an end that is of no poll tells nothing
 pub silent_of : (via : Connection) (later : List Sent) (n : ℕ) (e : End) → poll_of e ≡ None
@@ -141,7 +98,4 @@ silent_of via later n e h = ap (λ o. is_it o n && heard via later e) h
 
 -- and nothing is told of a command that none follows
 pub silent_last : (via : Connection) (n : ℕ) (e : End) → tells via [] n e ≡ false
-silent_last via n e = never (is_it (poll_of e) n)
-  where
-    never : (b : Bool) → (b && false) ≡ false
-    never b = grind arith
+silent_last via n e = grind arith

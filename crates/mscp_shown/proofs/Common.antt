@@ -5,10 +5,10 @@ pub use Rattle.std.proofs.lemmas.Bool.Decides.{nat_tests}
 pub use Rattle.std.proofs.lemmas.Grind.{flat_map-append}
 pub use Rattle.std.proofs.lemmas.List.{get_or-take, get_or_past, length-take-le, length_push, take-take, take_all}
 pub use Rattle.std.proofs.lemmas.List.Quantifiers.{position-Some}
-pub use Rattle.std.proofs.lemmas.List.Sums.{fold_push, get_or-le-sum_by, sum_by_push}
-pub use Rattle.std.specs.List.{position, position_or_len}
+pub use Rattle.std.proofs.lemmas.List.Sums.{fold_push, get_or-le-sum_by, sum_by-drop_more, sum_by-take-drop, sum_by_push}
+pub use Rattle.std.specs.List.{list_all, position, position_or_len}
 pub use Rattle.std.specs.Prelude.{bit_or, find, fold, min, nat_le, nat_lt, slice_index, ◌%◌, ◌/◌, ◌^◌}
-pub use Rattle.mscp_controller.proofs.Basics.{All, All-from_recursion, AllByRecursion, Apart, ArrayVec, Block, Bool, Command, Connection, Contains, End, Err, Event, IsLegal, IsOfKind, IsRight, IsServed, List, Moment, Name, None, Ok, Option, Order, Promise, Report, Service, Settings, Shape, Some, Step, Trace, [], aborted, aborted_end, aborted_unless, aborts, alone, and-false, and_parts, ap, append-nil, append_assoc, arith, arrival, arrives, bound, changes, command_before, cond, connection, connection_of, count_by, credits_of, cut, differ_is, done, done_before, done_last, drop, drop_last, drop_more, each_push, each_queued, earlier, end_bytes, end_of, ends_at, ends_in, ends_more, eq-eqb, eqb-false, eqb-true, every_append, every_both, every_filter, every_from, every_kept, every_mapped, every_parts, every_weaker, false, false≢true, fault_of, figure, filter, filter_all, filter_filter, filter_on, get_or, good_before, holds, if◌then◌else◌, in_service, inl, is_differ, is_good, is_queued, is_same, is_some, is_startable, is_step, is_waiting, is_waiting_before, le-ltb, left, length, list_any, list_any-append, lt-ltb, map, name, name_on, nat_eq, ne_eqb, not, one_side, option_map, option_to_list, order, own_end, own_side, queued_open, queues, recursion_from_All, reference, refl, same_connection, same_is, same_name, sent_bytes, serves_in, service_in, service_name, slice_get, some_same, startable_parts, state_after, step_right, subst, suc, sum_by, sum_by-append, sum_by-cons, sum_on, sym, take, take-append-drop, take-append-le, take_at, taken_when, takes, true, true≢false, unit, unit_found, unit_shape, untaken_more, waiting_below, waiting_by, waiting_more, waiting_waits, waits_below, zero, ℕ, ⊎_elim, ◌&&◌, ◌*◌, ◌++◌, ◌+◌, ◌-◌, ◌<◌, ◌||◌, ◌∙◌, ◌∷◌, ◌≡◌, ◌≢◌, ◌≤◌, ◌⊎◌}
+pub use Rattle.mscp_controller.proofs.Basics.{All, All-from_recursion, AllByRecursion, Apart, ArrayVec, Block, Bool, Command, Connection, Contains, End, Err, Event, IsLegal, IsOfKind, IsRight, IsServed, List, Moment, Name, None, Ok, Option, Order, Promise, Report, Service, Settings, Shape, Some, Step, Trace, [], aborted, aborted_end, aborted_unless, aborts, alone, and-false, and_parts, ap, append-nil, append_assoc, arith, arrival, arrives, bound, changes, command_before, command_last, cond, connection, connection_of, count_by, credits_of, cut, differ_is, done, done_before, done_last, drop, drop-drop, drop_last, drop_more, each_push, each_queued, earlier, end_bytes, end_of, ends_at, ends_in, ends_more, eq-eqb, eqb-false, eqb-true, every_append, every_both, every_filter, every_from, every_kept, every_mapped, every_parts, every_weaker, false, false≢true, fault_of, figure, filter, filter_all, filter_filter, filter_on, get_or, good_before, holds, if◌then◌else◌, in_service, inl, is_differ, is_good, is_queued, is_same, is_some, is_startable, is_step, is_waiting, is_waiting_before, le-ltb, left, length, list_any, list_any-append, lt-ltb, map, name, name_on, nat_eq, ne_eqb, not, one_side, option_map, option_to_list, order, own_end, own_side, queued_open, queues, queues_by, recursion_from_All, reference, refl, same_connection, same_is, same_name, sent_bytes, serves_in, service_in, service_name, slice_get, some_same, startable_parts, state_after, step_right, subst, suc, sum_by, sum_by-append, sum_by-cons, sum_on, sym, take, take-append-drop, take-append-le, take_at, taken_more, taken_when, takes, true, true≢false, unit, unit_found, unit_shape, untaken_more, waiting_below, waiting_by, waiting_by_more, waiting_more, waiting_waits, waits_below, zero, ℕ, ⊎_elim, ◌&&◌, ◌*◌, ◌++◌, ◌+◌, ◌-◌, ◌<◌, ◌||◌, ◌∙◌, ◌∷◌, ◌≡◌, ◌≢◌, ◌≤◌, ◌⊎◌}
 unfoldable pub use Rattle.mscp_controller.proofs.Basics.{answer, balance, collect, command, command_of, ends, figure_of, good, is_free, moment, outcome, outstanding, untaken, waiting}
 pub use Rattle.mscp_controller.proofs.Promise.Apart.{name_last, queued_name}
 pub use Rattle.mscp_controller.proofs.Promise.Arrivals.{IsTaken}
@@ -44,7 +44,7 @@ pub use Rattle.mscp_packet.specs.declared.command.MoveKind.{MoveKind}
 pub use Rattle.mscp_packet.specs.declared.end.BodyKind.{BodyKind}
 pub use Rattle.mscp_packet.specs.declared.end.EndBody.{EndBody}
 pub use Rattle.mscp_queue.proofs.Lists.{every_of, pairs_append}
-pub use Rattle.mscp_queue.proofs.Placed.{find_cases, find_first, find_none, found_is, sum_by_map}
+pub use Rattle.mscp_queue.proofs.Placed.{find_cases, find_first, find_none, found_is, position_first, sum_by_map}
 pub use Rattle.mscp_queue.specs.Orders.{endcode, is_sequential, order_weight}
 pub use Rattle.mscp_queue.specs.Outcomes.{goes_on, is_good_block, is_success, moved_body, outcome_body, outcome_status, touches}
 pub use Rattle.mscp_queue.specs.Pairs.{Pairs}

@@ -1,11 +1,5 @@
 -- How many elements of a list pass a test.
-use Rattle.std.proofs.Common.{◌≡◌, ℕ, ◌+◌, ◌<◌, ◌≤◌, Bool, true, false, cond, not, ◌&&◌, List, [], ◌∷◌, ◌++◌, length, get_or, take, drop, map, refl, ap, ◌∙◌, arith, ⊎_elim, Some}
-use Rattle.std.proofs.lemmas.Bool.{and_parts, or_parts}
-use Rattle.std.proofs.lemmas.List.Sums.{sum_by-append, sum_by-cons, sum_by-drop_more, sum_by-take-drop}
-use Rattle.std.specs.List.{AllByRecursion, list_all, list_any, position}
-use Rattle.std.specs.Prelude.{count_by, filter, find}
-use Rattle.mscp_queue.proofs.Lists.{every_from, every_kept, every_weaker, filter_all, sum_on}
-use Rattle.mscp_queue.proofs.Placed.{find_cases, position_first, sum_by_map}
+use Rattle.mscp_shown.proofs.Common.{AllByRecursion, Bool, List, Some, [], and_parts, ap, arith, cond, count_by, drop, every_from, every_kept, every_weaker, false, filter, filter_all, find, find_cases, get_or, length, list_all, list_any, map, not, or_parts, position, position_first, refl, sum_by-append, sum_by-cons, sum_by-drop_more, sum_by-take-drop, sum_by_map, sum_on, take, true, ℕ, ⊎_elim, ◌&&◌, ◌++◌, ◌+◌, ◌<◌, ◌∙◌, ◌∷◌, ◌≡◌, ◌≤◌}
 
 module _ {X : Type 0} (p : X → Bool) where
   -- those that pass a test, and those that don't
@@ -63,9 +57,7 @@ module _ {X : Type 0} (p : X → Bool) where
     where
       none_counted : (xs : List X) → AllByRecursion (λ x. p x ≡ false) xs → count_by p xs ≡ 0
       none_counted [] h = refl
-      none_counted (x ∷ xs) h =
-          sum_by-cons (λ x. cond (p x) 1 0) x xs ∙ ap (λ b. cond b 1 0 + count_by p xs) h.0
-          ∙ omega (arith, none_counted xs h.1)
+      none_counted (x ∷ xs) h = grind (arith, none_counted xs h.1)
 
   -- one goes out, and those before it change in what the test doesn't see
   pub removed : (f : X → X) (xs : List X) (i : ℕ) (d : X) → ((x : X) → p (f x) ≡ p x) → i < length xs

@@ -1,14 +1,11 @@
 -- A take keeps all that holds, and the end that it shows keeps its rules.
-use Rattle.mscp_shown.proofs.Common.{AllByRecursion, Answered, ArrayVec, Bool, Connection, End, EndBody, Entry, Event, IsOfKind, IsRight, Known, List, Moment, Out, Settings, Some, Trace, [], and_parts, answer_by, ap, append-nil, arith, cases_lt, command_at, cond, connection, count_by, drop, end_bytes, ends_in, eq-eqb, eqb-true, every_from, every_weaker, false, false≢true, get_or, get_or-take, has_abort, inr, is_apart, is_it, is_long, is_named, keeps_back, length, length-take-le, list_any, name, nat_eq, not, num, one_side, own_side, passes_none, place_of, polled_by, position, position-Some, reference, refl, same_connection, sent_by, shown, status_code, subst, sym, take, true, untaken, untaken_more, waiting, waiting_by, ℕ, ◌%◌, ◌&&◌, ◌++◌, ◌+◌, ◌<◌, ◌∙◌, ◌∷◌, ◌≡◌, ◌≤◌}
-use Rattle.mscp_controller.proofs.Basics.{First}
+use Rattle.mscp_shown.proofs.Common.{AllByRecursion, Answered, ArrayVec, Bool, Connection, End, Entry, Event, First, IsOfKind, IsRight, Known, List, Moment, Out, Settings, Some, Trace, [], and_parts, answer_by, ap, append-nil, arith, cases_lt, command_at, cond, connection, count_by, drop, end_bytes, ends_in, eq-eqb, eqb-true, every_from, every_weaker, false, false≢true, get_or, get_or-take, has_abort, inl, inr, is_apart, is_it, is_long, is_named, keeps_back, length, length-take-le, list_any, name, nat_eq, not, num, one_side, own_side, passes_none, place_of, polled_by, position, position-Some, reference, refl, same_connection, sent_by, shown, status_code, subst, suc, sym, take, true, unit_shape, untaken, untaken_more, waiting, waiting_by, ℕ, ⊎_elim, ◌%◌, ◌&&◌, ◌++◌, ◌+◌, ◌<◌, ◌||◌, ◌∙◌, ◌∷◌, ◌≡◌, ◌≤◌, ◌⊎◌}
 use Rattle.mscp_wire.specs.Wire as wire
-use Rattle.std.specs.Prelude.{◌||◌, if◌then◌else◌}
 use Rattle.mscp_wire.specs.declared.moment.Moment.TheVariants as moments
 use Rattle.mscp_shown.proofs.Strict.{after_end, outstanding}
 use Rattle.mscp_shown.proofs.Aborted.{Aborts, EndsAbort, IsAbort, IsBehind, aborts_after, aborts_rest, any_behind, any_out}
 use Rattle.mscp_shown.proofs.Counts.{each_counted, some_place}
 use Rattle.mscp_shown.proofs.Owed.{one_if, owed, owed_took, untaken_took}
-use Rattle.mscp_drive.specs.Settings.{unit_shape}
 use Rattle.mscp_shown.proofs.Identity.{IsTold, is_told, same_right, told_more}
 use Rattle.mscp_shown.proofs.Suited.{Keeps}
 use Rattle.mscp_shown.proofs.Owners.{Fits, IsOwed, IsOwn, every_drop, message, only_after, untold}
@@ -16,12 +13,10 @@ use Rattle.mscp_shown.proofs.Owning.{Owners, waits_more}
 use Rattle.mscp_shown.proofs.Reading.{IsFit, reads}
 use Rattle.mscp_shown.proofs.Shown.{placed, tally, tally_end}
 use Rattle.mscp_shown.proofs.Taking.{Takes, long_end, reference_read}
-use Rattle.std.proofs.Common.{⊎_elim, ◌⊎◌, inl, suc}
-use Rattle.mscp_packet.specs.declared.end.EndBody.TheVariants as bodies
 use Rattle.mscp_shown.proofs.Heeded.{figure_right, heard_took}
 use Rattle.mscp_shown.proofs.Listening.{Heard}
-use Rattle.mscp_shown.proofs.Polling.{figure_by, figure_told, poll_by, poll_of}
-use Rattle.mscp_shown.proofs.Reading.{BodyReads, Reads}
+use Rattle.mscp_shown.proofs.Polling.{figure_told, poll_of}
+use Rattle.mscp_shown.proofs.Reading.{Reads}
 use Rattle.mscp_shown.proofs.Staying.{none_left}
 use Rattle.mscp_shown.proofs.Kept.{Inv, More, every_at, shows_one, still, same_sides}
 use Rattle.mscp_shown.proofs.Ordering.{Clear, IsClearOf, Ordered}
@@ -31,18 +26,7 @@ use Rattle.mscp_shown.proofs.Pairing.{index_pairs, every_index, none_of}
 
 -- an ABORT isn't aborted
 abort_apart : (y : Out) (a : Answered) → y.opcode ≡ 1 → status_code a ≡ 2 → wire.has_status y a ≡ true → ⊥
-abort_apart y a op code h =
-    absurd (false≢true (sym (none (wire.is_known a)) ∙ first_of (wire.has_code y a) (wire.is_whole y a)
-    (wire.is_plain y a) (wire.points_into y a) h))
-  where
-    first_of : (a b c d : Bool) → (a && b && c && d) ≡ true → a ≡ true
-    first_of a b c d h = grind (arith, false≢true)
-
-    none : (k : Bool) → (if k then wire.is_unknown y.opcode || wire.may_have y.opcode (status_code a)
-        else nat_eq (status_code a) 1) ≡ false
-    none true =
-        ap (λ o. wire.is_unknown o || wire.may_have o (status_code a)) op ∙ ap (λ n. wire.may_have 1 n) code
-    none false = ap (λ n. nat_eq n 1) code
+abort_apart y a op code h = grind arith
 
 above : (m n : ℕ) → m ≤ n → (m < n) ⊎ (m ≡ n)
 above m n h = ⊎_elim (λ l. inl l) (λ l. inr (omega (arith, h, l))) (cases_lt m n)
@@ -78,42 +62,17 @@ module _ (c : Settings) (t : Trace) (own : Connection) (b : ArrayVec ℕ) (known
   fitting : (e : End) (rest : List End) → untaken c own t ≡ e ∷ rest → (i : ℕ)
       → position (is_named own e.reference) (outstanding (shown t)) ≡ Some i
       → Keeps (command_at (outstanding (shown t)) i) (answer_by own (end_bytes e))
-  fitting e rest us i at =
-      let xs = outstanding (shown t) in
-      let found = position-Some (is_named own e.reference) xs i (sent_by First []) at in
-      let all = (subst (AllByRecursion (IsOwed own xs)) us (h.owners.owed own)).0 in
-      let fit = every_at (λ s. is_named own e.reference s ≡ true → Fits own e (untold s)) xs all i (sent_by First [])
-      found.0 found.1 in
-      record {
-        unit = fit.keeps.unit;
-        endcode = fit.keeps.endcode;
-        status = fit.keeps.status;
-        success = fit.keeps.success;
-        about = fit.keeps.about;
-        count = fit.keeps.count;
-      }
+  fitting e rest us i at = grind (arith, outstanding, position-Some, every_at)
 
   -- and it is the end of a poll if that is one
   polling : (e : End) (rest : List End) → untaken c own t ≡ e ∷ rest → (i : ℕ)
       → position (is_named own e.reference) (outstanding (shown t)) ≡ Some i
       → polled_by (command_at (outstanding (shown t)) i) (answer_by own (end_bytes e)) ≡ poll_of e
-  polling e rest us i at =
-      let xs = outstanding (shown t) in
-      let found = position-Some (is_named own e.reference) xs i (sent_by First []) at in
-      let all = (subst (AllByRecursion (IsOwed own xs)) us (h.owners.owed own)).0 in
-      let fit = every_at (λ s. is_named own e.reference s ≡ true → Fits own e (untold s)) xs all i (sent_by First [])
-      found.0 found.1 in
-      fit.poll
+  polling e rest us i at = grind (arith, outstanding, position-Some, every_at)
 
   figure_read : (e : End) (a : Answered) → a ≡ answer_by own (end_bytes e)
       → Reads e (answer_by own (end_bytes e)) → (n : ℕ) → poll_of e ≡ Some n → a.figure ≡ Some (figure_told e)
-  figure_read e a is r n q = ap (λ (z : Answered). z.figure) is ∙ of_body e.status e.body r.body q
-    where
-      of_body : (status : ℕ) (body : EndBody) → BodyReads body (answer_by own (end_bytes e))
-          → poll_by status body ≡ Some n
-          → (answer_by own (end_bytes e)).figure ≡ Some (figure_by body)
-      of_body status (bodies.Status other figure) k p = k.1
-      of_body status body k p = cc
+  figure_read e a is r n q = grind arith
 
   -- whose the names are that are left
   owners_left : (a : Answered) (i : ℕ) → Owners c (t ++ taking ∷ []) (after_end (outstanding (shown t)) a (Some i))

@@ -1,34 +1,20 @@
 -- The figure of a command that waits falls between two moments with a step between them.
-use Rattle.mscp_shown.proofs.Common.{Promise, Settings, Trace, ap, arith, figure, is_step, is_waiting, length, length-take-le, moment, more_at, subst, suc, sym, take, take_all, true, waits_in, zero, ℕ, ◌+◌, ◌-◌, ◌<◌, ◌≡◌, ◌≤◌}
+use Rattle.mscp_shown.proofs.Common.{Promise, Settings, Trace, ap, arith, figure, is_step, is_waiting, length, length-take-le, moment, more_at, subst, suc, take, take_all, true, waits_in, zero, ℕ, ◌+◌, ◌-◌, ◌<◌, ◌≡◌, ◌≤◌}
 use Rattle.mscp_shown.proofs.Placing.{waited}
 
 module _ (c : Settings) (t : Trace) (x : ℕ) (w : is_waiting t x ≡ true) (promise : Promise c t) where
   -- it waited since it came
   waited_at : (n j : ℕ) → j + n ≡ length t → x < j → is_waiting (take j t) x ≡ true
-  waited_at zero j e l =
-      let all : take j t ≡ t = take_all j t (omega (arith, e)) in
-      subst (λ p. is_waiting p x ≡ true) (sym all) w
+  waited_at zero j e l = grind (arith, take_all)
   waited_at (suc n) j e l =
-      let low : j < length t = omega (arith, e) in
-      let later = waited_at n (j + 1) (omega (arith, e)) (omega (arith, l)) in
-      waited (take j t) (moment t j) x (omega (arith, l, low, length-take-le j t (omega (arith, low))))
-      (subst (λ p. is_waiting p x ≡ true) (more_at t j low) later)
+      grind (arith, waited_at n (j + 1) (omega (arith, e)) (omega (arith, l)), waited, length-take-le, more_at)
 
   there : (j : ℕ) → j ≤ length t → x < j → is_waiting (take j t) x ≡ true
   there j h l = waited_at (length t - j) j (omega (arith, h)) l
 
   lower : (n j : ℕ) → j + n ≤ length t → x < j → figure c (take (j + n) t) x ≤ figure c (take j t) x
-  lower zero j h l = subst (λ k. figure c (take k t) x ≤ figure c (take j t) x) (back j) (omega arith)
-    where
-      back : (j : ℕ) → j ≡ j + zero
-      back j = omega arith
-  lower (suc n) j h l =
-      let one = promise.never_rises j (omega (arith, h)) x (waits_in (take j t) x (there j (omega (arith, h)) l)) in
-      let rest = lower n (j + 1) (omega (arith, h)) (omega (arith, l)) in
-      subst (λ k. figure c (take k t) x ≤ figure c (take j t) x) (next j n) (omega (arith, one, rest))
-    where
-      next : (j n : ℕ) → j + 1 + n ≡ j + suc n
-      next j n = omega arith
+  lower zero j h l = grind arith
+  lower (suc n) j h l = grind (arith, lower n (j + 1) (omega (arith, h)) (omega (arith, l)), waits_in, there)
 
   lower_to : (i j : ℕ) → i ≤ j → j ≤ length t → x < i → figure c (take j t) x ≤ figure c (take i t) x
   lower_to i j h l k =

@@ -73,17 +73,13 @@ lasts_append a P Q f (s ∷ later) us vs n h = (
 pub stands_append : (via : Connection) (xs : List Sent) (before us vs : List End) → Stands via xs before us
     → Stands via xs (before ++ us) vs → Stands via xs before (us ++ vs)
 stands_append via xs before [] vs h k = subst (λ b. Stands via xs b vs) (append-nil before) k
-stands_append via xs before (e ∷ us) vs h k = (
-  h.0,
-  stands_append via xs (before ++ e ∷ []) us vs h.1
-      (subst (λ b. Stands via xs b vs) (sym (append_assoc before (e ∷ []) us)) k),
-)
+stands_append via xs before (e ∷ us) vs h k =
+    (h.0, stands_append via xs (before ++ e ∷ []) us vs h.1 (rw append_assoc k))
 
 pub stands_silent : (via : Connection) (xs : List Sent) (before us : List End)
     → AllByRecursion (λ (e : End). poll_of e ≡ None) us → Stands via xs before us
 stands_silent via xs before [] n = tt
-stands_silent via xs before (e ∷ us) n =
-    ((λ k p. cc (sym p ∙ n.0)), stands_silent via xs (before ++ e ∷ []) us n.1)
+stands_silent via xs before (e ∷ us) n = grind (arith, stands_silent via xs (before ++ e ∷ []) us n.1)
 
 -- no fewer commands are outstanding, of this name at least
 pub stands_weaker : (via : Connection) (xs ys : List Sent) (before us : List End)
@@ -160,8 +156,7 @@ lasts_last a P [] z us untold n p =
     silents : (es : List End) → AllByRecursion (λ e. tells a.connection [] a.reference e ≡ false) es
     silents [] = tt
     silents (e ∷ es) = (silent_last a.connection a.reference e, silents es)
-lasts_last a P (s ∷ later) z us untold n p =
-    ((λ q. absurd (true≢false (sym q ∙ n.0))), lasts_last a P later z us untold n.1 p)
+lasts_last a P (s ∷ later) z us untold n p = grind (arith, lasts_last a P later z us untold n.1 p)
 
 -- what is told of a command among others
 pub lasts_at : (a : Name) (P : Option ℕ → Type 0) (us : List End) (front back : List Sent) (s : Sent)

@@ -1,6 +1,5 @@
 -- A take keeps what hosts will hear, and its own figure is right.
-use Rattle.mscp_shown.proofs.Common.{AllByRecursion, Answer, Bool, Connection, End, First, List, Moment, Name, None, Option, Sent, Settings, Some, Trace, [], and_parts, ap, append-nil, append_assoc, arith, command_at, connection, count_by, drop, drop_more, ends, ends_at, eq-eqb, eqb-true, every_mapped, every_parts, every_weaker, false, find_cases, find_first, find_none, get_or, is_below, is_it, is_named, is_waiting, length, list_any, list_any-append, lt-ltb, map, name, name_before, name_on, nat_eq, one_side, own_side, place_of, polled_by, queues, reference, refl, same_connection, sent_by, subst, suc, sum_by, sum_by-cons, sym, take, take-append-drop, takes, true, true≢false, untaken, untaken_more, ℕ, ⊎_elim, ◌&&◌, ◌++◌, ◌+◌, ◌<◌, ◌||◌, ◌∙◌, ◌∷◌, ◌≡◌, ◌≤◌}
-use Rattle.mscp_controller.proofs.Basics.{find, nat_lt}
+use Rattle.mscp_shown.proofs.Common.{AllByRecursion, Answer, Bool, Connection, End, First, List, Moment, Name, None, Option, Sent, Settings, Some, Trace, [], and_parts, ap, append-nil, append_assoc, arith, command_at, connection, count_by, drop, drop_more, ends, ends_at, eq-eqb, eqb-true, every_mapped, every_parts, every_weaker, false, find, find_cases, find_first, find_none, get_or, is_below, is_it, is_named, is_waiting, length, list_any, list_any-append, lt-ltb, map, name, name_before, name_on, nat_eq, nat_lt, own_side, place_of, polled_by, queues, reference, refl, same_connection, sent_by, subst, suc, sum_by, sum_by-cons, sym, take, take-append-drop, takes, true, true≢false, untaken, untaken_more, ℕ, ⊎_elim, ◌&&◌, ◌++◌, ◌+◌, ◌<◌, ◌||◌, ◌∙◌, ◌∷◌, ◌≡◌, ◌≤◌}
 use Rattle.mscp_wire.specs.Wire as wire
 use Rattle.mscp_shown.proofs.Strict.{after_end, has_figure, hears, may_tell}
 use Rattle.mscp_shown.proofs.Chaining.{goes_told, heard, tells}
@@ -39,11 +38,7 @@ module _ (c : Settings) (own : Connection) (t : Trace) (m : Moment) (xs : List S
   low = (placed xs a i at).low
 
   named : is_named own e.reference (get_or xs i d) ≡ true
-  named =
-      let p = placed xs a i at in
-      ap (λ v. wire.same_connection v own && nat_eq (get_or xs i d).reference e.reference) (p.connection ∙ side)
-      ∙ (ap (λ s. s && nat_eq (get_or xs i d).reference e.reference) (same_sides own own ∙ own_side own)
-      ∙ eq-eqb (get_or xs i d).reference e.reference (p.reference ∙ number))
+  named = grind (arith, placed, same_sides)
 
   parts : AllByRecursion (λ s. is_named own e.reference s ≡ false) (take i xs)
       × AllByRecursion (λ s. is_named own e.reference s ≡ false) (drop (suc i) xs)
@@ -90,13 +85,7 @@ module _ (c : Settings) (own : Connection) (t : Trace) (m : Moment) (xs : List S
     by_side : (P : Connection → List End → Type 0) → P own rest
         → ((via : Connection) → same_connection own via ≡ false → P via (untaken c via t)) → (via : Connection)
         → P via (untaken c via (t ++ m ∷ []))
-    by_side P mine others' via =
-        let Q : Bool → Type 0 = λ s. same_connection own via ≡ s → P via (untaken c via (t ++ m ∷ [])) in
-        elim (same_connection own via) as Q [
-          | true ↦ λ q. subst (λ v. P v (untaken c v (t ++ m ∷ []))) (one_side own via q)
-              (subst (P own) (sym took) mine)
-          | false ↦ λ q. subst (P via) (sym (stays via q)) (others' via q)
-        ] refl
+    by_side P mine others' via = grind (arith, took, stays)
 
     not_own : (via : Connection) → same_connection own via ≡ false → wire.same_connection a.connection via ≡ false
     not_own via q = ap (λ v. wire.same_connection v via) side ∙ (same_sides own via ∙ q)
@@ -111,12 +100,9 @@ module _ (c : Settings) (own : Connection) (t : Trace) (m : Moment) (xs : List S
 
     pub heard_took : Heard c (t ++ m ∷ []) (after_end xs a (Some i))
     heard_took = record {
-      chains = λ via. subst (λ ys. Chains via ys (untaken c via (t ++ m ∷ []))) (sym left_is)
-          (by_side (λ v es. Chains v gone es)
-          (chains_gone a own e rest d side figure i xs low named parts.0 parts.1 others
-          (subst (Chains own xs) us (h.chains own)))
-          (λ via q. chains_other a (poll_of e) via (untaken c via t) d (not_own via q) i xs low (not_there via q)
-          (h.chains via)) via);
+      chains = λ via. rw left_is (by_side (λ v es. Chains v gone es) (chains_gone a own e rest d side figure i xs low
+          named parts.0 parts.1 others (subst (Chains own xs) us (h.chains own))) (λ via q. chains_other a (poll_of e)
+          via (untaken c via t) d (not_own via q) i xs low (not_there via q) (h.chains via)) via);
       lasts = λ x w.
           let lx = low_of x w in
           let wx = waited t m x lx w in
@@ -188,12 +174,7 @@ module _ (c : Settings) (own : Connection) (t : Trace) (m : Moment) (xs : List S
       or_true b = grind arith
 
       any_some : (p : Sent → Bool) (ys : List Sent) → 1 ≤ count_by p ys → list_any p ys ≡ true
-      any_some p ys k =
-          let P : Bool → Type 0 = λ b. list_any p ys ≡ b → list_any p ys ≡ true in
-          elim (list_any p ys) as P [
-            | true ↦ λ r. r
-            | false ↦ λ r. absurd (omega (arith, k, none_passes p ys r))
-          ] refl
+      any_some p ys k = grind (arith, none_passes)
 
       falls : (n : ℕ) → poll_of e ≡ Some n → (front : List Sent) (s : Sent) (back : List Sent)
           → take i xs ≡ front ++ s ∷ back → is_named own n s ≡ true
@@ -225,10 +206,4 @@ module _ (c : Settings) (own : Connection) (t : Trace) (m : Moment) (xs : List S
           ∙ (ap (λ b. wire.is_immediate s.opcode || b) now.1 ∙ or_true (wire.is_immediate s.opcode))
 
   pub figure_right : has_figure xs (take i xs) a (polled_by (command_at xs i) a) ≡ true
-  figure_right = ap (has_figure xs (take i xs) a) asks ∙ by_poll (poll_of e) refl
-    where
-      by_poll : (o : Option ℕ) → poll_of e ≡ o → has_figure xs (take i xs) a o ≡ true
-      by_poll None q = refl
-      by_poll (Some n) q =
-          ap (λ v. may_tell a.figure (list_any (is_named v n) xs) (find (is_named v n) (take i xs))) side
-          ∙ told_right n q
+  figure_right = grind (arith, told_right)

@@ -1,15 +1,7 @@
 -- What an end tells of its unit, and how the rules of the wire read it.
-use Rattle.mscp_shown.proofs.Common.{Answer, Away, BodyKind, EndBody, History, Identity, Noted, Open, Sent, Shared, State, Told, agrees, answer_by, brings, fits, is_known_unit, is_same_unit, is_single, is_unsure, kind_of_body, kind_of_code, later_of, learns, leaves, little_bytes, nat_le, noted_other, noted_own, num, says_away, shares, status_code, tells_unit, told, told_after_end, told_after_message, turned, was_online}
-use Rattle.std.proofs.Common.{◌≡◌, ℕ, ◌%◌, arith, Bool, true, false, not, ◌&&◌, ◌||◌, refl, ap, sym, ◌∙◌, subst, List, length, Option, Some, None}
-use Rattle.std.specs.Prelude.{if◌then◌else◌, nat_eq}
-use Rattle.std.proofs.lemmas.Bool.{and_parts, eq-eqb, eqb-true, false≢true}
-use Rattle.mscp_packet.specs.Ends.{IsOfKind, end_bytes}
+use Rattle.mscp_shown.proofs.Common.{Answer, Away, BodyKind, Bool, Connection, End, EndBody, History, Identity, IsOfKind, List, None, Noted, Open, Option, Sent, Settings, Shape, Some, State, Told, agrees, and_parts, answer_by, ap, arith, brings, end_bytes, eq-eqb, eqb-true, false, fits, if◌then◌else◌, is_known_unit, is_same_unit, is_single, kind_of_body, kind_of_code, later_of, learns, leaves, little_bytes, nat_eq, not, noted_other, noted_own, num, refl, says_away, status_code, subst, sym, tells_unit, told, told_after_end, told_after_message, true, turned, unit_shape, was_online, ℕ, ◌%◌, ◌&&◌, ◌||◌, ◌∙◌, ◌≡◌}
 use Rattle.mscp_packet.specs.declared.end.BodyKind.TheVariants as kinds
-use Rattle.mscp_packet.specs.declared.end.End.{End}
 use Rattle.mscp_packet.specs.declared.end.EndBody.TheVariants as bodies
-use Rattle.mscp_drive.specs.Shape.{Shape}
-use Rattle.mscp_drive.specs.Settings.{Settings, unit_shape}
-use Rattle.mscp_drive.specs.declared.connection.Connection.{Connection}
 use Rattle.mscp_wire.specs.Wire.{same_connection}
 
 -- a body tells of a unit what it is
@@ -53,66 +45,21 @@ module _ (via : Connection) (r u code status : ℕ) (s : Shape) where
   read body =
       answer_by via (end_bytes (record { reference = r; unit = u; code = code; status = status; body = body }))
 
-  size_read : (b : Bool) (m n : ℕ) → (if b then None else Some m) ≡ Some n → n ≡ m
-  size_read true m n h = cc
-  size_read false m n h = cc
-
-  no_size : (b : Bool) (m n : ℕ) → b ≡ true → (if b then None else Some m) ≡ Some n → ⊥
-  no_size true m n e h = cc
-  no_size false m n e h = absurd (false≢true e)
-
   -- what an end of ONLINE or SET UNIT CHARACTERISTICS tells
   online_read : (body : EndBody) → kinds.Online ≡ kind_of_body body → BodyTells s body
       → HasOf s (read body).identity
-  online_read (bodies.Online id media size serial) k t = (
-    identity id media (if nat_eq code 0x83 then None else Some (num (little_bytes 4 size) 0 4)),
-    refl,
-    (
-      ap (λ n. num (little_bytes 8 n) 0 8) t.0,
-      ap (λ n. num (little_bytes 4 n) 0 4) t.1,
-      λ n e. size_read (nat_eq code 0x83) (num (little_bytes 4 size) 0 4) n e
-          ∙ ap (λ z. num (little_bytes 4 z) 0 4) t.2,
-    ),
-  )
+  online_read (bodies.Online id media size serial) k t = grind arith
   online_read body k t = cc
 
   -- and one of GET UNIT STATUS
   status_read : nat_eq code 0x83 ≡ true → (body : EndBody) → kinds.UnitStatus ≡ kind_of_body body → BodyTells s body
       → HasOf s (read body).identity
-  status_read q (bodies.UnitStatus id media track group cylinder) k t =
-      let own = read (bodies.UnitStatus id media track group cylinder) in (
-        identity id media (if nat_eq code 0x83 then None
-            else Some (num (end_bytes (record {
-              reference = r;
-              unit = u;
-              code = code;
-              status = status;
-              body = bodies.UnitStatus id media track group cylinder;
-            })) 36 4)),
-        refl,
-        (
-          ap (λ n. num (little_bytes 8 n) 0 8) t.0,
-          ap (λ n. num (little_bytes 4 n) 0 4) t.1,
-          λ n e. absurd (no_size (nat_eq code 0x83) _ n q e),
-        ),
-      )
+  status_read q (bodies.UnitStatus id media track group cylinder) k t = grind arith
   status_read q body k t = cc
 
 -- two that are told of a unit agree
 agrees_same : (s : Shape) (i j : Identity) → IsOf s i → IsOf s j → agrees (Some i) j ≡ true
-agrees_same s i j h k =
-    all (nat_eq i.identifier j.identifier) (nat_eq i.media j.media) (fits i.size j.size)
-    (eq-eqb i.identifier j.identifier (h.0 ∙ sym k.0)) (eq-eqb i.media j.media (h.1 ∙ sym k.1))
-    (by_sizes i.size j.size h.2 k.2)
-  where
-    all : (a b d : Bool) → a ≡ true → b ≡ true → d ≡ true → (a && b && d) ≡ true
-    all a b d p q r = grind arith
-
-    by_sizes : (a b : Option ℕ) → ((n : ℕ) → a ≡ Some n → n ≡ num (little_bytes 4 s.size) 0 4)
-        → ((n : ℕ) → b ≡ Some n → n ≡ num (little_bytes 4 s.size) 0 4) → fits a b ≡ true
-    by_sizes None b p q = refl
-    by_sizes (Some m) None p q = refl
-    by_sizes (Some m) (Some n) p q = eq-eqb m n (p m refl ∙ sym (q n refl))
+agrees_same s i j h k = grind (arith, eq-eqb)
 
 some_kind : (a b : BodyKind) → Some a ≡ Some b → a ≡ b
 some_kind a b h = cc
@@ -143,10 +90,7 @@ module _ (c : Settings) (via : Connection) (e : End) (kind : IsOfKind e) (tells 
     where
       by_code : {P : Type 0} (x y z : Bool) → (x || y || z) ≡ true → (x ≡ true → P) → (y ≡ true → P)
           → (z ≡ true → P) → P
-      by_code true y z h p q r = p refl
-      by_code false true z h p q r = q refl
-      by_code false false true h p q r = r refl
-      by_code false false false h p q r = cc
+      by_code x y z h p q r = grind arith
 
   -- and so does what brings it online
   pub brought_right : a.status ≡ e.status → brings a ≡ true → HasOf (unit_shape c e.unit) a.identity
@@ -180,45 +124,18 @@ own_identifier c = num (little_bytes 8 c.id) 0 8
 pub controller_read : (c : Settings) (via : Connection) (e : End) → IsOfKind e → Controls c e
     → (answer_by via (end_bytes e)).status ≡ e.status → (n : ℕ)
     → (answer_by via (end_bytes e)).controller ≡ Some n → n ≡ own_identifier c
-controller_read c via e kind controls st n h =
-    let a = answer_by via (end_bytes e) in
-    by_test (nat_eq e.code 0x84) (nat_eq (a.status % 32) 0) (nat_le 28 (length (end_bytes e)))
-    (num (end_bytes e) 20 8) h
-    (λ q z. of_body e.body (some_kind kinds.Controller (kind_of_body e.body)
-    (sym (ap kind_of_code (eqb-true e.code 0x84 q)) ∙ kind))
-    (controls (ap (λ n. n % 32) (sym st) ∙ eqb-true (a.status % 32) 0 z)))
-  where
-    of_body : (body : EndBody) → kinds.Controller ≡ kind_of_body body → BodyControls c body
-        → num (end_bytes (record {
-          reference = e.reference;
-          unit = e.unit;
-          code = e.code;
-          status = e.status;
-          body = body;
-        })) 20 8 ≡ own_identifier c
-    of_body (bodies.Controller timeout id) k t = ap (λ n. num (little_bytes 8 n) 0 8) t
-    of_body body k t = cc
-
-    by_test : (x y z : Bool) (m : ℕ) → (if x && y && z then Some m else None) ≡ Some n
-        → (x ≡ true → y ≡ true → m ≡ own_identifier c) → n ≡ own_identifier c
-    by_test true true true m h f = let e : n ≡ m = cc in e ∙ f refl refl
-    by_test true true false m h f = cc
-    by_test true false z m h f = cc
-    by_test false y z m h f = cc
+controller_read c via e kind controls st n h = grind (arith, some_kind, eqb-true)
 
 -- what is known of it fits that
 pub fits_controller : (c : Settings) (known told : Option ℕ)
     → ((n : ℕ) → known ≡ Some n → n ≡ own_identifier c) → ((n : ℕ) → told ≡ Some n → n ≡ own_identifier c)
     → fits known told ≡ true
-fits_controller c None told p q = refl
-fits_controller c (Some m) None p q = refl
-fits_controller c (Some m) (Some n) p q = eq-eqb m n (p m refl ∙ sym (q n refl))
+fits_controller c known told p q = grind arith
 
 pub later_controller : (c : Settings) (told known : Option ℕ)
     → ((n : ℕ) → told ≡ Some n → n ≡ own_identifier c) → ((n : ℕ) → known ≡ Some n → n ≡ own_identifier c)
     → (n : ℕ) → later_of told known ≡ Some n → n ≡ own_identifier c
-later_controller c None known p q n h = q n h
-later_controller c (Some m) known p q n h = p n h
+later_controller c told known p q n h = grind arith
 
 -- ---- what is known of units
 -- what is known of each unit is what it is
@@ -246,10 +163,7 @@ told_more c h a settled known is via unit i =
     grouped x y z h = grind arith
 
     there : (o : Option Identity) → HasOf (unit_shape c unit) o → o ≡ Some i → IsOf (unit_shape c unit) i
-    there o has e = subst (IsOf (unit_shape c unit)) (same_identity has.0 i (sym has.1 ∙ e)) has.2
-      where
-        same_identity : (x y : Identity) → Some x ≡ Some y → x ≡ y
-        same_identity x y h = cc
+    there o has e = grind arith
 
     by_cases : (here gone on learn side was : Bool) (old : Told) (new : Option Identity) (sure : Bool) (s : State)
         (mine others : Noted)
@@ -280,11 +194,7 @@ told_more c h a settled known is via unit i =
 -- and a command does
 pub told_sent : (t : Told) (via : Connection) (unit : ℕ) (s : Sent)
     → (told_after_message via unit t s).identity ≡ t.identity
-told_sent t via unit s = by_bool (shares via unit s)
-  where
-    by_bool : (b : Bool) → (if b then record t { state = Shared } else t).identity ≡ t.identity
-    by_bool true = refl
-    by_bool false = refl
+told_sent t via unit s = grind arith
 
 -- and an end of it says the same
 pub same_right : (s : Shape) (was : Told) (a : Answer) → ((i : Identity) → was.identity ≡ Some i → IsOf s i)
@@ -293,19 +203,4 @@ same_right s was a known tells = by_identity was.identity known
   where
     by_identity : (o : Option Identity) → ((i : Identity) → o ≡ Some i → IsOf s i) → is_known_unit o a ≡ true
     by_identity None k = refl
-    by_identity (Some j) k = by_tells (tells_unit a) tells
-      where
-        by_tells : (b : Bool) → (b ≡ true → HasOf s a.identity)
-            → (not b || is_unsure a || agrees a.identity j) ≡ true
-        by_tells false f = first (is_unsure a) (agrees a.identity j)
-          where
-            first : (x y : Bool) → (true || x || y) ≡ true
-            first x y = grind arith
-        by_tells true f =
-            let has = f refl in
-            ap (λ o. false || is_unsure a || agrees o j) has.1
-            ∙ (ap (λ b. false || is_unsure a || b) (agrees_same s has.0 j has.2 (k j refl))
-            ∙ last (is_unsure a))
-          where
-            last : (x : Bool) → (false || x || true) ≡ true
-            last x = grind arith
+    by_identity (Some j) k = grind (arith, agrees_same)

@@ -1,16 +1,10 @@
 -- All that keeps the stricter rules of figures is right to the judge of the wire.
-use Rattle.mscp_shown.proofs.Common.{Answer, Asked, Gone, History, Nothing, Oldest, Seen, Sent, Standing, Told, answer_by, command_at, find, find_none, fold_push, has_credit, is_below, is_named, is_polled, limit_of, moment_at, nat_lt, or_parts, pairs_append, place_of, polled_by, sent_by}
-use Rattle.std.proofs.Common.{◌≡◌, ℕ, zero, suc, ◌+◌, ◌<◌, ◌≤◌, Bool, true, false, cond, not, ◌&&◌, ◌||◌, List, [], ◌∷◌, ◌++◌, length, get_or, take, drop, map, refl, ap, sym, ◌∙◌, subst, arith, Option, Some, None}
-use Rattle.std.specs.Prelude.{if◌then◌else◌, nat_eq}
-use Rattle.std.specs.List.{AllByRecursion, list_any}
-use Rattle.std.proofs.lemmas.Bool.{false≢true}
-use Rattle.mscp_queue.proofs.Lists.{every_from, every_weaker}
+use Rattle.mscp_shown.proofs.Common.{AllByRecursion, Answer, Asked, Bool, Connection, Gone, History, List, None, Nothing, Oldest, Option, Seen, Sent, Some, Standing, Told, [], answer_by, ap, arith, command_at, cond, drop, every_from, every_weaker, false, false≢true, find, find_none, fold_push, get_or, has_credit, if◌then◌else◌, is_below, is_named, is_polled, length, list_any, map, moment_at, nat_eq, not, or_parts, pairs_append, place_of, polled_by, refl, sent_by, subst, suc, sym, take, true, zero, ℕ, ◌&&◌, ◌++◌, ◌+◌, ◌<◌, ◌||◌, ◌∙◌, ◌∷◌, ◌≡◌, ◌≤◌}
 use Rattle.mscp_wire.specs.Wire as wire
 use Rattle.mscp_wire.specs.Wire.{is_immediate, same_connection}
 use Rattle.mscp_wire.specs.declared.moment.Moment.{Moment}
 use Rattle.mscp_wire.specs.declared.moment.Moment.TheVariants as moments
 use Rattle.mscp_wire.specs.declared.rule.Rule.TheVariants as rules
-use Rattle.mscp_drive.specs.declared.connection.Connection.{Connection}
 use Rattle.mscp_shown.proofs.Alike.{Alike, alike_any, alike_at, alike_count, alike_drop, alike_position, alike_take, bare}
 use Rattle.mscp_shown.proofs.Lenient.{Falls, apart_at, apart_from, falls_found, falls_one, hears_bare, linked_end, named_turned, pairs_take}
 use Rattle.mscp_shown.proofs.Linking.{Alone, AsksOf, IsLow, Linked, asks_at, below_lower, linked_alike, linked_sent, nobody}
@@ -33,14 +27,8 @@ every_both P Q (x ∷ xs) h k = ((h.0, k.0), every_both P Q xs h.1 k.1)
 
 any_split : (q : Sent → Bool) (i : ℕ) (xs : List Sent) (d : Sent) → i < length xs
     → list_any q xs ≡ (list_any q (take i xs) || (q (get_or xs i d) || list_any q (drop (suc i) xs)))
-any_split q i [] d l = absurd (omega (arith, l))
-any_split q zero (x ∷ xs) d l = refl
-any_split q (suc i) (x ∷ xs) d l =
-    ap (λ b. q x || b) (any_split q i xs d (omega (arith, l)))
-    ∙ regrouped (q x) (list_any q (take i xs)) (q (get_or xs i d) || list_any q (drop (suc i) xs))
-  where
-    regrouped : (a b c : Bool) → (a || (b || c)) ≡ ((a || b) || c)
-    regrouped a b c = grind arith
+any_split q (suc i) (x ∷ xs) d l = grind (arith, any_split q i xs d (omega (arith, l)))
+any_split q i xs d l = grind arith
 
 found_first : (q : Sent → Bool) (P : Sent → Type 0) (xs : List Sent) → list_any q xs ≡ true → AllByRecursion P xs
     → (x : Sent) × (find q xs ≡ Some x) × (q x ≡ true) × P x
@@ -54,9 +42,8 @@ found_first q P (x ∷ xs) h all =
     ] refl h
 
 more_taken : (h : History) (n : ℕ) → n < length h → take (suc n) h ≡ take n h ++ moment_at h n ∷ []
-more_taken [] n l = absurd (omega (arith, l))
-more_taken (m ∷ h) zero l = refl
 more_taken (m ∷ h) (suc n) l = ap (λ t. m ∷ t) (more_taken h n (omega (arith, l)))
+more_taken h n l = grind arith
 
 -- ---- what is kept
 record State (xs ys : List Sent) : Type 0 where
@@ -69,23 +56,15 @@ module _ (credits : Option ℕ) (xs ys : List Sent) (h : State xs ys) where
   alike = linked_alike [] xs ys h.link
 
   credit_same : (c : Option ℕ) (s : Sent) → has_credit c xs s ≡ has_credit c ys s
-  credit_same c s =
-      ap (λ k. nat_lt (k + 1) (limit_of c) || (nat_eq (k + 1) (limit_of c) && is_immediate s.opcode)) count
-    where
-      count : wire.count_on s.connection xs ≡ wire.count_on s.connection ys
-      count =
-          alike_count (λ z. same_connection z.connection s.connection)
-          (λ x y k. ap (λ (z : Sent). same_connection z.connection s.connection) k) xs ys alike
+  credit_same c s = grind (arith, alike_count, alike)
 
   new_same : (s : Sent) → list_any (is_named s.connection s.reference) xs
       ≡ list_any (is_named s.connection s.reference) ys
-  new_same s =
-      alike_any (is_named s.connection s.reference) (λ x y k. ap (is_named s.connection s.reference) k) xs ys alike
+  new_same s = grind (arith, alike_any, alike)
 
   sent_right : (b : List ℕ) (s : Sent) → IsRightMessage credits xs b s
       → wire.unless (wire.is_message b) rules.Message (wire.broken_message credits ys s) ≡ None
-  sent_right b s r =
-      rw (r.message, ap not (sym (new_same s)) ∙ r.number, sym (credit_same credits s) ∙ r.credit) refl
+  sent_right b s r = grind (arith, new_same, credit_same)
 
   sent_kept : (timeout time : Option ℕ) (b : List ℕ) (s : Sent) → IsRightMessage credits xs b s
       → State (xs ++ s ∷ []) (ys ++ wire.asking timeout ys (wire.timed time s) ∷ [])
@@ -104,12 +83,7 @@ module _ (credits : Option ℕ) (xs ys : List Sent) (h : State xs ys) where
 
 -- ---- an end
 polled_parameter : (y : Sent) (e : Answer) (n : ℕ) → polled_by y e ≡ Some n → y.parameter ≡ Some n
-polled_parameter y e n h =
-    by_bool (wire.is_known e && nat_eq y.opcode 2 && not (wire.is_refused y e)) y.parameter h
-  where
-    by_bool : (b : Bool) (o : Option ℕ) → (if b then o else None) ≡ Some n → o ≡ Some n
-    by_bool true o k = k
-    by_bool false o k = cc
+polled_parameter y e n h = grind arith
 
 module _ (xs ys : List Sent) (h : State xs ys) (u : Seen) (b : List ℕ) (e : Answer) (i : ℕ)
     (r : strict.IsRightEnd xs u b e i) where
@@ -143,9 +117,7 @@ module _ (xs ys : List Sent) (h : State xs ys) (u : Seen) (b : List ℕ) (e : An
   -- those before it
   falls_all : (o : Option ℕ) → strict.has_figure xs (take i xs) e o ≡ true → AllByRecursion (Falls e o) (take i xs)
   falls_all None k = every_from (Falls e None) (λ t q. absurd (false≢true q)) (take i xs)
-  falls_all (Some n) k =
-      falls_found e n (list_any (is_named e.connection n) xs) (take i xs)
-      (pairs_take (λ s t. is_named s.connection s.reference t ≡ false) i xs h.alone) k
+  falls_all (Some n) k = grind (arith, falls_found, pairs_take)
 
   -- those behind it
   abbrev IsSilent : Asked → Option ℕ → Sent → Type 0
@@ -173,8 +145,7 @@ module _ (xs ys : List Sent) (h : State xs ys) (u : Seen) (b : List ℕ) (e : An
       (every_both (λ t. is_named x.connection x.reference t ≡ false) (IsSilent y.asked p) (drop (suc i) xs) apart.1
       silent) in
       record {
-        link = subst (λ n. Linked [] (map (hears e p) (take i xs) ++ drop n xs)
-            (map (wire.hears y e) (take i ys ++ drop n ys))) one link;
+        link = rw (← one) link;
         alone = pairs_out (hears e p) (λ s t. is_named s.connection s.reference t ≡ false)
             (λ s t k. ap (λ (z : Sent). is_named z.connection z.reference t) (hears_bare e p s) ∙ k)
             (λ s t k. ap (λ z. is_named s.connection s.reference z) (hears_bare e p t) ∙ k) i xs h.alone;
@@ -210,36 +181,16 @@ module _ (xs ys : List Sent) (h : State xs ys) (u : Seen) (b : List ℕ) (e : An
         → AllByRecursion (IsLow e.connection n last) (take i xs)
         → may_tell figure (list_any q xs) (find q (take i xs)) ≡ true
         → wire.may_tell (Oldest last) (list_any q (drop (i + 1) ys)) figure ≡ true
-    oldest_tells figure last some all k =
-        let t = found_first q (IsLow e.connection n last) (take i xs) some all in
-        let is_low = t.3 t.2 in
-        let f = falls_one figure (list_any q xs) t.0 (sym (ap (may_tell figure (list_any q xs)) t.1) ∙ k) is_low.0 in
-        ap (wire.may_tell (Oldest last) (list_any q (drop (i + 1) ys))) f.1
-        ∙ (ap (λ b. nat_eq f.0 0 || b) (below_lower t.0.told last f.0 is_low.1 f.2) ∙ or_true (nat_eq f.0 0))
-      where
-        or_true : (b : Bool) → (b || true) ≡ true
-        or_true b = grind arith
+    oldest_tells figure last some all k = grind (arith, found_first, falls_one, below_lower)
 
     tells_right : (figure : Option ℕ) (a : Asked) → AsksOf (take i xs) y a
         → may_tell figure (list_any q xs) (find q (take i xs)) ≡ true
         → wire.may_tell a (list_any q (drop (i + 1) ys)) figure ≡ true
-    tells_right None a asked k = cc
-    tells_right (Some figure) Nothing asked k = or_true (nat_eq figure 0)
-      where
-        or_true : (b : Bool) → (b || true) ≡ true
-        or_true b = grind arith
-    tells_right (Some figure) (Gone last) asked k =
-        let s = asked n here in
-        let before : list_any q (take i xs) ≡ false =
-        subst (λ v. list_any (is_named v n) (take i xs) ≡ false) side s.1 in
-        let itself : q y ≡ false = subst (λ v. is_named v n y ≡ false) side s.0 in
-        let none : find q (take i xs) ≡ None = find_none q (take i xs) (every_none q (take i xs) before) in
-        gone_tells figure last before itself
-        (sym (ap (may_tell (Some figure) (list_any q xs)) none) ∙ k)
     tells_right (Some figure) (Oldest last) asked k =
         let s = asked n here in
         oldest_tells (Some figure) last (subst (λ v. list_any (is_named v n) (take i xs) ≡ true) side s.1.0)
         (subst (λ v. AllByRecursion (IsLow v n last) (take i xs)) side s.1.1) k
+    tells_right figure a asked k = grind (arith, side, find_none, every_none, gone_tells)
 
   figure_right : (o : Option ℕ) → p ≡ o → strict.has_figure xs (take i xs) e o ≡ true
       → wire.has_figure (drop (i + 1) ys) y e o ≡ true
@@ -247,9 +198,7 @@ module _ (xs ys : List Sent) (h : State xs ys) (u : Seen) (b : List ℕ) (e : An
   figure_right (Some n) q k = tells_right n (polled_parameter y e n (asks ∙ q)) e.figure y.asked asked_here k
 
   place_same : place_of ys e ≡ Some i
-  place_same =
-      sym (alike_position (is_named e.connection e.reference)
-      (λ s t k. ap (is_named e.connection e.reference) k) xs ys both) ∙ r.outstanding
+  place_same = grind (arith, alike_position, both)
 
   aborted_right : wire.has_abort (drop (i + 1) ys) y e ≡ true
   aborted_right =
@@ -269,38 +218,7 @@ module _ (xs ys : List Sent) (h : State xs ys) (u : Seen) (b : List ℕ) (e : An
       → wire.unless (wire.is_long b) rules.Length
       (wire.broken_at ys (record { unit = if settled then u.unit else wire.told_nothing; controller = u.controller }) e
       (place_of ys e)) ≡ None
-  end_right false stated known =
-      rw (
-        place_same,
-        r.length,
-        ap (λ s. wire.names_unit s e) (sym same) ∙ r.unit,
-        ap (λ s. wire.has_endcode s e) (sym same) ∙ r.endcode,
-        ap (λ s. wire.has_status s e) (sym same) ∙ r.status,
-        aborted_right,
-        order_right,
-        ap (λ s. wire.succeeds e (wire.other_of s e)) (sym same) ∙ r.success,
-        ap (λ s. wire.is_about e (wire.other_of s e)) (sym same) ∙ r.about,
-        ap (wire.has_figure (drop (i + 1) ys) y e) asks ∙ figure_right p refl r.figure,
-        ap (λ s. wire.has_count e (wire.count_of s e)) (sym same) ∙ r.count,
-        known,
-      ) refl
-  end_right true stated known =
-      rw (
-        place_same,
-        r.length,
-        ap (λ s. wire.names_unit s e) (sym same) ∙ r.unit,
-        ap (λ s. wire.has_endcode s e) (sym same) ∙ r.endcode,
-        ap (λ s. wire.has_status s e) (sym same) ∙ r.status,
-        aborted_right,
-        order_right,
-        ap (λ s. wire.succeeds e (wire.other_of s e)) (sym same) ∙ r.success,
-        ap (λ s. wire.is_about e (wire.other_of s e)) (sym same) ∙ r.about,
-        ap (wire.has_figure (drop (i + 1) ys) y e) asks ∙ figure_right p refl r.figure,
-        ap (λ s. wire.has_count e (wire.count_of s e)) (sym same) ∙ r.count,
-        r.identity,
-        stated,
-        known,
-      ) refl
+  end_right settled stated known = grind (arith, place_same, same, aborted_right, order_right, asks, figure_right)
 
 -- ---- a moment
 step : (credits timeout : Option ℕ) (xs ys : List Sent) (units : Connection → ℕ → Told) (known : Option ℕ) (m : Moment)
@@ -317,12 +235,9 @@ step credits timeout xs ys units known (moments.End via b) h r stated =
     let u = told_at units known (moments.End via b) in
     let found = place_same xs ys h u b.items e r.0 r.1 in (
       end_right xs ys h u b.items e r.0 r.1 (wire.settles ys e) stated.0 stated.1,
-      subst (λ o. State (strict.after_end xs e o) (wire.after_end ys e (place_of ys e))) (sym r.1.outstanding)
-          (subst (λ o. State (strict.after_end xs e (Some r.0)) (wire.after_end ys e o)) (sym found)
-          (end_kept xs ys h u b.items e r.0 r.1)),
+      rw r.1.outstanding (rw found (end_kept xs ys h u b.items e r.0 r.1)),
     )
-step credits timeout xs ys units known moments.Reset h r stated = (refl, record { link = tt; alone = tt })
-step credits timeout xs ys units known (moments.Closed via) h r stated = absurd r
+step credits timeout xs ys units known m h r stated = grind arith
 
 states : (credits : Option ℕ) (h : History) → strict.AreRight credits h → strict.AreStated h → (n : ℕ) → n ≤ length h
     → State (strict.outstanding (take n h)) (wire.outstanding (take n h))

@@ -1,10 +1,5 @@
 -- An end that suits what a command asks for keeps the rules that look at that command alone.
-use Rattle.mscp_shown.proofs.Common.{Answer, EndBody, MoveKind, Opcode, Sent, bit_or, cases_lt, count_of, endcode, has_code, has_count, has_status, inr, is_about, is_about_another, is_counted, is_it, is_known, is_plain, is_refused, is_required, is_short, is_transfer, is_unknown, is_whole, le-leb, least_message, may_have, move_byte, moves, names_unit, nat_le, nat_lt, points_into, refused_body, row_of, status_code, succeeds, was_online}
-use Rattle.std.proofs.Common.{◌≡◌, ◌≢◌, ◌⊎◌, inl, ⊎_elim, ℕ, ◌+◌, ◌/◌, ◌%◌, ◌<◌, ◌≤◌, Bool, true, false, not, ◌&&◌, ◌||◌, refl, ap, sym, ◌∙◌, subst, arith, Option, Some, None}
-use Rattle.std.proofs.lemmas.Bool.{eq-eqb, eqb-true, lt-ltb}
-use Rattle.std.specs.Prelude.{is_some, if◌then◌else◌, nat_eq}
-use Rattle.mscp_packet.specs.declared.class.Opcode.TheVariants as codes
-use Rattle.mscp_packet.specs.declared.command.Order.{Order}
+use Rattle.mscp_shown.proofs.Common.{Answer, Bool, EndBody, MoveKind, None, Opcode, Option, Order, Sent, Some, ap, arith, bit_or, count_of, endcode, eq-eqb, eqb-true, false, has_code, has_count, has_status, if◌then◌else◌, inl, inr, is_about, is_about_another, is_counted, is_it, is_known, is_refused, is_required, is_short, is_some, is_transfer, is_unknown, least_message, lt-ltb, may_have, move_byte, moves, names_unit, nat_eq, nat_le, nat_lt, not, refl, refused_body, row_of, status_code, subst, succeeds, sym, true, was_online, ℕ, ⊎_elim, ◌%◌, ◌&&◌, ◌+◌, ◌/◌, ◌<◌, ◌||◌, ◌∙◌, ◌≡◌, ◌≢◌, ◌≤◌, ◌⊎◌}
 use Rattle.mscp_packet.specs.declared.command.Order.TheVariants as orders
 use Rattle.mscp_shown.proofs.Reading.{BodyReads}
 use Rattle.mscp_shown.proofs.Saying.{IsLong, IsShort, Says}
@@ -41,23 +36,12 @@ move_code kind = grind arith
 module _ (s : Sent) (a : Answer) where
   -- an end of its command's unit
   its_unit : a.unit ≡ s.unit → names_unit s a ≡ true
-  its_unit e = ap (λ b. s.next || b) (eq-eqb a.unit s.unit e) ∙ or_true s.next
-    where
-      or_true : (b : Bool) → (b || true) ≡ true
-      or_true b = grind arith
+  its_unit e = grind arith
 
   -- an end that keeps a rule of the command that its command is about, if it isn't refused
   unless_refused : (P : Option ℕ → Bool) (k about : Bool) → k ≡ true → P None ≡ true
       → P (if about then s.parameter else None) ≡ true → P (other_when k about (is_refused s a) s.parameter) ≡ true
-  unless_refused P k about e none some =
-      ap (λ b. P (other_when b about (is_refused s a) s.parameter)) e
-      ∙ by_refused about (is_refused s a) some
-    where
-      by_refused : (about refused : Bool) → P (if about then s.parameter else None) ≡ true
-          → P (other_when true about refused s.parameter) ≡ true
-      by_refused false refused h = none
-      by_refused true true h = none
-      by_refused true false h = h
+  unless_refused P k about e none some = grind arith
 
   -- and one of an opcode that isn't known keeps it
   by_nobody : (P : Option ℕ → Bool) (k about refused : Bool) → k ≡ false → P None ≡ true
@@ -72,11 +56,7 @@ module _ (s : Sent) (a : Answer) where
 
   -- what is asked of a status beside its code
   has_all : has_code s a ≡ true → IsApt s a → has_status s a ≡ true
-  has_all code apt = all_four (has_code s a) (is_whole s a) (is_plain s a) (points_into s a) code apt.whole apt.plain
-      apt.points
-    where
-      all_four : (a b c d : Bool) → a ≡ true → b ≡ true → c ≡ true → d ≡ true → (a && b && c && d) ≡ true
-      all_four a b c d h k l m = grind arith
+  has_all code apt = grind arith
 
   or_true : (b : Bool) → (b || true) ≡ true
   or_true b = grind arith
@@ -84,58 +64,11 @@ module _ (s : Sent) (a : Answer) where
   -- of a message that is long enough: its Success has no sub-code, or is an ONLINE's
   long_apt : (n : ℕ) → is_short s ≡ false → n ≤ s.bytes
       → ((a.status % 32 ≡ 0 → a.status ≡ 0) ⊎ (s.opcode ≡ 9)) → (a.status % 32 ≡ 1 → a.status / 256 < n) → IsApt s a
-  long_apt n long span plain points = record {
-    whole = ap (λ b. not b || not (nat_eq (status_code a) 0)) long;
-    plain = ⊎_elim
-        (λ f. plain_zero (nat_eq (status_code a) 0) refl f)
-        (λ e. ap (λ o. not (nat_eq (status_code a) 0) || not (was_online a) || nat_eq o 9 || is_unknown o) e
-        ∙ late (not (nat_eq (status_code a) 0)) (not (was_online a)) (is_unknown 9)) plain;
-    points =
-        let P : Bool → Type 0 = λ b. nat_eq (status_code a) 1 ≡ b
-        → (not b || is_short s || nat_lt (a.status / 256) s.bytes) ≡ true in
-        elim (nat_eq (status_code a) 1) as P [
-          | true ↦ λ e.
-              ap (λ b. is_short s || b) (lt-ltb (a.status / 256) s.bytes
-              (omega (arith, span, points (eqb-true (status_code a) 1 e)))) ∙ or_true (is_short s)
-          | false ↦ λ e. refl
-        ] refl;
-  }
-    where
-      late : (x y z : Bool) → (x || y || true || z) ≡ true
-      late x y z = grind arith
-
-      plain_zero : (b : Bool) → nat_eq (status_code a) 0 ≡ b → (a.status % 32 ≡ 0 → a.status ≡ 0)
-          → is_plain s a ≡ true
-      plain_zero true e f =
-          let none : was_online a ≡ false =
-          ap (λ n. nat_eq (n / 256 % 2) 1) (f (eqb-true (status_code a) 0 e)) in
-          ap (λ b. not (nat_eq (status_code a) 0) || not b || nat_eq s.opcode 9 || is_unknown s.opcode) none
-          ∙ last (not (nat_eq (status_code a) 0)) (nat_eq s.opcode 9) (is_unknown s.opcode)
-        where
-          last : (x y z : Bool) → (x || true || y || z) ≡ true
-          last x y z = grind arith
-      plain_zero false e f =
-          ap (λ b. not b || not (was_online a) || nat_eq s.opcode 9 || is_unknown s.opcode) e
-          ∙ first (not (was_online a)) (nat_eq s.opcode 9) (is_unknown s.opcode)
-        where
-          first : (x y z : Bool) → (true || x || y || z) ≡ true
-          first x y z = grind arith
+  long_apt n long span plain points = grind (arith, lt-ltb, eqb-true)
 
   -- of one that is too short
   short_apt : is_short s ≡ true → status_code a ≡ 1 → IsApt s a
-  short_apt short one = record {
-    whole = ap (λ n. not (is_short s) || not (nat_eq n 0)) one ∙ or_true (not (is_short s));
-    plain = ap (λ n. not (nat_eq n 0) || not (was_online a) || nat_eq s.opcode 9 || is_unknown s.opcode) one
-        ∙ first (not (was_online a)) (nat_eq s.opcode 9) (is_unknown s.opcode);
-    points = ap (λ b. not (nat_eq (status_code a) 1) || b || nat_lt (a.status / 256) s.bytes) short
-        ∙ middle (not (nat_eq (status_code a) 1)) (nat_lt (a.status / 256) s.bytes);
-  }
-    where
-      first : (x y z : Bool) → (true || x || y || z) ≡ true
-      first x y z = grind arith
-
-      middle : (x y : Bool) → (x || true || y) ≡ true
-      middle x y = grind arith
+  short_apt short one = grind arith
 
   -- and of one whose opcode isn't known: the sub-code is that of its byte 8
   unknown_apt : a.status ≡ 0x0801 → IsApt s a
@@ -154,10 +87,7 @@ module _ (s : Sent) (a : Answer) where
       least_low op = grind arith
 
       short_or : (least n : ℕ) → 12 ≤ least → (nat_lt n least || nat_lt 8 n) ≡ true
-      short_or least n h = ⊎_elim
-          (λ low. ap (λ b. b || nat_lt 8 n) (lt-ltb n least (omega (arith, low, h))))
-          (λ high. ap (λ b. nat_lt n least || b) (lt-ltb 8 n (omega (arith, high))) ∙ or_true (nat_lt n least))
-          (cases_lt n 12)
+      short_or least n h = grind arith
 
   -- an opcode that is known
   known : (op : ℕ) → s.opcode ≡ op → a.unit ≡ s.unit → is_known a ≡ true → nat_eq a.code (op + 0x80) ≡ true
@@ -188,28 +118,14 @@ module _ (s : Sent) (a : Answer) where
 
   -- one that isn't
   unknown : a.unit ≡ s.unit → is_known a ≡ false → a.status ≡ 0x0801 → is_required s.opcode ≡ false → Keeps s a
-  unknown unit k is apart = record {
-    unit = its_unit unit;
-    endcode = ap (λ b. if b then nat_eq a.code (s.opcode + 0x80) else not (is_required s.opcode)) k ∙ ap not apart;
-    status = has_all
-        (ap (λ b. if b then is_unknown s.opcode || may_have s.opcode (status_code a) else nat_eq (status_code a) 1) k
-        ∙ ap (λ n. nat_eq (n % 32) 1) is) (unknown_apt is);
-    success =
-        by_nobody (succeeds a) (is_known a) (is_about_another s.opcode) (is_refused s a) k refl;
-    about = by_nobody (is_about a) (is_known a) (is_about_another s.opcode) (is_refused s a) k refl;
-    count = ap (λ b. has_count a (if b && is_counted s.opcode a.parameter then s.parameter else None)) k;
-  }
+  unknown unit k is apart = grind (arith, its_unit, has_all, unknown_apt, by_nobody)
 
   -- an opcode that is about no command and moves nothing
   plain : (op code : ℕ) → s.opcode ≡ op → a.unit ≡ s.unit → a.code ≡ code → nat_eq code 0x80 ≡ false
       → nat_eq code (op + 0x80) ≡ true → is_about_another op ≡ false → is_transfer op ≡ false
       → nat_eq op 17 ≡ false
       → may_have op (status_code a) ≡ true → IsApt s a → Keeps s a
-  plain op code e unit c k right none moves_none apart status apt =
-      let o : asked op s ≡ None = ap (λ b. if b then s.parameter else None) none in
-      let w : wanted op s ≡ None = ap (λ b. if b then s.parameter else None) moves_none in
-      known op e unit (ap (λ n. not (nat_eq n 0x80)) c ∙ ap not k) (ap (λ n. nat_eq n (op + 0x80)) c ∙ right) status
-      apt (ap (succeeds a) o) (ap (is_about a) o) (ap (has_count a) w) apart
+  plain op code e unit c k right none moves_none apart status apt = grind (arith, known)
 
   -- one about another command
   about_other : (op code other : ℕ) → s.opcode ≡ op → a.unit ≡ s.unit → a.code ≡ code → nat_eq code 0x80 ≡ false
@@ -227,16 +143,7 @@ module _ (s : Sent) (a : Answer) where
 
   moved_right : (moved count code : ℕ) → moved ≤ count → (code ≡ 0 → moved ≡ count)
       → (nat_le moved count && (nat_eq moved count || not (nat_eq code 0))) ≡ true
-  moved_right moved count code h all =
-      let P : Bool → Type 0 = λ b. nat_eq code 0 ≡ b → (nat_eq moved count || not b) ≡ true in
-      ap (λ b. b && (nat_eq moved count || not (nat_eq code 0))) (le-leb moved count h)
-      ∙ elim (nat_eq code 0) as P [
-        | true ↦ λ e. ap (λ b. b || false) (eq-eqb moved count (all (eqb-true code 0 e)))
-        | false ↦ λ e. or_true (nat_eq moved count)
-      ] refl
-    where
-      or_true : (b : Bool) → (b || true) ≡ true
-      or_true b = grind arith
+  moved_right moved count code h all = grind arith
 
   -- a transfer, of which so many bytes were to be moved
   transfer : (kind : MoveKind) (moved count : ℕ) → s.opcode ≡ move_byte kind → a.unit ≡ s.unit
@@ -280,20 +187,7 @@ module _ (s : Sent) (a : Answer) where
   -- none of its bytes were moved
   none_moved : (o : Opcode) → status_code a ≡ 1
       → BodyReads (refused_body (bit_or (row_of o).byte 0x80)) a → has_count a (wanted (row_of o).byte s) ≡ true
-  none_moved (codes.Move kind) one q = moved_none (is_transfer (move_byte kind)) s.parameter (zero_read kind q)
-    where
-      zero_read : (kind : MoveKind) → BodyReads (refused_body (bit_or (move_byte kind) 0x80)) a → a.parameter ≡ Some 0
-      zero_read kind q = grind arith
-
-      moves_none : (n : ℕ) → a.parameter ≡ Some 0 → moves a a.parameter n ≡ true
-      moves_none n q =
-          ap (λ f. moves a f n) q ∙ moved_right 0 n (status_code a) (omega arith) (λ z. absurd (omega (arith, z, one)))
-
-      moved_none : (b : Bool) (p : Option ℕ) → a.parameter ≡ Some 0 → has_count a (if b then p else None) ≡ true
-      moved_none false p q = refl
-      moved_none true None q = refl
-      moved_none true (Some n) q = moves_none n q
-  none_moved code one q = refl
+  none_moved code one q = grind arith
 
   short_keeps : (o : Opcode) (byte fault status : ℕ) (body : EndBody) → IsShort o byte fault s
       → a.unit ≡ s.unit → status ≡ fault → body ≡ refused_body (endcode (orders.Invalid byte fault))

@@ -1,12 +1,11 @@
 -- What holds after each part of a legal trace, and what a moment has to keep of it.
-use Rattle.mscp_shown.proofs.Common.{All-from_recursion, AllByRecursion, Bool, Command, Connection, End, History, Identity, IsRight, Known, List, Moment, None, Option, Settings, Some, Told, Trace, Wired, [], aborted_reference, ap, append-nil, arith, command, each_push, ends, ends_at, ends_in, every_from, false, false≢true, get_or, is_queued, length, name, not, queues, refl, same_connection, shown, shown_by, subst, sym, taken_when, takes, told, told_after, told_push, true, true≢false, untaken, waiting, waiting_by, ℕ, ◌++◌, ◌+◌, ◌<◌, ◌∙◌, ◌∷◌, ◌≡◌}
+use Rattle.mscp_shown.proofs.Common.{All-from_recursion, AllByRecursion, Bool, Command, Connection, End, History, Identity, IsRight, Known, List, Moment, None, Option, Settings, Some, Told, Trace, Wired, [], aborted_reference, ap, append-nil, arith, command, each_push, ends, ends_at, ends_in, every_from, false, false≢true, get_or, is_queued, length, name, not, queues, same_connection, shown, shown_by, subst, sym, taken_when, takes, told, told_after, told_push, true, true≢false, unit_shape, untaken, waiting, waiting_by, ℕ, ◌++◌, ◌+◌, ◌<◌, ◌∙◌, ◌∷◌, ◌≡◌}
 use Rattle.mscp_controller.specs.declared.entry.Sent.{Sent}
 use Rattle.mscp_wire.specs.Wire as wire
 use Rattle.mscp_wire.specs.declared.moment.Moment.TheVariants as moments
 use Rattle.mscp_shown.proofs.Strict as strict
 use Rattle.mscp_shown.proofs.Strict.{AreRight, after, after_end, outstanding}
 use Rattle.mscp_shown.proofs.Messages.{HasRoom}
-use Rattle.mscp_drive.specs.Settings.{unit_shape}
 use Rattle.mscp_shown.proofs.Identity.{AreTold, IsOf}
 use Rattle.mscp_shown.proofs.Aborted.{Aborts}
 use Rattle.mscp_shown.proofs.Owed.{came, owed, owed_more, quiet}
@@ -72,8 +71,7 @@ taken_as_answer c via t command q r a h = grind (arith, true≢false, is_answer,
 pub isnt_queued : (c : Settings) (via : Connection) (t : Trace) (command : Command) (q : Bool) (r : ℕ) (a : Option ℕ)
     → Sent.Answered r a ≡ taken_when c via t command q → q ≡ false
 unfolding is_answer
-isnt_queued c via t command true r a h = absurd (true≢false (ap is_answer h))
-isnt_queued c via t command false r a h = refl
+isnt_queued c via t command q r a h = grind arith
 
 kept_more : (credits : Option ℕ) (h : History) (m : Wired) → AreRight credits h → strict.IsRight credits h m
     → AreRight credits (h ++ m ∷ [])

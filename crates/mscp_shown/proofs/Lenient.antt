@@ -1,16 +1,9 @@
 -- A history that keeps the stricter rules of figures keeps those of the judge of the wire.
-use Rattle.mscp_shown.proofs.Common.{Answer, Asked, Gone, Nothing, Oldest, Pairs, Sent, find, is_below, is_it, is_named, is_polled, nat_lt, or_parts, polled_by}
-use Rattle.std.proofs.Common.{◌≡◌, ℕ, zero, suc, ◌<◌, Bool, true, false, cond, ◌&&◌, ◌||◌, List, [], ◌∷◌, ◌++◌, length, get_or, take, drop, map, refl, ap, sym, ◌∙◌, subst, arith, Option, Some, None}
-use Rattle.std.specs.Prelude.{if◌then◌else◌, nat_eq}
-use Rattle.std.specs.List.{AllByRecursion, list_any}
-use Rattle.std.proofs.lemmas.Bool.{and_parts, eqb-true, eq-eqb, false≢true, true≢false}
-use Rattle.std.proofs.lemmas.List.Folds.{list_any-append}
-use Rattle.mscp_queue.proofs.Lists.{every_append, every_parts, every_weaker}
-use Rattle.mscp_drive.specs.declared.connection.Connection.{Connection}
+use Rattle.mscp_shown.proofs.Common.{AllByRecursion, Answer, Asked, Bool, Connection, List, None, Oldest, Option, Pairs, Sent, Some, [], and_parts, ap, arith, cond, drop, eqb-true, every_append, every_parts, every_weaker, false, false≢true, find, get_or, if◌then◌else◌, is_below, is_it, is_named, is_polled, length, list_any, list_any-append, map, nat_eq, or_parts, polled_by, refl, subst, suc, sym, take, true, zero, ℕ, ◌&&◌, ◌++◌, ◌<◌, ◌||◌, ◌∙◌, ◌∷◌, ◌≡◌}
 use Rattle.mscp_wire.specs.Wire as wire
 use Rattle.mscp_wire.specs.Wire.{is_immediate, left, same_connection}
 use Rattle.mscp_shown.proofs.Alike.{bare}
-use Rattle.mscp_shown.proofs.Linking.{Alone, AsksOf, IsLow, Linked, Lower, Same, lower_same, lower_told, none_behind}
+use Rattle.mscp_shown.proofs.Linking.{Alone, AsksOf, IsLow, Linked, Lower, Same, lower_same, none_behind}
 use Rattle.mscp_shown.proofs.Owners.{every_drop, every_take}
 use Rattle.mscp_shown.proofs.Shown.{one_side}
 use Rattle.mscp_shown.proofs.Strict.{hears, may_tell}
@@ -18,32 +11,12 @@ use Rattle.mscp_shown.proofs.Strict.{hears, may_tell}
 -- ---- names
 pub named_turned : (a b : Sent) → is_named a.connection a.reference b ≡ false
     → is_named b.connection b.reference a ≡ false
-named_turned a b h =
-    let P : Bool → Type 0 = λ q. is_named b.connection b.reference a ≡ q
-    → is_named b.connection b.reference a ≡ false in
-    elim (is_named b.connection b.reference a) as P [
-      | true ↦ λ q.
-          let p = and_parts (same_connection a.connection b.connection) (nat_eq a.reference b.reference) q in
-          let side = one_side a.connection b.connection p.0 in
-          let number = eqb-true a.reference b.reference p.1 in
-          absurd (false≢true (sym h
-          ∙ (ap (λ v. is_named v a.reference b) side ∙ (ap (λ n. is_named b.connection n b) number ∙ itself b))))
-      | false ↦ λ q. q
-    ] refl
-  where
-    itself : (b : Sent) → is_named b.connection b.reference b ≡ true
-    itself b =
-        ap (λ c. c && nat_eq b.reference b.reference) (own b.connection) ∙ eq-eqb b.reference b.reference refl
-      where
-        own : (v : Connection) → same_connection v v ≡ true
-        own v = grind arith
+named_turned a b h = grind arith
 
 -- the one at a place has its name alone
 pub apart_at : (i : ℕ) (xs : List Sent) (d : Sent) → i < length xs → Alone xs
     → AllByRecursion (λ t. is_named (get_or xs i d).connection (get_or xs i d).reference t ≡ false) (take i xs)
     × AllByRecursion (λ t. is_named (get_or xs i d).connection (get_or xs i d).reference t ≡ false) (drop (suc i) xs)
-apart_at i [] d l a = absurd (omega (arith, l))
-apart_at zero (x ∷ xs) d l a = (tt, a.0)
 apart_at (suc i) (x ∷ xs) d l a =
     let rest = apart_at i xs d (omega (arith, l)) a.1 in (
       (
@@ -59,24 +32,17 @@ apart_at (suc i) (x ∷ xs) d l a =
     every_get P i [] d l h = absurd (omega (arith, l))
     every_get P zero (y ∷ ys) d l h = h.0
     every_get P (suc i) (y ∷ ys) d l h = every_get P i ys d (omega (arith, l)) h.1
+apart_at i xs d l a = grind arith
 
 -- one of a name stands before a place, so none does behind
 pub apart_from : (via : Connection) (n : ℕ) (i : ℕ) (xs : List Sent) → Alone xs
     → list_any (is_named via n) (take i xs) ≡ true → AllByRecursion (λ t. is_named via n t ≡ false) (drop (suc i) xs)
-apart_from via n zero xs a h = absurd (false≢true h)
-apart_from via n (suc i) [] a h = tt
-apart_from via n (suc i) (x ∷ xs) a h =
-    let P : Bool → Type 0 = λ b. is_named via n x ≡ b → (b || list_any (is_named via n) (take i xs)) ≡ true
-    → AllByRecursion (λ t. is_named via n t ≡ false) (drop (suc i) xs) in
-    elim (is_named via n x) as P [
-      | true ↦ λ q k. every_drop (λ t. is_named via n t ≡ false) (suc i) xs (none_behind via n x xs q a.0)
-      | false ↦ λ q k. apart_from via n i xs a.1 k
-    ] refl h
+apart_from via n (suc i) (x ∷ xs) a h = grind (arith, apart_from via n i xs a.1, every_drop, none_behind)
+apart_from via n i xs a h = grind arith
 
 pub pairs_take : (R : Sent → Sent → Type 0) (i : ℕ) (xs : List Sent) → Pairs R xs → Pairs R (take i xs)
-pairs_take R zero xs h = tt
-pairs_take R (suc i) [] h = tt
 pairs_take R (suc i) (x ∷ xs) h = (every_take (R x) i xs h.0, pairs_take R i xs h.1)
+pairs_take R i xs h = grind arith
 
 -- ---- what stricter rules say of the command that is polled
 abbrev pub Falls : Answer → Option ℕ → Sent → Type 0
@@ -86,10 +52,7 @@ Falls e p t = is_polled e.connection p t ≡ true → is_immediate t.opcode ≡ 
 pub falls_one : (figure : Option ℕ) (stands : Bool) (t : Sent) → may_tell figure stands (Some t) ≡ true
     → is_immediate t.opcode ≡ false → (f : ℕ) × (figure ≡ Some f) × (is_below t.told f ≡ true)
 falls_one None stands t h k = cc
-falls_one (Some f) stands t h k =
-    let rest : (nat_lt 0 f && is_below t.told f) ≡ true =
-    sym (ap (λ b. b || (nat_lt 0 f && is_below t.told f)) k) ∙ h in
-    (f, refl, (and_parts (nat_lt 0 f) (is_below t.told f) rest).1)
+falls_one (Some f) stands t h k = grind arith
 
 pub falls_found : (e : Answer) (n : ℕ) (stands : Bool) (ts : List Sent) → Alone ts
     → may_tell e.figure stands (find (is_named e.connection n) ts) ≡ true → AllByRecursion (Falls e (Some n)) ts
@@ -110,24 +73,13 @@ falls_found e n stands (t ∷ ts) a h =
 -- ---- an end comes
 hears_told : (e : Answer) (p : Option ℕ) (t : Sent)
     → (hears e p t).told ≡ (if is_polled e.connection p t then e.figure else t.told)
-hears_told e None t = refl
-hears_told e (Some n) t = by_bool (is_named e.connection n t)
-  where
-    by_bool : (b : Bool) → (if b then record t { told = e.figure } else t).told ≡ (if b then e.figure else t.told)
-    by_bool true = refl
-    by_bool false = refl
+hears_told e p t = grind arith
 
 pub hears_bare : (e : Answer) (p : Option ℕ) (t : Sent) → bare (hears e p t) ≡ bare t
-hears_bare e None t = refl
-hears_bare e (Some n) t = by_bool (is_named e.connection n t)
-  where
-    by_bool : (b : Bool) → bare (if b then record t { told = e.figure } else t) ≡ bare t
-    by_bool true = refl
-    by_bool false = refl
+hears_bare e p t = grind arith
 
 polled_alike : (via : Connection) (p : Option ℕ) (t u : Sent) → bare t ≡ bare u → is_polled via p t ≡ is_polled via p u
-polled_alike via None t u h = refl
-polled_alike via (Some n) t u h = ap (is_named via n) h
+polled_alike via p t u h = grind arith
 
 -- the end e of x, which is y to the judge, and tells the figure of p
 module _ (e : Answer) (p : Option ℕ) (x y : Sent) (alike : bare x ≡ bare y) (asks : polled_by y e ≡ p) where
@@ -151,10 +103,7 @@ module _ (e : Answer) (p : Option ℕ) (x y : Sent) (alike : bare x ≡ bare y) 
     gone : list_any (is_named x.connection x.reference) after ≡ false
 
   any_push : (q : Sent → Bool) (zs : List Sent) (z : Sent) → list_any q (zs ++ z ∷ []) ≡ (list_any q zs || q z)
-  any_push q zs z = list_any-append q zs (z ∷ []) ∙ ap (λ b. list_any q zs || b) (or_false (q z))
-    where
-      or_false : (b : Bool) → (b || false) ≡ b
-      or_false b = grind arith
+  any_push q zs z = grind (arith, list_any-append)
 
   either : (a b c d : Bool) → (a ≡ true → c ≡ true) → b ≡ d → (a || b) ≡ true → (c || d) ≡ true
   either a b c d f e h = grind arith
@@ -201,16 +150,6 @@ module _ (e : Answer) (p : Option ℕ) (x y : Sent) (alike : bare x ≡ bare y) 
   -- what is asked of a poll then
   asks_then : (before after : List Sent) (u : Sent) (a : Asked) → Kept before after → AsksOf before u a
       → AsksOf after (lax u) (if wire.polls y u then left a else a)
-  asks_then before after u Nothing k h = by_bool (wire.polls y u)
-    where
-      by_bool : (b : Bool) → AsksOf after (lax u) (if b then left Nothing else Nothing)
-      by_bool true = tt
-      by_bool false = tt
-  asks_then before after u (Gone last) k h = by_bool (wire.polls y u)
-    where
-      by_bool : (b : Bool) → AsksOf after (lax u) (if b then left (Gone last) else Gone last)
-      by_bool true = tt
-      by_bool false = λ n q. let s = h n q in (s.0, k.none u.connection n s.1)
   asks_then before after u (Oldest last) k h =
       let P : Bool → Type 0 = λ b. wire.polls y u ≡ b
       → AsksOf after (lax u) (if b then left (Oldest last) else Oldest last) in
@@ -236,26 +175,8 @@ module _ (e : Answer) (p : Option ℕ) (x y : Sent) (alike : bare x ≡ bare y) 
       -- the command that it names is another
       other : (n : ℕ) → wire.polls y u ≡ false → u.parameter ≡ Some n → nat_eq u.opcode 2 ≡ true
           → is_named u.connection n x ≡ false
-      other n w q poll =
-          let Q : Bool → Type 0 = λ b. is_named u.connection n x ≡ b → is_named u.connection n x ≡ false in
-          elim (is_named u.connection n x) as Q [
-            | true ↦ λ t.
-                let parts = and_parts (same_connection x.connection u.connection) (nat_eq x.reference n) t in
-                let side : u.connection ≡ y.connection =
-                sym (one_side x.connection u.connection parts.0) ∙ ap (λ (s : Sent). s.connection) alike in
-                let number : n ≡ y.reference =
-                sym (eqb-true x.reference n parts.1) ∙ ap (λ (s : Sent). s.reference) alike in
-                let named : wire.polls y u ≡ true =
-                ap (λ v. same_connection v y.connection && nat_eq u.opcode 2 && is_it u.parameter y.reference) side
-                ∙ (ap (λ b. b && nat_eq u.opcode 2 && is_it u.parameter y.reference) (own y.connection)
-                ∙ (ap (λ b. b && is_it u.parameter y.reference) poll
-                ∙ (ap (λ o. is_it o y.reference) q ∙ eq-eqb n y.reference number))) in
-                absurd (true≢false (sym named ∙ w))
-            | false ↦ λ t. t
-          ] refl
-        where
-          own : (v : Connection) → same_connection v v ≡ true
-          own v = grind arith
+      other n w q poll = grind arith
+  asks_then before after u a k h = grind arith
 
   -- a command before it
   opcode_same : (t : Sent) → is_immediate (strict t).opcode ≡ is_immediate t.opcode
@@ -263,22 +184,11 @@ module _ (e : Answer) (p : Option ℕ) (x y : Sent) (alike : bare x ≡ bare y) 
 
   low_then : (t : Sent) → Falls e p t → is_immediate t.opcode ≡ false → (last : Option ℕ) → Lower t.told last
       → Lower (strict t).told last
-  low_then t falls im last h =
-      let P : Bool → Type 0 = λ b. is_polled e.connection p t ≡ b
-      → Lower (if b then e.figure else t.told) last in
-      subst (λ o. Lower o last) (sym (hears_told e p t))
-      (elim (is_polled e.connection p t) as P [
-        | true ↦ λ w.
-            let f = falls w im in
-            subst (λ o. Lower o last) (sym f.1) (lower_told t.told last f.0 h f.2)
-        | false ↦ λ w. h
-      ] refl)
+  low_then t falls im last h = grind arith
 
   front_low : (t : Sent) → Falls e p t → (via : Connection) (n : ℕ) (last : Option ℕ) → IsLow via n last t
       → IsLow via n last (strict t)
-  front_low t falls via n last h named =
-      let now = h (sym (ap (is_named via n) (hears_bare e p t)) ∙ named) in
-      (opcode_same t ∙ now.0, low_then t falls now.0 last now.1)
+  front_low t falls via n last h named = grind (arith, hears_bare, opcode_same, low_then)
 
   front_same : (t u : Sent) → Falls e p t → Same t u → Same (strict t) (lax u)
   front_same t u falls s = record {
@@ -304,34 +214,23 @@ module _ (e : Answer) (p : Option ℕ) (x y : Sent) (alike : bare x ≡ bare y) 
   IsSilent t = (wire.asks_oldest y.asked && is_polled e.connection p t) ≡ false
 
   back_same : (t u : Sent) → IsSilent t → Same t u → Same t (lax u)
-  back_same t u silent s = record {
-    alike = s.alike;
-    lower = λ im.
-        let no : wire.tells y e u ≡ false =
-        ap (λ o. wire.asks_oldest y.asked && is_polled e.connection o u) asks
-        ∙ (ap (λ b. wire.asks_oldest y.asked && b) (sym (polled_alike e.connection p t u s.alike)) ∙ silent) in
-        subst (λ o. Lower t.told o) (sym (ap (λ b. if b then e.figure else u.told) no)) (s.lower im);
-  }
+  back_same t u silent s = grind (arith, polled_alike)
 
   back : (before after ts us : List Sent) → Linked before ts us → Kept before after
       → AllByRecursion (λ t. IsApart t × IsSilent t) ts → Linked after ts (map lax us)
-  back before after [] [] h k all = tt
-  back before after [] (u ∷ us) h k all = absurd h
-  back before after (t ∷ ts) [] h k all = absurd h
   back before after (t ∷ ts) (u ∷ us) h k all = (
     back_same t u all.0.1 h.0,
     asks_then before after u u.asked k h.1,
     back (before ++ t ∷ []) (after ++ t ∷ []) ts us h.2
         (kept_push before after t t k refl (λ via n last low. low) all.0.0) all.1,
   )
+  back before after ts us h k all = grind arith
 
   front : (i : ℕ) (before after ts us : List Sent) (d : Sent) → i < length ts → get_or ts i d ≡ x
       → Linked before ts us → Kept before after
       → AllByRecursion (λ t. IsApart t × Falls e p t) (take i ts)
       → AllByRecursion (λ t. IsApart t × IsSilent t) (drop (suc i) ts)
       → Linked after (map strict (take i ts) ++ drop (suc i) ts) (map lax (take i us ++ drop (suc i) us))
-  front i before after [] us d l here h k f b = absurd (omega (arith, l))
-  front i before after (t ∷ ts) [] d l here h k f b = absurd h
   front zero before after (t ∷ ts) (u ∷ us) d l here h k f b =
       back (before ++ t ∷ []) after ts us h.2 (kept_gone before after t k here) b
   front (suc i) before after (t ∷ ts) (u ∷ us) d l here h k f b = (
@@ -340,14 +239,10 @@ module _ (e : Answer) (p : Option ℕ) (x y : Sent) (alike : bare x ≡ bare y) 
     front i (before ++ t ∷ []) (after ++ strict t ∷ []) ts us d (omega (arith, l)) here h.2
         (kept_push before after t (strict t) k (hears_bare e p t) (front_low t f.0.1) f.0.0) f.1 b,
   )
+  front i before after ts us d l here h k f b = grind arith
 
   kept_none : Kept [] []
-  kept_none = record {
-    none = λ via n h. refl;
-    some = λ via n other h. absurd (false≢true h);
-    low = λ via n last h. tt;
-    gone = refl;
-  }
+  kept_none = grind arith
 
   -- all that is outstanding then
   pub linked_end : (i : ℕ) (xs ys : List Sent) (d : Sent) → i < length xs → get_or xs i d ≡ x → Linked [] xs ys

@@ -1,14 +1,7 @@
 -- What the judge of the wire keeps of outstanding commands, beside what stricter rules of figures keep of them.
-use Rattle.mscp_shown.proofs.Common.{Asked, First, Gone, Nothing, Oldest, Pairs, Sent, asked_about, asked_by, asking, find, has_number, is_below, is_hasty, is_named, is_oldest, ltb-true, may_ask, sent_by, timed, waits_on}
-use Rattle.std.proofs.Common.{◌≡◌, ℕ, zero, suc, ◌≤◌, Bool, true, false, cond, not, ◌&&◌, ◌||◌, List, [], ◌∷◌, ◌++◌, get_or, take, refl, ap, sym, ◌∙◌, subst, arith, append-nil, append_assoc, Option, Some, None}
-use Rattle.std.specs.Prelude.{if◌then◌else◌, nat_eq}
-use Rattle.std.specs.List.{AllByRecursion, list_any}
-use Rattle.std.proofs.lemmas.Bool.{and_parts, eqb-true, false≢true, lt-ltb}
-use Rattle.mscp_queue.proofs.Lists.{every_weaker}
-use Rattle.mscp_drive.specs.declared.connection.Connection.{Connection}
+use Rattle.mscp_shown.proofs.Common.{AllByRecursion, Asked, Bool, Connection, First, Gone, List, None, Nothing, Oldest, Option, Pairs, Sent, Some, [], and_parts, ap, append-nil, append_assoc, arith, asked_about, asked_by, asking, cond, every_weaker, false, false≢true, find, get_or, has_number, if◌then◌else◌, is_below, is_hasty, is_named, is_oldest, list_any, may_ask, nat_eq, not, refl, sent_by, subst, suc, sym, take, timed, true, waits_on, zero, ℕ, ◌&&◌, ◌++◌, ◌||◌, ◌∙◌, ◌∷◌, ◌≡◌, ◌≤◌}
 use Rattle.mscp_wire.specs.Wire.{is_immediate, same_connection}
 use Rattle.mscp_shown.proofs.Alike.{Alike, alike_any, bare}
-use Rattle.mscp_shown.proofs.Shown.{one_side}
 
 -- ---- names
 
@@ -19,18 +12,13 @@ Alone xs = Pairs (λ x y. is_named x.connection x.reference y ≡ false) xs
 -- two that have the same name
 pub same_name_as : (via : Connection) (n : ℕ) (x y : Sent) → is_named via n x ≡ true
     → is_named via n y ≡ is_named x.connection x.reference y
-same_name_as via n x y h =
-    let p = and_parts (same_connection x.connection via) (nat_eq x.reference n) h in
-    ap (λ v. is_named v n y) (sym (one_side x.connection via p.0))
-    ∙ ap (λ r. is_named x.connection r y) (sym (eqb-true x.reference n p.1))
+same_name_as via n x y h = grind arith
 
 -- behind one of a name there is no other
 pub none_behind : (via : Connection) (n : ℕ) (x : Sent) (xs : List Sent) → is_named via n x ≡ true
     → AllByRecursion (λ y. is_named x.connection x.reference y ≡ false) xs
     → AllByRecursion (λ y. is_named via n y ≡ false) xs
-none_behind via n x xs h all =
-    every_weaker (λ y. is_named x.connection x.reference y ≡ false) (λ y. is_named via n y ≡ false)
-    (λ y k. same_name_as via n x y h ∙ k) xs all
+none_behind via n x xs h all = grind (arith, every_weaker, same_name_as)
 
 -- ---- figures
 
@@ -41,21 +29,12 @@ Lower None (Some n) = ⊥
 Lower (Some m) (Some n) = m ≤ n
 
 pub lower_same : (o : Option ℕ) → Lower o o
-lower_same None = tt
-lower_same (Some n) = omega arith
+lower_same o = grind arith
 
 -- a figure below the one is below the other
 pub below_lower : (strict lax : Option ℕ) (figure : ℕ) → Lower strict lax → is_below strict figure ≡ true
     → is_below lax figure ≡ true
-below_lower strict None figure h k = refl
-below_lower None (Some n) figure h k = absurd h
-below_lower (Some m) (Some n) figure h k = lt-ltb figure n (omega (arith, h, ltb-true figure m k))
-
-pub lower_told : (strict lax : Option ℕ) (figure : ℕ) → Lower strict lax → is_below strict figure ≡ true
-    → Lower (Some figure) lax
-lower_told strict None figure h k = tt
-lower_told None (Some n) figure h k = absurd h
-lower_told (Some m) (Some n) figure h k = omega (arith, h, ltb-true figure m k)
+below_lower strict lax figure h k = grind arith
 
 -- ---- two commands at the same place
 pub record Same (x y : Sent) : Type 0 where
@@ -83,22 +62,16 @@ Linked before (x ∷ xs) [] = ⊥
 Linked before (x ∷ xs) (y ∷ ys) = Same x y × AsksOf before y y.asked × Linked (before ++ x ∷ []) xs ys
 
 pub linked_alike : (before xs ys : List Sent) → Linked before xs ys → Alike xs ys
-linked_alike before [] [] h = tt
-linked_alike before [] (y ∷ ys) h = absurd h
-linked_alike before (x ∷ xs) [] h = absurd h
 linked_alike before (x ∷ xs) (y ∷ ys) h = (h.0.alike, linked_alike (before ++ x ∷ []) xs ys h.2)
+linked_alike before xs ys h = grind arith
 
 pub linked_push : (before xs ys : List Sent) (x y : Sent) → Linked before xs ys → Same x y
     → AsksOf (before ++ xs) y y.asked → Linked before (xs ++ x ∷ []) (ys ++ y ∷ [])
 linked_push before [] [] x y h s a = (s, subst (λ b. AsksOf b y y.asked) (append-nil before) a, tt)
 linked_push before [] (z ∷ ys) x y h s a = absurd h
 linked_push before (z ∷ xs) [] x y h s a = absurd h
-linked_push before (z ∷ xs) (u ∷ ys) x y h s a = (
-  h.0,
-  h.1,
-  linked_push (before ++ z ∷ []) xs ys x y h.2 s
-      (subst (λ b. AsksOf b y y.asked) (sym (append_assoc before (z ∷ []) xs)) a),
-)
+linked_push before (z ∷ xs) (u ∷ ys) x y h s a =
+    (h.0, h.1, linked_push (before ++ z ∷ []) xs ys x y h.2 s (rw append_assoc a))
 
 -- what is asked of the one at a place
 abbrev pub nobody : Sent
@@ -119,12 +92,7 @@ asks_at before (x ∷ xs) (y ∷ ys) (suc i) h =
 
 none_found : (p : Sent → Bool) (ys : List Sent) → find p ys ≡ None → list_any p ys ≡ false
 none_found p [] h = refl
-none_found p (y ∷ ys) h =
-    let P : Bool → Type 0 = λ b. p y ≡ b → cond b (Some y) (find p ys) ≡ None → (b || list_any p ys) ≡ false in
-    elim (p y) as P [
-      | true ↦ λ e k. cc
-      | false ↦ λ e k. none_found p ys k
-    ] refl h
+none_found p (y ∷ ys) h = grind (arith, none_found p ys)
 
 same_sent : (x y : Sent) → Some x ≡ Some y → x ≡ y
 same_sent x y h = cc
@@ -136,9 +104,6 @@ or_true b = grind arith
 found_low : (before xs ys : List Sent) (via : Connection) (n : ℕ) (z : Sent) → Linked before xs ys → Alone xs
     → find (is_named via n) ys ≡ Some z → is_immediate z.opcode ≡ false
     → (list_any (is_named via n) xs ≡ true) × AllByRecursion (IsLow via n z.told) xs
-found_low before [] [] via n z h a e k = cc
-found_low before [] (y ∷ ys) via n z h a e k = absurd h
-found_low before (x ∷ xs) [] via n z h a e k = absurd h
 found_low before (x ∷ xs) (y ∷ ys) via n z h a e k =
     let named : is_named via n x ≡ is_named via n y = ap (is_named via n) h.0.alike in
     let P : Bool → Type 0 = λ b. is_named via n y ≡ b → cond b (Some y) (find (is_named via n) ys) ≡ Some z
@@ -162,6 +127,7 @@ found_low before (x ∷ xs) (y ∷ ys) via n z h a e k =
             ((λ t. absurd (false≢true (sym (named ∙ q) ∙ t))), rest.1),
           )
     ] refl e
+found_low before xs ys via n z h a e k = grind arith
 
 eqb_turned : (m n : ℕ) → nat_eq m n ≡ false → nat_eq n m ≡ false
 eqb_turned m n h = grind arith
@@ -208,8 +174,7 @@ module _ (timeout time : Option ℕ) (xs ys : List Sent) (s : Sent) (link : Link
                     ∙ never (same_connection z.connection z.connection),
                 poll,
               ),
-              subst (λ k. (list_any (is_named z.connection k) xs ≡ true)
-                  × AllByRecursion (IsLow z.connection k x.told) xs) same low,
+              rw (← same) low,
             )
         | false ↦ λ e. tt
       ] refl
@@ -221,23 +186,10 @@ module _ (timeout time : Option ℕ) (xs ys : List Sent) (s : Sent) (link : Link
       second a b c h = grind arith
 
   about_parameter : (p : Option ℕ) → nat_eq z.opcode 2 ≡ true → z.parameter ≡ p → New (asked_by timeout ys z p)
-  about_parameter None poll e = tt
-  about_parameter (Some other) poll e =
-      let P : Bool → Type 0 = λ b. nat_eq other z.reference ≡ b
-      → New (if b then Nothing else asked_about timeout ys z (find (is_named z.connection other) ys)) in
-      elim (nat_eq other z.reference) as P [
-        | true ↦ λ q. tt
-        | false ↦ λ q. about_named other (find (is_named z.connection other) ys) poll e q refl
-      ] refl
+  about_parameter p poll e = grind (arith, about_named)
 
   pub asks_new : AsksOf xs (asking timeout ys z) (asking timeout ys z).asked
-  asks_new =
-      let P : Bool → Type 0 = λ b. nat_eq z.opcode 2 ≡ b
-      → New (if b then asked_by timeout ys z z.parameter else Nothing) in
-      elim (nat_eq z.opcode 2) as P [
-        | true ↦ λ q. about_parameter z.parameter q refl
-        | false ↦ λ q. tt
-      ] refl
+  asks_new = grind (arith, about_parameter)
 
   pub linked_sent : Linked [] (xs ++ s ∷ []) (ys ++ asking timeout ys z ∷ [])
   linked_sent =

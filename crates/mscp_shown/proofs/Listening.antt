@@ -1,6 +1,5 @@
 -- Each moment keeps what hosts will hear: figures that are at least 1 and fall.
-use Rattle.mscp_shown.proofs.Common.{AllByRecursion, Bool, Connection, Contains, End, IsPatient, List, Moment, Name, None, Option, Polls, Promise, Sent, Settings, Some, Trace, [], and_parts, ap, arith, cond, connection, count_by, ends, ends_at, eq-eqb, eqb-true, every_weaker, false, figure, figure_found, figure_of, if◌then◌else◌, inl, inr, is_below, is_it, is_named, is_step, is_waiting, length, length_push, lt-ltb, moment, moment_before, moment_last, name, name_before, name_last, name_on, nat_eq, one_side, own_side, queued_name, queues, reference, refl, same_connection, same_is, same_name, sent_by, some_same, subst, sum_by, sum_by-append, sum_by-cons, sym, take, take_all, take_at, takes, true, true≢false, untaken, untaken_more, waiting, waiting_by, waiting_waits, waits_in, ℕ, ⊎_elim, ◌&&◌, ◌++◌, ◌<◌, ◌∙◌, ◌∷◌, ◌≡◌, ◌≤◌, ◌⊎◌}
-use Rattle.mscp_controller.proofs.Basics.{find, cases_lt}
+use Rattle.mscp_shown.proofs.Common.{AllByRecursion, Bool, Connection, Contains, End, IsPatient, List, Moment, Name, None, Option, Polls, Promise, Sent, Settings, Some, Trace, [], and_parts, ap, arith, cases_lt, cond, connection, count_by, ends, ends_at, eq-eqb, eqb-true, every_weaker, false, figure, figure_found, figure_of, find, if◌then◌else◌, inl, inr, is_below, is_it, is_named, is_step, is_waiting, length, length_push, lt-ltb, moment, moment_before, moment_last, name, name_before, name_last, name_on, nat_eq, own_side, queued_name, queues, reference, refl, same_connection, same_is, same_name, sent_by, some_same, subst, sum_by, sum_by-append, sum_by-cons, sym, take, take_all, take_at, takes, true, true≢false, untaken, untaken_more, waiting, waiting_by, waiting_waits, waits_in, ℕ, ⊎_elim, ◌&&◌, ◌++◌, ◌<◌, ◌∙◌, ◌∷◌, ◌≡◌, ◌≤◌, ◌⊎◌}
 use Rattle.mscp_wire.specs.Wire as wire
 use Rattle.mscp_shown.proofs.Chaining.{Chain, Goes, chain_silent, is_over, last_silent, last_told, silent_of, tells}
 use Rattle.mscp_shown.proofs.Counts.{none_any, none_passes}
@@ -202,9 +201,7 @@ module _ (c : Settings) (own : Connection) (t : Trace) (m : Moment) (xs : List S
         by_told _ (nat_eq e.reference s.reference) (tells own (back ++ sent_by own b ∷ []) s.reference e) told
       where
         by_told : (A : Type 0) (o d : Bool) → (d ≡ true → A) → Goes o d A (Unit {0})
-        by_told A true d f = tt
-        by_told A false true f = f refl
-        by_told A false false f = tt
+        by_told A o d f = grind arith
 
         told : tells own (back ++ sent_by own b ∷ []) s.reference e ≡ true
             → (0 < figure_told e)
@@ -309,12 +306,7 @@ module _ (c : Settings) (own : Connection) (t : Trace) (m : Moment) (xs : List S
     -- by connection
     by_side : (via : Connection) (P : Connection → List End → Type 0) → P via [] → P own (e ∷ [])
         → P via (ends_at c via t m)
-    by_side via P none some =
-        let Q : Bool → Type 0 = λ s. same_connection own via ≡ s → P via (ends_at c via t m) in
-        elim (same_connection own via) as Q [
-          | true ↦ λ q. subst (λ v. P v (ends_at c v t m)) (one_side own via q) (subst (P own) (sym own_ends) some)
-          | false ↦ λ q. subst (P via) (sym (none_else via q)) none
-        ] refl
+    by_side via P none some = grind arith
 
     pub tells_poll : Tells
     tells_poll = record {

@@ -1,6 +1,5 @@
 -- The ends that a moment makes: each fits the command that is outstanding under its name.
-use Rattle.mscp_shown.proofs.Common.{AllByRecursion, AreBytes, Bad, Block, Bool, Connection, End, Entry, Event, Good, IsRight, IsServed, List, Moment, Name, None, Option, Order, Pairs, Promise, Report, Sent, Service, Settings, Some, Trace, [], aborted, aborted_end, aborted_unless, and-false, answer, ap, arith, command, command_of, cond, connection, count_by, cut, done, done_before, done_last, drop_last, end_of, ends_in, every_append, every_both, every_filter, every_parts, every_weaker, false, false≢true, fault_of, figure_asked, figure_of, filter, get_or, goes_on, good, good_before, if◌then◌else◌, is_good, is_named, is_online, is_queued, is_some, left, length, map, moment, name, name_on, not, order, outcome, own_end, pairs_append, queues, reference, refl, same_is, same_name, sent_by, sent_bytes, serves_in, some_same, subst, sym, true, unit, waiting, waiting_below, waiting_more, waits_below, ℕ, ◌%◌, ◌&&◌, ◌++◌, ◌+◌, ◌<◌, ◌^◌, ◌∙◌, ◌∷◌, ◌≡◌, ◌≢◌}
-use Rattle.mscp_controller.proofs.Basics.{First}
+use Rattle.mscp_shown.proofs.Common.{AllByRecursion, AreBytes, Bad, Block, Bool, Connection, End, Entry, Event, First, IsRight, IsServed, List, Moment, Name, None, Option, Order, Pairs, Promise, Report, Sent, Service, Settings, Some, Trace, [], aborted, aborted_end, aborted_unless, answer, ap, arith, command, command_of, cond, connection, count_by, cut, done, done_before, done_last, drop_last, ends_in, every_append, every_both, every_filter, every_parts, every_weaker, false, false≢true, fault_of, figure_asked, figure_of, filter, get_or, goes_on, good, good_before, if◌then◌else◌, is_good, is_named, is_online, is_queued, left, length, map, moment, name, name_on, not, order, outcome, own_end, pairs_append, queues, reference, refl, same_is, same_name, sent_by, sent_bytes, serves_in, subst, sym, true, unit, waiting, waiting_below, waiting_more, waits_below, ℕ, ◌%◌, ◌&&◌, ◌++◌, ◌+◌, ◌<◌, ◌^◌, ◌∙◌, ◌∷◌, ◌≡◌, ◌≢◌}
 use Rattle.mscp_shown.proofs.Aborted.{Aborts, EndsAbort, IsAbort, IsBehind, aborts_answer, named_each, outcome_apart, own_apart}
 use Rattle.mscp_shown.proofs.Answering.{own_number}
 use Rattle.mscp_shown.proofs.Fitting.{IsSmallCommand, aborted_fit, own_fit, served_fit, small_command}
@@ -25,31 +24,14 @@ unfolding good
 good_last t m = ap (count_by (λ (n : Moment). serves_in (name (t ++ m ∷ []) (length t)) n.1 && is_good n.0))
     (drop_last t m)
 
-and_true : (b : Bool) → (b && true) ≡ b
-and_true b = grind arith
-
 -- a command that isn't ended was served well, if it was
 well : (c : Settings) (t : Trace) (n : Name) (event : Event) (entry : Entry) → IsRight c t event entry
     → not (ends_in n entry) ≡ true → (serves_in n entry && is_good event) ≡ serves_in n entry
-well c t n (Event.Step Good) entry r h = and_true (serves_in n entry)
-well c t n (Event.Step (Bad status)) (Entry.Stepped Report.Idle) r h = refl
 well c t n (Event.Step (Bad status)) (Entry.Stepped (Report.Served other reference unit lbn started seek None)) r h =
-    absurd (false≢true (ap is_some (r.1.ended ∙ bad_ends r.0)))
-  where
-    bad_ends : (y : ℕ) → end_of c t (Bad status) y ≡ Some (outcome c t (Bad status) y)
-    bad_ends y = search (arith, and-false)
+    grind arith
 well c t n (Event.Step (Bad status)) (Entry.Stepped (Report.Served other reference unit lbn started seek
-    (Some e))) r h =
-    let s = same_name (name_on other reference) n in
-    let P : Bool → Type 0 = λ b. s ≡ b → (s && false) ≡ s in
-    elim s as P [
-      | true ↦ λ e. absurd (false≢true (sym (ap (λ b. not (b && true)) e) ∙ h))
-      | false ↦ λ e. ap (λ b. b && false) e ∙ sym e
-    ] refl
-well c t n (Event.Send own b) (Entry.Sent other sent) r h = refl
-well c t n (Event.Take own) (Entry.Taken other end) r h = refl
-well c t n Event.Look (Entry.Looked list) r h = refl
-well c t n event entry r h = absurd r
+    (Some e))) r h = grind arith
+well c t n event entry r h = grind arith
 
 pub even_more : (c : Settings) (t : Trace) (m : Moment) → IsRight c t m.0 m.1
     → AllByRecursion (IsEven t) (waiting t) → AllByRecursion (IsEven (t ++ m ∷ [])) (waiting (t ++ m ∷ []))
@@ -87,8 +69,7 @@ small_at t h x = small_command (sent_bytes (moment t x).0) (bytes_at t h x)
 
 figure_small : (c : Settings) (own : Connection) (t : Trace) (o : Order) → ((n : Name) → figure_of c t n < 2 ^ 32)
     → figure_asked c own t o < 2 ^ 32
-figure_small c own t (Order.Status other) h = h (name_on own other)
-figure_small c own t x h = omega arith
+figure_small c own t x h = grind arith
 
 -- an end fits the command that waits under its name
 fits_own : (c : Settings) (via : Connection) (t : Trace) (xs : List Sent) (x : ℕ) (e : End) → connection t x ≡ via
@@ -110,13 +91,12 @@ every_to_map f P (x ∷ xs) h = (h.0, every_to_map f P xs h.1)
 
 aborted_each : (own : Connection) (t : Trace) (P : ℕ → Type 0) (o : Order) (f : Option ℕ) → AllByRecursion P (waiting t)
     → AllByRecursion (λ x. P x × (connection t x ≡ own)) (aborted_unless own t o f)
-aborted_each own t P o (Some fault) h = tt
 aborted_each own t P (Order.Abort other) None h =
     every_weaker (λ x. P x × (same_name (name t x) (name_on own other) ≡ true)) (λ x. P x × (connection t x ≡ own))
     (λ x k. (k.0, ap (λ (n : Name). n.connection) (same_is (name t x) (name_on own other) k.1)))
     (filter (λ x. same_name (name t x) (name_on own other)) (waiting t))
     (every_filter P (λ x. same_name (name t x) (name_on own other)) (waiting t) h)
-aborted_each own t P o None h = grind arith
+aborted_each own t P o f h = grind arith
 
 module _ (c : Settings) (own : Connection) (t : Trace) (xs : List Sent) (b : List ℕ)
     (new : IsNew c own t xs (sent_by own b)) (owners : Owners c t xs) (facts : Facts c t) where
@@ -186,8 +166,7 @@ module _ (c : Settings) (own : Connection) (t : Trace) (xs : List Sent) (b : Lis
       (every_weaker (λ x. IsAbort (reference t x) (sent_by own b))
       (λ x. EndsAbort own (xs ++ sent_by own b ∷ []) (reference t x) e)
       (λ x h. (
-        subst (λ n. IsOnly own n (xs ++ sent_by own b ∷ []) (IsAbort (reference t x))) (sym numbered)
-            (only_new c own t xs b new owners (IsAbort (reference t x)) h),
+        rw numbered (only_new c own t xs b new owners (IsAbort (reference t x)) h),
         behind_last (reference t x) e numbered,
       )) ys
       (named_each own t (sent_by own b) k.order (fault_of c k) says))
@@ -226,8 +205,7 @@ module _ (c : Settings) (t : Trace) (xs : List Sent) (owners : Owners c t xs) (f
   -- it ends with its outcome
   last_of : (goes : Bool) (e : End) → Some e ≡ (if goes then None else Some (outcome c t k y))
       → (goes ≡ false) × (e ≡ outcome c t k y)
-  last_of true e h = absurd (false≢true (sym (ap is_some h)))
-  last_of false e h = (refl, some_same e (outcome c t k y) h)
+  last_of goes e h = grind arith
 
   pub step_made : (e : End) → s.ended ≡ Some e
       → (((IsOwed s.connection xs e × IsFit c e) × (e.status % 32 ≢ 2)) × (e.reference ≡ reference t y)) ×

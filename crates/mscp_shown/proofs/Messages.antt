@@ -1,6 +1,5 @@
 -- A message that a controller takes keeps each rule of a host.
-use Rattle.mscp_shown.proofs.Common.{Bool, Connection, Covers, End, First, IsTaken, IsValid, List, None, Option, Second, Sent, Settings, Some, Trace, ap, arith, balance, cond, count_by, count_on, credits_of, eq-eqb, eqb-false, every_from, false, has_credit, has_one_of, holds, is_named, le-leb, le-ltb, length, limit_of, lt-ltb, map, nat_eq, not, num, outstanding, reference, sent_by, subst, sum_by, sum_by-append, sum_by_map, sum_on, sym, true, untaken, waiting_by, ℕ, ⊎_elim, ◌&&◌, ◌+◌, ◌-◌, ◌||◌, ◌∙◌, ◌≡◌, ◌≤◌}
-use Rattle.mscp_controller.proofs.Basics.{nat_lt, cases_lt}
+use Rattle.mscp_shown.proofs.Common.{Bool, Connection, Covers, End, IsTaken, IsValid, List, Option, Sent, Settings, Trace, ap, arith, balance, cond, count_by, count_on, credits_of, every_from, false, has_credit, has_one_of, holds, is_named, le-leb, length, limit_of, map, nat_eq, nat_lt, not, num, outstanding, reference, sent_by, subst, sum_by, sum_by-append, sum_by_map, sum_on, sym, true, untaken, waiting_by, ℕ, ◌&&◌, ◌+◌, ◌-◌, ◌||◌, ◌∙◌, ◌≡◌, ◌≤◌}
 use Rattle.mscp_wire.specs.Wire.{is_immediate, same_connection}
 use Rattle.mscp_shown.proofs.Counts.{all_pass, none_any, none_passes}
 use Rattle.mscp_shown.proofs.Owed.{owed}
@@ -46,42 +45,17 @@ module _ (c : Settings) (via : Connection) (t : Trace) where
       and_true b = grind arith
 
 -- ---- credits
-two_left : (n : ℕ) → (n ≡ 0 → ⊥) → nat_eq n 1 ≡ false → 2 ≤ n
-two_left n some h = let two = eqb-false n 1 h in grind arith
-
 credit_of : (n all waits ended : ℕ) (immediate : Bool) → all ≤ n → (all - waits - ended ≡ 0 → ⊥)
     → (nat_eq (all - waits - ended) 1 && not immediate) ≡ false
     → (nat_lt (waits + ended + 1) n || (nat_eq (waits + ended + 1) n && immediate)) ≡ true
-credit_of n all waits ended true few some last = ⊎_elim
-    (λ low. ap (λ b. b || (nat_eq (waits + ended + 1) n && true)) (lt-ltb (waits + ended + 1) n low))
-    (λ high.
-    let one : (all - waits - ended ≡ 0 → ⊥) → 1 ≤ all - waits - ended = λ f. grind arith in
-    let e : waits + ended + 1 ≡ n = omega (arith, one some) in
-    ap (λ b. b || (nat_eq (waits + ended + 1) n && true)) (le-ltb (waits + ended + 1) n high)
-    ∙ ap (λ b. b && true) (eq-eqb (waits + ended + 1) n e))
-    (cases_lt (waits + ended + 1) n)
-credit_of n all waits ended false few some last =
-    let two : 2 ≤ all - waits - ended = two_left (all - waits - ended) some (and_true' (nat_eq (all - waits - ended) 1)
-    last) in
-    ap (λ b. b || (nat_eq (waits + ended + 1) n && false)) (lt-ltb (waits + ended + 1) n (omega (arith, two)))
-  where
-    and_true' : (b : Bool) → (b && true) ≡ false → b ≡ false
-    and_true' b h = grind arith
+credit_of n all waits ended immediate few some last = grind arith
 
 -- no connection has more credits than its host is told, or is taken to have
 abbrev pub HasRoom : Option ℕ → Settings → Type 0
 HasRoom credits c = (via : Connection) → credits_of c via ≤ limit_of credits
 
 pub has_room : (credits : Option ℕ) (c : Settings) → IsValid c → Covers credits c → HasRoom credits c
-has_room credits c valid covers = by_credits credits covers
-  where
-    few : (via : Connection) → credits_of c via ≤ 1024
-    few First = omega (arith, valid.few_credits)
-    few Second = omega (arith, valid.few_credits)
-
-    by_credits : (credits : Option ℕ) → Covers credits c → HasRoom credits c
-    by_credits None k = few
-    by_credits (Some n) k = λ via. omega (arith, k via, few via)
+has_room credits c valid covers = grind arith
 
 one_kept : (n : ℕ) (c : Settings) (via : Connection) (t : Trace) (b : List ℕ) (xs : List Sent) → credits_of c via ≤ n
     → IsTaken (balance c via t) (outstanding c via t) b → IsTallied c via t xs

@@ -1,8 +1,6 @@
 -- Each moment of a legal trace keeps what its parts keep, so that the whole trace does.
-use Rattle.mscp_shown.proofs.Common.{All, AllByRecursion, ArrayVec, Bad, Block, Bool, Command, Connection, Covers, End, Entry, Err, Event, Good, IsLegal, IsOfKind, IsPatient, IsPossible, IsRight, Known, LegalTracesAreRight, Moment, Name, None, Ok, Option, Polls, Report, Settings, Some, Trace, [], answer, ap, append-nil, arith, arrival, arrives, bound, collect, command_of, connection, count_by, drop, each_queued, ends, ends_at, ends_more, every_append, every_parts, false, false≢true, figure, figure_found, figure_of, get_or-take, if◌then◌else◌, is_online_empty, is_queued, is_step, is_waiting, known, length, length-take-le, moment, more_at, name, one_side, progress, recursion_from_All, reference, refl, same_connection, same_name, shaped, shown, subst, suc, sym, take, take-take, take_all, takes, true, untaken, waiting, waits_below, zero, ℕ, ◌++◌, ◌+◌, ◌<◌, ◌^◌, ◌∙◌, ◌∷◌, ◌≡◌, ◌≤◌}
-use Rattle.mscp_controller.proofs.Basics.{IsValid, First, find}
+use Rattle.mscp_shown.proofs.Common.{All, AllByRecursion, ArrayVec, Block, Bool, Command, Connection, Covers, End, Entry, Err, Event, IsLegal, IsOfKind, IsPatient, IsPossible, IsRight, IsValid, Known, LegalTracesAreRight, Moment, Name, None, Ok, Option, Report, Settings, Some, Trace, [], answer, ap, append-nil, arith, arrival, arrives, bound, collect, command_of, count_by, drop, each_queued, ends, ends_at, ends_more, every_append, every_parts, false, figure, figure_found, figure_of, find, get_or-take, if◌then◌else◌, is_online_empty, is_queued, known, length, length-take-le, moment, more_at, name, one_side, progress, recursion_from_All, reference, refl, same_connection, same_name, shaped, shown, subst, suc, sym, take, take-append-drop, take-take, take_all, takes, true, untaken, waiting, waits_below, zero, ℕ, ◌++◌, ◌+◌, ◌<◌, ◌^◌, ◌∙◌, ◌∷◌, ◌≡◌, ◌≤◌}
 use Rattle.mscp_controller.specs.declared.entry.Sent.{Sent}
-use Rattle.std.proofs.lemmas.List.{take-append-drop}
 use Rattle.mscp_shown.proofs.Judged.{lenient}
 use Rattle.mscp_shown.proofs.Standing.{Stands, message_stands, quiet_stands}
 use Rattle.mscp_shown.proofs.Stepping.{step_stands}
@@ -27,8 +25,7 @@ unfolding untaken
 untaken_all P c via t h = every_drop P (count_by (λ (m : Moment). takes via m.1) t) (ends c via t) h
 
 fault_of : (k : Block) → IsPossible (Event.Step k) → IsFault k
-fault_of Good h = tt
-fault_of (Bad status) h = h
+fault_of k h = grind arith
 
 module _ (c : Settings) (t : Trace) (k : Known c t)
     (kinds : (via : Connection) → AllByRecursion IsOfKind (ends c via t)) (facts : Facts c t) (h : Inv c t) where
@@ -47,8 +44,7 @@ module _ (c : Settings) (t : Trace) (k : Known c t)
   more (Event.Send own b) (Entry.Sent other (Err fault)) may patient r =
       stills c t (Event.Send own b, Entry.Sent other (Err fault)) h k r refl (λ via p. (refl, refl)) (λ n. refl) refl
       (λ via. refl)
-  more (Event.Send own b) (Entry.Sent other (Ok (Sent.Queued q))) may patient r =
-      subst (λ o. More c t (Event.Send own b, Entry.Sent o (Ok (Sent.Queued q)))) (sym r.0)
+  more (Event.Send own b) (Entry.Sent other (Ok (Sent.Queued q))) may patient r = rw r.0
       (queued_more c t own b k q h r.1)
   more (Event.Send own b) (Entry.Sent other (Ok (Sent.Answered q a))) may patient r =
       subst (λ o. More c t (Event.Send own b, Entry.Sent o (Ok (Sent.Answered q a)))) (sym r.0)
@@ -67,8 +63,7 @@ module _ (c : Settings) (t : Trace) (k : Known c t)
   more (Event.Take own) (Entry.Taken other None) may patient r =
       stills c t (Event.Take own, Entry.Taken other None) h k r refl (λ via p. (refl, refl)) (λ n. refl) refl
       (λ via. refl)
-  more (Event.Take own) (Entry.Taken other (Some b)) may patient r =
-      subst (λ o. More c t (Event.Take own, Entry.Taken o (Some b))) (sym r.0) (take_one own b (refl, r.1))
+  more (Event.Take own) (Entry.Taken other (Some b)) may patient r = rw r.0 (take_one own b (refl, r.1))
   more Event.Look (Entry.Looked list) may patient r =
       stills c t (Event.Look, Entry.Looked list) h k r refl (λ via p. (refl, refl)) (λ n. refl) refl (λ via. refl)
   more event entry may patient r = absurd r
@@ -100,9 +95,8 @@ module _ (c : Settings) (t : Trace) (k : Known c t)
       by_side : (via : Connection) (here : Bool) → same_connection own via ≡ here
           → AllByRecursion (Holds c own t b.items s) (answer c own t b.items)
           → AllByRecursion (Holds c own t b.items s) ((if here then answer c via t b.items else []) ++ [])
-      by_side via true e all =
-          subst (λ v. AllByRecursion (Holds c own t b.items s) (answer c v t b.items ++ [])) (one_side own via e)
-          (subst (AllByRecursion (Holds c own t b.items s)) (sym (append-nil (answer c own t b.items))) all)
+      by_side via true e all = rw (← one_side own via e) (subst (AllByRecursion (Holds c own t b.items s))
+          (sym (append-nil (answer c own t b.items))) all)
       by_side via false e all = tt
 
   stands_more : (event : Event) (entry : Entry) → IsPossible event → IsRight c t event entry
@@ -112,9 +106,7 @@ module _ (c : Settings) (t : Trace) (k : Known c t)
   stands_more (Event.Send own b) (Entry.Sent other (Ok (Sent.Queued q))) may r =
       message_stands c t (Event.Send own b, Entry.Sent other (Ok (Sent.Queued q))) k s own b refl refl (λ via. refl)
       (λ via. tt) (λ e. refl)
-  stands_more (Event.Send own b) (Entry.Sent other (Ok (Sent.Answered q a))) may r =
-      subst (λ o. Stands c (t ++ (Event.Send own b, Entry.Sent o (Ok (Sent.Answered q a))) ∷ [])) (sym r.0)
-      (answer_told own b q a r.1)
+  stands_more (Event.Send own b) (Entry.Sent other (Ok (Sent.Answered q a))) may r = rw r.0 (answer_told own b q a r.1)
   stands_more (Event.Step block) (Entry.Stepped Report.Idle) may r =
       quiet_stands c t (Event.Step block, Entry.Stepped Report.Idle) k s refl refl (λ via. refl) (λ via. refl) refl
   stands_more (Event.Step block) (Entry.Stepped (Report.Served other reference unit lbn started seek ended)) may r =
@@ -122,21 +114,14 @@ module _ (c : Settings) (t : Trace) (k : Known c t)
       h.queued _ block r.0 refl r.1 (fault_of block may) refl (λ via. refl) (λ via. refl) refl
   stands_more (Event.Take own) (Entry.Taken other None) may r =
       quiet_stands c t (Event.Take own, Entry.Taken other None) k s refl refl (λ via. refl) (λ via. refl) refl
-  stands_more (Event.Take own) (Entry.Taken other (Some b)) may r =
-      subst (λ o. Stands c (t ++ (Event.Take own, Entry.Taken o (Some b)) ∷ [])) (sym r.0) (take_told own b (refl, r.1))
+  stands_more (Event.Take own) (Entry.Taken other (Some b)) may r = rw r.0 (take_told own b (refl, r.1))
   stands_more Event.Look (Entry.Looked list) may r =
       quiet_stands c t (Event.Look, Entry.Looked list) k s refl refl (λ via. refl) (λ via. refl) refl
   stands_more event entry may r = absurd r
 
 stands_empty : (c : Settings) → Stands c []
 unfolding shown waiting ends untaken collect
-stands_empty c = record {
-  stated = λ via unit e. cc;
-  there = λ unit e. absurd (false≢true (sym (is_online_empty unit) ∙ e));
-  shared = tt;
-  controller = λ n e. cc;
-  are = λ i low. absurd (omega (arith, low));
-}
+stands_empty c = grind (arith, is_online_empty)
 
 inv_more : (c : Settings) (t : Trace) (m : Moment) → Known c t
     → ((via : Connection) → AllByRecursion IsOfKind (ends c via t)) → Facts c t → IsPossible m.0
@@ -178,11 +163,7 @@ inv_empty c = record {
 -- ---- parts of a legal trace
 legal_part : (c : Settings) (t : Trace) (j : ℕ) → j ≤ length t → IsLegal c t → IsLegal c (take j t)
 unfolding moment
-legal_part c t j h legal i low =
-    let size = length-take-le j t h in
-    let l : i < j = omega (arith, low, size) in
-    rw (take-take i j t (omega (arith, l)), get_or-take j t i (Event.Take First, Entry.Taken First None) l)
-    (legal i (omega (arith, l, h)))
+legal_part c t j h legal i low = grind (arith, length-take-le, take-take, get_or-take)
 
 module _ (c : Settings) (t : Trace) (valid : IsValid c) (legal : IsLegal c t)
     (may : AllByRecursion (λ (m : Moment). IsPossible m.0) t)
@@ -206,29 +187,11 @@ module _ (c : Settings) (t : Trace) (valid : IsValid c) (legal : IsLegal c t)
       found_small p (find (λ x. same_name (name p x) n) (waiting p)) ((progress c t valid legal).small i h)
     where
       found_small : (p : Trace) (o : Option ℕ) → ((x : ℕ) → figure c p x ≤ bound c) → figure_found c p o < 2 ^ 32
-      found_small p None all = omega arith
-      found_small p (Some x) all = omega (arith, all x, valid.small_bound)
+      found_small p o all = grind arith
 
   patient_part : (j : ℕ) → j ≤ length t → IsPatient (take j t)
   unfolding moment
-  patient_part j h x i k lx l m w p q =
-      let size = length-take-le j t h in
-      let d : Moment = (Event.Take First, Entry.Taken First None) in
-      let low : k < j = omega (arith, m, size) in
-      let same : (y : ℕ) → y < j → moment (take j t) y ≡ moment t y = λ y ly. get_or-take j t y d ly in
-      let front : take k (take j t) ≡ take k t = take-take k j t (omega (arith, low)) in
-      let now = subst (λ f. is_waiting f x ≡ true → Polls (connection f x) (reference f x) (moment (take j t) i)
-      → Polls (connection f x) (reference f x) (moment (take j t) k)
-      → Polls (connection (take k t) x) (reference (take k t) x) (moment t i)
-      × (Polls (connection (take k t) x) (reference (take k t) x) (moment t k) × (is_waiting (take k t) x ≡ true)))
-      (sym front)
-      (λ w p q. (
-        subst (Polls (connection (take k t) x) (reference (take k t) x)) (same i (omega (arith, l, low))) p,
-        (subst (Polls (connection (take k t) x) (reference (take k t) x)) (same k low) q, w),
-      ))
-      w p q in
-      let step = patient x i k lx l (omega (arith, low, h)) now.1.1 now.0 now.1.0 in
-      (step.0, step.1, step.2, ap (λ (n : Moment). is_step n.0) (same step.0 (omega (arith, step.2, low))) ∙ step.3)
+  patient_part j h x i k lx l m w p q = grind (arith, length-take-le, get_or-take, take-take)
 
   inv_at : (i : ℕ) → i ≤ length t → Inv c (take i t)
   inv_at zero h = inv_empty c

@@ -1,9 +1,8 @@
 -- Of a unit no command ends before an earlier one that it waits for.
-use Rattle.mscp_shown.proofs.Common.{AllByRecursion, Answer, Bool, Connection, End, List, None, Option, Pairs, Sent, Some, Trace, [], aborted_end, and_parts, ap, append-nil, append_assoc, arith, command, command_at, eq-eqb, eqb-true, every_from, false, false≢true, good, if◌then◌else◌, inl, inr, is_apart, is_named, keeps_back, list_any, map, nat_eq, pairs_append, polled_by, refl, subst, sym, true, true≢false, ℕ, ⊎_elim, ◌%◌, ◌&&◌, ◌++◌, ◌||◌, ◌∙◌, ◌∷◌, ◌≡◌, ◌⊎◌}
+use Rattle.mscp_shown.proofs.Common.{AllByRecursion, Answer, Bool, Connection, End, List, Option, Pairs, Sent, Some, Trace, [], aborted_end, ap, append-nil, append_assoc, arith, command, eq-eqb, eqb-true, every_from, false, good, inl, inr, is_apart, is_named, keeps_back, list_any, map, nat_eq, pairs_append, refl, subst, sym, true, true≢false, ℕ, ⊎_elim, ◌%◌, ◌&&◌, ◌++◌, ◌||◌, ◌∙◌, ◌∷◌, ◌≡◌, ◌⊎◌}
 use Rattle.mscp_wire.specs.Wire as wire
 use Rattle.mscp_shown.proofs.Strict.{after_end, hears}
 use Rattle.mscp_shown.proofs.Pairing.{pairs_first, pairs_out, pairs_weaker}
-use Rattle.mscp_shown.proofs.Shown.{one_side as side_of}
 
 -- an earlier command that keeps the command of this end back ended before it: its end is among these
 abbrev pub IsClearOf : Connection → List End → End → Sent → Sent → Type 0
@@ -22,30 +21,20 @@ Ordered via xs before (e ∷ rest) =
 -- ---- commands that hear
 told_same : (Q : Sent → Type 0) → ((s : Sent) (f : Option ℕ) → Q s → Q (record s { told = f })) → (a : Answer)
     (o : Option ℕ) (s : Sent) → Q s → Q (hears a o s)
-told_same Q g a None s h = h
-told_same Q g a (Some other) s h =
-    let P : Bool → Type 0 = λ b. Q (if b then record s { told = a.figure } else s) in
-    elim (is_named a.connection other s) as P [ true ↦ g s a.figure h | false ↦ h ]
+told_same Q g a o s h = grind arith
 
 -- what doesn't see figures stays once an end came
 pub pairs_after : (R : Sent → Sent → Type 0) → ((s z : Sent) (f : Option ℕ) → R s z → R (record s { told = f }) z)
     → ((s z : Sent) (f : Option ℕ) → R s z → R s (record z { told = f })) → (xs : List Sent) (a : Answer) (i : ℕ)
     → Pairs R xs → Pairs R (after_end xs a (Some i))
-pairs_after R g k xs a i h =
-    let o = polled_by (command_at xs i) a in
-    pairs_out (hears a o) R
-    (λ s z r. told_same (λ s. R s z) (λ s f q. g s z f q) a o s r)
-    (λ s z r. told_same (λ z. R s z) (λ z f q. k s z f q) a o z r) i xs h
+pairs_after R g k xs a i h = grind (arith, pairs_out, told_same)
 
 -- ---- from one list to the next
 pub ordered_append : (via : Connection) (xs : List Sent) (before us vs : List End) → Ordered via xs before us
     → Ordered via xs (before ++ us) vs → Ordered via xs before (us ++ vs)
 ordered_append via xs before [] vs h k = subst (λ b. Ordered via xs b vs) (append-nil before) k
-ordered_append via xs before (e ∷ us) vs h k = (
-  h.0,
-  ordered_append via xs (before ++ e ∷ []) us vs h.1
-      (subst (λ b. Ordered via xs b vs) (sym (append_assoc before (e ∷ []) us)) k),
-)
+ordered_append via xs before (e ∷ us) vs h k =
+    (h.0, ordered_append via xs (before ++ e ∷ []) us vs h.1 (rw append_assoc k))
 
 pub ordered_push : (via : Connection) (xs : List Sent) (z : Sent) (before us : List End)
     → AllByRecursion (λ (e : End). is_named via e.reference z ≡ false) us → Ordered via xs before us
@@ -74,17 +63,10 @@ fences y s =
     (wire.is_sequential s.opcode && (wire.is_sequential y.opcode || wire.is_ordered y.opcode))
     || (wire.is_ordered s.opcode && wire.is_sequential y.opcode)
 
-first_of : (a b c : Bool) → (a && b && c) ≡ true → a ≡ true
-first_of a b c h = grind (arith, false≢true)
-
 -- the connection of a command that keeps another back
 pub kept_side : (own : Connection) (n : ℕ) (s earlier : Sent) → is_named own n s ≡ true → keeps_back s earlier ≡ true
     → earlier.connection ≡ own
-kept_side own n s earlier q k =
-    let named = and_parts (wire.same_connection s.connection own) (nat_eq s.reference n) q in
-    let kept = first_of (wire.same_connection earlier.connection s.connection) (nat_eq earlier.unit s.unit)
-    (fences s earlier) k in
-    side_of earlier.connection s.connection kept ∙ side_of s.connection own named.0
+kept_side own n s earlier q k = grind arith
 
 -- an end whose command is no longer outstanding matters no more
 pub ordered_gone : (own : Connection) (xs : List Sent) (old : End) (before us : List End)

@@ -1,5 +1,5 @@
 -- Whose commands are outstanding in a trace, and how one more moment changes that.
-use Rattle.mscp_controller.proofs.Basics.{◌≡◌, ℕ, ◌+◌, ◌<◌, ◌≤◌, Bool, true, false, cond, not, List, [], ◌∷◌, ◌++◌, length, drop, refl, ap, sym, ◌∙◌, arith, append-nil, filter, count_by, sum_by, AllByRecursion, Connection, Command, End, Settings, Trace, Moment, sent_bytes, takes, command_of, connection, name, reference, waiting, waiting_by, ends_in, ends_at, ends, untaken, sum_by-append, sum_by-cons, sum_on, every_weaker, every_kept, every_from, filter_all, drop-drop, command_before, command_last, ends_more, taken_more, untaken_more, waiting_below, queues_by, waiting_by_more, same_connection}
+use Rattle.mscp_shown.proofs.Common.{AllByRecursion, Bool, Command, Connection, End, List, Moment, Settings, Trace, [], ap, append-nil, arith, command_before, command_last, command_of, cond, connection, count_by, drop, drop-drop, ends, ends_at, ends_in, ends_more, every_from, every_kept, every_weaker, false, filter, filter_all, length, name, not, queues_by, reference, refl, same_connection, sent_bytes, sum_by, sum_by-append, sum_by-cons, sum_on, sym, taken_more, takes, true, untaken, untaken_more, waiting, waiting_below, waiting_by, waiting_by_more, ℕ, ◌++◌, ◌+◌, ◌<◌, ◌∙◌, ◌∷◌, ◌≡◌, ◌≤◌}
 
 -- 1 where it is so
 abbrev pub one_if : Bool → ℕ

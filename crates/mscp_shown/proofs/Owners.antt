@@ -1,5 +1,5 @@
 -- Which command it is that is outstanding under a name: the one that waits or ended under it.
-use Rattle.mscp_shown.proofs.Common.{AllByRecursion, Answer, Bool, Connection, End, IsTaken, List, None, Option, Sent, Settings, Some, Trace, [], and_parts, answer_by, ap, arith, balance, command_at, cond, connection, count_by, drop, end_bytes, eq-eqb, eqb-true, every_append, every_weaker, false, filter, if◌then◌else◌, is_named, map, moment, nat_eq, num, outstanding, own_side, polled_by, reference, refl, same_connection, sent_by, sent_bytes, suc, sum_by-cons, sym, take, true, true≢false, untaken, waiting, waiting_by, zero, ℕ, ◌++◌, ◌+◌, ◌∙◌, ◌∷◌, ◌≡◌}
+use Rattle.mscp_shown.proofs.Common.{AllByRecursion, Answer, Bool, Connection, End, IsTaken, List, None, Option, Sent, Settings, Some, Trace, [], answer_by, ap, arith, balance, command_at, cond, connection, count_by, drop, end_bytes, every_append, every_weaker, false, filter, is_named, map, moment, nat_eq, num, outstanding, polled_by, reference, refl, same_connection, sent_by, sent_bytes, suc, sum_by-cons, sym, take, true, true≢false, untaken, waiting, waiting_by, ℕ, ◌++◌, ◌+◌, ◌∙◌, ◌∷◌, ◌≡◌}
 use Rattle.mscp_wire.specs.Wire as wire
 use Rattle.mscp_shown.proofs.Strict.{after_end, hears}
 use Rattle.mscp_shown.proofs.Suited.{Keeps}
@@ -7,7 +7,6 @@ use Rattle.mscp_shown.proofs.Polling.{poll_of}
 use Rattle.mscp_shown.proofs.Messages.{IsTallied, new_number, owed_is}
 use Rattle.mscp_shown.proofs.Counts.{none_passes}
 use Rattle.mscp_shown.proofs.Owed.{one_if}
-use Rattle.mscp_shown.proofs.Shown.{one_side}
 
 -- a command of which no figure was told
 abbrev pub untold : Sent → Sent
@@ -43,11 +42,7 @@ only_push via n xs z P h k =
 -- a command that hears a figure is the same
 told_apart : (via : Connection) (n : ℕ) (P : Sent → Type 0) (a : Answer) (o : Option ℕ) (s : Sent)
     → (is_named via n s ≡ true → P (untold s)) → is_named via n (hears a o s) ≡ true → P (untold (hears a o s))
-told_apart via n P a None s h = h
-told_apart via n P a (Some other) s h =
-    let Q : Bool → Type 0 = λ b. is_named via n (if b then record s { told = a.figure } else s) ≡ true
-    → P (untold (if b then record s { told = a.figure } else s)) in
-    elim (is_named a.connection other s) as Q [ true ↦ h | false ↦ h ]
+told_apart via n P a o s h = grind arith
 
 every_map : {X : Type 0} (P : X → Type 0) (f : X → X) → ((x : X) → P x → P (f x)) → (xs : List X) → AllByRecursion P xs
     → AllByRecursion P (map f xs)
@@ -56,15 +51,13 @@ every_map P f g (x ∷ xs) h = (g x h.0, every_map P f g xs h.1)
 
 pub every_take : {X : Type 0} (P : X → Type 0) (n : ℕ) (xs : List X) → AllByRecursion P xs
     → AllByRecursion P (take n xs)
-every_take P zero xs h = tt
-every_take P (suc n) [] h = tt
 every_take P (suc n) (x ∷ xs) h = (h.0, every_take P n xs h.1)
+every_take P n xs h = grind arith
 
 pub every_drop : {X : Type 0} (P : X → Type 0) (n : ℕ) (xs : List X) → AllByRecursion P xs
     → AllByRecursion P (drop n xs)
-every_drop P zero xs h = h
-every_drop P (suc n) [] h = h
 every_drop P (suc n) (x ∷ xs) h = every_drop P n xs h.1
+every_drop P n xs h = grind arith
 
 pub only_after : (via : Connection) (n : ℕ) (xs : List Sent) (P : Sent → Type 0) (a : Answer) (i : ℕ)
     → IsOnly via n xs P → IsOnly via n (after_end xs a (Some i)) P
@@ -111,16 +104,7 @@ each_passing {X} p P (x ∷ xs) h =
 
 unnamed : (own : Connection) (b : List ℕ) (via : Connection) (n : ℕ)
     → (same_connection via own ≡ true → nat_eq n (num b 0 4) ≡ false) → is_named via n (sent_by own b) ≡ false
-unnamed own b via n h =
-    let P : Bool → Type 0 = λ q. is_named via n (sent_by own b) ≡ q → is_named via n (sent_by own b) ≡ false in
-    elim (is_named via n (sent_by own b)) as P [
-      | true ↦ λ e.
-          let p = and_parts (wire.same_connection own via) (nat_eq (num b 0 4) n) e in
-          let side : own ≡ via = one_side own via p.0 in
-          let here : same_connection via own ≡ true = ap (same_connection via) side ∙ own_side via in
-          absurd (true≢false (sym (eq-eqb n (num b 0 4) (sym (eqb-true (num b 0 4) n p.1))) ∙ h here))
-      | false ↦ λ e. e
-    ] refl
+unnamed own b via n h = grind arith
 
 pub new_one : (c : Settings) (own : Connection) (t : Trace) (xs : List Sent) (b : List ℕ) → IsTallied c own t xs
     → IsTaken (balance c own t) (outstanding c own t) b → IsNew c own t xs (sent_by own b)

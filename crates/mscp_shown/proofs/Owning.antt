@@ -110,8 +110,7 @@ module _ (c : Settings) (own : Connection) (t : Trace) (xs : List Sent) (b : Lis
       let P : Bool → Type 0 = λ s. same_connection own via ≡ s
       → AllByRecursion (λ (e : End). is_named via e.reference (sent_by own b) ≡ false) (untaken c via t) in
       elim (same_connection own via) as P [
-        | true ↦ λ e. subst (λ s. AllByRecursion (λ (e : End). is_named s e.reference (sent_by own b) ≡ false)
-            (untaken c s t)) (one_side own via e) new.ended
+        | true ↦ λ e. rw (← one_side own via e) new.ended
         | false ↦ λ e. every_from (λ (k : End). is_named via k.reference (sent_by own b) ≡ false)
             (λ k. other_named via k.reference e) (untaken c via t)
       ] refl

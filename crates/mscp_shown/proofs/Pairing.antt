@@ -1,7 +1,5 @@
 -- What holds of each element of a list and each after it.
-use Rattle.std.proofs.Common.{◌≡◌, ℕ, zero, suc, ◌+◌, ◌<◌, Bool, false, ◌||◌, List, [], ◌∷◌, ◌++◌, length, get_or, take, drop, map, refl, ap, ◌∙◌, subst, arith}
-use Rattle.std.specs.List.{AllByRecursion, list_any}
-use Rattle.mscp_queue.specs.Pairs.{Pairs}
+use Rattle.mscp_shown.proofs.Common.{AllByRecursion, Bool, List, Pairs, [], ap, arith, drop, false, get_or, length, list_any, map, refl, suc, take, zero, ℕ, ◌++◌, ◌+◌, ◌<◌, ◌||◌, ◌∙◌, ◌∷◌, ◌≡◌}
 
 module _ {X : Type 0} where
   pub every_index : (P : X → Type 0) (xs : List X) (d : X) → ((j : ℕ) → j < length xs → P (get_or xs j d))
@@ -12,9 +10,8 @@ module _ {X : Type 0} where
 
   pub index_every : (P : X → Type 0) (xs : List X) (d : X) → AllByRecursion P xs → (j : ℕ) → j < length xs
       → P (get_or xs j d)
-  index_every P [] d h j l = absurd (omega (arith, l))
-  index_every P (x ∷ xs) d h zero l = h.0
   index_every P (x ∷ xs) d h (suc j) l = index_every P xs d h.1 j (omega (arith, l))
+  index_every P xs d h j l = grind arith
 
   pub pairs_index : (R : X → X → Type 0) (xs : List X) (d : X)
       → ((i j : ℕ) → i < j → j < length xs → R (get_or xs i d) (get_or xs j d)) → Pairs R xs
@@ -26,11 +23,9 @@ module _ {X : Type 0} where
 
   pub index_pairs : (R : X → X → Type 0) (xs : List X) (d : X) → Pairs R xs → (i j : ℕ) → i < j → j < length xs
       → R (get_or xs i d) (get_or xs j d)
-  index_pairs R [] d h i j l m = absurd (omega (arith, m))
-  index_pairs R (x ∷ xs) d h i zero l m = absurd (omega (arith, l))
-  index_pairs R (x ∷ xs) d h zero (suc j) l m = index_every (R x) xs d h.0 j (omega (arith, m))
   index_pairs R (x ∷ xs) d h (suc i) (suc j) l m =
       index_pairs R xs d h.1 i j (omega (arith, l)) (omega (arith, m))
+  index_pairs R xs d h i j l m = grind (arith, index_every)
 
   pub pairs_weaker : (R Q : X → X → Type 0) → ((x y : X) → R x y → Q x y) → (xs : List X) → Pairs R xs → Pairs Q xs
   pairs_weaker R Q f [] h = tt
@@ -53,16 +48,11 @@ module _ {X : Type 0} where
   module _ (f : X → X) where
     every_out : (P : X → Type 0) → ((x : X) → P x → P (f x)) → (i : ℕ) (xs : List X) → AllByRecursion P xs
         → AllByRecursion P (map f (take i xs) ++ drop (suc i) xs)
-    every_out P g zero [] h = tt
-    every_out P g zero (x ∷ xs) h = h.1
-    every_out P g (suc i) [] h = tt
     every_out P g (suc i) (x ∷ xs) h = (g x h.0, every_out P g i xs h.1)
+    every_out P g i xs h = grind arith
 
     pairs_gone : (R : X → X → Type 0) → ((x y : X) → R x y → R (f x) y) → ((x y : X) → R x y → R x (f y))
         → (i : ℕ) (xs : List X) → Pairs R xs → Pairs R (map f (take i xs) ++ drop (suc i) xs)
-    pairs_gone R g k zero [] h = tt
-    pairs_gone R g k zero (x ∷ xs) h = h.1
-    pairs_gone R g k (suc i) [] h = tt
     pairs_gone R g k (suc i) (x ∷ xs) h = (
       every_out (R (f x)) (λ y. k (f x) y) i xs (each xs h.0),
       pairs_gone R g k i xs h.1,
@@ -71,13 +61,12 @@ module _ {X : Type 0} where
         each : (ys : List X) → AllByRecursion (R x) ys → AllByRecursion (R (f x)) ys
         each [] q = tt
         each (y ∷ ys) q = (g x y q.0, each ys q.1)
+    pairs_gone R g k i xs h = grind arith
 
     -- one element is taken out, and those before it change in what the relation doesn't see
     pub pairs_out : (R : X → X → Type 0) → ((x y : X) → R x y → R (f x) y) → ((x y : X) → R x y → R x (f y))
         → (i : ℕ) (xs : List X) → Pairs R xs → Pairs R (map f (take i xs) ++ drop (i + 1) xs)
-    pairs_out R g k i xs h =
-        let one : suc i ≡ i + 1 = omega arith in
-        subst (λ n. Pairs R (map f (take i xs) ++ drop n xs)) one (pairs_gone R g k i xs h)
+    pairs_out R g k i xs h = grind (arith, pairs_gone)
 
 -- none passes
 pub none_of : {X : Type 0} (p : X → Bool) (xs : List X) → AllByRecursion (λ x. p x ≡ false) xs → list_any p xs ≡ false

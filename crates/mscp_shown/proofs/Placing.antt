@@ -1,6 +1,5 @@
 -- In which order commands are outstanding, and which of them waits for none before it.
-use Rattle.mscp_shown.proofs.Common.{AllByRecursion, Apart, Block, Bool, Command, IsRight, IsServed, Moment, None, Option, Service, Settings, Some, Trace, [], alone, and_parts, ap, arith, command_before, cond, cut, done, done_before, done_last, earlier, ends_in, every_append, every_of, every_parts, every_weaker, false, false≢true, fences, in_service, inl, inr, is_free, is_sequential, is_startable, is_waiting, is_waiting_before, is_waiting_last, length, length_push, lt-ltb, name, nat_eq, not, or_cases, queues, refl, same_is, serves_in, service_in, service_is, service_name, startable_parts, step_right, subst, sym, true, true≢false, waiting, waits_below, ℕ, ⊎_elim, ◌&&◌, ◌++◌, ◌+◌, ◌<◌, ◌||◌, ◌∙◌, ◌∷◌, ◌≡◌, ◌≢◌, ◌⊎◌}
-use Rattle.mscp_controller.proofs.Basics.{nat_lt, cases_lt}
+use Rattle.mscp_shown.proofs.Common.{AllByRecursion, Apart, Block, Bool, Command, IsRight, IsServed, Moment, None, Option, Service, Settings, Some, Trace, [], alone, and_parts, ap, arith, cases_lt, command_before, cond, cut, done, done_before, done_last, earlier, ends_in, every_append, every_of, every_parts, every_weaker, false, false≢true, fences, in_service, inl, inr, is_free, is_sequential, is_startable, is_waiting, is_waiting_before, is_waiting_last, length, length_push, lt-ltb, name, nat_eq, nat_lt, not, or_cases, queues, refl, same_is, serves_in, service_in, service_is, service_name, startable_parts, step_right, subst, sym, true, true≢false, waiting, waits_below, ℕ, ⊎_elim, ◌&&◌, ◌++◌, ◌+◌, ◌<◌, ◌||◌, ◌∙◌, ◌∷◌, ◌≡◌, ◌≢◌, ◌⊎◌}
 use Rattle.mscp_shown.proofs.Owners.{each_passing}
 
 -- what holds of all that wait holds of one
@@ -48,9 +47,7 @@ fences_before t m x y l k = λ i. fenced (command_before t m x l i) (command_bef
     fenced a b = nat_eq a.unit b.unit && (is_sequential a.order || is_sequential b.order)
 
 free_before : (t : Trace) (m : Moment) (y : ℕ) → y < length t → IsFree t y → IsFree (t ++ m ∷ []) y
-free_before t m y k h x w l =
-    let low : x < length t = omega (arith, l, k) in
-    fences_before t m x y low k ∙ h x (waited t m x low w) l
+free_before t m y k h x w l = grind (arith, fences_before, waited)
 
 -- what is in service waits for none
 abbrev pub ServedAreFree : Trace → Type 0

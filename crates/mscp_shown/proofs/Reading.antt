@@ -1,11 +1,6 @@
 -- An end as the rules of the wire read its bytes.
-use Rattle.mscp_shown.proofs.Common.{Answer, EndBody, answer_by, four, two}
-use Rattle.std.proofs.Common.{◌≡◌, ℕ, ◌^◌, ◌<◌, refl, ap, Some}
-use Rattle.mscp_packet.specs.Ends.{end_bytes}
-use Rattle.mscp_packet.specs.declared.end.End.{End}
+use Rattle.mscp_shown.proofs.Common.{Answer, Connection, End, EndBody, Settings, Some, answer_by, ap, end_bytes, four, refl, two, ℕ, ◌<◌, ◌^◌, ◌≡◌}
 use Rattle.mscp_packet.specs.declared.end.EndBody.TheVariants as bodies
-use Rattle.mscp_drive.specs.declared.connection.Connection.{Connection}
-use Rattle.mscp_drive.specs.Settings.{Settings}
 use Rattle.mscp_shown.proofs.Identity.{Controls, Tells}
 
 -- the numbers of a body that the rules read fit their places

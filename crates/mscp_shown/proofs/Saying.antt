@@ -1,13 +1,6 @@
 -- What a message says on the wire, by what it asks for.
-use Rattle.mscp_shown.proofs.Common.{Opcode, Sent, find, found_is, inr, invalid_length, invalid_opcode, is_about_another, is_required, is_short, le-leb, least, least_message, ltb-false, ltb-true, move_byte, nat_le, nat_lt, num, opcode_of, opcodes, order_with, parameters, row_of, sent_by, slice_index}
-use Rattle.std.proofs.Common.{◌≡◌, ◌⊎◌, inl, ℕ, ◌<◌, ◌≤◌, Bool, true, false, List, length, refl, ap, sym, ◌∙◌, subst, arith, Option, Some, None}
-use Rattle.std.proofs.lemmas.Bool.{eqb-true, false≢true, le-ltb, lt-ltb}
-use Rattle.std.specs.Prelude.{if◌then◌else◌, nat_eq}
-use Rattle.mscp_packet.specs.Commands.{command_of}
-use Rattle.mscp_packet.specs.declared.class.Opcode.TheVariants as codes
-use Rattle.mscp_packet.specs.declared.command.Order.{Order}
+use Rattle.mscp_shown.proofs.Common.{Bool, Connection, List, None, Opcode, Option, Order, Sent, Some, arith, command_of, eqb-true, false, false≢true, find, found_is, if◌then◌else◌, inl, inr, invalid_length, invalid_opcode, is_about_another, is_required, is_short, le-ltb, least, length, ltb-false, ltb-true, move_byte, nat_eq, nat_lt, opcode_of, opcodes, order_with, parameters, refl, row_of, sent_by, slice_index, true, ℕ, ◌<◌, ◌≡◌, ◌≤◌, ◌⊎◌}
 use Rattle.mscp_packet.specs.declared.command.Order.TheVariants as orders
-use Rattle.mscp_drive.specs.declared.connection.Connection.{Connection}
 
 -- it is shorter than its opcode asks
 pub record IsShort (o : Opcode) (number fault : ℕ) (s : Sent) : Type 0 where
@@ -44,18 +37,6 @@ abbrev pub IsLong : Order → Sent → Type 0
 IsLong (orders.Invalid byte status) s = Unit {0}
 IsLong order s = (is_short s ≡ false) × (span order ≤ s.bytes)
 
--- a message that is long enough has its parameter
-there : (b : List ℕ) (n : ℕ) → 16 ≤ n → n ≤ length b
-    → (if nat_le 16 (length b) then Some (num b 12 4) else None) ≡ Some (num b 12 4)
-there b n l h = ap (λ t. if t then Some (num b 12 4) else None) (le-leb 16 (length b) (omega (arith, l, h)))
-
-short_about : (o : Opcode) → is_about_another (row_of o).byte ≡ true → least o ≡ 16
-short_about o h = grind (arith, false≢true)
-
--- the judge's least lengths are those of the table
-least_same : (o : Opcode) → least_message (row_of o).byte ≡ least o
-least_same o = grind arith
-
 -- a byte that a controller may not leave out is in the table
 required_found : (b : ℕ) → find (λ o. nat_eq (row_of o).byte b) opcodes ≡ None → is_required b ≡ false
 required_found b h = grind (arith, false≢true)
@@ -63,39 +44,19 @@ required_found b h = grind (arith, false≢true)
 module _ (via : Connection) (b : List ℕ) where
   short_is : (o : Opcode) → (row_of o).byte ≡ slice_index b 8
       → is_short (sent_by via b) ≡ nat_lt (length b) (least o)
-  short_is o e =
-      ap (λ n. nat_lt (length b) (least_message n)) (sym e) ∙ ap (nat_lt (length b)) (least_same o)
+  short_is o e = grind arith
 
   is_long : (o : Opcode) → (row_of o).byte ≡ slice_index b 8 → least o ≤ length b
       → IsLong (parameters o b) (sent_by via b)
-  is_long o e h = of_row o (short_is o e ∙ le-ltb (length b) (least o) h, h)
-    where
-      of_row : (o : Opcode) → (is_short (sent_by via b) ≡ false) × (least o ≤ length b)
-          → IsLong (parameters o b) (sent_by via b)
-      of_row codes.Abort h = h
-      of_row code h = h
+  is_long o e h = grind (arith, short_is, le-ltb)
 
   says_long : (o : Opcode) → (row_of o).byte ≡ slice_index b 8 → least o ≤ length b
       → Says (parameters o b) (sent_by via b)
-  says_long codes.Abort e h = (sym e, there b 16 (omega arith) h)
-  says_long codes.Status e h = (sym e, there b 16 (omega arith) h)
-  says_long (codes.Move kind) e h = (sym e, there b 32 (omega arith) h)
-  says_long code e h = sym e
+  says_long code e h = grind arith
 
   says_short : (o : Opcode) → (row_of o).byte ≡ slice_index b 8 → length b < least o
       → IsShort o (slice_index b 8) invalid_length (sent_by via b)
-  says_short o e h = record {
-    why = refl;
-    byte = sym e;
-    opcode = sym e;
-    about = λ a.
-        let low : length b < 16 = subst (λ n. length b < n) (short_about o a) h in
-        ap (λ t. if t then Some (num b 12 4) else None) (below low);
-    short = short_is o e ∙ lt-ltb (length b) (least o) h;
-  }
-    where
-      below : length b < 16 → nat_le 16 (length b) ≡ false
-      below low = search (arith, le-ltb)
+  says_short o e h = grind arith
 
   says_found : (found : Option Opcode) → find (λ o. nat_eq (row_of o).byte (slice_index b 8)) opcodes ≡ found
       → Says (order_with found b) (sent_by via b)

@@ -1,7 +1,6 @@
 -- A message keeps all that holds.
-use Rattle.mscp_shown.proofs.Common.{AllByRecursion, AreBytes, ArrayVec, Bool, Connection, End, Entry, Event, IsPatient, IsTaken, Known, List, Moment, None, Ok, Option, Settings, Some, Trace, [], aborted_reference, answer, ap, append-nil, arith, arrival, arrives, command_of, cond, connection, count_by, ends_at, ends_in, every_filter, every_from, every_weaker, false, false≢true, if◌then◌else◌, is_queued, name, nat_eq, not, num, one_side, outstanding_in, own_side, reference, refl, same_connection, sent_by, shown, subst, sym, true, untaken, waiting, waiting_by, ℕ, ◌&&◌, ◌++◌, ◌+◌, ◌∙◌, ◌∷◌, ◌≡◌}
+use Rattle.mscp_shown.proofs.Common.{AllByRecursion, AreBytes, ArrayVec, Bool, Connection, End, Entry, Event, IsPatient, IsTaken, Known, List, Moment, None, Ok, Option, Settings, Some, Trace, [], aborted_reference, answer, ap, append-nil, arith, arrival, arrives, balance, command_of, cond, connection, count_by, ends_at, ends_in, every_filter, every_from, every_weaker, false, false≢true, if◌then◌else◌, is_queued, name, name_on, not, num, one_side, outstanding_in, own_side, reference, refl, same_connection, sent_by, shown, subst, sym, true, untaken, waiting, waiting_by, ℕ, ◌&&◌, ◌++◌, ◌+◌, ◌∙◌, ◌∷◌, ◌≡◌}
 use Rattle.mscp_controller.specs.declared.entry.Sent.{Sent}
-use Rattle.mscp_controller.specs.Account.{balance}
 use Rattle.mscp_wire.specs.Wire as wire
 use Rattle.mscp_wire.specs.declared.moment.Moment.TheVariants as moments
 use Rattle.mscp_shown.proofs.Strict.{outstanding}
@@ -15,11 +14,10 @@ use Rattle.mscp_shown.proofs.Owners.{IsNew, IsOnly, IsOwed, new_one}
 use Rattle.mscp_shown.proofs.Owning.{Owners, only_new, own_last, owners_more, still_aborts, still_owed, still_own}
 use Rattle.mscp_shown.proofs.Reading.{IsFit}
 use Rattle.mscp_shown.proofs.Shown.{tally_sent}
-use Rattle.mscp_queue.specs.Names.{name_on}
 use Rattle.mscp_shown.proofs.Asking.{asked_order, its_end, poll_about, poll_answer, poll_figure, silent_answer}
 use Rattle.mscp_shown.proofs.Listening.{Heard, Tells, heard_sent, tells_none, tells_poll}
 use Rattle.mscp_shown.proofs.Polling.{asked_by, poll_of}
-use Rattle.mscp_shown.proofs.Kept.{Inv, More, isnt_queued, none_more, shows_one, taken_as_answer, same_sides}
+use Rattle.mscp_shown.proofs.Kept.{Inv, More, isnt_queued, none_more, shows_one, taken_as_answer}
 use Rattle.mscp_shown.proofs.Ordering.{Ordered}
 use Rattle.mscp_shown.proofs.Staying.{answered_placed, orders_sent, queued_placed}
 use Rattle.mscp_shown.proofs.Waiting.{Orders}
@@ -31,12 +29,7 @@ module _ (c : Settings) (t : Trace) (own : Connection) (b : ArrayVec ℕ) (k : K
       → cond (same_connection own via) (one_if (p (command_of b.items).reference)) 0
       ≡ one_if (wire.same_connection own via && p (num b.items 0 4))
   unfolding command_of
-  sent_side via p =
-      ap (λ s. cond s (one_if (p (num b.items 0 4))) 0) (sym (same_sides own via))
-      ∙ by_side (wire.same_connection own via) (p (num b.items 0 4))
-    where
-      by_side : (here passes : Bool) → cond here (one_if passes) 0 ≡ one_if (here && passes)
-      by_side here passes = grind arith
+  sent_side via p = grind arith
 
   new : Inv c t → IsTaken (balance c own t) (outstanding_in c own t) b.items
       → IsNew c own t (outstanding (shown t)) (sent_by own b.items)
@@ -110,10 +103,7 @@ module _ (c : Settings) (t : Trace) (own : Connection) (b : ArrayVec ℕ) (k : K
       (every_from (λ x. Unit {0}) (λ x. tt) (waiting t)))
     where
       stays : (x : ℕ) (a : Option ℕ) → connection t x ≡ via → not (ends_in (name t x) (Answer own q a)) ≡ true
-      stays x None e = refl
-      stays x (Some other) e =
-          ap (λ v. not (same_connection own v && nat_eq other (reference t x))) e
-          ∙ ap (λ s. not (s && nat_eq other (reference t x))) n
+      stays x a e = grind arith
 
   answer_turns : (via : Connection) (q : ℕ) (a : Option ℕ) (p : ℕ → Bool) (here : Bool)
       → same_connection own via ≡ here → a ≡ aborted_reference c own t (command_of b.items)
@@ -138,9 +128,8 @@ module _ (c : Settings) (t : Trace) (own : Connection) (b : ArrayVec ℕ) (k : K
   each_answer : (via : Connection) (P : Connection → List End → Type 0) (here : Bool)
       → same_connection own via ≡ here → P via [] → P own (answer c own t b.items)
       → P via ((if here then answer c via t b.items else []) ++ [])
-  each_answer via P true e none h =
-      subst (λ v. P v (answer c v t b.items ++ [])) (one_side own via e)
-      (subst (P own) (sym (append-nil (answer c own t b.items))) h)
+  each_answer via P true e none h = rw (← one_side own via e) (subst (P own) (sym (append-nil (answer c own t b.items)))
+      h)
   each_answer via P false e none h = none
 
   -- what it has to tell of a poll, if it is one

@@ -1,7 +1,7 @@
 -- A step keeps all that holds.
-use Rattle.mscp_shown.proofs.Common.{AllByRecursion, Block, Bool, Connection, End, Entry, Event, IsRight, IsServed, Known, List, Moment, Name, None, Option, Out, Report, Service, Settings, Some, Trace, [], ap, arith, connection, ends_at, ends_in, ends_served, every_from, every_weaker, false, false≢true, if◌then◌else◌, inr, is_some, name, not, one_side, option_to_list, reference, refl, same_connection, same_name, service_in, service_name, shown, shown_by, step_right, subst, sym, true, untaken, waiting_by, ℕ, ◌%◌, ◌&&◌, ◌++◌, ◌∙◌, ◌∷◌, ◌≡◌, ◌≢◌}
+use Rattle.mscp_shown.proofs.Common.{AllByRecursion, Block, Bool, Connection, End, Entry, Event, IsRight, IsServed, Known, List, Moment, Name, None, Option, Out, Report, Service, Settings, Some, Trace, [], ap, arith, connection, ends_at, ends_in, ends_served, every_from, every_weaker, false, false≢true, if◌then◌else◌, inr, is_some, name, not, option_to_list, reference, refl, same_connection, same_name, service_in, service_name, shown, shown_by, step_right, subst, sym, true, untaken, waiting_by, ℕ, ◌%◌, ◌&&◌, ◌++◌, ◌∙◌, ◌∷◌, ◌≡◌, ◌≢◌}
 use Rattle.mscp_shown.proofs.Strict.{outstanding}
-use Rattle.mscp_shown.proofs.Aborted.{Aborts, one_aborts}
+use Rattle.mscp_shown.proofs.Aborted.{Aborts}
 use Rattle.mscp_shown.proofs.Answering.{goes}
 use Rattle.mscp_shown.proofs.Owed.{owed, owed_more}
 use Rattle.mscp_shown.proofs.Making.{Facts, step_made}
@@ -49,9 +49,7 @@ module _ (c : Settings) (t : Trace) (block : Block) (k : Known c t) (h : Inv c t
   each_served : (P : Connection → List End → Type 0) (s : Service) (via : Connection) (ended : Option End) (here : Bool)
       → same_connection s.connection via ≡ here → P via [] → P s.connection (option_to_list ended)
       → P via (if here then option_to_list ended else [])
-  each_served P s via ended true e none all =
-      subst (λ v. P v (option_to_list ended)) (one_side s.connection via e) all
-  each_served P s via ended false e none all = none
+  each_served P s via ended here e none all = grind arith
 
   pub served_more : (s : Service) (report : Report) → service_in (Entry.Stepped report) ≡ Some s
       → IsRight c t (Event.Step block) (Entry.Stepped report) → (ended : Option End) → s.ended ≡ ended
@@ -107,5 +105,4 @@ module _ (c : Settings) (t : Trace) (block : Block) (k : Known c t) (h : Inv c t
       aborts_of : (via : Connection) (xs : List Out) (ended : Option End)
           → AllByRecursion (λ (e : End). e.status % 32 ≢ 2) (option_to_list ended)
           → Aborts via xs (option_to_list ended)
-      aborts_of via xs None all = tt
-      aborts_of via xs (Some e) all = one_aborts via xs e all.0
+      aborts_of via xs ended all = grind arith

@@ -1,10 +1,5 @@
 -- What is outstanding on the wire after one more moment.
-use Rattle.mscp_shown.proofs.Common.{Answer, First, History, Sent, Wired, command_at, flat_map-append, fold_push, is_named, num, place_of, polled_by, position-Some, sent_by, shown, shown_by, sum_by_push}
-use Rattle.std.proofs.Common.{◌≡◌, ℕ, ◌+◌, ◌<◌, Bool, true, cond, ◌&&◌, List, [], ◌∷◌, ◌++◌, length, refl, ap, sym, ◌∙◌, append-nil, arith, Option, Some, None}
-use Rattle.std.proofs.lemmas.Bool.{and_parts, eqb-true, false≢true}
-use Rattle.std.specs.Prelude.{count_by}
-use Rattle.mscp_drive.specs.declared.connection.Connection.{Connection}
-use Rattle.mscp_controller.specs.History.{Moment, Trace}
+use Rattle.mscp_shown.proofs.Common.{Answer, Bool, Connection, First, History, List, Moment, Option, Sent, Some, Trace, Wired, [], and_parts, ap, append-nil, arith, command_at, cond, count_by, eqb-true, false≢true, flat_map-append, fold_push, is_named, length, num, place_of, polled_by, position-Some, sent_by, shown, shown_by, sum_by_push, sym, true, ℕ, ◌&&◌, ◌++◌, ◌+◌, ◌<◌, ◌∙◌, ◌∷◌, ◌≡◌}
 use Rattle.mscp_wire.specs.Wire.{same_connection}
 use Rattle.mscp_shown.proofs.Strict.{after, after_end, hears, outstanding}
 use Rattle.mscp_shown.proofs.Counts.{removed}
@@ -23,8 +18,7 @@ tally via p xs = count_by (λ s. same_connection s.connection via && p s.referen
 pub tally_sent : (via own : Connection) (p : ℕ → Bool) (xs : List Sent) (b : List ℕ)
     → tally via p (xs ++ sent_by own b ∷ [])
     ≡ tally via p xs + cond (same_connection own via && p (num b 0 4)) 1 0
-tally_sent via own p xs b =
-    sum_by_push (λ (s : Sent). cond (same_connection s.connection via && p s.reference) 1 0) xs (sent_by own b)
+tally_sent via own p xs b = grind (arith, sum_by_push)
 
 pub one_side : (a b : Connection) → same_connection a b ≡ true → a ≡ b
 one_side a b h = grind (arith, false≢true)
@@ -33,8 +27,7 @@ one_side a b h = grind (arith, false≢true)
 pub hears_apart : (e : Answer) (o : Option ℕ) (via : Connection) (p : ℕ → Bool) (s : Sent)
     → (same_connection (hears e o s).connection via && p (hears e o s).reference)
     ≡ (same_connection s.connection via && p s.reference)
-hears_apart e None via p s = refl
-hears_apart e (Some other) via p s = search arith
+hears_apart e o via p s = grind arith
 
 -- the command that an end answers has its name
 pub record IsPlace (xs : List Sent) (e : Answer) (i : ℕ) : Type 0 where

@@ -1,6 +1,5 @@
 -- Each moment of a legal trace keeps it that what hosts are told of the states of units suits how they are.
-use Rattle.mscp_shown.proofs.Common.{AllByRecursion, ArrayVec, Bool, Connection, End, Event, History, Known, Moment, None, Settings, Shared, Some, Told, Trace, Wired, [], ap, append-nil, command_of, cond, connection_of, controller_after, controller_of, each_push, ends_at, ends_in, eq-eqb, eqb-true, every_append, every_both, every_kept, every_weaker, false, false≢true, filter, fold_push, if◌then◌else◌, is_online, is_online_kept, length, moment, moment_before, moment_last, name, nat_eq, not, num, order, queues, refl, same_connection, sent_by, sent_bytes, service_in, shares, shown, shown_by, subst, sym, takes, told, told_after_message, told_push, true, unit, unit_fault, unit_found, untaken, untaken_more, waiting, waiting_below, waiting_more, ℕ, ⊎_elim, ◌&&◌, ◌++◌, ◌<◌, ◌∙◌, ◌∷◌, ◌≡◌}
-use Rattle.mscp_packet.specs.declared.command.Order.{Order}
+use Rattle.mscp_shown.proofs.Common.{AllByRecursion, ArrayVec, Bool, Connection, End, Event, History, Known, Moment, None, Order, Settings, Shared, Some, Told, Trace, Wired, [], ap, append-nil, command_of, cond, connection_of, controller_after, controller_of, each_push, ends_at, ends_in, eq-eqb, eqb-true, every_append, every_both, every_kept, every_weaker, false, false≢true, filter, fold_push, if◌then◌else◌, is_online, is_online_kept, length, moment, moment_before, moment_last, name, nat_eq, not, num, order, queues, refl, same_connection, sent_by, sent_bytes, service_in, shares, shown, shown_by, subst, sym, takes, told, told_after_message, told_push, true, unit, unit_fault, unit_found, untaken, untaken_more, waiting, waiting_below, waiting_more, ℕ, ⊎_elim, ◌&&◌, ◌++◌, ◌<◌, ◌∙◌, ◌∷◌, ◌≡◌}
 use Rattle.mscp_packet.specs.declared.command.Order.TheVariants as orders
 use Rattle.mscp_wire.specs.Wire as wire
 use Rattle.mscp_wire.specs.declared.moment.Moment.TheVariants as moments
@@ -74,8 +73,7 @@ module _ (c : Settings) (t : Trace) (m : Moment) (known : Known c t) (h : Stands
             (subst (λ b. Stated unit b (told (shown t) via unit).state (untaken c via t)) (sym (same unit))
             (h.stated via unit)));
         there = same_there same;
-        shared = subst (λ w. AllByRecursion (λ x. Shares w (moment t' x)) (waiting t')) (sym is)
-            (waits_more t m (shown t) h.shared (λ e. absurd (false≢true (sym late ∙ e))));
+        shared = rw is (waits_more t m (shown t) h.shared (λ e. absurd (false≢true (sym late ∙ e))));
         controller = λ n e. h.controller n (sym (ap controller_of is) ∙ e);
         are = subst AreStated (sym is) h.are;
       }

@@ -1,9 +1,8 @@
 -- What hosts are told of the states of units suits what the ends that they haven't taken yet say.
-use Rattle.mscp_shown.proofs.Common.{AllByRecursion, Answer, Away, Bool, Connection, End, History, List, None, Open, Settings, Shared, State, Told, [], after_other, after_own, answer_by, ap, append-nil, append_assoc, arith, brings, end_bytes, false, false≢true, if◌then◌else◌, inl, inr, nat_eq, not, own_side, refl, says_away, says_online, sent_by, shares, subst, suits_state, sym, told, told_after_end, told_after_message, true, true≢false, turned, unit, ℕ, ⊎_elim, ◌&&◌, ◌++◌, ◌||◌, ◌∙◌, ◌∷◌, ◌≡◌, ◌⊎◌}
+use Rattle.mscp_shown.proofs.Common.{AllByRecursion, Answer, Away, Bool, Connection, End, History, List, None, Open, Settings, Shared, State, Told, [], after_other, answer_by, append-nil, append_assoc, arith, brings, end_bytes, false, if◌then◌else◌, nat_eq, not, refl, says_away, sent_by, subst, suits_state, sym, told, told_after_end, told_after_message, true, turned, unit, ℕ, ⊎_elim, ◌&&◌, ◌++◌, ◌||◌, ◌∙◌, ◌∷◌, ◌≡◌, ◌⊎◌}
 use Rattle.mscp_wire.specs.Wire as wire
 use Rattle.mscp_shown.proofs.Effects.{Effects, away_of, brings_of, online_of}
-use Rattle.mscp_shown.proofs.Kept.{same_sides}
-use Rattle.mscp_shown.proofs.Reading.{IsFit, reads}
+use Rattle.mscp_shown.proofs.Reading.{IsFit}
 
 -- ---- ends
 -- the state of a unit once an end of its own was told
@@ -34,17 +33,12 @@ own_shared code status = by_bools (away_of code status) (brings_of code status)
     by_bools a b = grind arith
 
 then_shared : (unit : ℕ) (e : End) → state_then unit Shared e ≡ Shared
-then_shared unit e =
-    ap (λ s. if nat_eq e.unit unit then s else Shared) (own_shared e.code e.status) ∙ by_bool (nat_eq e.unit unit)
-  where
-    by_bool : (b : Bool) → (if b then Shared else Shared) ≡ Shared
-    by_bool b = grind arith
+then_shared unit e = grind (arith, own_shared)
 
 -- of a unit that the other host brings online nothing is asked
 pub shared_stated : (unit : ℕ) (online : Bool) (es : List End) → Stated unit online Shared es
 shared_stated unit online [] = λ e. cc
-shared_stated unit online (e ∷ es) =
-    ((λ h. refl), subst (λ s. Stated unit online s es) (sym (then_shared unit e)) (shared_stated unit online es))
+shared_stated unit online (e ∷ es) = grind (arith, shared_stated unit online es, then_shared)
 
 -- a unit that was online or not, and isn't any more
 pub stated_change : (unit : ℕ) (old new : Bool) (s : State) (es : List End) → (old ≡ false → new ≡ false)
@@ -65,10 +59,7 @@ opened unit online (e ∷ es) h = (
         else Away) es
         → Stated unit online (if here then (if away then turned Open Away else (if on then turned Open Open else Open))
         else Open) es
-    by_bools false away on f k = f k
-    by_bools true true on f k = k
-    by_bools true false true f k = k
-    by_bools true false false f k = f k
+    by_bools here away on f k = grind arith
 
 pub stated_unsettled : (unit : ℕ) (online : Bool) (s : State) (e : End) (es : List End)
     → brings_of e.code e.status ≡ false → Stated unit online (state_then unit s e) es → Stated unit online s es
@@ -79,23 +70,12 @@ stated_unsettled unit online s e es none h =
         → Stated unit online
         (if here then (if away then turned s Away else (if on then turned s Open else s)) else s) es
         → Stated unit online s es
-    by_bools false away on none s k = k
-    by_bools true true on none Shared k = k
-    by_bools true true on none Away k = k
-    by_bools true true on none Open k = opened unit online es k
-    by_bools true false true none s k = absurd (true≢false none)
-    by_bools true false false none s k = k
+    by_bools here away on none s k = grind (arith, opened)
 
 -- one end more
 last_fits : (old new : Bool) (s : State) (code status : ℕ) → Effects old new code status → (s ≡ Away → old ≡ false)
     → fits_state s (online_of code status) ≡ true
-last_fits old new Open code status f h = refl
-last_fits old new Shared code status f h = refl
-last_fits old new Away code status f h = by_bool (online_of code status) f.says
-  where
-    by_bool : (b : Bool) → (b ≡ true → old ≡ true) → not b ≡ true
-    by_bool true g = absurd (true≢false (sym (g refl) ∙ h refl))
-    by_bool false g = refl
+last_fits old new s code status f h = grind arith
 
 last_state : (old new : Bool) (s : State) (code status : ℕ) → Effects old new code status → (s ≡ Away → old ≡ false)
     → own_state s code status ≡ Away → new ≡ false
@@ -105,25 +85,13 @@ last_state old new s code status f h =
     by_bools : (a b : Bool) (s : State) → (a ≡ true → new ≡ false) → (b ≡ false → old ≡ false → new ≡ false)
         → (s ≡ Away → old ≡ false)
         → (if a then turned s Away else (if b then turned s Open else s)) ≡ Away → new ≡ false
-    by_bools true b s away stays h e = away refl
-    by_bools false true Open away stays h e = cc
-    by_bools false true Away away stays h e = cc
-    by_bools false true Shared away stays h e = cc
-    by_bools false false s away stays h e = stays refl (h e)
+    by_bools a b s away stays h e = grind arith
 
 last_one : (unit : ℕ) (old new : Bool) (s : State) (e : End)
     → (nat_eq e.unit unit ≡ true → Effects old new e.code e.status)
     → (nat_eq e.unit unit ≡ false → old ≡ false → new ≡ false) → (s ≡ Away → old ≡ false)
     → Stated unit new s (e ∷ [])
-last_one unit old new s e f g h = (
-  λ q. last_fits old new s e.code e.status (f q) h,
-  by_bool (nat_eq e.unit unit) f g,
-)
-  where
-    by_bool : (b : Bool) → (b ≡ true → Effects old new e.code e.status) → (b ≡ false → old ≡ false → new ≡ false)
-        → (if b then own_state s e.code e.status else s) ≡ Away → new ≡ false
-    by_bool true f g q = last_state old new s e.code e.status (f refl) h q
-    by_bool false f g q = g refl (h q)
+last_one unit old new s e f g h = grind (arith, last_fits, last_state)
 
 pub stated_push : (unit : ℕ) (old new : Bool) (s : State) (es : List End) (e : End)
     → (nat_eq e.unit unit ≡ true → Effects old new e.code e.status)
@@ -148,51 +116,15 @@ module _ (c : Settings) (own : Connection) (e : End) (fit : IsFit c e) where
   abbrev a : Answer
   a = answer_by own (end_bytes e)
 
-  own_read : (s : State) → (if says_away a then turned s Away else (if brings a then turned s Open else s))
-      ≡ own_state s e.code e.status
-  own_read s =
-      let r = reads c own e fit in
-      ap (λ k. own_state s k a.status) r.code ∙ ap (own_state s e.code) r.status
-
-  -- of its own host's unit
-  pub state_read : (unit : ℕ) (t : Told) → (told_after_end own unit true t a).state ≡ state_then unit t.state e
-  state_read unit t =
-      let r = reads c own e fit in
-      by_side (nat_eq a.unit unit) (wire.same_connection own own) (same_sides own own ∙ own_side own)
-      ∙ (ap (λ n. if nat_eq n unit then (after_own t a).state else t.state) r.unit
-      ∙ ap (λ s. if nat_eq e.unit unit then s else t.state) (own_read t.state))
-    where
-      by_side : (b s : Bool) → s ≡ true
-          → (if not b then t else (if s && true then after_own t a else after_other t a)).state
-          ≡ (if b then (after_own t a).state else t.state)
-      by_side true true h = refl
-      by_side false true h = refl
-      by_side b false h = absurd (false≢true h)
-
   -- and of the other's, or one that isn't settled
   pub state_other : (via : Connection) (unit : ℕ) (settled : Bool) (t : Told)
       → (wire.same_connection own via && settled) ≡ false → (told_after_end via unit settled t a).state ≡ t.state
-  state_other via unit settled t h =
-      by_side (nat_eq a.unit unit) (wire.same_connection own via && settled) h
-    where
-      by_side : (b s : Bool) → s ≡ false
-          → (if not b then t else (if s then after_own t a else after_other t a)).state ≡ t.state
-      by_side true false h = refl
-      by_side false false h = refl
-      by_side b true h = absurd (true≢false h)
+  state_other via unit settled t h = grind arith
 
   -- what it says suits the state that was told
   pub fits_read : (t : Told) → fits_state t.state (online_of e.code e.status) ≡ true
       → suits_state t.state a ≡ true
-  fits_read t h =
-      let r = reads c own e fit in
-      by_state t.state (ap (λ k. online_of k a.status) r.code ∙ ap (online_of e.code) r.status) h
-    where
-      by_state : (s : State) → says_online a ≡ online_of e.code e.status
-          → fits_state s (online_of e.code e.status) ≡ true → suits_state s a ≡ true
-      by_state Away same h = ap not same ∙ h
-      by_state Open same h = refl
-      by_state Shared same h = refl
+  fits_read t h = grind arith
 
 -- what a host was told of a unit is that it is shared
 abbrev pub IsShared : History → Connection → ℕ → Type 0
@@ -202,12 +134,7 @@ IsShared h via unit = (told h via unit).state ≡ Shared
 pub message_state : (via own : Connection) (unit : ℕ) (t : Told) (b : List ℕ)
     → ((told_after_message via unit t (sent_by own b)).state ≡ t.state)
     ⊎ ((told_after_message via unit t (sent_by own b)).state ≡ Shared)
-message_state via own unit t b = by_bool (shares via unit (sent_by own b))
-  where
-    by_bool : (b : Bool) → ((if b then record t { state = Shared } else t).state ≡ t.state)
-        ⊎ ((if b then record t { state = Shared } else t).state ≡ Shared)
-    by_bool true = inr refl
-    by_bool false = inl refl
+message_state via own unit t b = grind arith
 
 -- it stays so
 pub shared_message : (via own : Connection) (unit : ℕ) (t : Told) (b : List ℕ) → t.state ≡ Shared
@@ -220,11 +147,7 @@ shared_end via unit settled t a h =
     by_bools (nat_eq a.unit unit) (wire.same_connection a.connection via && settled) (says_away a) (brings a)
   where
     own : (w b : Bool) → (if w then turned t.state Away else (if b then turned t.state Open else t.state)) ≡ Shared
-    own w b =
-        ap (λ s. if w then turned s Away else (if b then turned s Open else s)) h ∙ by_two w b
-      where
-        by_two : (w b : Bool) → (if w then turned Shared Away else (if b then turned Shared Open else Shared)) ≡ Shared
-        by_two w b = grind arith
+    own w b = grind arith
 
     by_bools : (here side w b : Bool)
         → (if not here then t else (if side then record {
@@ -234,6 +157,4 @@ shared_end via unit settled t a h =
           state = if w then turned t.state Away else (if b then turned t.state Open else t.state);
           noted = wire.noted_own t.noted a;
         } else after_other t a)).state ≡ Shared
-    by_bools false side w b = h
-    by_bools true true w b = own w b
-    by_bools true false w b = h
+    by_bools here side w b = grind arith

@@ -20,22 +20,15 @@ PlacedOf a b x y earlier s = is_named a.connection a.reference earlier ≡ true
 module _ (t : Trace) (m : Moment) (xs : List Sent) where
   placed_before : (x y : ℕ) → x < length t → y < length t → Pairs (IsPlaced t x y) xs
       → Pairs (IsPlaced (t ++ m ∷ []) x y) xs
-  placed_before x y l k h =
-      subst (λ b. Pairs (PlacedOf (name (t ++ m ∷ []) x) b x y) xs) (sym (name_before t m y k))
-      (subst (λ a. Pairs (PlacedOf a (name t y) x y) xs) (sym (name_before t m x l)) h)
+  placed_before x y l k h = subst (λ b. Pairs (PlacedOf (name (t ++ m ∷ []) x) b x y) xs) (sym (name_before t m y k))
+      (rw (name_before t m x l) h)
 
   -- a moment that queues nobody
   pub placed_more : queues m.1 ≡ false
       → ((x y : ℕ) → is_waiting t x ≡ true → is_waiting t y ≡ true → Pairs (IsPlaced t x y) xs)
       → (x y : ℕ) → is_waiting (t ++ m ∷ []) x ≡ true → is_waiting (t ++ m ∷ []) y ≡ true
       → Pairs (IsPlaced (t ++ m ∷ []) x y) xs
-  placed_more n h x y wx wy =
-      let lx = low x wx in
-      let ly = low y wy in
-      placed_before x y lx ly (h x y (waited t m x lx wx) (waited t m y ly wy))
-    where
-      low : (x : ℕ) → is_waiting (t ++ m ∷ []) x ≡ true → x < length t
-      low x w = ⊎_elim (λ l. l) (λ q. absurd (true≢false (sym q.1 ∙ n))) (below_or_last t m x w)
+  placed_more n h x y wx wy = grind (arith, placed_before, waited, below_or_last)
 
 -- a moment that shows nothing
 module _ (c : Settings) (t : Trace) (m : Moment) (xs : List Sent) (apart : Apart t (waiting t))
@@ -78,8 +71,7 @@ module _ (c : Settings) (own : Connection) (t : Trace) (xs : List Sent) (b : Lis
 
   -- no command that is outstanding has the new name
   none_named : (i : ℕ) → i < length xs → is_named own z.reference (get_or xs i (sent_by First [])) ≡ true → ⊥
-  none_named i l e = true≢false (sym e ∙ index_every (λ s. is_named own z.reference s ≡ false) xs (sent_by First [])
-      new.outstanding i l)
+  none_named i l e = grind (arith, index_every)
 
   old_pairs : (x y : ℕ) → is_waiting t x ≡ true → is_waiting t y ≡ true → Pairs (IsPlaced t x y) (xs ++ z ∷ [])
   old_pairs x y wx wy =
@@ -137,13 +129,9 @@ module _ (c : Settings) (own : Connection) (t : Trace) (xs : List Sent) (b : Lis
 
     pub queued_placed : (x y : ℕ) → is_waiting later x ≡ true → is_waiting later y ≡ true
         → Pairs (IsPlaced later x y) (xs ++ z ∷ [])
-    queued_placed x y wx wy = ⊎_elim
-        (λ lx. ⊎_elim
-        (λ ly. placed_before t m (xs ++ z ∷ []) x y lx ly (old_pairs x y (waited t m x lx wx) (waited t m y ly wy)))
-        (λ last. subst (λ y. Pairs (IsPlaced later x y) (xs ++ z ∷ [])) (sym last.0) (to_last x lx))
-        (below_or_last t m y wy))
-        (λ last. subst (λ x. Pairs (IsPlaced later x y) (xs ++ z ∷ [])) (sym last.0) (from_last y))
-        (below_or_last t m x wx)
+    queued_placed x y wx wy = ⊎_elim (λ lx. ⊎_elim (λ ly. placed_before t m (xs ++ z ∷ []) x y lx ly
+        (old_pairs x y (waited t m x lx wx) (waited t m y ly wy))) (λ last. rw last.0 (to_last x lx))
+        (below_or_last t m y wy)) (λ last. rw last.0 (from_last y)) (below_or_last t m x wx)
 
 -- ---- a take
 module _ (c : Settings) (own : Connection) (t : Trace) (m : Moment) (xs : List Sent) (a : Answer) (i : ℕ)

@@ -1,6 +1,5 @@
 -- A step keeps it that what hosts are told of the states of units suits how they are.
-use Rattle.mscp_shown.proofs.Common.{AllByRecursion, Block, Bool, Connection, End, IsServed, Known, List, Moment, None, Option, Serves, Service, Settings, Some, Step, Trace, [], alone, ap, append-nil, arith, changes, command, controller_of, cut, ends_at, eqb-false, eqb-true, false, false≢true, goes_on, good, if◌then◌else◌, inl, inr, is_online, is_online_ended, is_online_other, is_online_unended, is_queued, is_some, is_success, left, moment, name_on, nat_eq, one_side, option_to_list, order, order_fault, outcome, queued_open, queues, refl, same_connection, service_in, shown, shown_by, some_same, state_after, subst, sym, takes, told, true, unit, unit_fault, unit_found, untaken, untaken_more, waiting, waits_below, ℕ, ⊎_elim, ◌++◌, ◌∙◌, ◌∷◌, ◌≡◌, ◌≢◌, ◌⊎◌}
-use Rattle.mscp_packet.specs.declared.command.Order.{Order}
+use Rattle.mscp_shown.proofs.Common.{AllByRecursion, Block, Bool, Connection, End, IsServed, Known, List, Moment, None, Option, Order, Serves, Service, Settings, Some, Step, Trace, [], alone, ap, append-nil, arith, changes, command, controller_of, cut, ends_at, eqb-false, eqb-true, false, false≢true, good, if◌then◌else◌, is_online, is_online_ended, is_online_other, is_online_unended, is_queued, moment, name_on, nat_eq, option_to_list, order, outcome, queues, refl, same_connection, service_in, shown, shown_by, state_after, subst, sym, takes, told, true, unit, unit_fault, unit_found, untaken, untaken_more, waiting, waits_below, ℕ, ⊎_elim, ◌++◌, ◌∙◌, ◌∷◌, ◌≡◌, ◌≢◌, ◌⊎◌}
 use Rattle.mscp_packet.specs.declared.command.Order.TheVariants as orders
 use Rattle.mscp_shown.proofs.Effects.{Effects, served_effects}
 use Rattle.mscp_shown.proofs.Placing.{at_waiting}
@@ -13,26 +12,14 @@ use Rattle.mscp_shown.proofs.Standing.{Shares, Stands, nothing_stands, waits_mor
 -- ---- a step
 -- only an ONLINE brings a unit online
 stays_off : (o : Order) (status : ℕ) → o ≢ orders.Online → state_after false o status ≡ false
-stays_off orders.Online status n = absurd (n refl)
-stays_off orders.Available status n = both (is_success status)
-  where
-    both : (b : Bool) → (if b then false else false) ≡ false
-    both b = grind arith
-stays_off order status n = refl
+stays_off order status n = grind arith
 
 comes_on : (old : Bool) (o : Order) (status : ℕ) → state_after old o status ≡ true
     → (old ≡ true) ⊎ (o ≡ orders.Online)
-comes_on old orders.Online status h = inr refl
-comes_on old orders.Available status h = inl (of (is_success status) h)
-  where
-    of : (b : Bool) → (if b then false else old) ≡ true → old ≡ true
-    of true e = absurd (false≢true e)
-    of false e = e
-comes_on old order status h = inl h
+comes_on old order status h = grind arith
 
 is_online_order : (o : Order) → (o ≡ orders.Online) ⊎ (o ≢ orders.Online)
-is_online_order orders.Online = inl refl
-is_online_order order = inr (λ e. cc)
+is_online_order order = grind arith
 
 module _ (c : Settings) (t : Trace) (m : Moment) (known : Known c t) (h : Stands c t)
     (queued : AllByRecursion (λ x. is_queued c (command t x) ≡ true) (waiting t)) where
@@ -55,11 +42,7 @@ module _ (c : Settings) (t : Trace) (m : Moment) (known : Known c t) (h : Stands
     queued_y = at_waiting (λ x. is_queued c (command t x) ≡ true) t queued y step.served.waits
 
     is_outcome : e ≡ outcome c t k y
-    is_outcome = last_of (goes_on (is_online t here) (order t y) k (left t y)) (sym ended ∙ step.served.ended)
-      where
-        last_of : (goes : Bool) → Some e ≡ (if goes then None else Some (outcome c t k y)) → e ≡ outcome c t k y
-        last_of true q = absurd (false≢true (sym (ap is_some q)))
-        last_of false q = some_same e (outcome c t k y) q
+    is_outcome = grind arith
 
     its_unit : e.unit ≡ here
     unfolding outcome
@@ -76,9 +59,7 @@ module _ (c : Settings) (t : Trace) (m : Moment) (known : Known c t) (h : Stands
 
     effects_on : (unit : ℕ) → nat_eq e.unit unit ≡ true
         → Effects (is_online t unit) (is_online after unit) e.code e.status
-    effects_on unit q =
-        subst (λ u. Effects (is_online t u) (is_online after u) e.code e.status)
-        (sym its_unit ∙ eqb-true e.unit unit q) effects
+    effects_on unit q = grind (arith, its_unit, effects)
 
     apart_from : (unit : ℕ) → nat_eq e.unit unit ≡ false → is_online t unit ≡ false → is_online after unit ≡ false
     apart_from unit n off = other_state unit (ap (λ u. nat_eq u unit) (sym its_unit) ∙ n) ∙ off
@@ -100,32 +81,17 @@ module _ (c : Settings) (t : Trace) (m : Moment) (known : Known c t) (h : Stands
     other_stated via side unit = by_unit (nat_eq here unit) refl
       where
         off_or_shared : Stated here (is_online after here) (told (shown t) via here).state (untaken c via t)
-        off_or_shared = ⊎_elim
-            (λ o. subst (λ z. Stated here (is_online after here) z (untaken c via t))
-            (sym (y_shares o via (ap (λ v. same_connection v via) (sym step.served.connection) ∙ side)))
-            (shared_stated here (is_online after here) (untaken c via t)))
-            (λ n. stated_change here (is_online t here) (is_online after here) (told (shown t) via here).state
-            (untaken c via t)
-            (λ off. new_state ∙ (ap (λ b. state_after b (order t y) e.status) off ∙ stays_off (order t y) e.status n))
-            (h.stated via here))
-            (is_online_order (order t y))
+        off_or_shared = grind (arith, y_shares, shared_stated, stated_change, new_state, stays_off, is_online_order)
 
         by_unit : (b : Bool) → nat_eq here unit ≡ b
             → Stated unit (is_online after unit) (told (shown t) via unit).state (untaken c via t)
-        by_unit true q =
-            subst (λ u. Stated u (is_online after u) (told (shown t) via u).state (untaken c via t))
-            (eqb-true here unit q) off_or_shared
-        by_unit false q =
-            subst (λ b. Stated unit b (told (shown t) via unit).state (untaken c via t)) (sym (other_state unit q))
-            (h.stated via unit)
+        by_unit b q = grind (arith, off_or_shared, other_state)
 
     still_there : (unit : ℕ) → is_online after unit ≡ true → unit_fault (unit_found c unit) ≡ None
     still_there unit on = by_unit (nat_eq here unit) refl
       where
         here_found : order t y ≡ orders.Online → unit_fault (unit_found c here) ≡ None
-        here_found o =
-            let sound = (queued_open c (command t y) queued_y).sound in
-            subst (λ o. order_fault c here o ≡ None) o sound
+        here_found o = grind (arith, queued_y)
 
         by_unit : (b : Bool) → nat_eq here unit ≡ b → unit_fault (unit_found c unit) ≡ None
         by_unit true q =
@@ -164,20 +130,7 @@ module _ (c : Settings) (t : Trace) (m : Moment) (known : Known c t) (h : Stands
       left_of via = untaken_more c via t m (q via) (known.room.taken via)
 
       same_all : s.ended ≡ None → (unit : ℕ) → is_online after unit ≡ is_online t unit
-      same_all none unit_of = by_unit (nat_eq (unit t y) unit_of) refl
-        where
-          front : List ℕ
-          front = (step_of s k y e v).0
-
-          back : List ℕ
-          back = (step_of s k y e v).1
-
-          by_unit : (b : Bool) → nat_eq (unit t y) unit_of ≡ b → is_online after unit_of ≡ is_online t unit_of
-          by_unit true same =
-              subst (λ u. is_online after u ≡ is_online t u) (eqb-true (unit t y) unit_of same)
-              (is_online_unended c t m s k y front back st none)
-          by_unit false other =
-              is_online_other c t m s k y front back unit_of st (eqb-false (unit t y) unit_of other)
+      same_all none unit_of = grind (arith, step_of, is_online_unended, st, is_online_other)
 
       no_end : (here : Bool) (none : List End) → (if here then none else none) ≡ none
       no_end here none = grind arith
@@ -186,12 +139,7 @@ module _ (c : Settings) (t : Trace) (m : Moment) (known : Known c t) (h : Stands
           → same_connection s.connection via ≡ here
           → Stated unit (is_online after unit) (told (shown t) via unit).state
           (untaken c via t ++ (if here then option_to_list s.ended else []))
-      ended_by end ended via unit_of true side =
-          subst (λ o. Stated unit_of (is_online after unit_of) (told (shown t) via unit_of).state
-          (untaken c via t ++ option_to_list o)) (sym ended)
-          (subst (λ v. Stated unit_of (is_online after unit_of) (told (shown t) v unit_of).state
-          (untaken c v t ++ end ∷ [])) (one_side s.connection via side)
-          (own_stated s k y (step_of s k y e v).0 (step_of s k y e v).1 st end ended fault unit_of))
+      ended_by end ended via unit_of true side = grind (arith, own_stated, step_of, st)
       ended_by end ended via unit_of false side =
           subst (Stated unit_of (is_online after unit_of) (told (shown t) via unit_of).state)
           (sym (append-nil (untaken c via t)))
@@ -203,15 +151,12 @@ module _ (c : Settings) (t : Trace) (m : Moment) (known : Known c t) (h : Stands
           (λ via. at via ∙ (ap (λ o. if same_connection s.connection via then option_to_list o else []) none
           ∙ no_end (same_connection s.connection via) [])) q late
       by_end (Some end) ended = record {
-        stated = λ via unit_of.
-            subst (λ w. Stated unit_of (is_online after unit_of) (told w via unit_of).state (untaken c via after))
-            (sym is)
+        stated = λ via unit_of. rw is
             (subst (Stated unit_of (is_online after unit_of) (told (shown t) via unit_of).state)
-            (sym (left_of via ∙ ap (λ es. untaken c via t ++ es) (at via)))
-            (ended_by end ended via unit_of (same_connection s.connection via) refl));
+            (sym (left_of via ∙ ap (λ es. untaken c via t ++ es) (at via))) (ended_by end ended via unit_of
+            (same_connection s.connection via) refl));
         there = still_there s k y (step_of s k y e v).0 (step_of s k y e v).1 st end ended fault;
-        shared = subst (λ w. AllByRecursion (λ x. Shares w (moment after x)) (waiting after)) (sym is)
-            (waits_more t m (shown t) h.shared (λ e. absurd (false≢true (sym late ∙ e))));
+        shared = rw is (waits_more t m (shown t) h.shared (λ e. absurd (false≢true (sym late ∙ e))));
         controller = λ n e'. h.controller n (sym (ap controller_of is) ∙ e');
         are = subst AreStated (sym is) h.are;
       }

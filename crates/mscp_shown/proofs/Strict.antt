@@ -1,14 +1,11 @@
 -- Stricter rules of figures than the manual's, which a legal trace keeps: the figure of each command that a poll finds
 -- is at least 1, and falls from poll to poll, whichever is the oldest and whatever unit is named. All else is as the
 -- judge of the wire has it, but that nothing is asked of the states of units and of the controller.
-use Rattle.mscp_shown.proofs.Common.{Answer, History, Seen, Sent, Told, answer_by, command_at, find, fold, is_below, is_named, nat_lt, place_of, polled_by, sent_by}
-use Rattle.std.specs.Prelude.{◌≡◌, ℕ, ◌+◌, ◌<◌, Bool, true, false, nat_eq, ◌&&◌, ◌||◌, if◌then◌else◌, List, [], ◌∷◌, ◌++◌, length, map, take, drop, Option, Some, None}
-use Rattle.std.specs.List.{list_any}
+use Rattle.mscp_shown.proofs.Common.{Answer, Bool, Connection, History, List, None, Option, Seen, Sent, Some, Told, [], answer_by, command_at, drop, false, find, fold, if◌then◌else◌, is_below, is_named, length, list_any, map, nat_eq, nat_lt, place_of, polled_by, sent_by, take, true, ℕ, ◌&&◌, ◌++◌, ◌+◌, ◌<◌, ◌||◌, ◌∷◌, ◌≡◌}
 use Rattle.mscp_wire.specs.Wire as wire
 use Rattle.mscp_wire.specs.Wire.{is_immediate}
 use Rattle.mscp_wire.specs.declared.moment.Moment.{Moment}
 use Rattle.mscp_wire.specs.declared.moment.Moment.TheVariants as moments
-use Rattle.mscp_drive.specs.declared.connection.Connection.{Connection}
 
 -- a command, once a figure was told of it, if it is the one that the poll is about
 abbrev pub hears : Answer → Option ℕ → Sent → Sent

@@ -1,8 +1,6 @@
 -- What an end owes to its command alone: the rules that look at no other command, and the statuses and bodies that suit
 -- an order.
-use Rattle.mscp_shown.proofs.Common.{Answer, EndBody, Sent, count_of, endcode, has_count, has_endcode, has_status, is_about, is_plain, is_whole, may_have, move_byte, names_unit, other_of, points_into, refused_body, succeeds}
-use Rattle.std.proofs.Common.{◌≡◌, ◌≢◌, ℕ, ◌/◌, ◌%◌, ◌<◌, ◌≤◌, true}
-use Rattle.mscp_packet.specs.declared.command.Order.{Order}
+use Rattle.mscp_shown.proofs.Common.{Answer, EndBody, Order, Sent, count_of, endcode, has_count, has_endcode, has_status, is_about, is_plain, is_whole, may_have, move_byte, names_unit, other_of, points_into, refused_body, succeeds, true, ℕ, ◌%◌, ◌/◌, ◌<◌, ◌≡◌, ◌≢◌, ◌≤◌}
 use Rattle.mscp_packet.specs.declared.command.Order.TheVariants as orders
 use Rattle.mscp_packet.specs.declared.end.EndBody.TheVariants as bodies
 

@@ -1,16 +1,16 @@
 -- So does an answer, and what a host takes.
-use Rattle.mscp_shown.proofs.Common.{AllByRecursion, Answer, ArrayVec, Bool, Connection, End, Entry, Event, IsOfKind, Known, List, Moment, None, Option, Sent, Settings, Some, Told, Trace, Wired, [], aborted, aborted_end, answer, answer_by, ap, append-nil, arith, brings, command, command_at, command_of, controller_after, controller_of, drop, each_push, end_bytes, eq-eqb, eqb-true, every_append, every_weaker, false, false≢true, figure_asked, fold_push, good, is_late, is_online, is_online_kept, is_queued, is_settled_at, map, moment, nat_eq, not, num, one_side, own_end, own_side, place_of, refl, same_connection, says_away, sent_by, sent_bytes, settles, shown, status_code, subst, suits_state, sym, told, told_after_end, told_push, true, true≢false, unit, untaken, untaken_more, waiting, went, ℕ, ◌&&◌, ◌++◌, ◌||◌, ◌∙◌, ◌∷◌, ◌≡◌}
+use Rattle.mscp_shown.proofs.Common.{AllByRecursion, Answer, ArrayVec, Bool, Connection, End, Entry, Event, IsOfKind, Known, List, Moment, None, Sent, Settings, Some, Told, Trace, Wired, [], aborted, aborted_end, answer, answer_by, ap, append-nil, arith, brings, command, command_of, controller_after, controller_of, each_push, end_bytes, eq-eqb, every_append, every_weaker, false, false≢true, figure_asked, fold_push, good, is_online, is_online_kept, is_queued, map, moment, num, own_end, refl, same_connection, sent_by, sent_bytes, settles, shown, subst, suits_state, sym, told, told_after_end, told_push, true, unit, untaken, untaken_more, waiting, ℕ, ◌&&◌, ◌++◌, ◌∙◌, ◌∷◌, ◌≡◌}
 use Rattle.mscp_wire.specs.Wire as wire
 use Rattle.mscp_wire.specs.Wire.{outstanding}
 use Rattle.mscp_wire.specs.declared.moment.Moment.TheVariants as moments
-use Rattle.mscp_shown.proofs.Effects.{Effects, aborted_effects, brings_of, own_effects}
+use Rattle.mscp_shown.proofs.Effects.{Effects, brings_of, own_effects}
 use Rattle.mscp_shown.proofs.Identity.{controller_read, fits_controller, later_controller, own_identifier}
 use Rattle.mscp_shown.proofs.Owed.{untaken_took}
 use Rattle.mscp_shown.proofs.Reading.{IsFit, reads}
 use Rattle.mscp_shown.proofs.Saying.{sent_says}
 use Rattle.mscp_shown.proofs.Shown.{shown_more}
 use Rattle.mscp_shown.proofs.Kept.{same_sides}
-use Rattle.mscp_shown.proofs.Stating.{Stated, fits_read, shared_end, state_other, state_read, stated_unsettled}
+use Rattle.mscp_shown.proofs.Stating.{Stated, fits_read, shared_end, state_other, stated_unsettled}
 use Rattle.mscp_shown.proofs.Strict.{AreStated, IsStated, told_at}
 use Rattle.mscp_shown.proofs.Suiting.{own_ends}
 use Rattle.mscp_shown.proofs.Standing.{Shares, Stands, waits_more}
@@ -22,10 +22,7 @@ module _ (c : Settings) (own : Connection) (t : Trace) (b : List ℕ) (h : Stand
 
   each_aborted : (xs : List ℕ) → AllByRecursion Holds (map (λ x. aborted_end (command t x) (good t x)) xs)
   each_aborted [] = tt
-  each_aborted (x ∷ xs) = (
-    aborted_effects (is_online t (aborted_end (command t x) (good t x)).unit) (command t x) (good t x),
-    each_aborted xs,
-  )
+  each_aborted (x ∷ xs) = grind (arith, each_aborted xs)
 
   pub answer_effects : is_queued c (command_of b) ≡ false → AllByRecursion Holds (answer c own t b)
   unfolding answer
@@ -37,8 +34,7 @@ module _ (c : Settings) (own : Connection) (t : Trace) (b : List ℕ) (h : Stand
       let made = own_ends c online figure k q in
       every_append Holds (map (λ x. aborted_end (command t x) (good t x)) (aborted c own t k)) (e ∷ [])
       (each_aborted (aborted c own t k)) (
-        subst (λ u. Effects (is_online t u) (is_online t u) e.code e.status) (sym made.unit)
-            (own_effects c online figure k (sent_by own b) q (sent_says own b) (h.there k.unit)),
+        rw made.unit (own_effects c online figure k (sent_by own b) q (sent_says own b) (h.there k.unit)),
         tt,
       )
 
@@ -48,34 +44,7 @@ never b = grind arith
 
 -- an end that isn't settled brings nothing online
 unsettled_brings : (xs : List Sent) (a : Answer) → settles xs a ≡ false → brings a ≡ false
-unsettled_brings xs a h = by_place (place_of xs a) h
-  where
-    apart : (n : ℕ) → n ≡ 0x83 → nat_eq n 0x89 ≡ false
-    apart n e = ap (λ m. nat_eq m 0x89) e
-
-    by_tests : (late gone zero other : Bool) (x y : Bool) → (late ≡ true → x ≡ false) → gone ≡ (other && not zero)
-        → y ≡ zero → (z : Bool) → (not late && (not gone || z)) ≡ false → (x && y) ≡ false
-    by_tests true gone zero other x y f g e z k = ap (λ b. b && y) (f refl)
-    by_tests false false zero other x y f g e true k = absurd (true≢false k)
-    by_tests false false zero other x y f g e false k = absurd (true≢false k)
-    by_tests false true zero true x y f g e z k = ap (λ b. x && b) (e ∙ sym (not_zero zero g)) ∙ never x
-      where
-        not_zero : (b : Bool) → true ≡ (true && not b) → false ≡ b
-        not_zero true q = absurd (true≢false q)
-        not_zero false q = refl
-    by_tests false true zero false x y f g e z k = absurd (true≢false g)
-
-    late_code : (y : Sent) → is_late xs y a ≡ true → nat_eq a.code 0x89 ≡ false
-    late_code y q = apart a.code (eqb-true a.code 0x83 (first (nat_eq a.code 0x83) _ q))
-      where
-        first : (b c : Bool) → (b && c) ≡ true → b ≡ true
-        first b c r = grind arith
-
-    by_place : (o : Option ℕ) → is_settled_at xs a o ≡ false → brings a ≡ false
-    by_place None k = absurd (true≢false k)
-    by_place (Some i) k =
-        by_tests (is_late xs (command_at xs i) a) (went a) (nat_eq (status_code a) 0) (says_away a)
-        (nat_eq a.code 0x89) (nat_eq (status_code a) 0) (late_code (command_at xs i)) refl refl _ k
+unsettled_brings xs a h = grind (arith, never)
 
 module _ (c : Settings) (t : Trace) (own : Connection) (b : ArrayVec ℕ) (known : Known c t) (h : Stands c t)
     (e : End) (rest : List End) (us : untaken c own t ≡ e ∷ rest) (bytes : b.items ≡ end_bytes e)
@@ -118,13 +87,8 @@ module _ (c : Settings) (t : Trace) (own : Connection) (b : ArrayVec ℕ) (known
       let online : (unit : ℕ) → is_online (t ++ taking ∷ []) unit ≡ is_online t unit =
       λ unit. is_online_kept t taking unit refl in
       record {
-        stated = λ via unit.
-            subst (λ l. Stated unit (is_online (t ++ taking ∷ []) unit) (told l via unit).state
-            (untaken c via (t ++ taking ∷ []))) (sym is)
-            (subst (λ b. Stated unit b (told (shown t ++ w ∷ []) via unit).state (untaken c via (t ++ taking ∷ [])))
-            (sym (online unit))
-            (subst (λ (z : Told). Stated unit (is_online t unit) z.state (untaken c via (t ++ taking ∷ [])))
-            (sym (told_then via unit)) (by_side via unit (same_connection own via) refl)));
+        stated = λ via unit. rw is
+            (rw (online unit) (rw (told_then via unit) (by_side via unit (same_connection own via) refl)));
         there = λ unit on. h.there unit (sym (online unit) ∙ on);
         shared = subst (λ l. AllByRecursion (λ x. Shares l (moment (t ++ taking ∷ []) x)) (waiting (t ++ taking ∷ [])))
             (sym is)
@@ -152,36 +116,21 @@ module _ (c : Settings) (t : Trace) (own : Connection) (b : ArrayVec ℕ) (known
       own_told : (unit : ℕ) (sure : Bool) → settled ≡ sure
           → Stated unit (is_online t unit)
           (told_after_end own unit sure (told (shown t) own unit) (answer_by own (end_bytes e))).state rest
-      own_told unit true q =
-          subst (λ z. Stated unit (is_online t unit) z rest)
-          (sym (state_read c own e fit unit (told (shown t) own unit)))
-          (subst (Stated unit (is_online t unit) (told (shown t) own unit).state) us (h.stated own unit)).1
-      own_told unit false q =
-          subst (λ z. Stated unit (is_online t unit) z rest)
-          (sym (state_other c own e fit own unit false (told (shown t) own unit)
-          (never (wire.same_connection own own))))
-          (stated_unsettled unit (is_online t unit) (told (shown t) own unit).state e rest
-          (sym (ap (λ k. brings_of k (answer_by own (end_bytes e)).status) (reads c own e fit).code
-          ∙ ap (brings_of e.code) (reads c own e fit).status)
-          ∙ unsettled_brings (outstanding (shown t)) (answer_by own (end_bytes e)) q)
+      own_told unit true q = grind arith
+      own_told unit false q = rw (state_other c own e fit own unit false (told (shown t) own unit)
+          (never (wire.same_connection own own))) (stated_unsettled unit (is_online t unit)
+          (told (shown t) own unit).state e rest (sym (ap (λ k. brings_of k (answer_by own (end_bytes e)).status)
+          (reads c own e fit).code ∙ ap (brings_of e.code) (reads c own e fit).status) ∙ unsettled_brings
+          (outstanding (shown t)) (answer_by own (end_bytes e)) q)
           (subst (Stated unit (is_online t unit) (told (shown t) own unit).state) us (h.stated own unit)).1)
 
       by_side : (via : Connection) (unit : ℕ) (here : Bool) → same_connection own via ≡ here
           → Stated unit (is_online t unit)
           (told_after_end via unit settled (told (shown t) via unit) (answer_by own (end_bytes e))).state
           (untaken c via (t ++ taking ∷ []))
-      by_side via unit true side =
-          subst (λ v. Stated unit (is_online t unit)
-          (told_after_end v unit settled (told (shown t) v unit) (answer_by own (end_bytes e))).state
-          (untaken c v (t ++ taking ∷ []))) (one_side own via side)
-          (subst (Stated unit (is_online t unit)
-          (told_after_end own unit settled (told (shown t) own unit) (answer_by own (end_bytes e))).state)
-          (sym (untaken_took c own t taking (own_side own) refl ∙ ap (drop 1) us))
-          (own_told unit settled refl))
-      by_side via unit false side =
-          subst (Stated unit (is_online t unit)
-          (told_after_end via unit settled (told (shown t) via unit) (answer_by own (end_bytes e))).state)
+      by_side via unit true side = grind (arith, untaken_took, own_told)
+      by_side via unit false side = subst (Stated unit (is_online t unit) (told_after_end via unit settled
+          (told (shown t) via unit) (answer_by own (end_bytes e))).state)
           (sym (untaken_more c via t taking side (known.room.taken via) ∙ append-nil (untaken c via t)))
-          (subst (λ z. Stated unit (is_online t unit) z (untaken c via t))
-          (sym (state_other c own e fit via unit settled (told (shown t) via unit)
-          (ap (λ b. b && settled) (same_sides own via ∙ side)))) (h.stated via unit))
+          (rw (state_other c own e fit via unit settled (told (shown t) via unit)
+          (ap (λ b. b && settled) (same_sides own via ∙ side))) (h.stated via unit))

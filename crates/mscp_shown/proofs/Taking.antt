@@ -1,11 +1,5 @@
 -- An end that a host takes, as the rules of the wire read it.
-use Rattle.mscp_shown.proofs.Common.{AreBytes, BodyKind, and_from, cases_lt, end_length, endcodes, find, four, get_or_past, is_long, kind_of_body, le-leb, least_length, length_span, nat_le, num, slice_index}
-use Rattle.std.proofs.Common.{◌≡◌, ℕ, ◌+◌, ◌^◌, ◌<◌, true, ◌&&◌, List, [], ◌∷◌, length, refl, ap, sym, subst, arith, ⊎_elim, Option, Some, None}
-use Rattle.std.proofs.lemmas.Bool.{eqb-true}
-use Rattle.std.specs.Prelude.{nat_eq, option_map, slice_get}
-use Rattle.arrayvec.specs.ArrayVec.{ArrayVec}
-use Rattle.mscp_packet.specs.Ends.{IsOfKind, end_bytes}
-use Rattle.mscp_packet.specs.declared.end.End.{End}
+use Rattle.mscp_shown.proofs.Common.{AreBytes, ArrayVec, BodyKind, End, IsOfKind, List, None, Option, Some, [], ap, arith, cases_lt, end_bytes, end_length, endcodes, eqb-true, find, four, get_or_past, is_long, kind_of_body, least_length, length, length_span, nat_eq, nat_le, num, option_map, refl, slice_get, slice_index, subst, true, ℕ, ⊎_elim, ◌+◌, ◌<◌, ◌^◌, ◌∷◌, ◌≡◌}
 use Rattle.mscp_shown.proofs.Counts.{found_passes}
 
 -- ---- numbers
@@ -45,13 +39,7 @@ length_is e = search arith
 
 -- an end whose body is of the shape of its endcode is as long as that asks
 pub long_end : (e : End) → IsOfKind e → is_long (end_bytes e) ≡ true
-long_end e kind =
-    let kind_of = kind_of_body e.body in
-    let least = least_of e.code kind_of (find (λ entry. nat_eq entry.0 e.code) endcodes) refl kind in
-    let span = length_span kind_of in
-    subst (λ n. (nat_le 12 n && nat_le (least_length e.code) n) ≡ true) (sym (length_is e))
-    (and_from (nat_le 12 (end_length kind_of)) (nat_le (least_length e.code) (end_length kind_of))
-    (le-leb 12 (end_length kind_of) span.0) least)
+long_end e kind = grind (arith, least_of, length_span, length_is)
 
 -- ---- who takes it
 -- what is taken is the first of these ends

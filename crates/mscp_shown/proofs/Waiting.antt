@@ -1,20 +1,19 @@
 -- What is known of the order of all that is outstanding, and what each moment keeps of it.
-use Rattle.mscp_shown.proofs.Common.{AllByRecursion, Bool, Command, Connection, End, First, List, MoveKind, None, Option, Order, Pairs, Sent, Settings, Some, Trace, [], ap, arith, command, command_of, connection, count_by, eq-eqb, eqb-true, every_filter, every_from, false, false≢true, fault_of, get_or, get_or-le-sum_by, inl, inr, is_apart, is_immediate, is_named, is_queued, is_waiting, keeps_back, length, list_any, moment, move_byte, nat_eq, one_side, order, own_end, own_end_with, own_side, pairs_append, position-Some, queued_open, reference, refl, sent_by, sent_bytes, subst, sym, true, true≢false, unit, untaken, waiting, waiting_by, waiting_waits, ℕ, ⊎_elim, ◌%◌, ◌&&◌, ◌++◌, ◌<◌, ◌||◌, ◌∙◌, ◌∷◌, ◌≡◌, ◌≢◌, ◌≤◌, ◌⊎◌}
+use Rattle.mscp_shown.proofs.Common.{AllByRecursion, Bool, Command, Connection, End, First, List, None, Option, Order, Pairs, Sent, Settings, Some, Trace, [], ap, arith, command, command_of, connection, count_by, eq-eqb, eqb-true, every_filter, every_from, false, false≢true, fault_of, get_or, get_or-le-sum_by, inr, is_apart, is_immediate, is_named, is_queued, is_waiting, keeps_back, length, list_any, moment, nat_eq, one_side, order, own_end, own_end_with, own_side, pairs_append, position-Some, queued_open, reference, refl, same_connection, sent_by, sent_bytes, subst, sym, true, true≢false, unit, untaken, waiting, waiting_by, waiting_waits, ℕ, ◌%◌, ◌&&◌, ◌++◌, ◌<◌, ◌||◌, ◌∙◌, ◌∷◌, ◌≡◌, ◌≢◌, ◌≤◌, ◌⊎◌}
 use Rattle.mscp_packet.specs.declared.command.Order.TheVariants as orders
 use Rattle.mscp_controller.specs.Passing as passing
-use Rattle.mscp_queue.specs.Names.{same_connection}
 use Rattle.mscp_queue.specs.Orders as queue
 use Rattle.mscp_wire.specs.Wire as wire
 use Rattle.mscp_shown.proofs.Counts.{none_passes, some_place}
 use Rattle.mscp_shown.proofs.Messages.{IsTallied}
-use Rattle.mscp_shown.proofs.Ordering.{Clear, IsClearOf, Ordered, fences, kept_side}
+use Rattle.mscp_shown.proofs.Ordering.{Clear, IsClearOf, Ordered, kept_side}
 use Rattle.mscp_shown.proofs.Owed.{one_if}
 use Rattle.mscp_shown.proofs.Owners.{IsOwn, message, same_sides, untold}
 use Rattle.mscp_shown.proofs.Pairing.{index_every, index_pairs, pairs_index}
 use Rattle.mscp_shown.proofs.Placing.{IsFree, ServedAreFree, at_waiting}
 use Rattle.mscp_shown.proofs.Saying.{Says, sent_says}
 use Rattle.mscp_shown.proofs.Shown.{tally}
-use Rattle.mscp_shown.proofs.Suiting.{refused_apart, valid_order}
+use Rattle.mscp_shown.proofs.Suiting.{valid_order}
 
 -- of two commands that wait the one that is outstanding longer came first
 abbrev pub IsPlaced : Trace → ℕ → ℕ → Sent → Sent → Type 0
@@ -32,15 +31,7 @@ pub record Orders (c : Settings) (t : Trace) (xs : List Sent) : Type 0 where
 -- a command that was queued is sequential on the wire and in the queue alike
 sequential_same : (o : Order) (s : Sent) → Says o s → is_immediate o ≡ false
     → ((byte why : ℕ) → o ≢ orders.Invalid byte why) → wire.is_sequential s.opcode ≡ queue.is_sequential o
-sequential_same orders.Available s says h n = ap wire.is_sequential says
-sequential_same orders.Online s says h n = ap wire.is_sequential says
-sequential_same orders.SetUnit s says h n = ap wire.is_sequential says
-sequential_same (orders.Move kind count block) s says h n = ap wire.is_sequential says.0 ∙ moves kind
-  where
-    moves : (kind : MoveKind) → wire.is_sequential (move_byte kind) ≡ false
-    moves kind = grind arith
-sequential_same (orders.Invalid byte why) s says h n = absurd (n byte why refl)
-sequential_same o s says h n = cc
+sequential_same o s says h n = grind arith
 
 fence_of : (a b c d : Bool) → ((a && (b || c)) || (d && b)) ≡ true → (a || b) ≡ true
 fence_of a b c d h = grind (arith, false≢true)
@@ -64,14 +55,7 @@ module _ (c : Settings) (t : Trace) where
   -- what keeps a message back on the wire is a fence of the trace
   fence_kept : (x y : ℕ) → is_queued c (command t x) ≡ true → is_queued c (command t y) ≡ true
       → keeps_back (message t y) (message t x) ≡ true → passing.fences t y x ≡ true
-  fence_kept x y qx qy k =
-      let p = three_parts (wire.same_connection (connection t x) (connection t y))
-      (nat_eq (message t x).unit (message t y).unit) (fences (message t y) (message t x)) k in
-      let either = fence_of (wire.is_sequential (message t x).opcode) (wire.is_sequential (message t y).opcode)
-      (wire.is_ordered (message t y).opcode) (wire.is_ordered (message t x).opcode) p.2 in
-      ap (λ b. b && (queue.is_sequential (order t x) || queue.is_sequential (order t y))) (sym (same_unit x y) ∙ p.1)
-      ∙ (ap (λ b. b || queue.is_sequential (order t y)) (sym (queued_sequential x qx))
-      ∙ (ap (λ b. wire.is_sequential (message t x).opcode || b) (sym (queued_sequential y qy)) ∙ either))
+  fence_kept x y qx qy k = grind (arith, three_parts, fence_of, same_unit, queued_sequential)
 
 -- ---- the end of a step
 count_at : {X : Type 0} (p : X → Bool) (xs : List X) (i : ℕ) (d : X) → i < length xs → p (get_or xs i d) ≡ true
@@ -176,11 +160,7 @@ module _ (c : Settings) (t : Trace) (xs : List Sent) (tallied : (via : Connectio
 -- ---- the end of an answer
 immediate_apart : (o : Order) (s : Sent) → Says o s → is_immediate o ≡ true
     → (wire.is_sequential s.opcode ≡ false) × (wire.is_ordered s.opcode ≡ false)
-immediate_apart (orders.Abort other) s says h = (ap wire.is_sequential says.0, ap wire.is_ordered says.0)
-immediate_apart (orders.Status other) s says h = (ap wire.is_sequential says.0, ap wire.is_ordered says.0)
-immediate_apart orders.UnitStatus s says h = (ap wire.is_sequential says, ap wire.is_ordered says)
-immediate_apart (orders.SetController version) s says h = (ap wire.is_sequential says, ap wire.is_ordered says)
-immediate_apart o s says h = cc
+immediate_apart o s says h = grind arith
 
 keeps_none : (a b seq tr : Bool) (y : Bool) (z : Bool) → y ≡ false → z ≡ false
     → (a && b && ((seq && (y || z)) || (tr && y))) ≡ false
@@ -204,9 +184,6 @@ clear_answer own xs b e before o new number says h =
     (nat_eq s.unit z.unit) (wire.is_sequential s.opcode) (wire.is_ordered s.opcode) (wire.is_sequential z.opcode)
     (wire.is_ordered z.opcode) free.0 free.1))) xs)
 
-apart_of : (status : ℕ) → (status % 32 ≡ 1) ⊎ (status % 32 ≡ 3) → is_apart (status % 32) ≡ true
-apart_of status h = ⊎_elim (λ e. ap is_apart e) (λ e. ap is_apart e) h
-
 own_with : (c : Settings) (online : Bool) (figure : ℕ) (k : Command) (own : Connection) (xs : List Sent) (b : List ℕ)
     (before : List End) (f : Option ℕ) → fault_of c k ≡ f → (f ≡ None → is_immediate k.order ≡ true)
     → AllByRecursion (λ s. is_named own (sent_by own b).reference s ≡ false) xs → k.reference ≡
@@ -215,8 +192,7 @@ own_with : (c : Settings) (online : Bool) (figure : ℕ) (k : Command) (own : Co
     (is_apart (e.status % 32) ≡ true) ⊎ Clear own (xs ++ sent_by own b ∷ []) before e
 own_with c online figure k own xs b before None f h new number says =
     inr (clear_answer own xs b (own_end_with c online figure k None) before k.order new number says (h refl))
-own_with c online figure k own xs b before (Some status) f h new number says =
-    inl (apart_of status (refused_apart c k.unit status k.order (sent_by own b) says f))
+own_with c online figure k own xs b before (Some status) f h new number says = grind arith
 
 -- the end of a command that isn't queued may come at once
 pub own_order : (c : Settings) (online : Bool) (figure : ℕ) (k : Command) (own : Connection) (xs : List Sent)
