@@ -1,14 +1,14 @@
 -- What an action leaves that touches no memory, and the steps of the initialisation.
-use Rattle.mscp_ported.proofs.Common.{Action, Bool, Choice, Commands, Due, Goes, Idle, IsAsNew, List, MatchOption, Name, None, Ok, Option, Outcome, Port, Read, Responses, Rings, Said, Some, Stage, StandInOrder, TakesBegun, TakesBlock, Talk, Task, Turn, Verdict, Went, Wish, [], ap, append-nil, arith, at_step, begins, cond, false, inl, inr, interrupted, is_dead, map, message_slot, message_text, not, packet_slot, refl, said_in, step_task, stepped, subst, sym, true, written, ℕ, ◌%◌, ◌*◌, ◌++◌, ◌/◌, ◌==◌, ◌∙◌, ◌≡◌, ◌≢◌, ◌⊎◌}
+use Rattle.mscp_ported.proofs.Common.{Action, Bool, Choice, Commands, Due, Goes, Idle, IsAsNew, List, MatchOption, Name, None, Ok, Option, Outcome, Port, Read, Responses, Rings, Said, Some, Stage, StandInOrder, TakesBegun, TakesBlock, Talk, Task, Turn, Verdict, Went, Wish, [], ap, append-nil, arith, at_step, begins, cond, false, interrupted, is_dead, map, message_slot, message_text, not, packet_slot, refl, said_in, step_task, stepped, subst, sym, true, written, ℕ, ◌%◌, ◌*◌, ◌++◌, ◌/◌, ◌==◌, ◌∙◌, ◌≡◌, ◌≢◌}
 use Rattle.std.specs.Prelude.{◌&&◌}
 use Rattle.mscp_port.specs.declared.action.Action.TheVariants as actions
-use Rattle.mscp_port.specs.declared.action.Outcome.TheVariants as outcomes
 use Rattle.mscp_port.specs.declared.stage.Stage.TheVariants as stages
 use Rattle.mscp_port.specs.declared.task.Task.TheVariants as tasks
 use Rattle.mscp_ported.specs.Talk.{done_by}
 use Rattle.mscp_ported.proofs.After.{After, IsNoReset, alters, none_said, same_stage}
-use Rattle.mscp_ported.proofs.Look.{AreTold, Counts, Fits, InStep, IsClear, IsElse, IsOfRings, IsOpen, IsOwned, IsSimple, IsTelling, IsWrite, Look, Names, NeedsOut, block_rings, in_hand, is_loud, look, told_on}
-use Rattle.mscp_ported.proofs.Plain.{dies}
+use Rattle.mscp_ported.proofs.Look.{AreTold, Counts, Fits, InStep, IsClear, IsElse, IsOfRings, IsOpen, IsOwned, IsSimple, IsTelling, IsWrite, Look, Names, block_rings, in_hand, is_loud, look, told_on}
+use Rattle.mscp_ported.proofs.Deeds.{is_alive}
+use Rattle.mscp_ported.proofs.Plain.{dies, not_of_rings, retask}
 
 -- ---- the initialisation
 
@@ -16,7 +16,7 @@ use Rattle.mscp_ported.proofs.Plain.{dies}
 pub init_step : (l : Look) (t : Talk) (w : Option Wish) (said : List Said) (texts : List (List ℕ))
     (s : Stage) (first second : ℕ) (rings : Option Rings) (word : Option ℕ) (task : Task) (turn : Turn)
     (named : Option Rings) (said_first said_second : ℕ)
-    → InStep l t w said texts → l.stage ≢ stages.Up → IsOpen t.turn → in_hand l.task t.turn ≡ []
+    → InStep l t w said texts → l.stage ≢ stages.Up → (IsOfRings l.task → ⊥)
     → Names s first second word rings said_first said_second t.answer named
     → Counts rings l.responses l.commands t.told t.heard → Fits (record l {
       stage = s;
@@ -26,9 +26,8 @@ pub init_step : (l : Look) (t : Talk) (w : Option Wish) (said : List Said) (text
       rings = rings;
       task = task;
     }) task turn
-    → IsSimple turn → IsOwned turn → (IsOfRings task → ⊥) → (NeedsOut task → ⊥)
-    → (task ≡ tasks.Interrupt → is_loud s ≡ true) → (IsClear task → s ≡ stages.Clearing) → (IsTelling l.task → ⊥)
-    → (IsTelling task → ⊥) → in_hand task turn ≡ [] → is_dead s ≡ false → InStep (record l {
+    → IsSimple turn → IsOwned turn → (IsOfRings task → ⊥) → (task ≡ tasks.Interrupt → is_loud s ≡ true)
+    → (IsClear task → s ≡ stages.Clearing) → is_dead s ≡ false → InStep (record l {
       stage = s;
       first = first;
       second = second;
@@ -36,8 +35,10 @@ pub init_step : (l : Look) (t : Talk) (w : Option Wish) (said : List Said) (text
       rings = rings;
       task = task;
     }) (record t { turn = turn; first = said_first; second = said_second; rings = named }) None said texts
-init_step l t w said texts s first second rings word task turn named said_first said_second k not_up calm before names
-    counts fits simple own no_rings no_out loud clear calm_before calm_after after alive = record {
+init_step l t w said texts s first second rings word task turn named said_first said_second k not_up before names
+    counts fits simple own no_rings loud clear alive =
+    let q = not_of_rings task no_rings in
+    let was = not_of_rings l.task before in record {
       names = names;
       counts = counts;
       hand = record {
@@ -52,11 +53,10 @@ init_step l t w said texts s first second rings word task turn named said_first 
       };
       speech = record {
         out = λ h. absurd (not_up (k.speech.out h));
-        has = λ h. absurd (no_out h);
-        tells = told_on l.more l.task task t.turn turn l.outgoing l.untold t.told said calm_before calm_after
-            k.speech.tells;
+        has = λ h. absurd (q.0 h);
+        tells = told_on l.more l.task task t.turn turn l.outgoing l.untold t.told said was.1 q.1 k.speech.tells;
       };
-      hears = ap (λ xs. map message_text t.heard ++ xs) (after ∙ sym before) ∙ k.hears;
+      hears = ap (λ xs. map message_text t.heard ++ xs) (q.2 turn ∙ sym (was.2 t.turn)) ∙ k.hears;
       ended = λ d. absurd (search (arith, d, alive));
     }
 
@@ -120,11 +120,7 @@ module _ {K : Type 0} {picks : List Choice → ℕ → Type 0} {old new : Port K
   dead_so code n = dies (Went outcome (Ok done)) code old new t (Some w) None said texts no_reset n
 
   pub alive : is_dead old.stage ≡ false
-  alive = by old.stage refl
-    where
-      by : (s : Stage) → old.stage ≡ s → is_dead old.stage ≡ false
-      by (stages.Dead code) e = search (arith, r.dead code e)
-      by s e = ap is_dead e
+  alive = is_alive old (λ code e. search (arith, r.dead code e))
 
   -- an action went, after which the port looks so
   pub goes_on : (l : Look) (t' : Talk) (said' : List Said) → look new ≡ l → is_dead l.stage ≡ false
@@ -154,23 +150,10 @@ module _ {K : Type 0} {picks : List Choice → ℕ → Type 0} {old new : Port K
       → look new ≡ record (look old) { task = tasks.Free } → So
   freed calm before quiet is e =
       goes_on (record (look old) { task = tasks.Free }) t said e alive
-      (same_stage old.stage _ ∙ else_deed w.action w.bytes t is) same_said (record {
-        names = k.names;
-        counts = k.counts;
-        hand = record {
-          fits = calm;
-          asked = tt;
-          up = λ h. absurd h;
-          step = λ e. search (arith, e);
-          clear = λ h. absurd h;
-          own = k.hand.own;
-          idle = k.hand.idle;
-          wished = λ e h. h;
-        };
-        speech = record { out = k.speech.out; has = λ h. absurd h; tells = told_so tasks.Free t.turn quiet (λ h. h) };
-        hears = ap (λ xs. map message_text t.heard ++ xs) (sym before) ∙ k.hears;
-        ended = λ d. absurd (search (arith, d, alive));
-      })
+      (same_stage old.stage _ ∙ else_deed w.action w.bytes t is) same_said
+      (retask (look old) t (Some w) None said texts old.written tasks.Free t.turn k k.names.answer_so calm tt (λ h. h)
+      (λ e. search (arith, e)) (λ h. absurd h) k.hand.own k.hand.idle quiet before
+      (λ d. absurd (search (arith, d, alive))))
 
   pub begun_so : (task : Task) (verdict : Verdict) → old.task ≡ task → IsOpen t.turn → in_hand task t.turn ≡ []
       → (IsTelling task → ⊥) → IsElse w.action → TakesBegun picks verdict old new → So
@@ -183,13 +166,6 @@ module _ {K : Type 0} {picks : List Choice → ℕ → Type 0} {old new : Port K
           (λ name. TakesBlock picks name.connection name.reference verdict old new) → So
       by None e = free (ap look e)
       by (Some name) b = free (ap look b.finished.2.frame)
-
-  pub is_done : (outcome ≡ outcomes.Done) ⊎ (outcome ≢ outcomes.Done)
-  is_done = by outcome
-    where
-      by : (o : Outcome) → (o ≡ outcomes.Done) ⊎ (o ≢ outcomes.Done)
-      by outcomes.Done = inl refl
-      by o = inr (λ e. search (arith, e))
 
   -- what was written in a task of the rings
   pub write_one : (x : Turn) (t' : Talk) → t.turn ≡ x → IsWrite w.action

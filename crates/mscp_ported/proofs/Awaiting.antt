@@ -1,9 +1,10 @@
 -- What there is of each reference number after each call of a port.
-use Rattle.mscp_ported.proofs.Common.{AllByRecursion, Bool, Call, Command, Dies, End, First, Holdings, List, MoveKind, Name, None, Opcode, Option, Order, Port, Record, Settings, Shape, Some, [], aborted_record, ap, append-nil, arith, asks_for_next, balance_of, bytes_in, command_of, cond, drop, ends_said_by, eq-eqb, eqb-true, false, false≢true, filter, found_is, fresh_record, handed, has_number, holds, inl, inr, is_dead, is_formality, is_numbered, is_same, is_transfer, length, list_any, list_any-append, little_bytes, move_byte, name_of, name_on, nat_eq, nat_lt, next_unit, none_waits, num, numbers_ended, opcode_of, opcodes, option_map, option_to_list, or_parts, order_with, outstanding_of, own_end_with, record_aborted, refl, refusal, row_of, same_is, since, slice_index, stand_in, subst, sym, take, taken_by, taken_number, true, unaborted, without_ends, ℕ, ◌%◌, ◌++◌, ◌/◌, ◌<◌, ◌^◌, ◌∙◌, ◌∷◌, ◌≡◌, ◌≤◌}
+use Rattle.mscp_ported.proofs.Common.{AllByRecursion, Bool, Call, Command, Dies, End, First, Holdings, List, MoveKind, Name, None, Opcode, Option, Order, Port, Record, Settings, Shape, Some, [], aborted_record, ap, append-nil, arith, balance_of, bytes_in, command_of, cond, ends_said_by, eq-eqb, eqb-true, false, false≢true, filter, found_is, fresh_record, handed, has_number, holds, inl, inr, is_dead, is_numbered, is_same, is_transfer, length, list_any, list_any-append, move_byte, name_of, name_on, nat_eq, nat_lt, none_waits, num, numbers_ended, opcode_of, opcodes, option_map, option_to_list, or_parts, order_with, outstanding_of, own_end_with, record_aborted, refl, refusal, row_of, same_is, since, slice_index, stand_in, subst, sym, taken_by, taken_number, true, unaborted, without_ends, ℕ, ◌%◌, ◌++◌, ◌/◌, ◌<◌, ◌^◌, ◌∙◌, ◌∷◌, ◌≡◌, ◌≤◌}
 use Rattle.mscp_packet.specs.declared.class.Opcode.TheVariants as codes
 use Rattle.mscp_packet.specs.declared.command.MoveKind.TheVariants as kinds
 use Rattle.mscp_packet.specs.declared.command.Order.TheVariants as orders
 use Rattle.mscp_ported.proofs.Coming.{ends_of}
+use Rattle.mscp_ported.proofs.Handed.{handed_cases, renamed}
 use Rattle.mscp_ported.proofs.Numbered.{At, AtEach, IsNothing, asked_by, counted_in, ends_numbered, some_none}
 use Rattle.mscp_ported.proofs.Numbering.{aborts, comes_ended, comes_waiting}
 use Rattle.mscp_ported.proofs.Sole.{none_passes}
@@ -66,7 +67,7 @@ stood_in (a ∷ b ∷ c ∷ d ∷ e ∷ f ∷ g ∷ h ∷ rest) long =
     record { number = refl; bytes = omega arith }
 stood_in b long = search (arith, long)
 
-named_next : (b : List ℕ) (n : ℕ) → 12 ≤ length b → IsLikeIt (take 4 b ++ little_bytes 2 n ++ drop 6 b) b
+named_next : (b : List ℕ) (n : ℕ) → 12 ≤ length b → IsLikeIt (renamed b n) b
 named_next (a ∷ b ∷ c ∷ d ∷ e ∷ f ∷ g ∷ h ∷ i ∷ j ∷ k ∷ l ∷ rest) n long = record {
   number = refl;
   bytes = command_few (a ∷ b ∷ c ∷ d ∷ (n % 256) ∷ (n / 256 % 256) ∷ g ∷ h ∷ i ∷ j ∷ k ∷ l ∷ rest);
@@ -74,16 +75,8 @@ named_next (a ∷ b ∷ c ∷ d ∷ e ∷ f ∷ g ∷ h ∷ i ∷ j ∷ k ∷ l 
 named_next b n long = search (arith, long)
 
 pub handed_like : (units : List Shape) (b : List ℕ) → 12 ≤ length b → IsLikeIt (handed units b) b
-handed_like units b long = by (is_formality (slice_index b 8)) (asks_for_next b)
-  where
-    itself : IsLikeIt b b
-    itself = record { number = refl; bytes = command_few b }
-
-    by : (x y : Bool) → IsLikeIt (cond x (stand_in b)
-        (cond y (take 4 b ++ little_bytes 2 (next_unit units (num b 4 2)) ++ drop 6 b) b)) b
-    by true y = stood_in b long
-    by false true = named_next b (next_unit units (num b 4 2)) long
-    by false false = itself
+handed_like units b long = handed_cases (λ x. IsLikeIt x b) units b (λ formal. stood_in b long)
+    (λ plain asks n. named_next b n long) (λ plain. record { number = refl; bytes = command_few b })
 
 -- ---- its number is new
 

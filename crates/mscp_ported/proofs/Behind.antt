@@ -1,8 +1,9 @@
 -- An ABORT stands behind the command that it names.
-use Rattle.mscp_ported.proofs.Common.{Bool, List, None, Opcode, Option, Shape, Some, [], and_parts, ap, arith, asks_for_next, command_of, cond, eq-eqb, eqb-true, false, false≢true, filter, found_is, handed, has_number, is_formality, least, length, list_any, little_bytes, nat_eq, nat_lt, next_unit, not, num, opcode_of, opcodes, order_with, parameters, refl, row_of, slice_index, stand_in, sym, true, ℕ, ◌&&◌, ◌++◌, ◌||◌, ◌∙◌, ◌∷◌, ◌≡◌}
-use Rattle.std.specs.Prelude.{◌≤◌, drop, nat_le, take}
+use Rattle.mscp_ported.proofs.Common.{Bool, List, None, Opcode, Option, Shape, Some, [], and_parts, ap, arith, asks_for_next, command_of, cond, eq-eqb, eqb-true, false, false≢true, filter, found_is, handed, has_number, least, length, list_any, nat_eq, nat_lt, not, num, opcode_of, opcodes, order_with, parameters, refl, row_of, slice_index, stand_in, sym, true, ℕ, ◌&&◌, ◌++◌, ◌||◌, ◌∙◌, ◌∷◌, ◌≡◌}
+use Rattle.std.specs.Prelude.{◌≤◌, nat_le}
 use Rattle.mscp_packet.specs.declared.class.Opcode.TheVariants as codes
 use Rattle.mscp_packet.specs.declared.command.Order.TheVariants as orders
+use Rattle.mscp_ported.proofs.Handed.{handed_cases, renamed, renamed_byte}
 use Rattle.mscp_ported.proofs.Numbered.{other_number, some_none}
 
 -- ---- the messages
@@ -161,30 +162,18 @@ unfolding command_of
 no_abort (a ∷ b ∷ c ∷ d ∷ e ∷ f ∷ g ∷ h ∷ rest) n long is = search (arith, is)
 no_abort b n long is = search (arith, long)
 
-renamed_opcode : (b : List ℕ) (n : ℕ) → 12 ≤ length b
-    → slice_index (take 4 b ++ little_bytes 2 n
-    ++ drop 6 b) 8 ≡ slice_index b 8
-renamed_opcode (a ∷ b ∷ c ∷ d ∷ e ∷ f ∷ g ∷ h ∷ i ∷ j ∷ k ∷ l ∷ rest) n long = refl
-renamed_opcode b n long = absurd (search (arith, long))
-
 pub handed_abort : (units : List Shape) (b : List ℕ) (n : ℕ) → 12 ≤ length b
     → (command_of (handed units b)).order ≡ orders.Abort n → AsksAbort n b
-handed_abort units b n long e = by (is_formality (slice_index b 8)) (asks_for_next b) refl e
+handed_abort units b n long e = handed_cases (λ x. (command_of x).order ≡ orders.Abort n → AsksAbort n b) units b
+    (λ formal h. absurd (no_abort b n long h))
+    (λ plain asks m h. absurd (search (
+      arith,
+      sym (third asks) ∙ sym (renamed_byte b m long) ∙ (abort_command (renamed b m) n h).opcode,
+    )))
+    (λ plain h. abort_command b n h) e
   where
     third : asks_for_next b ≡ true → slice_index b 8 ≡ 3
     third h = eqb-true (slice_index b 8) 3 (and_parts (nat_eq (slice_index b 8) 3) _ h).0
-
-    by : (x y : Bool) → asks_for_next b ≡ y → (command_of (cond x (stand_in b)
-        (cond y (take 4 b ++ little_bytes 2
-        (next_unit units (num b 4 2)) ++ drop 6 b) b))).order ≡ orders.Abort n
-        → AsksAbort n b
-    by true y is h = absurd (no_abort b n long h)
-    by false true is h = absurd (search (
-      arith,
-      sym (third is) ∙ sym (renamed_opcode b (next_unit units (num b 4 2)) long)
-          ∙ (abort_command _ n h).opcode,
-    ))
-    by false false is h = abort_command b n h
 
 -- it is one of its own number
 pub is_abort_of : (n : ℕ) (b : List ℕ) → AsksAbort n b → is_abort n (num b 0 4) b ≡ true

@@ -1,7 +1,8 @@
 -- Each end goes out with what was decided of it as it came.
-use Rattle.mscp_ported.proofs.Common.{Answered, AnsweredCalls, Bool, Call, ControllersKeepThePromise, Dies, End, Err, First, Hardware, Holdings, IsAlive, IsMadeOf, IsValid, KeepsPromise, Leaving, List, Made, Next, None, Ok, Option, Outcome, Outgoing, Picking, Port, Settings, Shape, Some, Stage, Verdict, WasRead, Went, WriteIp, [], answer_left, ap, append-nil, arith, block_begun, blocks, came, came_by, come, cond, end_text, ends_begun, ends_said, ends_said_by, false, fresh, inl, inr, is_dead, length, map, of, refl, since, step_left, subst, sym, true, verdict_in, ℕ, ◌++◌, ◌∙◌, ◌∷◌, ◌≡◌, ◌≤◌}
+use Rattle.mscp_ported.proofs.Common.{Answered, AnsweredCalls, Bool, Call, ControllersKeepThePromise, Dies, End, Err, First, Hardware, Holdings, IsMadeOf, IsValid, KeepsPromise, Leaving, List, Made, Next, None, Ok, Option, Outcome, Outgoing, Picking, Port, Settings, Shape, Some, Stage, Verdict, WasRead, Went, WriteIp, [], answer_left, ap, append-nil, arith, block_begun, blocks, came, came_by, come, cond, end_text, ends_begun, ends_said, ends_said_by, false, fresh, inl, inr, is_dead, length, map, of, refl, since, step_left, subst, sym, true, verdict_in, ℕ, ◌++◌, ◌∙◌, ◌∷◌, ◌≡◌, ◌≤◌}
 use Rattle.mscp_port.specs.declared.stage.Stage.TheVariants as stages
 use Rattle.mscp_ported.proofs.Coming.{ends_of, few_ends}
+use Rattle.mscp_ported.proofs.Deeds.{is_alive}
 use Rattle.mscp_ported.proofs.Ending.{Ends, Grows, grows, left_with, none_come, none_left, stays, zip_ends, zipped}
 use Rattle.mscp_ported.proofs.Leaving.{goes_out}
 use Rattle.mscp_ported.proofs.Reading.{answer_grows, heard_same, read_is}
@@ -30,13 +31,6 @@ passive_came call old new is = refl
 pub passive_said : {K : Type 0} (call : Call) (old new : Port K) → IsPassive call → ends_said_by call old new ≡ []
 passive_said (Next blocks action bytes) old new is = absurd is
 passive_said call old new is = refl
-
-pub is_alive : {K : Type 0} (p : Port K) → IsAlive p → is_dead p.stage ≡ false
-is_alive p alive = by p.stage refl
-  where
-    by : (s : Stage) → p.stage ≡ s → is_dead p.stage ≡ false
-    by (stages.Dead code) e = absurd (alive code e)
-    by s e = ap is_dead e
 
 -- what is kept of the ends, and the hardware
 pub record Whole {K : Type 0} (h : Hardware) (units : List Shape) (p : Port K) (xs : List Leaving) (ys : List (List ℕ))

@@ -1,6 +1,6 @@
 -- Each call of a port deals with one thing at most, over a whole list of calls.
 use Rattle.mscp_ported.proofs.Numbered.{At, ends_numbered}
-use Rattle.mscp_ported.proofs.Common.{All, All-drop, All-head, Answered, AnsweredCalls, Becomes, Bool, Call, ControllersKeepThePromise, Deals, End, Err, First, Hardware, Holdings, IsMadeOf, IsOfKind, IsValid, KeepsPromise, List, Made, Next, Ok, Picking, Port, ReadIp, ReadsBytes, Record, Settings, Some, Stage, WasRead, Went, WriteIp, WriteSa, [], ap, arith, awaited, blocks, ends, false, fresh, history, inl, is_dead, is_numbered, none-some, numbers, numbers_ended, of, outstanding_of, refl, same_Some, slice_get, slice_index, subst, sym, true, untaken, waiting_on, ℕ, ◌*◌, ◌++◌, ◌+◌, ◌<◌, ◌^◌, ◌∙◌, ◌∷◌, ◌≡◌, ◌≢◌}
+use Rattle.mscp_ported.proofs.Common.{All, All-drop, All-head, Answered, AnsweredCalls, Becomes, Bool, Call, ControllersKeepThePromise, Deals, End, Err, First, Hardware, Holdings, IsMadeOf, IsOfKind, IsValid, KeepsPromise, List, Made, Next, Ok, Picking, Port, ReadIp, ReadsBytes, Record, Settings, Some, Stage, WasRead, Went, WriteIp, WriteSa, [], ap, arith, awaited, blocks, ends, false, fresh, history, inl, is_dead, is_numbered, none-some, numbers, numbers_ended, of, outstanding_of, refl, same_Some, slice_get, slice_index, subst, sym, true, untaken, waiting_on, ℕ, ◌*◌, ◌+◌, ◌<◌, ◌^◌, ◌∙◌, ◌∷◌, ◌≡◌, ◌≢◌}
 use Rattle.mscp_ported.proofs.Minor.{GivesUp, Minor, Mounts, PutsAside, ReadsAgain, Still, minor}
 use Rattle.std.specs.Prelude.{filter}
 use Rattle.mscp_port.specs.declared.stage.Stage.TheVariants as stages
@@ -10,6 +10,7 @@ use Rattle.mscp_ported.proofs.Coming.{ends_of}
 use Rattle.mscp_ported.proofs.Dealing.{next_deals, next_so, passive_deals, passive_taken, read_deals, went_deals}
 use Rattle.mscp_ported.proofs.Decided.{passive_said}
 use Rattle.mscp_ported.proofs.Promised.{knows}
+pub use Rattle.mscp_ported.proofs.Sole.{nothing_two}
 use Rattle.mscp_ported.proofs.Staying.{IsPassive, passive_stays}
 
 -- ---- a fatal error stays
@@ -56,10 +57,6 @@ module _ {K : Type 0} (picks : Picking K) (old new : Port K) where
       by true e = search (arith, dead_on call never r e, lives)
 
 -- ---- at the start
-
-pub nothing_two : {X : Type 0} (xs ys : List X) → xs ++ ys ≡ [] → (xs ≡ []) × (ys ≡ [])
-nothing_two [] ys e = (refl, e)
-nothing_two (x ∷ xs) ys e = absurd (search (arith, e))
 
 pub no_ends : (es : List End) → numbers_ended es ≡ [] → es ≡ []
 no_ends [] e = refl

@@ -7,9 +7,10 @@ use Rattle.mscp_port.specs.declared.task.Task.TheVariants as tasks
 use Rattle.mscp_ported.specs.Talk.{done_by}
 use Rattle.mscp_ported.proofs.After.{After, same_stage}
 use Rattle.mscp_ported.proofs.Look.{AreTold, Fits, HasLeft, IsAsked, IsClear, IsOfRings, IsOwned, IsPacketOut, IsTelling, Look, NeedsOut, in_hand, left_all, left_quiet, look, quiet_left, slot_at}
+use Rattle.mscp_ported.proofs.Deeds.{done_or_not}
 use Rattle.mscp_ported.proofs.Hearing.{up_step}
 use Rattle.mscp_ported.proofs.Counting.{slots_so, address_mod, left_more, one_more, tell_more}
-use Rattle.mscp_ported.proofs.Acting.{IsReported, alive, dead_so, goes_on, is_done, quiet_of, same_said, told_so, up_of, write_one}
+use Rattle.mscp_ported.proofs.Acting.{IsReported, alive, dead_so, goes_on, quiet_of, same_said, told_so, up_of, write_one}
 
 -- ---- packets
 
@@ -47,7 +48,7 @@ module _ {K : Type 0} {picks : List Choice → ℕ → Type 0} {old new : Port K
   -- ---- slots
 
   pub packet_so : (slot : Descriptor) → old.task ≡ tasks.Packet slot → So
-  packet_so slot at = elim (is_done going) [
+  packet_so slot at = elim (done_or_not outcome) [
     | inl is ↦ done_so (old.untold - (credits_with old.untold old.outgoing - 1)) refl
         (ap look (((r.acts refl).packet slot at).done is))
     | inr never ↦ dead_so going 2 (((r.acts refl).packet slot at).missing never)
@@ -292,11 +293,11 @@ module _ {K : Type 0} {picks : List Choice → ℕ → Type 0} {old new : Port K
 
       with_area : (side : Side) (area : Rings) → old.task ≡ tasks.Return side slot → old.rings ≡ Some area
           → GivesBack outcome area side slot old new → So
-      with_area Responses area at some g = elim (is_done going) [
+      with_area Responses area at some g = elim (done_or_not outcome) [
         | inl is ↦ responses_so area some at (ap look (g.done is))
         | inr never ↦ dead_so going 7 (g.missing never)
       ]
-      with_area Commands area at some g = elim (is_done going) [
+      with_area Commands area at some g = elim (done_or_not outcome) [
         | inl is ↦ commands_so area some at (ap look (g.done is))
         | inr never ↦ dead_so going 7 (g.missing never)
       ]

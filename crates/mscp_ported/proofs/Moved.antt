@@ -33,7 +33,7 @@ good_outcome outcome e = search (arith, e)
 
 -- ---- the step that is begun
 
-moved_so : (order : Order) (lbn : Option ℕ) → moved_by order lbn ≡ block_moved order lbn
+pub moved_so : (order : Order) (lbn : Option ℕ) → moved_by order lbn ≡ block_moved order lbn
 moved_so order lbn = grind arith
 
 is_move : (order : Order) (lbn : Option ℕ) (x : MoveKind × ℕ) → block_moved order lbn ≡ Some x

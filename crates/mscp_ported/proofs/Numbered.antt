@@ -42,6 +42,28 @@ At aw rs es n = IsNothing aw rs es n ⊎ Waits aw rs es n ⊎ Ended aw rs es n
 abbrev pub AtEach : List (List ℕ) → List Record → List End → Type 0
 AtEach aw rs es = (n : ℕ) → At aw rs es n
 
+-- the same is there where what has the number is the same
+pub at_same : {aw aw' : List (List ℕ)} {rs rs' : List Record} {es es' : List End} (n : ℕ)
+    → filter (has_number n) aw' ≡ filter (has_number n) aw → filter (is_numbered n) rs' ≡ filter (is_numbered n) rs
+    → filter (ends_numbered n) es' ≡ filter (ends_numbered n) es → At aw rs es n → At aw' rs' es' n
+at_same n texts records ends (inl x) = inl (texts ∙ x.0, records ∙ x.1, ends ∙ x.2)
+at_same n texts records ends (inr (inl w)) = inr (inl (record {
+  text = w.text;
+  own = w.own;
+  message = texts ∙ w.message;
+  sole = records ∙ w.sole;
+  no_end = ends ∙ w.no_end;
+  fits = w.fits;
+}))
+at_same n texts records ends (inr (inr x)) = inr (inr (record {
+  text = x.text;
+  end = x.end;
+  message = texts ∙ x.message;
+  none = records ∙ x.none;
+  sole = ends ∙ x.sole;
+  fits = x.fits;
+}))
+
 -- ---- filters
 
 module _ {X : Type 0} where
@@ -121,23 +143,7 @@ takes_end aw rs e es at n = by (nat_eq e.reference n) refl (at n)
       x.none,
       (first_of_one e x.end (filter (ends_numbered n) es) (sym (here true is) ∙ x.sole)).1,
     )
-    by false is (inl none) = inl (same is ∙ none.0, none.1, sym (here false is) ∙ none.2)
-    by false is (inr (inl w)) = inr (inl (record {
-      text = w.text;
-      own = w.own;
-      message = same is ∙ w.message;
-      sole = w.sole;
-      no_end = sym (here false is) ∙ w.no_end;
-      fits = w.fits;
-    }))
-    by false is (inr (inr x)) = inr (inr (record {
-      text = x.text;
-      end = x.end;
-      message = same is ∙ x.message;
-      none = x.none;
-      sole = sym (here false is) ∙ x.sole;
-      fits = x.fits;
-    }))
+    by false is x = at_same n (same is) refl (sym (here false is)) x
 
 -- and it is that of an awaited message
 pub end_awaited : (aw : List (List ℕ)) (rs : List Record) (e : End) (es : List End) → AtEach aw rs (e ∷ es)

@@ -1,9 +1,9 @@
 -- Calls that report no action: what is in step stays so.
-use Rattle.mscp_ported.proofs.Common.{Call, Idle, IfSome, IsAsNew, IsOfBlock, List, None, Option, Port, Said, Some, Stage, Talk, Task, Turn, Wish, WriteIp, [], ap, arith, aside, false, inl, inr, is_dead, map, message_text, option_to_list, read_again, refl, said_in, silence, step_at, stepped, subst, sym, talk_after, ℕ, ◌++◌, ◌∙◌, ◌≡◌, ◌⊎◌}
+use Rattle.mscp_ported.proofs.Common.{Call, Idle, IfSome, IsAsNew, IsOfBlock, List, None, Option, Port, Said, Some, Stage, Talk, Task, Turn, Wish, WriteIp, [], ap, arith, aside, false, inl, inr, is_dead, map, message_text, option_to_list, read_again, refl, said_in, silence, step_at, stepped, subst, sym, talk_after, ℕ, ◌++◌, ◌∙◌, ◌≡◌, ◌⊎◌, true, ◌≢◌}
 use Rattle.mscp_port.specs.declared.stage.Stage.TheVariants as stages
 use Rattle.mscp_port.specs.declared.task.Task.TheVariants as tasks
 use Rattle.mscp_ported.proofs.After.{After, IsNoReset, IsPlain, ends, unmoved}
-use Rattle.mscp_ported.proofs.Look.{Fits, HasLeft, InStep, IsAsked, IsClear, IsOfRings, IsOpen, IsTelling, IsWide, Look, NeedsOut, has_area, in_hand, look, told_on}
+use Rattle.mscp_ported.proofs.Look.{Fits, HasLeft, InStep, IsAsked, IsClear, IsEnd, IsOfRings, IsOpen, IsOwned, IsSimple, IsTelling, IsWide, Look, NeedsOut, block_rings, has_area, in_hand, look, told_on}
 
 -- ---- all was forgotten
 
@@ -101,32 +101,63 @@ drop_calm task may h = h
 abbrev pub StaysOrDrops : Task → Task → Type 0
 StaysOrDrops before after = (after ≡ before) ⊎ ((after ≡ tasks.Free) × MayDrop before)
 
+-- a task that is not of the rings tells nothing
+pub not_of_rings : (task : Task) → (IsOfRings task → ⊥)
+    → (NeedsOut task → ⊥) × (IsTelling task → ⊥) × ((turn : Turn) → in_hand task turn ≡ [])
+not_of_rings (tasks.Slot side) never = absurd (never tt)
+not_of_rings (tasks.Packet slot) never = absurd (never tt)
+not_of_rings (tasks.Return side slot) never = absurd (never tt)
+not_of_rings task never = ((λ h. h), (λ h. h), λ turn. refl)
+
+-- such a task is in hand now, and nothing else changed but the turn and whether a word waits
+pub retask : (l : Look) (t : Talk) (w v : Option Wish) (said : List Said) (texts : List (List ℕ)) (word : Option ℕ)
+    (task : Task) (turn : Turn) → InStep l t w said texts → IfSome word (λ x. t.answer ≡ x)
+    → Fits (record l { word = word; task = task }) task turn
+    → IfSome v (λ x. IsAsked (record l { word = word; task = task }) task x) → (IsOfRings task → ⊥)
+    → (task ≡ tasks.Interrupt → ⊥) → (IsClear task → l.stage ≡ stages.Clearing) → IsOwned turn
+    → (l.stage ≢ stages.Up → IsSimple turn) → (IsTelling l.task → ⊥) → in_hand l.task t.turn ≡ []
+    → (is_dead l.stage ≡ true → IsEnd (record t { turn = turn }) said texts)
+    → InStep (record l { word = word; task = task }) (record t { turn = turn }) v said texts
+retask l t w v said texts word task turn k answer fits asked no_rings no_step clear own idle calm before ended =
+    let q = not_of_rings task no_rings in record {
+      names = record {
+        first_so = k.names.first_so;
+        second_so = k.names.second_so;
+        answer_so = answer;
+        named_so = k.names.named_so;
+        area = k.names.area;
+        early = k.names.early;
+        wide = k.names.wide;
+      };
+      counts = k.counts;
+      hand = record {
+        fits = fits;
+        asked = asked;
+        up = λ h. absurd (no_rings h);
+        step = λ e. absurd (no_step e);
+        clear = clear;
+        own = own;
+        idle = idle;
+        wished = λ e h. no_rings (block_rings task h);
+      };
+      speech = record {
+        out = k.speech.out;
+        has = λ h. absurd (q.0 h);
+        tells = told_on l.more l.task task t.turn turn l.outgoing l.untold t.told said calm q.1 k.speech.tells;
+      };
+      hears = ap (λ xs. map message_text t.heard ++ xs) (q.2 turn ∙ sym before) ∙ k.hears;
+      ended = ended;
+    }
+
 pub dropped : (l : Look) (t : Talk) (w : Option Wish) (said : List Said) (texts : List (List ℕ)) (after : Task)
     → StaysOrDrops l.task after → InStep l t w said texts → InStep (record l { task = after }) t w said texts
 dropped l t w said texts after either k = elim either [
   | inl same ↦ subst (λ x. InStep (record l { task = x }) t w said texts) (sym same) k
-  | inr d ↦ subst (λ x. InStep (record l { task = x }) t w said texts) (sym d.0) (record {
-    names = k.names;
-    counts = k.counts;
-    hand = record {
-      fits = drop_open l l.task t.turn d.1 k.hand.fits;
-      asked = none_asked (record l { task = tasks.Free }) w;
-      up = λ h. absurd h;
-      step = λ e. search (arith, e);
-      clear = λ h. absurd h;
-      own = k.hand.own;
-      idle = k.hand.idle;
-      wished = λ e h. h;
-    };
-    speech = record {
-      out = k.speech.out;
-      has = λ h. absurd h;
-      tells = told_on l.more l.task tasks.Free t.turn t.turn l.outgoing l.untold t.told said (drop_calm l.task d.1)
-          (λ h. h) k.speech.tells;
-    };
-    hears = ap (λ xs. map message_text t.heard ++ xs) (sym (drop_hand l.task t.turn d.1)) ∙ k.hears;
-    ended = k.ended;
-  })
+  | inr d ↦ subst (λ x. InStep (record l { task = x }) t w said texts) (sym d.0)
+      (retask l t w w said texts l.word tasks.Free t.turn k k.names.answer_so
+      (drop_open l l.task t.turn d.1 k.hand.fits) (none_asked (record l { task = tasks.Free }) w) (λ h. h)
+      (λ e. search (arith, e)) (λ h. absurd h) k.hand.own k.hand.idle (drop_calm l.task d.1)
+      (drop_hand l.task t.turn d.1) k.ended)
 ]
 
 pub again_so : (task : Task) → StaysOrDrops task (read_again task)

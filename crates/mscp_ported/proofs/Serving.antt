@@ -1,72 +1,20 @@
 -- Whoever always asks for blocks has a step told between two polls of a command that waits.
-use Rattle.mscp_ported.proofs.Common.{Action, Answered, AsksBehindPolls, AsksForBlocks, Becomes, Bool, Call, Commands, Descriptor, End, Err, First, Hardware, Hears, Holdings, IsAsNew, IsMadeOf, IsReadingText, IsServedSince, IsStepping, List, MatchOption, Next, None, Ok, Option, Outgoing, Picking, Port, ReadIp, Record, Responses, Result, SeesText, SendFault, Sends, Sent, ServesBetweenPolls, Side, Some, TakesPoll, Task, TellsStep, Wants, WasRead, Went, WriteIp, WriteSa, [], answered_to, ap, arith, blocks, bytes_read, cond, connection_in, eq-eqb, false, false≢true, figure_of_name, figure_on, header_fault, inl, inr, is_dead, is_owned, is_queued, length, length_in, name_on, none-some, num, own_end_of, read_size, refl, slice_index, subst, sym, takes, true, ℕ, ◌==◌, ◌∙◌, ◌∷◌, ◌≡◌, ◌≢◌, ◌≤◌, ◌⊎◌}
+use Rattle.mscp_ported.proofs.Common.{Action, Answered, AsksBehindPolls, AsksForBlocks, Becomes, Bool, Call, Descriptor, First, Hardware, Hears, Holdings, IsAsNew, IsMadeOf, IsReadingText, IsServedSince, IsStepping, List, Next, Ok, Picking, Port, ReadIp, Record, Sends, Sent, ServesBetweenPolls, TakesPoll, Task, TellsStep, Wants, WasRead, Went, WriteIp, WriteSa, [], ap, arith, blocks, cond, eq-eqb, false, false≢true, figure_of_name, figure_on, inl, inr, is_dead, is_queued, name_on, refl, slice_index, subst, sym, takes, true, ℕ, ◌∙◌, ◌∷◌, ◌≡◌, ◌≢◌, ◌≤◌, ◌⊎◌}
 use Rattle.mscp_ported.proofs.Minor.{GivesUp, Minor, Mounts, PutsAside, ReadsAgain, Still, minor}
 use Rattle.mscp_port.specs.declared.stage.Stage.TheVariants as stages
 use Rattle.mscp_port.specs.declared.task.Task.TheVariants as tasks
 use Rattle.mscp_ported.proofs.Answering.{poll_sent}
 use Rattle.mscp_ported.proofs.Ended.{lived}
 use Rattle.mscp_ported.proofs.Reading.{Answers, Queues, read_is}
-use Rattle.mscp_ported.proofs.Decided.{is_alive}
-use Rattle.mscp_ported.proofs.Turning.{IsHearing, text_quiet}
-use Rattle.mscp_ported.proofs.Turns.{IsNoNext, reads_on, wants_hears}
+use Rattle.mscp_ported.proofs.Deeds.{is_alive}
+use Rattle.mscp_ported.proofs.Sights.{IsAnswered, IsFault, IsSent, Seen, Slides, StaysInSlot, sight}
+use Rattle.mscp_ported.proofs.Turns.{IsHearing, IsNoNext, reads_on, text_quiet, wants_hears}
 
 -- ---- a block that is owed stays so until a step is told
 
 sent_owes : {K : Type 0} (slot : Descriptor) (s : Sent) (bytes : List ℕ) (old new : Port K)
     → Sends slot s bytes old new → old.owes_block ≡ true → new.owes_block ≡ true
 sent_owes slot s bytes old new sends owes = grind arith
-
-module _ {K : Type 0} (bytes : List ℕ) (done : Unit) (old new : Port K) (r : Hears bytes old (Ok done) new)
-    (lives : is_dead new.stage ≡ false) (owes : old.owes_block ≡ true) where
-  abbrev So : Type 0
-  So = new.owes_block ≡ true
-
-  same : (x : Port K) → new ≡ x → x.owes_block ≡ old.owes_block → So
-  same x e is = ap (λ (p : Port K). p.owes_block) e ∙ is ∙ owes
-
-  text_owes : (slot : Descriptor) (foreign : Bool) → SeesText slot foreign bytes old new → So
-  text_owes slot foreign sees = by_own (own_end_of old foreign bytes) refl old.outgoing refl
-    where
-      by_sent : (s : Result Sent SendFault) → answered_to old bytes ≡ s → own_end_of old foreign bytes ≡ None → So
-      by_sent (Ok s) e own = sent_owes slot s bytes old new (sees.sent s own e) owes
-      by_sent (Err fault) e own = same _ (sees.waits fault own e) refl
-
-      by_own : (o : Option End) → own_end_of old foreign bytes ≡ o → (out : Option Outgoing) → old.outgoing ≡ out → So
-      by_own None e out is = by_sent (answered_to old bytes) refl e
-      by_own (Some end) e None is = same _ (sees.own (λ n. none-some end (sym n ∙ e)) is).0 refl
-      by_own (Some end) e (Some out) is =
-          same _ (sees.own_waits (λ n. none-some end (sym n ∙ e)) (λ n. none-some out (sym n ∙ is))) refl
-
-  slot_owes : (side : Side) → old.task ≡ tasks.Slot side → So
-  slot_owes Responses at = by (is_owned (num bytes 0 4)) ((r.sees refl).slot Responses at)
-    where
-      by : (b : Bool) → new ≡ cond b (record old { task = tasks.Packet (record { word = num bytes 0 4 }) })
-          (record old { is_full = true; task = tasks.Free }) → So
-      by true e = same _ e refl
-      by false e = same _ e refl
-  slot_owes Commands at = by (is_owned (num bytes 0 4)) ((r.sees refl).slot Commands at)
-    where
-      by : (b : Bool) → new ≡ cond b (record old { task = tasks.Header (record { word = num bytes 0 4 }) })
-          (record old { is_polled = false; task = tasks.Free }) → So
-      by true e = same _ e refl
-      by false e = same _ e refl
-
-  header_owes : (slot : Descriptor) → old.task ≡ tasks.Header slot → So
-  header_owes slot at = by (header_fault (num bytes 0 4)) ((r.sees refl).header slot at)
-    where
-      by : (o : Option ℕ) → MatchOption o (new ≡ record old {
-        task = tasks.Text slot (bytes_read (length_in (num bytes 0 4))) (connection_in (num bytes 0 4) == 2);
-      })
-          (λ code. IsAsNew (stages.Dead code) old new) → So
-      by None e = same _ e refl
-      by (Some code) d = absurd (search (arith, lives, ap is_dead d.stage))
-
-  read_owes : (t : Task) → old.task ≡ t → So
-  read_owes (tasks.Slot side) at = slot_owes side at
-  read_owes (tasks.Neighbour side) at = same _ ((r.sees refl).neighbour side at) refl
-  read_owes (tasks.Header slot) at = header_owes slot at
-  read_owes (tasks.Text slot size foreign) at = text_owes slot foreign ((r.sees refl).text slot size foreign at)
-  read_owes t at = absurd (none-some (length bytes) (sym (ap read_size at) ∙ r.only refl))
 
 module _ {K : Type 0} (picks : Picking K) (old new : Port K) (lives : is_dead new.stage ≡ false)
     (owes : old.owes_block ≡ true) where
@@ -76,13 +24,20 @@ module _ {K : Type 0} (picks : Picking K) (old new : Port K) (lives : is_dead ne
   dies : (code : ℕ) → IsAsNew (stages.Dead code) old new → new.owes_block ≡ true
   dies code d = absurd (search (arith, lives, ap is_dead d.stage))
 
+  read_owes : {bytes : List ℕ} {done : Unit} → Seen bytes done old new → new.owes_block ≡ true
+  read_owes (Slides full polled of kept e) = as_it_was _ e refl
+  read_owes (IsFault code of d) = dies code d
+  read_owes (IsAnswered slot size foreign end at own none e a) = as_it_was _ e refl
+  read_owes (StaysInSlot slot size foreign at why e) = as_it_was _ e refl
+  read_owes {bytes} (IsSent slot size foreign s at own answer e) = sent_owes slot s bytes old new e owes
+
   owes_on : (call : Call) → call ≢ WriteIp → (TellsStep call old → ⊥) → Becomes picks call old new
       → new.owes_block ≡ true
   owes_on WriteIp never none r = absurd (never refl)
   owes_on ReadIp never none r = elim r.frame [ inl e ↦ as_it_was _ e refl | inr d ↦ dies d.0 d.1 ]
   owes_on (WriteSa word) never none r = elim r.frame [ inl e ↦ as_it_was _ e refl | inr d ↦ dies d.0 d.1 ]
   owes_on (Next blocks action bytes) never none r = as_it_was _ r.0.frame refl
-  owes_on (WasRead bytes (Ok done)) never none r = read_owes bytes done old new r lives owes old.task refl
+  owes_on (WasRead bytes (Ok done)) never none r = read_owes (sight bytes done old new r)
   owes_on (Went outcome (Ok done)) never none r = elim r.commands [
     | inl k ↦ k.owes ∙ owes
     | inr more ↦ elim more [ inl block ↦ absurd (none block.0) | inr d ↦ dies d.0 d.1 ]
@@ -133,7 +88,7 @@ polls_so picks (WasRead bytes (Ok done)) old new number takes r =
     record {
       owes = x.0;
       hears = hearing old.task x.1;
-      quiet = text_quiet bytes done old new r x.1;
+      quiet = text_quiet (sight bytes done old new r) x.1;
       lives = alive_read bytes done old new r;
     }
   where

@@ -12,15 +12,15 @@ module _ {X : Type 0} where
   others_in [] = []
   others_in (x ∷ xs) = xs
 
-  nothing : (xs ys : List X) → xs ++ ys ≡ [] → (xs ≡ []) × (ys ≡ [])
-  nothing [] ys e = (refl, e)
-  nothing (x ∷ xs) ys e = search (arith, e)
+  pub nothing_two : (xs ys : List X) → xs ++ ys ≡ [] → (xs ≡ []) × (ys ≡ [])
+  nothing_two [] ys e = (refl, e)
+  nothing_two (x ∷ xs) ys e = search (arith, e)
 
   split : (xs ys : List X) (r : X) → xs ++ ys ≡ r ∷ []
       → ((xs ≡ r ∷ []) × (ys ≡ [])) ⊎ ((xs ≡ []) × (ys ≡ r ∷ []))
   split [] ys r e = inr (refl, e)
   split (x ∷ xs) ys r e =
-      let n = nothing xs ys (ap others_in e) in
+      let n = nothing_two xs ys (ap others_in e) in
       inl (ap (λ zs. x ∷ zs) n.0 ∙ ap (λ z. z ∷ []) (ap (first_in r) e), n.1)
 
   -- the one that passes is this, or another

@@ -4,15 +4,11 @@ use Rattle.mscp_queue.specs.Serving.{IsServable, drives_after}
 use Rattle.mscp_queue.specs.declared.report.Report.TheVariants as reports
 use Rattle.mscp_port.specs.declared.task.Task.TheVariants as tasks
 use Rattle.mscp_ported.proofs.Coming.{brought_for, ends_of, steps_bring}
+pub use Rattle.mscp_ported.proofs.Deeds.{IsHow}
 use Rattle.mscp_ported.proofs.Ending.{Grows}
 use Rattle.mscp_ported.proofs.Leaving.{ended_grows}
 use Rattle.mscp_ported.proofs.Staying.{IsSame, Stays, alike, went_stays}
 use Rattle.mscp_ported.proofs.Tables.{decided_by}
-
--- the step in hand went so
-abbrev pub IsHow : {K : Type 0} → Port K → Outcome → Verdict → Type 0
-IsHow old outcome verdict = (old.task ≡ tasks.Step verdict)
-    ⊎ ((old.task ≡ tasks.Transfer) × (verdict ≡ block_served old outcome (block_begun old)))
 
 abbrev pub drive_in : {K : Type 0} → Port K → ℕ → Drive
 drive_in p place = drive_at p.controller.drives p.controller.waiting place

@@ -1,10 +1,121 @@
 -- Which calls look for a message of a port's host, or read one on.
-use Rattle.mscp_ported.proofs.Common.{Action, Becomes, Bool, Call, Commands, IfSome, IsDue, List, Next, Ok, Picking, Port, ReadIp, Record, Some, Stage, Task, Wants, WasRead, Went, WriteIp, WriteSa, [], ap, arith, aside, block_is_due, blocks, false, false≢true, in_hand, inl, inr, is_dead, length, nat_eq, none-some, none_or_not, not, read_again, refl, step_at, subst, sym, true, up_or_not, ℕ, ◌&&◌, ◌∙◌, ◌∷◌, ◌≡◌, ◌≢◌, ◌⊎◌}
+use Rattle.mscp_ported.proofs.Common.{Action, Becomes, Bool, Call, Choice, Commands, IfSome, IsDue, IsReadingText, List, Next, None, Ok, Option, Outcome, Picking, Port, ReadIp, Record, Responses, Rings, Side, Some, Descriptor, Stage, Task, Wants, WasRead, Went, WriteIp, WriteSa, [], ap, arith, aside, block_is_due, cond, false, false≢true, hears_of, in_hand, inl, inr, is_dead, is_flagged, is_owned, length, nat_eq, none-some, none_or_not, not, num, read_again, refl, slots_of, step_again, step_at, subst, sym, taken_or_not, true, up_or_not, ℕ, ◌&&◌, ◌==◌, ◌∙◌, ◌∷◌, ◌≡◌, ◌⊎◌, ◌≢◌}
+use Rattle.mscp_ported.proofs.Deeds.{Deed, Eases, Fails, GivesSlot, IsNewStep, ServesStep, StepsOn, WritesPacket, deed}
 use Rattle.mscp_ported.proofs.Minor.{GivesUp, Minor, Mounts, PutsAside, ReadsAgain, Still, minor}
+use Rattle.mscp_ported.proofs.Sights.{IsAnswered, IsFault, IsSent, IsSlide, Seen, Slides, StaysInSlot, sight, task_read}
+use Rattle.mscp_ported.proofs.Touching.{Breaks, IsStage, IsWord, Polls, ToClear, Touched, Untouched, read_ip, wrote_sa}
+use Rattle.mscp_ported.proofs.Wanting.{alive_or_dead}
 use Rattle.mscp_port.specs.declared.stage.Stage.TheVariants as stages
 use Rattle.mscp_port.specs.declared.task.Task.TheVariants as tasks
-use Rattle.mscp_ported.proofs.Turning.{IsHearing, ReadsOn, again, anew, as_before, forgets, no_more, put, read_on, went_quiet}
-use Rattle.mscp_ported.proofs.Wanting.{alive_or_dead}
+
+-- a message is looked for, or read
+abbrev pub IsHearing : Task → Type 0
+IsHearing (tasks.Slot Commands) = Unit {0}
+IsHearing (tasks.Header slot) = Unit {0}
+IsHearing (tasks.Text slot size foreign) = Unit {0}
+IsHearing task = ⊥
+
+-- a message is read on, and nothing else came meanwhile
+pub record ReadsOn {K : Type 0} (old new : Port K) : Type 0 where
+  pub hears : IsHearing old.task
+  pub controller : new.controller ≡ old.controller
+  pub outgoing : new.outgoing ≡ old.outgoing
+  pub owes : new.owes_block ≡ old.owes_block
+
+-- ---- what is in hand
+
+again : (t : Task) → IsHearing (read_again t) → IsHearing t
+again (tasks.Slot side) h = absurd h
+again t h = h
+
+put : (t : Task) → IsHearing (aside t) → IsHearing t
+put tasks.Transfer h = absurd h
+put t h = h
+
+anew : (o : Option ℕ) (t : Task) → IsHearing (step_at o t) → IsHearing t
+anew None t h = h
+anew (Some place) t h = by t h
+  where
+    by : (t : Task) → IsHearing (step_again t) → IsHearing t
+    by (tasks.Step verdict) h = absurd h
+    by tasks.Transfer h = absurd h
+    by t h = h
+
+step_quiet : (t : Task) → IsNewStep t → IsHearing t → ⊥
+step_quiet (tasks.Slot side) calm h = calm
+step_quiet (tasks.Header slot) calm h = calm
+step_quiet (tasks.Text slot size foreign) calm h = calm
+step_quiet t calm h = h
+
+hears_quiet : (area : Rings) (side : Side) (slot : Descriptor) → IsHearing (hears_of area side slot) → ⊥
+hears_quiet area side slot = by (not (is_flagged slot.word)) (slots_of area side == 1)
+  where
+    by : (b c : Bool) → IsHearing (cond b tasks.Free (cond c (tasks.Word side) (tasks.Neighbour side))) → ⊥
+    by true c h = h
+    by false true h = h
+    by false false h = h
+
+-- what was read is a slot that a message may lie in, or its header
+slide_hears : (bytes : List ℕ) (t : Task) → IsHearing (task_read bytes t) → IsHearing t
+slide_hears bytes (tasks.Slot Responses) = by (is_owned (num bytes 0 4))
+  where
+    by : (b : Bool) → IsHearing (cond b (tasks.Packet (record { word = num bytes 0 4 })) tasks.Free) → ⊥
+    by true h = h
+    by false h = h
+slide_hears bytes (tasks.Neighbour side) = by (is_owned (num bytes 0 4))
+  where
+    by : (b : Bool) → IsHearing (cond b (tasks.Word side) tasks.Free) → ⊥
+    by true h = h
+    by false h = h
+slide_hears bytes (tasks.Slot Commands) = λ h. tt
+slide_hears bytes (tasks.Header slot) = λ h. tt
+slide_hears bytes t = λ h. h
+
+slide_text : (t : Task) → IsSlide t → IsReadingText t → ⊥
+slide_text (tasks.Text slot size foreign) of reading = of
+slide_text t of reading = reading
+
+never : {K : Type 0} {new : Port K} (x : Port K) → new ≡ x → (IsHearing x.task → ⊥) → IsHearing new.task → ⊥
+never {K} x e f h = f (subst (λ (p : Port K). IsHearing p.task) e h)
+
+forgets : (t : Task) → t ≡ tasks.Free → IsHearing t → ⊥
+forgets t e h = subst (λ x. IsHearing x) e h
+
+module _ {K : Type 0} {old new : Port K} where
+  on : (x : Port K) → new ≡ x → (IsHearing x.task → IsHearing old.task) → x.controller ≡ old.controller
+      → x.outgoing ≡ old.outgoing → x.owes_block ≡ old.owes_block → IsHearing new.task → ReadsOn old new
+  on x e back controller outgoing owes h = record {
+    hears = back (subst (λ (p : Port K). IsHearing p.task) e h);
+    controller = ap (λ (p : Port K). p.controller) e ∙ controller;
+    outgoing = ap (λ (p : Port K). p.outgoing) e ∙ outgoing;
+    owes = ap (λ (p : Port K). p.owes_block) e ∙ owes;
+  }
+
+  -- behind a text no other is looked for at once
+  pub text_quiet : {bytes : List ℕ} {done : Unit} → Seen bytes done old new → IsReadingText old.task
+      → IsHearing new.task → ⊥
+  text_quiet (Slides full polled of kept e) reading h = slide_text old.task of reading
+  text_quiet (IsFault code of d) reading h = forgets new.task d.task h
+  text_quiet (IsAnswered slot size foreign end at own none e a) reading h = never _ e (λ x. x) h
+  text_quiet (StaysInSlot slot size foreign at why e) reading h = never _ e (λ x. x) h
+  text_quiet (IsSent slot size foreign s at own answer e) reading h = never _ e.frame (λ x. x) h
+
+  read_on : {bytes : List ℕ} {done : Unit} → Seen bytes done old new → IsHearing new.task → ReadsOn old new
+  read_on {bytes} (Slides full polled of kept e) h = on _ e (slide_hears bytes old.task) refl refl refl h
+  read_on (IsFault code of d) h = absurd (forgets new.task d.task h)
+  read_on (IsAnswered slot size foreign end at own none e a) h = absurd (never _ e (λ x. x) h)
+  read_on (StaysInSlot slot size foreign at why e) h = absurd (never _ e (λ x. x) h)
+  read_on (IsSent slot size foreign s at own answer e) h = absurd (never _ e.frame (λ x. x) h)
+
+  went_quiet : {picks : List Choice → ℕ → Type 0} {outcome : Outcome} → Deed picks outcome old new
+      → IsHearing new.task → ⊥
+  went_quiet (Fails code d) h = forgets new.task d.task h
+  went_quiet (Eases after eased calm e) h = never _ e (step_quiet after calm) h
+  went_quiet (StepsOn frame lives calm why) h = step_quiet new.task calm h
+  went_quiet (WritesPacket slot untold at e) h = never _ e (λ x. x) h
+  went_quiet (GivesSlot side slot area at e) h = never _ e (hears_quiet area side slot) h
+  went_quiet {picks} (ServesStep verdict how takes) h = elim (taken_or_not picks old new (verdict, takes))
+      [ inl e ↦ never _ e (λ x. x) h | inr t ↦ never _ t.2.finished.2.frame (λ x. x) h ]
 
 -- ---- what is wanted
 
@@ -87,46 +198,27 @@ IsNoNext (Next blocks action bytes) = ⊥
 IsNoNext call = Unit {0}
 
 module _ {K : Type 0} (picks : Picking K) (old new : Port K) where
-  volume_on : (task : Task) → new.controller ≡ old.controller → new.owes_block ≡ old.owes_block → new.task ≡ task
-      → (IsHearing task → IsHearing old.task) → IsHearing new.task → ReadsOn old new
-  volume_on task controller owes at f h = record {
-    hears = f (subst (λ x. IsHearing x) at h);
-    controller = controller;
-    owes = owes;
-  }
+  touched_on : Touched old new → IsHearing new.task → ReadsOn old new
+  touched_on (Untouched e) = on _ e (λ h. h) refl refl refl
+  touched_on (Polls up e) = on _ e (again old.task) refl refl refl
+  touched_on (ToClear late e) = on _ e (λ h. absurd h) refl refl refl
+  touched_on (IsWord word early e) = on _ e (λ h. h) refl refl refl
+  touched_on (IsStage s late lives e) = on _ e (λ h. h) refl refl refl
+  touched_on (Breaks code d) = λ h. absurd (forgets new.task d.task h)
 
   pub reads_on : (call : Call) → IsNoNext call → Becomes picks call old new → IsHearing new.task → ReadsOn old new
-  reads_on WriteIp none r = (forgets old new stages.First r)
-  reads_on ReadIp none r = (elim r.hand [
-    | inl l ↦ elim r.frame [
-      | inl e ↦ volume_on old.task (ap (λ (p : Port K). p.controller) e) (ap (λ (p : Port K). p.owes_block) e)
-          l.task (λ h. h)
-      | inr d ↦ forgets old new (stages.Dead d.0) d.1
-    ]
-    | inr d ↦ elim d.task
-        [ inl e ↦ no_more old new tasks.Free e (λ h. h) | inr e ↦ no_more old new (tasks.Clear 0) e (λ h. h) ]
-  ])
-  reads_on (WriteSa word) none r = (elim r.hand [
-    | inl l ↦ elim r.frame [
-      | inl e ↦ volume_on old.task (ap (λ (p : Port K). p.controller) e) (ap (λ (p : Port K). p.owes_block) e)
-          l.task (λ h. h)
-      | inr d ↦ forgets old new (stages.Dead d.0) d.1
-    ]
-    | inr d ↦ elim d.task
-        [ inl e ↦ no_more old new tasks.Free e (λ h. h) | inr e ↦ no_more old new (tasks.Clear 0) e (λ h. h) ]
-  ])
+  reads_on WriteIp none r = λ h. absurd (forgets new.task r.task h)
+  reads_on ReadIp none r = touched_on (read_ip old new r)
+  reads_on (WriteSa word) none r = touched_on (wrote_sa word old new r)
   reads_on (Next blocks action bytes) none r = absurd none
-  reads_on (WasRead bytes (Ok done)) none r = (read_on bytes done old new r old.task refl)
+  reads_on (WasRead bytes (Ok done)) none r = read_on (sight bytes done old new r)
   reads_on (Went outcome (Ok done)) none r =
-      (went_quiet (picks old.controller.picker) outcome done old new r old.task refl)
+      λ h. absurd (went_quiet (deed (picks old.controller.picker) outcome done old new r) h)
   reads_on call none r = by (minor picks call old new r tt)
     where
       by : Minor old new → IsHearing new.task → ReadsOn old new
-      by (Still e) = as_before old new e
-      by (PutsAside e) = volume_on (aside old.task) (ap (λ (p : Port K). p.controller) e)
-          (ap (λ (p : Port K). p.owes_block) e) (ap (λ (p : Port K). p.task) e) (put old.task)
-      by (ReadsAgain left e) = volume_on (read_again old.task) (ap (λ (p : Port K). p.controller) e)
-          (ap (λ (p : Port K). p.owes_block) e) (ap (λ (p : Port K). p.task) e) (again old.task)
-      by (Mounts becomes place e) = volume_on (step_at place old.task) (ap (λ (p : Port K). p.controller) e)
-          (ap (λ (p : Port K). p.owes_block) e) (ap (λ (p : Port K). p.task) e) (anew place old.task)
-      by (GivesUp d) = forgets old new (stages.Dead 9) d
+      by (Still e) = on _ e (λ h. h) refl refl refl
+      by (PutsAside e) = on _ e (put old.task) refl refl refl
+      by (ReadsAgain left e) = on _ e (again old.task) refl refl refl
+      by (Mounts becomes place e) = on _ e (anew place old.task) refl refl refl
+      by (GivesUp d) = λ h. absurd (forgets new.task d.task h)
