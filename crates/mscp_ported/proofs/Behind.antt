@@ -21,68 +21,30 @@ aborts_behind n m (t ∷ ts) = cond (has_number n t) (list_any (is_abort n m) ts
 module _ {X : Type 0} (f : X → Bool) where
   pub any_more : (xs ys : List X) → list_any f xs ≡ true → list_any f (xs ++ ys) ≡ true
   any_more [] ys e = absurd (false≢true e)
-  any_more (x ∷ xs) ys e = by (f x) e (any_more xs ys)
-    where
-      by : (b : Bool) → (b || list_any f xs) ≡ true
-          → (list_any f xs ≡ true → list_any f (xs ++ ys) ≡ true)
-          → (b || list_any f (xs ++ ys)) ≡ true
-      by true h rest = refl
-      by false h rest = rest h
+  any_more (x ∷ xs) ys e = grind (arith, any_more xs ys)
 
   pub any_last : (xs : List X) (x : X) → f x ≡ true → list_any f (xs ++ x ∷ []) ≡ true
   any_last [] x e = ap (λ b. (b || false)) e
-  any_last (y ∷ xs) x e = by (f y) (any_last xs x e)
-    where
-      by : (b : Bool) → list_any f (xs ++ x ∷ []) ≡ true
-          → (b || list_any f (xs ++ x ∷ [])) ≡ true
-      by true h = refl
-      by false h = h
+  any_last (y ∷ xs) x e = grind (arith, any_last xs x e)
 
   any_left : (keep : X → Bool) → ((x : X) → f x ≡ true → keep x ≡ true) → (xs : List X) → list_any f xs ≡ true
       → list_any f (filter keep xs) ≡ true
   any_left keep kept [] e = e
-  any_left keep kept (x ∷ xs) e = by (f x) refl (keep x) refl e (any_left keep kept xs)
-    where
-      by : (b : Bool) → f x ≡ b → (c : Bool) → keep x ≡ c → (b || list_any f xs) ≡ true
-          → (list_any f xs ≡ true → list_any f (filter keep xs) ≡ true)
-          → list_any f (cond c (x ∷ filter keep xs) (filter keep xs)) ≡ true
-      by true is true k h rest = ap (λ b. (b || list_any f (filter keep xs))) is
-      by true is false k h rest = absurd (false≢true (sym k ∙ kept x is))
-      by false is true k h rest =
-          ap (λ b. (b || list_any f (filter keep xs))) is ∙ rest h
-      by false is false k h rest = rest h
+  any_left keep kept (x ∷ xs) e = grind (arith, any_left keep kept xs, kept x, false≢true)
 
   pub any_none : (xs : List X) → filter f xs ≡ [] → list_any f xs ≡ true → ⊥
   any_none [] none e = false≢true e
-  any_none (x ∷ xs) none e = by (f x) none e (any_none xs)
-    where
-      by : (b : Bool) → cond b (x ∷ filter f xs) (filter f xs) ≡ []
-          → (b || list_any f xs) ≡ true
-          → (filter f xs ≡ [] → list_any f xs ≡ true → ⊥) → ⊥
-      by true h k rest = some_none x (filter f xs) h
-      by false h k rest = rest h k
+  any_none (x ∷ xs) none e = grind (arith, any_none xs)
 
 module _ (n m : ℕ) where
   pub aborts_more : (ts us : List (List ℕ)) → aborts_behind n m ts ≡ true → aborts_behind n m (ts ++ us) ≡ true
   aborts_more [] us e = absurd (false≢true e)
-  aborts_more (t ∷ ts) us e = by (has_number n t) e (aborts_more ts us)
-    where
-      by : (b : Bool) → cond b (list_any (is_abort n m) ts) (aborts_behind n m ts) ≡ true
-          → (aborts_behind n m ts ≡ true → aborts_behind n m (ts ++ us) ≡ true)
-          → cond b (list_any (is_abort n m) (ts ++ us)) (aborts_behind n m (ts ++ us)) ≡ true
-      by true h rest = any_more (is_abort n m) ts us h
-      by false h rest = rest h
+  aborts_more (t ∷ ts) us e = grind (arith, aborts_more ts us, any_more (is_abort n m) ts us)
 
   pub aborts_come : (ts : List (List ℕ)) (x t : List ℕ) → filter (has_number n) ts ≡ x ∷ [] → is_abort n m t ≡ true
       → aborts_behind n m (ts ++ t ∷ []) ≡ true
   aborts_come [] x t e is = absurd (some_none x [] (sym e))
-  aborts_come (y ∷ ts) x t e is = by (has_number n y) e (λ h. aborts_come ts x t h is)
-    where
-      by : (b : Bool) → cond b (y ∷ filter (has_number n) ts) (filter (has_number n) ts) ≡ x ∷ []
-          → (filter (has_number n) ts ≡ x ∷ [] → aborts_behind n m (ts ++ t ∷ []) ≡ true)
-          → cond b (list_any (is_abort n m) (ts ++ t ∷ [])) (aborts_behind n m (ts ++ t ∷ [])) ≡ true
-      by true h rest = any_last (is_abort n m) ts t is
-      by false h rest = rest h
+  aborts_come (y ∷ ts) x t e is = grind (arith, aborts_come ts x t, any_last (is_abort n m) ts t is)
 
   pub aborts_left : (k : ℕ) → nat_eq k n ≡ false → nat_eq k m ≡ false → (ts : List (List ℕ))
       → aborts_behind n m ts ≡ true → aborts_behind n m (filter (λ t. not (has_number k t)) ts) ≡ true

@@ -275,13 +275,7 @@ taken_kept aw rs bs m kept n = by (nat_eq m n) refl
 split_length : {X : Type 0} (f : X → Bool) (xs : List X)
     → length xs ≡ length (filter f xs) + length (filter (λ x. not (f x)) xs)
 split_length f [] = refl
-split_length f (x ∷ xs) = by (f x) (split_length f xs)
-  where
-    by : (c : Bool) → length xs ≡ length (filter f xs) + length (filter (λ x. not (f x)) xs)
-        → suc (length xs) ≡ length (cond c (x ∷ filter f xs) (filter f xs))
-        + length (cond (not c) (x ∷ filter (λ x. not (f x)) xs) (filter (λ x. not (f x)) xs))
-    by true e = search (arith, e)
-    by false e = search (arith, e)
+split_length f (x ∷ xs) = grind (arith, split_length f xs)
 
 -- as few of each number are as few in all
 few_each : (k : ℕ) (bs : List Buffer) (rs : List Record) → length bs ≤ k

@@ -173,14 +173,7 @@ module _ {K : Type 0} (bytes : List ℕ) (done : Unit) (old new : Port K) (aw : 
 pub one_of : {X : Type 0} (P : X → Type 0) (f : X → Bool) (xs : List X) (x : X) → AllByRecursion P xs
     → filter f xs ≡ x ∷ [] → P x × (f x ≡ true)
 one_of P f [] x all e = search (arith, e)
-one_of {X} P f (y ∷ ys) x all e = by (f y) refl e (λ h. one_of P f ys x all.1 h)
-  where
-    by : (c : Bool) → f y ≡ c → cond c (y ∷ filter f ys) (filter f ys) ≡ x ∷ []
-        → (filter f ys ≡ x ∷ [] → P x × (f x ≡ true)) → P x × (f x ≡ true)
-    by true is h rest =
-        let same : y ≡ x = (Rattle.mscp_ported.proofs.Numbered.first_of_one y x (filter f ys) h).0 in
-        (subst P same all.0, subst (λ z. f z ≡ true) same is)
-    by false is h rest = rest h
+one_of {X} P f (y ∷ ys) x all e = grind (arith, one_of P f ys x all.1, all.0)
 
 head_so : (es : List End) (e : End) → slice_get es 0 ≡ Some e → es ≡ e ∷ drop 1 es
 head_so [] e h = absurd (none-some e h)

@@ -17,12 +17,7 @@ use Rattle.mscp_ported.proofs.Promised.{Knows, knows, pickers_kept}
 pub found_of : (P : ℕ → Type 0) (f : ℕ → Bool) (xs : List ℕ) (x : ℕ) → AllByRecursion P xs → find f xs ≡ Some x
     → P x × (f x ≡ true)
 found_of P f [] x all e = absurd (none-some x e)
-found_of P f (y ∷ ys) x all e = by (f y) refl e (λ h. found_of P f ys x all.1 h)
-  where
-    by : (b : Bool) → f y ≡ b → cond b (Some y) (find f ys) ≡ Some x
-        → (find f ys ≡ Some x → P x × (f x ≡ true)) → P x × (f x ≡ true)
-    by true is h rest = let same = same_Some y x h in (subst P same all.0, subst (λ z. f z ≡ true) same is)
-    by false is h rest = rest h
+found_of P f (y ∷ ys) x all e = grind (arith, found_of P f ys x all.1, all.0)
 
 module _ (c : Settings) (t : Trace) (m : Moment) (right : IsRight c t m.0 m.1) (f : Falling c t m)
     (own : (x : ℕ) → Contains (waiting t) x → figure_of c t (name t x) ≡ figure c t x) (n : Name)

@@ -38,14 +38,7 @@ FitsIn c Told aw l = (t : List ℕ) → filter (has_number l.end.reference) aw �
 decided_both : (code status : ℕ) (e : End) (units : List Shape) (flags : ℕ) (v : Volume)
     → ((end_decided code status e units flags v).code ≡ code)
     × ((end_decided code status e units flags v).status ≡ status)
-decided_both code status e units flags v = by (nat_eq e.code 0x84) (unit_found units e.unit)
-  where
-    by : (c : Bool) (o : Option Shape)
-        → ((cond c (controller_decided code status flags) (found_decided code status o v)).code ≡ code)
-        × ((cond c (controller_decided code status flags) (found_decided code status o v)).status ≡ status)
-    by true o = (refl, refl)
-    by false None = (refl, refl)
-    by false (Some unit) = (refl, refl)
+decided_both code status e units flags v = grind arith
 
 pub decided_code : (code status : ℕ) (e : End) (units : List Shape) (flags : ℕ) (v : Volume)
     → (end_decided code status e units flags v).code ≡ code

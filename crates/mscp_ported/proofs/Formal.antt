@@ -30,26 +30,7 @@ found_unit units n place e = elim (find_cases (λ u. Rattle.std.specs.Prelude.na
 
 -- an access of no bytes isn't refused there
 no_fault : (longest : ℕ) (u : Shape) → 1 ≤ longest → 0 < u.size → range_fault longest 0 0 u ≡ None
-no_fault longest u some size = by (nat_le u.size 0) (nat_lt u.size 0) (nat_lt longest 1) (high u.size size) (low u.size)
-    (enough longest some)
-  where
-    high : (n : ℕ) → 0 < n → nat_le n 0 ≡ false
-    high n h = search (arith, h)
-
-    low : (n : ℕ) → nat_lt n 0 ≡ false
-    low n = search arith
-
-    enough : (n : ℕ) → 1 ≤ n → nat_lt n 1 ≡ false
-    enough n h = search (arith, h)
-
-    by : (a b c : Bool) → a ≡ false → b ≡ false → c ≡ false
-        → cond a (Some Rattle.mscp_drive.specs.Extent.invalid_block)
-        (cond b (Some Rattle.mscp_drive.specs.Extent.invalid_byte_count)
-        (cond c (Some Rattle.mscp_drive.specs.Extent.invalid_byte_count) None)) ≡ None
-    by false false false a b c = refl
-    by true b c a e f = search (arith, a)
-    by false true c a e f = search (arith, e)
-    by false false true a e f = search (arith, f)
+no_fault longest u some size = grind (arith, some, size)
 
 stands_in : (c : Settings) (b : List ℕ) → 12 ≤ length b → move_fault c 0 0 (unit_found c.units (num b 4 2)) ≡ None
     → is_queued c (command_of (stand_in b)) ≡ true

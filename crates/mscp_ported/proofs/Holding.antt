@@ -13,12 +13,7 @@ use Rattle.mscp_ported.proofs.Sole.{found_sole}
 found_mapped : {X Y : Type 0} (f : Y → Bool) (g : X → Y) (xs : List X)
     → find f (map g xs) ≡ option_map g (find (λ x. f (g x)) xs)
 found_mapped f g [] = refl
-found_mapped f g (x ∷ xs) = by (f (g x)) (found_mapped f g xs)
-  where
-    by : (b : Bool) → find f (map g xs) ≡ option_map g (find (λ x. f (g x)) xs)
-        → cond b (Some (g x)) (find f (map g xs)) ≡ option_map g (cond b (Some x) (find (λ x. f (g x)) xs))
-    by true rest = refl
-    by false rest = rest
+found_mapped f g (x ∷ xs) = grind (arith, found_mapped f g xs)
 
 mapped_some : {X Y : Type 0} (g : X → Y) (o : Option X) (y : Y) → option_map g o ≡ Some y → (x : X) × (o ≡ Some x)
 mapped_some g None y e = absurd (none-some y e)
@@ -26,13 +21,7 @@ mapped_some g (Some x) y e = (x, refl)
 
 each_fails : {X : Type 0} (f : X → Bool) (xs : List X) → filter f xs ≡ [] → AllByRecursion (λ x. f x ≡ false) xs
 each_fails f [] e = tt
-each_fails f (x ∷ xs) e = by (f x) refl e (λ h. each_fails f xs h)
-  where
-    by : (b : Bool) → f x ≡ b → cond b (x ∷ filter f xs) (filter f xs) ≡ []
-        → (filter f xs ≡ [] → AllByRecursion (λ x. f x ≡ false) xs)
-        → (f x ≡ false) × AllByRecursion (λ x. f x ≡ false) xs
-    by true is h rest = absurd (some_none x (filter f xs) h)
-    by false is h rest = (is, rest h)
+each_fails f (x ∷ xs) e = grind (arith, each_fails f xs)
 
 -- none waits, and so the figure is 0
 pub no_figure : (budget n : ℕ) (rs : List Record) → filter (is_numbered n) rs ≡ []

@@ -57,12 +57,7 @@ one_ended Second code unit e h = absurd (none_ended code unit [] refl h)
 
 heeded_at : (units : List Shape) (e : End) (o : Option ℕ) → place_heeded units e ≡ o → (place : ℕ) → o ≡ Some place
     → (e.status % 32 ≡ 0) × (place_in units e.unit ≡ Some place)
-heeded_at units e o h place is = by (e.status % 32 == 0) refl (h ∙ is)
-  where
-    by : (b : Bool) → (e.status % 32 == 0) ≡ b → cond b (place_in units e.unit) None ≡ Some place
-        → (e.status % 32 ≡ 0) × (place_in units e.unit ≡ Some place)
-    by true t x = (eqb-true (e.status % 32) 0 t, x)
-    by false t x = absurd (none-some place x)
+heeded_at units e o h place is = grind (arith, eqb-true, none-some)
 
 success_at : (units : List Shape) (e : End) (place : ℕ) → e.status % 32 ≡ 0 → place_in units e.unit ≡ Some place
     → place_heeded units e ≡ Some place
@@ -75,41 +70,10 @@ Mounts code kept v = ((code ≡ 0x89) × (kept ≢ None)) ⊎ ((code ≢ 0x88) �
 
 heeded_mounted : (code : ℕ) (kept : Option Buffer) (v : Volume) → (volume_heeded code kept v).is_mounted ≡ true
     → Mounts code kept v
-heeded_mounted code None v is = by (code == 0x88) refl is
-  where
-    by : (b : Bool) → (code == 0x88) ≡ b
-        → (cond b (record v { is_mounted = false; is_protected_by_host = false }) v).is_mounted ≡ true
-        → Mounts code None v
-    by true e is = absurd (false≢true is)
-    by false e is = inr (λ same. false≢true (sym e ∙ eq-eqb code 0x88 same), is)
-heeded_mounted code (Some b) v is = by (code == 0x88) refl (code == 0x89) refl (code == 0x8A) is
-  where
-    mounted : Volume → Bool
-    mounted x = x.is_mounted
-
-    guarded : (t : Bool) (x : Volume)
-        → mounted (cond t (record x { is_protected_by_host = b.flags / 0x1000 % 2 == 1 }) x) ≡ x.is_mounted
-    guarded true x = refl
-    guarded false x = refl
-
-    by : (c : Bool) → (code == 0x88) ≡ c → (d : Bool) → (code == 0x89) ≡ d → (f : Bool)
-        → (cond c (record v { is_mounted = false; is_protected_by_host = false })
-        (cond d (protected_by b (brought_online v)) (cond f (protected_by b v) v))).is_mounted ≡ true
-        → Mounts code (Some b) v
-    by true e d h f is = absurd (false≢true is)
-    by false e true h f is = inl (eqb-true code 0x89 h, λ none. none-some b (sym none))
-    by false e false h true is = inr (
-      λ same. false≢true (sym e ∙ eq-eqb code 0x88 same),
-      sym (guarded (b.modifiers / 4 % 2 == 1) v) ∙ is,
-    )
-    by false e false h false is = inr (λ same. false≢true (sym e ∙ eq-eqb code 0x88 same), is)
+heeded_mounted code kept v is = grind (arith, eqb-true, eq-eqb, false≢true)
 
 first_kept : (via : Connection) (n : ℕ) (bs : List Buffer) → kept_of via n bs ≢ None → via ≡ First
-first_kept via n bs some = by (kept_of via n bs) refl
-  where
-    by : (o : Option Buffer) → kept_of via n bs ≡ o → via ≡ First
-    by None e = absurd (some e)
-    by (Some b) e = (of_first via n b (kept_found (is_of via n) bs b (position (is_of via n) bs) refl e).1).0
+first_kept via n bs some = grind (arith, of_first, kept_found)
 
 module _ (why because : Type 0) (units : List Shape) (unit place : ℕ) (here : place_in units unit ≡ Some place)
     (bs : List Buffer) (via : Connection) (vs : List Volume)

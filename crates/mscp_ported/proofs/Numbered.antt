@@ -73,33 +73,15 @@ module _ {X : Type 0} where
 
   pub none_stays : (f g : X → Bool) (xs : List X) → filter f xs ≡ [] → filter f (filter g xs) ≡ []
   none_stays f g [] e = refl
-  none_stays f g (x ∷ xs) e = by (g x) (f x) refl e (none_stays f g xs)
-    where
-      by : (c d : Bool) → f x ≡ d → cond d (x ∷ filter f xs) (filter f xs) ≡ []
-          → (filter f xs ≡ [] → filter f (filter g xs) ≡ [])
-          → filter f (cond c (x ∷ filter g xs) (filter g xs)) ≡ []
-      by c true is h rest = absurd (search (arith, h))
-      by true false is h rest = ap (λ b. cond b (x ∷ filter f (filter g xs)) (filter f (filter g xs))) is ∙ rest h
-      by false false is h rest = rest h
+  none_stays f g (x ∷ xs) e = grind (arith, none_stays f g xs)
 
   pub none_of_it : (f : X → Bool) (xs : List X) → filter f (filter (λ x. not (f x)) xs) ≡ []
   none_of_it f [] = refl
-  none_of_it f (x ∷ xs) = by (f x) refl (none_of_it f xs)
-    where
-      by : (c : Bool) → f x ≡ c → filter f (filter (λ x. not (f x)) xs) ≡ []
-          → filter f (cond (not c) (x ∷ filter (λ x. not (f x)) xs) (filter (λ x. not (f x)) xs)) ≡ []
-      by true is rest = rest
-      by false is rest = ap (λ b. cond b (x ∷ filter f (filter (λ x. not (f x)) xs))
-          (filter f (filter (λ x. not (f x)) xs))) is ∙ rest
+  none_of_it f (x ∷ xs) = grind (arith, none_of_it f xs)
 
   pub none_found : (f : X → Bool) (xs : List X) → filter f xs ≡ [] → find f xs ≡ None
   none_found f [] e = refl
-  none_found f (x ∷ xs) e = by (f x) e (none_found f xs)
-    where
-      by : (c : Bool) → cond c (x ∷ filter f xs) (filter f xs) ≡ [] → (filter f xs ≡ [] → find f xs ≡ None)
-          → cond c (Some x) (find f xs) ≡ None
-      by true h rest = absurd (search (arith, h))
-      by false h rest = rest h
+  none_found f (x ∷ xs) e = grind (arith, none_found f xs)
 
   pub first_of_one : (x y : X) (xs : List X) → x ∷ xs ≡ y ∷ [] → (x ≡ y) × (xs ≡ [])
   first_of_one x y xs e = search (arith, e)
@@ -108,11 +90,7 @@ module _ {X : Type 0} where
   some_none x xs e = search (arith, e)
 
 pub other_number : (n m : ℕ) → nat_eq m n ≡ false → (k : ℕ) → nat_eq k n ≡ true → not (nat_eq k m) ≡ true
-other_number n m d k e = by (nat_eq k m) refl
-  where
-    by : (c : Bool) → nat_eq k m ≡ c → not c ≡ true
-    by false h = refl
-    by true h = absurd (false≢true (sym d ∙ eq-eqb m n (sym (eqb-true k m h) ∙ eqb-true k n e)))
+other_number n m d k e = grind (arith, eqb-true, eq-eqb, false≢true)
 
 -- ---- an end is taken
 

@@ -16,14 +16,7 @@ module _ (n : ℕ) (k : Block) (d : Drive) (rs : List Record) (place : ℕ) (ins
   passed_none : (t : ℕ) (xs : List Record) → filter (is_numbered n) xs ≡ []
       → filter (is_numbered n) (map (passed_by t) xs) ≡ []
   passed_none t [] e = refl
-  passed_none t (x ∷ xs) e = by (is_numbered n x) e (passed_none t xs)
-    where
-      by : (c : Bool) → cond c (x ∷ filter (is_numbered n) xs) (filter (is_numbered n) xs) ≡ []
-          → (filter (is_numbered n) xs ≡ [] → filter (is_numbered n) (map (passed_by t) xs) ≡ [])
-          → cond c (passed_by t x ∷ filter (is_numbered n) (map (passed_by t) xs))
-          (filter (is_numbered n) (map (passed_by t) xs)) ≡ []
-      by true h rest = absurd (some_none x _ h)
-      by false h rest = rest h
+  passed_none t (x ∷ xs) e = grind (arith, passed_none t xs)
 
   split : filter (is_numbered n) rs ≡ filter (is_numbered n) (take place rs)
       ++ filter (is_numbered n) (record_at rs place ∷ drop (place + 1) rs)
@@ -99,11 +92,7 @@ other_end n Second o es other = ap (filter (ends_numbered n)) (append-nil es)
 
 pub not_numbered : (n : ℕ) (r : Record) → is_numbered n r ≡ false → r.connection ≡ First
     → nat_eq r.command.reference n ≡ false
-not_numbered n r e first = by (nat_eq r.command.reference n) refl
-  where
-    by : (c : Bool) → nat_eq r.command.reference n ≡ c → c ≡ false
-    by false h = refl
-    by true h = search (arith, e, first, h)
+not_numbered n r e first = grind (arith, e, first)
 
 pub step_serves : (k : Block) (d : Drive) (aw : List (List ℕ)) (rs : List Record) (es : List End) (place : ℕ)
     → place < length rs → AtEach aw rs es

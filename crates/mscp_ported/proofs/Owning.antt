@@ -98,11 +98,7 @@ number_of n r is = let e = same_is (name_of r) (name_on First n) is in
     (ap (λ (x : Name). x.connection) e, ap (λ (x : Name). x.reference) e)
 
 pub apart_numbers : (n m : ℕ) (r : Record) → n ≢ m → is_numbered n r ≡ true → not (is_numbered m r) ≡ true
-apart_numbers n m r ne is = by (is_numbered m r) refl
-  where
-    by : (b : Bool) → is_numbered m r ≡ b → not b ≡ true
-    by false e = refl
-    by true e = absurd (ne (sym (number_of n r is).1 ∙ (number_of m r e).1))
+apart_numbers n m r ne is = grind (arith, number_of)
 
 no_shorter : (m n : ℕ) → m ≤ 12 → 12 ≤ n → nat_lt n m ≡ false
 no_shorter m n short long = search (arith, short, long)

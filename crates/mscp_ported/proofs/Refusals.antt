@@ -41,8 +41,4 @@ none_refused : (short long none : Bool) (o : Option SendFault) → none ≡ true
 none_refused short long none o d e = grind (arith, none-some, d, e)
 
 pub some_balance : (balance : ℕ) (os b : List ℕ) → refusal balance os b ≡ None → 1 ≤ balance
-some_balance balance os b e = by (nat_eq balance 0) refl
-  where
-    by : (z : Bool) → nat_eq balance 0 ≡ z → 1 ≤ balance
-    by false d = search (arith, d)
-    by true d = absurd (none_refused (nat_lt (length b) 12) (nat_lt 64 (length b)) (nat_eq balance 0) _ d e)
+some_balance balance os b e = grind (arith, none-some, e)

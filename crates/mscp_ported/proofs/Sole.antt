@@ -46,31 +46,16 @@ module _ {X : Type 0} where
   -- it is found
   pub found_sole : (f : X → Bool) (xs : List X) (r : X) → filter f xs ≡ r ∷ [] → find f xs ≡ Some r
   found_sole f [] r e = search (arith, e)
-  found_sole f (x ∷ xs) r e = by (f x) (found_sole f xs r) e
-    where
-      by : (c : Bool) → (filter f xs ≡ r ∷ [] → find f xs ≡ Some r)
-          → cond c (x ∷ filter f xs) (filter f xs) ≡ r ∷ [] → cond c (Some x) (find f xs) ≡ Some r
-      by true rest h = ap Some (ap (first_in r) h)
-      by false rest h = rest h
+  found_sole f (x ∷ xs) r e = grind (arith, found_sole f xs r)
 
   pub sole_passes : (f : X → Bool) (xs : List X) (r : X) → filter f xs ≡ r ∷ [] → f r ≡ true
   sole_passes f [] r e = search (arith, e)
-  sole_passes f (x ∷ xs) r e = by (f x) refl (sole_passes f xs r) e
-    where
-      by : (c : Bool) → f x ≡ c → (filter f xs ≡ r ∷ [] → f r ≡ true)
-          → cond c (x ∷ filter f xs) (filter f xs) ≡ r ∷ [] → f r ≡ true
-      by true is rest h = ap f (sym (ap (first_in r) h)) ∙ is
-      by false is rest h = rest h
+  sole_passes f (x ∷ xs) r e = grind (arith, sole_passes f xs r)
 
   -- none passes
   pub none_passes : (f : X → Bool) (xs : List X) → list_any f xs ≡ false → filter f xs ≡ []
   none_passes f [] e = refl
-  none_passes f (x ∷ xs) e = by (f x) (none_passes f xs) e
-    where
-      by : (c : Bool) → (list_any f xs ≡ false → filter f xs ≡ []) → (c || list_any f xs) ≡ false
-          → cond c (x ∷ filter f xs) (filter f xs) ≡ []
-      by true rest h = absurd (false≢true (sym h))
-      by false rest h = rest h
+  none_passes f (x ∷ xs) e = grind (arith, none_passes f xs, false≢true)
 
   -- one more that doesn't pass, or does
   pub sole_beside : (f : X → Bool) (xs : List X) (y r : X) → filter f xs ≡ r ∷ [] → f y ≡ false
@@ -87,14 +72,7 @@ module _ {X : Type 0} where
   pub sole_left : (f g : X → Bool) (xs : List X) → ((x : X) → f x ≡ true → g x ≡ true)
       → filter f (filter g xs) ≡ filter f xs
   sole_left f g [] h = refl
-  sole_left f g (x ∷ xs) h = by (g x) refl (f x) refl (sole_left f g xs h)
-    where
-      by : (c : Bool) → g x ≡ c → (d : Bool) → f x ≡ d → filter f (filter g xs) ≡ filter f xs
-          → filter f (cond c (x ∷ filter g xs) (filter g xs)) ≡ cond d (x ∷ filter f xs) (filter f xs)
-      by true e d k rest = ap (λ b. cond b (x ∷ filter f (filter g xs)) (filter f (filter g xs))) k
-          ∙ ap (λ zs. cond d (x ∷ zs) zs) rest
-      by false e true k rest = absurd (false≢true (sym e ∙ h x k))
-      by false e false k rest = rest
+  sole_left f g (x ∷ xs) h = grind (arith, sole_left f g xs h, h x, false≢true)
 
 -- ---- a step
 
@@ -102,14 +80,7 @@ module _ {X : Type 0} where
 pub found_all : {A : Type 0} (P : A → Type 0) (f : A → Bool) (xs : List A) (x : A) → All P xs → find f xs ≡ Some x
     → P x × (f x ≡ true)
 found_all P f [] x all e = absurd (none-some x e)
-found_all P f (y ∷ ys) x all e = by (f y) refl e (λ h. found_all P f ys x (All-tail P y ys all) h)
-  where
-    by : (b : Bool) → f y ≡ b → cond b (Some y) (find f ys) ≡ Some x
-        → (find f ys ≡ Some x → P x × (f x ≡ true)) → P x × (f x ≡ true)
-    by true is h rest =
-        let same = same_Some y x h in
-        (subst P same (All-head P y ys all), subst (λ z. f z ≡ true) same is)
-    by false is h rest = rest h
+found_all P f (y ∷ ys) x all e = grind (arith, found_all P f ys x (All-tail P y ys all), All-head P y ys all)
 
 -- there is one alone
 pub one_of : (n : ℕ) (rs : List Record) (r s : Record) → filter (is_numbered n) rs ≡ r ∷ []
@@ -130,15 +101,7 @@ itself r = record { connection = refl; command = refl; weight = refl; done = ref
 passed_filter : (n t : ℕ) (rs : List Record)
     → filter (is_numbered n) (map (passed_by t) rs) ≡ map (passed_by t) (filter (is_numbered n) rs)
 passed_filter n t [] = refl
-passed_filter n t (r ∷ rs) = by (is_numbered n r) (passed_filter n t rs)
-  where
-    by : (c : Bool)
-        → filter (is_numbered n) (map (passed_by t) rs) ≡ map (passed_by t) (filter (is_numbered n) rs)
-        → cond c (passed_by t r ∷ filter (is_numbered n) (map (passed_by t) rs))
-        (filter (is_numbered n) (map (passed_by t) rs))
-        ≡ map (passed_by t) (cond c (r ∷ filter (is_numbered n) rs) (filter (is_numbered n) rs))
-    by true rest = ap (λ zs. passed_by t r ∷ zs) rest
-    by false rest = rest
+passed_filter n t (r ∷ rs) = grind (arith, passed_filter n t rs)
 
 module _ (n : ℕ) (k : Block) (d : Drive) (rs : List Record) (place : ℕ) (inside : place < length rs) (r : Record)
     (sole : filter (is_numbered n) rs ≡ r ∷ []) where

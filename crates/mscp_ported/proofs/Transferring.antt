@@ -120,18 +120,10 @@ move_fields b kind count first e = by (opcode_of (slice_index b 8)) refl e
 
 -- the buffer that it names
 buffer_count : (b : List ℕ) (changes : ℕ) → 32 ≤ length b → (buffer_in b changes).count ≡ num b 12 4
-buffer_count b changes h = by (nat_lt (length b) 16) (search (arith, h))
-  where
-    by : (c : Bool) → c ≡ false → cond c 0 (num b 12 4) ≡ num b 12 4
-    by false e = refl
-    by true e = absurd (false≢true (sym e))
+buffer_count b changes h = grind (arith, h)
 
 buffer_address : (b : List ℕ) (changes : ℕ) → 32 ≤ length b → (buffer_in b changes).address ≡ num b 16 4
-buffer_address b changes h = by (nat_lt (length b) 20) (search (arith, h))
-  where
-    by : (c : Bool) → c ≡ false → cond c 0 (num b 16 4) ≡ num b 16 4
-    by false e = refl
-    by true e = absurd (false≢true (sym e))
+buffer_address b changes h = grind (arith, h)
 
 kept_count : (b : Buffer) (bytes : List ℕ) → (changes : ℕ) × (b ≡ buffer_in bytes changes) → 32 ≤ length bytes
     → b.count ≡ num bytes 12 4
@@ -144,21 +136,13 @@ kept_address b bytes kept long = ap (λ (x : Buffer). x.address) kept.1 ∙ buff
 -- ---- a step that goes well
 
 pub no_done : (x y z : Bool) (ws : List Action) → z ≡ false → cond (x && y && z) ws [] ≡ []
-no_done false y z ws e = refl
-no_done true false z ws e = refl
-no_done true true false ws e = refl
-no_done true true true ws e = absurd (false≢true (sym e))
+no_done x y z ws e = grind arith
 
 all_done : (x y z : Bool) (ws : List Action) → x ≡ true → y ≡ true → z ≡ true → cond (x && y && z) ws [] ≡ ws
-all_done true true true ws e f g = refl
-all_done false y z ws e f g = absurd (false≢true e)
-all_done true false z ws e f g = absurd (false≢true f)
-all_done true true false ws e f g = absurd (false≢true g)
+all_done x y z ws e f g = grind arith
 
 pub none_moving : (x y z : Bool) (ws : List Action) → y ≡ false → cond (x && y && z) ws [] ≡ []
-none_moving false y z ws e = refl
-none_moving true false z ws e = refl
-none_moving true true z ws e = absurd (false≢true (sym e))
+none_moving x y z ws e = grind arith
 
 -- a block at the same place
 transfer_same : (kind : MoveKind) (unit n first other at place count all : ℕ) → first ≡ other → at ≡ place

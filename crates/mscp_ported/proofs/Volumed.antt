@@ -13,13 +13,7 @@ use Rattle.mscp_ported.proofs.Wanting.{alive_or_dead}
 -- ---- the block that is wanted
 
 changed_not : (b : Buffer) (v : Volume) → has_changed b v ≡ false → (v.is_there ≡ true) × (b.changes ≡ v.changes)
-changed_not b v e = by v.is_there refl (b.changes == v.changes) refl e
-  where
-    by : (x : Bool) → v.is_there ≡ x → (y : Bool) → (b.changes == v.changes) ≡ y → (not x || not y) ≡ false
-        → (v.is_there ≡ true) × (b.changes ≡ v.changes)
-    by true e true f h = (e, eqb-true b.changes v.changes f)
-    by true e false f h = absurd (false≢true (sym h))
-    by false e y f h = absurd (false≢true (sym h))
+changed_not b v e = grind (arith, eqb-true, false≢true)
 
 -- a part of a buffer is moved only on the volume that was there, with which the unit is online
 part_on : (kind : MoveKind) (block at : ℕ) (b : Buffer) (v : Volume) (part : ℕ × ℕ)
