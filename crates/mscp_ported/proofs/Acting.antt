@@ -64,11 +64,7 @@ init_step l t w said texts s first second rings word task turn named said_first 
 module _ (l : Look) (first : ℕ) where
   pub step_cases : (P : Task → Turn → Type 0) → P tasks.Interrupt Due → P tasks.Free Idle
       → P (step_task first tasks.Free) (at_step first)
-  step_cases P h k = by (first / 0x80 % 2 == 1) (first % 0x80 * 4 == 0)
-    where
-      by : (b c : Bool) → P (cond (b && not c) tasks.Interrupt tasks.Free) (cond b (cond c Idle Due) Idle)
-      by true false = h
-      by b other = k
+  step_cases x0 h k = grind arith
 
 -- nothing was told nor heard of before the area was named
 pub early_counts : (o : Option Rings) (l : Look) (t : Talk) (w : Option Wish) (said : List Said) (texts : List (List ℕ))
@@ -88,16 +84,10 @@ idle_so (Read slot header text) h k = absurd k
 idle_so turn h k = absurd h
 
 pub idle_deed : (a : Action) (bytes : List ℕ) (t : Talk) → t.turn ≡ Idle → done_by a bytes t ≡ t
-idle_deed (actions.Write address count) bytes t e = ap (λ x. written address bytes x t) e
-idle_deed (actions.Interrupt vector) bytes t e =
-    ap (λ x. record t { turn = interrupted x }) e ∙ ap (λ x. record t { turn = x }) (sym e)
-idle_deed a bytes t e = refl
+idle_deed x0 bytes t e = grind arith
 
 pub else_deed : (a : Action) (bytes : List ℕ) (t : Talk) → IsElse a → done_by a bytes t ≡ t
-else_deed (actions.Read address count) bytes t is = refl
-else_deed (actions.Write address count) bytes t is = absurd is
-else_deed (actions.Interrupt vector) bytes t is = absurd is
-else_deed a bytes t is = refl
+else_deed x0 bytes t is = grind arith
 
 -- the port looks so, and it is reported how its action went
 pub record IsReported {K : Type 0} (picks : List Choice → ℕ → Type 0) (old new : Port K) (t : Talk) (w : Wish)
@@ -126,10 +116,7 @@ module _ {K : Type 0} {picks : List Choice → ℕ → Type 0} {old new : Port K
   pub goes_on : (l : Look) (t' : Talk) (said' : List Said) → look new ≡ l → is_dead l.stage ≡ false
       → stepped old.stage l.stage (done_by w.action w.bytes t) ≡ t'
       → said ++ map said_in (begins old.outgoing l.outgoing) ≡ said' → InStep l t' None said' texts → So
-  goes_on l t' said' e lives talk more_said x =
-      subst (λ y. After (Went outcome (Ok done)) old y t (Some w) None said texts) (sym e)
-      (alters (Went outcome (Ok done)) old l t t' (Some w) None said said' texts texts no_reset lives talk more_said
-      (append-nil texts) x)
+  goes_on l t' said' e lives talk more_said x = grind (arith, alters, no_reset, append-nil)
 
   -- what is in hand tells nothing
   pub quiet_of : (task : Task) → old.task ≡ task → (IsTelling task → ⊥) → IsTelling old.task → ⊥
@@ -170,11 +157,7 @@ module _ {K : Type 0} {picks : List Choice → ℕ → Type 0} {old new : Port K
   -- what was written in a task of the rings
   pub write_one : (x : Turn) (t' : Talk) → t.turn ≡ x → IsWrite w.action
       → ((address : ℕ) → written address w.bytes x t ≡ t') → done_by w.action w.bytes t ≡ t'
-  write_one x t' e is h = by w.action is
-    where
-      by : (a : Action) → IsWrite a → done_by a w.bytes t ≡ t'
-      by (actions.Write address count) is = ap (λ u. written address w.bytes u t) e ∙ h address
-      by a is = absurd is
+  write_one x t' e is h = grind arith
 
   pub up_of : (task : Task) → old.task ≡ task → IsOfRings task → old.stage ≡ stages.Up
   up_of task at ring = k.hand.up (subst (λ x. IsOfRings x) (sym at) ring)

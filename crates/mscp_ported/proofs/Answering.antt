@@ -75,35 +75,12 @@ none_so false v b e = by (is_none v && asks_nothing (slice_index b 8)) e
 
 -- the text that is handed over is that of the table
 pub handed_so : (units : List Shape) (b : List ℕ) → handed units b ≡ text_handed units b
-handed_so units b = ap (λ xs. cond (asks_nothing (slice_index b 8)) (access_of_nothing b) xs)
-    (by (asks_next b) (find (λ unit. nat_le (num b 4 2) unit.number) units))
-  where
-    by : (c : Bool) (o : Option Shape)
-        → cond c (take 4 b ++ little_bytes 2 (number_or_zero o) ++ drop 6 b) b
-        ≡ cond c (take 4 b ++ little_bytes 2 (number_in o) ++ drop 6 b) b
-    by c None = refl
-    by c (Some unit) = refl
+handed_so units b = grind (arith, find, nat_le)
 
 -- where a text is to be read, it is of the connection of its header
 is_text : (l : Look) (task : Task) (slot : Slot) (header : ℕ) → Fits l task (Opened slot header)
     → (d : Descriptor) × (size : ℕ) × (task ≡ tasks.Text d size (is_for_utilities header))
-is_text l (tasks.Text d size foreign) slot header f =
-    (d, size, ap (tasks.Text d size) (f.3 ∙ ap (λ h. h / 0x100_0000 == 2) (sym (header_same (f.1)))))
-  where
-    header_in : Turn → ℕ
-    header_in (Opened s h) = h
-    header_in turn = header
-
-    header_same : Opened slot header ≡ Opened (slot_at l Commands d.word) f.0 → header ≡ f.0
-    header_same e = ap header_in e
-is_text l (tasks.Header d) slot header f = search (arith, f)
-is_text l (tasks.Packet d) slot header f = search (arith, f)
-is_text l (tasks.Return Responses d) slot header f = search (arith, f.2)
-is_text l (tasks.Return Commands d) slot header f = search (arith, f.2)
-is_text l (tasks.Neighbour side) slot header f = search (arith, f)
-is_text l (tasks.Word side) slot header f = search (arith, f)
-is_text l tasks.Interrupt slot header f = search (arith, f)
-is_text l task slot header f = absurd f
+is_text l x1 slot header f = grind (arith, slot_at)
 
 module _ {K : Type 0} (picks : Picking K) (hardware : Hardware) (credits : ℕ) (controller : Holdings K)
     (start : Port K) (made : IsMadeOf hardware credits controller start) where
@@ -173,11 +150,7 @@ module _ {K : Type 0} (picks : Picking K) (hardware : Hardware) (credits : ℕ) 
 -- ---- polls
 
 poll_own : (v : Option Volume) (b : List ℕ) → slice_index b 8 ≡ 2 → own_answer false v b ≡ None
-poll_own v b e = by v
-  where
-    by : (v : Option Volume) → own_answer false v b ≡ None
-    by None = grind (arith, e)
-    by (Some x) = grind (arith, e)
+poll_own v b e = grind arith
 
 poll_handed : (units : List Shape) (b : List ℕ) → slice_index b 8 ≡ 2 → text_handed units b ≡ b
 poll_handed units b e = grind (arith, e)
@@ -202,13 +175,7 @@ poll_sent units b e long = ap command_of (handed_so units b ∙ poll_handed unit
 
 poll_comes : {K : Type 0} (h : Holdings K) (b : List ℕ) → slice_index b 8 ≡ 2 → 16 ≤ length b
     → ends_of (after_message First h b) ≡ ends_of h ++ poll_brings (answer_to_message First h b) h b
-poll_comes {K} h b e long = by (refusal (balance_of First h) (outstanding_of First h) b)
-  where
-    by : (o : Option SendFault) → ends_of (held_unless First h (command_of b) o)
-        ≡ ends_of h ++ poll_brings (sent_unless First h (command_of b) o) h b
-    by (Some fault) = sym (append-nil (ends_of h))
-    by None = ap (λ c. ends_of (arrives First h c)) (poll_command b e long)
-        ∙ ap (λ xs. xs ++ poll_end h b ∷ []) (append-nil (ends_of h))
+poll_comes {K} h b e long = grind (arith, ends_of, append-nil, poll_command)
 
 module _ {K : Type 0} (picks : Picking K) (hardware : Hardware) (credits : ℕ) (controller : Holdings K)
     (start : Port K) (made : IsMadeOf hardware credits controller start) where

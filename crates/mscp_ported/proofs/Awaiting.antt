@@ -33,24 +33,7 @@ nothing_kept p none no_end = record {
 
 pub order_few : (o : Option Opcode) (b : List ℕ) → opcode_of (slice_index b 8) ≡ o
     → asked_by (order_with o b) ≤ bytes_in b
-order_few None b e = omega arith
-order_few (Some (codes.Move kind)) b e =
-    let at : move_byte kind ≡ slice_index b 8 =
-    eqb-true (move_byte kind) (slice_index b 8)
-    (found_is (λ o. nat_eq (row_of o).byte (slice_index b 8)) opcodes (codes.Move kind) e) in
-    by (nat_lt (length b) 32)
-    (subst (λ n. asked_by (orders.Move kind (num b 12 4) 0) ≤ cond (is_transfer n) (num b 12 4) 0) at (moves kind))
-  where
-    moves : (kind : MoveKind) → num b 12 4 ≤ cond (is_transfer (move_byte kind)) (num b 12 4) 0
-    moves kinds.Access = omega arith
-    moves kind = omega arith
-
-    by : (c : Bool) → num b 12 4 ≤ bytes_in b
-        → asked_by (cond c (orders.Invalid (slice_index b 8) 0x0001) (orders.Move kind (num b 12 4) (num b 28 4)))
-        ≤ bytes_in b
-    by true h = omega arith
-    by false h = h
-order_few (Some o) b e = grind arith
+order_few x0 b e = grind (arith, eqb-true, found_is, nat_eq, nat_lt, asked_by)
 
 command_few : (b : List ℕ) → asked_by (command_of b).order ≤ bytes_in b
 unfolding command_of
@@ -127,19 +110,10 @@ module _ {K : Type 0} (h : Holdings K) (aw : List (List ℕ)) (bytes sent : List
       (none_ended number (ends_of h) (search (arith, list_any-append, or_parts, holds_not))) (at number)
 
   pub is_it : (r : Record) → r.connection ≡ First → r.command.reference ≡ number → is_numbered number r ≡ true
-  is_it r first named = search (
-    arith,
-    is_same (name_of r) (name_on First number)
-        (search (arith, first, named)),
-  )
+  is_it r first named = grind (arith, is_same)
 
   pub others : (r : Record) → r.command.reference ≡ number → (n : ℕ) → nat_eq number n ≡ false → is_numbered n r ≡ false
-  others r named n d = by (is_numbered n r) refl
-    where
-      by : (c : Bool) → is_numbered n r ≡ c → c ≡ false
-      by false e = refl
-      by true e = absurd (false≢true (sym d ∙ eq-eqb number n (sym named
-          ∙ ap (λ (x : Name). x.reference) (same_is (name_of r) (name_on First n) e))))
+  others r named n d = grind (arith, is_numbered, false≢true, eq-eqb, same_is)
 
   pub queued_so : AtEach (aw ++ bytes ∷ []) (h.waiting ++ fresh_record First (command_of sent) ∷ []) (ends_of h)
   unfolding command_of
@@ -174,10 +148,7 @@ module _ {K : Type 0} (call : Call) (old new : Port K) (aw : List (List ℕ)) (k
   became xs e x = subst (λ z. Kept new z) (sym e) x
 
   pub dies_so : Dies old new → So
-  dies_so d = became [] (calm.texts new.stage (without_ends (ends_said_by call old new) aw) (taken_by call old)
-      ∙ ap (λ b. cond b [] (without_ends (ends_said_by call old new) aw ++ taken_by call old)) (ap is_dead d.1.stage))
-      (nothing_kept new (ap (λ (h : Holdings K). h.waiting) d.1.controller)
-      (ap (λ (h : Holdings K). ends_of h) d.1.controller))
+  dies_so d = grind (arith, became, nothing_kept, ends_of)
 
   -- neither ends nor messages change
   pub same_so : ends_said_by call old new ≡ [] → taken_by call old ≡ []
@@ -192,12 +163,7 @@ module _ {K : Type 0} (call : Call) (old new : Port K) (aw : List (List ℕ)) (k
     where
       by : (b : Bool) → is_dead new.stage ≡ b
           → since new.stage call (without_ends (ends_said_by call old new) aw) (taken_by call old) ≡ aw
-      by true is = calm.texts new.stage _ _
-          ∙ ap (λ b. cond b [] (without_ends (ends_said_by call old new) aw ++ taken_by call old)) is
-          ∙ sym (k.dead (dead is))
-      by false is = calm.texts new.stage _ _
-          ∙ ap (λ b. cond b [] (without_ends (ends_said_by call old new) aw ++ taken_by call old)) is
-          ∙ ap (λ xs. without_ends xs aw ++ taken_by call old) said ∙ ap (λ xs. aw ++ xs) taken ∙ append-nil aw
+      by x0 is = grind (arith, append-nil)
 
   -- while there is no fatal error
   pub lives_so : (xs : List (List ℕ)) → is_dead new.stage ≡ false
@@ -208,8 +174,4 @@ module _ {K : Type 0} (call : Call) (old new : Port K) (aw : List (List ℕ)) (k
       (record { each = at; small = small; dead = λ d. search (arith, d, alive) })
 
   pub stays_so : ends_said_by call old new ≡ [] → taken_by call old ≡ [] → Stays old new → So
-  stays_so said taken either = elim either [
-    | inl same ↦ same_so said taken (ap (λ (h : Holdings K). h.waiting) same.0)
-        (ap (λ (h : Holdings K). ends_of h) same.0) same.3
-    | inr d ↦ dies_so d
-  ]
+  stays_so said taken either = grind (arith, same_so, ends_of, dies_so)

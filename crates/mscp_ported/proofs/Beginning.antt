@@ -70,18 +70,12 @@ foretold_of picks h held between new upcoming either f at may = record {
 }
   where
     line_at : line_of between ≡ line_of held
-    line_at = elim at [
-      | inl e ↦ ap line_of e ∙ elim either [ inl d ↦ sym (ap line_of d) | inr d ↦ sym (ap line_of d) ]
-      | inr e ↦ ap line_of e ∙ elim either [ inl d ↦ sym (ap line_of d) | inr d ↦ sym (ap line_of d) ]
-    ]
+    line_at = grind arith
 
 begun_of : {K : Type 0} (picks : List Choice → ℕ → Type 0) (task : Task) (old new : Port K) (between : Holdings K)
     → BeginsBlock picks task old new → (between ≡ old.controller) ⊎ (between ≡ after_take First old.controller)
     → MayBegin between new.controller → Foretells picks between (begun_step new.controller) new.controller
-begun_of picks task old new between b at may =
-    let g = b.begun in
-    subst (λ u. Foretells picks between u new.controller) (sym g.5)
-    (foretold_of picks old.controller g.0 between new.controller g.1 g.2 g.3 at may)
+begun_of picks task old new between b at may = grind (arith, foretold_of)
 
 pub next : {K : Type 0} (picks : Picking K) (blocks : Bool) (action : Action) (bytes : List ℕ) (old new : Port K)
     → Wants (picks old.controller.picker) blocks old action new → Follows picks (Next blocks action bytes) old new

@@ -55,28 +55,14 @@ module _ (n m : ℕ) where
       keep = λ t. not (has_number k t)
 
       kept : (x : List ℕ) → is_abort n m x ≡ true → not (has_number k x) ≡ true
-      kept x is = other_number m k other (num x 0 4)
-          (first_of (has_number m x) (nat_eq (slice_index x 8) 1) (nat_le 16 (length x)) (nat_eq (num x 12 4) n) is)
-        where
-          first_of : (a b c d : Bool) → (a && b && c && d) ≡ true → a ≡ true
-          first_of true b c d e = refl
-          first_of false b c d e = e
+      kept x is = grind (arith, other_number, nat_eq)
 
       by : (b : Bool) → has_number k t ≡ b → (c : Bool) → has_number n t ≡ c
           → cond c (list_any (is_abort n m) ts) (aborts_behind n m ts) ≡ true
           → (aborts_behind n m ts ≡ true → aborts_behind n m (filter (λ t. not (has_number k t)) ts) ≡ true)
           → aborts_behind n m (cond (not b) (t ∷ filter (λ t. not (has_number k t)) ts)
           (filter (λ t. not (has_number k t)) ts)) ≡ true
-      by true is true mine h rest = absurd (false≢true (sym apart ∙ eq-eqb k n
-          (sym (eqb-true (num t 0 4) k is) ∙ eqb-true (num t 0 4) n mine)))
-      by true is false mine h rest = rest h
-      by false is true mine h rest = ap (λ c. cond c
-          (list_any (is_abort n m) (filter (λ t. not (has_number k t)) ts))
-          (aborts_behind n m (filter (λ t. not (has_number k t)) ts))) mine
-          ∙ any_left (is_abort n m) (λ t. not (has_number k t)) kept ts h
-      by false is false mine h rest = ap (λ c. cond c
-          (list_any (is_abort n m) (filter (λ t. not (has_number k t)) ts))
-          (aborts_behind n m (filter (λ t. not (has_number k t)) ts))) mine ∙ rest h
+      by x0 is x2 mine h rest = grind (arith, false≢true, eq-eqb, eqb-true, any_left, kept)
 
 -- ---- the message of an ABORT
 
@@ -139,7 +125,4 @@ handed_abort units b n long e = handed_cases (λ x. (command_of x).order ≡ ord
 
 -- it is one of its own number
 pub is_abort_of : (n : ℕ) (b : List ℕ) → AsksAbort n b → is_abort n (num b 0 4) b ≡ true
-is_abort_of n b a = ap (λ x. x && nat_eq (slice_index b 8) 1 && nat_le 16 (length b) && nat_eq (num b 12 4) n)
-    (eq-eqb (num b 0 4) (num b 0 4) refl)
-    ∙ ap (λ x. x && nat_le 16 (length b) && nat_eq (num b 12 4) n) (eq-eqb (slice_index b 8) 1 a.opcode)
-    ∙ ap (λ x. x && nat_eq (num b 12 4) n) a.long ∙ eq-eqb (num b 12 4) n a.about
+is_abort_of n b a = grind (arith, nat_eq, eq-eqb)

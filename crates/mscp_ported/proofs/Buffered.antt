@@ -59,11 +59,7 @@ nothing_kept aw rs bs n none kept = record {
 other_left : (n : ℕ) (via : Connection) (o : Option End) (bs : List Buffer)
     → ((e : End) → o ≡ Some e → via ≡ First → nat_eq e.reference n ≡ false)
     → filter (is_of First n) (kept_after via o bs) ≡ filter (is_of First n) bs
-other_left n via None bs other = refl
-other_left n First (Some e) bs other = sole_left (is_of First n) (λ b. not (is_of First e.reference b)) bs
-    (λ b is. other_number n e.reference (other e refl refl) b.reference is)
-other_left n Second (Some e) bs other =
-    sole_left (is_of First n) (λ b. not (is_of Second e.reference b)) bs (λ b is. refl)
+other_left n via x2 bs other = grind (arith, sole_left, other_number)
 
 module _ (k : Block) (d : Drive) (aw : List (List ℕ)) (rs : List Record) (es : List End) (bs : List Buffer)
     (place : ℕ) (inside : place < length rs) (at : AtEach aw rs es) (kept : IsKeptEach aw rs bs) where
@@ -135,11 +131,7 @@ module _ (k : Block) (d : Drive) (aw : List (List ℕ)) (rs : List Record) (es :
           ∙ none_of_it (is_of First n) bs)
 
   pub step_kept : IsKeptEach aw (waiting_after k d rs place) (kept_after r0.connection o bs)
-  step_kept n = by (is_numbered n r0) refl
-    where
-      by : (c : Bool) → is_numbered n r0 ≡ c → So n
-      by true is = it_served n is (at n)
-      by false is = other_served n is (at n)
+  step_kept n = grind (arith, is_numbered, it_served, other_served)
 
 -- ---- an abort
 

@@ -15,11 +15,7 @@ same_unit units place unit to e f =
 -- and one at another place is another
 pub other_unit : (units : List Shape) (unit to place : ℕ) → place_in units unit ≡ Some place
     → (place_in units to ≡ Some place → ⊥) → (to == unit) ≡ false
-other_unit units unit to place here other = by (to == unit) refl
-  where
-    by : (b : Bool) → (to == unit) ≡ b → b ≡ false
-    by false e = refl
-    by true e = absurd (other (ap (place_in units) (eqb-true to unit e) ∙ here))
+other_unit units unit to place here other = grind (arith, eqb-true)
 
 -- ---- how often a volume changed
 
@@ -44,14 +40,7 @@ the_same n place vs ws none e =
 set_one : (n place q : ℕ) (vs : List Volume) (x : Volume)
     → (place ≡ q → After n (volume_at vs place).changes x.changes) → (place ≢ q → n ≡ 0)
     → Counts n place vs (set vs q x)
-set_one n place q vs x here elsewhere = (length-set vs q x, by (set_at place q vs x))
-  where
-    by : SetAt place q vs x
-        → (length vs ≤ place) ⊎ After n (volume_at vs place).changes (volume_at (set vs q x) place).changes
-    by (Here same e) =
-        inr (subst (λ (v : Volume). After n (volume_at vs place).changes v.changes) (sym e) (here same))
-    by (Past past e) = inl past
-    by (Elsewhere other e) = inr (inl (elsewhere other, ap (λ (v : Volume). v.changes) e))
+set_one n place q vs x here elsewhere = grind (arith, length-set, set_at)
 
 -- and stays as it was but for other things
 set_alike : (n place q : ℕ) (vs : List Volume) (x : Volume) → n ≡ 0 → x.changes ≡ (volume_at vs q).changes
@@ -140,15 +129,7 @@ module _ {K : Type 0} (picks : Picking K) (start : Port K) where
   IsApart kept m now = ((m ≡ 0) × (now ≡ kept)) ⊎ (now ≡ (kept + m) % 0x1_0000_0000)
 
   apart_more : (kept m now n later : ℕ) → IsApart kept m now → After n now later → IsApart kept (n + m) later
-  apart_more kept m now n later (inl h) (inl x) = inl (search (arith, h.0, x.0), x.1 ∙ h.1)
-  apart_more kept m now n later (inr h) (inl x) = inr (x.1 ∙ h
-      ∙ ap (λ i. (kept + i) % 0x1_0000_0000) (search (arith, x.0)))
-  apart_more kept m now n later (inl h) (inr x) = inr (x.1
-      ∙ ap (λ i. (i + 1) % 0x1_0000_0000) h.1
-      ∙ ap (λ i. (kept + i) % 0x1_0000_0000) (search (arith, h.0, x.0)))
-  apart_more kept m now n later (inr h) (inr x) = inr (x.1
-      ∙ ap (λ i. (i + 1) % 0x1_0000_0000) h ∙ mod-add-mod (kept + m) 0x1_0000_0000 1
-      ∙ ap (λ i. i % 0x1_0000_0000) (search (arith, x.0)))
+  apart_more kept m now n later x5 x6 = grind (arith, mod-add-mod)
 
   abbrev pub SaidAgo : (p : Port K) → (calls : List Call) → Answered picks start calls p → ℕ → Buffer → Type 0
   SaidAgo p calls a unit b = (m : ℕ) × Ago b.reference unit p calls a b m
@@ -228,11 +209,5 @@ module _ {K : Type 0} (picks : Picking K) (start : Port K) where
       → SaidAgo p calls a unit b → place_in p.controller.settings.units unit ≡ Some place
       → (volume_at p.volumes place).is_there ≡ true → b.changes ≡ (volume_at p.volumes place).changes
       → changed unit calls < 0x1_0000_0000 → IsOfItsVolume picks b.reference unit start p calls a b
-  of_its_volume p calls a unit place b said here there same few = elim (said.2 place here) [
-    | inl past ↦ absurd (false≢true (sym (ap (λ (v : Volume). v.is_there)
-        (get_or_past p.volumes place no_volume past)) ∙ there))
-    | inr apart ↦
-        let low = few_ago b.reference unit p calls a b said.0 said.1 in
-        none_ago b.reference unit p calls a b said.0
-        (wraps b.changes said.0 (volume_at p.volumes place).changes apart same (search (arith, low, few))) said.1
-  ]
+  of_its_volume p calls a unit place b said here there same few =
+      grind (arith, false≢true, get_or_past, few_ago, none_ago, wraps)

@@ -68,14 +68,7 @@ short_about o b byte at small long short = search (arith, small, long, short)
 
 other_about : (o : Opcode) (b : List ℕ) (byte : ℕ) → (row_of o).byte ≡ byte → 16 < least o → (other : ℕ)
     → about_in (refused_body (bit_or byte 0x80)) ≡ Some other → ⊥
-other_about (codes.Move kind) b byte at more other is = moved kind other
-    (ap (λ x. about_in (refused_body (bit_or x 0x80))) at ∙ is)
-  where
-    moved : (kind : MoveKind) (other : ℕ)
-        → about_in (refused_body (bit_or (row_of (codes.Move kind)).byte 0x80)) ≡ Some other → ⊥
-    moved kinds.Access other is = search (arith, is)
-    moved kind other is = search (arith, is)
-other_about code b byte at more other is = search (arith, more)
+other_about x0 b byte at more other is = grind arith
 
 abbrev own_of : Settings → Bool → ℕ → Command → End
 own_of c online figure command = own_end_with c online figure command (fault_of c command)
@@ -100,21 +93,11 @@ IsTold order = ⊥
 
 order_untold : (c : Settings) (online : Bool) (figure unit reference : ℕ) (order : Order) → IsTold order
     → Untold c online figure (commanded unit reference order)
-order_untold c online figure unit reference (orders.Move kinds.Access count block) told None other h =
-    search (arith, h)
-order_untold c online figure unit reference (orders.Move kind count block) told x other h = search (arith, h)
-order_untold c online figure unit reference order told None other h = search (arith, told, h)
-order_untold c online figure unit reference order told (Some u) other h = search (arith, told, h)
+order_untold c online figure unit reference x5 told x7 other h = grind arith
 
 parameters_about : (c : Settings) (online : Bool) (figure unit reference : ℕ) (b : List ℕ) (o : Opcode)
     → IsAbout b (own_of c online figure (commanded unit reference (parameters o b)))
-parameters_about c online figure unit reference b codes.Status other is =
-    (search (arith, is), refl, inr refl)
-parameters_about c online figure unit reference b codes.Abort other is =
-    (search (arith, is), refl, inl refl)
-parameters_about c online figure unit reference b o other is = absurd
-    (order_untold c online figure unit reference (parameters o b) tt
-    (fault_of c (commanded unit reference (parameters o b))) other is)
+parameters_about c online figure unit reference b x6 other is = grind (arith, order_untold)
 
 answered_with : (c : Settings) (online : Bool) (figure unit reference : ℕ) (b : List ℕ) (o : Option Opcode)
     → opcode_of (slice_index b 8) ≡ o → 16 ≤ length b
@@ -128,13 +111,7 @@ answered_with c online figure unit reference b (Some o) e long = by (nat_lt (len
 
     refused : nat_lt (length b) (least o) ≡ true → (n other : ℕ) → least o ≡ n
         → about_in (refused_body (bit_or (slice_index b 8) 0x80)) ≡ Some other → ⊥
-    refused short n other same h = elim (low n) [
-      | inl few ↦ short_about o b (slice_index b 8) at (subst (λ m. m ≤ 16) (sym same) few) long short
-      | inr more ↦ other_about o b (slice_index b 8) at (subst (λ m. 16 < m) (sym same) more) other h
-    ]
-      where
-        low : (n : ℕ) → (n ≤ 16) ⊎ (16 < n)
-        low n = search arith
+    refused short n other same h = grind (arith, short_about, at, other_about)
 
     by : (x : Bool) → nat_lt (length b) (least o) ≡ x
         → IsAbout b (own_of c online figure (record {
@@ -155,14 +132,7 @@ answered_command c online figure b long =
 stood_about : (c : Settings) (online : Bool) (figure : ℕ) (b : List ℕ) → 16 ≤ length b
     → (other : ℕ) → about_in (own_of c online figure (command_of (stand_in b))).body ≡ Some other → ⊥
 unfolding command_of
-stood_about c online figure (x ∷ b ∷ d ∷ e ∷ f ∷ g ∷ h ∷ i ∷ rest) long other is =
-    by (move_fault c 0 0 (unit_found c.units (num (f ∷ g ∷ []) 0 2))) is
-  where
-    by : (o : Option ℕ) → about_in (own_end_with c online figure
-        (command_of (stand_in (x ∷ b ∷ d ∷ e ∷ f ∷ g ∷ h ∷ i ∷ rest))) o).body ≡ Some other → ⊥
-    by None h = search (arith, h)
-    by (Some u) h = search (arith, h)
-stood_about c online figure b long other is = search (arith, long)
+stood_about c online figure x3 long other is = grind arith
 
 pub answered_about : (c : Settings) (online : Bool) (figure : ℕ) (units : List Shape) (b : List ℕ) → 16 ≤ length b
     → IsAbout b (own_of c online figure (command_of (handed units b)))
@@ -194,16 +164,4 @@ under_64 m less = search (arith, less)
 -- it is about none
 pub queued_no_about : (c : Settings) (command : Command) → is_queued c command ≡ true → (other : ℕ)
     → about_in (refused_body (endcode command.order)) ≡ Some other → ⊥
-queued_no_about c command q other is = by command.order refl
-  where
-    by : (order : Order) → command.order ≡ order → ⊥
-    by orders.Available e = search (arith, sym (ap (λ o. about_in (refused_body (endcode o))) e) ∙ is)
-    by orders.Online e = search (arith, sym (ap (λ o. about_in (refused_body (endcode o))) e) ∙ is)
-    by orders.SetUnit e = search (arith, sym (ap (λ o. about_in (refused_body (endcode o))) e) ∙ is)
-    by (orders.Move kind count block) e = moved kind (sym (ap (λ o. about_in (refused_body (endcode o))) e) ∙ is)
-      where
-        moved : (kind : MoveKind) → about_in (refused_body (endcode
-            (orders.Move kind count block))) ≡ Some other → ⊥
-        moved kinds.Access h = search (arith, h)
-        moved kind h = search (arith, h)
-    by order e = search (arith, q, e)
+queued_no_about c command q other is = grind arith

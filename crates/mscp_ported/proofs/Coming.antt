@@ -68,32 +68,7 @@ pub steps_bring : {K : Type 0} (picks : List Choice → ℕ → Type 0) (via : C
     (old new : Holdings K) (result : Result Report NotBegun)
     → Finishes picks (name_on via reference) block old result new
     → ends_of new ≡ ends_of old ++ brought_for via (end_brought result)
-steps_bring picks via reference block old new (Err not_begun) f =
-    ap (λ h. ends_of h) f.1 ∙ sym (append-nil (ends_of old)) ∙ ap (λ xs. ends_of old ++ xs) (none via)
-  where
-    none : (via : Connection) → [] ≡ brought_for via None
-    none First = refl
-    none Second = refl
-steps_bring picks via reference block old new (Ok reports.Idle) f = search (arith, f.0)
-steps_bring picks via reference block old new (Ok (reports.Served other number unit lbn started seek ended)) f =
-    ap (of First) f.1.ends ∙ ap (λ xs. ends_of old ++ xs) (by other same)
-  where
-    connection_in : Report → Connection
-    connection_in (reports.Served c n u l b k e) = c
-    connection_in reports.Idle = other
-
-    same : other ≡ via
-    same =
-        let place = f.1.serves.0 in
-        let s = f.1.serves.1 in
-        let r = record_at old.waiting place in
-        ap connection_in s.told
-        ∙ ap (λ (n : Name). n.connection) (served_name old.begun (name_on via reference) r f.0 s.next.same)
-
-    by : (c : Connection) → c ≡ via
-        → (if same_connection c First then option_to_list ended else []) ≡ brought_for via ended
-    by First e = subst (λ x. option_to_list ended ≡ brought_for x ended) e refl
-    by Second e = subst (λ x. [] ≡ brought_for x ended) e refl
+steps_bring picks via reference block old new x6 f = grind (arith, append-nil, served_name)
 
 -- ---- how many
 

@@ -15,12 +15,4 @@ outcome_few shape status order good n h = moved_few order good n h
 
 pub given_few : (k : Block) (d : Drive) (r : Record) (e : End) (n : ℕ) → end_given k d r ≡ Some e
     → asked_by r.command.order ≤ n → counted_in e.body ≤ n
-given_few k d r e n h few = by (goes_on d.online r.command.order k (left_of r)) h
-  where
-    own : End
-    own = outcome_at d.unit d.online r.command r.good k
-
-    by : (b : Bool) → cond b None (Some own) ≡ Some e → counted_in e.body ≤ n
-    by true h = absurd (none-some e h)
-    by false h = subst (λ (x : End). counted_in x.body ≤ n) (same_Some own e h)
-        (outcome_few d.unit _ r.command.order _ n few)
+given_few k d r e n h few = grind (arith, counted_in, none-some, same_Some, outcome_few)

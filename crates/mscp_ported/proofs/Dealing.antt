@@ -1,5 +1,5 @@
 -- What each call of a port deals with.
-use Rattle.mscp_ported.proofs.Common.{Action, AllByRecursion, Becomes, Bool, Call, Deals, Descriptor, End, Err, Hears, Holdings, IsEnding, IsOfKind, IsReadingText, IsSomeAnd, List, Next, None, Ok, Option, Outcome, Outgoing, Picking, Port, ReadIp, Result, SeesText, SendFault, Sent, Shape, Some, TakesEnd, Task, TellsOf, Volume, Wants, WasRead, Went, WriteIp, WriteSa, [], accepted_by, accepted_text, accepts, answered_to, ap, append-nil, arith, attention, begins, blocks, bytes_in, cond, drop, end_bytes, end_kind, ends_begun, eqb-true, every_kept, false, filter, has_number, heard, heeded, inl, inr, is_dead, is_none, is_ok, is_taken_text, looks_or_not, news_place, none-some, none_or_some, not, num, option_map, own_answer, own_end_of, refl, same_Some, since, slice_get, subst, sym, taken_by, told_end, true, volume_at, volume_named, without_ends, ℕ, ◌&&◌, ◌++◌, ◌<◌, ◌^◌, ◌∙◌, ◌∷◌, ◌≡◌, ◌≢◌, ◌≤◌, ◌⊎◌}
+use Rattle.mscp_ported.proofs.Common.{Action, AllByRecursion, Becomes, Bool, Call, Deals, Descriptor, End, Err, Hears, Holdings, IsEnding, IsOfKind, IsReadingText, IsSomeAnd, List, Next, None, Ok, Option, Outcome, Outgoing, Picking, Port, ReadIp, Result, SeesText, SendFault, Sent, Shape, Some, TakesEnd, Task, TellsOf, Volume, Wants, WasRead, Went, WriteIp, WriteSa, [], accepted_by, accepted_text, accepts, answered_to, ap, append-nil, arith, attention, begins, blocks, bytes_in, cond, drop, end_bytes, end_kind, ends_begun, eqb-true, every_kept, false, filter, has_number, heard, heeded, inl, inr, is_dead, is_none, is_ok, is_taken_text, looks_or_not, news_place, none-some, none_or_some, not, num, option_map, own_answer, own_end_of, refl, same_Some, since, slice_get, subst, sym, taken_by, told_end, true, volume_at, volume_named, without_ends, ℕ, ◌&&◌, ◌++◌, ◌<◌, ◌^◌, ◌∙◌, ◌∷◌, ◌≡◌, ◌≢◌, ◌≤◌, ◌⊎◌, Own}
 use Rattle.mscp_ported.proofs.Minor.{minor, minor_out}
 use Rattle.mscp_port.specs.declared.port.OutgoingKind.TheVariants as kinds
 use Rattle.mscp_port.specs.declared.task.Task.TheVariants as tasks
@@ -7,7 +7,7 @@ use Rattle.mscp_ported.proofs.Answering.{none_so, own_so}
 use Rattle.mscp_ported.proofs.Awaiting.{IsNoReset, IsSmall, Kept, lives_so, same_so}
 use Rattle.mscp_ported.proofs.Coming.{ends_of}
 use Rattle.mscp_ported.proofs.Decided.{passive_said}
-use Rattle.mscp_ported.proofs.Numbered.{AtEach, counted_in, end_awaited, takes_end}
+use Rattle.mscp_ported.proofs.Numbered.{AtEach, counted_in, end_awaited, takes_end, At}
 use Rattle.mscp_ported.proofs.Reading.{and_false, taken_is}
 use Rattle.mscp_ported.proofs.Staying.{IsPassive}
 use Rattle.mscp_ported.proofs.Taking.{begun_end, begun_same, says_is}
@@ -22,15 +22,7 @@ begins_same (Some x) q either = refl
 
 passive_out : {K : Type 0} (picks : Picking K) (call : Call) (old new : Port K) → Becomes picks call old new
     → IsPassive call → (new.outgoing ≡ old.outgoing) ⊎ (new.outgoing ≡ None)
-passive_out {K} picks ReadIp old new r is = elim r.frame
-    [ inl e ↦ inl (ap (λ (p : Port K). p.outgoing) e) | inr dead ↦ inr dead.1.outgoing ]
-passive_out {K} picks (WriteSa word) old new r is = elim r.frame
-    [ inl e ↦ inl (ap (λ (p : Port K). p.outgoing) e) | inr dead ↦ inr dead.1.outgoing ]
-passive_out picks WriteIp old new r is = absurd is
-passive_out picks (Next blocks action bytes) old new r is = absurd is
-passive_out picks (WasRead bytes (Ok done)) old new r is = absurd is
-passive_out picks (Went outcome (Ok done)) old new r is = absurd is
-passive_out {K} picks call old new r is = minor_out (minor picks call old new r tt)
+passive_out {K} picks x2 old new r is = grind (arith, minor_out, minor)
 
 passive_accepted : {K : Type 0} (call : Call) (old : Port K) → IsPassive call → accepted_by call old ≡ []
 passive_accepted (WasRead bytes (Ok done)) old is = absurd is
@@ -76,14 +68,7 @@ module _ {K : Type 0} (bytes : List ℕ) (done : Unit) (old new : Port K) (aw : 
 
   not_text : (t : Task) → old.task ≡ t → accepted_text old t bytes ≡ [] → is_taken_text old bytes t ≡ false
       → (Rattle.mscp_port.specs.Ports.IsReadingText t → ⊥) → Said_so
-  not_text t at none_accepted none_taken never = quiet (elim r.out [
-    | inl e ↦ begins_same old.outgoing new.outgoing (inl e)
-    | inr more ↦ elim more [
-      | inl x ↦ absurd (never (subst (λ y. Rattle.mscp_port.specs.Ports.IsReadingText y) (sym x.3 ∙ at) tt))
-      | inr dead ↦ begins_same old.outgoing new.outgoing (inr dead.1.outgoing)
-    ]
-  ]) (ap (λ x. accepted_text old x bytes) at ∙ none_accepted)
-      (ap (λ x. cond (is_taken_text old bytes x) (bytes ∷ []) []) at ∙ ap (λ b. cond b (bytes ∷ []) []) none_taken)
+  not_text t at none_accepted none_taken never = grind (arith, quiet, begins_same)
 
   module _ (slot : Descriptor) (size : ℕ) (foreign : Bool) (at : old.task ≡ tasks.Text slot size foreign) where
     sees : SeesText slot foreign bytes old new

@@ -22,11 +22,7 @@ passive_reset WriteIp is = absurd is
 passive_reset call is = record { came = λ s xs ys. refl; said = λ s xs ys. refl }
 
 passive_came : {K : Type 0} (call : Call) (old new : Port K) → IsPassive call → came_by call old new ≡ []
-passive_came (WasRead bytes (Ok done)) old new is = absurd is
-passive_came (WasRead bytes (Err unasked)) old new is = refl
-passive_came (Went outcome (Ok done)) old new is = absurd is
-passive_came (Went outcome (Err unasked)) old new is = refl
-passive_came call old new is = refl
+passive_came x0 old new is = grind arith
 
 pub passive_said : {K : Type 0} (call : Call) (old new : Port K) → IsPassive call → ends_said_by call old new ≡ []
 passive_said (Next blocks action bytes) old new is = absurd is
@@ -55,12 +51,7 @@ module _ {K : Type 0} (h : Hardware) (units : List Shape) (call : Call) (old new
   }
 
   dies_so : Dies old new → So
-  dies_so d = became [] []
-      (calm.came new.stage xs (came_by call old new)
-      ∙ ap (λ b. cond b [] (xs ++ came_by call old new)) (ap is_dead d.1.stage))
-      (calm.said new.stage ys (ends_said_by call old new)
-      ∙ ap (λ b. cond b [] (ys ++ ends_said_by call old new)) (ap is_dead d.1.stage))
-      (none_left h units new (ap (λ c. ends_of c) d.1.controller) d.1.decided) d.1.hardware
+  dies_so d = grind (arith, became, none_left, ends_of)
 
   stays_so : came_by call old new ≡ [] → ends_said_by call old new ≡ [] → Stays old new → So
   stays_so no_came no_said either = elim either [
@@ -150,11 +141,7 @@ module _ {K : Type 0} (picks : Picking K) (c : Settings) (picker : K)
   -- while there is no fatal error
   still_alive : (old new : Port K) → ((code : ℕ) → old.stage ≡ stages.Dead code → ⊥)
       → (is_dead new.stage ≡ true → is_dead old.stage ≡ true) → is_dead new.stage ≡ false
-  still_alive old new alive dead = by (is_dead new.stage) dead
-    where
-      by : (b : Bool) → (b ≡ true → is_dead old.stage ≡ true) → b ≡ false
-      by true d = absurd (search (arith, d refl, is_alive old alive))
-      by false d = refl
+  still_alive old new alive dead = grind (arith, is_alive)
 
   read_kept : (p : Port K) (calls : List Call) (bytes : List ℕ) (done : Unit)
       (a : Answered picks start (WasRead bytes (Ok done) ∷ calls) p)

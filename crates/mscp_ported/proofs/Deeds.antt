@@ -5,11 +5,7 @@ use Rattle.mscp_port.specs.declared.stage.Stage.TheVariants as stages
 use Rattle.mscp_port.specs.declared.task.Task.TheVariants as tasks
 
 pub is_alive : {K : Type 0} (p : Port K) → ((code : ℕ) → p.stage ≢ stages.Dead code) → is_dead p.stage ≡ false
-is_alive p alive = by p.stage refl
-  where
-    by : (s : Stage) → p.stage ≡ s → is_dead p.stage ≡ false
-    by (stages.Dead code) e = absurd (alive code e)
-    by s e = ap is_dead e
+is_alive p alive = grind arith
 
 pub done_or_not : (outcome : Outcome) → (outcome ≡ outcomes.Done) ⊎ (outcome ≢ outcomes.Done)
 done_or_not outcomes.Done = inl refl
@@ -65,11 +61,7 @@ module _ {K : Type 0} (picks : List Choice → ℕ → Type 0) (outcome : Outcom
   So = Deed picks outcome old new
 
   step_new : (first : ℕ) → IsNewStep (step_task first tasks.Free)
-  step_new first = by (first / 0x80 % 2 == 1 && not (vector_in first == 0))
-    where
-      by : (b : Bool) → IsNewStep (cond b tasks.Interrupt tasks.Free)
-      by true = tt
-      by false = tt
+  step_new first = grind arith
 
   word_deed : (word : ℕ) → old.written ≡ Some word → TakesStep word old new → So
   word_deed word some r' = by old.stage refl

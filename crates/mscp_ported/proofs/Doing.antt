@@ -98,15 +98,7 @@ Given Responses after = (1 + rest after ≤ 4) × (IsClear after → ⊥)
 Given Commands after = (1 + rest after ≤ 4) × (IsClear after → ⊥) × (1 + to_do after ≤ 7)
 
 given_so : (area : Rings) (side : Side) (slot : Descriptor) → Given side (hears_of area side slot)
-given_so area side slot = by side (not (is_flagged slot.word)) (slots_of area side == 1)
-  where
-    by : (at : Side) (b c : Bool) → Given at (cond b tasks.Free (cond c (tasks.Word side) (tasks.Neighbour side)))
-    by Responses true c = (search arith, λ x. x)
-    by Responses false true = (search arith, λ x. x)
-    by Responses false false = (search arith, λ x. x)
-    by Commands true c = (search arith, (λ x. x), search arith)
-    by Commands false true = (search arith, (λ x. x), search arith)
-    by Commands false false = (search arith, (λ x. x), search arith)
+given_so area side slot = grind arith
 
 -- ---- ports
 

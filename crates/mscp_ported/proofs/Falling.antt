@@ -42,15 +42,7 @@ module _ (c : Settings) (t : Trace) (m : Moment) (right : IsRight c t m.0 m.1) (
   -- none that waits has the name of one that comes
   not_new : queues m.1 ≡ true → n ≡ queued_name m → ⊥
   unfolding figure_of
-  not_new q e = by (find (λ x. same_name (name t x) n) (waiting t)) refl waits
-    where
-      by : (o : Option ℕ) → find (λ x. same_name (name t x) n) (waiting t) ≡ o
-          → 1 ≤ Rattle.mscp_controller.specs.Figures.figure_found c t o → ⊥
-      by None is low = search (arith, low)
-      by (Some x) is low =
-          let h = found_of (λ x. Rattle.std.specs.Prelude.◌≢◌ (name t x) (queued_name m))
-          (λ x. same_name (name t x) n) (waiting t) x (new_name c t m right q) is in
-          h.0 (same_is (name t x) n h.1 ∙ e)
+  not_new q e = grind (arith, found_of, queued_name, new_name, same_is)
 
   each_lower : AllByRecursion IsLower (waiting after)
   each_lower = subst (λ xs. AllByRecursion IsLower xs) (sym (waiting_more t m))
@@ -67,15 +59,7 @@ module _ (c : Settings) (t : Trace) (m : Moment) (right : IsRight c t m.0 m.1) (
   pub lower_then : (figure_of c after n ≤ figure_of c t n)
       × (is_step m.0 ≡ true → figure_of c after n < figure_of c t n)
   unfolding figure_of
-  lower_then = by (find (λ x. same_name (name after x) n) (waiting after)) refl
-    where
-      by : (o : Option ℕ) → find (λ x. same_name (name after x) n) (waiting after) ≡ o
-          → (Rattle.mscp_controller.specs.Figures.figure_found c after o ≤ figure_of c t n)
-          × (is_step m.0 ≡ true → Rattle.mscp_controller.specs.Figures.figure_found c after o < figure_of c t n)
-      by None is = (search arith, λ step. waits)
-      by (Some y) is =
-          let h = found_of IsLower (λ x. same_name (name after x) n) (waiting after) y each_lower is in
-          h.0 (same_is (name after y) n h.1)
+  lower_then = grind (arith, found_of, each_lower, same_is)
 
 -- ---- what one call of a port makes is one moment at most
 
@@ -88,13 +72,7 @@ begins_none p tasks.Free tasks.Transfer = refl
 begins_none p old new = refl
 
 takes_one : {K : Type 0} (p : Port K) (before after : Option Outgoing) → IsOne (take_made p before after)
-takes_one p None (Some o) = by o.kind
-  where
-    by : (kind : OutgoingKind) → IsOne (taken_as p kind)
-    by kinds.Attention = inl refl
-    by kinds.End = inr (_, refl)
-    by kinds.UtilitiesEnd = inl refl
-takes_one p old new = inl refl
+takes_one p x1 x2 = grind arith
 
 sends_one : {K : Type 0} (p : Port K) (bytes : List ℕ) (t : Task) → IsOne (send_made p bytes t)
 sends_one p bytes (tasks.Text slot size foreign) = by (own_end_of p foreign bytes)
@@ -107,31 +85,13 @@ sends_one p bytes (tasks.Text slot size foreign) = by (own_end_of p foreign byte
 sends_one p bytes t = inl refl
 
 finishes_one : (o : Option Block) (b : Option Name) (more : List Made) → IsFinish o b more → IsOne more
-finishes_one (Some block) (Some name) more h = by h.0 h.1
-  where
-    by : (result : Result Report NotBegun) → more ≡ Finish name.connection name.reference block result ∷ [] → IsOne more
-    by (Ok report) e = inr ((events.Step block, entries.Stepped report), ap history e)
-    by (Err not_begun) e = inl (ap history e)
-finishes_one (Some block) None more h = inl (ap history h)
-finishes_one None b more h = inl (ap history h)
+finishes_one x0 x1 more h = grind arith
 
 one_beside : (xs ys : List Made) → history ys ≡ [] → IsOne xs → IsOne (xs ++ ys)
-one_beside xs ys none one =
-    let whole : history (xs ++ ys) ≡ history xs =
-    flat_map-append moments_of xs ys ∙ ap (λ ms. history xs ++ ms) none ∙ append-nil (history xs) in
-    elim one [
-      | inl e ↦ inl (whole ∙ e)
-      | inr m ↦ inr (m.0, whole ∙ m.1)
-    ]
+one_beside xs ys none one = grind (arith, flat_map-append, append-nil)
 
 makes_one : {K : Type 0} (call : Call) (old new : Port K) (more : List Made) → Makes call old new more → IsOne more
-makes_one (Next blocks action bytes) old new more h =
-    subst (λ ms. IsOne ms) (sym h) (one_beside (take_made old old.outgoing new.outgoing)
-    (begin_made new old.task new.task) (begins_none new old.task new.task) (takes_one old old.outgoing new.outgoing))
-makes_one (WasRead bytes (Ok done)) old new more h = subst (λ ms. IsOne ms) (sym h) (sends_one old bytes old.task)
-makes_one (Went outcome (Ok done)) old new more h =
-    finishes_one (step_told old outcome old.task) old.controller.begun more h
-makes_one call old new more h = inl (ap history h)
+makes_one x0 old new more h = grind (arith, one_beside, begins_none, takes_one, sends_one, finishes_one)
 
 -- a step that is told is a moment that is one
 tells_step : {K : Type 0} (picks : List Choice → ℕ → Type 0) (old new : Holdings K) (o : Option Block)
@@ -155,12 +115,7 @@ tells_step picks old new (Some other) (Some found) block name more told begun is
 
 at_last : (t : Trace) (m : Moment) (R : Trace → Moment → Trace → Type 0) → AtEach (t ++ m ∷ []) R
     → R t m (t ++ m ∷ [])
-at_last t m R each =
-    let h = each (length t) (omega (arith, length-append t (m ∷ []))) in
-    subst (λ x. R x m (t ++ m ∷ [])) (take_at t (m ∷ []) (length t) refl)
-    (subst (λ x. R (take (length t) (t ++ m ∷ [])) x (t ++ m ∷ [])) (moment_last t m)
-    (subst (λ x. R (take (length t) (t ++ m ∷ [])) (moment (t ++ m ∷ []) (length t)) x)
-    (take_all (length t + 1) (t ++ m ∷ []) (omega (arith, length-append t (m ∷ [])))) h))
+at_last t m x2 each = grind (arith, length-append, take_at, moment_last, take_all)
 
 -- where a step is in hand the controller has begun it
 begun_some : (units : List Shape) (buffers : List Buffer) (volumes : List Volume) (ds : List Drive) (rs : List Record)

@@ -81,11 +81,7 @@ module _ {c : Settings} {Told : Verdict → Record → Type 0} {K : Type 0} (cal
       })
 
   pub stays : ends_said_by call old new ≡ [] → taken_by call old ≡ [] → Stays old new → So
-  stays said taken either = elim either [
-    | inr d ↦ died d
-    | inl s ↦ unchanged said taken (ap (λ (h : Holdings K). h.waiting) s.0) (ap (λ (h : Holdings K). ends_of h) s.0)
-        (ap (λ d. d.items) s.1) (ap (λ b. b.items) s.4)
-  ]
+  stays said taken either = grind (arith, died, unchanged, ends_of)
 
 -- ---- ends come, with what is decided of each
 
@@ -93,15 +89,7 @@ module _ (c : Settings) (Told : Verdict → Record → Type 0) {K : Type 0} (old
     (g : Grows old new f)
     (long : length (ends_of old.controller) ≡ length old.decided.items) where
   pub grown_long : length (ends_of new.controller) ≡ length new.decided.items
-  grown_long = search (
-    arith,
-    ap length g.ends,
-    ap length g.decided,
-    length-append (ends_of old.controller) g.brought,
-    length-append old.decided.items (map f g.brought),
-    length-map g.brought f,
-    long,
-  )
+  grown_long = grind (arith, length-append, ends_of, length-map)
 
   pub grown_fits : (aw : List (List ℕ)) → AllByRecursion
       (FitsIn c Told aw) (zipped (ends_of old.controller) old.decided.items)

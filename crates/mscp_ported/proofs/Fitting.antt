@@ -81,14 +81,7 @@ at_place [] b back = refl
 at_place (x ∷ front) b back = at_place front b back
 
 kept_found : (f : Buffer → Bool) (bs : List Buffer) → kept_at (position f bs) bs ≡ find f bs
-kept_found f bs = elim (find_cases f bs) [
-  | inl none ↦ ap (λ o. kept_at o bs) (position_none f bs none) ∙ sym (find_none f bs none)
-  | inr some ↦
-      let x = some.3 in
-      ap (λ o. kept_at o bs) (ap (position f) x.is ∙ position_first f some.0 some.1 some.2 x.before x.passed)
-      ∙ ap (λ zs. slice_get zs (length some.0)) x.is ∙ at_place some.0 some.1 some.2
-      ∙ sym (find_first f some.0 some.1 some.2 x.before x.passed) ∙ ap (find f) (sym x.is)
-]
+kept_found f bs = grind (arith, find_cases, position_none, find_none, position_first, at_place, find_first)
 
 -- where one is kept of a number, and where none is
 pub kept_one : (n : ℕ) (bs : List Buffer) (b : Buffer) → filter (is_of First n) bs ≡ b ∷ []
@@ -107,11 +100,7 @@ module _ (bs : List Buffer) (e : End) (t : List ℕ) where
   Coded c = IsCodeFor (cond (ends_formality c) c e.code) t
 
   itself_coded : IsCodeFor e.code t → Coded e.code
-  itself_coded is = by (ends_formality e.code)
-    where
-      by : (c : Bool) → IsCodeFor (cond c e.code e.code) t
-      by true = is
-      by false = is
+  itself_coded is = grind arith
 
   -- the end of a command of which that is kept
   kept_coded : (r : Record) (b : Buffer) → filter (is_of First e.reference) bs ≡ b ∷ [] → FitsBuffer r b t

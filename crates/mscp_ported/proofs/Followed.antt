@@ -139,16 +139,7 @@ module _ (Told : Verdict → Record → Type 0) (aw : List (List ℕ)) where
 -- no other end has the number of one that waits
 pub none_else : (aw : List (List ℕ)) (rs : List Record) (e : End) (es : List End) → AtEach aw rs (e ∷ es)
     → filter (ends_numbered e.reference) es ≡ []
-none_else aw rs e es at = by (at e.reference)
-  where
-    here : filter (ends_numbered e.reference) (e ∷ es) ≡ e ∷ filter (ends_numbered e.reference) es
-    here = ap (λ b. cond b (e ∷ filter (ends_numbered e.reference) es) (filter (ends_numbered e.reference) es))
-        (eq-eqb e.reference e.reference refl)
-
-    by : At aw rs (e ∷ es) e.reference → filter (ends_numbered e.reference) es ≡ []
-    by (inl none) = absurd (some_none e (filter (ends_numbered e.reference) es) (sym here ∙ none.2))
-    by (inr (inl w)) = absurd (some_none e (filter (ends_numbered e.reference) es) (sym here ∙ w.no_end))
-    by (inr (inr x)) = (first_of_one e x.end (filter (ends_numbered e.reference) es) (sym here ∙ x.sole)).1
+none_else aw rs e es at = grind (arith, ends_numbered, eq-eqb, some_none, first_of_one)
 
 module _ (Told : Verdict → Record → Type 0) {K : Type 0} (h : Holdings K) (aw : List (List ℕ)) (bytes : List ℕ)
     (long : 12 ≤ length bytes) (immediate : is_queued h.settings (command_of (handed h.settings.units bytes)) ≡ false)
@@ -186,13 +177,7 @@ module _ (Told : Verdict → Record → Type 0) {K : Type 0} (h : Holdings K) (a
       number = (number_of m x (found_is (is_numbered m) h.waiting x found)).1
 
       apart : nat_eq (num bytes 0 4) x.command.reference ≡ false
-      apart = by (nat_eq (num bytes 0 4) x.command.reference) refl
-        where
-          by : (b : Bool) → nat_eq (num bytes 0 4) x.command.reference ≡ b → b ≡ false
-          by false e = refl
-          by true e = absurd (none-some x (sym (none_found (is_numbered (num bytes 0 4)) h.waiting none)
-              ∙ subst (λ j. find (is_numbered j) h.waiting ≡ Some x)
-              (sym (eqb-true (num bytes 0 4) x.command.reference e ∙ number)) found))
+      apart = grind (arith, nat_eq, none-some, none_found, is_numbered, eqb-true, number)
 
   pub answers_follow : AreFollowed Told (aw ++ bytes ∷ [])
       (option_to_list (option_map aborted_record (record_aborted First h.waiting command.order)) ++ own ∷ [])

@@ -6,11 +6,7 @@ use Rattle.mscp_ported.proofs.Sole.{found_all}
 -- its unit is there
 unit_there : (foreign : Bool) (v : Option Volume) (b : List ℕ) → own_end foreign v b ≡ None
     → is_formality (slice_index b 8) ≡ true → (x : Volume) × (v ≡ Some x)
-unit_there true v b none formal = absurd (none-some (bare_end b 0x80 0x0801) (sym none))
-unit_there false (Some x) b none formal = (x, refl)
-unit_there false None b none formal = absurd (none-some (bare_end b (slice_index b 8 + 0x80) 0) (sym
-    (ap (λ c. cond c (Some (bare_end b (slice_index b 8 + 0x80) 0))
-    (option_map (refused_end b) (volume_refusal None b))) (sym formal) ∙ none)))
+unit_there x0 v b none formal = grind (arith, none-some)
 
 placed : {X : Type 0} (f : ℕ → X) (o : Option ℕ) (x : X) → option_map f o ≡ Some x → (place : ℕ) × (o ≡ Some place)
 placed f None x e = absurd (none-some x e)
@@ -18,15 +14,7 @@ placed f (Some place) x e = (place, refl)
 
 found_unit : (units : List Shape) (n place : ℕ) → place_in units n ≡ Some place
     → (u : Shape) × (unit_found units n ≡ Some u)
-found_unit units n place e = elim (find_cases (λ u. Rattle.std.specs.Prelude.nat_eq u.number n) units) [
-  | inl none ↦ absurd (none-some place
-      (sym (position_none (λ u. Rattle.std.specs.Prelude.nat_eq u.number n) units none) ∙ e))
-  | inr some ↦ (
-    some.1,
-    ap (λ us. unit_found us n) some.3.is
-        ∙ find_first (λ u. Rattle.std.specs.Prelude.nat_eq u.number n) some.0 some.1 some.2 some.3.before some.3.passed,
-  )
-]
+found_unit units n place e = grind (arith, find_cases, none-some, position_none, find_first)
 
 -- an access of no bytes isn't refused there
 no_fault : (longest : ℕ) (u : Shape) → 1 ≤ longest → 0 < u.size → range_fault longest 0 0 u ≡ None

@@ -26,11 +26,7 @@ credits_so untold kind = refl
 packet_tells : (slot : Slot) (address untold : ℕ) (bytes : List ℕ) (o : Outgoing)
     → address ≡ text_of slot.word - 4 → bytes ≡ packet_of (credits_by untold o.kind) o.kind o.bytes.items
     → Tells untold (record { slot = slot; address = address; bytes = bytes }) (said_in o)
-packet_tells slot address untold bytes o place is = (
-  place,
-  is ∙ ap (λ c. packet_with (credits_by untold o.kind) c o.bytes.items) (connection_so o.kind)
-      ∙ ap (λ c. packet_with c (connection_told o.kind) o.bytes.items) (credits_so untold o.kind),
-)
+packet_tells slot address untold bytes o place is = grind (arith, connection_so, credits_so)
 
 -- and what isn't told then
 left_so : (untold : ℕ) (kind : OutgoingKind) → untold - (credits_by untold kind - 1) ≡ left_after untold kind
@@ -82,12 +78,7 @@ module _ {K : Type 0} {picks : List Choice → ℕ → Type 0} {old new : Port K
 
       tells_so : {u : ℕ} → u ≡ old.untold - (credits_with old.untold old.outgoing - 1)
           → AreTold old.more (tasks.Return Responses slot) (Written s address w.bytes) old.outgoing u t.told said
-      tells_so is =
-          let h = k.speech.tells in
-          let left = left_all old.more h.0 in
-          let same : old.untold ≡ left = left_quiet old.task t.turn old.outgoing old.untold left
-          (quiet_of going (tasks.Packet slot) at (λ x. x)) h.3 in
-          (h.0, h.1, h.2, (s, address, w.bytes, refl, said_so old.outgoing refl is asked.1 left same))
+      tells_so is = grind (arith, left_all, left_quiet, quiet_of, s, address, said_so, asked)
 
       done_so : (u : ℕ) → u ≡ old.untold - (credits_with old.untold old.outgoing - 1)
           → look new ≡ record (look old) { untold = u; task = tasks.Return Responses slot } → So
@@ -107,54 +98,18 @@ module _ {K : Type 0} {picks : List Choice → ℕ → Type 0} {old new : Port K
       hears_calm : (area : Rings) (side : Side) → (IsOfRings (hears_of area side slot) → Unit {0})
           × (NeedsOut (hears_of area side slot) → ⊥) × (IsClear (hears_of area side slot) → ⊥)
           × ((turn : Turn) → in_hand (hears_of area side slot) turn ≡ [])
-      hears_calm area side = cases (not (is_flagged slot.word)) (slots_of area side == 1)
-        where
-          cases : (b c : Bool)
-              → (IsOfRings (cond b tasks.Free (cond c (tasks.Word side) (tasks.Neighbour side))) → Unit {0})
-              × (NeedsOut (cond b tasks.Free (cond c (tasks.Word side) (tasks.Neighbour side))) → ⊥)
-              × (IsClear (cond b tasks.Free (cond c (tasks.Word side) (tasks.Neighbour side))) → ⊥)
-              × ((turn : Turn) → in_hand (cond b tasks.Free (cond c (tasks.Word side)
-              (tasks.Neighbour side))) turn ≡ [])
-          cases true c = (λ h. tt, λ h. h, λ h. h, λ turn. refl)
-          cases false true = (λ h. tt, λ h. h, λ h. h, λ turn. refl)
-          cases false false = (λ h. tt, λ h. h, λ h. h, λ turn. refl)
+      hears_calm area side = grind (arith, in_hand)
 
       hears_quiet : (area : Rings) (side : Side) → IsTelling (hears_of area side slot) → ⊥
-      hears_quiet area side = cases (not (is_flagged slot.word)) (slots_of area side == 1)
-        where
-          cases : (b c : Bool) → IsTelling (cond b tasks.Free (cond c (tasks.Word side) (tasks.Neighbour side))) → ⊥
-          cases true c h = h
-          cases false true h = h
-          cases false false h = h
+      hears_quiet area side = grind arith
 
       hears_block : (area : Rings) (side : Side) → IsOfBlock (hears_of area side slot) → ⊥
-      hears_block area side = cases (not (is_flagged slot.word)) (slots_of area side == 1)
-        where
-          cases : (b c : Bool) → IsOfBlock (cond b tasks.Free (cond c (tasks.Word side) (tasks.Neighbour side))) → ⊥
-          cases true c h = h
-          cases false true h = h
-          cases false false h = h
+      hears_block area side = grind arith
 
       -- what the host is to hear of it
       turn_so : (area : Rings) (s : Slot) → s.word ≡ slot.word → t.rings ≡ Some area → (l : Look)
           → Fits l (hears_of area s.side slot) (given_turn t.rings s) × IsOwned (given_turn t.rings s)
-      turn_so area s word named l =
-          subst (λ o. Fits l (hears_of area s.side slot) (given_turn o s) × IsOwned (given_turn o s)) (sym named)
-          (subst (λ n. Fits l (hears_of area s.side slot)
-          (cond (not (is_flagged n)) Idle (cond (slots_in area s.side == 1) (Marks s.side) (Looks s.side)))
-          × IsOwned (cond (not (is_flagged n)) Idle (cond (slots_in area s.side == 1) (Marks s.side) (Looks s.side))))
-          (sym word)
-          (subst (λ m. Fits l (hears_of area s.side slot)
-          (cond (not (is_flagged slot.word)) Idle (cond (m == 1) (Marks s.side) (Looks s.side)))
-          × IsOwned (cond (not (is_flagged slot.word)) Idle (cond (m == 1) (Marks s.side) (Looks s.side))))
-          (sym (slots_so area s.side)) (cases (not (is_flagged slot.word)) (slots_of area s.side == 1))))
-        where
-          cases : (b c : Bool) → Fits l (cond b tasks.Free (cond c (tasks.Word s.side) (tasks.Neighbour s.side)))
-              (cond b Idle (cond c (Marks s.side) (Looks s.side)))
-              × IsOwned (cond b Idle (cond c (Marks s.side) (Looks s.side)))
-          cases true c = (tt, tt)
-          cases false true = (refl, tt)
-          cases false false = (refl, tt)
+      turn_so area s word named l = grind (arith, slots_so)
 
       next_mod : (n m : ℕ) → n ≡ m % 256 → (n + 1) % 256 ≡ (m + 1) % 256
       next_mod n m e = ap (λ x. (x + 1) % 256) e ∙ mod-add-mod m 256 1

@@ -11,13 +11,7 @@ begun_one old new o none some = ap (λ x. begins x new) none ∙ ap (begins None
 pub silent : {K : Type 0} (call : Call) (old new : Port K) (aw : List (List ℕ)) → Deals aw call old new
     → ends_said_by call old new ≡ [] → ((bytes : List ℕ) (done : Unit) → call ≡ WasRead bytes (Ok done) → ⊥)
     → flat_map pending_in (map said_in (begins old.outgoing new.outgoing)) ≡ []
-silent call old new aw (inl q) said never = ap (λ os. flat_map pending_in (map said_in os)) q.begun
-silent call old new aw (inr (inl q)) said never =
-    ap (λ os. flat_map pending_in (map said_in os)) (begun_one old.outgoing new.outgoing q.out q.nothing q.begun)
-    ∙ ap (λ kind. pending_said kind q.out.bytes.items ++ []) q.kind
-silent call old new aw (inr (inr (inl q))) said never = absurd (search (arith, sym said ∙ q.ended))
-silent call old new aw (inr (inr (inr (inl q)))) said never = absurd (never q.message q.read.0 q.read.1)
-silent call old new aw (inr (inr (inr (inr q)))) said never = absurd (never q.message q.read.0 q.read.1)
+silent call old new aw x4 said never = grind (arith, begun_one)
 
 -- ---- what comes of the controller
 

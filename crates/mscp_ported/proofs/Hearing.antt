@@ -70,13 +70,7 @@ module _ {K : Type 0} (old new : Port K) (t : Talk) (w : Wish) (bytes : List ℕ
       → old.stage ≡ stages.Up → read_by w.action bytes t ≡ t'
       → said ++ map said_in (begins old.outgoing l.outgoing) ≡ said'
       → texts ++ accepted_by (WasRead bytes (Ok done)) old ≡ texts' → InStep l t' None said' texts' → So
-  read_on l t' said' texts' e stage up talk more_said more_texts x =
-      subst (λ y. After (WasRead bytes (Ok done)) old y t (Some w) None said texts) (sym e)
-      (alters (WasRead bytes (Ok done)) old l t t' (Some w) None said said' texts texts' no_reset
-      (ap is_dead (stage ∙ up))
-      (ap (λ s. stepped old.stage s (read_by w.action bytes t)) stage
-      ∙ same_stage old.stage _ ∙ talk)
-      more_said more_texts x)
+  read_on l t' said' texts' e stage up talk more_said more_texts x = grind (arith, alters, no_reset, same_stage)
 
   -- nothing but the task became another, and nothing is accepted
   task_on : (task task' : Task) (turn : Turn) → old.task ≡ task → IsOfRings task
@@ -86,14 +80,7 @@ module _ {K : Type 0} (old new : Port K) (t : Talk) (w : Wish) (bytes : List ℕ
       → (IsTelling task → ⊥)
       → (IsTelling task' → ⊥) → in_hand task t.turn ≡ [] → in_hand task' turn ≡ [] → So
   task_on task task' turn at ring e talk none fits own has clear no_block calm calm' before after =
-      let up : old.stage ≡ stages.Up = k.hand.up (subst (λ x. IsOfRings x) (sym at) ring) in
-      read_on (record (look old) { task = task' }) (record t { turn = turn }) said texts e refl up talk
-      (none_said old.outgoing old.outgoing said refl) (ap (λ ys. texts ++ ys) none ∙ append-nil texts)
-      (up_step (look old) t (Some w) said said texts texts old.responses old.commands task' old.outgoing old.untold turn
-      t.told t.heard k up k.counts fits own has clear no_block
-      (told_on old.more old.task task' t.turn turn old.outgoing old.untold t.told said
-      (subst (λ x. IsTelling x → ⊥) (sym at) calm) calm' k.speech.tells)
-      (ap (λ xs. map message_text t.heard ++ xs) (after ∙ sym (ap (λ x. in_hand x t.turn) at ∙ before)) ∙ k.hears))
+      grind (arith, read_on, look, none_said, append-nil, up_step, told_on, in_hand)
 
   -- ---- a slot
 
@@ -171,13 +158,7 @@ module _ {K : Type 0} (old new : Port K) (t : Talk) (w : Wish) (bytes : List ℕ
 
   read_one : (x y : Turn) → t.turn ≡ x → IsRead w.action
       → ((address : ℕ) → read_turn t.rings address bytes x ≡ y) → read_by w.action bytes t ≡ record t { turn = y }
-  read_one x y e is h = by w.action is
-    where
-      by : (a : Action) → IsRead a → read_by a bytes t ≡ record t { turn = y }
-      by (actions.Read address count) is =
-          ap (λ u. record t { turn = read_turn t.rings address bytes u }) e
-          ∙ ap (λ u. record t { turn = u }) (h address)
-      by a is = absurd is
+  read_one x y e is h = grind arith
 
   neighbour_so : (side : Side) → old.task ≡ tasks.Neighbour side → So
   neighbour_so side at = by (is_owned (num bytes 0 4)) ((r.sees refl).neighbour side at)
@@ -301,11 +282,4 @@ module _ {K : Type 0} (old new : Port K) (t : Talk) (w : Wish) (bytes : List ℕ
   not_read task at none = absurd (none-some (length bytes) (sym none ∙ sym (ap read_size at) ∙ r.only refl))
 
   pub was_read : So
-  was_read = by old.task refl
-    where
-      by : (task : Task) → old.task ≡ task → So
-      by (tasks.Slot side) at = slot_read_so side at
-      by (tasks.Neighbour side) at = neighbour_so side at
-      by (tasks.Header slot) at = header_so slot at
-      by (tasks.Text slot size foreign) at = text_so slot size foreign at
-      by task at = not_read task at refl
+  was_read = grind (arith, slot_read_so, neighbour_so, header_so, text_so, not_read)

@@ -62,19 +62,7 @@ module _ {K : Type 0} (picks : List Choice → ℕ → Type 0) (c : Settings) (c
   -- and it is small
   pub small_figure : IsValid c → figure_of_name held.settings.budget held.waiting m < 2 ^ 32
   unfolding figure_of
-  small_figure valid = subst (λ x. x < 2 ^ 32) (sym shown)
-      (by (find (λ x. same_name (name t x) m) (waiting t)))
-    where
-      small : (x : ℕ) → figure c t x ≤ bound c
-      small = subst (λ z. (x : ℕ) → figure c z x ≤ bound c) (take_all (length t) t (search arith))
-          (q.promise.small (length t) (search arith))
-
-      less : (a b : ℕ) → a ≤ b → b < 2 ^ 32 → a < 2 ^ 32
-      less a b h k = omega (arith, h, k)
-
-      by : (o : Option ℕ) → figure_found c t o < 2 ^ 32
-      by None = omega arith
-      by (Some x) = less (figure c t x) (bound c) (small x) valid.small_bound
+  small_figure valid = grind (arith, shown, take_all)
 
 -- ---- the law
 

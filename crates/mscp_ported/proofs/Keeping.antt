@@ -16,12 +16,7 @@ use Rattle.mscp_ported.proofs.Sole.{served_goes_on, served_itself, served_other}
 -- an end tells the number of its command
 pub end_number : (k : Block) (d : Drive) (r : Record) (e : End) → end_given k d r ≡ Some e
     → e.reference ≡ r.command.reference
-end_number k d r e h = by (goes_on d.online r.command.order k (left_of r)) h
-  where
-    by : (b : Bool) → cond b None (Some (outcome_at d.unit d.online r.command r.good k)) ≡ Some e
-        → e.reference ≡ r.command.reference
-    by true h = absurd (none-some e h)
-    by false h = sym (ap (λ (x : End). x.reference) (same_Some (outcome_at d.unit d.online r.command r.good k) e h))
+end_number k d r e h = grind (arith, none-some, same_Some)
 
 among_after : (via : Connection) (o : Option End) (bs : List Buffer) (b : Buffer) → Contains (kept_after via o bs) b
     → Contains bs b
@@ -40,13 +35,7 @@ more_parts : (kind : MoveKind) (unit address first count n : ℕ) (order : Order
     → (xs : List Action) → xs ≡ parts_of order unit address n
     → xs ++ actions.Transfer kind unit (first + n) (address + n * 512) (min (count - n * 512) 512) ∷ []
     ≡ parts_of order unit address (n + 1)
-more_parts kind unit address first count n order is xs e =
-    ap (λ ys. ys ++ actions.Transfer kind unit (first + n) (address + n * 512) (min (count - n * 512) 512) ∷ [])
-    (e ∙ ap (λ o. parts_of o unit address n) is)
-    ∙ ap (transfers kind unit first address count) (after_it n) ∙ sym (ap (λ o. parts_of o unit address (n + 1)) is)
-  where
-    after_it : (n : ℕ) → suc n ≡ n + 1
-    after_it n = search arith
+more_parts kind unit address first count n order is xs e = grind (arith, parts_of)
 
 -- there are so many blocks
 still_bytes : (count done : ℕ) → 1 < order_weight (orders.Move moves.Read count 0) - done → done * 512 < count
@@ -149,14 +138,7 @@ module _ {K : Type 0} (picks : Picking K) (start p : Port K) (calls : List Call)
   -- no step is taken
   none_done : (IsStepping a.0.task → a.0.controller.begun ≡ None) → (n : ℕ)
       → done_by n (Went outcome (Ok done)) (wish calls) a.0 ≡ []
-  none_done none n = by a.0.task refl
-    where
-      by : (t : Task) → a.0.task ≡ t → done_by n (Went outcome (Ok done)) (wish calls) a.0 ≡ []
-      by tasks.Transfer e = no_done (is_done outcome) (is_moving a.0.task) (is_step_of n (begun_step a.0.controller))
-          (wanted (wish calls)) (ap (λ o. is_step_of n (upcoming_begun a.0.controller.drives a.0.controller.waiting
-          o)) (none (subst (λ x. IsStepping x) (sym e) tt)))
-      by t e = none_moving (is_done outcome) (is_moving a.0.task) (is_step_of n (begun_step a.0.controller))
-          (wanted (wish calls)) (ap is_moving e)
+  none_done none n = grind (arith, no_done, none_moving)
 
   went_owned : After
   went_owned = elim (went_is (picks a.0.controller.picker) outcome done a.0 p a.2) [
@@ -189,12 +171,7 @@ module _ {K : Type 0} (picks : Picking K) (hardware : Hardware) (credits : ℕ) 
     (start : Port K) (made : IsMadeOf hardware credits controller start) where
   passive_owned : (p : Port K) (call : Call) (calls : List Call) (a : Answered picks start (call ∷ calls) p)
       → IsPassive call → AreOwned picks start a.0 calls a.1 → AreOwned picks start p (call ∷ calls) a
-  passive_owned p call calls a is owned = elim (passive_stays picks call a.0 p a.2 is) [
-    | inl s ↦ quiet picks start p call calls a (passive_comes call a.0 is) (passive_done call (wish calls) a.0 is)
-        (ap (λ (h : Holdings K). h.waiting) s.0)
-        (λ b there. subst (λ bs. Contains bs b) (ap (λ x. x.items) s.4) there) owned
-    | inr d ↦ nothing_kept picks start p (call ∷ calls) a d.1.buffers
-  ]
+  passive_owned p call calls a is owned = grind (arith, passive_stays, quiet, passive_comes, passive_done, nothing_kept)
 
   pub are_owned : (p : Port K) (calls : List Call) → AsksAlways calls → (a : Answered picks start calls p)
       → AreOwned picks start p calls a

@@ -1,5 +1,5 @@
 -- What a port's controller answers to the calls that the port makes of it, by one call of its own.
-use Rattle.mscp_ported.proofs.Common.{AnsweredCalls, Block, Bool, Call, Choice, End, Err, Finish, First, Goes, Hears, Holdings, IsFinish, IsForgotten, IsReadingText, List, Made, Makes, MatchOption, MoveKind, Name, None, Ok, Option, Outcome, Picking, Plain, Port, Result, Some, TakesBegun, TakesBlock, Task, Unasked, Upcoming, Verdict, WasRead, Went, [], answered_to, ap, block_begun, block_of, block_served, block_told, handed, inl, inr, none-some, own_end_of, part_now, part_served, refl, send_made, step_told, subst, sym, told_as, told_of, told_unless, transfer_told, unless_own, ℕ, ◌++◌, ◌∙◌, ◌∷◌, ◌≡◌, ◌⊎◌}
+use Rattle.mscp_ported.proofs.Common.{AnsweredCalls, Block, Bool, Call, Choice, End, Err, Finish, First, Goes, Hears, Holdings, IsFinish, IsForgotten, IsReadingText, List, Made, Makes, MatchOption, MoveKind, Name, None, Ok, Option, Outcome, Picking, Plain, Port, Result, Some, TakesBegun, TakesBlock, Task, Unasked, Upcoming, Verdict, WasRead, Went, [], answered_to, ap, block_begun, block_of, block_served, block_told, handed, inl, inr, none-some, own_end_of, part_now, part_served, refl, send_made, step_told, subst, sym, told_as, told_of, told_unless, transfer_told, unless_own, ℕ, ◌++◌, ◌∙◌, ◌∷◌, ◌≡◌, ◌⊎◌, arith}
 use Rattle.mscp_drive.specs.declared.event.Event.TheVariants as events
 use Rattle.mscp_controller.specs.declared.entry.Entry.TheVariants as entries
 use Rattle.mscp_port.specs.declared.action.Outcome.TheVariants as outcomes

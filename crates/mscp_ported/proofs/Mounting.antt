@@ -19,12 +19,7 @@ set_one : (why because : Type 0) (place q : ℕ) (vs : List Volume) (x : Volume)
     → (place ≡ q → Mounted why (volume_at vs place) → Mounted because x)
     → (place ≢ q → Mounted why (volume_at vs place) → Mounted because (volume_at vs place))
     → Mounted why (volume_at vs place) → Mounted because (volume_at (set vs q x) place)
-set_one why because place q vs x here elsewhere m = by (set_at place q vs x)
-  where
-    by : SetAt place q vs x → Mounted because (volume_at (set vs q x) place)
-    by (Here same e) = subst (λ v. Mounted because v) (sym e) (here same m)
-    by (Past past e) = not_mounted because (volume_at (set vs q x) place) (ap (λ (v : Volume). v.is_mounted) e)
-    by (Elsewhere other e) = subst (λ v. Mounted because v) (sym e) (elsewhere other m)
+set_one why because place q vs x here elsewhere m = grind (arith, set_at, not_mounted)
 
 -- how often the volume changes by that
 abbrev counted : Bool → ℕ
@@ -48,12 +43,7 @@ other_volume why because becomes units unit to place (Some q) vs on off here the
 -- the one that came
 pub one_ended : (via : Connection) (code unit : ℕ) (e : End) → Ended code unit (brought_for via (Some e))
     → (e.code ≡ code) × (e.unit ≡ unit) × (e.status % 32 ≡ 0)
-one_ended First code unit e h = by h.0 h.1 h.2 h.3 h.4
-  where
-    by : (x : End) → Contains (e ∷ []) x → x.code ≡ code → x.unit ≡ unit → x.status % 32 ≡ 0
-        → (e.code ≡ code) × (e.unit ≡ unit) × (e.status % 32 ≡ 0)
-    by x there is of good = search (arith, there, is, of, good)
-one_ended Second code unit e h = absurd (none_ended code unit [] refl h)
+one_ended x0 code unit e h = grind (arith, none_ended)
 
 heeded_at : (units : List Shape) (e : End) (o : Option ℕ) → place_heeded units e ≡ o → (place : ℕ) → o ≡ Some place
     → (e.status % 32 ≡ 0) × (place_in units e.unit ≡ Some place)

@@ -14,13 +14,7 @@ use Rattle.mscp_ported.proofs.Sole.{found_all}
 pub good_told : (o : Option Block) (n : Option Name) (via : Connection) (reference : ℕ)
     (result : Result Report NotBegun) → IsFinish o n (Finish via reference blocks.Good result ∷ [])
     → o ≡ Some blocks.Good
-good_told (Some block) (Some name) via reference result h = ap (λ xs. block_in xs) (sym h.1)
-  where
-    block_in : List Made → Option Block
-    block_in (Finish v r k answer ∷ more) = Some k
-    block_in xs = None
-good_told (Some block) None via reference result h = search (arith, h)
-good_told None n via reference result h = search (arith, h)
+good_told x0 x1 via reference result h = grind arith
 
 good_verdict : (verdict : Verdict) → told_of verdict ≡ blocks.Good → verdict ≡ verdicts.Served blocks.Good
 good_verdict (verdicts.Served block) e = ap verdicts.Served e
@@ -106,39 +100,14 @@ module _ (u : Upcoming) (kind : MoveKind) (block : ℕ) (moves : block_moved u.c
     -- and one with a block only where it has some
     some_part : (at : MoveKind × ℕ) (b : Buffer) (v : Volume) (r : Result (ℕ × ℕ) Verdict)
         → part_with at.0 at.1 u.done b v ≡ r → part_task r ≡ tasks.Transfer → u.done * 512 < b.count
-    some_part at b v (Ok part) e h = by (nat_eq part.1 0) refl h
-      where
-        by : (c : Bool) → nat_eq part.1 0 ≡ c
-            → cond c (tasks.Step (verdicts.Served blocks.Good)) tasks.Transfer ≡ tasks.Transfer → u.done * 512 < b.count
-        by true is h = search (arith, h)
-        by false is h = some_left b.count (u.done * 512) part.1
-            (part_is b u.done part (part_left at.0 at.1 u.done b v part e)).1 is
-    some_part at b v (Err verdict) e h = search (arith, h)
+    some_part at b v x3 e h = grind (arith, nat_eq, some_left, part_is, part_left)
 
     some_step : (b : Buffer) (v : Volume) → task_of u b v ≡ tasks.Transfer → u.done * 512 < b.count
-    some_step b v e =
-        let a = is_move u.command.order u.lbn (kind, block) moves in
-        by (is_available u.command.order) (v.is_there && takes_any_volume u.command.order) (has_changed b v) (move_of u)
-        move_so e
-      where
-        good : Task
-        good = tasks.Step (verdicts.Served blocks.Good)
-
-        by : (x y z : Bool) (q : Option (MoveKind × ℕ)) → q ≡ Some (kind, block)
-            → cond x good (cond y good (cond z (tasks.Step (changed_verdict v)) (move_task u q b v))) ≡ tasks.Transfer
-            → u.done * 512 < b.count
-        by true y z q is h = search (arith, h)
-        by false true z q is h = search (arith, h)
-        by false false true q is h = search (arith, h)
-        by false false false None is h = absurd (none-some (kind, block) is)
-        by false false false (Some at) is h = some_part at b v (part_with at.0 at.1 u.done b v) refl h
+    some_step b v e = grind (arith, is_move, move_so, none-some, some_part)
 
     begun_some : (o : Option ℕ) (k : Option Buffer) (volumes : List Volume) → known_task u o k volumes ≡ tasks.Transfer
         → (b : Buffer) → k ≡ Some b → u.done * 512 < b.count
-    begun_some (Some place) (Some x) volumes e b is =
-        subst (λ y. u.done * 512 < y.count) (same_Some x b is) (some_step x (volume_at volumes place) e)
-    begun_some None k volumes e b is = search (arith, e)
-    begun_some (Some place) None volumes e b is = search (arith, e)
+    begun_some x0 x1 volumes e b is = grind (arith, same_Some, some_step)
 
     -- a part is known only of a buffer that is kept
     part_of_kept : (o : Option ℕ) (k : Option Buffer) (volumes : List Volume) (part : ℕ × ℕ)
@@ -191,16 +160,7 @@ module _ (u : Upcoming) (kind : MoveKind) (block : ℕ) (moves : block_moved u.c
         by (Err verdict) e told (Some x) some wanted = absurd (bad verdict e (ap (told_unless outcome) (sym e) ∙ told))
           where
             bad : (verdict : Verdict) → part_now old u kind block ≡ Err verdict → told_of verdict ≡ blocks.Good → ⊥
-            bad verdict e h = no_good_now (place_in old.controller.settings.units u.command.unit)
-                (kept_of u.connection u.command.reference old.buffers.items) e (good_verdict verdict h)
-              where
-                no_good_now : (o : Option ℕ) (k : Option Buffer)
-                    → part_at o k kind block u.done old.volumes ≡ Err verdict
-                    → verdict ≡ verdicts.Served blocks.Good → ⊥
-                no_good_now (Some place) (Some b) e is =
-                    no_good_part kind block u.done b (volume_at old.volumes place) verdict e is
-                no_good_now None k e is = search (arith, e, is)
-                no_good_now (Some place) None e is = search (arith, e, is)
+            bad verdict e h = grind (arith, good_verdict, no_good_part)
 
 -- ---- who said it
 

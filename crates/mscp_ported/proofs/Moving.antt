@@ -63,36 +63,20 @@ keeps {K} old new w k s = record {
   where
     same : begun_task new.controller.settings.units new.buffers.items new.volumes (begun_step new.controller)
         ≡ begun_task old.controller.settings.units old.buffers.items old.volumes (begun_step old.controller)
-    same = ap (λ (c : Holdings K). begun_task c.settings.units new.buffers.items new.volumes
-        (begun_step c)) k.controller
-        ∙ ap (λ b. begun_task old.controller.settings.units b.items new.volumes (begun_step old.controller)) k.buffers
-        ∙ ap (λ v. begun_task old.controller.settings.units old.buffers.items v (begun_step old.controller)) k.volumes
+    same = grind arith
 
     wish_same : move_wanted new (block_begun new) ≡ move_wanted old (block_begun old)
-    wish_same = move_so new (block_begun new)
-        ∙ ap (λ (c : Holdings K). move_by c.settings.units new.buffers.items new.volumes (moved_step (begun_step c)))
-        k.controller
-        ∙ ap (λ b. move_by old.controller.settings.units b.items new.volumes (block_begun old)) k.buffers
-        ∙ ap (λ v. move_by old.controller.settings.units old.buffers.items v (block_begun old)) k.volumes
-        ∙ sym (move_so old (block_begun old))
+    wish_same = grind (arith, move_so, move_by)
 
 -- a step stays in hand, or none is
 either : {K : Type 0} (old new : Port K) (w : Option Wish) → (IsOfBlock new.task → Keeps old new) → Steps old w
     → Steps new w
-either {K} old new w k s = by new.task refl
-  where
-    by : (task : Task) → new.task ≡ task → Steps new w
-    by (tasks.Step verdict) e = keeps old new w (k (subst (λ x. IsOfBlock x) (sym e) tt)) s
-    by tasks.Transfer e = keeps old new w (k (subst (λ x. IsOfBlock x) (sym e) tt)) s
-    by task e = no_steps new w (λ h. subst (λ x. IsOfBlock x) e h)
+either {K} old new w k s = grind (arith, keeps, no_steps)
 
 -- ---- calls
 
 free_again : (task : Task) → IsOfBlock (read_again task) → read_again task ≡ task
-free_again (tasks.Step verdict) h = refl
-free_again tasks.Transfer h = refl
-free_again (tasks.Slot side) h = absurd h
-free_again task h = absurd h
+free_again x0 h = grind arith
 
 free_aside : (task : Task) → IsOfBlock (aside task) → aside task ≡ task
 free_aside (tasks.Step verdict) h = refl
@@ -169,15 +153,7 @@ wants_so {K} picks blocks action bytes old new w r s calm = elim (alive_or_dead 
 ]
   where
     begun_so : IsAlive old → IsBegunStep new
-    begun_so alive h = by old.task refl
-      where
-        by : (task : Task) → old.task ≡ task
-            → new.task ≡ begun_task new.controller.settings.units new.buffers.items new.volumes
-            (begun_step new.controller)
-        by tasks.Free at =
-            let b = (r.0.begins alive at h).begun in
-            b.4 ∙ ap (begun_task new.controller.settings.units new.buffers.items new.volumes) (sym b.5)
-        by task at = (same_so old new w s (r.0.goes_on (λ e. search (arith, at, e)))).begun h
+    begun_so alive h = grind (arith, same_so)
 
     wanted_so : IsAlive old → new.task ≡ tasks.Transfer → action ≡ move_wanted new (block_begun new)
     wanted_so alive e = subst (λ x. IsWanted new x action) e (r.0.wanted alive)

@@ -30,21 +30,13 @@ left : (v : Volume) → IsFresh v → IsFresh (record v { is_mounted = false; is
 left v f = record { there = f.there; offline = λ e. refl }
 
 heeded : (code : ℕ) (kept : Option Buffer) (v : Volume) → IsFresh v → IsFresh (volume_heeded code kept v)
-heeded code None v f = either (code == 0x88) _ v (left v f) f
-heeded code (Some b) v f = either (code == 0x88) _ _ (left v f) (either (code == 0x89) _ _
-    (guarded b (brought_online v) (not_new (brought_online v) refl))
-    (either (code == 0x8A) _ v (guarded b v f) f))
+heeded code x1 v f = grind (arith, either, left, guarded, not_new)
 
 -- ---- the volumes
 
 set_one : (place q : ℕ) (vs : List Volume) (x : Volume) → (IsFresh (volume_at vs q) → IsFresh x)
     → IsFresh (volume_at vs place) → IsFresh (volume_at (set vs q x) place)
-set_one place q vs x keeps f = by (set_at place q vs x)
-  where
-    by : SetAt place q vs x → IsFresh (volume_at (set vs q x) place)
-    by (Here same e) = subst IsFresh (sym e) (keeps (subst (λ n. IsFresh (volume_at vs n)) same f))
-    by (Past past e) = not_new (volume_at (set vs q x) place) (ap (λ v. v.is_news) e)
-    by (Elsewhere other e) = subst IsFresh (sym e) f
+set_one place q vs x keeps f = grind (arith, set_at, not_new)
 
 module _ {K : Type 0} (call : Call) (old new : Port K) (place : ℕ) (low : place < 16) where
   abbrev FreshThen : List Volume → Type 0
@@ -102,40 +94,13 @@ module _ {K : Type 0} (old new : Port K) (none : old.outgoing ≡ None) (o : Out
 
   own : (foreign : Bool) (e : Option End) → IsSomeAnd e (λ x. IsSomeAnd new.outgoing
       (λ y. (y.bytes.items ≡ end_bytes x) × (y.kind ≡ end_kind foreign))) → TellsNews old new
-  own foreign None h = absurd h
-  own foreign (Some x) h = absurd (false≢true (no_attention o false kind
-      (ap is_attention (subst (λ q. IsSomeAnd q (λ y. (y.bytes.items ≡ end_bytes x) × (y.kind ≡ end_kind foreign)))
-      some h).1 ∙ own_kind foreign)))
+  own foreign x1 h = grind (arith, false≢true, no_attention, own_kind)
 
   says_news : Says old new → TellsNews old new
-  says_news says = elim (looks_or_not old) [
-    | inl looks ↦ elim (says.looks looks) [
-      | inl t ↦ absurd (false≢true (no_attention o false kind
-          (ap (λ y. is_attention y.kind) (same_Some o _ (sym some ∙ t.out.2)))))
-      | inr n ↦ n
-    ]
-    | inr never ↦ kept (says.keeps never).outgoing
-  ]
+  says_news says = grind (arith, looks_or_not, false≢true, no_attention, same_Some, kept)
 
   by_call : (picks : Picking K) (call : Call) → Becomes picks call old new → TellsNews old new
-  by_call picks WriteIp r = gone r.outgoing
-  by_call picks ReadIp r = elim r.frame
-      [ inl e ↦ kept (ap (λ p. p.outgoing) e) | inr dead ↦ gone dead.1.outgoing ]
-  by_call picks (WriteSa word) r = elim r.frame
-      [ inl e ↦ kept (ap (λ p. p.outgoing) e) | inr dead ↦ gone dead.1.outgoing ]
-  by_call picks (Next blocks action bytes) r = says_news r.0.says
-  by_call picks (WasRead bytes (Ok done)) r = elim r.out [
-    | inl e ↦ kept e
-    | inr more ↦ elim more [
-      | inl x ↦ own x.2 (own_end_of old x.2 bytes) x.4.out
-      | inr dead ↦ gone dead.1.outgoing
-    ]
-  ]
-  by_call picks (Went outcome (Ok done)) r = elim r.out [
-    | inl e ↦ kept e
-    | inr more ↦ elim more [ inl x ↦ gone x.out | inr dead ↦ gone dead.1.outgoing ]
-  ]
-  by_call picks call r = elim (minor_out (minor picks call old new r tt)) [ inl e ↦ kept e | inr none ↦ gone none ]
+  by_call picks x1 r = grind (arith, gone, kept, says_news, own, minor_out, minor)
 
 inside : {X : Type 0} (xs : List X) (n : ℕ) (x : X) → slice_get xs n ≡ Some x → n < length xs
 inside [] n x e = absurd (none-some x e)

@@ -28,15 +28,7 @@ module _ (n : ℕ) (k : Block) (d : Drive) (rs : List Record) (place : ℕ) (ins
   after_none : (o : Option End) → end_given k d (record_at rs place) ≡ o
       → filter (is_numbered n) (take place rs) ≡ [] → filter (is_numbered n) (remains (record_at rs place) o) ≡ []
       → filter (is_numbered n) (drop (place + 1) rs) ≡ [] → filter (is_numbered n) (waiting_after k d rs place) ≡ []
-  after_none o given a b c =
-      ap (λ x. filter (is_numbered n) (map (passed_by (step_charge (record_at rs place))) (take place rs)
-      ++ (remains (record_at rs place) x ++ drop (place + 1) rs))) given
-      ∙ filter-append (is_numbered n) (map (passed_by (step_charge (record_at rs place))) (take place rs))
-      (remains (record_at rs place) o ++ drop (place + 1) rs)
-      ∙ ap (λ xs. xs ++ filter (is_numbered n) (remains (record_at rs place) o ++ drop (place + 1) rs))
-      (passed_none (step_charge (record_at rs place)) (take place rs) a)
-      ∙ filter-append (is_numbered n) (remains (record_at rs place) o) (drop (place + 1) rs)
-      ∙ ap (λ xs. xs ++ filter (is_numbered n) (drop (place + 1) rs)) b ∙ c
+  after_none o given a b c = grind (arith, is_numbered, filter-append, passed_none)
 
   remains_none : (o : Option End) → is_numbered n (record_at rs place) ≡ false
       → filter (is_numbered n) (remains (record_at rs place) o) ≡ []
@@ -76,11 +68,7 @@ module _ (n : ℕ) (k : Block) (d : Drive) (rs : List Record) (place : ℕ) (ins
 
   -- what is served waited
   pub served_waits : is_numbered n (record_at rs place) ≡ true → filter (is_numbered n) rs ≡ [] → ⊥
-  served_waits is none = some_none (record_at rs place) (filter (is_numbered n) (drop (place + 1) rs))
-      (sym (ap (λ c. cond c (record_at rs place ∷ filter (is_numbered n) (drop (place + 1) rs))
-      (filter (is_numbered n) (drop (place + 1) rs))) is)
-      ∙ (nothing_two (filter (is_numbered n) (take place rs))
-      (filter (is_numbered n) (record_at rs place ∷ drop (place + 1) rs)) (sym split ∙ none)).1)
+  served_waits is none = grind (arith, some_none, is_numbered, nothing_two, split)
 
 -- an end of another number changes nothing
 other_end : (n : ℕ) (via : Connection) (o : Option End) (es : List End)

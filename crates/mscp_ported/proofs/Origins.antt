@@ -119,10 +119,4 @@ formal_code n e = grind (arith, e)
 
 -- it is told with its own code, if that isn't a formality's
 pub told_same : (o : Option Buffer) (code : ℕ) → ends_formality (code_told o code) ≡ false → code_told o code ≡ code
-told_same None code e = refl
-told_same (Some b) code e = by (is_formality b.opcode) refl e
-  where
-    by : (x : Bool) → is_formality b.opcode ≡ x → ends_formality (cond x (b.opcode + 0x80) code) ≡ false
-        → cond x (b.opcode + 0x80) code ≡ code
-    by true is h = search (arith, sym (formal_code b.opcode is) ∙ h)
-    by false is h = refl
+told_same x0 code e = grind (arith, formal_code)

@@ -19,10 +19,7 @@ move_else p (Some m) = by (part_now p m.0 m.1 m.2)
     by (Err status) = tt
 
 else_calm : (s : Stage) (t : Talk) (action : Action) (bytes : List ℕ) → IsElse action → IsCalm s t action bytes
-else_calm s t (actions.Read address count) bytes h = absurd h
-else_calm s t (actions.Write address count) bytes h = absurd h
-else_calm s t (actions.Interrupt vector) bytes h = absurd h
-else_calm s t action bytes h = tt
+else_calm s t x2 bytes h = grind arith
 
 given_same : {K : Type 0} (p : Port K) (side : Side) → given_in p side ≡ given_at (look p) side
 given_same p Responses = refl
@@ -51,42 +48,7 @@ module _ {K : Type 0} (p : Port K) (t : Talk) (action : Action) (bytes : List �
       → p.rings ≢ None)
       → (NeedsOut task → p.outgoing ≢ None)
       → IsAsked (look p) task (record { action = action; bytes = bytes })
-  asked_of tasks.Free h is some out = tt
-  asked_of tasks.Settle h is some out = subst (λ x. IsElse x) (sym h) tt
-  asked_of (tasks.Clear done) h is some out = tt
-  asked_of (tasks.Slot side) h is some out =
-      in_rings (λ r. action ≡ actions.Read (slot_in r side (given_in p side)) 4)
-      (IsSomeAnd p.rings (λ r. action ≡ actions.Read (slot_in r side (given_at
-      (look p) side)) 4)) p.rings refl (some tt) h
-      (λ r e x. subst (λ o. IsSomeAnd o (λ y. action ≡ actions.Read (slot_in y side (given_at
-      (look p) side)) 4)) (sym e)
-      (x ∙ ap (λ n. actions.Read (slot_in r side n) 4) (given_same p side)))
-  asked_of (tasks.Header slot) h is some out = subst (λ x. IsRead x) (sym h) tt
-  asked_of (tasks.Text slot size foreign) h is some out = subst (λ x. IsRead x) (sym h) tt
-  asked_of (tasks.Packet slot) h is some out = (
-    (length (packet_out p p.outgoing), h),
-    by p.outgoing refl (out_of p p.outgoing refl (out tt)),
-  )
-    where
-      by : (o : Option Outgoing) → p.outgoing ≡ o
-          → IsSomeAnd o (λ x. packet_out p o ≡ packet_of (credits_by p.untold x.kind) x.kind x.bytes.items)
-          → IsSomeAnd o (λ x. bytes ≡ packet_of (credits_by p.untold x.kind) x.kind x.bytes.items)
-      by None e h = h
-      by (Some x) e h = is ∙ ap (packet_out p) e ∙ h
-  asked_of (tasks.Return side slot) h is some out =
-      in_rings (λ r. action ≡ actions.Write (slot_in r side (given_in p side)) 4)
-      (IsWrite action) p.rings refl (some tt) h
-      (λ r e x. subst (λ y. IsWrite y) (sym x) tt)
-  asked_of (tasks.Neighbour side) h is some out =
-      in_rings (λ r. action ≡ actions.Read (slot_in r side (given_in p side + 2 * slots_of r side - 2)) 4)
-      (IsRead action)
-      p.rings refl (some tt) h (λ r e x. subst (λ y. IsRead y) (sym x) tt)
-  asked_of (tasks.Word side) h is some out =
-      in_rings (λ r. action ≡ actions.Write (word_of r side) 2) (IsWrite action) p.rings refl (some tt) h
-      (λ r e x. subst (λ y. IsWrite y) (sym x) tt)
-  asked_of tasks.Interrupt h is some out = subst (λ x. IsInterrupt x) (sym h) tt
-  asked_of (tasks.Step verdict) h is some out = subst (λ x. IsElse x) (sym h) tt
-  asked_of tasks.Transfer h is some out = subst (λ x. IsElse x) (sym h) (move_else p (block_begun p))
+  asked_of x0 h is some out = grind (arith, in_rings, given_at, look, given_same, out_of, move_else)
 
   owed_open : (turn : Turn) → IsOpen turn → IsCalm p.stage t action bytes → IsOwed p.stage t turn action bytes
   owed_open Idle fit h = h

@@ -209,20 +209,12 @@ module _ {K : Type 0} (picks : Picking K) (start : Port K) (p : Port K) (calls :
       opcode_kept : (b : Buffer) → buffer_in bytes (changes_at a.0.volumes
           (place_in a.0.controller.settings.units (num bytes 4 2))) ≡ b
           → asks_nothing b.opcode ≡ false → is_formality (slice_index bytes 8) ≡ false
-      opcode_kept b e asks =
-          sym (ap (λ t. is_formality (cond t 0 (slice_index bytes 8))) {x = nat_lt (length bytes) 9} {y = false}
-          (no_shorter 9 (length bytes) (omega arith) g.long))
-          ∙ ap (λ (x : Buffer). is_formality x.opcode) e ∙ asks
+      opcode_kept b e asks = grind (arith, nat_lt, no_shorter)
 
       other_number : (b : Buffer) (c : Bool) → nat_eq (num bytes 0 4) b.reference ≡ c → (r : Record)
           → filter (is_numbered b.reference) a.0.controller.waiting ≡ r ∷ []
           → filter (is_numbered (num bytes 0 4)) a.0.controller.waiting ≡ [] → c ≡ false
-      other_number b false e r sole new = refl
-      other_number b true e r sole new = search (
-        arith,
-        sym new ∙ subst (λ m. filter (is_numbered m) a.0.controller.waiting ≡ r ∷ [])
-            (sym (eqb-true (num bytes 0 4) b.reference e)) sole,
-      )
+      other_number b x1 e r sole new = grind (arith, is_numbered, eqb-true)
 
   pub read_owned : After
   read_owned = elim (read_is bytes done a.0 p a.2) [

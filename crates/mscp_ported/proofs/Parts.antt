@@ -27,13 +27,7 @@ part_left kind block at b v part e = grind arith
 
 pub no_good_part : (kind : MoveKind) (block at : ℕ) (b : Buffer) (v : Volume) (verdict : Verdict)
     → part_with kind block at b v ≡ Err verdict → IsNoGood verdict
-no_good_part kind block at b v verdict e = by (fault_with kind block b v) (part_of b at) (faulty kind block b v) e
-  where
-    by : (o : Option Verdict) (q : Option (ℕ × ℕ)) → IfSome o IsNoGood → unless_fault o q ≡ Err verdict
-        → verdict ≢ verdicts.Served blocks.Good
-    by (Some x) q h e = search (arith, e, h)
-    by None None h e = search (arith, e)
-    by None (Some x) h e = search (arith, e)
+no_good_part kind block at b v verdict e = grind (arith, faulty)
 
 pub part_is : (b : Buffer) (at : ℕ) (part : ℕ × ℕ) → part_of b at ≡ Some part
     → (part.0 ≡ b.address + at * 512) × (part.1 ≡ min (b.count - at * 512) 512)

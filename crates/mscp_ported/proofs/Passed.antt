@@ -41,10 +41,7 @@ module _ {K : Type 0} (picks : Picking K) (c : Settings) (picker : K)
 
   passive_grown : (p : Port K) (call : Call) (calls : List Call) (a : Answered picks start (call ∷ calls) p)
       → IsPassive call → is_dead p.stage ≡ false → Grown call a.0 p
-  passive_grown p call calls a is lives = elim (passive_stays picks call a.0 p a.2 is) [
-    | inl s ↦ grown_none call a.0 p (ap (λ (h : Holdings K). ends_of h) s.0)
-    | inr d ↦ absurd (search (arith, lives, ap is_dead d.1.stage))
-  ]
+  passive_grown p call calls a is lives = grind (arith, passive_stays, grown_none, ends_of)
 
   -- by a message
   read_passes : (p : Port K) (calls : List Call) (bytes : List ℕ) (done : Unit)
@@ -61,11 +58,7 @@ module _ {K : Type 0} (picks : Picking K) (c : Settings) (picker : K)
           (waits_so a.0 calls reads.1 a.1) lives
 
       same_bytes : (b : List ℕ) (u : Unit) → WasRead bytes (Ok done) ≡ WasRead b (Ok u) → bytes ≡ b
-      same_bytes b u e = ap bytes_read e
-        where
-          bytes_read : Call → List ℕ
-          bytes_read (WasRead z r) = z
-          bytes_read call = bytes
+      same_bytes b u e = grind arith
 
       poll : (b : List ℕ) (u : Unit) → WasRead bytes (Ok done) ≡ WasRead b (Ok u)
           → TakesPoll (num b 12 4) (WasRead bytes (Ok done)) a.0

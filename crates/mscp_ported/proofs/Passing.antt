@@ -171,12 +171,7 @@ module _ {K : Type 0} (bytes : List ℕ) (done : Unit) (old new : Port K) (aw : 
         → (q ≡ false) × (map pending_end (option_to_list (option_map aborted_record
         (record_aborted First h.waiting command.order)) ++ answered_end First h command ∷ [])
         ≡ record { number = num bytes 0 4; figure = figure_on old (num bytes 12 4) } ∷ [])
-    polled_now poll long q e =
-        let same : command ≡ polled bytes = poll_sent old.controller.settings.units bytes poll long in (
-          sym e ∙ ap (is_queued h.settings) same,
-          ap (λ c. map pending_end (option_to_list (option_map aborted_record
-              (record_aborted First h.waiting c.order)) ++ answered_end First h c ∷ [])) same,
-        )
+    polled_now poll long q e = grind (arith, polled, poll_sent)
 
     taken_comes : Queues g.slot bytes old new ⊎ Answers g.slot bytes old new → Comes
     taken_comes (inl q) = (

@@ -60,11 +60,7 @@ first_silent s = grind arith
 -- the host wrote IP
 pub writes_ip : {K : Type 0} (old new : Port K) (t : Talk) (w v : Option Wish) (said : List Said)
     (texts : List (List ℕ)) → IsAsNew stages.First old new → After WriteIp old (look new) t w v said texts
-writes_ip old new t w v said texts n =
-    subst (λ x. InStep (look new) x v [] []) (sym is_silent) (anew stages.First old new v n refl)
-  where
-    is_silent : talk_after old.stage new.stage w WriteIp t ≡ silence
-    is_silent = ap (λ s. talk_after old.stage s w WriteIp t) n.stage ∙ first_silent old.stage
+writes_ip old new t w v said texts n = grind (arith, look, anew, first_silent)
 
 -- or a fatal error came
 pub dies : {K : Type 0} (call : Call) (code : ℕ) (old new : Port K) (t : Talk) (w v : Option Wish) (said : List Said)
@@ -83,16 +79,10 @@ MayDrop tasks.Transfer = Unit {0}
 MayDrop task = ⊥
 
 drop_open : (l : Look) (task : Task) (turn : Turn) → MayDrop task → Fits l task turn → IsOpen turn
-drop_open l (tasks.Slot side) turn may fit = fit
-drop_open l (tasks.Step verdict) turn may fit = fit
-drop_open l tasks.Transfer turn may fit = fit
-drop_open l task turn may fit = absurd may
+drop_open l x1 turn may fit = grind arith
 
 drop_hand : (task : Task) (turn : Turn) → MayDrop task → in_hand task turn ≡ []
-drop_hand (tasks.Slot side) turn may = refl
-drop_hand (tasks.Step verdict) turn may = refl
-drop_hand tasks.Transfer turn may = refl
-drop_hand task turn may = absurd may
+drop_hand x0 turn may = grind arith
 
 drop_calm : (task : Task) → MayDrop task → IsTelling task → ⊥
 drop_calm (tasks.Return side slot) may h = may
@@ -104,10 +94,7 @@ StaysOrDrops before after = (after ≡ before) ⊎ ((after ≡ tasks.Free) × Ma
 -- a task that is not of the rings tells nothing
 pub not_of_rings : (task : Task) → (IsOfRings task → ⊥)
     → (NeedsOut task → ⊥) × (IsTelling task → ⊥) × ((turn : Turn) → in_hand task turn ≡ [])
-not_of_rings (tasks.Slot side) never = absurd (never tt)
-not_of_rings (tasks.Packet slot) never = absurd (never tt)
-not_of_rings (tasks.Return side slot) never = absurd (never tt)
-not_of_rings task never = ((λ h. h), (λ h. h), λ turn. refl)
+not_of_rings x0 never = grind arith
 
 -- such a task is in hand now, and nothing else changed but the turn and whether a word waits
 pub retask : (l : Look) (t : Talk) (w v : Option Wish) (said : List Said) (texts : List (List ℕ)) (word : Option ℕ)
@@ -151,14 +138,7 @@ retask l t w v said texts word task turn k answer fits asked no_rings no_step cl
 
 pub dropped : (l : Look) (t : Talk) (w : Option Wish) (said : List Said) (texts : List (List ℕ)) (after : Task)
     → StaysOrDrops l.task after → InStep l t w said texts → InStep (record l { task = after }) t w said texts
-dropped l t w said texts after either k = elim either [
-  | inl same ↦ subst (λ x. InStep (record l { task = x }) t w said texts) (sym same) k
-  | inr d ↦ subst (λ x. InStep (record l { task = x }) t w said texts) (sym d.0)
-      (retask l t w w said texts l.word tasks.Free t.turn k k.names.answer_so
-      (drop_open l l.task t.turn d.1 k.hand.fits) (none_asked (record l { task = tasks.Free }) w) (λ h. h)
-      (λ e. search (arith, e)) (λ h. absurd h) k.hand.own k.hand.idle (drop_calm l.task d.1)
-      (drop_hand l.task t.turn d.1) k.ended)
-]
+dropped l t w said texts after either k = grind (arith, retask, drop_open, none_asked, drop_calm, drop_hand)
 
 pub again_so : (task : Task) → StaysOrDrops task (read_again task)
 again_so (tasks.Slot side) = inr (refl, tt)
@@ -169,10 +149,7 @@ aside_so tasks.Transfer = inr (refl, tt)
 aside_so task = inl refl
 
 pub step_so : (o : Option ℕ) (task : Task) → StaysOrDrops task (step_at o task)
-step_so None task = inl refl
-step_so (Some place) (tasks.Step verdict) = inr (refl, tt)
-step_so (Some place) tasks.Transfer = inr (refl, tt)
-step_so (Some place) task = inl refl
+step_so x0 task = grind arith
 
 module _ {K : Type 0} (call : Call) (old new : Port K) (t : Talk) (w : Option Wish) (said : List Said)
     (texts : List (List ℕ)) (plain : IsPlain call old) (k : InStep (look old) t w said texts) where

@@ -16,17 +16,7 @@ pub record IsStill (s : Stage) : Type 0 where
 
 pub still_open : (l : Look) (turn : Turn) (w : Option Wish) (s : Stage) → Hand l turn w → l.stage ≡ s → IsStill s
     → IsOpen turn × (in_hand l.task turn ≡ []) × (IsTelling l.task → ⊥)
-still_open l turn w s h at q = by l.task refl
-  where
-    never : {P : Type 0} → IsOfRings l.task → P
-    never is = absurd (q.not_up (sym at ∙ h.up is))
-
-    by : (task : Task) → l.task ≡ task → IsOpen turn × (in_hand task turn ≡ []) × (IsTelling task → ⊥)
-    by tasks.Free e = (subst (λ x. Fits l x turn) e h.fits, refl, λ x. x)
-    by tasks.Settle e = (subst (λ x. Fits l x turn) e h.fits, refl, λ x. x)
-    by (tasks.Clear done) e = absurd (q.not_clearing (sym at ∙ h.clear (subst (λ x. IsClear x) (sym e) tt)))
-    by tasks.Interrupt e = absurd (search (arith, h.step e, q.silent, ap is_loud at))
-    by task e = never (subst (λ x. IsOfRings x) (sym e) tt)
+still_open l turn w s h at q = grind (arith, in_hand, is_loud)
 
 -- nothing else changes
 pub staged : (l : Look) (t : Talk) (w : Option Wish) (said : List Said) (texts : List (List ℕ)) (s s' : Stage)
@@ -205,11 +195,7 @@ module _ {K : Type 0} (word : ℕ) (old new : Port K) (t : Talk) (w : Option Wis
       → (is_early s' ≡ true → is_early s ≡ true) → is_dead s' ≡ false → stepped s s' (answered s word t) ≡ t
       → new ≡ record old { stage = s' } → So
   moves_so s s' at not_up not_clearing loud area early alive same e =
-      subst (λ l. After (WriteSa word) old l t w w said texts) (sym (ap look e))
-      (alters (WriteSa word) old (record (look old) { stage = s' }) t t w w said said texts texts no_reset alive
-      (ap (λ y. stepped y s' (answered y word t)) at ∙ same) (none_said old.outgoing old.outgoing said refl)
-      (append-nil texts)
-      (staged (look old) t w said texts s s' at not_up not_clearing loud area early alive k))
+      grind (arith, look, alters, no_reset, none_said, append-nil, staged)
 
   first_so : (b : Bool) → nat_lt word 0x8000 ≡ b → old.stage ≡ stages.First
       → new ≡ cond b old (record old { written = Some word }) → So

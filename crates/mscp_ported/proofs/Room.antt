@@ -15,32 +15,15 @@ module _ {K : Type 0} (old new : Port K) (was : old.is_full ≡ false) where
   same x e full = ap (λ p. p.is_full) e ∙ full ∙ was
 
   touched_room : Touched old new → new.is_full ≡ false
-  touched_room (Untouched e) = same _ e refl
-  touched_room (Polls up e) = ap (λ p. p.is_full) e
-  touched_room (ToClear late e) = same _ e refl
-  touched_room (IsWord word early e) = same _ e refl
-  touched_room (IsStage s late lives e) = same _ e refl
-  touched_room (Breaks code d) = d.full
+  touched_room x0 = grind (arith, same)
 
   read_room : {bytes : List ℕ} {done : Unit} → Seen bytes done old new → IsGiven old.task (WasRead bytes (Ok done))
       → new.is_full ≡ false
-  read_room (Slides full polled of kept e) given = ap (λ p. p.is_full) e ∙ kept given ∙ was
-  read_room (IsFault code of d) given = d.full
-  read_room (IsAnswered slot size foreign end at own none e a) given = same _ e refl
-  read_room (StaysInSlot slot size foreign at why e) given = same _ e refl
-  read_room (IsSent slot size foreign (sents.Queued reference) at own answer e) given = same _ e.frame refl
-  read_room (IsSent slot size foreign (sents.Answered reference aborted) at own answer e) given = same _ e.frame refl
+  read_room x0 given = grind (arith, same)
 
   went_room : {picks : List Choice → ℕ → Type 0} {outcome : Outcome} → Deed picks outcome old new
       → new.is_full ≡ false
-  went_room (Fails code d) = d.full
-  went_room (Eases after eased calm e) = same _ e refl
-  went_room (StepsOn frame lives calm why) = same _ frame refl
-  went_room (WritesPacket slot untold at e) = same _ e refl
-  went_room (GivesSlot Responses slot area at e) = same _ e refl
-  went_room (GivesSlot Commands slot area at e) = same _ e refl
-  went_room {picks} (ServesStep verdict how takes) = elim (taken_or_not picks old new (verdict, takes))
-      [ inl e ↦ same _ e refl | inr t ↦ same _ t.2.finished.2.frame refl ]
+  went_room x0 = grind (arith, same, taken_or_not)
 
 -- ---- steps that wait
 
@@ -52,24 +35,10 @@ module _ {K : Type 0} (old new : Port K) (clear : IsClear old.task → old.stage
       ap (λ p. p.written) e ∙ written ∙ was (ap is_late (sym (ap (λ p. p.stage) e ∙ stage)) ∙ late)
 
   touched_so : Touched old new → new.written ≡ None
-  touched_so (Untouched e) = still _ e refl refl
-  touched_so (Polls up e) = still _ e refl refl
-  touched_so (ToClear l e) = ap (λ p. p.written) e ∙ was l
-  touched_so (IsWord word early e) =
-      absurd (false≢true (sym early ∙ sym (ap (λ p. is_late p.stage) e) ∙ late))
-  touched_so (IsStage s l lives e) = ap (λ p. p.written) e ∙ was l
-  touched_so (Breaks code d) = d.written
+  touched_so x0 = grind (arith, still, false≢true, is_late)
 
   went : {picks : List Choice → ℕ → Type 0} {outcome : Outcome} → Deed picks outcome old new → new.written ≡ None
-  went (Fails code d) = d.written
-  went (Eases after eased calm e) = still _ e refl refl
-  went (StepsOn frame lives calm (inl word)) = word.1
-  went (StepsOn frame lives calm (inr c)) = c.1 ∙ was (ap is_late (clear c.0))
-  went (WritesPacket slot untold at e) = still _ e refl refl
-  went (GivesSlot Responses slot area at e) = still _ e refl refl
-  went (GivesSlot Commands slot area at e) = still _ e refl refl
-  went {picks} (ServesStep verdict how takes) = elim (taken_or_not picks old new (verdict, takes))
-      [ inl e ↦ still _ e refl refl | inr t ↦ still _ t.2.finished.2.frame refl refl ]
+  went x0 = grind (arith, still, is_late, taken_or_not)
 
   heard_by : (picks : Picking K) (call : Call) → Becomes picks call old new → new.written ≡ None
   heard_by picks WriteIp r = r.written
@@ -112,11 +81,7 @@ module _ {K : Type 0} (picks : Picking K) (hardware : Hardware) (credits : ℕ) 
   room p (call ∷ calls) a has = by (minor picks call a.0 p a.2 tt) (room a.0 calls a.1 has.1)
     where
       by : Minor a.0 p → a.0.is_full ≡ false → p.is_full ≡ false
-      by (Still e) was = ap (λ x. x.is_full) e ∙ was
-      by (PutsAside e) was = ap (λ x. x.is_full) e ∙ was
-      by (ReadsAgain left e) was = ap (λ x. x.is_full) e
-      by (Mounts becomes place e) was = ap (λ x. x.is_full) e ∙ was
-      by (GivesUp d) was = d.full
+      by x0 was = grind arith
 
   pub heard_so : (p : Port K) (calls : List Call) → AsksAlways calls → Answered picks start calls p
       → is_late p.stage ≡ true → p.written ≡ None

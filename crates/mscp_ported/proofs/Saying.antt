@@ -58,10 +58,7 @@ told_about p e d some t shaped fits is long =
 
 -- the code of a poll's end
 status_code : (code : ℕ) → kind_of_code code ≡ Some kinds_of.Status → code ≡ 0x82
-status_code code e = in_table (λ x. x.1 ≡ kinds_of.Status → x.0 ≡ 0x82) rows code kinds_of.Status e refl
-  where
-    rows : AllByRecursion (λ x. x.1 ≡ kinds_of.Status → x.0 ≡ 0x82) endcodes
-    rows = grind arith
+status_code code e = grind (arith, in_table)
 
 -- what is told of the figure
 pub told_figure : {c : Settings} {Told : Verdict → Record → Type 0} {K : Type 0} (p : Port K) (e : End) (d : Decided)

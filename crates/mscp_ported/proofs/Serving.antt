@@ -25,11 +25,7 @@ module _ {K : Type 0} (picks : Picking K) (old new : Port K) (lives : is_dead ne
   dies code d = absurd (search (arith, lives, ap is_dead d.stage))
 
   read_owes : {bytes : List ℕ} {done : Unit} → Seen bytes done old new → new.owes_block ≡ true
-  read_owes (Slides full polled of kept e) = as_it_was _ e refl
-  read_owes (IsFault code of d) = dies code d
-  read_owes (IsAnswered slot size foreign end at own none e a) = as_it_was _ e refl
-  read_owes (StaysInSlot slot size foreign at why e) = as_it_was _ e refl
-  read_owes {bytes} (IsSent slot size foreign s at own answer e) = sent_owes slot s bytes old new e owes
+  read_owes x0 = grind (arith, as_it_was, dies, sent_owes)
 
   owes_on : (call : Call) → call ≢ WriteIp → (TellsStep call old → ⊥) → Becomes picks call old new
       → new.owes_block ≡ true
@@ -100,13 +96,7 @@ polls_so picks call old new number takes r = absurd takes
 -- ---- a history
 
 tells_or_not : {K : Type 0} (call : Call) (old : Port K) → TellsStep call old ⊎ (TellsStep call old → ⊥)
-tells_or_not (Went outcome (Ok done)) old = by old.task
-  where
-    by : (t : Task) → IsStepping t ⊎ (IsStepping t → ⊥)
-    by (tasks.Step verdict) = inl tt
-    by tasks.Transfer = inl tt
-    by t = inr (λ h. h)
-tells_or_not call old = inr (λ h. h)
+tells_or_not x0 old = grind arith
 
 is_reset : (call : Call) → (call ≡ WriteIp) ⊎ (call ≢ WriteIp)
 is_reset WriteIp = inl refl
@@ -140,11 +130,7 @@ module _ {K : Type 0} (picks : Picking K) (start : Port K) where
   ]
     where
       not_before : call ≢ WriteIp → (TellsStep call a.0 → ⊥) → a.0.owes_block ≡ false
-      not_before never quiet = by a.0.owes_block refl
-        where
-          by : (b : Bool) → a.0.owes_block ≡ b → b ≡ false
-          by true e = absurd (false≢true (sym none ∙ owes_on picks a.0 p lives e call never quiet a.2))
-          by false e = refl
+      not_before never quiet = grind (arith, false≢true, owes_on)
 
   module _ (hardware : Hardware) (credits : ℕ) (controller : Holdings K)
       (made : IsMadeOf hardware credits controller start) where
@@ -207,15 +193,7 @@ module _ {K : Type 0} (picks : Picking K) (start : Port K) where
       where
         here : AsksBehindPolls picks start a.0 calls a.1 → (number : ℕ) → TakesPoll number call a.0
             → 1 ≤ figure_on a.0 number → IsServedSince picks start a.0 calls a.1 number
-        here old number takes low =
-            elim (fair a.0 calls a.1 old (polls_so picks call a.0 p number takes a.2).hears) [
-              | inl none ↦ absurd (search (
-                arith,
-                subst (λ (rs : List Record). 1
-                    ≤ figure_of_name a.0.controller.settings.budget rs (name_on First number)) none low,
-              ))
-              | inr s ↦ s number
-            ]
+        here old number takes low = grind (arith, fair, polls_so)
 
     -- who always asks for blocks does so
     always_asks : (p : Port K) (calls : List Call) (a : Answered picks start calls p) → AsksForBlocks calls

@@ -21,11 +21,7 @@ module _ {K : Type 0} {picks : List Choice → ℕ → Type 0} {old new : Port K
   -- ---- steps of the initialisation
 
   settle_talk : old.task ≡ tasks.Settle → (IsOpen t.turn) × (in_hand old.task t.turn ≡ []) × IsElse w.action
-  settle_talk at = (
-    subst (λ x. Fits (look old) x t.turn) at k.hand.fits,
-    ap (λ x. in_hand x t.turn) at,
-    subst (λ x. IsAsked (look old) x w) at k.hand.asked,
-  )
+  settle_talk at = grind (arith, look, in_hand)
 
   step_so : (word : ℕ) → old.task ≡ tasks.Settle → old.written ≡ Some word → TakesStep word old new → So
   step_so word at some step = by old.stage refl

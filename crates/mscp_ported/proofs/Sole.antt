@@ -26,16 +26,7 @@ module _ {X : Type 0} where
   -- the one that passes is this, or another
   pub this_one : (f : X → Bool) (xs ys : List X) (y r : X) → filter f (xs ++ y ∷ ys) ≡ r ∷ [] → f y ≡ true
       → (filter f xs ≡ []) × (y ≡ r) × (filter f ys ≡ [])
-  this_one f xs ys y r e is = by (split (filter f xs) (filter f (y ∷ ys)) r (sym (filter-append f xs (y ∷ ys)) ∙ e))
-    where
-      here : filter f (y ∷ ys) ≡ y ∷ filter f ys
-      here = ap (λ c. cond c (y ∷ filter f ys) (filter f ys)) is
-
-      by : ((filter f xs ≡ r ∷ []) × (filter f (y ∷ ys) ≡ []))
-          ⊎ ((filter f xs ≡ []) × (filter f (y ∷ ys) ≡ r ∷ []))
-          → (filter f xs ≡ []) × (y ≡ r) × (filter f ys ≡ [])
-      by (inl h) = search (arith, sym here ∙ h.1)
-      by (inr h) = let t = sym here ∙ h.1 in (h.0, ap (first_in r) t, ap others_in t)
+  this_one f xs ys y r e is = grind (arith, split, filter-append)
 
   pub other_one : (f : X → Bool) (xs ys : List X) (y r : X) → filter f (xs ++ y ∷ ys) ≡ r ∷ [] → f y ≡ false
       → ((filter f xs ≡ r ∷ []) × (filter f ys ≡ [])) ⊎ ((filter f xs ≡ []) × (filter f ys ≡ r ∷ []))
@@ -114,12 +105,7 @@ module _ (n : ℕ) (k : Block) (d : Drive) (rs : List Record) (place : ℕ) (ins
       ++ (remains (record_at rs place) o ++ drop (place + 1) rs))
       ≡ map (passed_by (step_charge (record_at rs place))) (filter (is_numbered n) (take place rs))
       ++ (filter (is_numbered n) (remains (record_at rs place) o) ++ filter (is_numbered n) (drop (place + 1) rs))
-  after o = filter-append (is_numbered n) (map (passed_by (step_charge (record_at rs place))) (take place rs))
-      (remains (record_at rs place) o ++ drop (place + 1) rs)
-      ∙ ap (λ zs. zs ++ filter (is_numbered n) (remains (record_at rs place) o ++ drop (place + 1) rs))
-      (passed_filter n (step_charge (record_at rs place)) (take place rs))
-      ∙ ap (λ zs. map (passed_by (step_charge (record_at rs place))) (filter (is_numbered n) (take place rs)) ++ zs)
-      (filter-append (is_numbered n) (remains (record_at rs place) o) (drop (place + 1) rs))
+  after o = grind (arith, filter-append, is_numbered, passed_filter)
 
   -- another one was served
   pub served_other : is_numbered n (record_at rs place) ≡ false
@@ -163,16 +149,4 @@ module _ (n : ℕ) (k : Block) (d : Drive) (rs : List Record) (place : ℕ) (ins
 
   pub served_goes_on : is_numbered n (record_at rs place) ≡ true → end_given k d (record_at rs place) ≡ None
       → filter (is_numbered n) (waiting_after k d rs place) ≡ advanced (record_at rs place) ∷ []
-  served_goes_on is none = ap (λ o. filter (is_numbered n)
-      (map (passed_by (step_charge (record_at rs place))) (take place rs)
-      ++ (remains (record_at rs place) o ++ drop (place + 1) rs))) none ∙ after None
-      ∙ ap (λ zs. map (passed_by (step_charge (record_at rs place))) zs
-      ++ (filter (is_numbered n) (remains (record_at rs place) None)
-      ++ filter (is_numbered n) (drop (place + 1) rs))) h.0
-      ∙ ap (λ c. cond c (advanced (record_at rs place) ∷ []) []
-      ++ filter (is_numbered n) (drop (place + 1) rs)) is
-      ∙ ap (λ zs. advanced (record_at rs place) ∷ zs) h.2
-    where
-      h : (filter (is_numbered n) (take place rs) ≡ []) × (record_at rs place ≡ r)
-          × (filter (is_numbered n) (drop (place + 1) rs) ≡ [])
-      h = this_one (is_numbered n) (take place rs) (drop (place + 1) rs) (record_at rs place) r parts is
+  served_goes_on is none = grind (arith, is_numbered, after, this_one, parts)

@@ -21,10 +21,7 @@ opcode_is byte kind e = sym (eqb-true (move_byte kind) byte
 -- what is told of a step is what came of it
 pub good_back : {K : Type 0} (old : Port K) (outcome : Outcome) (verdict : Verdict) → IsHow old outcome verdict
     → step_told old outcome old.task ≡ Some blocks.Good → block_told verdict ≡ blocks.Good
-good_back old outcome verdict (inl h) told = verdict_so verdict
-    ∙ same_Some _ blocks.Good (sym (ap (step_told old outcome) h) ∙ told)
-good_back old outcome verdict (inr h) told = ap block_told h.1 ∙ transfer_so old outcome (block_begun old)
-    ∙ same_Some _ blocks.Good (sym (ap (step_told old outcome) h.0) ∙ told)
+good_back old outcome verdict x3 told = grind (arith, verdict_so, same_Some, transfer_so)
 
 left_so : (x y : Bool) → x ≡ true → (x && true && y) ≡ false → y ≡ false
 left_so true y e h = h

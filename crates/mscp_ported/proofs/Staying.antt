@@ -74,26 +74,8 @@ IsPassive (Went outcome (Ok done)) = ⊥
 IsPassive call = Unit {0}
 
 touched_stays : {K : Type 0} {old new : Port K} → Touched old new → Stays old new
-touched_stays {K} {old} (Untouched e) = same_as e (alike old)
-touched_stays {K} {old} (Polls up e) = same_as e (alike old)
-touched_stays (ToClear late e) = same_as e (refl, refl, refl, (λ d. search (arith, d)), refl)
-touched_stays {K} {old} (IsWord word early e) = same_as e (alike old)
-touched_stays (IsStage s late lives e) = same_as e (refl, refl, refl, (λ d. search (arith, d, lives)), refl)
-touched_stays {K} {old} {new} (Breaks code d) = died code old new d
+touched_stays {K} {old} x2 = grind (arith, same_as, alike, died)
 
 pub passive_stays : {K : Type 0} (picks : Picking K) (call : Call) (old new : Port K) → Becomes picks call old new
     → IsPassive call → Stays old new
-passive_stays picks ReadIp old new r is = touched_stays (read_ip old new r)
-passive_stays picks (WriteSa word) old new r is = touched_stays (wrote_sa word old new r)
-passive_stays picks WriteIp old new r is = absurd is
-passive_stays picks (Next blocks action bytes) old new r is = absurd is
-passive_stays picks (WasRead bytes (Ok done)) old new r is = absurd is
-passive_stays picks (Went outcome (Ok done)) old new r is = absurd is
-passive_stays picks call old new r is = by (minor picks call old new r tt)
-  where
-    by : Minor old new → Stays old new
-    by (Still e) = same_as e (alike old)
-    by (PutsAside e) = same_as e (alike old)
-    by (ReadsAgain left e) = same_as e (alike old)
-    by (Mounts becomes place e) = same_as e (alike old)
-    by (GivesUp d) = died 9 old new d
+passive_stays picks x1 old new r is = grind (arith, touched_stays, read_ip, wrote_sa, minor, same_as, alike, died)

@@ -30,15 +30,7 @@ answer_by old new = answer_of (record new { buffers = old.buffers })
 
 pub answer_so : {K : Type 0} (old new : Port K) (e : End)
     → fields_of (answer_by old new e) ≡ (answer_left old new e).fields
-answer_so old new e =
-    let units = new.controller.settings.units in
-    let v = volume_found units new.volumes e.unit in
-    let code = code_told (kept_of First e.reference old.buffers.items) e.code in
-    fields_so code (status_told (verdicts.Served blocks.Good) code e.status v) e units new.flags v
-    ∙ ap (λ n. fields_with code n e (unit_found units e.unit) new.flags v)
-    (status_so (verdicts.Served blocks.Good) code e.status v)
-    ∙ ap (λ c. fields_with c (status_said (verdicts.Served blocks.Good) c e.status v) e (unit_found units e.unit)
-    new.flags v) (code_so old e)
+answer_so old new e = grind (arith, fields_so, status_so, code_so)
 
 -- of the end of a step that went so
 abbrev pub decided_by : {K : Type 0} → Verdict → Port K → Port K → End → Decided
@@ -50,15 +42,7 @@ decided_by verdict old new e =
 
 pub step_fields : {K : Type 0} (verdict : Verdict) (old new : Port K) (e : End)
     → fields_of (decided_by verdict old new e) ≡ (step_left verdict old new e).fields
-step_fields verdict old new e =
-    let units = new.controller.settings.units in
-    let before = volume_found old.controller.settings.units old.volumes e.unit in
-    let v = volume_found units new.volumes e.unit in
-    let code = code_told (kept_of First e.reference old.buffers.items) e.code in
-    fields_so code (status_told verdict code e.status before) e units new.flags v
-    ∙ ap (λ n. fields_with code n e (unit_found units e.unit) new.flags v) (status_so verdict code e.status before)
-    ∙ ap (λ c. fields_with c (status_said verdict c e.status before) e (unit_found units e.unit) new.flags v)
-    (code_so old e)
+step_fields verdict old new e = grind (arith, fields_so, status_so, code_so)
 
 outcome_so : (outcome : Outcome) → block_of outcome ≡ told_as outcome
 outcome_so outcomes.Done = refl

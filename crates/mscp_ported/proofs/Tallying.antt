@@ -53,17 +53,7 @@ done_good : {K : Type 0} (old : Port K) (w : Option Wish) (u : Upcoming) → Ste
     → begun_step old.controller ≡ Some u
     → (block_told (block_served old outcomes.Done (block_begun old)) ≡ blocks.Good)
     × ((m : MoveKind × ℕ) × (move_of u ≡ Some m))
-done_good {K} old w u s at step =
-    let k = known_moves u (place_in old.controller.settings.units u.command.unit)
-    (kept_of u.connection u.command.reference old.buffers.items) old.volumes
-    (ap (begun_task old.controller.settings.units old.buffers.items old.volumes) (sym step)
-    ∙ sym (s.begun (subst (λ x. IsOfBlock x) (sym at) tt)) ∙ at) in
-    let b : block_begun old ≡ Some (u, k.0.0, k.0.1) =
-    ap moved_step step ∙ ap (λ o. option_map (λ move. (u, move.0, move.1)) o) k.2 in (
-      ap (λ o. block_told (block_served old outcomes.Done o)) b
-          ∙ ap (λ r. block_told (part_served outcomes.Done r)) k.3,
-      (k.0, k.2),
-    )
+done_good {K} old w u s at step = grind (arith, known_moves)
 
 pub touched_so : (online : Bool) (order : Order) (n : ℕ) (x : MoveKind × ℕ)
     → moved_by order (block_touched online order n) ≡ Some x → touches online order ≡ true
@@ -131,21 +121,7 @@ none_served e old new none there = none_there (subst (λ xs. Contains xs e) (not
 pub step_name : {K : Type 0} (h : Holdings K) (name : Name) (u : Upcoming) → h.begun ≡ Some name → begun_step h ≡ Some u
     → (r : Record) × (find (has_name name) h.waiting ≡ Some r)
     × (u ≡ upcoming_of (drive_of h.drives r.command.unit) r)
-step_name {K} h name u begun step = by (find (has_name name) h.waiting) refl
-    (sym (ap (upcoming_begun h.drives h.waiting) begun) ∙ step)
-  where
-    by : (o : Option Record) → find (has_name name) h.waiting ≡ o
-        → option_map (λ r. upcoming_of (drive_of h.drives r.command.unit) r) (find (has_name name) h.waiting) ≡ Some u
-        → (r : Record) × (find (has_name name) h.waiting ≡ Some r)
-        × (u ≡ upcoming_of (drive_of h.drives r.command.unit) r)
-    by None f g = absurd (none-some u (sym (ap (λ o. option_map (λ r. upcoming_of
-        (drive_of h.drives r.command.unit) r) o) f) ∙ g))
-    by (Some r) f g = (
-      r,
-      f,
-      sym (same_Some (upcoming_of (drive_of h.drives r.command.unit) r) u
-          (sym (ap (λ o. option_map (λ r. upcoming_of (drive_of h.drives r.command.unit) r) o) f) ∙ g)),
-    )
+step_name {K} h name u begun step = grind (arith, none-some, same_Some)
 
 -- ---- the step that ended a command
 

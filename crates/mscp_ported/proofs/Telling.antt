@@ -19,23 +19,13 @@ seven (tasks.Slot Commands) = search arith
 seven t = search arith
 
 at_most_one : (call : Call) → acts (call ∷ []) ≤ 1
-at_most_one (WasRead bytes (Ok done)) = search arith
-at_most_one (Went outcome (Ok done)) = search arith
-at_most_one (WasRead bytes (Err unasked)) = search arith
-at_most_one (Went outcome (Err unasked)) = search arith
-at_most_one call = search arith
+at_most_one x0 = grind arith
 
 left_quiet : (before after : Option Outgoing) → before ≡ None → leaves before after ≡ []
 left_quiet before after e = ap (λ x. leaves x after) e
 
 forgotten : {K : Type 0} (old new : Port K) → IsForgotten old new → HasToTell new → ⊥
-forgotten old new f busy = elim busy [
-  | inl some ↦ some f.1.outgoing
-  | inr ends ↦ none (subst (λ h. 0 < length (ends_of h)) f.1.controller ends)
-]
-  where
-    none : 0 < 0 → ⊥
-    none h = search (arith, h)
+forgotten old new f busy = grind (arith, ends_of)
 
 slower : (n t g : ℕ) (c : ℕ) (u : ℕ) → c + u ≤ t → n + t ≤ 17 * g + 17 → (c + n) + u ≤ 17 * (g + 0) + 17
 slower n t g c u step pace = omega (arith, step, pace)

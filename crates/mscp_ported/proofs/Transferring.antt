@@ -24,19 +24,7 @@ begun_record {K} h name r begun found = ap (upcoming_begun h.drives h.waiting) b
 -- and is of no other number
 pub other_step : {K : Type 0} (h : Holdings K) (n : ℕ) (name : Name) → h.begun ≡ Some name
     → same_name name (name_on First n) ≡ false → is_step_of n (begun_step h) ≡ false
-other_step {K} h n name begun other = by (find (has_name name) h.waiting) refl
-    (ap (upcoming_begun h.drives h.waiting) begun)
-  where
-    by : (o : Option Record) → find (has_name name) h.waiting ≡ o
-        → begun_step h ≡ upcoming_begun h.drives h.waiting (Some name) → is_step_of n (begun_step h) ≡ false
-    by None e is = ap (is_step_of n) (is ∙ ap (λ o. option_map (λ x. upcoming_of
-        (drive_of h.drives x.command.unit) x) o) e)
-    by (Some r) e is = ap (is_step_of n) (is ∙ ap (λ o. option_map (λ x. upcoming_of
-        (drive_of h.drives x.command.unit) x) o) e)
-        ∙ ap (λ (x : Name). same_name x (name_on First n)) (named r e) ∙ other
-      where
-        named : (r : Record) → find (has_name name) h.waiting ≡ Some r → name_of r ≡ name
-        named r e = same_is (name_of r) name (found_is (has_name name) h.waiting r e)
+other_step {K} h n name begun other = grind (arith, same_is, found_is)
 
 -- ---- blocks
 
@@ -85,38 +73,7 @@ pub move_fields : (b : List ℕ) (kind : MoveKind) (count first : ℕ) → (comm
     → (count ≡ num b 12 4) × (first ≡ num b 28 4) × (32 ≤ length b)
     × (opcode_of (slice_index b 8) ≡ Some (codes.Move kind))
 unfolding command_of
-move_fields b kind count first e = by (opcode_of (slice_index b 8)) refl e
-  where
-    count_in : Order → ℕ
-    count_in (orders.Move k n f) = n
-    count_in order = count
-
-    first_in : Order → ℕ
-    first_in (orders.Move k n f) = f
-    first_in order = first
-
-    kind_in : Order → MoveKind
-    kind_in (orders.Move k n f) = k
-    kind_in order = kind
-
-    So : Option Opcode → Type 0
-    So o = (count ≡ num b 12 4) × (first ≡ num b 28 4) × (32 ≤ length b) × (o ≡ Some (codes.Move kind))
-
-    long : (o : Opcode) (c : Bool) → nat_lt (length b) (least o) ≡ c
-        → cond c (orders.Invalid (slice_index b 8) invalid_length) (parameters o b) ≡ orders.Move kind count first
-        → So (Some o)
-    long o true f h = search (arith, h)
-    long (codes.Move k) false f h = (
-      sym (ap count_in h),
-      sym (ap first_in h),
-      search (arith, f),
-      ap (λ x. Some (codes.Move x)) (ap kind_in h),
-    )
-    long o false f h = search (arith, h)
-
-    by : (o : Option Opcode) → opcode_of (slice_index b 8) ≡ o → order_with o b ≡ orders.Move kind count first → So o
-    by None f h = search (arith, h)
-    by (Some o) f h = long o (nat_lt (length b) (least o)) refl h
+move_fields b kind count first e = grind (arith, nat_lt)
 
 -- the buffer that it names
 buffer_count : (b : List ℕ) (changes : ℕ) → 32 ≤ length b → (buffer_in b changes).count ≡ num b 12 4
@@ -149,10 +106,7 @@ transfer_same : (kind : MoveKind) (unit n first other at place count all : ℕ) 
     → count ≡ all
     → actions.Transfer kind unit (first + n) (at + n * 512) (min (count - n * 512) 512)
     ≡ actions.Transfer kind unit (other + n) (place + n * 512) (min (all - n * 512) 512)
-transfer_same kind unit n first other at place count all e f g =
-    ap (λ x. actions.Transfer kind unit (x + n) (at + n * 512) (min (count - n * 512) 512)) e
-    ∙ ap (λ x. actions.Transfer kind unit (other + n) (x + n * 512) (min (count - n * 512) 512)) f
-    ∙ ap (λ x. actions.Transfer kind unit (other + n) (place + n * 512) (min (x - n * 512) 512)) g
+transfer_same kind unit n first other at place count all e f g = grind arith
 
 module _ {K : Type 0} (picks : Picking K) (start : Port K) (old : Port K) (calls : List Call)
     (a : Answered picks start calls old) (owned : AreOwned picks start old calls a) (outcome : Outcome)

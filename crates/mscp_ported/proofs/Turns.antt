@@ -33,27 +33,13 @@ put tasks.Transfer h = absurd h
 put t h = h
 
 anew : (o : Option ℕ) (t : Task) → IsHearing (step_at o t) → IsHearing t
-anew None t h = h
-anew (Some place) t h = by t h
-  where
-    by : (t : Task) → IsHearing (step_again t) → IsHearing t
-    by (tasks.Step verdict) h = absurd h
-    by tasks.Transfer h = absurd h
-    by t h = h
+anew x0 t h = grind arith
 
 step_quiet : (t : Task) → IsNewStep t → IsHearing t → ⊥
-step_quiet (tasks.Slot side) calm h = calm
-step_quiet (tasks.Header slot) calm h = calm
-step_quiet (tasks.Text slot size foreign) calm h = calm
-step_quiet t calm h = h
+step_quiet x0 calm h = grind arith
 
 hears_quiet : (area : Rings) (side : Side) (slot : Descriptor) → IsHearing (hears_of area side slot) → ⊥
-hears_quiet area side slot = by (not (is_flagged slot.word)) (slots_of area side == 1)
-  where
-    by : (b c : Bool) → IsHearing (cond b tasks.Free (cond c (tasks.Word side) (tasks.Neighbour side))) → ⊥
-    by true c h = h
-    by false true h = h
-    by false false h = h
+hears_quiet area side slot = grind arith
 
 -- what was read is a slot that a message may lie in, or its header
 slide_hears : (bytes : List ℕ) (t : Task) → IsHearing (task_read bytes t) → IsHearing t
@@ -94,28 +80,14 @@ module _ {K : Type 0} {old new : Port K} where
   -- behind a text no other is looked for at once
   pub text_quiet : {bytes : List ℕ} {done : Unit} → Seen bytes done old new → IsReadingText old.task
       → IsHearing new.task → ⊥
-  text_quiet (Slides full polled of kept e) reading h = slide_text old.task of reading
-  text_quiet (IsFault code of d) reading h = forgets new.task d.task h
-  text_quiet (IsAnswered slot size foreign end at own none e a) reading h = never _ e (λ x. x) h
-  text_quiet (StaysInSlot slot size foreign at why e) reading h = never _ e (λ x. x) h
-  text_quiet (IsSent slot size foreign s at own answer e) reading h = never _ e.frame (λ x. x) h
+  text_quiet x0 reading h = grind (arith, slide_text, forgets, never)
 
   read_on : {bytes : List ℕ} {done : Unit} → Seen bytes done old new → IsHearing new.task → ReadsOn old new
-  read_on {bytes} (Slides full polled of kept e) h = on _ e (slide_hears bytes old.task) refl refl refl h
-  read_on (IsFault code of d) h = absurd (forgets new.task d.task h)
-  read_on (IsAnswered slot size foreign end at own none e a) h = absurd (never _ e (λ x. x) h)
-  read_on (StaysInSlot slot size foreign at why e) h = absurd (never _ e (λ x. x) h)
-  read_on (IsSent slot size foreign s at own answer e) h = absurd (never _ e.frame (λ x. x) h)
+  read_on {bytes} x1 h = grind (arith, on, slide_hears, forgets, never)
 
   went_quiet : {picks : List Choice → ℕ → Type 0} {outcome : Outcome} → Deed picks outcome old new
       → IsHearing new.task → ⊥
-  went_quiet (Fails code d) h = forgets new.task d.task h
-  went_quiet (Eases after eased calm e) h = never _ e (step_quiet after calm) h
-  went_quiet (StepsOn frame lives calm why) h = step_quiet new.task calm h
-  went_quiet (WritesPacket slot untold at e) h = never _ e (λ x. x) h
-  went_quiet (GivesSlot side slot area at e) h = never _ e (hears_quiet area side slot) h
-  went_quiet {picks} (ServesStep verdict how takes) h = elim (taken_or_not picks old new (verdict, takes))
-      [ inl e ↦ never _ e (λ x. x) h | inr t ↦ never _ t.2.finished.2.frame (λ x. x) h ]
+  went_quiet x0 h = grind (arith, forgets, never, step_quiet, hears_quiet, taken_or_not)
 
 -- ---- what is wanted
 
@@ -130,65 +102,23 @@ full_or_not false = inr refl
 
 block_due : {K : Type 0} (p : Port K) (task : Task) → IsDue true p task → task ≡ tasks.Slot Commands
     → block_is_due true p ≡ true → ⊥
-block_due p task due slot e = search (
-  arith,
-  up_or_not p.stage,
-  none_or_not p.written,
-  none_or_not p.outgoing,
-  full_or_not p.is_full,
-  due.first,
-  due.step,
-  due.still,
-  due.goes_out,
-)
+block_due p task due slot e = grind (arith, up_or_not, none_or_not, full_or_not)
 
 module _ {K : Type 0} (picks : List _ → ℕ → Type 0) (action : Action) (old new : Port K)
     (r : Wants picks true old action new) where
   -- a slot is taken where nothing was in hand: then a block isn't due
   slot_taken : IsDue true new new.task → new.task ≡ tasks.Slot Commands → new.owes_block ≡ true
       → new.controller.waiting ≡ []
-  slot_taken due slot owes = by (block_is_due true new) refl
-    where
-      by : (b : Bool) → block_is_due true new ≡ b → new.controller.waiting ≡ []
-      by true e = absurd (block_due new new.task due slot e)
-      by false e = nothing_waits new.owes_block new.controller.waiting owes e
+  slot_taken due slot owes = grind (arith, block_due, nothing_waits)
 
   from_free : old.task ≡ tasks.Free → IsDue true new new.task → IsHearing new.task → new.owes_block ≡ true
       → new.controller.waiting ≡ []
-  from_free free due hears owes = by new.task refl
-    where
-      none_in_hand : (word : ℕ) → in_hand old.task ≡ Some word → ⊥
-      none_in_hand word e = none-some word (sym (ap in_hand free) ∙ e)
-
-      holds : (t : Task) → new.task ≡ t → IfSome (in_hand t) (λ word. in_hand old.task ≡ Some word)
-      holds t e = subst (λ x. IfSome (in_hand x) (λ word. in_hand old.task ≡ Some word)) e r.packet
-
-      by : (t : Task) → new.task ≡ t → new.controller.waiting ≡ []
-      by (tasks.Slot Commands) e = slot_taken due e owes
-      by (tasks.Header slot) e = absurd (none_in_hand slot.word (holds (tasks.Header slot) e))
-      by (tasks.Text slot size foreign) e =
-          absurd (none_in_hand slot.word (holds (tasks.Text slot size foreign) e))
-      by t e = absurd (subst (λ x. IsHearing x) e hears)
+  from_free free due hears owes = grind (arith, none-some, slot_taken)
 
   -- a message is looked for as it was; or it is now, and where a block is owed nothing waits
   pub wants_hears : IsHearing new.task → (new ≡ old)
       ⊎ ((is_dead new.stage ≡ false) × (new.owes_block ≡ true → new.controller.waiting ≡ []))
-  wants_hears hears = by old.task refl
-    where
-      lives : (s : Stage) → new.stage ≡ s → ((code : ℕ) → s ≢ stages.Dead code) → is_dead new.stage ≡ false
-      lives (stages.Dead code) e alive = absurd (alive code refl)
-      lives s e alive = ap is_dead e
-
-      by : (t : Task) → old.task ≡ t → (new ≡ old)
-          ⊎ ((is_dead new.stage ≡ false) × (new.owes_block ≡ true → new.controller.waiting ≡ []))
-      by tasks.Free at = elim (alive_or_dead old old.stage refl) [
-        | inl alive ↦ inr (
-          lives new.stage refl (λ code e. alive code (sym (ap (λ (p : Port K). p.stage) r.frame) ∙ e)),
-          from_free at (r.due alive at) hears,
-        )
-        | inr d ↦ inl (r.dead d.0 d.1).1
-      ]
-      by t at = inl (r.goes_on (λ e. search (arith, at, e)))
+  wants_hears hears = grind (arith, alive_or_dead, from_free)
 
 -- ---- each call
 
@@ -199,12 +129,7 @@ IsNoNext call = Unit {0}
 
 module _ {K : Type 0} (picks : Picking K) (old new : Port K) where
   touched_on : Touched old new → IsHearing new.task → ReadsOn old new
-  touched_on (Untouched e) = on _ e (λ h. h) refl refl refl
-  touched_on (Polls up e) = on _ e (again old.task) refl refl refl
-  touched_on (ToClear late e) = on _ e (λ h. absurd h) refl refl refl
-  touched_on (IsWord word early e) = on _ e (λ h. h) refl refl refl
-  touched_on (IsStage s late lives e) = on _ e (λ h. h) refl refl refl
-  touched_on (Breaks code d) = λ h. absurd (forgets new.task d.task h)
+  touched_on x0 = grind (arith, on, again, forgets)
 
   pub reads_on : (call : Call) → IsNoNext call → Becomes picks call old new → IsHearing new.task → ReadsOn old new
   reads_on WriteIp none r = λ h. absurd (forgets new.task r.task h)

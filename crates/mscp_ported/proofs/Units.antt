@@ -10,10 +10,7 @@ IsUnitIn unit message = ((unit ≡ num message 4 2) × (unit < 2 ^ 16)) ⊎ (ask
 -- ---- a message as it is handed over
 
 pub small_unit : (b : List ℕ) → ((i : ℕ) → slice_index b i < 2 ^ 8) → num b 4 2 < 2 ^ 16
-small_unit b h = few (slice_index b 4) (slice_index b 5) (h 4) (h 5)
-  where
-    few : (x y : ℕ) → x < 2 ^ 8 → y < 2 ^ 8 → 0 + x * 1 + y * 256 < 2 ^ 16
-    few x y a b = omega (arith, a, b)
+small_unit b h = grind arith
 
 pub stand_unit : (b : List ℕ) → 12 ≤ length b → num (stand_in b) 4 2 ≡ num b 4 2
 stand_unit (a ∷ b ∷ c ∷ d ∷ e ∷ f ∷ g ∷ h ∷ i ∷ j ∷ k ∷ l ∷ rest) long = refl

@@ -19,21 +19,7 @@ changed_not b v e = grind (arith, eqb-true, false≢true)
 part_on : (kind : MoveKind) (block at : ℕ) (b : Buffer) (v : Volume) (part : ℕ × ℕ)
     → part_with kind block at b v ≡ Ok part
     → (v.is_there ≡ true) × (b.changes ≡ v.changes) × (v.is_mounted ≡ true)
-part_on kind block at b v part e = by (has_changed b v) refl (refusal_of kind block b v) refl e
-  where
-    mounted : (o : Option Verdict) → refusal_of kind block b v ≡ o → o ≡ None → v.is_mounted ≡ true
-    mounted o e none = is v.is_mounted refl (e ∙ none)
-      where
-        is : (x : Bool) → v.is_mounted ≡ x → refusal_of kind block b v ≡ None → v.is_mounted ≡ true
-        is true f h = f
-        is false f h = search (arith, f, h)
-
-    by : (c : Bool) → has_changed b v ≡ c → (o : Option Verdict) → refusal_of kind block b v ≡ o
-        → unless_fault (cond c (Some (changed_verdict v)) o) (part_of b at) ≡ Ok part
-        → (v.is_there ≡ true) × (b.changes ≡ v.changes) × (v.is_mounted ≡ true)
-    by true f o g h = search (arith, h)
-    by false f (Some verdict) g h = search (arith, h)
-    by false f None g h = let x = changed_not b v f in (x.0, x.1, mounted None g refl)
+part_on kind block at b v part e = grind (arith, changed_not)
 
 -- what a port is to know of a block that it wants
 record Wanted {K : Type 0} (p : Port K) (unit : ℕ) : Type 0 where
@@ -101,24 +87,7 @@ wanted {K} p kind unit block address count e = by (begun_step p.controller) refl
 transfer_wanted : {K : Type 0} (p : Port K) (action : Action) (kind : MoveKind) (unit block address count : ℕ)
     → IsWanted p p.task action → action ≡ actions.Transfer kind unit block address count
     → move_wanted p (block_begun p) ≡ actions.Transfer kind unit block address count
-transfer_wanted {K} p action kind unit block address count w e = by p.task w
-  where
-    ringed : (f : Rings → Type 0) → ((r : Rings) → f r → ⊥) → InRings p action f → ⊥
-    ringed f never h = in_rings p.rings h
-      where
-        in_rings : (o : Option Rings) → MatchOption o (action ≡ actions.Pause) f → ⊥
-        in_rings None h = search (arith, h, e)
-        in_rings (Some r) h = never r h
-
-    by : (task : Task) → IsWanted p task action
-        → move_wanted p (block_begun p) ≡ actions.Transfer kind unit block address count
-    by (tasks.Slot side) w = absurd (ringed _ (λ r h. search (arith, h, e)) w)
-    by (tasks.Return side slot) w = absurd (ringed _ (λ r h. search (arith, h, e)) w)
-    by (tasks.Neighbour side) w = absurd (ringed _ (λ r h. search (arith, h, e)) w)
-    by (tasks.Word side) w = absurd (ringed _ (λ r h. search (arith, h, e)) w)
-    by (tasks.Clear n) w = absurd (ringed _ (λ r h. search (arith, h, e)) w)
-    by tasks.Transfer w = sym w ∙ e
-    by task w = search (arith, w, e)
+transfer_wanted {K} p action kind unit block address count w e = grind arith
 
 -- ---- laws
 

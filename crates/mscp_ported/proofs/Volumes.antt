@@ -12,14 +12,7 @@ pub data SetAt (place q : ℕ) (vs : List Volume) (x : Volume) : Type 0 where
   Elsewhere : place ≢ q → volume_at (set vs q x) place ≡ volume_at vs place → SetAt place q vs x
 
 pub set_at : (place q : ℕ) (vs : List Volume) (x : Volume) → SetAt place q vs x
-set_at place q vs x = elim (cases_eq place q) [
-  | inl same ↦ elim (cases_lt place (length vs)) [
-    | inl within ↦ Here same
-        (ap (λ i. volume_at (set vs i x) place) (sym same) ∙ get_or-set_same vs place x no_volume within)
-    | inr past ↦ Past past (get_or_past (set vs q x) place no_volume (search (arith, past, length-set vs q x)))
-  ]
-  | inr other ↦ Elsewhere other (get_or-set_other vs q place x no_volume other)
-]
+set_at place q vs x = grind (arith, cases_eq, cases_lt, get_or-set_same, get_or_past, length-set, get_or-set_other)
 
 -- it is there as before, as often changed and as online, and its host is to hear of it no more than before
 pub record IsTuned (v x : Volume) : Type 0 where
@@ -39,10 +32,7 @@ abbrev pub Ended : ℕ → ℕ → List End → Type 0
 Ended code unit es = (e : End) × Contains es e × (e.code ≡ code) × (e.unit ≡ unit) × (e.status % 32 ≡ 0)
 
 pub none_ended : (code unit : ℕ) (es : List End) → es ≡ [] → Ended code unit es → ⊥
-none_ended code unit es none h = nothing h.0 (subst (λ xs. Contains xs h.0) none h.1)
-  where
-    nothing : (e : End) → Contains [] e → ⊥
-    nothing e there = search (arith, there)
+none_ended code unit es none h = grind arith
 
 -- ---- a call
 

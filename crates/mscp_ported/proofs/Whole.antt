@@ -16,24 +16,13 @@ pub told_with : {K : Type 0} (P : List ℕ → Type 0) (p : Port K) (e : End) (d
     → (ends_formality d.code ≡ true → P (head e.reference e.unit d.code d.status))
     → (ends_formality d.code ≡ false
     → P (end_with_body e.body e d (unit_found p.controller.settings.units e.unit) p.hardware)) → P (told_end p e)
-told_with P p e d some formal plain =
-    subst (λ o. P (end_left e o (unit_found p.controller.settings.units e.unit) p.hardware)) (sym some)
-    (by (ends_formality d.code) refl)
-  where
-    by : (c : Bool) → ends_formality d.code ≡ c → P (cond c (head e.reference e.unit d.code d.status)
-        (end_with_body e.body e d (unit_found p.controller.settings.units e.unit) p.hardware))
-    by true is = formal is
-    by false is = plain is
+told_with x0 p e d some formal plain = grind arith
 
 pub told_cases : {K : Type 0} (P : List ℕ → Type 0) (p : Port K) (e : End) → P (end_bytes e)
     → ((d : Decided) → ends_formality d.code ≡ true → P (head e.reference e.unit d.code d.status))
     → ((d : Decided) → ends_formality d.code ≡ false
     → P (end_with_body e.body e d (unit_found p.controller.settings.units e.unit) p.hardware)) → P (told_end p e)
-told_cases P p e bare formal plain = elim (none_or_some (slice_get p.decided.items 0)) [
-  | inl none ↦
-      subst (λ o. P (end_left e o (unit_found p.controller.settings.units e.unit) p.hardware)) (sym none) bare
-  | inr some ↦ told_with P p e some.0 some.1 (formal some.0) (plain some.0)
-]
+told_cases x0 p e bare formal plain = grind (arith, none_or_some, told_with)
 
 pub told_number : {K : Type 0} (p : Port K) (e : End) → e.reference < 2 ^ 32 → num (told_end p e) 0 4 ≡ e.reference
 told_number p e small = told_cases (λ xs. num xs 0 4 ≡ e.reference) p e (four e.reference small)
@@ -60,42 +49,16 @@ code_of body e d o h = grind arith
 
 pub told_counts : {K : Type 0} (p : Port K) (e : End) (n : ℕ) → IsOfKind e → counted_in e.body ≤ n
     → kind_of_code (slice_index (told_end p e) 8) ≡ Some Moved → num (told_end p e) 12 4 ≤ n
-told_counts p e n shaped few =
-    told_cases (λ xs. kind_of_code (slice_index xs 8) ≡ Some Moved → num xs 12 4 ≤ n) p e
-    (bare e.body refl shaped few) (λ d formal is. absurd (formal_kind d.code formal is))
-    (λ d plain is. body_counts e.body e d _ p.hardware n shaped refl few
-    (sym (ap kind_of_code (code_of e.body e d _ p.hardware)) ∙ is))
-  where
-    bare : (body : EndBody) → e.body ≡ body → kind_of_code e.code ≡ Some (kind_of_body body)
-        → counted_in body ≤ n → kind_of_code e.code ≡ Some Moved → num (end_bytes e) 12 4 ≤ n
-    bare (bodies.Moved count) same shaped few is =
-        subst (λ b. num (end_bytes (record e { body = b })) 12 4 ≤ n) (sym same) (few_bytes count n few)
-    bare body same shaped few is = absurd (search (arith, sym shaped ∙ is))
+told_counts p e n shaped few = grind (arith, told_cases, formal_kind, body_counts, code_of, counted_in, few_bytes)
 
 -- it is a whole end
 -- what is so of each row of the table of endcodes is so of a code's
 pub in_table : (P : ℕ × BodyKind → Type 0) → AllByRecursion P endcodes → (code : ℕ) (k : BodyKind)
     → kind_of_code code ≡ Some k → P (code, k)
-in_table P rows code k e = found endcodes rows e
-  where
-    found : (xs : List (ℕ × BodyKind)) → AllByRecursion P xs
-        → option_map (λ x. x.1) (find (λ x. nat_eq x.0 code) xs) ≡ Some k → P (code, k)
-    found [] all h = absurd (none-some k h)
-    found (x ∷ xs) all h = by (nat_eq x.0 code) refl h (λ y. found xs all.1 y)
-      where
-        by : (b : Bool) → nat_eq x.0 code ≡ b
-            → option_map (λ (y : ℕ × BodyKind). y.1) (cond b (Some x) (find (λ y. nat_eq y.0 code) xs)) ≡ Some k
-            → (option_map (λ (y : ℕ × BodyKind). y.1) (find (λ y. nat_eq y.0 code) xs) ≡ Some k → P (code, k))
-            → P (code, k)
-        by true is h rest = subst (λ n. P (n, k)) (eqb-true x.0 code is)
-            (subst (λ y. P (x.0, y)) (same_Some x.1 k h) all.0)
-        by false is h rest = rest h
+in_table x0 rows code k e = grind (arith, nat_eq, none-some, eqb-true, same_Some)
 
 code_top : (code : ℕ) (k : BodyKind) → kind_of_code code ≡ Some k → 0x80 ≤ code
-code_top code k e = in_table (λ x. 0x80 ≤ x.0) rows code k e
-  where
-    rows : AllByRecursion (λ x. 0x80 ≤ x.0) endcodes
-    rows = grind arith
+code_top code k e = grind (arith, in_table)
 
 body_long : (body : EndBody) (e : End) (d : Decided) (o : Option Shape) (h : Hardware) → e.body ≡ body
     → (end_length (kind_of_body body)
