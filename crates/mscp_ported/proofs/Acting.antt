@@ -79,9 +79,7 @@ early_counts o l t w said texts k none =
     }
 
 pub idle_so : (turn : Turn) → IsOpen turn → IsSimple turn → turn ≡ Idle
-idle_so Idle h k = refl
-idle_so (Read slot header text) h k = absurd k
-idle_so turn h k = absurd h
+idle_so x0 h k = grind arith
 
 pub idle_deed : (a : Action) (bytes : List ℕ) (t : Talk) → t.turn ≡ Idle → done_by a bytes t ≡ t
 idle_deed x0 bytes t e = grind arith

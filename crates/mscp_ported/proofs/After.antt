@@ -19,9 +19,7 @@ pub record IsNoReset (call : Call) : Type 0 where
 
 pub become : (l : Look) (v : Option Wish) (t t' : Talk) (said said' : List Said) (texts texts' : List (List ℕ))
     → t ≡ t' → said ≡ said' → texts ≡ texts' → InStep l t' v said' texts' → InStep l t v said texts
-become l v t t' said said' texts texts' e f g k =
-    subst (λ x. InStep l x v said texts) (sym e)
-    (subst (λ x. InStep l t' v x texts) (sym f) (subst (λ x. InStep l t' v said' x) (sym g) k))
+become l v t t' said said' texts texts' e f g k = grind arith
 
 -- by a call after which there is no fatal error the talk, what was said and what was accepted became these
 pub alters : {K : Type 0} (call : Call) (old : Port K) (l : Look) (t t' : Talk) (w v : Option Wish)
@@ -45,9 +43,7 @@ begins_same (Some o) = refl
 -- nothing more is said
 pub none_said : (before after : Option Outgoing) (said : List Said) → after ≡ before
     → said ++ map said_in (begins before after) ≡ said
-none_said before after said e =
-    ap (λ o. said ++ map said_in (begins before o)) e ∙ ap (λ xs. said ++ map said_in xs) (begins_same before)
-    ∙ append-nil said
+none_said before after said e = grind (arith, begins_same, append-nil)
 
 -- what is in hand tells nothing, and nothing more is said, or something is where nothing went out
 pub say_on : (more : ℕ) (task task' : Task) (turn turn' : Turn) (before after : Option Outgoing) (untold : ℕ)

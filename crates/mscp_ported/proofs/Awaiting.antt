@@ -72,15 +72,11 @@ none_ended n (x ∷ es) e =
 
 nothing_of : (aw : List (List ℕ)) (rs : List Record) (es : List End) (n : ℕ) → filter (is_numbered n) rs ≡ []
     → filter (ends_numbered n) es ≡ [] → At aw rs es n → IsNothing aw rs es n
-nothing_of aw rs es n none no_end (inl x) = x
-nothing_of aw rs es n none no_end (inr (inl w)) = absurd (some_none w.own [] (sym w.sole ∙ none))
-nothing_of aw rs es n none no_end (inr (inr x)) = absurd (some_none x.end [] (sym x.sole ∙ no_end))
+nothing_of aw rs es n none no_end x6 = grind (arith, some_none)
 
 nothing_by : (aw : List (List ℕ)) (rs : List Record) (es : List End) (n : ℕ) → filter (has_number n) aw ≡ []
     → At aw rs es n → IsNothing aw rs es n
-nothing_by aw rs es n none (inl x) = x
-nothing_by aw rs es n none (inr (inl w)) = absurd (some_none w.text [] (sym w.message ∙ none))
-nothing_by aw rs es n none (inr (inr x)) = absurd (some_none x.text [] (sym x.message ∙ none))
+nothing_by aw rs es n none x5 = grind (arith, some_none)
 
 -- ---- an end that is answered at once
 

@@ -98,10 +98,7 @@ next {K} picks blocks action bytes old new r = inr (
     -- what was found, and no block was begun
     without : (before after : Task) → begin_made new before after ≡ [] → f.between ≡ new.controller
         → Answered_so before after
-    without before after none same =
-        made_more so old.controller (take_made old old.outgoing new.outgoing) (begin_made new before after) f.between
-        new.controller f.taken
-        (subst (λ xs. AnsweredCalls so f.between xs new.controller) (sym none) (sym same))
+    without before after none same = grind (arith, made_more, so, f)
 
     -- and one was begun
     begun : (before after : Task) → begin_made new before after ≡ Begin (begun_step new.controller) ∷ []
@@ -114,10 +111,7 @@ next {K} picks blocks action bytes old new r = inr (
 
     -- nothing was begun
     begun_as : f.between.begun ≡ old.controller.begun
-    begun_as = elim f.either [
-      | inl e ↦ ap (λ (h : Holdings K). h.begun) e
-      | inr e ↦ ap (λ (h : Holdings K). h.begun) e
-    ]
+    begun_as = grind (arith, f, begun)
 
     same_begun : new.controller.begun ≡ old.controller.begun → f.between ≡ new.controller
     same_begun e = sym (f.may ∙ ap (λ b. record f.between { begun = b }) (e ∙ sym begun_as))

@@ -155,9 +155,7 @@ abort_kept aw rs es bs m at kept n = by (nat_eq m n) refl (find (is_numbered m) 
 
     kept_other : nat_eq m n ≡ false → (o : Option Record) → find (is_numbered m) rs ≡ o
         → filter (is_of First n) (kept_left o) ≡ filter (is_of First n) bs
-    kept_other d None e = refl
-    kept_other d (Some r) e = ap (λ k. filter (is_of First n) (without_kept First k bs)) (found_number r e)
-        ∙ sole_left (is_of First n) (λ b. not (is_of First m b)) bs (λ b is. other_number n m d b.reference is)
+    kept_other d x1 e = grind (arith, found_number, sole_left, other_number)
 
     by : (c : Bool) → nat_eq m n ≡ c → (o : Option Record) → find (is_numbered m) rs ≡ o → At aw rs es n
         → IsKept aw left (kept_left o) n

@@ -9,9 +9,7 @@ use Rattle.mscp_ported.proofs.Handed.{handed_cases, renamed, renamed_about, rena
 -- ---- codes
 
 row_coded : (o : Opcode) → bit_or (row_of o).byte 0x80 ≡ (row_of o).byte + 0x80
-row_coded codes.Abort = refl
-row_coded (codes.Move kinds.Access) = refl
-row_coded code = refl
+row_coded x0 = grind arith
 
 parameters_coded : (o : Opcode) (b : List ℕ) → endcode (parameters o b) ≡ bit_or (row_of o).byte 0x80
 parameters_coded codes.Abort b = refl

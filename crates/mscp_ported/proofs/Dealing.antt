@@ -16,23 +16,17 @@ use Rattle.mscp_ported.proofs.Whole.{told_counts, told_number, told_whole}
 -- ---- what goes out
 
 begins_same : (o q : Option Outgoing) → (q ≡ o) ⊎ (q ≡ None) → begins o q ≡ []
-begins_same None q (inl e) = ap (begins None) e
-begins_same None q (inr e) = ap (begins None) e
-begins_same (Some x) q either = refl
+begins_same x0 q x2 = grind arith
 
 passive_out : {K : Type 0} (picks : Picking K) (call : Call) (old new : Port K) → Becomes picks call old new
     → IsPassive call → (new.outgoing ≡ old.outgoing) ⊎ (new.outgoing ≡ None)
 passive_out {K} picks x2 old new r is = grind (arith, minor_out, minor)
 
 passive_accepted : {K : Type 0} (call : Call) (old : Port K) → IsPassive call → accepted_by call old ≡ []
-passive_accepted (WasRead bytes (Ok done)) old is = absurd is
-passive_accepted (WasRead bytes (Err unasked)) old is = refl
-passive_accepted call old is = refl
+passive_accepted x0 old is = grind arith
 
 pub passive_taken : {K : Type 0} (call : Call) (old : Port K) → IsPassive call → taken_by call old ≡ []
-passive_taken (WasRead bytes (Ok done)) old is = absurd is
-passive_taken (WasRead bytes (Err unasked)) old is = refl
-passive_taken call old is = refl
+passive_taken x0 old is = grind arith
 
 pub passive_deals : {K : Type 0} (picks : Picking K) (call : Call) (old new : Port K) (aw : List (List ℕ))
     → Becomes picks call old new → IsPassive call → Deals aw call old new
@@ -192,9 +186,7 @@ module _ {K : Type 0} {old new : Port K} {aw : List (List ℕ)} (k : Kept old aw
   -- its message is awaited no more
   pub left_awaited : without_ends (ends_begun old.outgoing new.outgoing) aw ++ []
       ≡ filter (λ x. not (has_number e.reference x)) aw
-  left_awaited = ap (λ xs. without_ends xs aw ++ []) (begun_end old new t)
-      ∙ append-nil (filter (λ x. not (has_number (num (told_end old e) 0 4) x)) aw)
-      ∙ ap (λ n. filter (λ x. not (has_number n x)) aw) named
+  left_awaited = grind (arith, begun_end, append-nil, named)
 
 -- a call by which something is wanted: what there is then, and what it deals with
 module _ {K : Type 0} (blocks : Bool) (action : Action) (bytes : List ℕ) (old new : Port K) (aw : List (List ℕ))

@@ -198,9 +198,7 @@ module _ {K : Type 0} (picks : Picking K) (c : Settings) (picker : K)
       calm = record { came = λ s xs ys. refl; said = λ s xs ys. refl }
 
       verdict_is : (verdict : Verdict) → IsHow a.0 outcome verdict → verdict_in a.0 outcome a.0.task ≡ verdict
-      verdict_is verdict (inl at) = ap (verdict_in a.0 outcome) at
-      verdict_is verdict (inr h) =
-          ap (verdict_in a.0 outcome) h.0 ∙ sym (verdict_so a.0 outcome (block_begun a.0)) ∙ sym h.1
+      verdict_is verdict x1 = grind (arith, verdict_so)
 
       grown : (verdict : Verdict) → verdict_in a.0 outcome a.0.task ≡ verdict
           → Grows a.0 p (decided_by verdict a.0 p) → (is_dead p.stage ≡ true → is_dead a.0.stage ≡ true)

@@ -67,9 +67,7 @@ abbrev IsOne : List Made → Type 0
 IsOne more = (history more ≡ []) ⊎ ((m : Moment) × (history more ≡ m ∷ []))
 
 begins_none : {K : Type 0} (p : Port K) (before after : Task) → history (begin_made p before after) ≡ []
-begins_none p tasks.Free (tasks.Step verdict) = refl
-begins_none p tasks.Free tasks.Transfer = refl
-begins_none p old new = refl
+begins_none p x1 x2 = grind arith
 
 takes_one : {K : Type 0} (p : Port K) (before after : Option Outgoing) → IsOne (take_made p before after)
 takes_one p x1 x2 = grind arith
@@ -131,9 +129,7 @@ stepping_told old outcome tasks.Transfer is = (transfer_told old outcome (block_
 stepping_told old outcome t is = absurd is
 
 stepping_block : (t : Task) → IsStepping t → IsOfBlock t
-stepping_block (tasks.Step verdict) is = tt
-stepping_block tasks.Transfer is = tt
-stepping_block t is = absurd is
+stepping_block x0 is = grind arith
 
 module _ {K : Type 0} (picks : Picking K) (c : Settings) (picker : K)
     (keeps : ControllersKeepThePromise (picks picker) picker) (valid : IsValid c) (before : List Made)

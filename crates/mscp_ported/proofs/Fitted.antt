@@ -62,9 +62,7 @@ module _ {c : Settings} {Told : Verdict → Record → Type 0} {K : Type 0} (cal
       by false = subst (λ z. Fitting c Told new z) (sym e) x
 
   pub died : Dies old new → So
-  died d = subst (λ z. Fitting c Told new z) (sym (calm.texts new.stage _ _)) (nothing_fits new _
-      (ap (λ (h : Holdings K). h.waiting) d.1.controller) (ap (λ (h : Holdings K). ends_of h) d.1.controller)
-      d.1.decided d.1.buffers)
+  died d = grind (arith, nothing_fits, ends_of)
 
   -- nothing changes
   pub unchanged : ends_said_by call old new ≡ [] → taken_by call old ≡ []

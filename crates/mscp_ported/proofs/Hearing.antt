@@ -1,5 +1,5 @@
 -- What follows when bytes of a host's memory were read.
-use Rattle.mscp_ported.proofs.Common.{Action, Bool, Commands, Descriptor, Err, Idle, IfSome, IsAsNew, IsOfBlock, IsSomeAnd, List, Looks, Marks, MatchOption, Message, None, Ok, Opened, Option, Outgoing, Packet, Port, Read, Reads, Responses, Result, Rings, Said, SeesText, Side, Slot, Some, Taken, Talk, Task, Turn, WasRead, Wish, [], accepted_by, accepted_text, accepts, address_in, answered_to, ap, append-nil, arith, begins, bytes_read, cond, connection_in, false, header_fault, inl, inr, is_dead, is_owned, length, length_in, map, message_text, mod-lt, none-some, num, own_end_of, read_by, read_size, read_turn, refl, said_in, side_at, slot_in, slot_read, stays, stepped, subst, sym, takes, true, ℕ, ◌++◌, ◌==◌, ◌∙◌, ◌∷◌, ◌≡◌, ◌≢◌, ◌≤◌, ◌⊎◌}
+use Rattle.mscp_ported.proofs.Common.{Action, Bool, Commands, Descriptor, Err, Idle, IfSome, IsAsNew, IsOfBlock, IsSomeAnd, List, Looks, Marks, MatchOption, Message, None, Ok, Opened, Option, Outgoing, Packet, Port, Read, Reads, Responses, Result, Rings, Said, SeesText, Side, Slot, Some, Taken, Talk, Task, Turn, WasRead, Wish, [], accepted_by, accepted_text, accepts, address_in, answered_to, ap, append-nil, arith, begins, bytes_read, cond, connection_in, false, header_fault, inl, inr, is_dead, is_owned, length, length_in, map, message_text, mod-lt, none-some, num, own_end_of, read_by, read_size, read_turn, refl, said_in, side_at, slot_in, slot_read, stays, stepped, subst, sym, takes, true, ℕ, ◌++◌, ◌==◌, ◌∙◌, ◌∷◌, ◌≡◌, ◌≢◌, ◌≤◌, ◌⊎◌, Own}
 use Rattle.mscp_controller.specs.declared.entry.Sent.TheVariants as sents
 use Rattle.mscp_port.specs.declared.action.Action.TheVariants as actions
 use Rattle.mscp_port.specs.declared.stage.Stage.TheVariants as stages
@@ -90,9 +90,7 @@ module _ {K : Type 0} (old new : Port K) (t : Talk) (w : Wish) (bytes : List ℕ
     where
       open_read : (x : Turn) (o : Option Rings) (address : ℕ) → IsOpen x
           → read_turn o address bytes x ≡ takes (slot_read o address bytes)
-      open_read Idle o address fit = refl
-      open_read (Read slot header text) o address fit = refl
-      open_read x o address fit = absurd fit
+      open_read x0 o address fit = grind arith
 
       with_rings : (o : Option Rings) → old.rings ≡ o
           → IsSomeAnd o (λ x. w.action ≡ actions.Read (slot_in x side (given_at (look old) side)) 4)

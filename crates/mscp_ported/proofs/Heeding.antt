@@ -165,15 +165,7 @@ module _ {c : Settings} {Told : Verdict → Record → Type 0} {K : Type 0} (byt
           plain = by (is_formality (slice_index bytes 8)) refl
             where
               by : (x : Bool) → is_formality (slice_index bytes 8) ≡ x → x ≡ false
-              by false e = refl
-              by true e = search (
-                arith,
-                a.immediate,
-                subst (λ s. is_queued s (command_of (handed s.units bytes)) ≡ true) (sym settings)
-                    (formal_queued c g.foreign (volume_at old.volumes) bytes valid sizes g.long
-                    (subst (λ s. own_end g.foreign (option_map (volume_at old.volumes)
-                    (place_in s.units (num bytes 4 2))) bytes ≡ None) settings g.none) e),
-              )
+              by x0 e = grind (arith, formal_queued)
 
           polled_low : (order : Order) → figure_polled h.settings First h.waiting order < 2 ^ 32
           polled_low (orders.Status other) = low other
@@ -211,9 +203,7 @@ module _ {c : Settings} {Told : Verdict → Record → Type 0} {K : Type 0} (byt
             where
               apart : (c : Bool) → nat_eq n x.command.reference ≡ c → (z : Record)
                   → filter (is_numbered x.command.reference) h.waiting ≡ z ∷ [] → c ≡ false
-              apart false d z sole = refl
-              apart true d z sole = absurd (some_none z [] (sym sole
-                  ∙ ap (λ j. filter (is_numbered j) h.waiting) (sym (eqb-true n x.command.reference d)) ∙ nothing.1))
+              apart x0 d z sole = grind (arith, some_none, is_numbered, eqb-true, nothing)
 
       aborted_fits : (order : Order) → AllByRecursion FitsNow
           (option_to_list (option_map aborted_record (record_aborted First h.waiting order)))

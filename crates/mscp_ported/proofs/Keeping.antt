@@ -112,9 +112,7 @@ module _ {K : Type 0} (picks : Picking K) (start p : Port K) (calls : List Call)
 
           all_there : (kind : MoveKind) (count first : ℕ) → r0.command.order ≡ orders.Move kind count first
               → r0.weight ≡ order_weight r0.command.order → 1 < left_of r0 → count ≤ r0.done * 512 → ⊥
-          all_there kind count first is whole more low =
-              let lower = still_bytes count r0.done
-              (subst (λ w. 1 < w - r0.done) (whole ∙ ap order_weight is) more) in search (arith, lower, low)
+          all_there kind count first is whole more low = grind (arith, still_bytes, r0)
 
       by : (b : Buffer) → Contains (kept_after r0.connection (end_given (block_told verdict) d r0) a.0.buffers.items) b
           → (r : Record)
@@ -157,15 +155,11 @@ still_waits : {K : Type 0} (old new : Port K) → Says old new → new.controlle
 still_waits old new says = search (arith, looks_or_not old)
 
 passive_comes : {K : Type 0} (call : Call) (old : Port K) → IsPassive call → (n : ℕ) → comes n call old ≡ false
-passive_comes (WasRead bytes (Ok done)) old is n = absurd is
-passive_comes (WasRead bytes (Err unasked)) old is n = refl
-passive_comes call old is n = refl
+passive_comes x0 old is n = grind arith
 
 passive_done : {K : Type 0} (call : Call) (w : Option _) (old : Port K) → IsPassive call → (n : ℕ)
     → done_by n call w old ≡ []
-passive_done (Went outcome (Ok done)) w old is n = absurd is
-passive_done (Went outcome (Err unasked)) w old is n = refl
-passive_done call w old is n = refl
+passive_done x0 w old is n = grind arith
 
 module _ {K : Type 0} (picks : Picking K) (hardware : Hardware) (credits : ℕ) (controller : Holdings K)
     (start : Port K) (made : IsMadeOf hardware credits controller start) where

@@ -17,9 +17,7 @@ pub good_told : (o : Option Block) (n : Option Name) (via : Connection) (referen
 good_told x0 x1 via reference result h = grind arith
 
 good_verdict : (verdict : Verdict) → told_of verdict ≡ blocks.Good → verdict ≡ verdicts.Served blocks.Good
-good_verdict (verdicts.Served block) e = ap verdicts.Served e
-good_verdict verdicts.NoVolume e = search (arith, e)
-good_verdict verdicts.NotOnline e = search (arith, e)
+good_verdict x0 e = grind arith
 
 good_outcome : (outcome : Outcome) → told_as outcome ≡ blocks.Good → outcome ≡ outcomes.Done
 good_outcome outcomes.Done e = refl
@@ -53,12 +51,7 @@ module _ (u : Upcoming) (kind : MoveKind) (block : ℕ) (moves : block_moved u.c
             → cond c (tasks.Step (verdicts.Served blocks.Good)) tasks.Transfer ≡ tasks.Step
             (verdicts.Served blocks.Good)
             → Low b
-        by true is h =
-            let left = part_left at.0 at.1 u.done b v part e in (
-              none_left b.count (u.done * 512) (sym (part_is b u.done part left).1 ∙ eqb-true part.1 0 is),
-              has_data b u.done part left,
-            )
-        by false is h = search (arith, h)
+        by x0 is h = grind (arith, part_left, at, none_left, part_is, eqb-true, has_data)
     good_part at b v (Err verdict) e h =
         absurd (no_good_part at.0 at.1 u.done b v verdict e (ap (λ x. verdict_in x) h))
       where
@@ -93,9 +86,7 @@ module _ (u : Upcoming) (kind : MoveKind) (block : ℕ) (moves : block_moved u.c
     begun_good : (o : Option ℕ) (k : Option Buffer) (volumes : List Volume)
         → known_task u o k volumes ≡ tasks.Step (verdicts.Served blocks.Good)
         → (b : Buffer) × (k ≡ Some b) × Low b
-    begun_good (Some place) (Some b) volumes e = (b, refl, good_step b (volume_at volumes place) e)
-    begun_good None k volumes e = search (arith, e)
-    begun_good (Some place) None volumes e = search (arith, e)
+    begun_good x0 x1 volumes e = grind (arith, good_step)
 
     -- and one with a block only where it has some
     some_part : (at : MoveKind × ℕ) (b : Buffer) (v : Volume) (r : Result (ℕ × ℕ) Verdict)

@@ -42,18 +42,6 @@ pub record Keeps {K : Type 0} (old new : Port K) : Type 0 where
   pub volumes : new.volumes ≡ old.volumes
   pub task : new.task ≡ old.task
 
--- what is wanted for a block hangs on no more
-move_by : List Shape → List Buffer → List Volume → Option (Upcoming × MoveKind × ℕ) → Action
-move_by units buffers volumes None = actions.Pause
-move_by units buffers volumes (Some m) = part_wanted m.0 m.1 m.2 (part_at (place_in units m.0.command.unit)
-    (kept_of m.0.connection m.0.command.reference buffers) m.1 m.2 m.0.done volumes)
-
-move_so : {K : Type 0} (p : Port K) (o : Option (Upcoming × MoveKind × ℕ))
-    → move_wanted p o ≡ move_by p.controller.settings.units p.buffers.items p.volumes o
-unfolding move_by
-move_so p None = refl
-move_so p (Some m) = refl
-
 keeps : {K : Type 0} (old new : Port K) (w : Option Wish) → Keeps old new → Steps old w → Steps new w
 keeps {K} old new w k s = record {
   begun = λ h. k.task ∙ s.begun (subst (λ x. IsOfBlock x) k.task h) ∙ sym same;
@@ -66,7 +54,7 @@ keeps {K} old new w k s = record {
     same = grind arith
 
     wish_same : move_wanted new (block_begun new) ≡ move_wanted old (block_begun old)
-    wish_same = grind (arith, move_so, move_by)
+    wish_same = grind arith
 
 -- a step stays in hand, or none is
 either : {K : Type 0} (old new : Port K) (w : Option Wish) → (IsOfBlock new.task → Keeps old new) → Steps old w
@@ -79,14 +67,10 @@ free_again : (task : Task) → IsOfBlock (read_again task) → read_again task �
 free_again x0 h = grind arith
 
 free_aside : (task : Task) → IsOfBlock (aside task) → aside task ≡ task
-free_aside (tasks.Step verdict) h = refl
-free_aside tasks.Transfer h = absurd h
-free_aside task h = absurd h
+free_aside x0 h = grind arith
 
 free_step : (task : Task) → IsOfBlock (step_again task) → ⊥
-free_step (tasks.Step verdict) h = h
-free_step tasks.Transfer h = h
-free_step task h = h
+free_step x0 h = grind arith
 
 module _ {K : Type 0} (old new : Port K) (w : Option Wish) (s : Steps old w) where
   same_so : new ≡ old → Steps new w

@@ -134,11 +134,4 @@ end_awaited aw rs e es at = by (at e.reference)
 
     by : At aw rs (e ∷ es) e.reference
         → (text : List ℕ) × (filter (has_number e.reference) aw ≡ text ∷ []) × (counted_in e.body ≤ bytes_in text)
-    by (inl none) = absurd (some_none e (filter (ends_numbered e.reference) es) (sym here ∙ none.2))
-    by (inr (inl w)) = absurd (some_none e (filter (ends_numbered e.reference) es) (sym here ∙ w.no_end))
-    by (inr (inr x)) = (
-      x.text,
-      x.message,
-      subst (λ (y : End). counted_in y.body ≤ bytes_in x.text)
-          (sym (first_of_one e x.end (filter (ends_numbered e.reference) es) (sym here ∙ x.sole)).0) x.fits,
-    )
+    by x0 = grind (arith, some_none, here, first_of_one)

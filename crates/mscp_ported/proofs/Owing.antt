@@ -51,9 +51,7 @@ module _ {K : Type 0} (p : Port K) (t : Talk) (action : Action) (bytes : List �
   asked_of x0 h is some out = grind (arith, in_rings, given_at, look, given_same, out_of, move_else)
 
   owed_open : (turn : Turn) → IsOpen turn → IsCalm p.stage t action bytes → IsOwed p.stage t turn action bytes
-  owed_open Idle fit h = h
-  owed_open (Read slot header text) fit h = inr h
-  owed_open turn fit h = absurd fit
+  owed_open x0 fit h = grind arith
 
   owed_at : (turn : Turn) (x : Turn) → turn ≡ x → IsOwed p.stage t x action bytes → IsOwed p.stage t turn action bytes
   owed_at turn x e h = subst (λ y. IsOwed p.stage t y action bytes) (sym e) h
@@ -113,16 +111,7 @@ module _ {K : Type 0} (p : Port K) (t : Talk) (action : Action) (bytes : List �
 
       inside : (r : Rings) → p.rings ≡ Some r → action ≡ actions.Write (clear_from p r done) (clear_count p r done)
           → IsSomeAnd t.rings (λ r'. IsInArea r' (clear_from p r done) (clear_count p r done))
-      inside r e x = subst (λ o. IsSomeAnd o (λ r'. IsInArea r' (clear_from p r done) (clear_count p r done)))
-          (sym names.named_so) (by (subst (λ a. IsWithin p a) x within))
-        where
-          by : IsSomeAnd p.rings (λ r'. IsInArea r' (clear_from p r done) (clear_count p r done))
-              ⊎ IsSomeAnd (in_hand p.task)
-              (λ word. IsInPacket word (clear_from p r done) (clear_count p r done))
-              → IsSomeAnd p.rings (λ r'. IsInArea r' (clear_from p r done) (clear_count p r done))
-          by (inl h) = h
-          by (inr h) = absurd (subst (λ y. IsSomeAnd (in_hand y)
-              (λ word. IsInPacket word (clear_from p r done) (clear_count p r done))) at h)
+      inside r e x = grind arith
   owed_of (tasks.Slot side) h is at within some up clear area fit = owed_open t.turn fit
       (in_rings (λ r. action ≡ actions.Read (slot_in r side (given_in p side)) 4)
       (IsCalm p.stage t action bytes) p.rings

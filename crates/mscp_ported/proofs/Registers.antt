@@ -204,9 +204,7 @@ module _ {K : Type 0} (word : ℕ) (old new : Port K) (t : Talk) (w : Option Wis
       answers_so stages.First at refl (ap (λ b. cond b t (record t { answer = word })) high) e
 
   last_so : (b : Bool) → old.stage ≡ stages.Last → new ≡ cond b (record old { stage = stages.Up }) old → So
-  last_so true at e = moves_so stages.Last stages.Up at (λ u. search (arith, u)) (λ u. search (arith, u)) (λ h. refl)
-      (λ h. refl) (λ h. search (arith, h)) refl refl e
-  last_so false at e = stays_so stages.Last at (λ x. refl) e
+  last_so x0 at e = grind (arith, moves_so, stays_so)
 
   is_zero : (n : ℕ) → (n ≡ 0) ⊎ (n ≢ 0)
   is_zero n = search arith

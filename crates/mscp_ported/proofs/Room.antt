@@ -50,11 +50,7 @@ module _ {K : Type 0} (old new : Port K) (clear : IsClear old.task → old.stage
   heard_by picks call r = by (minor picks call old new r tt)
     where
       by : Minor old new → new.written ≡ None
-      by (Still e) = still _ e refl refl
-      by (PutsAside e) = still _ e refl refl
-      by (ReadsAgain left e) = still _ e refl refl
-      by (Mounts becomes place e) = still _ e refl refl
-      by (GivesUp d) = d.written
+      by x0 = grind (arith, still)
 
 -- ---- a history
 

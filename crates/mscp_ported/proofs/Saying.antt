@@ -10,9 +10,7 @@ use Rattle.mscp_ported.proofs.Fitting.{FitsEnd}
 
 pub told_code : {K : Type 0} (p : Port K) (e : End) (d : Decided) → slice_get p.decided.items 0 ≡ Some d
     → slice_index (told_end p e) 8 ≡ cond (ends_formality d.code) d.code e.code
-told_code p e d some = told_with (λ xs. slice_index xs 8 ≡ cond (ends_formality d.code) d.code e.code) p e d some
-    (λ formal. sym (ap (λ c. cond c d.code e.code) formal))
-    (λ plain. code_of e.body e d _ p.hardware ∙ sym (ap (λ c. cond c d.code e.code) plain))
+told_code p e d some = grind (arith, told_with, code_of)
 
 not_formal : (code : ℕ) → ends_formality code ≡ true → IsAboutCode code → ⊥
 not_formal code formal (inl x) = search (arith, sym formal ∙ ap ends_formality x)
@@ -86,10 +84,7 @@ told_figure p e d some t shaped fits = by e.body refl
 
     nothing : (body : EndBody) → e.body ≡ body → (kind_of_body body ≡ kinds_of.Status → ⊥) → figure_in body ≡ 0
         → cond (nat_eq (slice_index (told_end p e) 8) 0x82) (num (told_end p e) 16 4) 0 ≡ figure_in e.body
-    nothing body same other zero =
-        ap (λ b. cond b (num (told_end p e) 16 4) 0)
-        (not_poll body (shaped ∙ ap (λ x. Some (kind_of_body x)) same) other)
-        ∙ sym (ap figure_in same ∙ zero)
+    nothing body same other x3 = grind (arith, not_poll)
 
     by : (body : EndBody) → e.body ≡ body
         → cond (nat_eq (slice_index (told_end p e) 8) 0x82) (num (told_end p e) 16 4) 0 ≡ figure_in e.body

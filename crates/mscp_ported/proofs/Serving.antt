@@ -41,11 +41,7 @@ module _ {K : Type 0} (picks : Picking K) (old new : Port K) (lives : is_dead ne
   owes_on call never none r = by (minor picks call old new r tt)
     where
       by : Minor old new → new.owes_block ≡ true
-      by (Still e) = as_it_was _ e refl
-      by (PutsAside e) = as_it_was _ e refl
-      by (ReadsAgain left e) = as_it_was _ e refl
-      by (Mounts becomes place e) = as_it_was _ e refl
-      by (GivesUp d) = dies 9 d
+      by x0 = grind (arith, as_it_was, dies)
 
 -- ---- a poll
 
@@ -59,13 +55,7 @@ module _ {K : Type 0} (bytes : List ℕ) (done : Unit) (old new : Port K) (r : H
   ]
     where
       by : (slot : Descriptor) → Queues slot bytes old new ⊎ Answers slot bytes old new → new.owes_block ≡ true
-      by slot (inl q) = absurd (search (
-        arith,
-        sym q.later ∙ ap (is_queued old.controller.settings)
-            (poll_sent old.controller.settings.units bytes takes.1 takes.2),
-      ))
-      by slot (inr x) = ap (λ (p : Port K). p.owes_block) x.sends.frame
-          ∙ ap (λ b. cond b true old.owes_block) (eq-eqb (slice_index bytes 8) 2 takes.1)
+      by slot x1 = grind (arith, poll_sent, eq-eqb)
 
   alive_read : is_dead old.stage ≡ false
   alive_read = is_alive old (λ code e. search (arith, r.dead code e))

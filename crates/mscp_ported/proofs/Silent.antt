@@ -49,14 +49,10 @@ module _ {K : Type 0} (old new : Port K) where
           due = r.due alive idle
 
           heard : (o : Option ℕ) → old.written ≡ o → old.written ≡ None
-          heard None e = e
-          heard (Some word) e = absurd (subst (λ x. IsHearing x) (due.step (λ x. none-some word
-              (sym x ∙ ap (λ p. p.written) r.frame ∙ e))) h)
+          heard x0 e = grind (arith, due, none-some)
 
           used : (s : Stage) → old.stage ≡ s → old.stage ≡ stages.Up
-          used stages.Up e = e
-          used s e = absurd (subst (λ x. IsHearing x) (due.still (ap (λ p. p.written) r.frame ∙ heard old.written refl)
-              (λ x. search (arith, e))) h)
+          used x0 e = grind (arith, due, heard)
 
   by_call : (picks : Picking K) (call : Call) → Becomes picks call old new → IsSilent old → IsSilent new
   by_call picks (Next blocks action bytes) r was = wants (picks old.controller.picker) blocks action r.0 was

@@ -30,9 +30,7 @@ module _ {X : Type 0} where
 
   pub other_one : (f : X → Bool) (xs ys : List X) (y r : X) → filter f (xs ++ y ∷ ys) ≡ r ∷ [] → f y ≡ false
       → ((filter f xs ≡ r ∷ []) × (filter f ys ≡ [])) ⊎ ((filter f xs ≡ []) × (filter f ys ≡ r ∷ []))
-  other_one f xs ys y r e not_it = split (filter f xs) (filter f ys) r
-      (ap (λ zs. filter f xs ++ zs) (sym (ap (λ c. cond c (y ∷ filter f ys) (filter f ys)) not_it))
-      ∙ sym (filter-append f xs (y ∷ ys)) ∙ e)
+  other_one f xs ys y r e not_it = grind (arith, split, filter-append)
 
   -- it is found
   pub found_sole : (f : X → Bool) (xs : List X) (r : X) → filter f xs ≡ r ∷ [] → find f xs ≡ Some r

@@ -29,15 +29,11 @@ left_so false y e h = absurd (false≢true e)
 
 status_so : (online : Bool) (order : Order) (kind : MoveKind) (count first : ℕ) → order ≡ orders.Move kind count first
     → touches online order ≡ true → good_status online order ≡ 0
-status_so true (orders.Move k n f) kind count first e t = refl
-status_so false (orders.Move k n f) kind count first e t = absurd (false≢true t)
-status_so online order kind count first e t = absurd (false≢true t)
+status_so x0 x1 kind count first e t = grind (arith, false≢true)
 
 move_is : (order : Order) (lbn : Option ℕ) (kind : MoveKind) (block : ℕ) → block_moved order lbn ≡ Some (kind, block)
     → (count : ℕ) × (first : ℕ) × (order ≡ orders.Move kind count first)
-move_is (orders.Move other count first) (Some x) kind block e =
-    (count, first, ap (λ y. orders.Move y.0 count first) (same_Some (other, x) (kind, block) e))
-move_is order lbn kind block e = absurd (search (arith, none-some, e))
+move_is x0 x1 kind block e = grind (arith, same_Some, none-some)
 
 -- ---- how many blocks
 

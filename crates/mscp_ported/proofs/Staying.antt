@@ -38,14 +38,7 @@ went_stays {K} picks outcome old new t done at r none = by (deed picks outcome d
     told = ap (step_told old outcome) at ∙ none
 
     by : Deed picks outcome old new → Stays old new
-    by (Fails code d) = died code old new d
-    by (Eases after eased calm e) = same_as e (alike old)
-    by (StepsOn frame lives calm why) = same_as frame (refl, refl, refl, (λ d. search (arith, d, lives)), refl)
-    by (WritesPacket slot untold at e) = same_as e (alike old)
-    by (GivesSlot Responses slot area at e) = same_as e (alike old)
-    by (GivesSlot Commands slot area at e) = same_as e (alike old)
-    by (ServesStep verdict (inl at) takes) = absurd (none-some _ (sym told ∙ ap (step_told old outcome) at))
-    by (ServesStep verdict (inr h) takes) = absurd (none-some _ (sym told ∙ ap (step_told old outcome) h.0))
+    by x0 = grind (arith, died, same_as, alike, none-some, told)
 
 -- ---- what was read is no text of a command
 
@@ -57,11 +50,7 @@ read_stays {K} bytes done old new r other = by (sight bytes done old new r)
     never slot size foreign at = absurd (other (subst (λ x. IsReadingText x) (sym at) tt))
 
     by : Seen bytes done old new → Stays old new
-    by (Slides full polled of kept e) = same_as e (alike old)
-    by (IsFault code of d) = died code old new d
-    by (IsAnswered slot size foreign end at own none e a) = never slot size foreign at
-    by (StaysInSlot slot size foreign at why e) = never slot size foreign at
-    by (IsSent slot size foreign s at own answer e) = never slot size foreign at
+    by x0 = grind (arith, same_as, alike, died, never)
 
 -- ---- calls that tell of no action
 

@@ -94,14 +94,7 @@ went_is {K} picks outcome done old new r = by old.task refl
         [ inl s ↦ inl (verdict, how, s) | inr none ↦ inr (inl none) ]
 
     others : (t : Task) → old.task ≡ t → (IsStepping t → ⊥) → Stays old new → So
-    others t at never (inr d) = inr (inr d)
-    others t at never (inl same) = elim r.commands [
-      | inl x ↦ inr (inl (same, x.volumes, λ z. absurd (never (subst (λ y. IsStepping y) at z))))
-      | inr more ↦ elim more [
-        | inl block ↦ absurd (never (subst (λ x. IsStepping x) at block.0))
-        | inr d ↦ inr (inr d)
-      ]
-    ]
+    others t at never x3 = grind arith
 
     by : (t : Task) → old.task ≡ t → So
     by (tasks.Step verdict) at = stepped verdict (inl at) ((r.moves refl).step verdict at)
@@ -115,9 +108,7 @@ module _ {K : Type 0} {verdict : Verdict} {old new : Port K} (s : Serves verdict
   pub numbered : (record_at old.controller.waiting s.place).connection ≡ First
       → is_numbered (record_at old.controller.waiting s.place).command.reference
       (record_at old.controller.waiting s.place) ≡ true
-  numbered via = is_same (name_of (record_at old.controller.waiting s.place))
-      (name_on First (record_at old.controller.waiting s.place).command.reference)
-      (ap (λ y. name_on y (record_at old.controller.waiting s.place).command.reference) via)
+  numbered via = grind (arith, is_same)
 
   pub served_stage : new.stage ≡ old.stage
   served_stage = ap (λ (p : Port K). p.stage) s.heeds.frame

@@ -35,18 +35,12 @@ task_moves u b v e = by (is_available u.command.order) (v.is_there && takes_any_
         → cond x good_step (cond y good_step (cond z (tasks.Step (changed_verdict v)) (move_task u q b v)))
         ≡ tasks.Transfer
         → So
-    by true y z q f h = search (arith, h)
-    by false true z q f h = search (arith, h)
-    by false false true q f h = search (arith, h)
-    by false false false None f h = search (arith, h)
-    by false false false (Some m) f h = parted m f (part_with m.0 m.1 u.done b v) refl h
+    by x0 y z q f h = grind (arith, parted)
 
 known_moves : (u : Upcoming) (o : Option ℕ) (k : Option Buffer) (vs : List Volume)
     → known_task u o k vs ≡ tasks.Transfer
     → (m : MoveKind × ℕ) × (part : ℕ × ℕ) × (move_of u ≡ Some m) × (part_at o k m.0 m.1 u.done vs ≡ Ok part)
-known_moves u None k vs e = search (arith, e)
-known_moves u (Some place) None vs e = search (arith, e)
-known_moves u (Some place) (Some b) vs e = task_moves u b (volume_at vs place) e
+known_moves u x1 k vs e = grind (arith, task_moves)
 
 -- so where it is told done it went well
 done_good : {K : Type 0} (old : Port K) (w : Option Wish) (u : Upcoming) → Steps old w → old.task ≡ tasks.Transfer
@@ -57,9 +51,7 @@ done_good {K} old w u s at step = grind (arith, known_moves)
 
 pub touched_so : (online : Bool) (order : Order) (n : ℕ) (x : MoveKind × ℕ)
     → moved_by order (block_touched online order n) ≡ Some x → touches online order ≡ true
-touched_so true (orders.Move kind count first) n x e = refl
-touched_so false (orders.Move kind count first) n x e = absurd (none-some x e)
-touched_so online order n x e = absurd (none-some x e)
+touched_so x0 x1 n x e = grind (arith, none-some)
 
 done_is : (outcome : Outcome) → is_done outcome ≡ true → outcome ≡ outcomes.Done
 done_is outcomes.Done e = refl
@@ -74,9 +66,7 @@ counted : (shape : Shape) (status : ℕ) (online : Bool) (order : Order) (good :
     → (touches online order && is_good_block k) ≡ c
     → outcome_body shape status order (good + cond (touches online order && is_good_block k) 1 0)
     ≡ bodies.Moved (min count (512 * (good + cond c 1 0)))
-counted shape status online order good k c kind count first e f =
-    ap (λ b. outcome_body shape status order (good + cond b 1 0)) f
-    ∙ ap (λ o. outcome_body shape status o (good + cond c 1 0)) e
+counted shape status online order good k c kind count first e f = grind arith
 
 few_bytes : (count n : ℕ) → count ≤ n * 512 → min count (512 * (n + 1)) ≡ min count (512 * n)
 few_bytes count n h = search (arith, h)
@@ -96,9 +86,7 @@ ended_so false x e h = (refl, same_Some x e h)
 
 pub brought_one : (via : Connection) (o : Option End) (e : End) → Contains (brought_for via o) e
     → (via ≡ First) × (o ≡ Some e)
-brought_one First (Some x) e there = (refl, search (arith, there))
-brought_one First None e there = search (arith, there)
-brought_one Second o e there = search (arith, there)
+brought_one x0 x1 e there = grind arith
 
 -- none comes where no step is taken
 pub none_served : {K : Type 0} (e : End) (old new : Port K) → ServesNone old new ⊎ Dies old new

@@ -14,9 +14,7 @@ Pace q n g = ((o : Outgoing) × IsSaying q o × (n + to_do q.task ≤ 17 * g + 1
     ⊎ (IsWaiting q × (n + rest q.task + 10 ≤ 17 * g + 17))
 
 seven : (t : Task) → rest t ≤ 7
-seven (tasks.Slot Responses) = search arith
-seven (tasks.Slot Commands) = search arith
-seven t = search arith
+seven x0 = grind arith
 
 at_most_one : (call : Call) → acts (call ∷ []) ≤ 1
 at_most_one x0 = grind arith

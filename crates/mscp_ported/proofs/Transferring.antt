@@ -50,9 +50,7 @@ goes_on_so d r k e = by (touches d.online r.command.order) refl k refl (nat_lt 1
 pub block_so : (online : Bool) (order : Order) (done : ℕ) → touches online order ≡ true
     → (kind : MoveKind) × (count : ℕ) × (first : ℕ) × (order ≡ orders.Move kind count first)
     × (block_moved order (block_touched online order done) ≡ Some (kind, first + done))
-block_so true (orders.Move kind count first) done e = (kind, count, first, refl, refl)
-block_so false (orders.Move kind count first) done e = absurd (false≢true e)
-block_so online order done e = absurd (false≢true e)
+block_so x0 x1 done e = grind (arith, false≢true)
 
 pub is_step_sole : {K : Type 0} (h : Holdings K) (n : ℕ) (name : Name) (r : Record) → h.begun ≡ Some name
     → name ≡ name_on First n → filter (is_numbered n) h.waiting ≡ r ∷ []
@@ -63,9 +61,7 @@ is_step_sole h n name r begun named sole = begun_record h name r begun
 -- what is told of a step
 pub told_so : {K : Type 0} (old : Port K) (outcome : Outcome) (verdict : Verdict) → IsHow old outcome verdict
     → block_told verdict ≡ blocks.Good → step_told old outcome old.task ≡ Some blocks.Good
-told_so old outcome verdict (inl h) good = ap (step_told old outcome) h ∙ ap Some (sym (verdict_so verdict) ∙ good)
-told_so old outcome verdict (inr h) good = ap (step_told old outcome) h.0
-    ∙ ap Some (sym (transfer_so old outcome (block_begun old)) ∙ ap block_told (sym h.1) ∙ good)
+told_so old outcome verdict x3 good = grind (arith, verdict_so, transfer_so)
 
 -- ---- what a message of a transfer says
 

@@ -142,8 +142,4 @@ module _ {K : Type 0} (picks : Picking K) (old new : Port K) where
   reads_on call none r = by (minor picks call old new r tt)
     where
       by : Minor old new → IsHearing new.task → ReadsOn old new
-      by (Still e) = on _ e (λ h. h) refl refl refl
-      by (PutsAside e) = on _ e (put old.task) refl refl refl
-      by (ReadsAgain left e) = on _ e (again old.task) refl refl refl
-      by (Mounts becomes place e) = on _ e (anew place old.task) refl refl refl
-      by (GivesUp d) = λ h. absurd (forgets new.task d.task h)
+      by x0 = grind (arith, on, put, again, anew, forgets)

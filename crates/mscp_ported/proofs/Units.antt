@@ -19,9 +19,7 @@ stand_unit b long = absurd (search (arith, long))
 pub handed_unit : (units : List Shape) (b : List ℕ) → 12 ≤ length b → ((i : ℕ) → slice_index b i < 2 ^ 8)
     → IsUnitIn (command_of (handed units b)).unit b
 unfolding command_of
-handed_unit units b long small = handed_cases (λ x. IsUnitIn (num x 4 2) b) units b
-    (λ formal. inl (stand_unit b long, subst (λ n. n < 2 ^ 16) (sym (stand_unit b long)) (small_unit b small)))
-    (λ plain asks n. inr asks) (λ plain. inl (refl, small_unit b small))
+handed_unit units b long small = grind (arith, handed_cases, stand_unit, small_unit)
 
 -- ---- the text of an end
 

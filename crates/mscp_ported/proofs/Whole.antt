@@ -39,9 +39,7 @@ formal_kind code e h = grind (arith, none-some, e, h)
 body_counts : (body : EndBody) (e : End) (d : Decided) (o : Option Shape) (h : Hardware) (n : ℕ)
     → kind_of_code e.code ≡ Some (kind_of_body body) → e.body ≡ body → counted_in body ≤ n
     → kind_of_code e.code ≡ Some Moved → num (end_with_body body e d o h) 12 4 ≤ n
-body_counts (bodies.Moved count) e d o h n shaped same few is =
-    subst (λ b. num (end_bytes (record e { status = d.status; body = b })) 12 4 ≤ n) (sym same) (few_bytes count n few)
-body_counts body e d o h n shaped same few is = absurd (search (arith, sym shaped ∙ is))
+body_counts x0 e d o h n shaped same few is = grind (arith, few_bytes)
 
 pub code_of : (body : EndBody) (e : End) (d : Decided) (o : Option Shape) (h : Hardware)
     → slice_index (end_with_body body e d o h) 8 ≡ e.code
