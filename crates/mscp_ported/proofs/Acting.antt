@@ -64,7 +64,7 @@ init_step l t w said texts s first second rings word task turn named said_first 
 module _ (l : Look) (first : ℕ) where
   pub step_cases : (P : Task → Turn → Type 0) → P tasks.Interrupt Due → P tasks.Free Idle
       → P (step_task first tasks.Free) (at_step first)
-  step_cases x0 h k = grind arith
+  step_cases P h k = grind arith
 
 -- nothing was told nor heard of before the area was named
 pub early_counts : (o : Option Rings) (l : Look) (t : Talk) (w : Option Wish) (said : List Said) (texts : List (List ℕ))
@@ -79,13 +79,13 @@ early_counts o l t w said texts k none =
     }
 
 pub idle_so : (turn : Turn) → IsOpen turn → IsSimple turn → turn ≡ Idle
-idle_so x0 h k = grind arith
+idle_so turn h k = grind arith
 
 pub idle_deed : (a : Action) (bytes : List ℕ) (t : Talk) → t.turn ≡ Idle → done_by a bytes t ≡ t
-idle_deed x0 bytes t e = grind arith
+idle_deed a bytes t e = grind arith
 
 pub else_deed : (a : Action) (bytes : List ℕ) (t : Talk) → IsElse a → done_by a bytes t ≡ t
-else_deed x0 bytes t is = grind arith
+else_deed a bytes t is = grind arith
 
 -- the port looks so, and it is reported how its action went
 pub record IsReported {K : Type 0} (picks : List Choice → ℕ → Type 0) (old new : Port K) (t : Talk) (w : Wish)

@@ -80,7 +80,7 @@ handed_so units b = grind (arith, find, nat_le)
 -- where a text is to be read, it is of the connection of its header
 is_text : (l : Look) (task : Task) (slot : Slot) (header : ℕ) → Fits l task (Opened slot header)
     → (d : Descriptor) × (size : ℕ) × (task ≡ tasks.Text d size (is_for_utilities header))
-is_text l x1 slot header f = grind (arith, slot_at)
+is_text l task slot header f = grind (arith, slot_at)
 
 module _ {K : Type 0} (picks : Picking K) (hardware : Hardware) (credits : ℕ) (controller : Holdings K)
     (start : Port K) (made : IsMadeOf hardware credits controller start) where

@@ -33,7 +33,7 @@ nothing_kept p none no_end = record {
 
 pub order_few : (o : Option Opcode) (b : List ℕ) → opcode_of (slice_index b 8) ≡ o
     → asked_by (order_with o b) ≤ bytes_in b
-order_few x0 b e = grind (arith, eqb-true, found_is, nat_eq, nat_lt, asked_by)
+order_few o b e = grind (arith, eqb-true, found_is, nat_eq, nat_lt, asked_by)
 
 command_few : (b : List ℕ) → asked_by (command_of b).order ≤ bytes_in b
 unfolding command_of
@@ -72,11 +72,11 @@ none_ended n (x ∷ es) e =
 
 nothing_of : (aw : List (List ℕ)) (rs : List Record) (es : List End) (n : ℕ) → filter (is_numbered n) rs ≡ []
     → filter (ends_numbered n) es ≡ [] → At aw rs es n → IsNothing aw rs es n
-nothing_of aw rs es n none no_end x6 = grind (arith, some_none)
+nothing_of aw rs es n none no_end h = grind (arith, some_none)
 
 nothing_by : (aw : List (List ℕ)) (rs : List Record) (es : List End) (n : ℕ) → filter (has_number n) aw ≡ []
     → At aw rs es n → IsNothing aw rs es n
-nothing_by aw rs es n none x5 = grind (arith, some_none)
+nothing_by aw rs es n none h = grind (arith, some_none)
 
 -- ---- an end that is answered at once
 
@@ -159,7 +159,7 @@ module _ {K : Type 0} (call : Call) (old new : Port K) (aw : List (List ℕ)) (k
     where
       by : (b : Bool) → is_dead new.stage ≡ b
           → since new.stage call (without_ends (ends_said_by call old new) aw) (taken_by call old) ≡ aw
-      by x0 is = grind (arith, append-nil)
+      by b is = grind (arith, append-nil)
 
   -- while there is no fatal error
   pub lives_so : (xs : List (List ℕ)) → is_dead new.stage ≡ false

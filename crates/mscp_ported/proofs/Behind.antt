@@ -62,7 +62,7 @@ module _ (n m : ℕ) where
           → (aborts_behind n m ts ≡ true → aborts_behind n m (filter (λ t. not (has_number k t)) ts) ≡ true)
           → aborts_behind n m (cond (not b) (t ∷ filter (λ t. not (has_number k t)) ts)
           (filter (λ t. not (has_number k t)) ts)) ≡ true
-      by x0 is x2 mine h rest = grind (arith, false≢true, eq-eqb, eqb-true, any_left, kept)
+      by b is c mine h rest = grind (arith, false≢true, eq-eqb, eqb-true, any_left, kept)
 
 -- ---- the message of an ABORT
 

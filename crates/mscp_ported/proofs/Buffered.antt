@@ -59,7 +59,7 @@ nothing_kept aw rs bs n none kept = record {
 other_left : (n : ℕ) (via : Connection) (o : Option End) (bs : List Buffer)
     → ((e : End) → o ≡ Some e → via ≡ First → nat_eq e.reference n ≡ false)
     → filter (is_of First n) (kept_after via o bs) ≡ filter (is_of First n) bs
-other_left n via x2 bs other = grind (arith, sole_left, other_number)
+other_left n via o bs other = grind (arith, sole_left, other_number)
 
 module _ (k : Block) (d : Drive) (aw : List (List ℕ)) (rs : List Record) (es : List End) (bs : List Buffer)
     (place : ℕ) (inside : place < length rs) (at : AtEach aw rs es) (kept : IsKeptEach aw rs bs) where
@@ -155,7 +155,7 @@ abort_kept aw rs es bs m at kept n = by (nat_eq m n) refl (find (is_numbered m) 
 
     kept_other : nat_eq m n ≡ false → (o : Option Record) → find (is_numbered m) rs ≡ o
         → filter (is_of First n) (kept_left o) ≡ filter (is_of First n) bs
-    kept_other d x1 e = grind (arith, found_number, sole_left, other_number)
+    kept_other d o e = grind (arith, found_number, sole_left, other_number)
 
     by : (c : Bool) → nat_eq m n ≡ c → (o : Option Record) → find (is_numbered m) rs ≡ o → At aw rs es n
         → IsKept aw left (kept_left o) n

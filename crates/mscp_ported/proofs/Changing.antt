@@ -129,7 +129,7 @@ module _ {K : Type 0} (picks : Picking K) (start : Port K) where
   IsApart kept m now = ((m ≡ 0) × (now ≡ kept)) ⊎ (now ≡ (kept + m) % 0x1_0000_0000)
 
   apart_more : (kept m now n later : ℕ) → IsApart kept m now → After n now later → IsApart kept (n + m) later
-  apart_more kept m now n later x5 x6 = grind (arith, mod-add-mod)
+  apart_more kept m now n later h k = grind (arith, mod-add-mod)
 
   abbrev pub SaidAgo : (p : Port K) → (calls : List Call) → Answered picks start calls p → ℕ → Buffer → Type 0
   SaidAgo p calls a unit b = (m : ℕ) × Ago b.reference unit p calls a b m

@@ -9,7 +9,7 @@ use Rattle.mscp_ported.proofs.Handed.{handed_cases, renamed, renamed_about, rena
 -- ---- codes
 
 row_coded : (o : Opcode) → bit_or (row_of o).byte 0x80 ≡ (row_of o).byte + 0x80
-row_coded x0 = grind arith
+row_coded o = grind arith
 
 parameters_coded : (o : Opcode) (b : List ℕ) → endcode (parameters o b) ≡ bit_or (row_of o).byte 0x80
 parameters_coded codes.Abort b = refl
@@ -66,7 +66,7 @@ short_about o b byte at small long short = search (arith, small, long, short)
 
 other_about : (o : Opcode) (b : List ℕ) (byte : ℕ) → (row_of o).byte ≡ byte → 16 < least o → (other : ℕ)
     → about_in (refused_body (bit_or byte 0x80)) ≡ Some other → ⊥
-other_about x0 b byte at more other is = grind arith
+other_about o b byte at more other is = grind arith
 
 abbrev own_of : Settings → Bool → ℕ → Command → End
 own_of c online figure command = own_end_with c online figure command (fault_of c command)
@@ -91,11 +91,11 @@ IsTold order = ⊥
 
 order_untold : (c : Settings) (online : Bool) (figure unit reference : ℕ) (order : Order) → IsTold order
     → Untold c online figure (commanded unit reference order)
-order_untold c online figure unit reference x5 told x7 other h = grind arith
+order_untold c online figure unit reference order told k other h = grind arith
 
 parameters_about : (c : Settings) (online : Bool) (figure unit reference : ℕ) (b : List ℕ) (o : Opcode)
     → IsAbout b (own_of c online figure (commanded unit reference (parameters o b)))
-parameters_about c online figure unit reference b x6 other is = grind (arith, order_untold)
+parameters_about c online figure unit reference b o other is = grind (arith, order_untold)
 
 answered_with : (c : Settings) (online : Bool) (figure unit reference : ℕ) (b : List ℕ) (o : Option Opcode)
     → opcode_of (slice_index b 8) ≡ o → 16 ≤ length b
@@ -130,7 +130,7 @@ answered_command c online figure b long =
 stood_about : (c : Settings) (online : Bool) (figure : ℕ) (b : List ℕ) → 16 ≤ length b
     → (other : ℕ) → about_in (own_of c online figure (command_of (stand_in b))).body ≡ Some other → ⊥
 unfolding command_of
-stood_about c online figure x3 long other is = grind arith
+stood_about c online figure b long other is = grind arith
 
 pub answered_about : (c : Settings) (online : Bool) (figure : ℕ) (units : List Shape) (b : List ℕ) → 16 ≤ length b
     → IsAbout b (own_of c online figure (command_of (handed units b)))

@@ -68,7 +68,7 @@ pub steps_bring : {K : Type 0} (picks : List Choice → ℕ → Type 0) (via : C
     (old new : Holdings K) (result : Result Report NotBegun)
     → Finishes picks (name_on via reference) block old result new
     → ends_of new ≡ ends_of old ++ brought_for via (end_brought result)
-steps_bring picks via reference block old new x6 f = grind (arith, append-nil, served_name)
+steps_bring picks via reference block old new result f = grind (arith, append-nil, served_name)
 
 -- ---- how many
 

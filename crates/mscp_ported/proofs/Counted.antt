@@ -9,7 +9,7 @@ moved_few order good n h = grind arith
 
 outcome_few : (shape : Shape) (status : ℕ) (order : Order) (good n : ℕ) → asked_by order ≤ n
     → counted_in (outcome_body shape status order good) ≤ n
-outcome_few shape status x2 good n h = grind (arith, moved_few)
+outcome_few shape status order good n h = grind (arith, moved_few)
 
 pub given_few : (k : Block) (d : Drive) (r : Record) (e : End) (n : ℕ) → end_given k d r ≡ Some e
     → asked_by r.command.order ≤ n → counted_in e.body ≤ n

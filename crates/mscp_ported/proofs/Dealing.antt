@@ -16,17 +16,17 @@ use Rattle.mscp_ported.proofs.Whole.{told_counts, told_number, told_whole}
 -- ---- what goes out
 
 begins_same : (o q : Option Outgoing) → (q ≡ o) ⊎ (q ≡ None) → begins o q ≡ []
-begins_same x0 q x2 = grind arith
+begins_same o q h = grind arith
 
 passive_out : {K : Type 0} (picks : Picking K) (call : Call) (old new : Port K) → Becomes picks call old new
     → IsPassive call → (new.outgoing ≡ old.outgoing) ⊎ (new.outgoing ≡ None)
-passive_out {K} picks x2 old new r is = grind (arith, minor_out, minor)
+passive_out {K} picks call old new r is = grind (arith, minor_out, minor)
 
 passive_accepted : {K : Type 0} (call : Call) (old : Port K) → IsPassive call → accepted_by call old ≡ []
-passive_accepted x0 old is = grind arith
+passive_accepted call old is = grind arith
 
 pub passive_taken : {K : Type 0} (call : Call) (old : Port K) → IsPassive call → taken_by call old ≡ []
-passive_taken x0 old is = grind arith
+passive_taken call old is = grind arith
 
 pub passive_deals : {K : Type 0} (picks : Picking K) (call : Call) (old new : Port K) (aw : List (List ℕ))
     → Becomes picks call old new → IsPassive call → Deals aw call old new

@@ -22,7 +22,7 @@ passive_reset WriteIp is = absurd is
 passive_reset call is = record { came = λ s xs ys. refl; said = λ s xs ys. refl }
 
 passive_came : {K : Type 0} (call : Call) (old new : Port K) → IsPassive call → came_by call old new ≡ []
-passive_came x0 old new is = grind arith
+passive_came call old new is = grind arith
 
 pub passive_said : {K : Type 0} (call : Call) (old new : Port K) → IsPassive call → ends_said_by call old new ≡ []
 passive_said (Next blocks action bytes) old new is = absurd is
@@ -198,7 +198,7 @@ module _ {K : Type 0} (picks : Picking K) (c : Settings) (picker : K)
       calm = record { came = λ s xs ys. refl; said = λ s xs ys. refl }
 
       verdict_is : (verdict : Verdict) → IsHow a.0 outcome verdict → verdict_in a.0 outcome a.0.task ≡ verdict
-      verdict_is verdict x1 = grind (arith, verdict_so)
+      verdict_is verdict h = grind (arith, verdict_so)
 
       grown : (verdict : Verdict) → verdict_in a.0 outcome a.0.task ≡ verdict
           → Grows a.0 p (decided_by verdict a.0 p) → (is_dead p.stage ≡ true → is_dead a.0.stage ≡ true)

@@ -202,7 +202,7 @@ module _ {K : Type 0} (old new : Port K) (u : InUse old) where
         where
           answers : (x : End) → IsSomeAnd new.outgoing (λ y. (y.bytes.items ≡ end_bytes x)
               × (y.kind ≡ end_kind foreign)) → (o : Option Outgoing) → new.outgoing ≡ o → new.outgoing ≢ None
-          answers x h x2 is = grind (arith, none-some)
+          answers x h o is = grind (arith, none-some)
       by (StaysInSlot slot size foreign at why e) = on _ e refl u.room refl refl
           (read_ends bytes done r slot size foreign at) (text_fewer tasks.Free (search arith) (search arith) (λ c. c) at)
       by (IsSent slot size foreign (sents.Queued reference) at own answer e) = on _ e.frame refl u.room refl refl
@@ -267,4 +267,4 @@ module _ {K : Type 0} (old new : Port K) (u : InUse old) where
   goes_on picks call none r given = by (minor picks call old new r tt)
     where
       by : Minor old new → So (acts (call ∷ []))
-      by x0 = grind (arith, stay, on, as_was, aside_fewer, again_fewer, step_fewer)
+      by h = grind (arith, stay, on, as_was, aside_fewer, again_fewer, step_fewer)

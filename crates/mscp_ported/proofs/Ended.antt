@@ -28,7 +28,7 @@ module _ {K : Type 0} (picks : Picking K) (old new : Port K) where
 
   dead_on : (call : Call) → call ≢ WriteIp → Becomes picks call old new → is_dead old.stage ≡ true
       → is_dead new.stage ≡ true
-  dead_on x0 never r d = grind (arith, dead_code, stays_dead, minor, same_dead)
+  dead_on call never r d = grind (arith, dead_code, stays_dead, minor, same_dead)
 
   pub lived : (call : Call) → call ≢ WriteIp → Becomes picks call old new → is_dead new.stage ≡ false
       → is_dead old.stage ≡ false

@@ -67,10 +67,10 @@ abbrev IsOne : List Made → Type 0
 IsOne more = (history more ≡ []) ⊎ ((m : Moment) × (history more ≡ m ∷ []))
 
 begins_none : {K : Type 0} (p : Port K) (before after : Task) → history (begin_made p before after) ≡ []
-begins_none p x1 x2 = grind arith
+begins_none p before after = grind arith
 
 takes_one : {K : Type 0} (p : Port K) (before after : Option Outgoing) → IsOne (take_made p before after)
-takes_one p x1 x2 = grind arith
+takes_one p before after = grind arith
 
 sends_one : {K : Type 0} (p : Port K) (bytes : List ℕ) (t : Task) → IsOne (send_made p bytes t)
 sends_one p bytes (tasks.Text slot size foreign) = by (own_end_of p foreign bytes)
@@ -83,13 +83,13 @@ sends_one p bytes (tasks.Text slot size foreign) = by (own_end_of p foreign byte
 sends_one p bytes t = inl refl
 
 finishes_one : (o : Option Block) (b : Option Name) (more : List Made) → IsFinish o b more → IsOne more
-finishes_one x0 x1 more h = grind arith
+finishes_one o b more h = grind arith
 
 one_beside : (xs ys : List Made) → history ys ≡ [] → IsOne xs → IsOne (xs ++ ys)
 one_beside xs ys none one = grind (arith, flat_map-append, append-nil)
 
 makes_one : {K : Type 0} (call : Call) (old new : Port K) (more : List Made) → Makes call old new more → IsOne more
-makes_one x0 old new more h = grind (arith, one_beside, begins_none, takes_one, sends_one, finishes_one)
+makes_one call old new more h = grind (arith, one_beside, begins_none, takes_one, sends_one, finishes_one)
 
 -- a step that is told is a moment that is one
 tells_step : {K : Type 0} (picks : List Choice → ℕ → Type 0) (old new : Holdings K) (o : Option Block)
@@ -113,7 +113,7 @@ tells_step picks old new (Some other) (Some found) block name more told begun is
 
 at_last : (t : Trace) (m : Moment) (R : Trace → Moment → Trace → Type 0) → AtEach (t ++ m ∷ []) R
     → R t m (t ++ m ∷ [])
-at_last t m x2 each = grind (arith, length-append, take_at, moment_last, take_all)
+at_last t m R each = grind (arith, length-append, take_at, moment_last, take_all)
 
 -- where a step is in hand the controller has begun it
 begun_some : (units : List Shape) (buffers : List Buffer) (volumes : List Volume) (ds : List Drive) (rs : List Record)
@@ -129,7 +129,7 @@ stepping_told old outcome tasks.Transfer is = (transfer_told old outcome (block_
 stepping_told old outcome t is = absurd is
 
 stepping_block : (t : Task) → IsStepping t → IsOfBlock t
-stepping_block x0 is = grind arith
+stepping_block t is = grind arith
 
 module _ {K : Type 0} (picks : Picking K) (c : Settings) (picker : K)
     (keeps : ControllersKeepThePromise (picks picker) picker) (valid : IsValid c) (before : List Made)

@@ -109,7 +109,7 @@ module _ (bs : List Buffer) (e : End) (t : List ℕ) where
       (by (is_formality b.opcode) refl)
     where
       by : (c : Bool) → is_formality b.opcode ≡ c → Coded (cond c (b.opcode + 0x80) e.code)
-      by x0 is = grind (arith, formal_code, itself_coded)
+      by c is = grind (arith, formal_code, itself_coded)
 
   pub bare_same : filter (is_of First e.reference) bs ≡ [] → told ≡ e.code
   bare_same none = ap (λ o. code_told o e.code) (kept_none e.reference bs none)
@@ -129,7 +129,7 @@ moved_no_about order good other never is = never other is
 outcome_no_about : (shape : Shape) (status : ℕ) (order : Order) (good other : ℕ)
     → ((other : ℕ) → about_in (refused_body (endcode order)) ≡ Some other → ⊥)
     → about_in (outcome_body shape status order good) ≡ Some other → ⊥
-outcome_no_about shape status x2 good other never is = grind (arith, moved_no_about)
+outcome_no_about shape status order good other never is = grind (arith, moved_no_about)
 
 -- its code is that of its order, and it is about no other command
 pub record IsPlainEnd (r : Record) (e : End) : Type 0 where

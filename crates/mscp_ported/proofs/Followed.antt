@@ -47,7 +47,7 @@ module _ (Told : Verdict → Record → Type 0) (aw : List (List ℕ)) where
   followed_forgotten (e ∷ es) all = (one all.0, followed_forgotten es all.1)
     where
       one : IsFollowed Told aw e es → IsFollowed Told [] e es
-      one x0 = grind (arith, some_none)
+      one h = grind (arith, some_none)
 
   pub followed_more : (es fs : List End) → AreFollowed Told aw es → AreFollowed Told aw fs
       → AreFollowed Told aw (es ++ fs)
@@ -79,7 +79,7 @@ module _ (Told : Verdict → Record → Type 0) (aw : List (List ℕ)) where
       by false is h x rest = (one x, rest h)
         where
           apart : (b : Bool) → nat_eq (num t 0 4) e.reference ≡ b → b ≡ false
-          apart x0 x = grind (arith, eq-eqb, eqb-true)
+          apart b x = grind (arith, eq-eqb, eqb-true)
 
           one : IsFollowed Told aw e es → IsFollowed Told (aw ++ t ∷ []) e es
           one (inl x) = inl x

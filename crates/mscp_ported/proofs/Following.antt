@@ -64,7 +64,7 @@ module _ {K : Type 0} (picks : Picking K) (old new : Port K) (t : Talk) (said : 
           (record { said = λ s xs ys. refl; texts = λ s xs ys. refl }) d
 
 pub asked_before : (call : Call) (earlier : List Call) → AsksAlways (call ∷ earlier) → AsksAlways earlier
-asked_before x0 earlier asks = grind arith
+asked_before call earlier asks = grind arith
 
 module _ {K : Type 0} (picks : Picking K) (hardware : Hardware) (credits : ℕ) (controller : Holdings K)
     (start : Port K) (made : IsMadeOf hardware credits controller start) where
@@ -142,7 +142,7 @@ module _ {K : Type 0} (picks : Picking K) (hardware : Hardware) (credits : ℕ) 
 -- what was accepted, by the message in hand
 pub accepted_so : (task : Task) (turn : Turn) (heard : List Message) (texts : List (List ℕ))
     → Hears task turn heard texts → AreAccepted heard turn texts
-accepted_so x0 x1 heard texts h = grind (arith, append-nil)
+accepted_so task turn heard texts h = grind (arith, append-nil)
 
 -- where a text is accepted, its header was read
 opened_so : {K : Type 0} (old : Port K) (task : Task) (turn : Turn) (bytes text : List ℕ) (more : List (List ℕ))

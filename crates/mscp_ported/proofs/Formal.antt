@@ -6,7 +6,7 @@ use Rattle.mscp_ported.proofs.Sole.{found_all}
 -- its unit is there
 unit_there : (foreign : Bool) (v : Option Volume) (b : List ℕ) → own_end foreign v b ≡ None
     → is_formality (slice_index b 8) ≡ true → (x : Volume) × (v ≡ Some x)
-unit_there x0 v b none formal = grind (arith, none-some)
+unit_there foreign v b none formal = grind (arith, none-some)
 
 placed : {X : Type 0} (f : ℕ → X) (o : Option ℕ) (x : X) → option_map f o ≡ Some x → (place : ℕ) × (o ≡ Some place)
 placed f None x e = absurd (none-some x e)

@@ -56,7 +56,7 @@ module _ {K : Type 0} {picks : List Choice → ℕ → Type 0} {old new : Port K
       (ap (λ x. in_hand x t.turn) at) (λ d. absurd (search (arith, d, alive going))))
     where
       by : (a : Action) → IsInterrupt a → done_by a w.bytes t ≡ record t { turn = Idle }
-      by x0 is = grind (arith, look)
+      by a is = grind (arith, look)
 
       talk : done_by w.action w.bytes t ≡ record t { turn = Idle }
       talk = by w.action (subst (λ x. IsAsked (look old) x w) at k.hand.asked)

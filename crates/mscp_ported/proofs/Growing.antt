@@ -11,7 +11,7 @@ begun_one old new o none some = ap (λ x. begins x new) none ∙ ap (begins None
 pub silent : {K : Type 0} (call : Call) (old new : Port K) (aw : List (List ℕ)) → Deals aw call old new
     → ends_said_by call old new ≡ [] → ((bytes : List ℕ) (done : Unit) → call ≡ WasRead bytes (Ok done) → ⊥)
     → flat_map pending_in (map said_in (begins old.outgoing new.outgoing)) ≡ []
-silent call old new aw x4 said never = grind (arith, begun_one)
+silent call old new aw h said never = grind (arith, begun_one)
 
 -- ---- what comes of the controller
 

@@ -9,7 +9,7 @@ pub handed_cases : (P : List ℕ → Type 0) (units : List Shape) (b : List ℕ)
     → (is_formality (slice_index b 8) ≡ true → P (stand_in b))
     → (is_formality (slice_index b 8) ≡ false → asks_for_next b ≡ true → (n : ℕ) → P (renamed b n))
     → (is_formality (slice_index b 8) ≡ false → P b) → P (handed units b)
-handed_cases x0 units b formal next plain = grind arith
+handed_cases P units b formal next plain = grind arith
 
 -- its other bytes are the same
 pub renamed_byte : (b : List ℕ) (n : ℕ) → 12 ≤ length b → slice_index (renamed b n) 8 ≡ slice_index b 8

@@ -90,7 +90,7 @@ module _ {K : Type 0} (old new : Port K) (t : Talk) (w : Wish) (bytes : List ℕ
     where
       open_read : (x : Turn) (o : Option Rings) (address : ℕ) → IsOpen x
           → read_turn o address bytes x ≡ takes (slot_read o address bytes)
-      open_read x0 o address fit = grind arith
+      open_read x o address fit = grind arith
 
       with_rings : (o : Option Rings) → old.rings ≡ o
           → IsSomeAnd o (λ x. w.action ≡ actions.Read (slot_in x side (given_at (look old) side)) 4)

@@ -165,7 +165,7 @@ module _ {c : Settings} {Told : Verdict → Record → Type 0} {K : Type 0} (byt
           plain = by (is_formality (slice_index bytes 8)) refl
             where
               by : (x : Bool) → is_formality (slice_index bytes 8) ≡ x → x ≡ false
-              by x0 e = grind (arith, formal_queued)
+              by x e = grind (arith, formal_queued)
 
           polled_low : (order : Order) → figure_polled h.settings First h.waiting order < 2 ^ 32
           polled_low (orders.Status other) = low other
@@ -203,7 +203,7 @@ module _ {c : Settings} {Told : Verdict → Record → Type 0} {K : Type 0} (byt
             where
               apart : (c : Bool) → nat_eq n x.command.reference ≡ c → (z : Record)
                   → filter (is_numbered x.command.reference) h.waiting ≡ z ∷ [] → c ≡ false
-              apart x0 d z sole = grind (arith, some_none, is_numbered, eqb-true, nothing)
+              apart c d z sole = grind (arith, some_none, is_numbered, eqb-true, nothing)
 
       aborted_fits : (order : Order) → AllByRecursion FitsNow
           (option_to_list (option_map aborted_record (record_aborted First h.waiting order)))

@@ -38,7 +38,7 @@ pub own_cases : (v : Option Volume) (b : List ℕ) (P : Own → Type 0)
     → (asks_nothing (slice_index b 8) ≡ true → P (own_formal b))
     → ((status : ℕ) → moves_data b ≡ true → IsPast status → P (own_refused b status)) → (own : Own)
     → own_answer false v b ≡ Some own → P own
-own_cases v b x2 formal refused own h = grind (arith, same_Some, none-some, and_parts)
+own_cases v b P formal refused own h = grind (arith, same_Some, none-some, and_parts)
 
 pub own_whole : (v : Option Volume) (b : List ℕ) (own : Own) → own_answer false v b ≡ Some own
     → IsWhole (own_text b own)

@@ -155,11 +155,11 @@ still_waits : {K : Type 0} (old new : Port K) → Says old new → new.controlle
 still_waits old new says = search (arith, looks_or_not old)
 
 passive_comes : {K : Type 0} (call : Call) (old : Port K) → IsPassive call → (n : ℕ) → comes n call old ≡ false
-passive_comes x0 old is n = grind arith
+passive_comes call old is n = grind arith
 
 passive_done : {K : Type 0} (call : Call) (w : Option _) (old : Port K) → IsPassive call → (n : ℕ)
     → done_by n call w old ≡ []
-passive_done x0 w old is n = grind arith
+passive_done call w old is n = grind arith
 
 module _ {K : Type 0} (picks : Picking K) (hardware : Hardware) (credits : ℕ) (controller : Holdings K)
     (start : Port K) (made : IsMadeOf hardware credits controller start) where

@@ -14,7 +14,7 @@ pub step_decided : {K : Type 0} (verdict : Verdict) (old new : Port K)
     → length (ends_of old.controller) ≡ length old.decided.items → length (ends_of new.controller) ≤ 64
     → (via : Connection) (o : Option End) → ends_of new.controller ≡ ends_of old.controller ++ brought_for via o
     → decided_ended via verdict o old new ≡ old.decided.items ++ map (decided_by verdict old new) (brought_for via o)
-step_decided verdict old new long few x5 x6 ends =
+step_decided verdict old new long few via o ends =
     grind (arith, nat_lt, decided_by, over, ends_of, length-append, append-nil)
 
 -- the end of the command that is served, if it comes

@@ -160,7 +160,7 @@ IsOfRings tasks.Interrupt = ⊥
 IsOfRings task = Unit {0}
 
 pub block_rings : (task : Task) → IsOfBlock task → IsOfRings task
-block_rings x0 h = grind arith
+block_rings task h = grind arith
 
 -- in these stages a host may be interrupted
 abbrev pub is_loud : Stage → Bool

@@ -43,7 +43,7 @@ other_volume why because becomes units unit to place (Some q) vs on off here the
 -- the one that came
 pub one_ended : (via : Connection) (code unit : ℕ) (e : End) → Ended code unit (brought_for via (Some e))
     → (e.code ≡ code) × (e.unit ≡ unit) × (e.status % 32 ≡ 0)
-one_ended x0 code unit e h = grind (arith, none_ended)
+one_ended via code unit e h = grind (arith, none_ended)
 
 heeded_at : (units : List Shape) (e : End) (o : Option ℕ) → place_heeded units e ≡ o → (place : ℕ) → o ≡ Some place
     → (e.status % 32 ≡ 0) × (place_in units e.unit ≡ Some place)

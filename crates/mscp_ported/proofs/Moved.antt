@@ -14,10 +14,10 @@ use Rattle.mscp_ported.proofs.Sole.{found_all}
 pub good_told : (o : Option Block) (n : Option Name) (via : Connection) (reference : ℕ)
     (result : Result Report NotBegun) → IsFinish o n (Finish via reference blocks.Good result ∷ [])
     → o ≡ Some blocks.Good
-good_told x0 x1 via reference result h = grind arith
+good_told o n via reference result h = grind arith
 
 good_verdict : (verdict : Verdict) → told_of verdict ≡ blocks.Good → verdict ≡ verdicts.Served blocks.Good
-good_verdict x0 e = grind arith
+good_verdict verdict e = grind arith
 
 good_outcome : (outcome : Outcome) → told_as outcome ≡ blocks.Good → outcome ≡ outcomes.Done
 good_outcome outcomes.Done e = refl
@@ -51,7 +51,7 @@ module _ (u : Upcoming) (kind : MoveKind) (block : ℕ) (moves : block_moved u.c
             → cond c (tasks.Step (verdicts.Served blocks.Good)) tasks.Transfer ≡ tasks.Step
             (verdicts.Served blocks.Good)
             → Low b
-        by x0 is h = grind (arith, part_left, at, none_left, part_is, eqb-true, has_data)
+        by c is h = grind (arith, part_left, at, none_left, part_is, eqb-true, has_data)
     good_part at b v (Err verdict) e h =
         absurd (no_good_part at.0 at.1 u.done b v verdict e (ap (λ x. verdict_in x) h))
       where
@@ -86,19 +86,19 @@ module _ (u : Upcoming) (kind : MoveKind) (block : ℕ) (moves : block_moved u.c
     begun_good : (o : Option ℕ) (k : Option Buffer) (volumes : List Volume)
         → known_task u o k volumes ≡ tasks.Step (verdicts.Served blocks.Good)
         → (b : Buffer) × (k ≡ Some b) × Low b
-    begun_good x0 x1 volumes e = grind (arith, good_step)
+    begun_good o k volumes e = grind (arith, good_step)
 
     -- and one with a block only where it has some
     some_part : (at : MoveKind × ℕ) (b : Buffer) (v : Volume) (r : Result (ℕ × ℕ) Verdict)
         → part_with at.0 at.1 u.done b v ≡ r → part_task r ≡ tasks.Transfer → u.done * 512 < b.count
-    some_part at b v x3 e h = grind (arith, nat_eq, some_left, part_is, part_left)
+    some_part at b v r e h = grind (arith, nat_eq, some_left, part_is, part_left)
 
     some_step : (b : Buffer) (v : Volume) → task_of u b v ≡ tasks.Transfer → u.done * 512 < b.count
     some_step b v e = grind (arith, is_move, move_so, none-some, some_part)
 
     begun_some : (o : Option ℕ) (k : Option Buffer) (volumes : List Volume) → known_task u o k volumes ≡ tasks.Transfer
         → (b : Buffer) → k ≡ Some b → u.done * 512 < b.count
-    begun_some x0 x1 volumes e b is = grind (arith, same_Some, some_step)
+    begun_some o k volumes e b is = grind (arith, same_Some, some_step)
 
     -- a part is known only of a buffer that is kept
     part_of_kept : (o : Option ℕ) (k : Option Buffer) (volumes : List Volume) (part : ℕ × ℕ)

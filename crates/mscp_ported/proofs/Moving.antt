@@ -64,13 +64,13 @@ either {K} old new w k s = grind (arith, keeps, no_steps)
 -- ---- calls
 
 free_again : (task : Task) → IsOfBlock (read_again task) → read_again task ≡ task
-free_again x0 h = grind arith
+free_again task h = grind arith
 
 free_aside : (task : Task) → IsOfBlock (aside task) → aside task ≡ task
-free_aside x0 h = grind arith
+free_aside task h = grind arith
 
 free_step : (task : Task) → IsOfBlock (step_again task) → ⊥
-free_step x0 h = grind arith
+free_step task h = grind arith
 
 module _ {K : Type 0} (old new : Port K) (w : Option Wish) (s : Steps old w) where
   same_so : new ≡ old → Steps new w

@@ -30,7 +30,7 @@ left : (v : Volume) → IsFresh v → IsFresh (record v { is_mounted = false; is
 left v f = record { there = f.there; offline = λ e. refl }
 
 heeded : (code : ℕ) (kept : Option Buffer) (v : Volume) → IsFresh v → IsFresh (volume_heeded code kept v)
-heeded code x1 v f = grind (arith, either, left, guarded, not_new)
+heeded code kept v f = grind (arith, either, left, guarded, not_new)
 
 -- ---- the volumes
 
@@ -94,13 +94,13 @@ module _ {K : Type 0} (old new : Port K) (none : old.outgoing ≡ None) (o : Out
 
   own : (foreign : Bool) (e : Option End) → IsSomeAnd e (λ x. IsSomeAnd new.outgoing
       (λ y. (y.bytes.items ≡ end_bytes x) × (y.kind ≡ end_kind foreign))) → TellsNews old new
-  own foreign x1 h = grind (arith, false≢true, no_attention, own_kind)
+  own foreign e h = grind (arith, false≢true, no_attention, own_kind)
 
   says_news : Says old new → TellsNews old new
   says_news says = grind (arith, looks_or_not, false≢true, no_attention, same_Some, kept)
 
   by_call : (picks : Picking K) (call : Call) → Becomes picks call old new → TellsNews old new
-  by_call picks x1 r = grind (arith, gone, kept, says_news, own, minor_out, minor)
+  by_call picks call r = grind (arith, gone, kept, says_news, own, minor_out, minor)
 
 inside : {X : Type 0} (xs : List X) (n : ℕ) (x : X) → slice_get xs n ≡ Some x → n < length xs
 inside [] n x e = absurd (none-some x e)

@@ -134,4 +134,4 @@ end_awaited aw rs e es at = by (at e.reference)
 
     by : At aw rs (e ∷ es) e.reference
         → (text : List ℕ) × (filter (has_number e.reference) aw ≡ text ∷ []) × (counted_in e.body ≤ bytes_in text)
-    by x0 = grind (arith, some_none, here, first_of_one)
+    by h = grind (arith, some_none, here, first_of_one)

@@ -74,7 +74,7 @@ module _ (n : ℕ) (k : Block) (d : Drive) (rs : List Record) (place : ℕ) (ins
 other_end : (n : ℕ) (via : Connection) (o : Option End) (es : List End)
     → ((e : End) → o ≡ Some e → via ≡ First → nat_eq e.reference n ≡ false)
     → filter (ends_numbered n) (es ++ brought_for via o) ≡ filter (ends_numbered n) es
-other_end n x1 x2 es other = grind (arith, none_beside, ends_numbered, append-nil)
+other_end n via o es other = grind (arith, none_beside, ends_numbered, append-nil)
 
 pub not_numbered : (n : ℕ) (r : Record) → is_numbered n r ≡ false → r.connection ≡ First
     → nat_eq r.command.reference n ≡ false
@@ -170,7 +170,7 @@ aborts aw rs es m at n = by (nat_eq m n) refl (at n) (find (is_numbered m) rs) r
     apart : nat_eq m n ≡ false → (o : Option Record) → find (is_numbered m) rs ≡ o
         → filter (ends_numbered n) (es ++ option_to_list (option_map aborted_record o))
         ≡ filter (ends_numbered n) es
-    apart d x1 e = grind (arith, ends_numbered, append-nil, none_beside, nat_eq, found_number)
+    apart d o e = grind (arith, ends_numbered, append-nil, none_beside, nat_eq, found_number)
 
     others : nat_eq m n ≡ false → (r : Record) → is_numbered n r ≡ true → not (is_numbered m r) ≡ true
     others d r is = apart_numbers n m r (λ same. false≢true (sym d ∙ eq-eqb m n (sym same))) is

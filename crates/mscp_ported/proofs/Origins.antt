@@ -119,4 +119,4 @@ formal_code n e = grind (arith, e)
 
 -- it is told with its own code, if that isn't a formality's
 pub told_same : (o : Option Buffer) (code : ℕ) → ends_formality (code_told o code) ≡ false → code_told o code ≡ code
-told_same x0 code e = grind (arith, formal_code)
+told_same o code e = grind (arith, formal_code)

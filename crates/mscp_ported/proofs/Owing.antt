@@ -19,7 +19,7 @@ move_else p (Some m) = by (part_now p m.0 m.1 m.2)
     by (Err status) = tt
 
 else_calm : (s : Stage) (t : Talk) (action : Action) (bytes : List ℕ) → IsElse action → IsCalm s t action bytes
-else_calm s t x2 bytes h = grind arith
+else_calm s t action bytes h = grind arith
 
 given_same : {K : Type 0} (p : Port K) (side : Side) → given_in p side ≡ given_at (look p) side
 given_same p Responses = refl
@@ -48,10 +48,10 @@ module _ {K : Type 0} (p : Port K) (t : Talk) (action : Action) (bytes : List �
       → p.rings ≢ None)
       → (NeedsOut task → p.outgoing ≢ None)
       → IsAsked (look p) task (record { action = action; bytes = bytes })
-  asked_of x0 h is some out = grind (arith, in_rings, given_at, look, given_same, out_of, move_else)
+  asked_of task h is some out = grind (arith, in_rings, given_at, look, given_same, out_of, move_else)
 
   owed_open : (turn : Turn) → IsOpen turn → IsCalm p.stage t action bytes → IsOwed p.stage t turn action bytes
-  owed_open x0 fit h = grind arith
+  owed_open turn fit h = grind arith
 
   owed_at : (turn : Turn) (x : Turn) → turn ≡ x → IsOwed p.stage t x action bytes → IsOwed p.stage t turn action bytes
   owed_at turn x e h = subst (λ y. IsOwed p.stage t y action bytes) (sym e) h

@@ -214,7 +214,7 @@ module _ {K : Type 0} (picks : Picking K) (start : Port K) (p : Port K) (calls :
       other_number : (b : Buffer) (c : Bool) → nat_eq (num bytes 0 4) b.reference ≡ c → (r : Record)
           → filter (is_numbered b.reference) a.0.controller.waiting ≡ r ∷ []
           → filter (is_numbered (num bytes 0 4)) a.0.controller.waiting ≡ [] → c ≡ false
-      other_number b x1 e r sole new = grind (arith, is_numbered, eqb-true)
+      other_number b c e r sole new = grind (arith, is_numbered, eqb-true)
 
   pub read_owned : After
   read_owned = elim (read_is bytes done a.0 p a.2) [

@@ -108,7 +108,7 @@ module _ {K : Type 0} (picks : Picking K) (c : Settings) (picker : K)
               → AllByRecursion (λ (e : Pending). ((text : List ℕ)
               × (accepted_by (WasRead bytes (Ok done)) a.0 ≡ text ∷ []) × (num text 0 4 ≡ e.number))
               ⊎ (1 ≤ figure_on a.0 e.number)) (pending_said kind text)
-          own_these x0 text one named = grind arith
+          own_these kind text one named = grind arith
 
   pub passes_on : (p : Port K) (call : Call) (calls : List Call) (a : Answered picks start (call ∷ calls) p)
       → AsksAlways (call ∷ calls) → ReadsBytes (call ∷ calls) → call ≢ WriteIp → is_dead p.stage ≡ false

@@ -79,10 +79,10 @@ MayDrop tasks.Transfer = Unit {0}
 MayDrop task = ⊥
 
 drop_open : (l : Look) (task : Task) (turn : Turn) → MayDrop task → Fits l task turn → IsOpen turn
-drop_open l x1 turn may fit = grind arith
+drop_open l task turn may fit = grind arith
 
 drop_hand : (task : Task) (turn : Turn) → MayDrop task → in_hand task turn ≡ []
-drop_hand x0 turn may = grind arith
+drop_hand task turn may = grind arith
 
 drop_calm : (task : Task) → MayDrop task → IsTelling task → ⊥
 drop_calm (tasks.Return side slot) may h = may
@@ -94,7 +94,7 @@ StaysOrDrops before after = (after ≡ before) ⊎ ((after ≡ tasks.Free) × Ma
 -- a task that is not of the rings tells nothing
 pub not_of_rings : (task : Task) → (IsOfRings task → ⊥)
     → (NeedsOut task → ⊥) × (IsTelling task → ⊥) × ((turn : Turn) → in_hand task turn ≡ [])
-not_of_rings x0 never = grind arith
+not_of_rings task never = grind arith
 
 -- such a task is in hand now, and nothing else changed but the turn and whether a word waits
 pub retask : (l : Look) (t : Talk) (w v : Option Wish) (said : List Said) (texts : List (List ℕ)) (word : Option ℕ)
@@ -149,7 +149,7 @@ aside_so tasks.Transfer = inr (refl, tt)
 aside_so task = inl refl
 
 pub step_so : (o : Option ℕ) (task : Task) → StaysOrDrops task (step_at o task)
-step_so x0 task = grind arith
+step_so o task = grind arith
 
 module _ {K : Type 0} (call : Call) (old new : Port K) (t : Talk) (w : Option Wish) (said : List Said)
     (texts : List (List ℕ)) (plain : IsPlain call old) (k : InStep (look old) t w said texts) where

@@ -194,7 +194,7 @@ not_queued old bytes (tasks.Text slot size foreign) none =
   where
     by : (x : Bool) (a : Result Sent SendFault) → cond (x && is_ok a) (bytes ∷ []) [] ≡ []
         → (x && is_queued_so a) ≡ false
-    by x0 a e = grind arith
+    by x a e = grind arith
 not_queued old bytes t none = refl
 
 -- its own end comes, behind that of the command that it aborts

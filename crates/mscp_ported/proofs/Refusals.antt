@@ -17,7 +17,7 @@ zero_least y figure e = search (arith, e)
 
 pub own_figure : (s : Settings) (online : Bool) (figure : ℕ) (x : Command) (o : Option ℕ)
     → figure_in (own_end_with s online figure x o).body ≤ figure
-own_figure s online figure x x4 = grind (arith, zero_least, zero_figure)
+own_figure s online figure x o = grind (arith, zero_least, zero_figure)
 
 -- a message that isn't refused finds a credit
 none_refused : (short long none : Bool) (o : Option SendFault) → none ≡ true

@@ -204,7 +204,7 @@ module _ {K : Type 0} (word : ℕ) (old new : Port K) (t : Talk) (w : Option Wis
       answers_so stages.First at refl (ap (λ b. cond b t (record t { answer = word })) high) e
 
   last_so : (b : Bool) → old.stage ≡ stages.Last → new ≡ cond b (record old { stage = stages.Up }) old → So
-  last_so x0 at e = grind (arith, moves_so, stays_so)
+  last_so b at e = grind (arith, moves_so, stays_so)
 
   is_zero : (n : ℕ) → (n ≡ 0) ⊎ (n ≢ 0)
   is_zero n = search arith

@@ -15,15 +15,15 @@ module _ {K : Type 0} (old new : Port K) (was : old.is_full ≡ false) where
   same x e full = ap (λ p. p.is_full) e ∙ full ∙ was
 
   touched_room : Touched old new → new.is_full ≡ false
-  touched_room x0 = grind (arith, same)
+  touched_room h = grind (arith, same)
 
   read_room : {bytes : List ℕ} {done : Unit} → Seen bytes done old new → IsGiven old.task (WasRead bytes (Ok done))
       → new.is_full ≡ false
-  read_room x0 given = grind (arith, same)
+  read_room h given = grind (arith, same)
 
   went_room : {picks : List Choice → ℕ → Type 0} {outcome : Outcome} → Deed picks outcome old new
       → new.is_full ≡ false
-  went_room x0 = grind (arith, same, taken_or_not)
+  went_room h = grind (arith, same, taken_or_not)
 
 -- ---- steps that wait
 
@@ -35,10 +35,10 @@ module _ {K : Type 0} (old new : Port K) (clear : IsClear old.task → old.stage
       ap (λ p. p.written) e ∙ written ∙ was (ap is_late (sym (ap (λ p. p.stage) e ∙ stage)) ∙ late)
 
   touched_so : Touched old new → new.written ≡ None
-  touched_so x0 = grind (arith, still, false≢true, is_late)
+  touched_so h = grind (arith, still, false≢true, is_late)
 
   went : {picks : List Choice → ℕ → Type 0} {outcome : Outcome} → Deed picks outcome old new → new.written ≡ None
-  went x0 = grind (arith, still, is_late, taken_or_not)
+  went h = grind (arith, still, is_late, taken_or_not)
 
   heard_by : (picks : Picking K) (call : Call) → Becomes picks call old new → new.written ≡ None
   heard_by picks WriteIp r = r.written
@@ -50,7 +50,7 @@ module _ {K : Type 0} (old new : Port K) (clear : IsClear old.task → old.stage
   heard_by picks call r = by (minor picks call old new r tt)
     where
       by : Minor old new → new.written ≡ None
-      by x0 = grind (arith, still)
+      by h = grind (arith, still)
 
 -- ---- a history
 
@@ -77,7 +77,7 @@ module _ {K : Type 0} (picks : Picking K) (hardware : Hardware) (credits : ℕ) 
   room p (call ∷ calls) a has = by (minor picks call a.0 p a.2 tt) (room a.0 calls a.1 has.1)
     where
       by : Minor a.0 p → a.0.is_full ≡ false → p.is_full ≡ false
-      by x0 was = grind arith
+      by h was = grind arith
 
   pub heard_so : (p : Port K) (calls : List Call) → AsksAlways calls → Answered picks start calls p
       → is_late p.stage ≡ true → p.written ≡ None

@@ -84,7 +84,7 @@ told_figure p e d some t shaped fits = by e.body refl
 
     nothing : (body : EndBody) → e.body ≡ body → (kind_of_body body ≡ kinds_of.Status → ⊥) → figure_in body ≡ 0
         → cond (nat_eq (slice_index (told_end p e) 8) 0x82) (num (told_end p e) 16 4) 0 ≡ figure_in e.body
-    nothing body same other x3 = grind (arith, not_poll)
+    nothing body same other h = grind (arith, not_poll)
 
     by : (body : EndBody) → e.body ≡ body
         → cond (nat_eq (slice_index (told_end p e) 8) 0x82) (num (told_end p e) 16 4) 0 ≡ figure_in e.body

@@ -25,7 +25,7 @@ module _ {K : Type 0} (picks : Picking K) (old new : Port K) (lives : is_dead ne
   dies code d = absurd (search (arith, lives, ap is_dead d.stage))
 
   read_owes : {bytes : List ℕ} {done : Unit} → Seen bytes done old new → new.owes_block ≡ true
-  read_owes x0 = grind (arith, as_it_was, dies, sent_owes)
+  read_owes h = grind (arith, as_it_was, dies, sent_owes)
 
   owes_on : (call : Call) → call ≢ WriteIp → (TellsStep call old → ⊥) → Becomes picks call old new
       → new.owes_block ≡ true
@@ -41,7 +41,7 @@ module _ {K : Type 0} (picks : Picking K) (old new : Port K) (lives : is_dead ne
   owes_on call never none r = by (minor picks call old new r tt)
     where
       by : Minor old new → new.owes_block ≡ true
-      by x0 = grind (arith, as_it_was, dies)
+      by h = grind (arith, as_it_was, dies)
 
 -- ---- a poll
 
@@ -55,7 +55,7 @@ module _ {K : Type 0} (bytes : List ℕ) (done : Unit) (old new : Port K) (r : H
   ]
     where
       by : (slot : Descriptor) → Queues slot bytes old new ⊎ Answers slot bytes old new → new.owes_block ≡ true
-      by slot x1 = grind (arith, poll_sent, eq-eqb)
+      by slot h = grind (arith, poll_sent, eq-eqb)
 
   alive_read : is_dead old.stage ≡ false
   alive_read = is_alive old (λ code e. search (arith, r.dead code e))
@@ -86,7 +86,7 @@ polls_so picks call old new number takes r = absurd takes
 -- ---- a history
 
 tells_or_not : {K : Type 0} (call : Call) (old : Port K) → TellsStep call old ⊎ (TellsStep call old → ⊥)
-tells_or_not x0 old = grind arith
+tells_or_not call old = grind arith
 
 is_reset : (call : Call) → (call ≡ WriteIp) ⊎ (call ≢ WriteIp)
 is_reset WriteIp = inl refl

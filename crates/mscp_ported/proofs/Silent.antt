@@ -49,10 +49,10 @@ module _ {K : Type 0} (old new : Port K) where
           due = r.due alive idle
 
           heard : (o : Option ℕ) → old.written ≡ o → old.written ≡ None
-          heard x0 e = grind (arith, due, none-some)
+          heard o e = grind (arith, due, none-some)
 
           used : (s : Stage) → old.stage ≡ s → old.stage ≡ stages.Up
-          used x0 e = grind (arith, due, heard)
+          used s e = grind (arith, due, heard)
 
   by_call : (picks : Picking K) (call : Call) → Becomes picks call old new → IsSilent old → IsSilent new
   by_call picks (Next blocks action bytes) r was = wants (picks old.controller.picker) blocks action r.0 was

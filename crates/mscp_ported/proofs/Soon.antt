@@ -10,7 +10,7 @@ use Rattle.mscp_ported.proofs.Touching.{is_late}
 -- ---- calls
 
 pub more_acts : (call : Call) (calls : List Call) → acts (call ∷ calls) ≡ acts (call ∷ []) + acts calls
-more_acts x0 calls = grind arith
+more_acts call calls = grind arith
 
 -- it still goes out, or is the first that is gone
 abbrev Far : {K : Type 0} (picks : Picking K) (o : Outgoing) (p q : Port K) (calls : List Call)
@@ -59,10 +59,10 @@ far picks o p q (call ∷ calls) s a given = elim (far picks o p a.0 calls s a.1
 ]
 
 pub ten : (t : Task) → to_do t ≤ 10
-ten x0 = grind arith
+ten t = grind arith
 
 pub one : (t : Task) → 1 ≤ to_do t
-one x0 = grind arith
+one t = grind arith
 
 pub in_use_so : {K : Type 0} (picks : Picking K) (hardware : Hardware) (credits : ℕ) (controller : Holdings K)
     (start p : Port K) (before : List Call) → IsMadeOf hardware credits controller start → AsksAlways before

@@ -21,7 +21,7 @@ opcode_is byte kind e = sym (eqb-true (move_byte kind) byte
 -- what is told of a step is what came of it
 pub good_back : {K : Type 0} (old : Port K) (outcome : Outcome) (verdict : Verdict) → IsHow old outcome verdict
     → step_told old outcome old.task ≡ Some blocks.Good → block_told verdict ≡ blocks.Good
-good_back old outcome verdict x3 told = grind (arith, verdict_so, same_Some, transfer_so)
+good_back old outcome verdict h told = grind (arith, verdict_so, same_Some, transfer_so)
 
 left_so : (x y : Bool) → x ≡ true → (x && true && y) ≡ false → y ≡ false
 left_so true y e h = h
@@ -29,11 +29,11 @@ left_so false y e h = absurd (false≢true e)
 
 status_so : (online : Bool) (order : Order) (kind : MoveKind) (count first : ℕ) → order ≡ orders.Move kind count first
     → touches online order ≡ true → good_status online order ≡ 0
-status_so x0 x1 kind count first e t = grind (arith, false≢true)
+status_so online order kind count first e t = grind (arith, false≢true)
 
 move_is : (order : Order) (lbn : Option ℕ) (kind : MoveKind) (block : ℕ) → block_moved order lbn ≡ Some (kind, block)
     → (count : ℕ) × (first : ℕ) × (order ≡ orders.Move kind count first)
-move_is x0 x1 kind block e = grind (arith, same_Some, none-some)
+move_is order lbn kind block e = grind (arith, same_Some, none-some)
 
 -- ---- how many blocks
 

@@ -38,7 +38,7 @@ went_stays {K} picks outcome old new t done at r none = by (deed picks outcome d
     told = ap (step_told old outcome) at ∙ none
 
     by : Deed picks outcome old new → Stays old new
-    by x0 = grind (arith, died, same_as, alike, none-some, told)
+    by h = grind (arith, died, same_as, alike, none-some, told)
 
 -- ---- what was read is no text of a command
 
@@ -50,7 +50,7 @@ read_stays {K} bytes done old new r other = by (sight bytes done old new r)
     never slot size foreign at = absurd (other (subst (λ x. IsReadingText x) (sym at) tt))
 
     by : Seen bytes done old new → Stays old new
-    by x0 = grind (arith, same_as, alike, died, never)
+    by h = grind (arith, same_as, alike, died, never)
 
 -- ---- calls that tell of no action
 
@@ -63,8 +63,8 @@ IsPassive (Went outcome (Ok done)) = ⊥
 IsPassive call = Unit {0}
 
 touched_stays : {K : Type 0} {old new : Port K} → Touched old new → Stays old new
-touched_stays {K} {old} x2 = grind (arith, same_as, alike, died)
+touched_stays {K} {old} h = grind (arith, same_as, alike, died)
 
 pub passive_stays : {K : Type 0} (picks : Picking K) (call : Call) (old new : Port K) → Becomes picks call old new
     → IsPassive call → Stays old new
-passive_stays picks x1 old new r is = grind (arith, touched_stays, read_ip, wrote_sa, minor, same_as, alike, died)
+passive_stays picks call old new r is = grind (arith, touched_stays, read_ip, wrote_sa, minor, same_as, alike, died)

@@ -94,7 +94,7 @@ went_is {K} picks outcome done old new r = by old.task refl
         [ inl s ↦ inl (verdict, how, s) | inr none ↦ inr (inl none) ]
 
     others : (t : Task) → old.task ≡ t → (IsStepping t → ⊥) → Stays old new → So
-    others t at never x3 = grind arith
+    others t at never h = grind arith
 
     by : (t : Task) → old.task ≡ t → So
     by (tasks.Step verdict) at = stepped verdict (inl at) ((r.moves refl).step verdict at)

@@ -35,12 +35,12 @@ task_moves u b v e = by (is_available u.command.order) (v.is_there && takes_any_
         → cond x good_step (cond y good_step (cond z (tasks.Step (changed_verdict v)) (move_task u q b v)))
         ≡ tasks.Transfer
         → So
-    by x0 y z q f h = grind (arith, parted)
+    by x y z q f h = grind (arith, parted)
 
 known_moves : (u : Upcoming) (o : Option ℕ) (k : Option Buffer) (vs : List Volume)
     → known_task u o k vs ≡ tasks.Transfer
     → (m : MoveKind × ℕ) × (part : ℕ × ℕ) × (move_of u ≡ Some m) × (part_at o k m.0 m.1 u.done vs ≡ Ok part)
-known_moves u x1 k vs e = grind (arith, task_moves)
+known_moves u o k vs e = grind (arith, task_moves)
 
 -- so where it is told done it went well
 done_good : {K : Type 0} (old : Port K) (w : Option Wish) (u : Upcoming) → Steps old w → old.task ≡ tasks.Transfer
@@ -51,7 +51,7 @@ done_good {K} old w u s at step = grind (arith, known_moves)
 
 pub touched_so : (online : Bool) (order : Order) (n : ℕ) (x : MoveKind × ℕ)
     → moved_by order (block_touched online order n) ≡ Some x → touches online order ≡ true
-touched_so x0 x1 n x e = grind (arith, none-some)
+touched_so online order n x e = grind (arith, none-some)
 
 done_is : (outcome : Outcome) → is_done outcome ≡ true → outcome ≡ outcomes.Done
 done_is outcomes.Done e = refl
@@ -86,7 +86,7 @@ ended_so false x e h = (refl, same_Some x e h)
 
 pub brought_one : (via : Connection) (o : Option End) (e : End) → Contains (brought_for via o) e
     → (via ≡ First) × (o ≡ Some e)
-brought_one x0 x1 e there = grind arith
+brought_one via o e there = grind arith
 
 -- none comes where no step is taken
 pub none_served : {K : Type 0} (e : End) (old new : Port K) → ServesNone old new ⊎ Dies old new

@@ -14,10 +14,10 @@ Pace q n g = ((o : Outgoing) × IsSaying q o × (n + to_do q.task ≤ 17 * g + 1
     ⊎ (IsWaiting q × (n + rest q.task + 10 ≤ 17 * g + 17))
 
 seven : (t : Task) → rest t ≤ 7
-seven x0 = grind arith
+seven t = grind arith
 
 at_most_one : (call : Call) → acts (call ∷ []) ≤ 1
-at_most_one x0 = grind arith
+at_most_one call = grind arith
 
 left_quiet : (before after : Option Outgoing) → before ≡ None → leaves before after ≡ []
 left_quiet before after e = ap (λ x. leaves x after) e

@@ -50,7 +50,7 @@ goes_on_so d r k e = by (touches d.online r.command.order) refl k refl (nat_lt 1
 pub block_so : (online : Bool) (order : Order) (done : ℕ) → touches online order ≡ true
     → (kind : MoveKind) × (count : ℕ) × (first : ℕ) × (order ≡ orders.Move kind count first)
     × (block_moved order (block_touched online order done) ≡ Some (kind, first + done))
-block_so x0 x1 done e = grind (arith, false≢true)
+block_so online order done e = grind (arith, false≢true)
 
 pub is_step_sole : {K : Type 0} (h : Holdings K) (n : ℕ) (name : Name) (r : Record) → h.begun ≡ Some name
     → name ≡ name_on First n → filter (is_numbered n) h.waiting ≡ r ∷ []
@@ -61,7 +61,7 @@ is_step_sole h n name r begun named sole = begun_record h name r begun
 -- what is told of a step
 pub told_so : {K : Type 0} (old : Port K) (outcome : Outcome) (verdict : Verdict) → IsHow old outcome verdict
     → block_told verdict ≡ blocks.Good → step_told old outcome old.task ≡ Some blocks.Good
-told_so old outcome verdict x3 good = grind (arith, verdict_so, transfer_so)
+told_so old outcome verdict h good = grind (arith, verdict_so, transfer_so)
 
 -- ---- what a message of a transfer says
 

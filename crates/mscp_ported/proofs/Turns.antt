@@ -33,10 +33,10 @@ put tasks.Transfer h = absurd h
 put t h = h
 
 anew : (o : Option ℕ) (t : Task) → IsHearing (step_at o t) → IsHearing t
-anew x0 t h = grind arith
+anew o t h = grind arith
 
 step_quiet : (t : Task) → IsNewStep t → IsHearing t → ⊥
-step_quiet x0 calm h = grind arith
+step_quiet t calm h = grind arith
 
 hears_quiet : (area : Rings) (side : Side) (slot : Descriptor) → IsHearing (hears_of area side slot) → ⊥
 hears_quiet area side slot = grind arith
@@ -80,14 +80,14 @@ module _ {K : Type 0} {old new : Port K} where
   -- behind a text no other is looked for at once
   pub text_quiet : {bytes : List ℕ} {done : Unit} → Seen bytes done old new → IsReadingText old.task
       → IsHearing new.task → ⊥
-  text_quiet x0 reading h = grind (arith, slide_text, forgets, never)
+  text_quiet k reading h = grind (arith, slide_text, forgets, never)
 
   read_on : {bytes : List ℕ} {done : Unit} → Seen bytes done old new → IsHearing new.task → ReadsOn old new
-  read_on {bytes} x1 h = grind (arith, on, slide_hears, forgets, never)
+  read_on {bytes} k h = grind (arith, on, slide_hears, forgets, never)
 
   went_quiet : {picks : List Choice → ℕ → Type 0} {outcome : Outcome} → Deed picks outcome old new
       → IsHearing new.task → ⊥
-  went_quiet x0 h = grind (arith, forgets, never, step_quiet, hears_quiet, taken_or_not)
+  went_quiet k h = grind (arith, forgets, never, step_quiet, hears_quiet, taken_or_not)
 
 -- ---- what is wanted
 
@@ -129,7 +129,7 @@ IsNoNext call = Unit {0}
 
 module _ {K : Type 0} (picks : Picking K) (old new : Port K) where
   touched_on : Touched old new → IsHearing new.task → ReadsOn old new
-  touched_on x0 = grind (arith, on, again, forgets)
+  touched_on h = grind (arith, on, again, forgets)
 
   pub reads_on : (call : Call) → IsNoNext call → Becomes picks call old new → IsHearing new.task → ReadsOn old new
   reads_on WriteIp none r = λ h. absurd (forgets new.task r.task h)
@@ -142,4 +142,4 @@ module _ {K : Type 0} (picks : Picking K) (old new : Port K) where
   reads_on call none r = by (minor picks call old new r tt)
     where
       by : Minor old new → IsHearing new.task → ReadsOn old new
-      by x0 = grind (arith, on, put, again, anew, forgets)
+      by h = grind (arith, on, put, again, anew, forgets)

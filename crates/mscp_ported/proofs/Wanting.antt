@@ -193,7 +193,7 @@ module _ {K : Type 0} (picks : List Choice → ℕ → Type 0) (blocks : Bool) (
 
       calm : (task : Task) → old.task ≡ task
           → IsAsked (look old) task (record { action = actions.Rest; bytes = bytes })
-      calm x0 e = grind (arith, is_loud, not_up)
+      calm task e = grind (arith, is_loud, not_up)
 
   pub follows : Follows
   follows = elim (alive_or_dead old old.stage refl) [

@@ -16,13 +16,13 @@ pub told_with : {K : Type 0} (P : List ℕ → Type 0) (p : Port K) (e : End) (d
     → (ends_formality d.code ≡ true → P (head e.reference e.unit d.code d.status))
     → (ends_formality d.code ≡ false
     → P (end_with_body e.body e d (unit_found p.controller.settings.units e.unit) p.hardware)) → P (told_end p e)
-told_with x0 p e d some formal plain = grind arith
+told_with P p e d some formal plain = grind arith
 
 pub told_cases : {K : Type 0} (P : List ℕ → Type 0) (p : Port K) (e : End) → P (end_bytes e)
     → ((d : Decided) → ends_formality d.code ≡ true → P (head e.reference e.unit d.code d.status))
     → ((d : Decided) → ends_formality d.code ≡ false
     → P (end_with_body e.body e d (unit_found p.controller.settings.units e.unit) p.hardware)) → P (told_end p e)
-told_cases x0 p e bare formal plain = grind (arith, none_or_some, told_with)
+told_cases P p e bare formal plain = grind (arith, none_or_some, told_with)
 
 pub told_number : {K : Type 0} (p : Port K) (e : End) → e.reference < 2 ^ 32 → num (told_end p e) 0 4 ≡ e.reference
 told_number p e small = told_cases (λ xs. num xs 0 4 ≡ e.reference) p e (four e.reference small)
@@ -39,7 +39,7 @@ formal_kind code e h = grind (arith, none-some, e, h)
 body_counts : (body : EndBody) (e : End) (d : Decided) (o : Option Shape) (h : Hardware) (n : ℕ)
     → kind_of_code e.code ≡ Some (kind_of_body body) → e.body ≡ body → counted_in body ≤ n
     → kind_of_code e.code ≡ Some Moved → num (end_with_body body e d o h) 12 4 ≤ n
-body_counts x0 e d o h n shaped same few is = grind (arith, few_bytes)
+body_counts body e d o h n shaped same few is = grind (arith, few_bytes)
 
 pub code_of : (body : EndBody) (e : End) (d : Decided) (o : Option Shape) (h : Hardware)
     → slice_index (end_with_body body e d o h) 8 ≡ e.code
@@ -53,7 +53,7 @@ told_counts p e n shaped few = grind (arith, told_cases, formal_kind, body_count
 -- what is so of each row of the table of endcodes is so of a code's
 pub in_table : (P : ℕ × BodyKind → Type 0) → AllByRecursion P endcodes → (code : ℕ) (k : BodyKind)
     → kind_of_code code ≡ Some k → P (code, k)
-in_table x0 rows code k e = grind (arith, nat_eq, none-some, eqb-true, same_Some)
+in_table P rows code k e = grind (arith, nat_eq, none-some, eqb-true, same_Some)
 
 code_top : (code : ℕ) (k : BodyKind) → kind_of_code code ≡ Some k → 0x80 ≤ code
 code_top code k e = grind (arith, in_table)
