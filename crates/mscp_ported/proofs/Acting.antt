@@ -35,30 +35,8 @@ pub init_step : (l : Look) (t : Talk) (w : Option Wish) (said : List Said) (text
       rings = rings;
       task = task;
     }) (record t { turn = turn; first = said_first; second = said_second; rings = named }) None said texts
-init_step l t w said texts s first second rings word task turn named said_first said_second k not_up before names
-    counts fits simple own no_rings loud clear alive =
-    let q = not_of_rings task no_rings in
-    let was = not_of_rings l.task before in record {
-      names = names;
-      counts = counts;
-      hand = record {
-        fits = fits;
-        asked = tt;
-        up = λ h. absurd (no_rings h);
-        step = loud;
-        clear = clear;
-        own = own;
-        idle = λ h. simple;
-        wished = λ e h. no_rings (block_rings task h);
-      };
-      speech = record {
-        out = λ h. absurd (not_up (k.speech.out h));
-        has = λ h. absurd (q.0 h);
-        tells = told_on l.more l.task task t.turn turn l.outgoing l.untold t.told said was.1 q.1 k.speech.tells;
-      };
-      hears = ap (λ xs. map message_text t.heard ++ xs) (q.2 turn ∙ sym (was.2 t.turn)) ∙ k.hears;
-      ended = λ d. absurd (search (arith, d, alive));
-    }
+init_step l t w said texts s first second rings word task turn named said_first said_second k not_up before names counts fits simple own no_rings loud clear alive =
+    grind (arith, not_of_rings, block_rings, told_on)
 
 -- the host is interrupted at a step as its first word wants
 module _ (l : Look) (first : ℕ) where
@@ -69,14 +47,7 @@ module _ (l : Look) (first : ℕ) where
 -- nothing was told nor heard of before the area was named
 pub early_counts : (o : Option Rings) (l : Look) (t : Talk) (w : Option Wish) (said : List Said) (texts : List (List ℕ))
     → InStep l t w said texts → l.rings ≡ None → Counts o l.responses l.commands t.told t.heard
-early_counts o l t w said texts k none =
-    let e = k.counts.none none in record {
-      told_so = k.counts.told_so;
-      heard_so = k.counts.heard_so;
-      packets = subst (λ xs. StandInOrder o Responses 0 (map packet_slot xs)) (sym e.0) tt;
-      messages = subst (λ xs. StandInOrder o Commands 0 (map message_slot xs)) (sym e.1) tt;
-      none = λ h. e;
-    }
+early_counts o l t w said texts k none = grind arith
 
 pub idle_so : (turn : Turn) → IsOpen turn → IsSimple turn → turn ≡ Idle
 idle_so turn h k = grind arith

@@ -59,19 +59,7 @@ refusing b status = record { code = slice_index b 8 + 0x80; status = status; tel
 pub none_so : (foreign : Bool) (v : Option Volume) (b : List ℕ) → own_end foreign v b ≡ None
     → own_answer foreign v b ≡ None
 unfolding refusing
-none_so true v b e = absurd (none-some (bare_end b 0x80 0x0801) (sym e))
-none_so false v b e = by (is_none v && asks_nothing (slice_index b 8)) e
-  where
-    refused : (o : Option ℕ) → option_map (refused_end b) o ≡ None → option_map (refusing b) o ≡ None
-    refused None h = refl
-    refused (Some status) h = absurd (none-some (refused_end b status) (sym h))
-
-    by : (c : Bool) → cond c (Some (bare_end b (slice_index b 8 + 0x80) 0))
-        (option_map (refused_end b) (volume_refusal v b)) ≡ None
-        → cond c (Some (record { code = slice_index b 8 + 0x80; status = 0; tells_bytes = false }))
-        (option_map (refusing b) (own_refusal b v)) ≡ None
-    by true h = absurd (none-some (bare_end b (slice_index b 8 + 0x80) 0) (sym h))
-    by false h = subst (λ o. option_map (refusing b) o ≡ None) (refusal_so v b) (refused (volume_refusal v b) h)
+none_so x0 v b e = grind (arith, none-some, refusing, refusal_so)
 
 -- the text that is handed over is that of the table
 pub handed_so : (units : List Shape) (b : List ℕ) → handed units b ≡ text_handed units b
@@ -161,13 +149,7 @@ polled b = record { reference = num b 0 4; unit = num b 4 2; order = orders.Stat
 
 poll_command : (b : List ℕ) → slice_index b 8 ≡ 2 → 16 ≤ length b → command_of b ≡ polled b
 unfolding command_of
-poll_command b e long = ap (λ o. record { reference = num b 0 4; unit = num b 4 2; order = o })
-    (ap (λ n. order_with (opcode_of n) b) e ∙ by (nat_lt (length b) 16) (search (arith, long)))
-  where
-    by : (c : Bool) → c ≡ false
-        → cond c (orders.Invalid (slice_index b 8) 0x0001) (orders.Status (num b 12 4)) ≡ orders.Status (num b 12 4)
-    by false h = refl
-    by true h = search (arith, h)
+poll_command b e long = grind (arith, nat_lt)
 
 pub poll_sent : (units : List Shape) (b : List ℕ) → slice_index b 8 ≡ 2 → 16 ≤ length b
     → command_of (handed units b) ≡ polled b

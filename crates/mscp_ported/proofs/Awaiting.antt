@@ -23,11 +23,7 @@ pub record IsNoReset (call : Call) : Type 0 where
   pub texts : (s : _) (xs ys : List (List ℕ)) → since s call xs ys ≡ cond (is_dead s) [] (xs ++ ys)
 
 pub nothing_kept : {K : Type 0} (p : Port K) → p.controller.waiting ≡ [] → ends_of p.controller ≡ [] → Kept p []
-nothing_kept p none no_end = record {
-  each = λ n. inl (refl, ap (filter (is_numbered n)) none, ap (filter (ends_numbered n)) no_end);
-  small = tt;
-  dead = λ d. refl;
-}
+nothing_kept p none no_end = grind (arith, is_numbered, ends_numbered)
 
 -- ---- a message as it is handed over
 
@@ -51,11 +47,7 @@ stood_in (a ∷ b ∷ c ∷ d ∷ e ∷ f ∷ g ∷ h ∷ rest) long =
 stood_in b long = search (arith, long)
 
 named_next : (b : List ℕ) (n : ℕ) → 12 ≤ length b → IsLikeIt (renamed b n) b
-named_next (a ∷ b ∷ c ∷ d ∷ e ∷ f ∷ g ∷ h ∷ i ∷ j ∷ k ∷ l ∷ rest) n long = record {
-  number = refl;
-  bytes = command_few (a ∷ b ∷ c ∷ d ∷ (n % 256) ∷ (n / 256 % 256) ∷ g ∷ h ∷ i ∷ j ∷ k ∷ l ∷ rest);
-}
-named_next b n long = search (arith, long)
+named_next x0 n long = grind (arith, command_few)
 
 pub handed_like : (units : List Shape) (b : List ℕ) → 12 ≤ length b → IsLikeIt (handed units b) b
 handed_like units b long = handed_cases (λ x. IsLikeIt x b) units b (λ formal. stood_in b long)
@@ -150,16 +142,7 @@ module _ {K : Type 0} (call : Call) (old new : Port K) (aw : List (List ℕ)) (k
   pub same_so : ends_said_by call old new ≡ [] → taken_by call old ≡ []
       → new.controller.waiting ≡ old.controller.waiting → ends_of new.controller ≡ ends_of old.controller
       → (is_dead new.stage ≡ true → is_dead old.stage ≡ true) → So
-  same_so said taken waiting ends dead = became aw (by (is_dead new.stage) refl) (record {
-    each = subst (λ rs. AtEach aw rs (ends_of new.controller)) (sym waiting)
-        (subst (λ es. AtEach aw old.controller.waiting es) (sym ends) k.each);
-    small = k.small;
-    dead = λ d. k.dead (dead d);
-  })
-    where
-      by : (b : Bool) → is_dead new.stage ≡ b
-          → since new.stage call (without_ends (ends_said_by call old new) aw) (taken_by call old) ≡ aw
-      by b is = grind (arith, append-nil)
+  same_so said taken waiting ends dead = grind (arith, became, ends_of, append-nil)
 
   -- while there is no fatal error
   pub lives_so : (xs : List (List ℕ)) → is_dead new.stage ≡ false

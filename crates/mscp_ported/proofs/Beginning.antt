@@ -63,14 +63,7 @@ finds {K} picks old new says = elim (looks_or_not old) [
 foretold_of : {K : Type 0} (picks : List Choice → ℕ → Type 0) (h held between new : Holdings K)
     (upcoming : Option Upcoming) → (held ≡ h) ⊎ (held ≡ after_take First h) → Foretells picks held upcoming new
     → (between ≡ h) ⊎ (between ≡ after_take First h) → MayBegin between new → Foretells picks between upcoming new
-foretold_of picks h held between new upcoming either f at may = record {
-  begins = subst (λ l. Begins picks l upcoming (line_of new)) (sym line_at) f.begins;
-  untaken = ap (λ (x : Holdings _). x.untaken) may;
-  settings = ap (λ (x : Holdings _). x.settings) may;
-}
-  where
-    line_at : line_of between ≡ line_of held
-    line_at = grind arith
+foretold_of picks h held between new upcoming either f at may = grind arith
 
 begun_of : {K : Type 0} (picks : List Choice → ℕ → Type 0) (task : Task) (old new : Port K) (between : Holdings K)
     → BeginsBlock picks task old new → (between ≡ old.controller) ⊎ (between ≡ after_take First old.controller)

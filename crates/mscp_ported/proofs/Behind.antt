@@ -73,32 +73,7 @@ pub record AsksAbort (n : ℕ) (b : List ℕ) : Type 0 where
 
 abort_with : (o : Option Opcode) (b : List ℕ) (n : ℕ) → opcode_of (slice_index b 8) ≡ o
     → order_with o b ≡ orders.Abort n → AsksAbort n b
-abort_with None b n is e = search (arith, e)
-abort_with (Some o) b n is e = by (nat_lt (length b) (least o)) refl o refl e
-  where
-    at : (row_of o).byte ≡ slice_index b 8
-    at = eqb-true (row_of o).byte (slice_index b 8)
-        (found_is (λ x. nat_eq (row_of x).byte (slice_index b 8)) opcodes o is)
-
-    enough : nat_lt (length b) 16 ≡ false → nat_le 16 (length b) ≡ true
-    enough h = search (arith, h)
-
-    by : (c : Bool) → nat_lt (length b) (least o) ≡ c → (x : Opcode) → o ≡ x
-        → cond c (orders.Invalid (slice_index b 8) Rattle.mscp_packet.specs.Statuses.invalid_length) (parameters x b)
-        ≡ orders.Abort n → AsksAbort n b
-    by true short x same h = search (arith, h)
-    by false short codes.Abort same h = record {
-      opcode = sym at ∙ ap (λ x. (row_of x).byte) same;
-      long = enough (ap (λ x. nat_lt (length b) (least x)) (sym same) ∙ short);
-      about = search (arith, h);
-    }
-    by false short codes.Status same h = search (arith, h)
-    by false short codes.UnitStatus same h = search (arith, h)
-    by false short codes.SetController same h = search (arith, h)
-    by false short codes.Available same h = search (arith, h)
-    by false short codes.Online same h = search (arith, h)
-    by false short codes.SetUnit same h = search (arith, h)
-    by false short (codes.Move kind) same h = search (arith, h)
+abort_with x0 b n is e = grind (arith, nat_lt, eqb-true, found_is, nat_eq)
 
 abort_command : (b : List ℕ) (n : ℕ) → (command_of b).order ≡ orders.Abort n → AsksAbort n b
 unfolding command_of

@@ -37,22 +37,12 @@ kept_as aw aw' rs rs' bs bs' n texts records buffers k = record {
 }
 
 fits_left : (r s : Record) (b : Buffer) (t : List ℕ) → IsLeft r s → FitsBuffer r b t → FitsBuffer s b t
-fits_left r s b t left f = record {
-  opcode = f.opcode;
-  unit = subst (λ (c : Command). IsUnitIn c.unit t) (sym left.command) f.unit;
-  code = λ plain. subst (λ (c : Command). IsCodeFor (endcode c.order) t) (sym left.command) (f.code plain);
-  no_about = λ other is.
-      f.no_about other (ap (λ (c : Command). about_in (refused_body (endcode c.order))) (sym left.command) ∙ is);
-  of = of_left r s t left f.of;
-}
+fits_left r s b t left f = grind (arith, about_in, of_left)
 
 -- where no command of the number waits, none is kept
 nothing_kept : (aw : List (List ℕ)) (rs : List Record) (bs : List Buffer) (n : ℕ) → filter (is_numbered n) rs ≡ []
     → filter (is_of First n) bs ≡ [] → IsKept aw rs bs n
-nothing_kept aw rs bs n none kept = record {
-  none = λ e. kept;
-  own = λ r t e f. absurd (some_none r [] (sym e ∙ none));
-}
+nothing_kept aw rs bs n none kept = grind (arith, some_none)
 
 -- ---- a step
 

@@ -61,15 +61,4 @@ slots_log : (n : ℕ) → (j : ℕ) × (k : ℕ) × (j + k ≡ 8) × (2 ^ (n % 8
 slots_log n = (8 - n % 8, n % 8, search (arith, mod-lt n), refl)
 
 pub named_wide : (first second third : ℕ) → IfSome (rings_named first second third) IsWide
-named_wide first second third = by (nat_lt (base_named second third) 8) refl
-  where
-    by : (b : Bool) → nat_lt (base_named second third) 8 ≡ b
-        → IfSome (cond b None (Some (area_named first second third))) IsWide
-    by true e = tt
-    by false e = record {
-      responses = pow_pos (first / 0x0100 % 8);
-      commands = pow_pos (first / 0x0800 % 8);
-      response_log = slots_log (first / 0x0100);
-      command_log = slots_log (first / 0x0800);
-      room = search (arith, e);
-    }
+named_wide first second third = grind (arith, nat_lt, pow_pos, slots_log)

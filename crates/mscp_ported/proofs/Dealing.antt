@@ -30,24 +30,12 @@ passive_taken call old is = grind arith
 
 pub passive_deals : {K : Type 0} (picks : Picking K) (call : Call) (old new : Port K) (aw : List (List ℕ))
     → Becomes picks call old new → IsPassive call → Deals aw call old new
-passive_deals picks call old new aw r is = inl (record {
-  begun = begins_same old.outgoing new.outgoing (passive_out picks call old new r is);
-  accepted = passive_accepted call old is;
-  taken = passive_taken call old is;
-  ended = passive_said call old new is;
-})
+passive_deals picks call old new aw r is =
+    grind (arith, begins_same, passive_out, passive_accepted, passive_taken, passive_said)
 
 pub went_deals : {K : Type 0} (picks : Picking K) (outcome : Outcome) (done : Unit) (old new : Port K)
     (aw : List (List ℕ)) → Becomes picks (Went outcome (Ok done)) old new → Deals aw (Went outcome (Ok done)) old new
-went_deals picks outcome done old new aw r = inl (record {
-  begun = begins_same old.outgoing new.outgoing (elim r.out [
-    | inl e ↦ inl e
-    | inr more ↦ elim more [ inl x ↦ inr x.out | inr dead ↦ inr dead.1.outgoing ]
-  ]);
-  accepted = refl;
-  taken = refl;
-  ended = refl;
-})
+went_deals picks outcome done old new aw r = grind (arith, begins_same)
 
 -- ---- a message
 
@@ -235,12 +223,7 @@ module _ {K : Type 0} (blocks : Bool) (action : Action) (bytes : List ℕ) (old 
       }
 
   quiet_next : (new.outgoing ≡ old.outgoing) → Deals aw (Next blocks action bytes) old new
-  quiet_next same = inl (record {
-    begun = begins_same old.outgoing new.outgoing (inl same);
-    accepted = refl;
-    taken = refl;
-    ended = ap (ends_begun old.outgoing) same ∙ begun_same old.outgoing;
-  })
+  quiet_next same = grind (arith, begins_same, begun_same)
 
   news_so : (place : Option ℕ) (units : List Shape) (before after : List Volume) (q : Option Outgoing)
       → new.outgoing ≡ q → old.outgoing ≡ None → TellsOf units before place q after

@@ -44,11 +44,7 @@ module _ {K : Type 0} (h : Hardware) (units : List Shape) (call : Call) (old new
       → since new.stage call ys (ends_said_by call old new) ≡ ys' → Ends h units new xs' ys'
       → new.hardware ≡ old.hardware
       → So
-  became xs' ys' e f x hardware = record {
-    ends = subst (λ z. Ends h units new z (since new.stage call ys (ends_said_by call old new))) (sym e)
-        (subst (λ z. Ends h units new xs' z) (sym f) x);
-    hardware = hardware ∙ k.hardware;
-  }
+  became xs' ys' e f x hardware = grind arith
 
   dies_so : Dies old new → So
   dies_so d = grind (arith, became, none_left, ends_of)

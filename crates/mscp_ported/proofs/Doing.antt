@@ -54,43 +54,14 @@ aside_fewer tasks.Transfer clear = record { to_do = search arith; rest = search 
 aside_fewer t clear = record { to_do = search arith; rest = search arith; clear = clear }
 
 step_fewer : (o : Option ℕ) (t : Task) → (IsClear t → ⊥) → IsFewer 0 t (step_at o t)
-step_fewer (Some place) (tasks.Step verdict) clear =
-    record { to_do = search arith; rest = search arith; clear = λ c. c }
-step_fewer (Some place) tasks.Transfer clear = record { to_do = search arith; rest = search arith; clear = λ c. c }
-step_fewer (Some place) t clear = record { to_do = search arith; rest = search arith; clear = clear }
-step_fewer None t clear = record { to_do = search arith; rest = search arith; clear = clear }
+step_fewer x0 x1 clear = grind arith
 
 read_fewer : (bytes : List ℕ) (done : Unit {0}) (t : Task) → IsSlide t → IsGiven t (WasRead bytes (Ok done))
     → IsFewer 1 t (task_read bytes t)
-read_fewer bytes done (tasks.Slot Responses) of given =
-    subst (λ b. IsFewer 1 (tasks.Slot Responses) (cond b (tasks.Packet (record { word = num bytes 0 4 })) tasks.Free))
-    (sym given) (record { to_do = search arith; rest = search arith; clear = λ c. c })
-read_fewer bytes done (tasks.Slot Commands) of given = by (is_owned (num bytes 0 4))
-  where
-    by : (b : Bool)
-        → IsFewer 1 (tasks.Slot Commands) (cond b (tasks.Header (record { word = num bytes 0 4 })) tasks.Free)
-    by true = record { to_do = search arith; rest = search arith; clear = λ c. c }
-    by false = record { to_do = search arith; rest = search arith; clear = λ c. c }
-read_fewer bytes done (tasks.Neighbour side) of given = by (is_owned (num bytes 0 4))
-  where
-    by : (b : Bool) → IsFewer 1 (tasks.Neighbour side) (cond b (tasks.Word side) tasks.Free)
-    by true = record { to_do = search arith; rest = search arith; clear = λ c. c }
-    by false = record { to_do = search arith; rest = search arith; clear = λ c. c }
-read_fewer bytes done (tasks.Header slot) of given =
-    record { to_do = search arith; rest = search arith; clear = λ c. c }
-read_fewer bytes done t of given = absurd of
+read_fewer bytes done x2 of given = grind arith
 
 eased_fewer : (before after : Task) → (IsClear before → ⊥) → IsEased before after → IsFewer 1 before after
-eased_fewer (tasks.Word side) after clear (inl e) =
-    subst (IsFewer 1 (tasks.Word side)) (sym e) (record { to_do = search arith; rest = search arith; clear = λ c. c })
-eased_fewer (tasks.Word side) after clear (inr e) =
-    subst (IsFewer 1 (tasks.Word side)) (sym e) (record { to_do = search arith; rest = search arith; clear = λ c. c })
-eased_fewer tasks.Settle after clear e =
-    subst (IsFewer 1 tasks.Settle) (sym e) (record { to_do = search arith; rest = search arith; clear = λ c. c })
-eased_fewer tasks.Interrupt after clear e =
-    subst (IsFewer 1 tasks.Interrupt) (sym e) (record { to_do = search arith; rest = search arith; clear = λ c. c })
-eased_fewer (tasks.Clear done) after clear e = absurd (clear tt)
-eased_fewer task after clear e = absurd e
+eased_fewer x0 after clear x3 = grind arith
 
 -- of one of the ring of responses the rest alone
 abbrev Given : Side → Task → Type 0
@@ -131,24 +102,12 @@ module _ {K : Type 0} (old new : Port K) (u : InUse old) where
 
   use_on : (x : Port K) → new ≡ x → x.stage ≡ old.stage → x.is_full ≡ false → x.written ≡ old.written
       → (IsClear new.task → ⊥) → InUse new
-  use_on x e stage room written clear = record {
-    up = ap (λ p. p.stage) e ∙ stage ∙ u.up;
-    room = ap (λ p. p.is_full) e ∙ room;
-    heard = ap (λ p. p.written) e ∙ written ∙ u.heard;
-    clear = clear;
-  }
+  use_on x e stage room written clear = grind arith
 
   -- what goes out stays so
   on : {n : ℕ} (x : Port K) → new ≡ x → x.stage ≡ old.stage → x.is_full ≡ false → x.written ≡ old.written
       → x.outgoing ≡ old.outgoing → (HasEnd old → HasEnd new) → IsFewer n old.task x.task → So n
-  on {n} x e stage room written out ends fewer =
-      let less : IsFewer n old.task new.task = subst (λ p. IsFewer n old.task p.task) (sym e) fewer in
-      inr (record {
-        used = use_on x e stage room written less.clear;
-        ends = ends;
-        left = less.rest;
-        out = inl (ap (λ p. p.outgoing) e ∙ out, less.to_do);
-      })
+  on {n} x e stage room written out ends fewer = grind (arith, use_on)
 
   -- nothing changes
   stay : new ≡ old → So 0

@@ -22,15 +22,7 @@ pub record Fitting (c : Settings) (Told : Verdict → Record → Type 0) {K : Ty
 pub nothing_fits : {c : Settings} {Told : Verdict → Record → Type 0} {K : Type 0} (p : Port K) (aw : List (List ℕ))
     → p.controller.waiting ≡ []
     → ends_of p.controller ≡ [] → p.decided.items ≡ [] → p.buffers.items ≡ [] → Fitting c Told p aw
-nothing_fits {c} {Told} p aw none no_end nothing no_buffer = record {
-  long = ap length no_end ∙ sym (ap length nothing);
-  kept = λ n. record {
-    none = λ e. ap (filter (is_of First n)) no_buffer;
-    own = λ r t e f. absurd (some_none r [] (sym e ∙ ap (filter (is_numbered n)) none));
-  };
-  fits = subst (λ es. AllByRecursion (FitsIn c Told aw) (zipped es p.decided.items)) (sym no_end) tt;
-  followed = subst (λ es. AreFollowed Told aw es) (sym no_end) tt;
-}
+nothing_fits {c} {Told} p aw none no_end nothing no_buffer = grind (arith, some_none, is_numbered, zipped)
 
 -- no message is awaited any more
 forget_each : (aw : List (List ℕ)) (rs : List Record) (bs : List Buffer) → IsKeptEach aw rs bs → IsKeptEach [] rs bs

@@ -140,27 +140,10 @@ pub record IsPlainEnd (r : Record) (e : End) : Type 0 where
       → (other : ℕ) → about_in e.body ≡ Some other → ⊥
 
 pub given_plain : (k : Block) (d : Drive) (r : Record) (e : End) → end_given k d r ≡ Some e → IsPlainEnd r e
-given_plain k d r e h = by (goes_on d.online r.command.order k (left_of r)) h
-  where
-    own : End
-    own = outcome_at d.unit d.online r.command r.good k
-
-    by : (b : Bool) → cond b None (Some own) ≡ Some e → IsPlainEnd r e
-    by true h = absurd (none-some e h)
-    by false h = subst (λ (x : End). IsPlainEnd r x) (same_Some own e h) (record {
-      number = refl;
-      unit = refl;
-      code = refl;
-      no_about = λ never other is. outcome_no_about d.unit _ r.command.order _ other never is;
-    })
+given_plain k d r e h = grind (arith, none-some, same_Some, outcome_no_about)
 
 pub aborted_plain : (r : Record) → IsPlainEnd r (aborted_record r)
-aborted_plain r = record {
-  number = refl;
-  unit = refl;
-  code = refl;
-  no_about = λ never other is. moved_no_about r.command.order r.good other never is;
-}
+aborted_plain r = grind (arith, moved_no_about)
 
 -- with what is decided of it, it fits
 pub plain_fits : {c : Settings} {Told : Verdict → Record → Type 0} (bs : List Buffer) (r : Record) (b : Buffer)

@@ -1,5 +1,5 @@
 -- Behind the end of a command that was aborted waits that of its ABORT, whose message came later.
-use Rattle.mscp_ported.proofs.Common.{Bool, Command, Drive, End, First, Holdings, List, None, Option, Order, Record, Settings, Some, Verdict, [], aborted_record, answered_end, ap, arith, block_told, command_of, cond, drive_of, end_given, eq-eqb, eqb-true, false, false≢true, figure_polled, filter, find, found_is, handed, has_number, inl, inr, is_numbered, is_queued, length, list_any, nat_eq, none-some, not, num, option_map, option_to_list, record_aborted, refl, subst, sym, true, ℕ, ◌++◌, ◌||◌, ◌∙◌, ◌∷◌, ◌≡◌, ◌⊎◌}
+use Rattle.mscp_ported.proofs.Common.{Bool, Command, Drive, End, First, Holdings, List, None, Option, Order, Record, Settings, Some, Verdict, [], aborted_record, answered_end, ap, arith, block_told, command_of, cond, drive_of, end_given, eq-eqb, eqb-true, false, false≢true, figure_polled, filter, find, found_is, handed, has_number, inl, inr, is_numbered, is_queued, length, list_any, nat_eq, none-some, not, num, option_map, option_to_list, record_aborted, refl, subst, sym, true, ℕ, ◌++◌, ◌||◌, ◌∙◌, ◌∷◌, ◌≡◌, ◌⊎◌, numbers}
 use Rattle.std.specs.Prelude.{◌≤◌}
 use Rattle.mscp_packet.specs.declared.command.Order.TheVariants as orders
 use Rattle.mscp_controller.specs.Outcomes.{own_end}
@@ -148,14 +148,7 @@ module _ (Told : Verdict → Record → Type 0) {K : Type 0} (h : Holdings K) (a
   own = answered_end First h command
 
   reply : IsFollowed Told (aw ++ bytes ∷ []) own []
-  reply = inl (record {
-    settings = h.settings;
-    online = (drive_of h.drives command.unit).online;
-    figure = figure_polled h.settings First h.waiting command.order;
-    text = handed h.settings.units bytes;
-    immediate = immediate;
-    is = refl;
-  })
+  reply = grind arith
 
   behind : (m : ℕ) (x : Record) → command.order ≡ orders.Abort m → find (is_numbered m) h.waiting ≡ Some x
       → IsFollowed Told (aw ++ bytes ∷ []) (aborted_record x) (own ∷ [])

@@ -69,59 +69,7 @@ asked_before call earlier asks = grind arith
 module _ {K : Type 0} (picks : Picking K) (hardware : Hardware) (credits : ℕ) (controller : Holdings K)
     (start : Port K) (made : IsMadeOf hardware credits controller start) where
   begins_so : (p : Port K) → p ≡ start → InStep (look p) silence None [] []
-  begins_so p e = record {
-    names = record {
-      first_so = sym (ap (λ (q : Port K). q.words.first) e ∙ ap (λ w. w.first) made.words);
-      second_so = sym (ap (λ (q : Port K). q.words.second) e ∙ ap (λ w. w.second) made.words);
-      answer_so = subst (λ o. IfSome o (λ w. 0 ≡ w)) (sym (ap (λ (q : Port K). q.written) e ∙ made.written)) tt;
-      named_so = sym none;
-      area = λ h. search (arith, h, ap has_area stage);
-      early = λ h. none;
-      wide = subst (λ o. IfSome o IsWide) (sym none) tt;
-    };
-    counts = record {
-      told_so = ap (λ (q : Port K). q.responses) e ∙ made.responses;
-      heard_so = ap (λ (q : Port K). q.commands) e ∙ made.commands;
-      packets = tt;
-      messages = tt;
-      none = λ h. (refl, refl);
-    };
-    hand = record {
-      fits = subst (λ x. Fits (look p) x Idle) (sym free) tt;
-      asked = tt;
-      up = λ h. absurd (subst (λ x. IsOfRings x) free h);
-      step = λ h. search (arith, free, h);
-      clear = λ h. absurd (subst (λ x. IsClear x) free h);
-      own = tt;
-      idle = λ h. tt;
-      wished = λ h is. subst (λ x. IsOfBlock x) free is;
-    };
-    speech = record {
-      out = λ h. absurd (h quiet);
-      has = λ h. absurd (subst (λ x. NeedsOut x) free h);
-      tells = (
-        [],
-        ap (λ o. map said_in (option_to_list o)) quiet,
-        tt,
-        subst (λ x. HasLeft x Idle p.outgoing p.untold p.more) (sym free)
-            (ap (λ (q : Port K). q.untold) e ∙ made.untold ∙ sym (ap (λ (q : Port K). q.more) e)),
-      );
-    };
-    hears = ap (λ x. in_hand x Idle) free;
-    ended = λ d. record { talk = refl; none_said = refl; none_accepted = refl };
-  }
-    where
-      stage : p.stage ≡ stages.First
-      stage = ap (λ (q : Port K). q.stage) e ∙ made.first
-
-      free : p.task ≡ tasks.Free
-      free = ap (λ (q : Port K). q.task) e ∙ made.free
-
-      none : p.rings ≡ None
-      none = ap (λ (q : Port K). q.rings) e ∙ made.rings
-
-      quiet : p.outgoing ≡ None
-      quiet = ap (λ (q : Port K). q.outgoing) e ∙ made.outgoing
+  begins_so p e = grind (arith, has_area, look, in_hand)
 
   pub in_step : (p : Port K) (calls : List Call) → AsksAlways calls → (a : Answered picks start calls p)
       → InStep (look p) (talk_of picks start p calls a) (wish calls) (said picks start p calls a)

@@ -24,11 +24,7 @@ pub record Grown {K : Type 0} (call : Call) (old new : Port K) : Type 0 where
 
 pub grown_none : {K : Type 0} (call : Call) (old new : Port K) → ends_of new.controller ≡ ends_of old.controller
     → Grown call old new
-grown_none call old new same = record {
-  brought = [];
-  ends = same ∙ sym (append-nil (ends_of old.controller));
-  these = tt;
-}
+grown_none call old new same = grind (arith, append-nil, ends_of)
 
 pub pending_these : {K : Type 0} (call : Call) (old : Port K) (es : List End)
     → AllByRecursion (λ (e : End). ((text : List ℕ) × (accepted_by call old ≡ text ∷ [])
@@ -45,10 +41,4 @@ pub grown_passes : {K : Type 0} (call : Call) (old new : Port K) (g : Grown call
     → map pending_end g.brought
     ≡ record { number = num bytes 0 4; figure = figure_on old (num bytes 12 4) } ∷ [])
     → PassesOn call old new
-grown_passes call old new g none poll = record {
-  more = map pending_end g.brought;
-  behind = ap (λ xs. xs ++ pending_held new) none ∙ ap (map pending_end) g.ends
-      ∙ map-append pending_end (ends_of old.controller) g.brought;
-  of_these = pending_these call old g.brought g.these;
-  poll = poll;
-}
+grown_passes call old new g none poll = grind (arith, map-append, ends_of, pending_these)

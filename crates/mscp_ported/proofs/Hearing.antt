@@ -33,24 +33,8 @@ pub up_step : (l : Look) (t : Talk) (w : Option Wish) (said said' : List Said) (
       outgoing = outgoing;
       untold = untold;
     }) (record t { turn = turn; told = told; heard = heard }) None said' texts'
-up_step l t w said said' texts texts' responses commands task outgoing untold turn told heard k up counts fits own has
-    clear no_block tells hears = record {
-      names = k.names;
-      counts = counts;
-      hand = record {
-        fits = fits;
-        asked = tt;
-        up = λ h. up;
-        step = λ h. ap is_loud up;
-        clear = λ h. absurd (clear h);
-        own = own;
-        idle = λ h. absurd (h up);
-        wished = λ e h. no_block h;
-      };
-      speech = record { out = λ h. up; has = has; tells = tells };
-      hears = hears;
-      ended = λ d. absurd (search (arith, d, ap is_dead up));
-    }
+up_step l t w said said' texts texts' responses commands task outgoing untold turn told heard k up counts fits own has clear no_block tells hears =
+    grind (arith, is_loud)
 
 -- a slot's address lies in its ring
 side_of : (r : Rings) (side : Side) (n : ℕ) → 1 ≤ r.responses → side_at (Some r) (slot_in r side n) ≡ side
@@ -86,32 +70,7 @@ module _ {K : Type 0} (old new : Port K) (t : Talk) (w : Wish) (bytes : List ℕ
 
   slot_talk : (side : Side) → old.task ≡ tasks.Slot side
       → read_by w.action bytes t ≡ record t { turn = takes (slot_at (look old) side (num bytes 0 4)) }
-  slot_talk side at = with_rings old.rings refl (subst (λ x. IsAsked (look old) x w) at k.hand.asked)
-    where
-      open_read : (x : Turn) (o : Option Rings) (address : ℕ) → IsOpen x
-          → read_turn o address bytes x ≡ takes (slot_read o address bytes)
-      open_read x o address fit = grind arith
-
-      with_rings : (o : Option Rings) → old.rings ≡ o
-          → IsSomeAnd o (λ x. w.action ≡ actions.Read (slot_in x side (given_at (look old) side)) 4)
-          → read_by w.action bytes t ≡ record t { turn = takes (slot_at (look old) side (num bytes 0 4)) }
-      with_rings None e h = absurd h
-      with_rings (Some area) e h =
-          let wide : IsWide area = subst (λ o. IfSome o IsWide) e k.names.wide in
-          let n = given_at (look old) side in
-          let named : t.rings ≡ Some area = k.names.named_so ∙ e in
-          ap (λ a. read_by a bytes t) h
-          ∙ ap (λ x. record t { turn = x })
-          (open_read t.turn t.rings (slot_in area side n) (subst (λ x. Fits (look old) x t.turn) at k.hand.fits)
-          ∙ ap (λ o. takes (slot_read o (slot_in area side n) bytes)) named
-          ∙ ap (λ s. takes (record { side = s; address = slot_in area side n; word = num bytes 0 4 }))
-          (side_of area side n wide.responses)
-          ∙ ap (λ x. takes (record { side = side; address = x; word = num bytes 0 4 })) (sym (place_so area side n))
-          ∙ ap (λ o. takes (record {
-            side = side;
-            address = address_in o side n;
-            word = num bytes 0 4;
-          })) (sym e))
+  slot_talk side at = grind (arith, look, given_at, slot_at, side_of, place_so)
 
   slot_read_so : (side : Side) → old.task ≡ tasks.Slot side → So
   slot_read_so side at = by side at

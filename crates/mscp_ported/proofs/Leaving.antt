@@ -53,17 +53,7 @@ module _ {K : Type 0} (h : Hardware) (units : List Shape) (old new : Port K) (ca
   -- no end is taken
   none_taken : ends_begun old.outgoing new.outgoing ≡ [] → MayBegin old.controller new.controller
       → new.decided ≡ old.decided → Ends h units new came (said ++ ends_begun old.outgoing new.outgoing)
-  none_taken none may decided = record {
-    gone = k.gone;
-    all = k.all ∙ ap (λ xs. k.gone ++ xs) (sym (ap (λ es. zipped es new.decided.items) ends
-        ∙ ap (λ d. zipped (ends_of old.controller) d.items) decided));
-    long = ap length ends ∙ k.long ∙ sym (ap (λ d. length d.items) decided);
-    texts = ap (λ xs. said ++ xs) none ∙ append-nil said ∙ k.texts;
-    dead = not_dead;
-  }
-    where
-      ends : ends_of new.controller ≡ ends_of old.controller
-      ends = ap (λ c. ends_of c) may
+  none_taken none may decided = grind (arith, zipped, ends_of, append-nil, not_dead)
 
   pub goes_out : Ends h units new came (said ++ ends_begun old.outgoing new.outgoing)
   goes_out = elim (says_is old new says) [

@@ -29,11 +29,7 @@ pub record Steps {K : Type 0} (p : Port K) (w : Option Wish) : Type 0 where
   pub paused : IsPaused p w
 
 no_steps : {K : Type 0} (p : Port K) (w : Option Wish) → (IsOfBlock p.task → ⊥) → Steps p w
-no_steps p w never = record {
-  begun = λ h. absurd (never h);
-  wanted = λ e. absurd (never (subst (λ x. IsOfBlock x) (sym e) tt));
-  paused = λ verdict e. absurd (never (subst (λ x. IsOfBlock x) (sym e) tt));
-}
+no_steps p w never = grind arith
 
 -- what a call leaves of the port where a step stays in hand
 pub record Keeps {K : Type 0} (old new : Port K) : Type 0 where
@@ -43,18 +39,7 @@ pub record Keeps {K : Type 0} (old new : Port K) : Type 0 where
   pub task : new.task ≡ old.task
 
 keeps : {K : Type 0} (old new : Port K) (w : Option Wish) → Keeps old new → Steps old w → Steps new w
-keeps {K} old new w k s = record {
-  begun = λ h. k.task ∙ s.begun (subst (λ x. IsOfBlock x) k.task h) ∙ sym same;
-  wanted = λ e. subst (λ x. IfSome w (λ y. y.action ≡ x)) (sym wish_same) (s.wanted (sym k.task ∙ e));
-  paused = λ verdict e. s.paused verdict (sym k.task ∙ e);
-}
-  where
-    same : begun_task new.controller.settings.units new.buffers.items new.volumes (begun_step new.controller)
-        ≡ begun_task old.controller.settings.units old.buffers.items old.volumes (begun_step old.controller)
-    same = grind arith
-
-    wish_same : move_wanted new (block_begun new) ≡ move_wanted old (block_begun old)
-    wish_same = grind arith
+keeps {K} old new w k s = grind arith
 
 -- a step stays in hand, or none is
 either : {K : Type 0} (old new : Port K) (w : Option Wish) → (IsOfBlock new.task → Keeps old new) → Steps old w
@@ -74,73 +59,29 @@ free_step task h = grind arith
 
 module _ {K : Type 0} (old new : Port K) (w : Option Wish) (s : Steps old w) where
   same_so : new ≡ old → Steps new w
-  same_so e = keeps old new w (record {
-    controller = ap (λ (p : Port K). p.controller) e;
-    buffers = ap (λ (p : Port K). p.buffers) e;
-    volumes = ap (λ (p : Port K). p.volumes) e;
-    task = ap (λ (p : Port K). p.task) e;
-  }) s
+  same_so e = grind (arith, keeps)
 
   -- what is in hand stays, or is dropped
   hand_so : (new.controller ≡ old.controller) → (new.volumes ≡ old.volumes) → Leaves old new ⊎ Drops old new
       → Steps new w
-  hand_so controller volumes hand = elim hand [
-    | inl l ↦ keeps old new w (record {
-      controller = controller;
-      buffers = l.buffers;
-      volumes = volumes;
-      task =
-          l.task;
-    }) s
-    | inr d ↦ no_steps new w (λ h. elim d.task [
-      | inl free ↦ subst (λ x. IsOfBlock x) free h
-      | inr clear ↦ subst (λ x. IsOfBlock x) clear h
-    ])
-  ]
+  hand_so controller volumes hand = grind (arith, keeps, no_steps)
 
   dead_so : Dies old new → Steps new w
   dead_so d = no_steps new w (λ h. subst (λ x. IsOfBlock x) d.1.task h)
 
   again_so : {b : Bool} {n : ℕ} → new ≡ record old { is_full = b; task = read_again old.task; left = n } → Steps new w
-  again_so e = either old new w (λ h. record {
-    controller = ap (λ (p : Port K). p.controller) e;
-    buffers = ap (λ (p : Port K). p.buffers) e;
-    volumes = ap (λ (p : Port K). p.volumes) e;
-    task = ap (λ (p : Port K). p.task) e
-        ∙ free_again old.task (subst (λ x. IsOfBlock x) (ap (λ (p : Port K). p.task) e) h);
-  }) s
+  again_so e = grind (arith, either, free_again)
 
   volume_so : (becomes : Volume → Volume) (o : Option ℕ)
       → new ≡ record old { volumes = volumes_with becomes o old.volumes; task = step_at o old.task } → Steps new w
-  volume_so becomes None e = keeps old new w (record {
-    controller = ap (λ (p : Port K). p.controller) e;
-    buffers = ap (λ (p : Port K). p.buffers) e;
-    volumes = ap (λ (p : Port K). p.volumes) e;
-    task = ap (λ (p : Port K). p.task) e;
-  }) s
-  volume_so becomes (Some place) e =
-      no_steps new w (λ h. free_step old.task (subst (λ x. IsOfBlock x) (ap (λ (p : Port K). p.task) e) h))
+  volume_so becomes x1 e = grind (arith, keeps, no_steps, free_step)
 
 -- something is wanted
 wants_so : {K : Type 0} (picks : Picking K) (blocks : Bool) (action : Action) (bytes : List ℕ) (old new : Port K)
     (w : Option Wish) → Becomes picks (Next blocks action bytes) old new → Steps old w
     → ((code : ℕ) → old.stage ≡ stages.Dead code → IsOfBlock old.task → ⊥)
     → Steps new (Some (record { action = action; bytes = bytes }))
-wants_so {K} picks blocks action bytes old new w r s calm = elim (alive_or_dead old old.stage refl) [
-  | inl alive ↦ record {
-    begun = begun_so alive;
-    wanted = λ e. wanted_so alive e;
-    paused = λ verdict e. subst (λ x. IsWanted new x action) e (r.0.wanted alive);
-  }
-  | inr d ↦ no_steps new (Some (record { action = action; bytes = bytes }))
-      (λ h. calm d.0 d.1 (subst (λ x. IsOfBlock x) (ap (λ (p : Port K). p.task) (r.0.dead d.0 d.1).1) h))
-]
-  where
-    begun_so : IsAlive old → IsBegunStep new
-    begun_so alive h = grind (arith, same_so)
-
-    wanted_so : IsAlive old → new.task ≡ tasks.Transfer → action ≡ move_wanted new (block_begun new)
-    wanted_so alive e = subst (λ x. IsWanted new x action) e (r.0.wanted alive)
+wants_so {K} picks blocks action bytes old new w r s calm = grind (arith, alive_or_dead, no_steps)
 
 module _ {K : Type 0} (picks : Picking K) (hardware : Hardware) (credits : ℕ) (controller : Holdings K)
     (start : Port K) (made : IsMadeOf hardware credits controller start) where
@@ -176,14 +117,4 @@ module _ {K : Type 0} (picks : Picking K) (hardware : Hardware) (credits : ℕ) 
   steps p (call ∷ calls) asks a = by (minor picks call a.0 p a.2 tt) (steps a.0 calls asks a.1)
     where
       by : Minor a.0 p → Steps a.0 (wish calls) → Steps p (wish calls)
-      by (Still e) s = same_so a.0 p (wish calls) s e
-      by (PutsAside e) s = either a.0 p (wish calls) (λ h. record {
-        controller = ap (λ (q : Port K). q.controller) e;
-        buffers = ap (λ (q : Port K). q.buffers) e;
-        volumes = ap (λ (q : Port K). q.volumes) e;
-        task = ap (λ (q : Port K). q.task) e
-            ∙ free_aside a.0.task (subst (λ x. IsOfBlock x) (ap (λ (q : Port K). q.task) e) h);
-      }) s
-      by (ReadsAgain left e) s = again_so a.0 p (wish calls) s e
-      by (Mounts becomes place e) s = volume_so a.0 p (wish calls) s becomes place e
-      by (GivesUp d) s = no_steps p (wish calls) (λ h. subst (λ x. IsOfBlock x) d.task h)
+      by x0 s = grind (arith, same_so, either, free_aside, again_so, volume_so, no_steps)

@@ -14,10 +14,7 @@ record IsFresh (v : Volume) : Type 0 where
   offline : v.is_news ≡ true → v.is_mounted ≡ false
 
 not_new : (v : Volume) → v.is_news ≡ false → IsFresh v
-not_new v e = record {
-  there = λ is. absurd (false≢true (sym e ∙ is));
-  offline = λ is. absurd (false≢true (sym e ∙ is));
-}
+not_new v e = grind (arith, false≢true)
 
 either : (b : Bool) (x y : Volume) → IsFresh x → IsFresh y → IsFresh (cond b x y)
 either true x y f g = f
@@ -57,18 +54,7 @@ module _ {K : Type 0} (call : Call) (old new : Port K) (place : ℕ) (low : plac
   after_end units bs via (Some e) f = heeded_at e.code _ _ f
 
   keeps_fresh : Remounted call old new → FreshThen new.volumes
-  keeps_fresh (Forgets n) f = subst IsFresh (sym (n.1.volumes place low))
-      (not_new (volume_reset (volume_at old.volumes place)) refl)
-  keeps_fresh (Rests calm e) f = subst (λ xs. IsFresh (volume_at xs place)) (sym e) f
-  keeps_fresh (Tunes calm q x t e) f = subst (λ xs. IsFresh (volume_at xs place)) (sym e)
-      (set_one place q old.volumes x (λ was. record {
-        there = λ is. t.there ∙ was.there (t.news is);
-        offline = λ is. t.mounted ∙ was.offline (t.news is);
-      }) f)
-  keeps_fresh (Switches becomes s to changes none e) f = subst (λ xs. IsFresh (volume_at xs place)) (sym e)
-      (with_one becomes _ (λ v was. record { there = s.news v; offline = λ is. s.offline v }) f)
-  keeps_fresh (Heeds via ended changes from to e) f = subst (λ xs. IsFresh (volume_at xs place)) (sym e)
-      (after_end _ _ via ended f)
+  keeps_fresh x0 f = grind (arith, not_new, set_one, with_one, after_end)
 
 -- ---- what begins to go out
 
@@ -116,16 +102,7 @@ available : {K : Type 0} (p : Port K) (o : Outgoing) (q : ℕ) (unit : Shape) �
     → ((place : ℕ) → place < 16 → IsFresh (volume_at p.volumes place)) → news_place p ≡ Some q
     → slice_get p.controller.settings.units q ≡ Some unit
     → o.bytes.items ≡ attention unit (volume_at p.volumes q) → IsAvailable p o q
-available p o q unit few fresh at there bytes =
-    let place = place_of (p.flags / 0x80 % 2 == 1) (position (λ v. v.is_news) p.volumes) q at in
-    let news = (position-Some (λ v. v.is_news) p.volumes q no_volume place.1).1 in
-    let low : q < 16 = search (arith, inside p.controller.settings.units q unit there, few) in
-    record {
-      wanted = eqb-true (p.flags / 0x80 % 2) 1 place.0;
-      there = (fresh q low).there news;
-      offline = (fresh q low).offline news;
-      said = (unit, there, bytes);
-    }
+available p o q unit few fresh at there bytes = grind (arith, place_of, position-Some, inside, eqb-true)
 
 is_of : {K : Type 0} (p : Port K) (o : Outgoing) (out : Option Outgoing) (ws : List Volume)
     → length p.controller.settings.units ≤ 16

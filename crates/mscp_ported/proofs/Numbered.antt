@@ -46,23 +46,7 @@ AtEach aw rs es = (n : ℕ) → At aw rs es n
 pub at_same : {aw aw' : List (List ℕ)} {rs rs' : List Record} {es es' : List End} (n : ℕ)
     → filter (has_number n) aw' ≡ filter (has_number n) aw → filter (is_numbered n) rs' ≡ filter (is_numbered n) rs
     → filter (ends_numbered n) es' ≡ filter (ends_numbered n) es → At aw rs es n → At aw' rs' es' n
-at_same n texts records ends (inl x) = inl (texts ∙ x.0, records ∙ x.1, ends ∙ x.2)
-at_same n texts records ends (inr (inl w)) = inr (inl (record {
-  text = w.text;
-  own = w.own;
-  message = texts ∙ w.message;
-  sole = records ∙ w.sole;
-  no_end = ends ∙ w.no_end;
-  fits = w.fits;
-}))
-at_same n texts records ends (inr (inr x)) = inr (inr (record {
-  text = x.text;
-  end = x.end;
-  message = texts ∙ x.message;
-  none = records ∙ x.none;
-  sole = ends ∙ x.sole;
-  fits = x.fits;
-}))
+at_same n texts records ends x4 = grind arith
 
 -- ---- filters
 

@@ -26,37 +26,19 @@ pub record IsLeft (r s : Record) : Type 0 where
   pub good : r.good ≡ r.done → s.good ≡ s.done
 
 pub left_alike : (r s : Record) → Alike r s → IsLeft r s
-left_alike r s alike = record {
-  command = alike.command;
-  weight = alike.weight;
-  good = λ g. alike.good ∙ g ∙ sym alike.done;
-}
+left_alike r s alike = grind arith
 
 pub left_advanced : (r : Record) → IsLeft r (advanced r)
 left_advanced r = record { command = refl; weight = refl; good = λ g. ap (λ n. n + 1) g }
 
 pub of_left : (r s : Record) (t : List ℕ) → IsLeft r s → IsOf r t → IsOf s t
-of_left r s t left of = record {
-  settings = of.settings;
-  message = of.message;
-  command = left.command ∙ of.command;
-  queued = ap (is_queued of.settings) left.command ∙ of.queued;
-  whole = left.weight ∙ of.whole ∙ ap (λ (c : Command). order_weight c.order) (sym left.command);
-  good = left.good of.good;
-}
+of_left r s t left of = grind arith
 
 -- so is one that was queued as its message came
 pub queued_of : (settings : Settings) (t : List ℕ) → IsText t
     → is_queued settings (command_of (handed settings.units t)) ≡ true
     → IsOf (fresh_record First (command_of (handed settings.units t))) t
-queued_of settings t message queued = record {
-  settings = settings;
-  message = message;
-  command = refl;
-  queued = queued;
-  whole = refl;
-  good = refl;
-}
+queued_of settings t message queued = grind arith
 
 -- ---- ends
 
@@ -100,15 +82,7 @@ pub answer_of : {K : Type 0} (h : Holdings K) (t : List ℕ) (c : Settings) → 
     → figure_polled h.settings First h.waiting (command_of (handed h.settings.units t)).order < 2 ^ 32 → (l : Leaving)
     → l.end ≡ answered_end First h (command_of (handed h.settings.units t))
     → IsToldSo (verdicts.Served blocks.Good) l → IsAnswer c l t
-answer_of {K} h t c set message immediate low l end told = subst (λ s. IsAnswer s l t) set (record {
-  online = (drive_of h.drives (command_of (handed h.settings.units t)).unit).online;
-  figure = figure_polled h.settings First h.waiting (command_of (handed h.settings.units t)).order;
-  low = low;
-  message = message;
-  immediate = immediate;
-  end = end;
-  told = told;
-})
+answer_of {K} h t c set message immediate low l end told = grind arith
 
 pub aborted_of : (r : Record) (t : List ℕ) → IsOf r t → (l : Leaving) → l.end ≡ aborted_record r
     → IsToldSo (verdicts.Served blocks.Good) l → IsAborted l t

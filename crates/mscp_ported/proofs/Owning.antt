@@ -42,22 +42,7 @@ module _ {K : Type 0} (picks : Picking K) (start : Port K) where
       (b : Buffer) (r s : Record) (bytes : List ℕ) → Own a.0 calls a.1 b r bytes
       → comes b.reference call a.0 ≡ false → done_by b.reference call (wish calls) a.0 ≡ []
       → filter (is_numbered b.reference) p.controller.waiting ≡ s ∷ [] → Alike r s → Own p (call ∷ calls) a b s bytes
-  carries p call calls a b r s bytes own other none sole alike = record {
-    sole = sole;
-    message = ap (λ c. cond c (Some (text_of call)) (asked picks b.reference start a.0 calls a.1)) other
-        ∙ own.message;
-    kept = own.kept;
-    command = alike.command ∙ own.command;
-    whole = alike.weight ∙ own.whole ∙ ap (λ (c : Command). order_weight c.order) (sym alike.command);
-    good = alike.good ∙ own.good ∙ sym alike.done;
-    low = subst (λ n. n < s.weight) (sym alike.done) (subst (λ n. r.done < n) (sym alike.weight) own.low);
-    parts = ap (λ c. cond c [] (moved picks b.reference start a.0 calls a.1
-        ++ done_by b.reference call (wish calls) a.0)) other
-        ∙ ap (λ zs. moved picks b.reference start a.0 calls a.1 ++ zs) none
-        ∙ append-nil (moved picks b.reference start a.0 calls a.1) ∙ own.parts
-        ∙ ap (λ (c : Command). parts_of c.order c.unit b.address r.done) (sym alike.command)
-        ∙ ap (parts_of s.command.order s.command.unit b.address) (sym alike.done);
-  }
+  carries p call calls a b r s bytes own other none sole alike = grind (arith, append-nil)
 
   pub quiet : (p : Port K) (call : Call) (calls : List Call) (a : Answered picks start (call ∷ calls) p)
       → ((n : ℕ) → comes n call a.0 ≡ false) → ((n : ℕ) → done_by n call (wish calls) a.0 ≡ [])

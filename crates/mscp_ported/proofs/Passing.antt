@@ -59,17 +59,7 @@ module _ {c : Settings} {Told : Verdict → Record → Type 0} {K : Type 0} (blo
         (told_figure old e x.0 x.1 o.0 (shaped e t.out.1) (x.2 o.0 o.1))
 
     taken_passes : Passes
-    taken_passes = record {
-      more = [];
-      behind = ap (λ os. flat_map pending_in (map said_in os) ++ pending_held new)
-          (begun_one old.outgoing new.outgoing
-          (record { bytes = record { items = told_end old e }; kind = kinds.End }) t.nothing t.out.2)
-          ∙ ap (λ xs. (xs ++ []) ++ pending_held new) pending
-          ∙ ap (λ (h : Holdings K). pending_end e ∷ map pending_end (ends_of h)) t.controller
-          ∙ sym (ap (map pending_end) is) ∙ sym (append-nil (pending_held old));
-      of_these = tt;
-      poll = λ b done x. absurd (not_read b done x);
-    }
+    taken_passes = grind (arith, begun_one, pending, ends_of, is, append-nil, not_read)
 
   pub next_passes : Passes
   next_passes = elim (says_is old new r.says) [ inl x ↦ taken_passes x.0 | inr n ↦ still n ]

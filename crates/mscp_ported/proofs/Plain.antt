@@ -13,46 +13,7 @@ none_asked l (Some w) = tt
 
 pub anew : {K : Type 0} (s : Stage) (old new : Port K) (v : Option Wish) → IsAsNew s old new → has_area s ≡ false
     → InStep (look new) silence v [] []
-anew s old new v n no_area = record {
-  names = record {
-    first_so = sym (ap (λ w. w.first) n.words);
-    second_so = sym (ap (λ w. w.second) n.words);
-    answer_so = subst (λ o. IfSome o (λ w. 0 ≡ w)) (sym n.written) tt;
-    named_so = sym n.rings;
-    area = λ h. search (arith, h, no_area, ap has_area n.stage);
-    early = λ h. n.rings;
-    wide = subst (λ o. IfSome o IsWide) (sym n.rings) tt;
-  };
-  counts = record {
-    told_so = n.responses;
-    heard_so = n.commands;
-    packets = tt;
-    messages = tt;
-    none = λ e. (refl, refl);
-  };
-  hand = record {
-    fits = subst (λ t. Fits (look new) t Idle) (sym n.task) tt;
-    asked = subst (λ t. IfSome v (λ x. IsAsked (look new) t x)) (sym n.task) (none_asked (look new) v);
-    up = λ h. absurd (subst (λ t. IsOfRings t) n.task h);
-    step = λ e. search (arith, n.task, e);
-    clear = λ h. absurd (subst (λ t. IsClear t) n.task h);
-    own = tt;
-    idle = λ h. tt;
-    wished = λ e h. absurd (subst (λ t. IsOfBlock t) n.task h);
-  };
-  speech = record {
-    out = λ h. absurd (h n.outgoing);
-    has = λ h. absurd (subst (λ t. NeedsOut t) n.task h);
-    tells = (
-      [],
-      ap (λ o. map said_in (option_to_list o)) n.outgoing,
-      tt,
-      subst (λ x. HasLeft x Idle new.outgoing new.untold new.more) (sym n.task) (n.untold ∙ sym n.more),
-    );
-  };
-  hears = ap (λ t. in_hand t Idle) n.task;
-  ended = λ d. record { talk = refl; none_said = refl; none_accepted = refl };
-}
+anew s old new v n no_area = grind (arith, has_area, look, none_asked, in_hand)
 
 first_silent : (s : Stage) → stepped s stages.First silence ≡ silence
 first_silent s = grind arith
@@ -106,35 +67,7 @@ pub retask : (l : Look) (t : Talk) (w v : Option Wish) (said : List Said) (texts
     → (is_dead l.stage ≡ true → IsEnd (record t { turn = turn }) said texts)
     → InStep (record l { word = word; task = task }) (record t { turn = turn }) v said texts
 retask l t w v said texts word task turn k answer fits asked no_rings no_step clear own idle calm before ended =
-    let q = not_of_rings task no_rings in record {
-      names = record {
-        first_so = k.names.first_so;
-        second_so = k.names.second_so;
-        answer_so = answer;
-        named_so = k.names.named_so;
-        area = k.names.area;
-        early = k.names.early;
-        wide = k.names.wide;
-      };
-      counts = k.counts;
-      hand = record {
-        fits = fits;
-        asked = asked;
-        up = λ h. absurd (no_rings h);
-        step = λ e. absurd (no_step e);
-        clear = clear;
-        own = own;
-        idle = idle;
-        wished = λ e h. no_rings (block_rings task h);
-      };
-      speech = record {
-        out = k.speech.out;
-        has = λ h. absurd (q.0 h);
-        tells = told_on l.more l.task task t.turn turn l.outgoing l.untold t.told said calm q.1 k.speech.tells;
-      };
-      hears = ap (λ xs. map message_text t.heard ++ xs) (q.2 turn ∙ sym before) ∙ k.hears;
-      ended = ended;
-    }
+    grind (arith, not_of_rings, block_rings, told_on)
 
 pub dropped : (l : Look) (t : Talk) (w : Option Wish) (said : List Said) (texts : List (List ℕ)) (after : Task)
     → StaysOrDrops l.task after → InStep l t w said texts → InStep (record l { task = after }) t w said texts

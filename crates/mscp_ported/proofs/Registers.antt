@@ -23,82 +23,13 @@ pub staged : (l : Look) (t : Talk) (w : Option Wish) (said : List Said) (texts :
     → l.stage ≡ s → s ≢ stages.Up → s ≢ stages.Clearing → (is_loud s ≡ true → is_loud s' ≡ true)
     → (has_area s' ≡ true → has_area s ≡ true) → (is_early s' ≡ true → is_early s ≡ true) → is_dead s' ≡ false
     → InStep l t w said texts → InStep (record l { stage = s' }) t w said texts
-staged l t w said texts s s' at not_up not_clearing loud area early alive k = record {
-  names = record {
-    first_so = k.names.first_so;
-    second_so = k.names.second_so;
-    answer_so = k.names.answer_so;
-    named_so = k.names.named_so;
-    area = λ h. k.names.area (ap has_area at ∙ area h);
-    early = λ h. k.names.early (ap is_early at ∙ early h);
-    wide = k.names.wide;
-  };
-  counts = k.counts;
-  hand = record {
-    fits = fits l.task k.hand.fits;
-    asked = all l.task w k.hand.asked;
-    up = λ h. absurd (not_up (sym at ∙ k.hand.up h));
-    step = λ e. loud (sym (ap is_loud at) ∙ k.hand.step e);
-    clear = λ h. absurd (not_clearing (sym at ∙ k.hand.clear h));
-    own = k.hand.own;
-    idle = λ h. k.hand.idle (λ u. not_up (sym at ∙ u));
-    wished = k.hand.wished;
-  };
-  speech = record {
-    out = λ h. absurd (not_up (sym at ∙ k.speech.out h));
-    has = k.speech.has;
-    tells = k.speech.tells;
-  };
-  hears = k.hears;
-  ended = λ d. absurd (search (arith, d, alive));
-}
-  where
-    fits : (task : Task) → Fits l task t.turn → Fits (record l { stage = s' }) task t.turn
-    fits task h = h
-
-    all : (task : Task) (o : Option Wish) → IfSome o (λ x. IsAsked l task x)
-        → IfSome o (λ x. IsAsked (record l { stage = s' }) task x)
-    all task o h = h
+staged l t w said texts s s' at not_up not_clearing loud area early alive k = grind (arith, has_area, is_early, is_loud)
 
 -- the communication area is to be cleared
 pub begins_to_clear : (l : Look) (t : Talk) (w : Option Wish) (said : List Said) (texts : List (List ℕ)) (s : Stage)
     → l.stage ≡ s → IsStill s → l.rings ≢ None → InStep l t w said texts
     → InStep (record l { stage = stages.Clearing; task = tasks.Clear 0 }) t w said texts
-begins_to_clear l t w said texts s at still some k =
-    let calm = still_open l t.turn w s k.hand at still in record {
-      names = record {
-        first_so = k.names.first_so;
-        second_so = k.names.second_so;
-        answer_so = k.names.answer_so;
-        named_so = k.names.named_so;
-        area = λ h. some;
-        early = λ h. search (arith, h);
-        wide = k.names.wide;
-      };
-      counts = k.counts;
-      hand = record {
-        fits = calm.0;
-        asked = any w;
-        up = λ h. absurd h;
-        step = λ e. search (arith, e);
-        clear = λ h. refl;
-        own = k.hand.own;
-        idle = λ h. k.hand.idle (λ u. still.not_up (sym at ∙ u));
-        wished = λ e h. h;
-      };
-      speech = record {
-        out = λ h. absurd (still.not_up (sym at ∙ k.speech.out h));
-        has = λ h. absurd h;
-        tells = told_on l.more l.task (tasks.Clear 0) t.turn t.turn l.outgoing l.untold t.told said calm.2 (λ h. h)
-            k.speech.tells;
-      };
-      hears = ap (λ xs. map message_text t.heard ++ xs) (sym calm.1) ∙ k.hears;
-      ended = λ d. absurd (search (arith, d));
-    }
-  where
-    any : (o : Option Wish) → IfSome o (λ x. Unit {0})
-    any None = tt
-    any (Some x) = tt
+begins_to_clear l t w said texts s at still some k = grind (arith, still_open, told_on)
 
 -- ---- IP
 

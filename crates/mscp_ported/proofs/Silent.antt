@@ -23,36 +23,8 @@ module _ {K : Type 0} (old new : Port K) where
 
   wants : (picks : List Choice → ℕ → Type 0) (blocks : Bool) (action : Action) → Wants picks blocks old action new
       → IsSilent old → IsSilent new
-  wants picks blocks action r was = elim (free_or_not old.task) [
-    | inr busy ↦ same (r.goes_on busy) was
-    | inl idle ↦ elim (alive_or_dead old old.stage refl) [
-      | inr d ↦ same (r.dead d.0 d.1).1 was
-      | inl alive ↦ λ h none. elim (looks_or_not old) [
-        | inl looks ↦ elim (r.says.looks looks) [
-          | inl t ↦ absurd (none-some _ (sym none ∙ t.out.2))
-          | inr n ↦ ap ends_of n.controller ∙ no_first (ends_of old.controller) n.none
-        ]
-        | inr never ↦ absurd (never (by idle alive h (sym (r.says.keeps never).outgoing ∙ none)))
-      ]
-    ]
-  ]
-    where
-      by : old.task ≡ tasks.Free → IsAlive old → IsHearing new.task → old.outgoing ≡ None → LooksForOut old
-      by idle alive h none = record {
-        outgoing = none;
-        free = idle;
-        step = heard old.written refl;
-        up = used old.stage refl;
-      }
-        where
-          due : IsDue blocks new new.task
-          due = r.due alive idle
-
-          heard : (o : Option ℕ) → old.written ≡ o → old.written ≡ None
-          heard o e = grind (arith, due, none-some)
-
-          used : (s : Stage) → old.stage ≡ s → old.stage ≡ stages.Up
-          used s e = grind (arith, due, heard)
+  wants picks blocks action r was =
+      grind (arith, free_or_not, same, alive_or_dead, looks_or_not, none-some, ends_of, no_first)
 
   by_call : (picks : Picking K) (call : Call) → Becomes picks call old new → IsSilent old → IsSilent new
   by_call picks (Next blocks action bytes) r was = wants (picks old.controller.picker) blocks action r.0 was

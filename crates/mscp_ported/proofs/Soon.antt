@@ -67,12 +67,8 @@ one t = grind arith
 pub in_use_so : {K : Type 0} (picks : Picking K) (hardware : Hardware) (credits : ℕ) (controller : Holdings K)
     (start p : Port K) (before : List Call) → IsMadeOf hardware credits controller start → AsksAlways before
     → (b : Answered picks start before p) → HasRoom picks start p before b → p.stage ≡ stages.Up → InUse p
-in_use_so picks hardware credits controller start p before made asks b has up = record {
-  up = up;
-  room = room picks hardware credits controller start made p before b has;
-  heard = heard_so picks hardware credits controller start made p before asks b (ap is_late up);
-  clear = uncleared picks hardware credits controller start made p before asks b up;
-}
+in_use_so picks hardware credits controller start p before made asks b has up =
+    grind (arith, room, heard_so, is_late, uncleared)
 
 pub tells_soon : {K : Type 0} (picks : Picking K) (hardware : Hardware) (credits : ℕ) (controller : Holdings K)
     (start p q : Port K) (before calls : List Call) (o : Outgoing) → IsMadeOf hardware credits controller start

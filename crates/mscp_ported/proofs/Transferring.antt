@@ -35,16 +35,7 @@ pub record GoesOn (d : Drive) (r : Record) (k : Block) : Type 0 where
   pub more : 1 < left_of r
 
 pub goes_on_so : (d : Drive) (r : Record) (k : Block) → end_given k d r ≡ None → GoesOn d r k
-goes_on_so d r k e = by (touches d.online r.command.order) refl k refl (nat_lt 1 (left_of r)) refl e
-  where
-    by : (x : Bool) → touches d.online r.command.order ≡ x → (q : Block) → k ≡ q → (y : Bool)
-        → nat_lt 1 (left_of r) ≡ y
-        → cond (x && is_good_block q && y) None (Some (outcome_at d.unit d.online r.command r.good k)) ≡ None
-        → GoesOn d r k
-    by true f blocks.Good g true h e = record { online = f; good = g; more = search (arith, h) }
-    by true f blocks.Good g false h e = absurd (none-some _ (sym e))
-    by true f (blocks.Bad status) g y h e = absurd (none-some _ (sym e))
-    by false f q g y h e = absurd (none-some _ (sym e))
+goes_on_so d r k e = grind (arith, nat_lt, none-some)
 
 -- which block such a step moves
 pub block_so : (online : Bool) (order : Order) (done : ℕ) → touches online order ≡ true

@@ -43,19 +43,7 @@ hears_quiet area side slot = grind arith
 
 -- what was read is a slot that a message may lie in, or its header
 slide_hears : (bytes : List ℕ) (t : Task) → IsHearing (task_read bytes t) → IsHearing t
-slide_hears bytes (tasks.Slot Responses) = by (is_owned (num bytes 0 4))
-  where
-    by : (b : Bool) → IsHearing (cond b (tasks.Packet (record { word = num bytes 0 4 })) tasks.Free) → ⊥
-    by true h = h
-    by false h = h
-slide_hears bytes (tasks.Neighbour side) = by (is_owned (num bytes 0 4))
-  where
-    by : (b : Bool) → IsHearing (cond b (tasks.Word side) tasks.Free) → ⊥
-    by true h = h
-    by false h = h
-slide_hears bytes (tasks.Slot Commands) = λ h. tt
-slide_hears bytes (tasks.Header slot) = λ h. tt
-slide_hears bytes t = λ h. h
+slide_hears bytes x1 = grind arith
 
 slide_text : (t : Task) → IsSlide t → IsReadingText t → ⊥
 slide_text (tasks.Text slot size foreign) of reading = of
@@ -70,12 +58,7 @@ forgets t e h = subst (λ x. IsHearing x) e h
 module _ {K : Type 0} {old new : Port K} where
   on : (x : Port K) → new ≡ x → (IsHearing x.task → IsHearing old.task) → x.controller ≡ old.controller
       → x.outgoing ≡ old.outgoing → x.owes_block ≡ old.owes_block → IsHearing new.task → ReadsOn old new
-  on x e back controller outgoing owes h = record {
-    hears = back (subst (λ (p : Port K). IsHearing p.task) e h);
-    controller = ap (λ (p : Port K). p.controller) e ∙ controller;
-    outgoing = ap (λ (p : Port K). p.outgoing) e ∙ outgoing;
-    owes = ap (λ (p : Port K). p.owes_block) e ∙ owes;
-  }
+  on x e back controller outgoing owes h = grind arith
 
   -- behind a text no other is looked for at once
   pub text_quiet : {bytes : List ℕ} {done : Unit} → Seen bytes done old new → IsReadingText old.task

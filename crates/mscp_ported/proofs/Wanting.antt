@@ -157,43 +157,7 @@ module _ {K : Type 0} (picks : List Choice → ℕ → Type 0) (blocks : Bool) (
       (sym (none_said old.outgoing old.outgoing said refl)) k.speech.tells))
 
   dead_so : (code : ℕ) → old.stage ≡ stages.Dead code → action ≡ actions.Rest → new ≡ old → Follows
-  dead_so code at rest e =
-      let same : look new ≡ look old = ap look e in
-      let silent : t ≡ silence = (k.ended (ap is_dead at)).talk in
-      record {
-        after = subst (λ l. After (Next blocks action bytes) old l t w (Some
-            (record { action = action; bytes = bytes }))
-            said texts) (sym same)
-            (unmoved (Next blocks action bytes) old (look old) t w (Some
-            (record { action = action; bytes = bytes })) said
-            texts refl refl (record { talk = λ w t. refl; no_reset = no_reset; accepts = refl }) (record {
-              names = k.names;
-              counts = k.counts;
-              hand = record {
-                fits = k.hand.fits;
-                asked = subst (λ a. IsAsked (look old) old.task (record { action = a; bytes = bytes })) (sym rest)
-                    (calm old.task refl);
-                up = k.hand.up;
-                step = k.hand.step;
-                clear = k.hand.clear;
-                own = k.hand.own;
-                idle = k.hand.idle;
-                wished = λ e h. none-some (record { action = action; bytes = bytes }) (sym e);
-              };
-              speech = k.speech;
-              hears = k.hears;
-              ended = k.ended;
-            }));
-        owed = subst (λ x. IsOwed new.stage x x.turn action bytes) (sym silent)
-            (subst (λ a. IsOwed new.stage silence silence.turn a bytes) (sym rest) tt);
-      }
-    where
-      not_up : {P : Type 0} → IsOfRings old.task → P
-      not_up h = absurd (search (arith, k.hand.up h, at))
-
-      calm : (task : Task) → old.task ≡ task
-          → IsAsked (look old) task (record { action = actions.Rest; bytes = bytes })
-      calm task e = grind (arith, is_loud, not_up)
+  dead_so code at rest e = grind (arith, look, unmoved, no_reset, none-some, is_loud)
 
   pub follows : Follows
   follows = elim (alive_or_dead old old.stage refl) [
