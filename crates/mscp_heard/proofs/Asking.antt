@@ -44,16 +44,7 @@ submit_is old new c message e = by (credit_fault old.credits (opcode_byte c.orde
 
 pub submit_same : (old new : PortAccount) (c : Command) (fault : HostFault)
     → port_submits old c ≡ (Err fault, new) → new ≡ old
-submit_same old new c fault e = by (credit_fault old.credits (opcode_byte c.order)) e
-  where
-    judged : (o : Option HostFault) → submitted_with old c (submits_unless old.account c o) ≡ (Err fault, new)
-        → new ≡ old
-    judged (Some other) h = sym (ap (λ x. x.1) h)
-    judged None h = absurd (search (arith, h))
-
-    by : (o : Option HostFault) → submits_unless_faulty old c o ≡ (Err fault, new) → new ≡ old
-    by (Some other) h = sym (ap (λ x. x.1) h)
-    by None h = judged (refusal old.account (opcode_byte c.order) c.reference) h
+submit_same old new c fault e = grind arith
 
 -- ---- a poll
 
@@ -111,14 +102,4 @@ poll_is old new n message e = by (nat_eq old.credits 0 && is_to_poll old.account
 
 pub poll_same : (old new : PortAccount) (n : ℕ) (answer : Result Poll HostFault) → is_ask answer ≡ false
     → port_polls old n ≡ (answer, new) → new ≡ old
-poll_same old new n answer none e = by (nat_eq old.credits 0 && is_to_poll old.account) e
-  where
-    with_so : (x : Result Poll HostFault × Account) → polled_with old n x ≡ (answer, new) → new ≡ old
-    with_so (Ok (polls.Ask message), a) h = absurd (search (arith, none, ap (λ y. is_ask y.0) h))
-    with_so x h = sym (ap (λ y. y.1) h)
-
-    by : (b : Bool) → ◌≡◌ {A = Result Poll HostFault × PortAccount}
-        (cond b (Err Rattle.mscp_host.specs.declared.news.HostFault.TheVariants.NoCredit, old)
-        (polled_with old n (polls_oldest old.account n))) (answer, new) → new ≡ old
-    by true h = sym (ap (λ y. y.1) h)
-    by false h = with_so (polls_oldest old.account n) h
+poll_same old new n answer none e = grind (arith, nat_eq)

@@ -108,11 +108,7 @@ find_left n m (a ∷ asked) d = by (is_of m a) refl (is_of n a) refl (find_left 
         → find (is_of n) (without_by (is_of m) asked) ≡ find (is_of n) asked
         → find (is_of n) (cond b asked (a ∷ without_by (is_of m) asked))
         ≡ cond c (Some a) (find (is_of n) asked)
-    by true e true f rest = absurd (false≢true (sym d ∙ eq-eqb n m
-        (sym (eqb-true a.reference n f) ∙ eqb-true a.reference m e)))
-    by true e false f rest = refl
-    by false e c f rest = ap (λ x. cond x (Some a) (find (is_of n) (without_by (is_of m) asked))) f
-        ∙ ap (λ o. cond c (Some a) o) rest
+    by x0 e x2 f rest = grind (arith, false≢true, eq-eqb, eqb-true)
 
 -- ---- a command is sent
 
@@ -127,26 +123,14 @@ owes_more asked cs x c new own few o = record {
 }
   where
     one : (n : ℕ) (b : Bool) → nat_eq c.number n ≡ b → tally n (cs ++ c ∷ []) ≤ 1
-    one n true is =
-        let none : tally n cs ≡ 0 = none_owed asked cs n o.known
-        (subst (λ m. find (is_of m) asked ≡ None) (eqb-true c.number n is) new) in
-        let here : tally n (c ∷ []) ≡ 1 = ap (λ b. cond b (1 + 0) 0) is in
-        omega (arith, tally_append n cs (c ∷ []), none, here)
-    one n false is =
-        let here : tally n (c ∷ []) ≡ 0 = ap (λ b. cond b (1 + 0) 0) is in
-        omega (arith, tally_append n cs (c ∷ []), here, o.once n)
+    one n x1 is = grind (arith, none_owed, eqb-true, tally_append)
 
 -- ---- the first claim is met
 
 -- no other has its number
 pub rest_apart : (asked : List Asked) (c : Claim) (cs : List Claim) → Owes asked (c ∷ cs)
     → AllByRecursion (λ d. nat_eq d.number c.number ≡ false) cs
-rest_apart asked c cs o = others_apart c.number cs (few (tally c.number cs)
-    (subst (λ b. cond b (1 + tally c.number cs) (tally c.number cs) ≤ 1) (eq-eqb c.number c.number refl)
-    (o.once c.number)))
-  where
-    few : (k : ℕ) → 1 + k ≤ 1 → k ≡ 0
-    few k h = omega (arith, h)
+rest_apart asked c cs o = grind (arith, others_apart, eq-eqb)
 
 -- by an end that was heard, or not
 pub owes_less : (asked : List Asked) (c : Claim) (cs : List Claim) → Owes asked (c ∷ cs)

@@ -34,18 +34,8 @@ noted_as host us us' ts ts' ms ms' e f g n = subst (λ x. Noted host x ts' ms') 
 pub noted_dealt : (Took : List ℕ → Type 0) (texts : List (List ℕ)) (host : PortAccount) (us us' : List Said)
     (ts ts' ms ms' : List (List ℕ))
     → Dealt Took texts us ts ms us' ts' ms' → Noted host us ts ms → Noted host us' ts' ms'
-noted_dealt Took texts host us us' ts ts' ms ms' (inl q) n = noted_as host us us' ts ts' ms ms' q.0 q.1 q.2 n
-noted_dealt Took texts host us us' ts ts' ms ms' (inr (inl q)) n =
-    noted_as host (us ++ q.0 ∷ []) us' ts ts' ms ms' q.2 q.3 q.4 (noted_news host us ts q.0 ms q.1 n)
-noted_dealt Took texts host us us' ts ts' ms ms' (inr (inr (inl q))) n =
-    noted_as host (us ++ q.0 ∷ []) us' (filter (λ x. not (has_number (num q.0.text 0 4) x)) ts) ts' ms ms' q.4 q.5 q.6
-    (noted_end host us ts q.0 q.1 ms q.2 q.3 n)
-noted_dealt Took texts host us us' ts ts' ms ms' (inr (inr (inr (inl q)))) n =
-    noted_as host us us' (ts ++ q.0 ∷ []) ts' ms' ms' q.3 q.4 refl
-    (copy_taken host us ts q.0 q.1 ms' q.2 (subst (λ x. Noted host us ts x) q.5 n))
-noted_dealt Took texts host us us' ts ts' ms ms' (inr (inr (inr (inr q)))) n =
-    noted_as host (us ++ q.0 ∷ []) us' ts ts' ms' ms' q.7 q.8 refl
-    (copy_answered host us ts q.0 q.1 q.2 ms' q.3 q.4 (inr q.5) q.6 (subst (λ x. Noted host us ts x) q.9 n))
+noted_dealt x0 texts host us us' ts ts' ms ms' x9 n =
+    grind (arith, noted_as, noted_news, noted_end, copy_taken, copy_answered)
 
 copy_text : (text message : List ℕ) → IsCopyOf text message → IsTextOf text message
 copy_text text message is = record {
@@ -55,13 +45,7 @@ copy_text text message is = record {
 
 copied_read : (call : Call) (t : Talk) (ms : List (List ℕ)) → ReadsInOrder IsCopyOf call t ms
     → ReadsInOrder IsTextOf call t ms
-copied_read (WasRead bytes (Ok done)) t ms h = by t.turn h
-  where
-    by : (turn : Turn) → IsNextText IsCopyOf turn (length t.heard) ms bytes
-        → IsNextText IsTextOf turn (length t.heard) ms bytes
-    by (Opened slot header) h = (h.0, (h.1.0, h.1.1, copy_text bytes h.1.0 h.1.2))
-    by turn h = tt
-copied_read call t ms h = tt
+copied_read x0 t ms h = grind (arith, copy_text)
 
 pub copied : {K : Type 0} (picks : Picking K) (start p : Port K) (deeds : List Deed)
     (a : Answered picks start (calls_in deeds) p) → AreJoined IsCopyOf picks start p deeds a
@@ -119,10 +103,7 @@ module _ {K : Type 0} (picks : Picking K) (c : Settings) (picker : K) (ends : Po
         → taken_by call a.0 ≡ []
         → without_ends (ends_said_by call a.0 p) (awaited picks start a.0 calls a.1) ++ taken_by call a.0
         ≡ awaited picks start a.0 calls a.1
-    awaited_same ended taken =
-        ap (λ xs. without_ends xs (awaited picks start a.0 calls a.1) ++ taken_by call a.0) ended
-        ∙ ap (λ xs. awaited picks start a.0 calls a.1 ++ xs) taken
-        ∙ append-nil (awaited picks start a.0 calls a.1)
+    awaited_same ended taken = grind (arith, append-nil)
 
     unread_same : accepted_by call a.0 ≡ []
         → drop (length (accepted picks start a.0 calls a.1 ++ accepted_by call a.0)) sent_so

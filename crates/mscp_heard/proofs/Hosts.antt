@@ -21,17 +21,7 @@ few_bytes x = omega arith
 
 order_bytes : (reference unit : ℕ) (order : Order)
     → bytes_in (command_bytes (record { reference = reference; unit = unit; order = order })) ≤ bytes_of order
-order_bytes reference unit (orders.Move moves.Access count block) = few_bytes count
-order_bytes reference unit (orders.Move moves.Erase count block) = few_bytes count
-order_bytes reference unit (orders.Move moves.Compare count block) = few_bytes count
-order_bytes reference unit (orders.Move moves.Read count block) = few_bytes count
-order_bytes reference unit (orders.Move moves.Write count block) = few_bytes count
-order_bytes reference unit (orders.Invalid byte status) = by (is_transfer byte)
-  where
-    by : (b : Bool) → cond b 0 0 ≤ 0
-    by true = omega arith
-    by false = omega arith
-order_bytes reference unit order = omega arith
+order_bytes reference unit x2 = grind (arith, few_bytes)
 
 -- ---- what is found
 

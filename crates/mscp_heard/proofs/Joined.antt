@@ -206,14 +206,7 @@ module _ {K : Type 0} (picks : Picking K) (c : Settings) (picker : K) (ends : Po
       }
 
   pub numbered : (h : PortHistory) (host : PortAccount) → PortAnswered fresh_of_port h host → SameNumbers host
-  numbered h host r =
-      let k = history h host r in
-      let hist = map seen h in
-      ap (map (λ (x : Asked). x.reference)) k.asked
-      ∙ same_numbers hist (length hist) (outstanding hist (length h))
-      ∙ ap (λ j. map (λ x. x.reference) (map (submission_at hist (length hist)) (outstanding hist j)))
-      (sym (length-map h seen))
-      ∙ sym (ap (λ (x : Rattle.mscp_host.specs.Accounts.Account). map (λ s. s.reference) x.outstanding) k.host.keeps)
+  numbered h host r = grind (arith, same_numbers, length-map)
 
   -- ---- each deed
 
@@ -226,19 +219,11 @@ module _ {K : Type 0} (picks : Picking K) (c : Settings) (picker : K) (ends : Po
     as_last : (m : PortMoment) → Inv new.asked (all_said picks start p calls a)
         (cond (is_hearing m) (suc (hearings h)) (hearings h)) (awaited picks start p calls a) (sent h ++ sent_by m)
         (length (accepted picks start p calls a)) → Then m
-    as_last m x = subst (λ k. Inv new.asked (all_said picks start p calls a) k
-        (awaited picks start p calls a) (sent (h ++ m ∷ [])) (length (accepted picks start p calls a)))
-        (sym (heard_last h m))
-        (subst (λ ms. Inv new.asked (all_said picks start p calls a)
-        (cond (is_hearing m) (suc (hearings h)) (hearings h)) (awaited picks start p calls a) ms
-        (length (accepted picks start p calls a))) (sym (sent_last h m)) x)
+    as_last m x = grind (arith, heard_last, sent_last)
 
     still : new.asked ≡ mid.asked → Inv new.asked (all_said picks start p calls a) (hearings h)
         (awaited picks start p calls a) (sent h ++ []) (length (accepted picks start p calls a))
-    still same = subst (λ xs. Inv xs (all_said picks start p calls a) (hearings h)
-        (awaited picks start p calls a) (sent h ++ []) (length (accepted picks start p calls a))) (sym same)
-        (subst (λ ms. Inv mid.asked (all_said picks start p calls a) (hearings h)
-        (awaited picks start p calls a) ms (length (accepted picks start p calls a))) (sym (append-nil (sent h))) i)
+    still same = grind (arith, append-nil)
 
     pub moment : (m : PortMoment) → HasNumber m → HearsInOrder m (talk_of picks start p calls a) (hearings h)
         → PortAnswers mid m new → Then m

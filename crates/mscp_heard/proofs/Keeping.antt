@@ -46,13 +46,7 @@ none_left m n (x ∷ xs) e = by (is_of n x) refl e (λ h. none_left m n xs h)
     by : (b : Bool) → is_of n x ≡ b → cond b (Some x) (find (is_of n) xs) ≡ None
         → (find (is_of n) xs ≡ None → find (is_of n) (without_by (is_of m) xs) ≡ None)
         → find (is_of n) (cond (is_of m x) xs (x ∷ without_by (is_of m) xs)) ≡ None
-    by true is h rest = absurd (none-some x (sym h))
-    by false is h rest = cases (is_of m x) (rest h)
-      where
-        cases : (c : Bool) → find (is_of n) (without_by (is_of m) xs) ≡ None
-            → find (is_of n) (cond c xs (x ∷ without_by (is_of m) xs)) ≡ None
-        cases true rest = h
-        cases false rest = ap (λ d. cond d (Some x) (find (is_of n) (without_by (is_of m) xs))) is ∙ rest
+    by x0 is h rest = grind (arith, none-some)
 
 pub apart_left : (n : ℕ) (xs : List Asked) → AreApart xs → AreApart (without_by (is_of n) xs)
 apart_left n [] all = tt
@@ -120,15 +114,7 @@ last_left (y ∷ xs) n x d = by (nat_eq y.reference n) refl (last_left xs n x d)
     by : (b : Bool) → nat_eq y.reference n ≡ b → last_told (without n xs) x ≡ last_told xs x
         → told_of (find (has_reference x) (cond b xs (y ∷ without n xs)))
         ≡ told_of (cond (nat_eq y.reference x) (Some y) (find (has_reference x) xs))
-    by true is rest = sym (ap (λ c. told_of (cond c (Some y) (find (has_reference x) xs)))
-        (ap (λ k. nat_eq k x) (eqb-true y.reference n is) ∙ d))
-    by false is rest = cases (nat_eq y.reference x) rest
-      where
-        cases : (c : Bool) → last_told (without n xs) x ≡ last_told xs x
-            → told_of (cond c (Some y) (find (has_reference x) (without n xs)))
-            ≡ told_of (cond c (Some y) (find (has_reference x) xs))
-        cases true rest = refl
-        cases false rest = rest
+    by x0 is rest = grind (arith, nat_eq, eqb-true)
 
 pub every_without : (P : Submission → Type 0) (n : ℕ) (xs : List Submission) → AllByRecursion P xs
     → AllByRecursion P (without n xs)
@@ -170,13 +156,7 @@ module _ (F : ℕ → ℕ) (Served : ℕ → Type 0) (old new : PortAccount) (us
 
   longer : (n : ℕ) → tally n (claims us ts (ms ++ m ∷ []))
       ≡ tally n (claims us ts ms) + tally n (claim_of m ∷ [])
-  longer n =
-      let a = tally_append n (claims_said us) (map claim_of ts ++ map claim_of (ms ++ m ∷ [])) in
-      let b = tally_append n (map claim_of ts) (map claim_of (ms ++ m ∷ [])) in
-      let c = ap (tally n) (map-append claim_of ms (m ∷ [])) ∙ tally_append n (map claim_of ms) (claim_of m ∷ []) in
-      let e = tally_append n (claims_said us) (map claim_of ts ++ map claim_of ms) in
-      let f = tally_append n (map claim_of ts) (map claim_of ms) in
-      omega (arith, a, b, c, e, f)
+  longer n = grind (arith, tally_append, claims_said, claim_of, tally, map-append)
 
   placed_now : (n : ℕ) (y : Asked) → find (is_of n) new.asked ≡ Some y → 1 ≤ tally n (claims us ts (ms ++ m ∷ []))
   placed_now n y e = by (nat_eq (num m 0 4) n) refl

@@ -19,13 +19,7 @@ answered_last old new (x ∷ h) m r =
 
 pub heard_last : (h : PortHistory) (m : PortMoment)
     → hearings (h ++ m ∷ []) ≡ cond (is_hearing m) (suc (hearings h)) (hearings h)
-heard_last h m = ap length (filter-append is_hearing h (m ∷ []))
-    ∙ length-append (filter is_hearing h) (filter is_hearing (m ∷ []))
-    ∙ by (is_hearing m) (length (filter is_hearing h))
-  where
-    by : (b : Bool) (n : ℕ) → n + length (cond b (m ∷ []) []) ≡ cond b (suc n) n
-    by true n = omega arith
-    by false n = omega arith
+heard_last h m = grind (arith, filter-append, length-append)
 
 pub sent_last : (h : PortHistory) (m : PortMoment) → sent (h ++ m ∷ []) ≡ sent h ++ sent_by m
 sent_last h m = flat_map-append sent_by h (m ∷ []) ∙ ap (λ xs. sent h ++ xs) (append-nil (sent_by m))

@@ -48,16 +48,7 @@ tally_one n m (x ∷ ts) t e = by (has_number n x) e (tally_one n m ts t)
     here : (xs : List (List ℕ)) → x ≡ t → xs ≡ ts
         → cond (nat_eq (num x 0 4) m) (1 + tally m (map claim_of ts)) (tally m (map claim_of ts))
         ≡ cond (nat_eq (num t 0 4) m) (1 + 0) 0 + tally m (map claim_of xs)
-    here xs same all =
-        subst (λ ys. cond (nat_eq (num x 0 4) m) (1 + tally m (map claim_of ts)) (tally m (map claim_of ts))
-        ≡ cond (nat_eq (num t 0 4) m) (1 + 0) 0 + tally m (map claim_of ys)) (sym all)
-        (subst (λ y. cond (nat_eq (num x 0 4) m) (1 + tally m (map claim_of ts)) (tally m (map claim_of ts))
-        ≡ cond (nat_eq (num y 0 4) m) (1 + 0) 0 + tally m (map claim_of ts)) same
-        (sum (nat_eq (num x 0 4) m) (tally m (map claim_of ts))))
-      where
-        sum : (b : Bool) (k : ℕ) → cond b (1 + k) k ≡ cond b (1 + 0) 0 + k
-        sum true k = omega arith
-        sum false k = omega arith
+    here xs same all = grind (arith, nat_eq, tally, claim_of)
 
     other : (b : Bool) (x y z : ℕ) → x ≡ y + z → cond b (1 + x) x ≡ y + cond b (1 + z) z
     other true x y z e = omega (arith, e)
@@ -69,11 +60,7 @@ tally_one n m (x ∷ ts) t e = by (has_number n x) e (tally_one n m ts t)
         → cond (nat_eq (num x 0 4) m) (1 + tally m (map claim_of ts)) (tally m (map claim_of ts))
         ≡ cond (nat_eq (num t 0 4) m) (1 + 0) 0 + tally m (map claim_of (cond (not b)
         (x ∷ filter (λ x. not (has_number n x)) ts) (filter (λ x. not (has_number n x)) ts)))
-    by true h rest =
-        let r = same_head x t (filter (has_number n) ts) h in
-        here (filter (λ x. not (has_number n x)) ts) r.0 (all_pass n ts r.1)
-    by false h rest = other (nat_eq (num x 0 4) m) (tally m (map claim_of ts)) (cond (nat_eq (num t 0 4) m) (1 + 0) 0)
-        (tally m (map claim_of (filter (λ x. not (has_number n x)) ts))) (rest h)
+    by x0 h rest = grind (arith, same_head, here, all_pass, other, nat_eq, tally, claim_of)
 
 known_left : (P : Claim → Type 0) (f : List ℕ → Bool) (ts : List (List ℕ)) → AllByRecursion P (map claim_of ts)
     → AllByRecursion P (map claim_of (filter f ts))
@@ -92,10 +79,7 @@ known_one P n (x ∷ ts) t e all = by (has_number n x) refl e (λ h. known_one P
   where
     by : (b : Bool) → has_number n x ≡ b → cond b (x ∷ filter (has_number n) ts) (filter (has_number n) ts) ≡ t ∷ []
         → (filter (has_number n) ts ≡ t ∷ [] → P (claim_of t) × (num t 0 4 ≡ n)) → P (claim_of t) × (num t 0 4 ≡ n)
-    by true is h rest =
-        let r = same_head x t (filter (has_number n) ts) h in
-        (subst (λ y. P (claim_of y)) r.0 all.0, ap (λ y. num y 0 4) (sym r.0) ∙ eqb-true (num x 0 4) n is)
-    by false is h rest = rest h
+    by x0 is h rest = grind (arith, same_head, claim_of, eqb-true)
 
 -- ---- by a call
 

@@ -81,22 +81,10 @@ module _ (old new : PortAccount) (m : List ℕ) (s : Notes old new m) (ready : I
       }
     where
       own_code : (opcode byte : ℕ) → opcode ≡ byte → is_code_of (byte + 0x80) opcode ≡ true
-      own_code opcode byte is = by (nat_eq (byte + 0x80) 0x80) (nat_eq (byte + 0x80) (opcode + 0x80))
-          (eq-eqb (byte + 0x80) (opcode + 0x80) (ap (λ n. n + 0x80) (sym is)))
-        where
-          by : (a b : Bool) → b ≡ true → (a || b) ≡ true
-          by true b h = refl
-          by false b h = h
+      own_code opcode byte is = grind (arith, nat_eq, eq-eqb)
 
       not_watched : is_poll_of old.account.watch (num m 0 4) ≡ true → ⊥
-      not_watched own = by old.account.watch refl own
-        where
-          by : (o : Option Watch) → old.account.watch ≡ o → is_poll_of o (num m 0 4) ≡ true → ⊥
-          by None is h = search (arith, h)
-          by (Some w) is h =
-              let x = ready.watched w is in
-              none-some x.0 (sym s.new_number ∙ ap (λ k. find (is_of k) old.asked)
-              (sym (eqb-true w.reference (num m 0 4) h)) ∙ x.1)
+      not_watched own = grind (arith, none-some, eqb-true)
 
   pub sent_noted : (us : List Said) (ts ms : List (List ℕ)) → Owes old.asked (claims us ts ms) → Noted old us ts ms
       → Noted new us ts (ms ++ m ∷ [])
@@ -148,25 +136,7 @@ module _ (old new : PortAccount) (m : ℕ) (asked : new.asked ≡ without_by (is
   watched_before : (w : Watch) → new.account.watch ≡ Some w
       → (v : Watch) × (old.account.watch ≡ Some v) × (w.reference ≡ v.reference) × (w.polled ≡ v.polled)
       × (nat_eq v.reference m ≡ false)
-  watched_before w is = by old.account.watch refl (sym watch ∙ is)
-    where
-      by : (o : Option Watch) → old.account.watch ≡ o → watch_after o m ≡ Some w
-          → (v : Watch) × (old.account.watch ≡ Some v) × (w.reference ≡ v.reference) × (w.polled ≡ v.polled)
-          × (nat_eq v.reference m ≡ false)
-      by None at h = absurd (none-some w h)
-      by (Some v) at h = cases (nat_eq v.reference m) refl (nat_eq v.polled m) h
-        where
-          cases : (c : Bool) → nat_eq v.reference m ≡ c → (d : Bool)
-              → cond c None (cond d (Some (record v { is_outstanding = false })) (Some v)) ≡ Some w
-              → (v : Watch) × (old.account.watch ≡ Some v) × (w.reference ≡ v.reference) × (w.polled ≡ v.polled)
-              × (nat_eq v.reference m ≡ false)
-          cases true e d h = absurd (none-some w h)
-          cases false e true h =
-              let s = same_Some (record v { is_outstanding = false }) w h in
-              (v, at, ap (λ (y : Watch). y.reference) (sym s), ap (λ (y : Watch). y.polled) (sym s), e)
-          cases false e false h =
-              let s = same_Some v w h in
-              (v, at, ap (λ (y : Watch). y.reference) (sym s), ap (λ (y : Watch). y.polled) (sym s), e)
+  watched_before w is = grind (arith, nat_eq, none-some, same_Some)
 
   pub heard_ready : IsReady old → IsReady new
   heard_ready ready = record {
@@ -192,15 +162,7 @@ module _ (old new : PortAccount) (m : ℕ) (asked : new.asked ≡ without_by (is
       by : (o : Option Watch) → new.account.watch ≡ o → endcode ≡ 0x82 → FitsAsked old n endcode other size x
           → is_poll_of new.account.watch n ≡ true
           → (16 ≤ size) × (is_about new.account.watch other ≡ true)
-      by None is poll f own = absurd (search (arith, sym (ap (λ o. is_poll_of o n) is) ∙ own))
-      by (Some w) is poll f own =
-          let b = watched_before w is in
-          let mine : nat_eq w.reference n ≡ true = sym (ap (λ o. is_poll_of o n) is) ∙ own in
-          let a = f.about poll (ap (λ o. is_poll_of o n) b.1 ∙ ap (λ k. nat_eq k n) (sym b.2) ∙ mine) in (
-            a.0,
-            ap (λ o. is_about o other) is ∙ ap (λ k. nat_eq k other) b.3
-                ∙ sym (ap (λ o. is_about o other) b.1) ∙ a.1,
-          )
+      by x0 is poll f own = grind (arith, watched_before, nat_eq)
 
   pub heard_noted : (us : List Said) (ts ms : List (List ℕ))
       → AllByRecursion (λ (c : Claim). nat_eq c.number m ≡ false) (claims us ts ms) → Noted old us ts ms

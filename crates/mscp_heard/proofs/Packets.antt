@@ -78,13 +78,7 @@ module _ (t : List ℕ) (e : End) (long : 12 ≤ length t) (top : 0x80 ≤ slice
           }
 
   read_so : any_end t (end_in t) ≡ Ok (messages.End e) → IsEndIn e t
-  read_so h = by (nat_le 12 (length t)) (nat_le (length t) 64) h
-    where
-      by : (a b : Bool) → any_end t (cond (a && b) (reading_with (kind_of_code (slice_index t 8)) t)
-          (Err endfaults.Length)) ≡ Ok (messages.End e) → IsEndIn e t
-      by true true h = read_with (kind_of_code (slice_index t 8)) refl h
-      by true false h = search (arith, h)
-      by false b h = search (arith, h)
+  read_so h = grind (arith, nat_le, read_with)
 
 sequential_so : (t : List ℕ) (e : End) → sequential_in t ≡ Ok (messages.End e) → IsEndIn e t
 sequential_so t e h = by (nat_lt (length t) 12) refl h
@@ -117,10 +111,7 @@ typed_so kind t e h = by (nat_eq kind 0) (nat_eq kind 1) (nat_eq kind 2) h
     by false false false h = search (arith, h)
 
 taken_byte : (n : ℕ) (b : List ℕ) (i : ℕ) → i < length (take n b) → slice_index (take n b) i ≡ slice_index b i
-taken_byte n b i h = get_or-take n b i 0 (few (length (take n b)) n (length b) (length-take n b) h)
-  where
-    few : (x n m : ℕ) → x ≡ min n m → i < x → i < n
-    few x n m e h = search (arith, e, h)
+taken_byte n b i h = grind (arith, get_or-take, length-take)
 
 -- the text behind an envelope
 pub end_heard : (v : Envelope) (b : List ℕ) (e : End) → message_in v b ≡ Ok (messages.End e)
@@ -260,23 +251,9 @@ sequential_read kinds.UtilitiesEnd t r = absurd r
 -- behind its envelope
 pub message_read : (kind : OutgoingKind) (t : List ℕ) (v : Envelope) → IsRead kind t → v.length ≡ length t
     → v.connection ≡ 0 → v.kind ≡ 0 → IsMessage kind (message_in v t)
-message_read kind t v r size disk sequential =
-    subst (λ n. IsMessage kind (cond (nat_lt (length t) n) (Err faults.Cut)
-    (cond (not (nat_eq v.connection 0)) (Err faults.Connection) (typed_in v.kind (take n t))))) (sym size)
-    (subst (λ b. IsMessage kind (cond b (Err faults.Cut)
-    (cond (not (nat_eq v.connection 0)) (Err faults.Connection) (typed_in v.kind (take (length t) t)))))
-    (sym (not_more (length t) (length t) (search arith)))
-    (subst (λ n. IsMessage kind (cond (not (nat_eq n 0)) (Err faults.Connection) (typed_in v.kind (take (length t) t))))
-    (sym disk)
-    (subst (λ n. IsMessage kind (typed_in n (take (length t) t))) (sym sequential)
-    (subst (λ xs. IsMessage kind (sequential_in xs)) (sym (take_all (length t) t (search arith)))
-    (sequential_read kind t r)))))
+message_read kind t v r size disk sequential = grind (arith, nat_lt, nat_eq, not_more, take_all, sequential_read)
 
 -- and an end as one
 pub is_end : (kind : OutgoingKind) (r : Result Message HearFault) → kind ≡ kinds.End → IsMessage kind r
     → (e : End) × (r ≡ Ok (messages.End e))
-is_end kind r is x = by x.0 x.1 (subst (λ k. IsSo k x.0) is x.2)
-  where
-    by : (m : Message) → r ≡ Ok m → IsSo kinds.End m → (e : End) × (r ≡ Ok (messages.End e))
-    by (messages.End e) h so = (e, h)
-    by m h so = absurd so
+is_end kind r is x = grind arith

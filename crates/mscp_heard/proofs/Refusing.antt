@@ -90,23 +90,12 @@ module _ {K : Type 0} (picks : Picking K) (c : Settings) (picker : K) (ends : Po
 
     as_last : (m : PortMoment) → Noted new (drop (cond (is_hearing m) (suc (hearings h)) (hearings h)) us)
         (awaited picks start p calls a) (drop n (sent h ++ sent_by m)) → IsReady new → Then m
-    as_last m x now = (
-      subst (λ k. Noted new (drop k us) (awaited picks start p calls a) (drop n (sent (h ++ m ∷ []))))
-          (sym (heard_last h m))
-          (subst (λ ms. Noted new (drop (cond (is_hearing m) (suc (hearings h)) (hearings h)) us)
-          (awaited picks start p calls a) (drop n ms)) (sym (sent_last h m)) x),
-      now,
-    )
+    as_last m x now = grind (arith, heard_last, sent_last)
 
     -- it keeps the same
     still : new ≡ mid → Noted new (drop (hearings h) us) (awaited picks start p calls a) (drop n (sent h ++ []))
         × IsReady new
-    still same = (
-      subst (λ ms. Noted new (drop (hearings h) us) (awaited picks start p calls a) (drop n ms))
-          (sym (append-nil (sent h))) (subst (λ x. Noted x (drop (hearings h) us) (awaited picks start p calls a)
-          (drop n (sent h))) (sym same) noted),
-      subst IsReady (sym same) ready,
-    )
+    still same = grind (arith, append-nil, noted)
 
     -- it sent a message
     sent_it : (m : List ℕ) → Notes mid new m

@@ -69,59 +69,10 @@ hear_done old new v b heard e = by (message_in v b) e
     news false unit code = ((λ e. search (arith, e)), (λ e. search (arith, e)))
 
     by : (r : Result Message HearFault) → heard_of old v.credits r ≡ (Ok heard, new) → IsHeardSo old new r heard
-    by (Err fault) h = absurd (search (arith, h))
-    by (Ok (messages.End end)) h = found end (find (is_of end.reference) old.asked) h
-    by (Ok (messages.Attention code unit)) h = inl (
-      sym (ap (λ y. y.1.asked) h),
-      sym (ap (λ y. y.1.account) h),
-      plain _ (ap said h) (news (nat_eq code 0x40) unit code),
-      λ e x. search (arith, x),
-    )
-    by (Ok messages.Datagram) h = inl (
-      sym (ap (λ y. y.1.asked) h),
-      sym (ap (λ y. y.1.account) h),
-      plain heards.Logged (ap said h) ((λ e. search (arith, e)), (λ e. search (arith, e))),
-      λ e x. search (arith, x),
-    )
-    by (Ok messages.Credits) h = inl (
-      sym (ap (λ y. y.1.asked) h),
-      sym (ap (λ y. y.1.account) h),
-      plain (heards.Credits v.credits) (ap said h) ((λ e. search (arith, e)), (λ e. search (arith, e))),
-      λ e x. search (arith, x),
-    )
+    by x0 h = grind (arith, found, plain, said, news, nat_eq)
 
 -- what answers a poll
 pub answer_is : (o : Option Watch) (e : End) (told : ℕ × ℕ) → answered o (as_read e) ≡ Some told
     → (w : Watch) × (o ≡ Some w) × (w.reference ≡ e.reference) × (e.code ≡ 0x82)
     × (e.body ≡ bodies.Status told.0 told.1)
-answer_is None e told h = absurd (none-some told h)
-answer_is (Some w) e told h = by (is_success e.status) h
-  where
-    tells : (body : EndBody) → e.body ≡ body → told_in body ≡ Some told → e.body ≡ bodies.Status told.0 told.1
-    tells (bodies.Status other figure) is h =
-        is ∙ ap (λ (x : ℕ × ℕ). bodies.Status x.0 x.1) (same_Some (other, figure) told h)
-    tells body is h = absurd (none-some told h)
-
-    cases : (c : Bool) → nat_eq w.reference e.reference ≡ c → (d : Bool) → nat_eq e.code 0x82 ≡ d
-        → cond (c && d) (told_in e.body) None ≡ Some told
-        → (v : Watch) × (Some w ≡ Some v) × (v.reference ≡ e.reference) × (e.code ≡ 0x82)
-        × (e.body ≡ bodies.Status told.0 told.1)
-    cases true p true q h = (
-      w,
-      refl,
-      Rattle.mscp_port.proofs.Common.eqb-true w.reference e.reference p,
-      Rattle.mscp_port.proofs.Common.eqb-true e.code 0x82 q,
-      tells e.body refl h,
-    )
-    cases true p false q h = absurd (none-some told h)
-    cases false p d q h = absurd (none-some told h)
-
-    by : (c : Bool) → answered (Some w) (cond c e (record e { code = 0x80; body = bodies.Bare })) ≡ Some told
-        → (v : Watch) × (Some w ≡ Some v) × (v.reference ≡ e.reference) × (e.code ≡ 0x82)
-        × (e.body ≡ bodies.Status told.0 told.1)
-    by true h = cases (nat_eq w.reference e.reference) refl (nat_eq e.code 0x82) refl h
-    by false h = absurd (none (nat_eq w.reference e.reference) h)
-      where
-        none : (c : Bool) → cond (c && false) (told_in bodies.Bare) None ≡ Some told → ⊥
-        none true h = none-some told h
-        none false h = none-some told h
+answer_is x0 e told h = grind (arith, none-some, same_Some, nat_eq)

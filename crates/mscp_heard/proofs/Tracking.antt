@@ -34,39 +34,18 @@ module _ (host : PortAccount) (F F' : ℕ → ℕ) (Served Served' : ℕ → Typ
   P' = flat_map pending_in us' ++ held'
 
   grows : P' ≡ P ++ more
-  grows = ap (λ xs. flat_map pending_in xs ++ held') is_new
-      ∙ ap (λ xs. xs ++ held') (flat_map-append pending_in us new)
-      ∙ append_assoc (flat_map pending_in us) (flat_map pending_in new) held'
-      ∙ ap (λ xs. flat_map pending_in us ++ xs) behind
-      ∙ sym (append_assoc (flat_map pending_in us) held more)
+  grows = grind (arith, flat_map-append, append_assoc)
 
   -- a text that was read is no longer unread
   unread_or : (ms' ≡ ms) ⊎ ((m : List ℕ) × (ms ≡ m ∷ ms'))
-  unread_or = elim d [
-    | inl q ↦ inl q.2
-    | inr more ↦ elim more [
-      | inl q ↦ inl q.4
-      | inr more ↦ elim more [
-        | inl q ↦ inl q.6
-        | inr more ↦ elim more [ inl q ↦ inr (q.1, q.5) | inr q ↦ inr (q.2, q.9) ]
-      ]
-    ]
-  ]
+  unread_or = grind arith
 
   tail_none : (n : ℕ) (m : List ℕ) (xs : List (List ℕ)) → filter (has_number n) (m ∷ xs) ≡ []
       → (nat_eq (num m 0 4) n ≡ false) × (filter (has_number n) xs ≡ [])
-  tail_none n m xs e = by (nat_eq (num m 0 4) n) e
-    where
-      by : (b : Bool) → cond b (m ∷ filter (has_number n) xs) (filter (has_number n) xs) ≡ []
-          → (b ≡ false) × (filter (has_number n) xs ≡ [])
-      by true h = absurd (search (arith, h))
-      by false h = (refl, h)
+  tail_none n m xs e = grind (arith, nat_eq)
 
   fewer : (n : ℕ) → filter (has_number n) ms ≡ [] → filter (has_number n) ms' ≡ []
-  fewer n e = elim unread_or [
-    | inl same ↦ ap (filter (has_number n)) same ∙ e
-    | inr x ↦ (tail_none n x.0 ms' (ap (filter (has_number n)) (sym x.1) ∙ e)).1
-  ]
+  fewer n e = grind (arith, unread_or, tail_none)
 
   -- what waits behind the call, and was no unread message, waited before it
   before_low : (n : ℕ) → filter (has_number n) ms ≡ [] → 1 ≤ F' n → 1 ≤ F n
@@ -125,24 +104,7 @@ module _ (host : PortAccount) (F F' : ℕ → ℕ) (Served Served' : ℕ → Typ
           ))
 
   below_still : (n g : ℕ) → filter (has_number n) ms ≡ [] → IsBelow F Served n g → IsBelow F' Served' n g
-  below_still n g unread below low =
-      let before = before_low n unread low in
-      let b = below before in (
-        le (F' n) (F n) g (lowers n before) b.0,
-        λ s. elim (served n s) [
-          | inl falls ↦ lt_le (F' n) (F n) g (falls before) b.0
-          | inr was ↦ le_lt (F' n) (F n) g (lowers n before) (b.1 was)
-        ],
-      )
-    where
-      le : (x y z : ℕ) → x ≤ y → y ≤ z → x ≤ z
-      le x y z h k = omega (arith, h, k)
-
-      lt_le : (x y z : ℕ) → x < y → y ≤ z → x < z
-      lt_le x y z h k = omega (arith, h, k)
-
-      le_lt : (x y z : ℕ) → x ≤ y → y < z → x < z
-      le_lt x y z h k = omega (arith, h, k)
+  below_still n g unread below low = grind (arith, before_low)
 
   told_still : (xs : List Submission) → AllByRecursion (KnowsTold F Served ms) xs
       → AllByRecursion (KnowsTold F' Served' ms') xs
@@ -158,55 +120,10 @@ module _ (host : PortAccount) (F F' : ℕ → ℕ) (Served Served' : ℕ → Typ
   poll_is : (w x : ℕ) → PollsLast x w ms → (text : List ℕ) → texts ≡ text ∷ [] → num text 0 4 ≡ w
       → (filter (has_number x) ms' ≡ []) × ((m : List ℕ) × (ms ≡ m ∷ ms') × (num m 0 4 ≡ w))
       × ((t : List ℕ) × Took t × (slice_index t 8 ≡ 2) × (16 ≤ length t) × (num t 12 4 ≡ x) × (num t 0 4 ≡ w))
-  poll_is w x last text one named = by d
-    where
-      same_text : (t : List ℕ) → texts ≡ t ∷ [] → text ≡ t
-      same_text t e = (first_of_one text t [] (sym one ∙ e)).0
-
-      none : texts ≡ [] → ⊥
-      none e = search (arith, sym e ∙ one)
-
-      longer : (a b c : ℕ) → a ≤ b → b ≤ c → a ≤ c
-      longer a b c h k = omega (arith, h, k)
-
-      poll_text : (t m : List ℕ) → IsCopyOf t m → ms ≡ m ∷ ms' → texts ≡ t ∷ []
-          → (num m 0 4 ≡ w) × IsPollText x m × (filter (has_number x) ms' ≡ [])
-      poll_text t m is e f =
-          let own : num m 0 4 ≡ w = sym is.number ∙ ap (λ y. num y 0 4) (sym (same_text t f)) ∙ named in
-          let l = (subst (λ xs. PollsLast x w xs) e last).0 (eq-eqb (num m 0 4) w own) in
-          (own, l.0, l.1)
-
-      never : (s : Said) (t m : List ℕ) → IsCopyOf t m → slice_index s.text 8 ≡ slice_index t 8 + 0x80
-          → slice_index s.text 8 ≢ 0x82 → IsPollText x m → ⊥
-      never s t m is code other poll = other (code ∙ ap (λ n. n + 0x80) (is.opcode ∙ poll.0))
-
-      by : Dealt Took texts us ts ms us' ts' ms'
-          → (filter (has_number x) ms' ≡ []) × ((m : List ℕ) × (ms ≡ m ∷ ms') × (num m 0 4 ≡ w))
-          × ((t : List ℕ) × Took t × (slice_index t 8 ≡ 2) × (16 ≤ length t) × (num t 12 4 ≡ x) × (num t 0 4 ≡ w))
-      by (inl q) = absurd (none q.3)
-      by (inr (inl q)) = absurd (none q.5)
-      by (inr (inr (inl q))) = absurd (none q.7)
-      by (inr (inr (inr (inl q)))) =
-          let p = poll_text q.0 q.1 q.2 q.5 q.6 in (
-            p.2,
-            (q.1, q.5, p.0),
-            (
-              q.0,
-              q.7,
-              q.2.opcode ∙ p.1.0,
-              longer 16 (length q.1) (length q.0) p.1.1 q.2.long,
-              q.2.parameter ∙ p.1.2,
-              q.2.number ∙ p.0,
-            ),
-          )
-      by (inr (inr (inr (inr q)))) =
-          let p = poll_text q.1 q.2 q.3 q.9 q.10 in absurd (never q.0 q.1 q.2 q.3 q.5 q.6 p.1)
+  poll_is w x last text one named = grind (arith, first_of_one, eq-eqb)
 
   last_still : (x w : ℕ) → PollsLast x w ms → PollsLast x w ms'
-  last_still x w last = elim unread_or [
-    | inl same ↦ subst (λ xs. PollsLast x w xs) (sym same) last
-    | inr m ↦ (subst (λ xs. PollsLast x w xs) m.1 last).1
-  ]
+  last_still x w last = grind (arith, unread_or)
 
   -- a message that is no longer unread was accepted
   text_read : (m : List ℕ) → ms ≡ m ∷ ms' → (w : ℕ) → num m 0 4 ≡ w
@@ -270,35 +187,7 @@ module _ (host : PortAccount) (F F' : ℕ → ℕ) (Served Served' : ℕ → Typ
         × (Before x w P' ⊎ ((1 ≤ g) × ((l : ℕ) → last_told host.account.outstanding x ≡ Some l → l ≤ g → ⊥)
         × IsBelow F' Served' x g))
     now text one named none g first =
-        let p = poll_is w x k.last text one named in
-        let t = p.2 in
-        let n = polls_now t.0 t.1 t.2 t.3 in
-        let is : g ≡ F x = same_Some g (F x) (sym first ∙ ap (first_of w) n.0
-        ∙ ap (λ b. cond b (Some (F (num t.0 12 4))) None) (eq-eqb (num t.0 0 4) w t.5)
-        ∙ ap (λ y. Some (F y)) t.4) in
-        let unread : filter (has_number x) ms ≡ [] = ap (filter (has_number x)) p.1.1
-        ∙ ap (λ b. cond b (p.1.0 ∷ filter (has_number x) ms') (filter (has_number x) ms'))
-        (ap (λ y. nat_eq y x) p.1.2 ∙ k.apart) ∙ p.0 in (
-          p.0,
-          elim (located x (placed x k.known.0 k.known.1) unread) [
-            | inr there ↦ inl (subst (λ es. Before x w es) (sym grows) (in_front x w P more none there))
-            | inl low ↦ inr (
-              subst (λ y. 1 ≤ y) (sym is) low,
-              (λ l last le.
-                  let s = last_of (KnowsTold F Served ms) x l host.account.outstanding told last in
-                  let b = (s.1 l s.3).1 (subst (λ y. 1 ≤ F y) (sym s.2) low) in
-                  over l (F x) g (subst (λ y. F y < l) s.2 (b.1 (subst Served (t.4
-                  ∙ sym s.2) (n.1 (subst (λ y. 1 ≤ F y) (sym t.4) low))))) is le),
-              (λ low'. (
-                subst (λ y. F' x ≤ y) (sym is) (lowers x low),
-                λ s. absurd (n.2 (subst Served' (sym t.4) s)),
-              )),
-            )
-          ],
-        )
-      where
-        over : (l f g : ℕ) → f < l → g ≡ f → l ≤ g → ⊥
-        over l f g a b c = omega (arith, a, b, c)
+        grind (arith, poll_is, same_Some, first_of, eq-eqb, nat_eq, located, grows, in_front, last_of)
 
     -- no other text has its number
     new_entry : first_of w P ≡ None → (g : ℕ) → first_of w more ≡ Some g

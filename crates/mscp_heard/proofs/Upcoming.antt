@@ -112,15 +112,7 @@ tally_in n (s ∷ us) h = by s.kind (subst (λ k. 1 ≤ k)
     by : (kind : OutgoingKind) → 1 ≤ tally n (claim_said kind s.text) + tally n (claims_said us)
         → (1 ≤ tally n (claims_said us) → IsIn n (flat_map pending_in us))
         → IsIn n (pending_said kind s.text ++ flat_map pending_in us)
-    by kinds.Attention h rest = rest (plain (tally n (claims_said us)) h)
-    by kinds.UtilitiesEnd h rest = rest (plain (tally n (claims_said us)) h)
-    by kinds.End h rest = cases (nat_eq (num s.text 0 4) n) refl h
-      where
-        cases : (b : Bool) → nat_eq (num s.text 0 4) n ≡ b
-            → 1 ≤ cond b (1 + 0) 0 + tally n (claims_said us)
-            → (nat_eq (num s.text 0 4) n ≡ true) ⊎ IsIn n (flat_map pending_in us)
-        cases true is h = inl is
-        cases false is h = inr (rest (plain (tally n (claims_said us)) h))
+    by x0 h rest = grind (arith, plain, tally, claims_said, nat_eq)
 
 pub has_some : (n : ℕ) (xs : List (List ℕ)) → 1 ≤ length (filter (has_number n) xs) → filter (has_number n) xs ≢ []
 has_some n xs h e = search (arith, h, ap length e)
@@ -172,11 +164,4 @@ in_said n (s ∷ us) is = subst (λ k. 1 ≤ k) (sym (tally_append n (claim_said
     by : (kind : OutgoingKind) → IsIn n (pending_said kind s.text ++ flat_map pending_in us)
         → (IsIn n (flat_map pending_in us) → 1 ≤ tally n (claims_said us))
         → 1 ≤ tally n (claim_said kind s.text) + tally n (claims_said us)
-    by kinds.Attention is rest = more 0 (tally n (claims_said us)) (rest is)
-    by kinds.UtilitiesEnd is rest = more 0 (tally n (claims_said us)) (rest is)
-    by kinds.End (inl is) rest = subst (λ b. 1 ≤ cond b (1 + 0) 0 + tally n (claims_said us)) (sym is)
-        (one (tally n (claims_said us)))
-      where
-        one : (b : ℕ) → 1 ≤ (1 + 0) + b
-        one b = omega arith
-    by kinds.End (inr is) rest = more (tally n (claim_said kinds.End s.text)) (tally n (claims_said us)) (rest is)
+    by x0 is rest = grind (arith, more, tally, claims_said, claim_said)

@@ -137,11 +137,7 @@ module _ (old new : PortAccount) (n : ℕ) (small : n < 2 ^ 32) (same : SameNumb
 -- ---- something is heard
 
 pub read_number : (e : End) → (as_read e).reference ≡ e.reference
-read_number e = by (is_success e.status)
-  where
-    by : (c : Bool) → (cond c e (record e { code = 0x80; body = bodies.Bare })).reference ≡ e.reference
-    by true = refl
-    by false = refl
+read_number e = grind arith
 
 -- what is outstanding and in flight stays so, or the command of an end is outstanding no more
 abbrev pub SettlesWatch : PortAccount → PortAccount → Result Message HearFault → Type 0
@@ -188,45 +184,7 @@ pub may_be : (old : PortAccount) (e : End) (x : Asked) → is_code_of e.code x.o
     → ((other figure : ℕ) → e.code ≡ 0x82 → e.body ≡ bodies.Status other figure
     → is_poll_of old.account.watch e.reference ≡ true → is_about old.account.watch other ≡ true)
     → may_be_of old e x ≡ true
-may_be old e x code about = both (is_code_of e.code x.opcode)
-    (is_about_polled old.account.watch (answered old.account.watch (as_read e))) code (by (is_success e.status))
-  where
-    both : (a b : Bool) → a ≡ true → b ≡ true → (a && b) ≡ true
-    both true true p q = refl
-    both true false p q = absurd (search (arith, q))
-    both false b p q = absurd (search (arith, p))
-
-    refused : (o : Option Watch)
-        → is_about_polled o (answered o (record e { code = 0x80; body = bodies.Bare })) ≡ true
-    refused None = refl
-    refused (Some w) = cases (nat_eq w.reference e.reference)
-      where
-        cases : (c : Bool) → is_about_polled (Some w)
-            (cond (c && false) (told_in bodies.Bare) None) ≡ true
-        cases true = refl
-        cases false = refl
-
-    told : (o : Option Watch) → ((other figure : ℕ) → e.code ≡ 0x82 → e.body ≡ bodies.Status other figure
-        → is_poll_of o e.reference ≡ true → is_about o other ≡ true) → is_about_polled o (answered o e) ≡ true
-    told None about = refl
-    told (Some w) about = cases (nat_eq w.reference e.reference) refl (nat_eq e.code 0x82) refl
-      where
-        tells : (body : EndBody) → e.body ≡ body → nat_eq w.reference e.reference ≡ true → nat_eq e.code 0x82 ≡ true
-            → is_about_polled (Some w) (told_in body) ≡ true
-        tells (bodies.Status other figure) is own poll =
-            about other figure (Rattle.mscp_port.proofs.Common.eqb-true e.code 0x82 poll) is own
-        tells body is own poll = refl
-
-        cases : (c : Bool) → nat_eq w.reference e.reference ≡ c → (d : Bool) → nat_eq e.code 0x82 ≡ d
-            → is_about_polled (Some w) (cond (c && d) (told_in e.body) None) ≡ true
-        cases true p true q = tells e.body refl p q
-        cases true p false q = refl
-        cases false p d q = refl
-
-    by : (c : Bool) → is_about_polled old.account.watch (answered old.account.watch
-        (cond c e (record e { code = 0x80; body = bodies.Bare }))) ≡ true
-    by true = told old.account.watch about
-    by false = refused old.account.watch
+may_be old e x code about = grind (arith, nat_eq, eqb-true)
 
 -- and so it isn't refused
 pub hears_ok : (old new : PortAccount) (v : Envelope) (b : List ℕ) (m : Message) (fault : HearFault)
@@ -234,19 +192,4 @@ pub hears_ok : (old new : PortAccount) (v : Envelope) (b : List ℕ) (m : Messag
     → ((e : End) → message_in v b ≡ Ok (messages.End e) → (x : Asked) × (find (is_of e.reference) old.asked ≡ Some x)
     × (may_be_of old e x ≡ true))
     → hears old v b ≡ (Err fault, new) → ⊥
-hears_ok old new v b m fault is own h = by m is (subst (λ r. heard_of old v.credits r ≡ (Err fault, new)) is h)
-  where
-    judged : (end : End) (x : Asked) (c : Bool) → c ≡ true
-        → ◌≡◌ {A = Result Heard HearFault × PortAccount} (cond c (
-          Ok (end_says old end x),
-          granted v.credits (ended old end),
-        )
-        (Err faults.Unknown, old)) (Err fault, new) → ⊥
-    judged end x true p h = search (arith, h)
-    judged end x false p h = search (arith, p)
-
-    by : (m : Message) → message_in v b ≡ Ok m → heard_of old v.credits (Ok m) ≡ (Err fault, new) → ⊥
-    by (messages.End end) is h =
-        let x = own end is in
-        judged end x.0 (may_be_of old end x.0) x.2 (subst (λ o. ends_of old v.credits end o ≡ (Err fault, new)) x.1 h)
-    by x is h = search (arith, h)
+hears_ok old new v b m fault is own h = grind arith
