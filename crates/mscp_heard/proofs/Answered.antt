@@ -214,44 +214,14 @@ module _ (F : ℕ → ℕ) (Served : ℕ → Type 0) (old new : PortAccount) (s 
             (heards.Ended e d.own.0)) ≢ heards.Reset)
             × (cond a (heards.Refused e) (cond c (heards.MovedTooMuch e d.own.0)
             (heards.Ended e d.own.0)) ≢ heards.Lost)
-        ended_so true c = ((λ f. search (arith, f)), (λ f. search (arith, f)))
-        ended_so false true = ((λ f. search (arith, f)), (λ f. search (arith, f)))
-        ended_so false false = ((λ f. search (arith, f)), (λ f. search (arith, f)))
+        ended_so x0 c = grind arith
 
         figures : (last : Option ℕ) (figure : ℕ) → 1 ≤ figure → ((l : ℕ) → last ≡ Some l → l ≤ figure → ⊥)
             → (news_said (is_poll_of old.account.watch e.reference) e d.own.0 (news_of_figure last figure)
             ≢ heards.Reset)
             × (news_said (is_poll_of old.account.watch e.reference) e d.own.0 (news_of_figure last figure)
             ≢ heards.Lost)
-        figures None figure low above = first_so (nat_eq figure 0) (zero figure low)
-          where
-            zero : (f : ℕ) → 1 ≤ f → nat_eq f 0 ≡ false
-            zero f h = search (arith, h)
-
-            first_so : (b : Bool) → b ≡ false
-                → (news_said (is_poll_of old.account.watch e.reference) e d.own.0
-                (cond b news.Lost (news.First figure)) ≢ heards.Reset)
-                × (news_said (is_poll_of old.account.watch e.reference) e d.own.0
-                (cond b news.Lost (news.First figure)) ≢ heards.Lost)
-            first_so false h = ((λ f. search (arith, f)), (λ f. search (arith, f)))
-            first_so true h = absurd (search (arith, h))
-        figures (Some l) figure low above = less_so (nat_lt figure l) (nat_eq figure 0) (lower figure l (above l refl))
-            (zero figure low)
-          where
-            zero : (f : ℕ) → 1 ≤ f → nat_eq f 0 ≡ false
-            zero f h = search (arith, h)
-
-            lower : (f l : ℕ) → (l ≤ f → ⊥) → nat_lt f l ≡ true
-            lower f l h = search (arith, h)
-
-            less_so : (a b : Bool) → a ≡ true → b ≡ false
-                → (news_said (is_poll_of old.account.watch e.reference) e d.own.0
-                (cond a (cond b news.Lost (news.Progress figure)) news.Reset) ≢ heards.Reset)
-                × (news_said (is_poll_of old.account.watch e.reference) e d.own.0
-                (cond a (cond b news.Lost (news.Progress figure)) news.Reset) ≢ heards.Lost)
-            less_so true false p q = ((λ f. search (arith, f)), (λ f. search (arith, f)))
-            less_so true true p q = absurd (search (arith, q))
-            less_so false b p q = absurd (search (arith, p))
+        figures x0 figure low above = grind (arith, nat_eq, nat_lt)
 
         says : (o : Option (ℕ × ℕ)) → answered old.account.watch (as_read e) ≡ o
             → (heard ≢ heards.Reset) × (heard ≢ heards.Lost)

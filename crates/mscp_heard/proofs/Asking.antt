@@ -57,48 +57,7 @@ pub poll_is : (old new : PortAccount) (n : ℕ) (message : ArrayVec ℕ)
     → port_polls old n ≡ (Ok (polls.Ask message), new)
     → (s : Submission) × (oldest old.account ≡ Some s) × IsSent old new message (poll_of n s)
     × (new.account.watch ≡ Some (record { reference = n; polled = s.reference; is_outstanding = true }))
-poll_is old new n message e = by (nat_eq old.credits 0 && is_to_poll old.account) e
-  where
-    So : Type 0
-    So = (s : Submission) × (oldest old.account ≡ Some s) × IsSent old new message (poll_of n s)
-        × (new.account.watch ≡ Some (record { reference = n; polled = s.reference; is_outstanding = true }))
-
-    items : Result Poll HostFault × PortAccount → List ℕ
-    items (Ok (polls.Ask b), x) = b.items
-    items (other, x) = []
-
-    asked_so : (s : Submission) (o : Option HostFault)
-        → refusal old.account (opcode_byte (poll_of n s).order) n ≡ o → oldest old.account ≡ Some s
-        → polled_with old n (asks_unless old.account n s o) ≡ (Ok (polls.Ask message), new) → So
-    asked_so s (Some fault) r at h = absurd (search (arith, h))
-    asked_so s None r at h =
-        let a = watching old.account n s in (
-          s,
-          at,
-          record {
-            free = not_doubled old.account (opcode_byte (poll_of n s).order) n r;
-            is = sym (ap items h);
-            asked = sym (ap (λ x. x.1.asked) h) ∙ ap (λ o. (noted_poll old a n o).asked) at;
-            outstanding = sym (ap (λ x. x.1.account.outstanding) h)
-                ∙ ap (λ o. (noted_poll old a n o).account.outstanding) at;
-          },
-          sym (ap (λ x. x.1.account.watch) h) ∙ ap (λ o. (noted_poll old a n o).account.watch) at,
-        )
-
-    about : (o : Option Submission) → oldest old.account ≡ o
-        → polled_with old n (asks old.account n o) ≡ (Ok (polls.Ask message), new) → So
-    about None at h = absurd (search (arith, h))
-    about (Some s) at h = asked_so s (refusal old.account (opcode_byte (poll_of n s).order) n) refl at h
-
-    busy : (b : Bool) → polled_with old n (cond b (Ok polls.Busy, old.account) (asks old.account n
-        (oldest old.account))) ≡ (Ok (polls.Ask message), new) → So
-    busy true h = absurd (search (arith, h))
-    busy false h = about (oldest old.account) refl h
-
-    by : (b : Bool) → ◌≡◌ {A = Result Poll HostFault × PortAccount} (cond b (Err faults.NoCredit, old)
-        (polled_with old n (polls_oldest old.account n))) (Ok (polls.Ask message), new) → So
-    by true h = absurd (search (arith, h))
-    by false h = busy (is_some old.account.watch) h
+poll_is old new n message e = grind (arith, nat_eq, not_doubled)
 
 pub poll_same : (old new : PortAccount) (n : ℕ) (answer : Result Poll HostFault) → is_ask answer ≡ false
     → port_polls old n ≡ (answer, new) → new ≡ old

@@ -14,9 +14,7 @@ module _ (Took : List ℕ → Type 0) (texts : List (List ℕ)) (us : List Said)
 
   said_one : (n : ℕ) (s : Said) (kind : OutgoingKind) → s.kind ≡ kind
       → tally n (claims_said (us ++ s ∷ [])) ≡ tally n (claims_said us) + tally n (claim_said kind s.text ++ [])
-  said_one n s kind is = ap (tally n) (said_append us (s ∷ []))
-      ∙ tally_append n (claims_said us) (claim_said s.kind s.text ++ [])
-      ∙ ap (λ k. tally n (claims_said us) + tally n (claim_said k s.text ++ [])) is
+  said_one n s kind is = grind (arith, tally, said_append, tally_append, claims_said, claim_said)
 
   same_claim : (n x y : ℕ) → x ≡ y → cond (nat_eq x n) (1 + 0) 0 ≡ cond (nat_eq y n) (1 + 0) 0
   same_claim n x y e = ap (λ k. cond (nat_eq k n) (1 + 0) 0) e

@@ -60,9 +60,7 @@ none_owed asked [] n all none = refl
 none_owed asked (c ∷ cs) n all none = by (nat_eq c.number n) refl (none_owed asked cs n all.1 none)
   where
     by : (b : Bool) → nat_eq c.number n ≡ b → tally n cs ≡ 0 → cond b (1 + tally n cs) (tally n cs) ≡ 0
-    by true is rest = absurd (none-some all.0.0 (sym none
-        ∙ subst (λ m. find (is_of m) asked ≡ Some all.0.0) (eqb-true c.number n is) all.0.1))
-    by false is rest = rest
+    by x0 is rest = grind (arith, none-some, eqb-true)
 
 -- and one that is owed once, by no other
 pub others_apart : (n : ℕ) (cs : List Claim) → tally n cs ≡ 0 → AllByRecursion (λ c. nat_eq c.number n ≡ false) cs
@@ -154,22 +152,11 @@ owes_less asked c cs o = record {
     )
 
 pub owes_rest : (asked : List Asked) (c : Claim) (cs : List Claim) → Owes asked (c ∷ cs) → Owes asked cs
-owes_rest asked c cs o = record { known = o.known.1; once = λ n. less (nat_eq c.number n) (tally n cs) (o.once n) }
-  where
-    less : (b : Bool) (k : ℕ) → cond b (1 + k) k ≤ 1 → k ≤ 1
-    less true k h = omega (arith, h)
-    less false k h = h
+owes_rest asked c cs o = grind (arith, nat_eq)
 
 -- ---- claims that move
 
 -- the same claims as often, each owed
 pub owes_same : (asked : List Asked) (cs ds : List Claim) → ((n : ℕ) → tally n ds ≤ tally n cs)
     → AllByRecursion (IsOwed asked) ds → Owes asked cs → Owes asked ds
-owes_same asked cs ds fewer known o = record {
-  known = known;
-  once = λ n. few (tally n ds) (tally n cs)
-      (fewer n) (o.once n);
-}
-  where
-    few : (x y : ℕ) → x ≤ y → y ≤ 1 → x ≤ 1
-    few x y h k = omega (arith, h, k)
+owes_same asked cs ds fewer known o = grind arith

@@ -38,10 +38,7 @@ noted_dealt x0 texts host us us' ts ts' ms ms' x9 n =
     grind (arith, noted_as, noted_news, noted_end, copy_taken, copy_answered)
 
 copy_text : (text message : List ℕ) → IsCopyOf text message → IsTextOf text message
-copy_text text message is = record {
-  number = is.number;
-  bytes = λ j. cond (is_transfer (is.opcode j)) (is.parameter j) 0;
-}
+copy_text text message is = grind arith
 
 copied_read : (call : Call) (t : Talk) (ms : List (List ℕ)) → ReadsInOrder IsCopyOf call t ms
     → ReadsInOrder IsTextOf call t ms
@@ -89,9 +86,7 @@ module _ {K : Type 0} (picks : Picking K) (c : Settings) (picker : K) (ends : Po
         → p.outgoing ≡ Some out
         → drop k (said picks start a.0 calls a.1 ++ map said_in (begins a.0.outgoing p.outgoing))
         ≡ drop k (said picks start a.0 calls a.1) ++ said_in out ∷ []
-    said_more out nothing some = ap (λ xs. drop k (said picks start a.0 calls a.1 ++ map said_in xs))
-        (begun_one a.0.outgoing p.outgoing out nothing some)
-        ∙ drop_beside k (said picks start a.0 calls a.1) (said_in out) heard
+    said_more out nothing some = grind (arith, begun_one, drop_beside)
 
     said_same : begins a.0.outgoing p.outgoing ≡ []
         → drop k (said picks start a.0 calls a.1 ++ map said_in (begins a.0.outgoing p.outgoing))

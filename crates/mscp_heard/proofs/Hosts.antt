@@ -61,15 +61,7 @@ pub record Sends (old new : PortAccount) (message : List ℕ) : Type 0 where
 
 sends : (old new : PortAccount) (message : ArrayVec ℕ) (c : Command) → c.reference < 2 ^ 32 → SameNumbers old
     → IsSent old new message c → Sends old new message.items
-sends old new message c small same s =
-    let number : num message.items 0 4 ≡ c.reference = ap (λ b. num b 0 4) s.is ∙ message_number c small in
-    record {
-      more = asked_of c;
-      asked = s.asked;
-      new_number = subst (λ n. find (is_of n) old.asked ≡ None) (sym number) (unused old c.reference same s.free);
-      number = sym number;
-      bytes = subst (λ b. bytes_in b ≤ bytes_of c.order) (sym s.is) (order_bytes c.reference c.unit c.order);
-    }
+sends old new message c small same s = grind (arith, message_number, unused, order_bytes)
 
 pub submit_sends : (old new : PortAccount) (c : Command) (message : ArrayVec ℕ) → c.reference < 2 ^ 32
     → SameNumbers old → port_submits old c ≡ (Ok message, new) → Sends old new message.items
@@ -99,22 +91,7 @@ hears_too_much old new v b e asked h = by (message_in v b) h
   where
     says : (end : End) (x : Asked) (poll c : Bool) → is_too_much end.body x.bytes ≡ c → (n : News)
         → is_it (Ok (news_said poll end x n), old) ≡ true → is_too_much end.body x.bytes ≡ true
-    says end x true c is (news.Ended read) h = absurd (search (arith, h))
-    says end x false true is (news.Ended read) h = is
-    says end x false false is (news.Ended read) h = absurd (search (
-      arith,
-      h,
-      ap (λ y. is_it (
-        Ok (cond y
-            (heards.MovedTooMuch end x) (heards.Ended end x)),
-        old,
-      )) is,
-    ))
-    says end x poll c is (news.Progress figure) h = absurd (search (arith, h))
-    says end x poll c is (news.First figure) h = absurd (search (arith, h))
-    says end x poll c is news.Late h = absurd (search (arith, h))
-    says end x poll c is news.Reset h = absurd (search (arith, h))
-    says end x poll c is news.Lost h = absurd (search (arith, h))
+    says end x x2 c is x5 h = grind arith
 
     judged : (end : End) (x : Asked) (c : Bool)
         → ◌≡◌ {A = Result Heard HearFault × PortAccount} (cond c (
@@ -123,12 +100,7 @@ hears_too_much old new v b e asked h = by (message_in v b) h
         )
         (Err faults.Unknown, old))
         (Ok (heards.MovedTooMuch e asked), new) → is_too_much end.body x.bytes ≡ true
-    judged end x true h = says end x (Rattle.mscp_host.specs.PortAccounts.is_poll_of old.account.watch end.reference)
-        (is_too_much end.body x.bytes) refl
-        (Rattle.mscp_host.specs.Accounts.news_with old.account (Rattle.mscp_host.specs.PortAccounts.as_read end)
-        (Rattle.mscp_host.specs.Accounts.answered old.account.watch (Rattle.mscp_host.specs.PortAccounts.as_read end)))
-        (ap (λ y. is_it (y.0, old)) h)
-    judged end x false h = absurd (search (arith, h))
+    judged end x x2 h = grind (arith, says)
 
     found : (end : End) (o : Option Asked) → find (is_of end.reference) old.asked ≡ o
         → ends_of old v.credits end o ≡ (Ok (heards.MovedTooMuch e asked), new)
@@ -139,16 +111,7 @@ hears_too_much old new v b e asked h = by (message_in v b) h
     by : (r : Result Message HearFault) → heard_of old v.credits r ≡ (Ok (heards.MovedTooMuch e asked), new)
         → (end : End) × (x : Asked) × (r ≡ Ok (messages.End end))
         × (find (is_of end.reference) old.asked ≡ Some x) × (is_too_much end.body x.bytes ≡ true)
-    by (Ok (messages.End end)) h =
-        let x = found end (find (is_of end.reference) old.asked) refl h in (end, x.0, refl, x.1, x.2)
-    by (Ok (messages.Attention code unit)) h = absurd (not_news (nat_eq code 0x40)
-        (ap (λ y. is_it (y.0, old)) h))
-      where
-        not_news : (c : Bool)
-            → is_it (Ok (cond c (heards.Available unit) (heards.Attention code unit)), old) ≡ true → ⊥
-        not_news true h = search (arith, h)
-        not_news false h = search (arith, h)
-    by x h = absurd (search (arith, h))
+    by x0 h = grind (arith, found, nat_eq)
 
 -- a message that is read is refused only as an end that is Unknown
 pub hears_refused : (old new : PortAccount) (v : Envelope) (b : List ℕ) (m : Message) (fault : HearFault)

@@ -38,18 +38,7 @@ module _ {K : Type 0} (picks : Picking K) (c : Settings) (picker : K) (ends : Po
       → (talk_of picks start a.0 calls a.1).turn ≡ Opened slot header
       → ReadsInOrder Like (WasRead bytes (Ok done)) (talk_of picks start a.0 calls a.1) ms
       → IsNext Like bytes header ms (length (accepted picks start a.0 calls a.1))
-  next_of Like p calls bytes done ms slot header asks a opened reads =
-      let t = talk_of picks start a.0 calls a.1 in
-      let r : IsNextText Like (Opened slot header) (length t.heard) ms bytes =
-      subst (λ x. IsNextText Like x (length t.heard) ms bytes) opened reads in
-      let same = counted t (accepted picks start a.0 calls a.1) slot header opened
-      (hear hardware credits controller start a.0 calls made asks.1 a.1).0 in
-      record {
-        disks = r.0;
-        message = r.1.0;
-        at = subst (λ n. slice_get ms n ≡ Some r.1.0) same r.1.1;
-        is = r.1.2;
-      }
+  next_of x0 p calls bytes done ms slot header asks a opened reads = grind (arith, counted)
 
   module _ (p : Port K) (calls : List Call) (asked : List Asked) (h : PortHistory) where
     takes_it : (call : Call) (a : Answered picks start (call ∷ calls) p) → AsksAlways (call ∷ calls)
@@ -328,14 +317,10 @@ module _ {K : Type 0} (picks : Picking K) (c : Settings) (picker : K) (ends : Po
       }
     where
       read_short : (kind : OutgoingKind) (t : List ℕ) → IsRead kind t → length t ≤ 64
-      read_short kinds.Attention t r = r.2
-      read_short kinds.End t r = r.short
-      read_short kinds.UtilitiesEnd t r = absurd r
+      read_short x0 t r = grind arith
 
       read_disk : (kind : OutgoingKind) (t : List ℕ) → IsRead kind t → connection_told kind ≡ 0
-      read_disk kinds.Attention t r = refl
-      read_disk kinds.End t r = refl
-      read_disk kinds.UtilitiesEnd t r = absurd r
+      read_disk x0 t r = grind arith
 
       small_size : (n : ℕ) → n ≤ 64 → n % 0x1_0000 ≡ n
       small_size n h = omega (arith, h)

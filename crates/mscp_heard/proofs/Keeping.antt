@@ -24,13 +24,7 @@ apart_more (y ∷ xs) x new all = by (nat_eq y.reference x.reference) refl new (
         none_more [] e = ap (λ c. cond c (Some x) None) (swapped (nat_eq x.reference y.reference) refl)
           where
             swapped : (c : Bool) → nat_eq x.reference y.reference ≡ c → c ≡ false
-            swapped false e = refl
-            swapped true e = search (
-              arith,
-              is,
-              eq-eqb y.reference x.reference
-                  (sym (eqb-true x.reference y.reference e)),
-            )
+            swapped x0 e = grind (arith, eq-eqb, eqb-true)
         none_more (z ∷ zs) e = cases (nat_eq z.reference y.reference) e (λ h. none_more zs h)
           where
             cases : (c : Bool) → cond c (Some z) (find (is_of y.reference) zs) ≡ None
@@ -215,35 +209,7 @@ module _ (F : ℕ → ℕ) (Served : ℕ → Type 0) (old new : PortAccount) (us
   -- the poll that was in flight is so still
   poll_stays : (w : Watch) → old.account.watch ≡ Some w → KnowsPoll F Served old P ms w.polled w.reference
       → KnowsPoll F Served new P (ms ++ m ∷ []) w.polled w.reference
-  poll_stays w at x =
-      let y = ready.watched w at in
-      let other = new_number w.polled x.known.0 x.known.1 in
-      let apart = new_number w.reference y.0 y.1 in
-      record {
-        apart = x.apart;
-        known = (
-          x.known.0,
-          ap (find (is_of w.polled)) s.asked ∙ find_more w.polled old.asked x.known.0 s.more x.known.1,
-        );
-        last = last_beside w.polled w.reference ms m other apart x.last;
-        place = elim x.place [
-          | inl unread ↦ inl (λ e. unread (sym (none_beside (has_number w.reference) ms m apart) ∙ e))
-          | inr there ↦ inr there
-        ];
-        coming = λ g first.
-            let c = x.coming g first in (
-              beside_none w.polled ms m other c.0,
-              elim c.1 [
-                | inl front ↦ inl front
-                | inr r ↦ inr (
-                  r.0,
-                  (λ l e. r.1 l (sym (ap (λ xs. last_told xs w.polled) s.outstanding
-                      ∙ last_more old.account.outstanding s.submission w.polled s.untold) ∙ e)),
-                  r.2,
-                )
-              ],
-            );
-      }
+  poll_stays w at x = grind (arith, new_number, find_more, last_beside, none_beside, beside_none, last_more)
 
   -- or the message is that of a poll
   poll_begins : (w : Watch) → w.reference ≡ s.more.reference → w.polled ≡ num m 12 4 → 16 ≤ length m

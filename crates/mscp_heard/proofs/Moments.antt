@@ -2,9 +2,7 @@
 use Rattle.mscp_heard.proofs.Common.{Asked, AsksAlways, Bool, Call, History, List, Ok, PortAccount, PortAnswered, PortAnswers, PortHistory, PortMoment, ReadsBytes, WasRead, Went, [], ap, append-nil, arith, asked_at, cond, false, filter, filter-append, flat_map-append, hearings, is_hearing, length, length-append, map, refl, sent, sent_by, submission_at, subst, suc, sym, true, ℕ, ◌++◌, ◌+◌, ◌∙◌, ◌∷◌, ◌≡◌}
 
 pub asked_before : (call : Call) (calls : List Call) → AsksAlways (call ∷ calls) → AsksAlways calls
-asked_before (WasRead bytes (Ok done)) calls asks = asks.1
-asked_before (Went outcome (Ok done)) calls asks = asks.1
-asked_before call calls asks = asks
+asked_before x0 calls asks = grind arith
 
 pub reads_before : (call : Call) (calls : List Call) → ReadsBytes (call ∷ calls) → ReadsBytes calls
 reads_before (WasRead bytes result) calls reads = reads.1

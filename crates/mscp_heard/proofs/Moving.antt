@@ -148,14 +148,7 @@ module _ (asked : List Asked) (us : List Said) (ts ms : List (List ℕ)) (o : Ow
 -- the next message is read: the controller takes it
 pub text_taken : (asked : List Asked) (us : List Said) (ts ms : List (List ℕ)) (t m : List ℕ) → IsTextOf t m
     → Owes asked (claims us ts (m ∷ ms)) → Owes asked (claims us (ts ++ t ∷ []) ms)
-text_taken asked us ts ms t m is o = subst (λ cs. Owes asked (claims_said us ++ cs))
-    (sym (ap (λ cs. cs ++ map claim_of ms) (map-append claim_of ts (t ∷ []))
-    ∙ append_assoc (map claim_of ts) (claim_of t ∷ []) (map claim_of ms)
-    ∙ ap (λ c. map claim_of ts ++ (c ∷ map claim_of ms)) same)) o
-  where
-    same : claim_of t ≡ claim_of m
-    same = ap (λ n. record { number = n; bytes = bytes_in t }) is.number
-        ∙ ap (λ n. record { number = num m 0 4; bytes = n }) is.bytes
+text_taken asked us ts ms t m is o = grind (arith, claims_said, claim_of, map-append, append_assoc)
 
 -- or the port answers it itself, and counts no bytes
 pub text_answered : (asked : List Asked) (us : List Said) (ts ms : List (List ℕ)) (s : Said) (m : List ℕ)

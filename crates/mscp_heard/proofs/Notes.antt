@@ -110,20 +110,7 @@ module _ (host : PortAccount) (us : List Said) (ts : List (List ℕ)) where
   pub copy_answered : (s : Said) (t m : List ℕ) (ms : List (List ℕ)) → IsCopyOf t m → num s.text 0 4 ≡ num t 0 4
       → (slice_index s.text 8 ≡ 0x80) ⊎ (slice_index s.text 8 ≡ slice_index t 8 + 0x80)
       → slice_index s.text 8 ≢ 0x82 → Noted host us ts (m ∷ ms) → Noted host (us ++ s ∷ []) ts ms
-  copy_answered s t m ms is named code never noted = record {
-    said = every_append (FitsSaid host) us (s ∷ []) noted.said (
-      (λ kind x found.
-          let f = noted.messages.0 x (ap (λ n. find (is_of n) host.asked) (sym is.number ∙ sym named) ∙ found) in
-          record {
-            code = coded x.opcode (slice_index s.text 8) (slice_index t 8) code
-                (subst (λ n. is_code_of (n + 0x80) x.opcode ≡ true) (sym is.opcode) f.code);
-            about = λ poll own. absurd (never poll);
-          }),
-      tt,
-    );
-    texts = noted.texts;
-    messages = noted.messages.1;
-  }
+  copy_answered s t m ms is named code never noted = grind (arith, every_append, coded)
 
   -- a message's end is said
   pub noted_end : (s : Said) (t : List ℕ) (ms : List (List ℕ)) → filter (has_number (num s.text 0 4)) ts ≡ t ∷ []
@@ -161,8 +148,4 @@ module _ (host : PortAccount) (us : List Said) (ts : List (List ℕ)) where
   -- news are
   pub noted_news : (s : Said) (ms : List (List ℕ)) → s.kind ≡ kinds.Attention → Noted host us ts ms
       → Noted host (us ++ s ∷ []) ts ms
-  noted_news s ms kind noted = record {
-    said = every_append (FitsSaid host) us (s ∷ []) noted.said ((λ end. absurd (search (arith, sym kind ∙ end))), tt);
-    texts = noted.texts;
-    messages = noted.messages;
-  }
+  noted_news s ms kind noted = grind (arith, every_append)

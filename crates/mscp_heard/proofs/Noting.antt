@@ -31,18 +31,7 @@ module _ (old new : PortAccount) (m : List ℕ) (s : Notes old new m) (ready : I
       (eq-eqb s.more.reference (num m 0 4) s.number)
 
   pub sent_ready : IsReady new
-  sent_ready = record {
-    watched = λ w is. elim s.watch [
-      | inl same ↦
-          let x = ready.watched w (sym same ∙ is) in
-          (x.0, ap (find (is_of w.reference)) s.asked ∙ find_more w.reference old.asked x.0 s.more x.1)
-      | inr poll ↦
-          let own : w.reference ≡ num m 0 4 =
-          ap (λ (y : Watch). y.reference) (same_Some w poll.0 (sym is ∙ poll.1)) ∙ poll.2 ∙ s.number in
-          (s.more, ap (λ n. find (is_of n) new.asked) own ∙ here)
-    ];
-    small = subst AreSmall (sym s.asked) (small_more old.asked s.more s.small ready.small);
-  }
+  sent_ready = grind (arith, find_more, same_Some, here, small_more)
 
   -- what was noted stays so
   sent_keeps : (n endcode other size : ℕ) → (x : Asked) × (find (is_of n) old.asked ≡ Some x)
@@ -65,26 +54,7 @@ module _ (old new : PortAccount) (m : List ℕ) (s : Notes old new m) (ready : I
 
   -- and the message fits
   sent_fits : FitsText new m
-  sent_fits x found =
-      let same : s.more ≡ x = same_Some s.more x (sym here ∙ found) in
-      record {
-        code = subst (λ (y : Asked). is_code_of (slice_index m 8 + 0x80) y.opcode ≡ true) same
-            (own_code s.more.opcode (slice_index m 8) s.opcode);
-        about = λ poll own. elim s.watch [
-          | inl still ↦ absurd (not_watched (subst (λ o. is_poll_of o (num m 0 4) ≡ true) still own))
-          | inr w ↦ (
-            w.4,
-            subst (λ o. is_about o (num m 12 4) ≡ true) (sym w.1)
-                (eq-eqb w.0.polled (num m 12 4) w.3),
-          )
-        ];
-      }
-    where
-      own_code : (opcode byte : ℕ) → opcode ≡ byte → is_code_of (byte + 0x80) opcode ≡ true
-      own_code opcode byte is = grind (arith, nat_eq, eq-eqb)
-
-      not_watched : is_poll_of old.account.watch (num m 0 4) ≡ true → ⊥
-      not_watched own = grind (arith, none-some, eqb-true)
+  sent_fits x found = grind (arith, same_Some, here, eq-eqb, nat_eq, none-some, eqb-true)
 
   pub sent_noted : (us : List Said) (ts ms : List (List ℕ)) → Owes old.asked (claims us ts ms) → Noted old us ts ms
       → Noted new us ts (ms ++ m ∷ [])
@@ -101,12 +71,7 @@ module _ (old new : PortAccount) (m : List ℕ) (s : Notes old new m) (ready : I
 -- what it keeps doesn't change
 pub same_ready : (old new : PortAccount) → new.asked ≡ old.asked → new.account ≡ old.account → IsReady old
     → IsReady new
-same_ready old new asked account ready = record {
-  watched = λ w is.
-      let x = ready.watched w (ap (λ (a : Account). a.watch) (sym account) ∙ is) in
-      (x.0, ap (find (is_of w.reference)) asked ∙ x.1);
-  small = subst AreSmall (sym asked) ready.small;
-}
+same_ready old new asked account ready = grind arith
 
 same_keeps : (old new : PortAccount) → new.asked ≡ old.asked → new.account ≡ old.account
     → (n endcode other size : ℕ) → Unit {0} → FitsNote old n endcode other size → FitsNote new n endcode other size
@@ -139,16 +104,7 @@ module _ (old new : PortAccount) (m : ℕ) (asked : new.asked ≡ without_by (is
   watched_before w is = grind (arith, nat_eq, none-some, same_Some)
 
   pub heard_ready : IsReady old → IsReady new
-  heard_ready ready = record {
-    watched = λ w is.
-        let b = watched_before w is in
-        let x = ready.watched b.0 b.1 in (
-          x.0,
-          ap (λ n. find (is_of n) new.asked) b.2 ∙ ap (find (is_of b.0.reference)) asked
-              ∙ find_left b.0.reference m old.asked b.4 ∙ x.1,
-        );
-    small = subst AreSmall (sym asked) (small_left m old.asked ready.small);
-  }
+  heard_ready ready = grind (arith, watched_before, find_left, small_left)
 
   heard_keeps : (n endcode other size : ℕ) → nat_eq n m ≡ false → FitsNote old n endcode other size
       → FitsNote new n endcode other size

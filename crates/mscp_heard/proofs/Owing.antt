@@ -24,9 +24,7 @@ pub record Inv (asked : List Asked) (said : List Said) (k : ℕ) (aw sent : List
 pub inv_as : (asked : List Asked) (ss ss' : List Said) (k : ℕ) (aw aw' ms : List (List ℕ)) (n n' : ℕ) → ss ≡ ss'
     → aw ≡ aw'
     → n ≡ n' → Inv asked ss' k aw' ms n' → Inv asked ss k aw ms n
-inv_as asked ss ss' k aw aw' ms n n' e f g i =
-    subst (λ x. Inv asked x k aw ms n) (sym e)
-    (subst (λ x. Inv asked ss' k x ms n) (sym f) (subst (λ x. Inv asked ss' k aw' ms x) (sym g) i))
+inv_as asked ss ss' k aw aw' ms n n' e f g i = grind arith
 
 pub moved_few : (k : Option BodyKind) (x n : ℕ) → (k ≡ Some bodykinds.Moved → x ≤ n) → moved_in k x ≤ n
 moved_few (Some bodykinds.Moved) x n h = h refl

@@ -45,37 +45,7 @@ module _ (t : List ℕ) (e : End) (long : 12 ≤ length t) (top : 0x80 ≤ slice
 
   read_with : (k : Option BodyKind) → kind_of_code (slice_index t 8) ≡ k
       → any_end t (reading_with k t) ≡ Ok (messages.End e) → IsEndIn e t
-  read_with None is h =
-      let same : bare_end t ≡ e = ap (λ r. message_or r e) h in
-      record {
-        long = long;
-        top = top;
-        reference = ap (λ (x : End). x.reference) (sym same);
-        moved = λ n few. subst (λ (x : End). is_too_much x.body n ≡ false) same refl;
-        whole = λ m. search (arith, sym is ∙ m);
-        code = ap (λ (x : End). x.code) (sym same);
-        told = λ other figure body. absurd (search (arith, ap (λ (x : End). x.body) same ∙ body));
-      }
-  read_with (Some k) is h = by (nat_lt (length t) (end_length k)) refl h
-    where
-      by : (b : Bool) → nat_lt (length t) (end_length k) ≡ b
-          → any_end t (cond b (Err endfaults.Length) (Ok (end_at k t))) ≡ Ok (messages.End e) → IsEndIn e t
-      by true is_short h = search (arith, h)
-      by false is_long h =
-          let same : end_at k t ≡ e = ap (λ r. message_or r e) h in
-          record {
-            long = long;
-            top = top;
-            reference = ap (λ (x : End). x.reference) (sym same);
-            moved = λ n few. subst (λ (x : End). is_too_much x.body n ≡ false) same
-                (body_few k n (subst (λ o. moved_in o (num t 12 4) ≤ n) is few));
-            whole = λ m. subst (λ (x : BodyKind). end_length x ≤ length t)
-                (Rattle.std.proofs.lemmas.Option.same_Some k bodykinds.Moved (sym is ∙ m))
-                (not_less (length t) (end_length k) is_long);
-            code = ap (λ (x : End). x.code) (sym same);
-            told = λ other figure body. tells k other figure (ap (λ (x : End). x.body) same ∙ body)
-                (not_less (length t) (end_length k) is_long);
-          }
+  read_with x0 is h = grind (arith, nat_lt, body_few, moved_in, not_less, tells)
 
   read_so : any_end t (end_in t) ≡ Ok (messages.End e) → IsEndIn e t
   read_so h = grind (arith, nat_le, read_with)
@@ -96,9 +66,7 @@ sequential_so t e h = by (nat_lt (length t) 12) refl h
         (cond (nat_le 0x40 (slice_index t 8)) (Ok (messages.Attention (slice_index t 8) (num t 4 2)))
         (Err faults.Unreadable))) ≡ Ok (messages.End e)
         → IsEndIn e t
-    by true is h = search (arith, h)
-    by false is h = low (nat_le 0x80 (slice_index t 8)) (nat_le 0x40 (slice_index t 8)) refl
-        (not_less (length t) 12 is) h
+    by x0 is h = grind (arith, low, nat_le, t, not_less)
 
 typed_so : (kind : ℕ) (t : List ℕ) (e : End) → typed_in kind t ≡ Ok (messages.End e) → IsEndIn e t
 typed_so kind t e h = by (nat_eq kind 0) (nat_eq kind 1) (nat_eq kind 2) h
@@ -244,9 +212,7 @@ news_so t code long =
     (Err faults.Unreadable)))) (sym code) (messages.Attention (slice_index t 8) (num t 4 2), refl, tt))
 
 sequential_read : (kind : OutgoingKind) (t : List ℕ) → IsRead kind t → IsMessage kind (sequential_in t)
-sequential_read kinds.Attention t r = news_so t r.0 r.1
-sequential_read kinds.End t r = whole_so t r
-sequential_read kinds.UtilitiesEnd t r = absurd r
+sequential_read x0 t r = grind (arith, news_so, whole_so)
 
 -- behind its envelope
 pub message_read : (kind : OutgoingKind) (t : List ℕ) (v : Envelope) → IsRead kind t → v.length ≡ length t

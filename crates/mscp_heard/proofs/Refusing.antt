@@ -37,14 +37,10 @@ end_kind s v b e code text connection r = by s.kind refl
     ))
 
 pub read_short : (kind : OutgoingKind) (t : List ℕ) → IsRead kind t → length t ≤ 64
-read_short kinds.Attention t r = r.2
-read_short kinds.End t r = r.short
-read_short kinds.UtilitiesEnd t r = absurd r
+read_short x0 t r = grind arith
 
 pub read_disk : (kind : OutgoingKind) (t : List ℕ) → IsRead kind t → connection_told kind ≡ 0
-read_disk kinds.Attention t r = refl
-read_disk kinds.End t r = refl
-read_disk kinds.UtilitiesEnd t r = absurd r
+read_disk x0 t r = grind arith
 
 pub small_size : (n : ℕ) → n ≤ 64 → n % 0x1_0000 ≡ n
 small_size n h = omega (arith, h)
@@ -175,10 +171,7 @@ module _ {K : Type 0} (picks : Picking K) (c : Settings) (picker : K) (ends : Po
   -- ---- all deeds
 
   pub new_ready : (host : PortAccount) → host ≡ fresh_of_port → IsReady host
-  new_ready host is = subst IsReady (sym is) (record {
-    watched = λ w e. absurd (none-some w e);
-    small = tt;
-  })
+  new_ready host is = grind (arith, none-some)
 
   -- by a call of the port
   pub by_call : (p : Port K) (calls : List Call) (call : Call) (a : Answered picks start (call ∷ calls) p)

@@ -25,9 +25,7 @@ pub size_of : (n : ℕ) → 0 + n % 256 * 1 + n / 256 % 256 * 256 ≡ n % 0x1_00
 size_of n = omega arith
 
 pub few_credits : (left : ℕ) (kind : OutgoingKind) → credits_in left kind / 16 ≡ 0
-few_credits left kinds.Attention = refl
-few_credits left kinds.End = omega arith
-few_credits left kinds.UtilitiesEnd = refl
+few_credits left x1 = grind arith
 
 pub record IsHeard (ss : List Said) (k : ℕ) (v : Envelope) (b : List ℕ) : Type 0 where
   pub said : Said

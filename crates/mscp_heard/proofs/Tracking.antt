@@ -134,11 +134,7 @@ module _ (host : PortAccount) (F F' : ℕ → ℕ) (Served Served' : ℕ → Typ
       shorter xs f g = search (arith, ap length (sym f ∙ g), ap length e)
 
       first_one : (x : List ℕ) → ms ≡ x ∷ ms' → num x 0 4 ≡ w
-      first_one x f = ap (λ z. num (first_in_list z) 0 4) (sym f ∙ e) ∙ named
-        where
-          first_in_list : List (List ℕ) → List ℕ
-          first_in_list [] = []
-          first_in_list (y ∷ ys) = y
+      first_one x f = grind arith
 
       by : Dealt Took texts us ts ms us' ts' ms' → (t : List ℕ) × (texts ≡ t ∷ []) × (num t 0 4 ≡ w)
       by (inl q) = absurd (shorter ms refl (sym q.2))

@@ -149,9 +149,7 @@ holds_of_in n (e ∷ es) is h = by (nat_eq e.reference n) refl h is (λ k. holds
         (e : End). nat_eq e.reference n) es) ≡ []
         → (nat_eq e.reference n ≡ true) ⊎ IsIn n (map pending_end es)
         → (IsIn n (map pending_end es) → filter (λ (e : End). nat_eq e.reference n) es ≢ []) → ⊥
-    by true so h is rest = search (arith, h)
-    by false so h (inl is) rest = search (arith, so, is)
-    by false so h (inr is) rest = rest is h
+    by x0 so h is rest = grind arith
 
 pub in_said : (n : ℕ) (us : List Said) → IsIn n (flat_map pending_in us) → 1 ≤ tally n (claims_said us)
 in_said n [] is = absurd is

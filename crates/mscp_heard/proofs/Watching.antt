@@ -157,13 +157,7 @@ hear_watch old new v b answer e = by (message_in v b) e
         )
         (Err faults.Unknown, old)) (answer, new)
         → SettlesWatch old new (Ok (messages.End end))
-    judged end x true h = inr (
-      end,
-      refl,
-      sym (ap (λ y. y.1.asked) h),
-      sym (ap (λ y. y.1.account.watch) h) ∙ ap (watch_after old.account.watch) (read_number end),
-    )
-    judged end x false h = inl (sym (ap (λ y. y.1.asked) h), sym (ap (λ y. y.1.account) h))
+    judged end x x2 h = grind (arith, read_number)
 
     found : (end : End) (o : Option Asked) → ends_of old v.credits end o ≡ (answer, new)
         → SettlesWatch old new (Ok (messages.End end))
