@@ -49,14 +49,10 @@ module _ (F : ℕ → ℕ) (Served : ℕ → Type 0) (old new : PortAccount) (s 
   }
     where
       no_claim : (kind : OutgoingKind) → s.kind ≡ kind → claim_said s.kind s.text ≡ []
-      no_claim kinds.End is = absurd (other is)
-      no_claim kinds.Attention is = ap (λ x. claim_said x s.text) is
-      no_claim kinds.UtilitiesEnd is = ap (λ x. claim_said x s.text) is
+      no_claim x0 is = grind (arith, claim_said)
 
       no_pending : (kind : OutgoingKind) → s.kind ≡ kind → pending_in s ≡ []
-      no_pending kinds.End is = absurd (other is)
-      no_pending kinds.Attention is = ap (λ x. pending_said x s.text) is
-      no_pending kinds.UtilitiesEnd is = ap (λ x. pending_said x s.text) is
+      no_pending x0 is = grind arith
 
   -- an end is heard
   module _ (kind : s.kind ≡ kinds.End) (e : End) (named : e.reference ≡ num s.text 0 4)

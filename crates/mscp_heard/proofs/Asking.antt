@@ -27,20 +27,10 @@ submit_is old new c message e = by (credit_fault old.credits (opcode_byte c.orde
 
     judged : (o : Option HostFault) → refusal old.account (opcode_byte c.order) c.reference ≡ o
         → submitted_with old c (submits_unless old.account c o) ≡ (Ok message, new) → So
-    judged (Some fault) r h = absurd (search (arith, h))
-    judged None r h = (
-      record {
-        free = not_doubled old.account (opcode_byte c.order) c.reference r;
-        is = sym (ap items h);
-        asked = sym (ap (λ x. x.1.asked) h);
-        outstanding = sym (ap (λ x. x.1.account.outstanding) h);
-      },
-      sym (ap (λ x. x.1.account.watch) h),
-    )
+    judged x0 r h = grind (arith, not_doubled, items)
 
     by : (o : Option HostFault) → submits_unless_faulty old c o ≡ (Ok message, new) → So
-    by (Some fault) h = absurd (search (arith, h))
-    by None h = judged (refusal old.account (opcode_byte c.order) c.reference) refl h
+    by x0 h = grind (arith, judged)
 
 pub submit_same : (old new : PortAccount) (c : Command) (fault : HostFault)
     → port_submits old c ≡ (Err fault, new) → new ≡ old

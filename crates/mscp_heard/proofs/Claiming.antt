@@ -9,8 +9,7 @@ module _ (Took : List ℕ → Type 0) (texts : List (List ℕ)) (us : List Said)
     (ts' ms' : List (List ℕ)) (d : Dealt Took texts us ts ms us' ts' ms') where
   parts_of : (n : ℕ) (xs : List Said) (ys zs : List (List ℕ)) → tally n (claims xs ys zs)
       ≡ tally n (claims_said xs) + (tally n (map claim_of ys) + tally n (map claim_of zs))
-  parts_of n xs ys zs = tally_append n (claims_said xs) (map claim_of ys ++ map claim_of zs)
-      ∙ ap (λ k. tally n (claims_said xs) + k) (tally_append n (map claim_of ys) (map claim_of zs))
+  parts_of n xs ys zs = grind (arith, tally_append, claims_said, claim_of, tally)
 
   said_one : (n : ℕ) (s : Said) (kind : OutgoingKind) → s.kind ≡ kind
       → tally n (claims_said (us ++ s ∷ [])) ≡ tally n (claims_said us) + tally n (claim_said kind s.text ++ [])

@@ -50,8 +50,7 @@ tally_append n (c ∷ cs) ds = by (nat_eq c.number n) (tally n (cs
     ++ ds)) (tally n cs) (tally n ds) (tally_append n cs ds)
   where
     by : (b : Bool) (x y z : ℕ) → x ≡ y + z → cond b (1 + x) x ≡ cond b (1 + y) y + z
-    by true x y z e = omega (arith, e)
-    by false x y z e = e
+    by x0 x y z e = grind arith
 
 -- a number that isn't found is owed by none
 pub none_owed : (asked : List Asked) (cs : List Claim) (n : ℕ) → AllByRecursion (IsOwed asked) cs
@@ -70,8 +69,7 @@ others_apart n (c ∷ cs) e = by (nat_eq c.number n) refl e (λ h. others_apart 
     by : (b : Bool) → nat_eq c.number n ≡ b → cond b (1 + tally n cs) (tally n cs) ≡ 0
         → (tally n cs ≡ 0 → AllByRecursion (λ c. nat_eq c.number n ≡ false) cs)
         → (nat_eq c.number n ≡ false) × AllByRecursion (λ c. nat_eq c.number n ≡ false) cs
-    by true is h rest = absurd (search (arith, h))
-    by false is h rest = (is, rest h)
+    by x0 is h rest = grind arith
 
 -- ---- commands
 
@@ -83,8 +81,7 @@ find_more n (a ∷ asked) x y e = by (is_of n a) e (λ h. find_more n asked x y 
     by : (b : Bool) → cond b (Some a) (find (is_of n) asked) ≡ Some x
         → (find (is_of n) asked ≡ Some x → find (is_of n) (asked ++ y ∷ []) ≡ Some x)
         → cond b (Some a) (find (is_of n) (asked ++ y ∷ [])) ≡ Some x
-    by true h rest = h
-    by false h rest = rest h
+    by x0 h rest = grind arith
 
 pub find_new : (n : ℕ) (asked : List Asked) (y : Asked) → find (is_of n) asked ≡ None → is_of n y ≡ true
     → find (is_of n) (asked ++ y ∷ []) ≡ Some y
@@ -94,8 +91,7 @@ find_new n (a ∷ asked) y e is = by (is_of n a) e (λ h. find_new n asked y h i
     by : (b : Bool) → cond b (Some a) (find (is_of n) asked) ≡ None
         → (find (is_of n) asked ≡ None → find (is_of n) (asked ++ y ∷ []) ≡ Some y)
         → cond b (Some a) (find (is_of n) (asked ++ y ∷ [])) ≡ Some y
-    by true h rest = absurd (none-some a (sym h))
-    by false h rest = rest h
+    by x0 h rest = grind (arith, none-some)
 
 pub find_left : (n m : ℕ) (asked : List Asked) → nat_eq n m ≡ false
     → find (is_of n) (without_by (is_of m) asked) ≡ find (is_of n) asked
@@ -139,8 +135,7 @@ owes_less asked c cs o = record {
 }
   where
     less : (b : Bool) (k : ℕ) → cond b (1 + k) k ≤ 1 → k ≤ 1
-    less true k h = omega (arith, h)
-    less false k h = h
+    less x0 k h = grind arith
 
     left : (ds : List Claim) → AllByRecursion (IsOwed asked) ds
         → AllByRecursion (λ d. nat_eq d.number c.number ≡ false) ds

@@ -28,8 +28,7 @@ Taken call old t = ((done : Unit) × (call ≡ WasRead t (Ok done))) × (taken_b
 
 noted_as : (host : PortAccount) (us us' : List Said) (ts ts' ms ms' : List (List ℕ)) → us' ≡ us → ts' ≡ ts → ms' ≡ ms
     → Noted host us ts ms → Noted host us' ts' ms'
-noted_as host us us' ts ts' ms ms' e f g n = subst (λ x. Noted host x ts' ms') (sym e)
-    (subst (λ x. Noted host us x ms') (sym f) (subst (λ x. Noted host us ts x) (sym g) n))
+noted_as host us us' ts ts' ms ms' e f g n = grind arith
 
 pub noted_dealt : (Took : List ℕ → Type 0) (texts : List (List ℕ)) (host : PortAccount) (us us' : List Said)
     (ts ts' ms ms' : List (List ℕ))
@@ -91,8 +90,7 @@ module _ {K : Type 0} (picks : Picking K) (c : Settings) (picker : K) (ends : Po
     said_same : begins a.0.outgoing p.outgoing ≡ []
         → drop k (said picks start a.0 calls a.1 ++ map said_in (begins a.0.outgoing p.outgoing))
         ≡ drop k (said picks start a.0 calls a.1)
-    said_same none = ap (λ xs. drop k (said picks start a.0 calls a.1 ++ map said_in xs)) none
-        ∙ ap (drop k) (append-nil (said picks start a.0 calls a.1))
+    said_same none = grind (arith, append-nil)
 
     awaited_same : ends_said_by call a.0 p ≡ []
         → taken_by call a.0 ≡ []
@@ -103,8 +101,7 @@ module _ {K : Type 0} (picks : Picking K) (c : Settings) (picker : K) (ends : Po
     unread_same : accepted_by call a.0 ≡ []
         → drop (length (accepted picks start a.0 calls a.1 ++ accepted_by call a.0)) sent_so
         ≡ drop (length (accepted picks start a.0 calls a.1)) sent_so
-    unread_same none = ap (λ xs. drop (length xs) sent_so)
-        (ap (λ xs. accepted picks start a.0 calls a.1 ++ xs) none ∙ append-nil (accepted picks start a.0 calls a.1))
+    unread_same none = grind (arith, append-nil)
 
     unread_less : (text message : List ℕ)
         → accepted_by call a.0 ≡ text ∷ []
@@ -168,7 +165,7 @@ module _ {K : Type 0} (picks : Picking K) (c : Settings) (picker : K) (ends : Po
       ))))
     where
       bytes_read : Call → List ℕ
-      bytes_read (WasRead b u) = b
+      bytes_read (WasRead b r) = b
       bytes_read call = bytes
   answers_it call a heard asks small reads d = absurd (search (arith, d.read.1))
 

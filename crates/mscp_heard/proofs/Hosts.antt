@@ -33,8 +33,7 @@ none_any n (a ∷ asked) e = by (nat_eq a.reference n) e (none_any n asked)
     by : (b : Bool) → (b || list_any (λ r. nat_eq r n) (map (λ a. a.reference) asked)) ≡ false
         → (list_any (λ r. nat_eq r n) (map (λ a. a.reference) asked) ≡ false → find (is_of n) asked ≡ None)
         → cond b (Some a) (find (is_of n) asked) ≡ None
-    by true h rest = absurd (search (arith, h))
-    by false h rest = rest h
+    by x0 h rest = grind arith
 
 any_same : (n : ℕ) (xs : List Submission)
     → list_any (has_reference n) xs ≡ list_any (λ r. nat_eq r n) (map (λ s. s.reference) xs)
@@ -47,8 +46,7 @@ SameNumbers p = map (λ a. a.reference) p.asked ≡ map (λ s. s.reference) p.ac
 
 pub unused : (p : PortAccount) (n : ℕ) → SameNumbers p → list_any (has_reference n) p.account.outstanding ≡ false
     → find (is_of n) p.asked ≡ None
-unused p n same e = none_any n p.asked (ap (list_any (λ r. nat_eq r n)) same
-    ∙ sym (any_same n p.account.outstanding) ∙ e)
+unused p n same e = grind (arith, none_any, nat_eq, any_same)
 
 -- ---- a command is sent
 
@@ -105,8 +103,7 @@ hears_too_much old new v b e asked h = by (message_in v b) h
     found : (end : End) (o : Option Asked) → find (is_of end.reference) old.asked ≡ o
         → ends_of old v.credits end o ≡ (Ok (heards.MovedTooMuch e asked), new)
         → (x : Asked) × (find (is_of end.reference) old.asked ≡ Some x) × (is_too_much end.body x.bytes ≡ true)
-    found end None is h = absurd (search (arith, h))
-    found end (Some x) is h = (x, is, judged end x (may_be_of old end x) h)
+    found end x1 is h = grind (arith, judged)
 
     by : (r : Result Message HearFault) → heard_of old v.credits r ≡ (Ok (heards.MovedTooMuch e asked), new)
         → (end : End) × (x : Asked) × (r ≡ Ok (messages.End end))
@@ -126,14 +123,11 @@ hears_refused old new v b m fault is h =
           granted v.credits (ended old end),
         )
         (Err faults.Unknown, old)) (Err fault, new) → fault ≡ faults.Unknown
-    judged end x true h = absurd (search (arith, h))
-    judged end x false h = search (arith, h)
+    judged end x x2 h = grind arith
 
     found : (end : End) (o : Option Asked) → ends_of old v.credits end o ≡ (Err fault, new) → fault ≡ faults.Unknown
-    found end None h = search (arith, h)
-    found end (Some x) h = judged end x (may_be_of old end x) h
+    found end x1 h = grind (arith, judged)
 
     by : (m : Message) → message_in v b ≡ Ok m → heard_of old v.credits (Ok m) ≡ (Err fault, new)
         → (fault ≡ faults.Unknown) × ((e : End) × (message_in v b ≡ Ok (messages.End e)))
-    by (messages.End end) is h = (found end (find (is_of end.reference) old.asked) h, (end, is))
-    by x is h = absurd (search (arith, h))
+    by x0 is h = grind (arith, found)

@@ -282,8 +282,7 @@ module _ {K : Type 0} (picks : Picking K) (c : Settings) (picker : K) (ends : Po
           → slice_get (cond b Rattle.mscp_ported.specs.Talk.silence (Rattle.mscp_ported.specs.Talk.stepped a.0.stage
           p.stage (Rattle.mscp_ported.specs.Talk.talk_by a.0.stage (Rattle.mscp_ported.specs.Talk.wish calls) call
           (talk_of picks start a.0 calls a.1)))).told k ≡ Some packet → b ≡ false
-      by false is h = refl
-      by true is h = absurd (none-some packet h)
+      by x0 is h = grind (arith, none-some)
 
   pub hears_own : (p : Port K) (deeds : List Deed) (old new : PortAccount) (v : Envelope) (b : List ℕ)
       (answer : Result Heard HearFault) → AsksAlways (calls_in deeds) → ReadsBytes (calls_in deeds)

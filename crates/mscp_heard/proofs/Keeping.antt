@@ -30,8 +30,7 @@ apart_more (y ∷ xs) x new all = by (nat_eq y.reference x.reference) refl new (
             cases : (c : Bool) → cond c (Some z) (find (is_of y.reference) zs) ≡ None
                 → (find (is_of y.reference) zs ≡ None → find (is_of y.reference) (zs ++ x ∷ []) ≡ None)
                 → cond c (Some z) (find (is_of y.reference) (zs ++ x ∷ [])) ≡ None
-            cases true h rest = absurd (none-some z (sym h))
-            cases false h rest = rest h
+            cases x0 h rest = grind (arith, none-some)
 
 none_left : (m n : ℕ) (xs : List Asked) → find (is_of n) xs ≡ None → find (is_of n) (without_by (is_of m) xs) ≡ None
 none_left m n [] e = refl
@@ -174,8 +173,7 @@ module _ (F : ℕ → ℕ) (Served : ℕ → Type 0) (old new : PortAccount) (us
               cases : (c : Bool) → cond c (Some z) (find (is_of n) zs) ≡ None
                   → (find (is_of n) zs ≡ None → find (is_of n) (zs ++ s.more ∷ []) ≡ None)
                   → cond c (Some z) (find (is_of n) (zs ++ s.more ∷ [])) ≡ None
-              cases true h rest = absurd (none-some z (sym h))
-              cases false h rest = rest h
+              cases x0 h rest = grind (arith, none-some)
 
       by : (b : Bool) → nat_eq (num m 0 4) n ≡ b → 1 ≤ tally n (claims us ts (ms ++ m ∷ []))
       by true is = most (tally n (claims us ts (ms ++ m ∷ []))) (tally n (claims us ts ms))

@@ -5,8 +5,7 @@ pub asked_before : (call : Call) (calls : List Call) → AsksAlways (call ∷ ca
 asked_before x0 calls asks = grind arith
 
 pub reads_before : (call : Call) (calls : List Call) → ReadsBytes (call ∷ calls) → ReadsBytes calls
-reads_before (WasRead bytes result) calls reads = reads.1
-reads_before call calls reads = reads
+reads_before x0 calls reads = grind arith
 
 pub answered_last : (old new : PortAccount) (h : PortHistory) (m : PortMoment) → PortAnswered old (h ++ m ∷ []) new
     → (mid : PortAccount) × PortAnswered old h mid × PortAnswers mid m new

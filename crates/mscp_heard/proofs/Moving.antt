@@ -32,8 +32,7 @@ all_pass n (t ∷ ts) e = by (has_number n t) e (all_pass n ts)
     by : (b : Bool) → cond b (t ∷ filter (has_number n) ts) (filter (has_number n) ts) ≡ []
         → (filter (has_number n) ts ≡ [] → filter (λ t. not (has_number n t)) ts ≡ ts)
         → cond (not b) (t ∷ filter (λ t. not (has_number n t)) ts) (filter (λ t. not (has_number n t)) ts) ≡ t ∷ ts
-    by true h rest = absurd (search (arith, h))
-    by false h rest = ap (λ xs. t ∷ xs) (rest h)
+    by x0 h rest = grind arith
 
 same_head : (x y : List ℕ) (xs : List (List ℕ)) → x ∷ xs ≡ y ∷ [] → (x ≡ y) × (xs ≡ [])
 same_head x y xs e = search (arith, e)
@@ -51,8 +50,7 @@ tally_one n m (x ∷ ts) t e = by (has_number n x) e (tally_one n m ts t)
     here xs same all = grind (arith, nat_eq, tally, claim_of)
 
     other : (b : Bool) (x y z : ℕ) → x ≡ y + z → cond b (1 + x) x ≡ y + cond b (1 + z) z
-    other true x y z e = omega (arith, e)
-    other false x y z e = e
+    other x0 x y z e = grind arith
 
     by : (b : Bool) → cond b (x ∷ filter (has_number n) ts) (filter (has_number n) ts) ≡ t ∷ []
         → (filter (has_number n) ts ≡ t ∷ [] → tally m (map claim_of ts)
@@ -69,8 +67,7 @@ known_left P f (t ∷ ts) all = by (f t) (known_left P f ts all.1)
   where
     by : (b : Bool) → AllByRecursion P (map claim_of (filter f ts))
         → AllByRecursion P (map claim_of (cond b (t ∷ filter f ts) (filter f ts)))
-    by true rest = (all.0, rest)
-    by false rest = rest
+    by x0 rest = grind arith
 
 known_one : (P : Claim → Type 0) (n : ℕ) (ts : List (List ℕ)) (t : List ℕ) → filter (has_number n) ts ≡ t ∷ []
     → AllByRecursion P (map claim_of ts) → P (claim_of t) × (num t 0 4 ≡ n)
@@ -93,8 +90,7 @@ module _ (asked : List Asked) (us : List Said) (ts ms : List (List ℕ)) (o : Ow
 
   -- what is said claims nothing
   pub news_said : (s : Said) → claim_said s.kind s.text ≡ [] → Owes asked (claims (us ++ s ∷ []) ts ms)
-  news_said s none = subst (λ cs. Owes asked (cs ++ (map claim_of ts ++ map claim_of ms)))
-      (sym (said_append us (s ∷ []) ∙ ap (λ cs. claims_said us ++ (cs ++ [])) none ∙ append-nil (claims_said us))) o
+  news_said s none = grind (arith, claim_of, said_append, claims_said, append-nil)
 
   -- a message's end is said
   pub end_said : (s : Said) (t : List ℕ) → s.kind ≡ kinds.End

@@ -69,14 +69,12 @@ module _ (host new : PortAccount) (Q : ℕ → Type 0)
       }
 
 code_or : (code : ℕ) (t : List ℕ) → IsCodeFor code t → (code ≡ 0x80) ⊎ (code ≡ slice_index t 8 + 0x80)
-code_or code t (inl e) = inl e.0
-code_or code t (inr e) = inr e
+code_or code t x2 = grind arith
 
 -- an end of that code fits as its message does
 coded : (opcode code byte : ℕ) → (code ≡ 0x80) ⊎ (code ≡ byte + 0x80) → is_code_of (byte + 0x80) opcode ≡ true
     → is_code_of code opcode ≡ true
-coded opcode code byte (inl e) is = ap (λ n. nat_eq n 0x80 || nat_eq n (opcode + 0x80)) e
-coded opcode code byte (inr e) is = ap (λ n. is_code_of n opcode) e ∙ is
+coded opcode code byte x3 is = grind (arith, nat_eq)
 
 -- ---- by a call
 
@@ -142,8 +140,7 @@ module _ (host : PortAccount) (us : List Said) (ts : List (List ℕ)) where
       }
     where
       message_poll : (code byte : ℕ) → code ≡ 0x82 → (code ≡ 0x80) ⊎ (code ≡ byte + 0x80) → byte + 0x80 ≡ 0x82
-      message_poll code byte poll (inl e) = absurd (search (arith, sym e ∙ poll))
-      message_poll code byte poll (inr e) = sym e ∙ poll
+      message_poll code byte poll x3 = grind arith
 
   -- news are
   pub noted_news : (s : Said) (ms : List (List ℕ)) → s.kind ≡ kinds.Attention → Noted host us ts ms

@@ -21,14 +21,12 @@ small_left n [] all = tt
 small_left n (x ∷ xs) all = by (is_of n x) (small_left n xs all.1)
   where
     by : (b : Bool) → AreSmall (without_by (is_of n) xs) → AreSmall (cond b xs (x ∷ without_by (is_of n) xs))
-    by true rest = all.1
-    by false rest = (all.0, rest)
+    by x0 rest = grind arith
 
 -- it sends a message
 module _ (old new : PortAccount) (m : List ℕ) (s : Notes old new m) (ready : IsReady old) where
   here : find (is_of (num m 0 4)) new.asked ≡ Some s.more
-  here = ap (find (is_of (num m 0 4))) s.asked ∙ find_new (num m 0 4) old.asked s.more s.new_number
-      (eq-eqb s.more.reference (num m 0 4) s.number)
+  here = grind (arith, find_new, eq-eqb)
 
   pub sent_ready : IsReady new
   sent_ready = grind (arith, find_more, same_Some, here, small_more)

@@ -27,12 +27,10 @@ pub inv_as : (asked : List Asked) (ss ss' : List Said) (k : ℕ) (aw aw' ms : Li
 inv_as asked ss ss' k aw aw' ms n n' e f g i = grind arith
 
 pub moved_few : (k : Option BodyKind) (x n : ℕ) → (k ≡ Some bodykinds.Moved → x ≤ n) → moved_in k x ≤ n
-moved_few (Some bodykinds.Moved) x n h = h refl
-moved_few k x n h = search arith
+moved_few x0 x n h = grind arith
 
 moved_none : (k : Option BodyKind) (x : ℕ) → x ≡ 0 → moved_in k x ≡ 0
-moved_none (Some bodykinds.Moved) x e = e
-moved_none k x e = refl
+moved_none x0 x e = grind arith
 
 -- ---- a call
 

@@ -35,13 +35,11 @@ top_bit n h = search (arith, h)
 
 module _ (t : List ℕ) (e : End) (long : 12 ≤ length t) (top : 0x80 ≤ slice_index t 8) where
   body_few : (k : BodyKind) (n : ℕ) → moved_in (Some k) (num t 12 4) ≤ n → is_too_much (body_at k t) n ≡ false
-  body_few bodykinds.Moved n h = not_more n (num t 12 4) h
-  body_few x n h = refl
+  body_few x0 n h = grind (arith, not_more)
 
   tells : (k : BodyKind) (other figure : ℕ) → body_at k t ≡ bodies.Status other figure → end_length k ≤ length t
       → (other ≡ num t 12 4) × (figure ≡ num t 16 4) × (20 ≤ length t)
-  tells bodykinds.Status other figure e long = search (arith, e, long)
-  tells x other figure e long = absurd (search (arith, e))
+  tells x0 other figure e long = grind arith
 
   read_with : (k : Option BodyKind) → kind_of_code (slice_index t 8) ≡ k
       → any_end t (reading_with k t) ≡ Ok (messages.End e) → IsEndIn e t

@@ -37,8 +37,7 @@ no_step old call t done is s = subst (λ x. TellsStep x old) is s
 
 takes_poll : {K : Type 0} (old : Port K) (call : Call) (t : List ℕ) (done : Unit) → call ≡ WasRead t (Ok done)
     → taken_by call old ≡ t ∷ [] → slice_index t 8 ≡ 2 → 16 ≤ length t → TakesPoll (num t 12 4) call old
-takes_poll old call t done is took poll long = subst (λ x. TakesPoll (num t 12 4) x old) (sym is)
-    (subst (λ x. taken_by x old ≡ t ∷ []) is took, poll, long, refl)
+takes_poll old call t done is took poll long = grind arith
 
 -- ---- all deeds
 
@@ -149,8 +148,7 @@ module _ {K : Type 0} (picks : Picking K) (c : Settings) (picker : K) (ends : Po
     as_last m x = grind (arith, heard_last, sent_last)
 
     still : new ≡ mid → Told p calls a new (hearings h) (sent h ++ [])
-    still same = subst (λ ms. Told p calls a new (hearings h) ms) (sym (append-nil (sent h)))
-        (subst (λ x. Told p calls a x (hearings h) (sent h)) (sym same) k)
+    still same = grind (arith, append-nil)
 
     is_claimed : (m g : ℕ) → first_of m (flat_map pending_in (drop (hearings h) us) ++ pending_held p) ≡ Some g
         → 1 ≤ tally m (claims (drop (hearings h) us) aw (drop n (sent h)))

@@ -59,8 +59,7 @@ module _ (asked : List Asked) (ss : List Said) (k : ℕ) (aw ms : List (List ℕ
             let h = end_heard v b e r in search (arith, h.1, ap (λ x. slice_index x 8) text ∙ code)
 
         not_disk : (e : End) → s.kind ≡ kinds.UtilitiesEnd → message_in v b ≡ Ok (messages.End e) → ⊥
-        not_disk e kind r =
-            let h = end_heard v b e r in search (arith, sym h.0 ∙ (connection ∙ ap connection_told kind))
+        not_disk e kind r = grind (arith, end_heard)
 
         by : (kind : OutgoingKind) → s.kind ≡ kind
             → Owes asked (claim_said s.kind s.text ++ claims (drop (suc k) ss) aw (drop n ms)) → IsCoded s

@@ -5,8 +5,7 @@ use Rattle.mscp_port.specs.declared.port.OutgoingKind.TheVariants as kinds
 
 pub counted : (t : Talk) (texts : List (List ℕ)) (slot : Slot) (header : ℕ) → t.turn ≡ Opened slot header
     → AreAccepted t.heard t.turn texts → length t.heard ≡ length texts
-counted t texts slot header opened (inl e) = sym (ap length e ∙ length-map t.heard message_text)
-counted t texts slot header opened (inr r) = absurd (search (arith, sym opened ∙ r.3))
+counted t texts slot header opened x5 = grind (arith, length-map)
 
 pub tell_at : (left : ℕ) (told : List Packet) (gone : List Said) (k : ℕ) (packet : Packet) → TellAll left told gone
     → slice_get told k ≡ Some packet → (s : Said) × (rest : ℕ) × (slice_get gone k ≡ Some s) × Tells rest packet s

@@ -68,8 +68,7 @@ module _ (host : PortAccount) (F F' : ℕ → ℕ) (Served Served' : ℕ → Typ
 
       one : (s : Said) → s.kind ≡ kinds.End → IsIn n (pending_said s.kind s.text ++ [])
           → nat_eq (num s.text 0 4) n ≡ true
-      one s kind is = elim (subst (λ k. IsIn n (pending_said k s.text ++ [])) kind is)
-          [ inl x ↦ x | inr x ↦ absurd x ]
+      one s kind is = grind arith
 
       said_is : (s : Said) → us' ≡ us ++ s ∷ [] → new ≡ s ∷ []
       said_is s e = cancel us new (s ∷ []) (sym is_new ∙ e)
@@ -157,8 +156,7 @@ module _ (host : PortAccount) (F F' : ℕ → ℕ) (Served Served' : ℕ → Typ
     where
       whole : tally x (claims us ts ms)
           ≡ tally x (claims_said us) + (tally x (map claim_of ts) + tally x (map claim_of ms))
-      whole = tally_append x (claims_said us) (map claim_of ts ++ map claim_of ms)
-          ∙ ap (λ k. tally x (claims_said us) + k) (tally_append x (map claim_of ts) (map claim_of ms))
+      whole = grind (arith, tally_append, claims_said, claim_of, tally)
 
       among : (a b c : ℕ) → 1 ≤ a + (b + c) → c ≡ 0 → (1 ≤ a) ⊎ (1 ≤ b)
       among a b c h e = search (arith, h, e)

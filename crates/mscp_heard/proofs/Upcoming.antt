@@ -30,8 +30,7 @@ first_more n (x ∷ es) more g e = by (nat_eq x.number n) e (λ h. first_more n 
     by : (b : Bool) → cond b (Some x.figure) (first_of n es) ≡ Some g
         → (first_of n es ≡ Some g → first_of n (es ++ more) ≡ Some g)
         → cond b (Some x.figure) (first_of n (es ++ more)) ≡ Some g
-    by true h rest = h
-    by false h rest = rest h
+    by x0 h rest = grind arith
 
 pub first_behind : (n : ℕ) (es more : List Pending) → first_of n es ≡ None → first_of n (es ++ more) ≡ first_of n more
 first_behind n [] more e = refl
@@ -40,8 +39,7 @@ first_behind n (x ∷ es) more e = by (nat_eq x.number n) e (λ h. first_behind 
     by : (b : Bool) → cond b (Some x.figure) (first_of n es) ≡ None
         → (first_of n es ≡ None → first_of n (es ++ more) ≡ first_of n more)
         → cond b (Some x.figure) (first_of n (es ++ more)) ≡ first_of n more
-    by true h rest = absurd (none-some x.figure (sym h))
-    by false h rest = rest h
+    by x0 h rest = grind (arith, none-some)
 
 -- where w isn't there yet, all stand in front of it
 pub in_front : (x w : ℕ) (es more : List Pending) → first_of w es ≡ None → IsIn x es → Before x w (es ++ more)
@@ -53,12 +51,10 @@ in_front x w (e ∷ es) more none (inr is) = inr (
 )
   where
     apart : (b : Bool) → cond b (Some e.figure) (first_of w es) ≡ None → b ≡ false
-    apart true h = absurd (none-some e.figure (sym h))
-    apart false h = refl
+    apart x0 h = grind (arith, none-some)
 
     rest : (b : Bool) → cond b (Some e.figure) (first_of w es) ≡ None → first_of w es ≡ None
-    rest true h = absurd (none-some e.figure (sym h))
-    rest false h = h
+    rest x0 h = grind (arith, none-some)
 
 pub first_in : (n : ℕ) (es : List Pending) (g : ℕ) → first_of n es ≡ Some g → IsIn n es
 first_in n [] g e = absurd (none-some g e)
@@ -66,8 +62,7 @@ first_in n (x ∷ es) g e = by (nat_eq x.number n) refl e (λ h. first_in n es g
   where
     by : (b : Bool) → nat_eq x.number n ≡ b → cond b (Some x.figure) (first_of n es) ≡ Some g
         → (first_of n es ≡ Some g → IsIn n es) → (nat_eq x.number n ≡ true) ⊎ IsIn n es
-    by true is h rest = inl is
-    by false is h rest = inr (rest h)
+    by x0 is h rest = grind arith
 
 pub in_either : (n : ℕ) (es fs : List Pending) → IsIn n (es ++ fs) → IsIn n es ⊎ IsIn n fs
 in_either n [] fs is = inr is
@@ -98,8 +93,7 @@ tally_texts n (t ∷ ts) = by (nat_eq (num t 0 4) n) (tally_texts n ts)
     by : (b : Bool) → tally n (map claim_of ts) ≡ length (filter (has_number n) ts)
         → cond b (1 + tally n (map claim_of ts)) (tally n (map claim_of ts))
         ≡ length (cond b (t ∷ filter (has_number n) ts) (filter (has_number n) ts))
-    by true e = search (arith, e)
-    by false e = e
+    by x0 e = grind arith
 
 pub tally_in : (n : ℕ) (us : List Said) → 1 ≤ tally n (claims_said us) → IsIn n (flat_map pending_in us)
 tally_in n [] h = absurd (search (arith, h))
@@ -136,8 +130,7 @@ in_of_holds n (e ∷ es) h = by (nat_eq e.reference n) refl h (λ k. in_of_holds
         (e : End). nat_eq e.reference n) es) ≢ []
         → (filter (λ (e : End). nat_eq e.reference n) es ≢ [] → IsIn n (map pending_end es))
         → (nat_eq e.reference n ≡ true) ⊎ IsIn n (map pending_end es)
-    by true is h rest = inl is
-    by false is h rest = inr (rest h)
+    by x0 is h rest = grind arith
 
 pub holds_of_in : (n : ℕ) (es : List End) → IsIn n (map pending_end es)
     → filter (λ (e : End). nat_eq e.reference n) es ≢ []

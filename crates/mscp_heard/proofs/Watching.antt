@@ -68,8 +68,7 @@ all_found P f [] x all e = absurd (none-some x e)
 all_found P f (y ∷ ys) x all e = by (f y) e (λ h. all_found P f ys x all.1 h)
   where
     by : (b : Bool) → cond b (Some y) (find f ys) ≡ Some x → (find f ys ≡ Some x → P x) → P x
-    by true h rest = subst P (same_Some y x h) all.0
-    by false h rest = rest h
+    by x0 h rest = grind (arith, same_Some)
 
 abbrev pub AreSmall : List Asked → Type 0
 AreSmall asked = AllByRecursion (λ (n : ℕ). n < 2 ^ 32) (map (λ (x : Asked). x.reference) asked)
@@ -107,8 +106,7 @@ found_mapped asked (x ∷ xs) all = (all.0, found_mapped asked xs all.1)
 -- so is that of each submission
 pub found_submissions : (old : PortAccount) → SameNumbers old
     → AllByRecursion (λ (s : Submission). Found old.asked s.reference) old.account.outstanding
-found_submissions old same = found_mapped old.asked old.account.outstanding
-    (subst (λ ns. AllByRecursion (Found old.asked) ns) same (found_each old.asked))
+found_submissions old same = grind (arith, found_mapped, found_each)
 
 module _ (old new : PortAccount) (n : ℕ) (small : n < 2 ^ 32) (same : SameNumbers old) (smalls : AreSmall old.asked)
   where
@@ -161,17 +159,14 @@ hear_watch old new v b answer e = by (message_in v b) e
 
     found : (end : End) (o : Option Asked) → ends_of old v.credits end o ≡ (answer, new)
         → SettlesWatch old new (Ok (messages.End end))
-    found end None h = inl (sym (ap (λ y. y.1.asked) h), sym (ap (λ y. y.1.account) h))
-    found end (Some x) h = judged end x (may_be_of old end x) h
+    found end x1 h = grind (arith, judged)
 
     by : (r : Result Message HearFault) → heard_of old v.credits r ≡ (answer, new) → SettlesWatch old new r
-    by (Ok (messages.End end)) h = found end (find (is_of end.reference) old.asked) h
-    by x h = inl (sym (ap (λ y. y.1.asked) h), sym (ap (λ y. y.1.account) h))
+    by x0 h = grind (arith, found)
 
 pub settles : (old new : PortAccount) (r : Result Message HearFault) → SettlesWatch old new r
     → Settles old.asked new.asked r
-settles old new r (inl same) = inl same.0
-settles old new r (inr e) = inr (e.0, e.1, e.2)
+settles old new r x3 = grind arith
 
 -- an end of the code of its command, and a poll's about the polled one, is that of the command
 pub may_be : (old : PortAccount) (e : End) (x : Asked) → is_code_of e.code x.opcode ≡ true
