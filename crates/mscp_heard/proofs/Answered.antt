@@ -221,9 +221,7 @@ module _ (F : ℕ → ℕ) (Served : ℕ → Type 0) (old new : PortAccount) (s 
 
         says : (o : Option (ℕ × ℕ)) → answered old.account.watch (as_read e) ≡ o
             → (heard ≢ heards.Reset) × (heard ≢ heards.Lost)
-        says None at = plain _ (sym (d.own.1 ∙ ap (λ o. news_said (is_poll_of old.account.watch e.reference) e d.own.0
-            (news_with old.account (as_read e) o)) at))
-            (ended_so (is_poll_of old.account.watch e.reference) (is_too_much e.body d.own.0.bytes))
+        says None at = grind (arith, plain, ended_so)
         says (Some told) at = plain _ (sym (d.own.1 ∙ ap (λ o. news_said (is_poll_of old.account.watch e.reference) e
             d.own.0 (news_with old.account (as_read e) o)) at)) (by (polled_is_outstanding old.account.watch) refl)
           where

@@ -56,10 +56,7 @@ tally_append n (c ∷ cs) ds = by (nat_eq c.number n) (tally n (cs
 pub none_owed : (asked : List Asked) (cs : List Claim) (n : ℕ) → AllByRecursion (IsOwed asked) cs
     → find (is_of n) asked ≡ None → tally n cs ≡ 0
 none_owed asked [] n all none = refl
-none_owed asked (c ∷ cs) n all none = by (nat_eq c.number n) refl (none_owed asked cs n all.1 none)
-  where
-    by : (b : Bool) → nat_eq c.number n ≡ b → tally n cs ≡ 0 → cond b (1 + tally n cs) (tally n cs) ≡ 0
-    by x0 is rest = grind (arith, none-some, eqb-true)
+none_owed asked (c ∷ cs) n all none = grind (arith, none_owed asked cs n all.1 none, nat_eq, none-some, eqb-true)
 
 -- and one that is owed once, by no other
 pub others_apart : (n : ℕ) (cs : List Claim) → tally n cs ≡ 0 → AllByRecursion (λ c. nat_eq c.number n ≡ false) cs
@@ -76,33 +73,17 @@ others_apart n (c ∷ cs) e = by (nat_eq c.number n) refl e (λ h. others_apart 
 pub find_more : (n : ℕ) (asked : List Asked) (x y : Asked) → find (is_of n) asked ≡ Some x
     → find (is_of n) (asked ++ y ∷ []) ≡ Some x
 find_more n [] x y e = absurd (none-some x e)
-find_more n (a ∷ asked) x y e = by (is_of n a) e (λ h. find_more n asked x y h)
-  where
-    by : (b : Bool) → cond b (Some a) (find (is_of n) asked) ≡ Some x
-        → (find (is_of n) asked ≡ Some x → find (is_of n) (asked ++ y ∷ []) ≡ Some x)
-        → cond b (Some a) (find (is_of n) (asked ++ y ∷ [])) ≡ Some x
-    by x0 h rest = grind arith
+find_more n (a ∷ asked) x y e = grind (arith, find_more n asked x y)
 
 pub find_new : (n : ℕ) (asked : List Asked) (y : Asked) → find (is_of n) asked ≡ None → is_of n y ≡ true
     → find (is_of n) (asked ++ y ∷ []) ≡ Some y
 find_new n [] y e is = ap (λ b. cond b (Some y) None) is
-find_new n (a ∷ asked) y e is = by (is_of n a) e (λ h. find_new n asked y h is)
-  where
-    by : (b : Bool) → cond b (Some a) (find (is_of n) asked) ≡ None
-        → (find (is_of n) asked ≡ None → find (is_of n) (asked ++ y ∷ []) ≡ Some y)
-        → cond b (Some a) (find (is_of n) (asked ++ y ∷ [])) ≡ Some y
-    by x0 h rest = grind (arith, none-some)
+find_new n (a ∷ asked) y e is = grind (arith, find_new n asked y, none-some)
 
 pub find_left : (n m : ℕ) (asked : List Asked) → nat_eq n m ≡ false
     → find (is_of n) (without_by (is_of m) asked) ≡ find (is_of n) asked
 find_left n m [] d = refl
-find_left n m (a ∷ asked) d = by (is_of m a) refl (is_of n a) refl (find_left n m asked d)
-  where
-    by : (b : Bool) → is_of m a ≡ b → (c : Bool) → is_of n a ≡ c
-        → find (is_of n) (without_by (is_of m) asked) ≡ find (is_of n) asked
-        → find (is_of n) (cond b asked (a ∷ without_by (is_of m) asked))
-        ≡ cond c (Some a) (find (is_of n) asked)
-    by x0 e x2 f rest = grind (arith, false≢true, eq-eqb, eqb-true)
+find_left n m (a ∷ asked) d = grind (arith, find_left n m asked d, false≢true, eq-eqb, eqb-true)
 
 -- ---- a command is sent
 
@@ -141,10 +122,7 @@ owes_less asked c cs o = record {
         → AllByRecursion (λ d. nat_eq d.number c.number ≡ false) ds
         → AllByRecursion (IsOwed (without_by (is_of c.number) asked)) ds
     left [] all apart = tt
-    left (d ∷ ds) all apart = (
-      (all.0.0, find_left d.number c.number asked apart.0 ∙ all.0.1, all.0.2),
-      left ds all.1 apart.1,
-    )
+    left (d ∷ ds) all apart = grind (arith, left ds all.1 apart.1, find_left)
 
 pub owes_rest : (asked : List Asked) (c : Claim) (cs : List Claim) → Owes asked (c ∷ cs) → Owes asked cs
 owes_rest asked c cs o = grind (arith, nat_eq)

@@ -47,10 +47,7 @@ pub copied : {K : Type 0} (picks : Picking K) (start p : Port K) (deeds : List D
     (a : Answered picks start (calls_in deeds) p) → AreJoined IsCopyOf picks start p deeds a
     → AreJoined IsTextOf picks start p deeds a
 copied picks start p [] a j = tt
-copied picks start p (Called call ∷ deeds) a j = (
-  copied_read call (talk_of picks start a.0 (calls_in deeds) a.1) (sent (did deeds)) j.0,
-  copied picks start a.0 deeds a.1 j.1,
-)
+copied picks start p (Called call ∷ deeds) a j = grind (arith, copied picks start a.0 deeds a.1 j.1, copied_read)
 copied picks start p (Did m ∷ deeds) a j = (j.0, copied picks start p deeds a j.1)
 
 module _ {K : Type 0} (picks : Picking K) (c : Settings) (picker : K) (ends : PortsEndWhatTheyTook picks picker)

@@ -28,12 +28,7 @@ order_bytes reference unit x2 = grind (arith, few_bytes)
 none_any : (n : ℕ) (asked : List Asked) → list_any (λ r. nat_eq r n) (map (λ a. a.reference) asked) ≡ false
     → find (is_of n) asked ≡ None
 none_any n [] e = refl
-none_any n (a ∷ asked) e = by (nat_eq a.reference n) e (none_any n asked)
-  where
-    by : (b : Bool) → (b || list_any (λ r. nat_eq r n) (map (λ a. a.reference) asked)) ≡ false
-        → (list_any (λ r. nat_eq r n) (map (λ a. a.reference) asked) ≡ false → find (is_of n) asked ≡ None)
-        → cond b (Some a) (find (is_of n) asked) ≡ None
-    by x0 h rest = grind arith
+none_any n (a ∷ asked) e = grind (arith, none_any n asked, nat_eq)
 
 any_same : (n : ℕ) (xs : List Submission)
     → list_any (has_reference n) xs ≡ list_any (λ r. nat_eq r n) (map (λ s. s.reference) xs)

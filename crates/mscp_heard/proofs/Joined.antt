@@ -100,15 +100,7 @@ module _ {K : Type 0} (picks : Picking K) (c : Settings) (picker : K) (ends : Po
         → Inv asked (said picks start a.0 calls a.1 ++ map said_in (begins a.0.outgoing p.outgoing)) (hearings h)
         (without_ends (ends_said_by call a.0 p) (awaited picks start a.0 calls a.1) ++ taken_by call a.0) (sent h)
         (length (accepted picks start a.0 calls a.1 ++ accepted_by call a.0))
-    deals_so call a asks small reads (inl q) i =
-        inv_as asked _ (said picks start a.0 calls a.1) (hearings h) _ (awaited picks start a.0 calls a.1) (sent h) _
-        (length (accepted picks start a.0 calls a.1))
-        (ap (λ xs. said picks start a.0 calls a.1 ++ map said_in xs) q.begun
-        ∙ append-nil (said picks start a.0 calls a.1))
-        (ap (λ xs. without_ends xs (awaited picks start a.0 calls a.1) ++ taken_by call a.0) q.ended
-        ∙ ap (λ xs. awaited picks start a.0 calls a.1 ++ xs) q.taken ∙ append-nil (awaited picks start a.0 calls a.1))
-        (ap length (ap (λ xs. accepted picks start a.0 calls a.1 ++ xs) q.accepted
-        ∙ append-nil (accepted picks start a.0 calls a.1))) i
+    deals_so call a asks small reads (inl q) i = grind (arith, inv_as, append-nil)
     deals_so call a asks small reads (inr (inl q)) i =
         inv_as asked _ (said picks start a.0 calls a.1 ++ said_in q.out ∷ []) (hearings h) _
         (awaited picks start a.0 calls a.1) (sent h) _ (length (accepted picks start a.0 calls a.1))
@@ -249,18 +241,8 @@ module _ {K : Type 0} (picks : Picking K) (c : Settings) (picker : K) (ends : Po
       → HaveNumbers deeds → (a : Answered picks start (calls_in deeds) p) → AreJoined IsTextOf picks start p deeds a
       → is_dead p.stage ≡ false → (host : PortAccount) → PortAnswered fresh_of_port (did deeds) host
       → State p (calls_in deeds) a host.asked (did deeds)
-  owed p [] asks small numbers a joined lives host r = record {
-    owes = record { known = tt; once = λ n. search arith };
-    heard = search arith;
-    read = search arith;
-    news = tt;
-  }
-  owed p (Called WriteIp ∷ deeds) asks small numbers a joined lives host r = record {
-    owes = record { known = tt; once = λ n. search arith };
-    heard = search arith;
-    read = search arith;
-    news = tt;
-  }
+  owed p [] asks small numbers a joined lives host r = grind arith
+  owed p (Called WriteIp ∷ deeds) asks small numbers a joined lives host r = grind arith
   owed p (Called call ∷ deeds) asks small numbers a joined lives host r =
       called p (calls_in deeds) host.asked (did deeds) call a asks small joined.0 (λ e. search (arith, e)) lives
       (λ alive. owed a.0 deeds (asked_before call (calls_in deeds) asks) (reads_before call (calls_in deeds) small)
@@ -276,13 +258,7 @@ module _ {K : Type 0} (picks : Picking K) (c : Settings) (picker : K) (ends : Po
   pub none_told : (p : Port K) (calls : List Call) (a : Answered picks start calls p) (k : ℕ) (packet : Packet)
       → slice_get (talk_of picks start p calls a).told k ≡ Some packet → is_dead p.stage ≡ false
   none_told p [] a k packet e = absurd (none-some packet e)
-  none_told p (call ∷ calls) a k packet e = by (is_dead p.stage) refl e
-    where
-      by : (b : Bool) → is_dead p.stage ≡ b
-          → slice_get (cond b Rattle.mscp_ported.specs.Talk.silence (Rattle.mscp_ported.specs.Talk.stepped a.0.stage
-          p.stage (Rattle.mscp_ported.specs.Talk.talk_by a.0.stage (Rattle.mscp_ported.specs.Talk.wish calls) call
-          (talk_of picks start a.0 calls a.1)))).told k ≡ Some packet → b ≡ false
-      by x0 is h = grind (arith, none-some)
+  none_told p (call ∷ calls) a k packet e = grind (arith, none-some)
 
   pub hears_own : (p : Port K) (deeds : List Deed) (old new : PortAccount) (v : Envelope) (b : List ℕ)
       (answer : Result Heard HearFault) → AsksAlways (calls_in deeds) → ReadsBytes (calls_in deeds)

@@ -67,38 +67,20 @@ beside_none n ms m apart e = none_beside (has_number n) ms m apart ∙ e
 last_beside : (x w : ℕ) (ms : List (List ℕ)) (m : List ℕ) → nat_eq (num m 0 4) x ≡ false → nat_eq (num m 0 4) w ≡ false
     → PollsLast x w ms → PollsLast x w (ms ++ m ∷ [])
 last_beside x w [] m other apart last = ((λ is. search (arith, is, apart)), tt)
-last_beside x w (y ∷ ms) m other apart last = (
-  λ is. ((last.0 is).0, beside_none x ms m other (last.0 is).1),
-  last_beside x w ms m other apart last.1,
-)
+last_beside x w (y ∷ ms) m other apart last = grind (arith, last_beside x w ms m other apart last.1, beside_none)
 
 -- where none has the poll's number, one that is sent is the last
 last_new : (x w : ℕ) (ms : List (List ℕ)) (m : List ℕ) → filter (has_number w) ms ≡ [] → IsPollText x m
     → PollsLast x w (ms ++ m ∷ [])
 last_new x w [] m none poll = ((λ is. (poll, refl)), tt)
-last_new x w (y ∷ ms) m none poll = by (nat_eq (num y 0 4) w) refl none (λ h. last_new x w ms m h poll)
-  where
-    by : (b : Bool) → nat_eq (num y 0 4) w ≡ b → cond b (y ∷ filter (has_number w) ms) (filter (has_number w) ms) ≡ []
-        → (filter (has_number w) ms ≡ [] → PollsLast x w (ms ++ m ∷ [])) → PollsLast x w (y ∷ ms ++ m ∷ [])
-    by true is h rest = absurd (search (arith, h))
-    by false is h rest = ((λ e. search (arith, sym is ∙ e)), rest h)
+last_new x w (y ∷ ms) m none poll = grind (arith, last_new x w ms m, nat_eq)
 
 -- ---- submissions
 
 last_more : (xs : List Submission) (s : Submission) (x : ℕ) → s.told ≡ None
     → last_told (xs ++ s ∷ []) x ≡ last_told xs x
-last_more [] s x e = by (nat_eq s.reference x)
-  where
-    by : (b : Bool) → told_of (cond b (Some s) None) ≡ None
-    by true = e
-    by false = refl
-last_more (y ∷ xs) s x e = by (nat_eq y.reference x) (last_more xs s x e)
-  where
-    by : (b : Bool) → last_told (xs ++ s ∷ []) x ≡ last_told xs x
-        → told_of (cond b (Some y) (find (has_reference x) (xs ++ s ∷ [])))
-        ≡ told_of (cond b (Some y) (find (has_reference x) xs))
-    by true rest = refl
-    by false rest = rest
+last_more [] s x e = grind (arith, nat_eq)
+last_more (y ∷ xs) s x e = grind (arith, last_more xs s x e, nat_eq)
 
 pub last_left : (xs : List Submission) (n x : ℕ) → nat_eq n x ≡ false → last_told (without n xs) x ≡ last_told xs x
 last_left [] n x d = refl
@@ -112,22 +94,13 @@ last_left (y ∷ xs) n x d = by (nat_eq y.reference n) refl (last_left xs n x d)
 pub every_without : (P : Submission → Type 0) (n : ℕ) (xs : List Submission) → AllByRecursion P xs
     → AllByRecursion P (without n xs)
 every_without P n [] all = tt
-every_without P n (x ∷ xs) all = by (has_reference n x) (every_without P n xs all.1)
-  where
-    by : (b : Bool) → AllByRecursion P (without n xs) → AllByRecursion P (cond b xs (x ∷ without n xs))
-    by true rest = all.1
-    by false rest = (all.0, rest)
+every_without P n (x ∷ xs) all = grind (arith, every_without P n xs all.1)
 
 pub every_told : (P : Submission → Type 0) (n figure : ℕ) (xs : List Submission)
     → ((s : Submission) → s.reference ≡ n → P (record s { told = Some figure })) → AllByRecursion P xs
     → AllByRecursion P (with_told n figure xs)
 every_told P n figure [] known all = tt
-every_told P n figure (x ∷ xs) known all = by (has_reference n x) refl (every_told P n figure xs known all.1)
-  where
-    by : (b : Bool) → has_reference n x ≡ b → AllByRecursion P (with_told n figure xs)
-        → AllByRecursion P (cond b (record x { told = Some figure } ∷ xs) (x ∷ with_told n figure xs))
-    by true is rest = (known x (eqb-true x.reference n is), all.1)
-    by false is rest = (all.0, rest)
+every_told P n figure (x ∷ xs) known all = grind (arith, every_told P n figure xs known all.1, eqb-true)
 
 -- ---- the host sends a message
 
@@ -162,8 +135,7 @@ module _ (F : ℕ → ℕ) (Served : ℕ → Type 0) (old new : PortAccount) (us
 
       found : (o : Option Asked) → find (is_of n) old.asked ≡ o → nat_eq (num m 0 4) n ≡ false
           → 1 ≤ tally n (claims us ts (ms ++ m ∷ []))
-      found (Some x) is apart = more (tally n (claims us ts (ms ++ m ∷ []))) (tally n (claims us ts ms))
-          (tally n (claim_of m ∷ [])) (longer n) (k.placed n x is)
+      found (Some x) is apart = grind (arith, more, tally, claims, claim_of, longer)
       found None is apart = absurd (none-some y (sym (none_more old.asked is) ∙ ap (find (is_of n)) (sym s.asked) ∙ e))
         where
           none_more : (xs : List Asked) → find (is_of n) xs ≡ None → find (is_of n) (xs ++ s.more ∷ []) ≡ None
@@ -176,18 +148,13 @@ module _ (F : ℕ → ℕ) (Served : ℕ → Type 0) (old new : PortAccount) (us
               cases x0 h rest = grind (arith, none-some)
 
       by : (b : Bool) → nat_eq (num m 0 4) n ≡ b → 1 ≤ tally n (claims us ts (ms ++ m ∷ []))
-      by true is = most (tally n (claims us ts (ms ++ m ∷ []))) (tally n (claims us ts ms))
-          (tally n (claim_of m ∷ [])) (longer n)
-          (subst (λ c. 1 ≤ cond c (1 + 0) 0) (sym is) (search arith))
+      by true is = grind (arith, most, tally, claims, claim_of, longer)
       by false is = found (find (is_of n) old.asked) refl is
 
   told_now : (xs : List Submission) → AllByRecursion (λ (x : Submission). Found old.asked x.reference) xs
       → AllByRecursion (KnowsTold F Served ms) xs → AllByRecursion (KnowsTold F Served (ms ++ m ∷ [])) xs
   told_now [] found all = tt
-  told_now (x ∷ xs) found all = (
-    λ l e. (beside_none x.reference ms m (new_number x.reference found.0.0 found.0.1) (all.0 l e).0, (all.0 l e).1),
-    told_now xs found.1 all.1,
-  )
+  told_now (x ∷ xs) found all = grind (arith, told_now xs found.1 all.1, beside_none, new_number)
 
   unread_none : filter (has_number (num m 0 4)) ms ≡ []
   unread_none = none (filter (has_number (num m 0 4)) ms) refl

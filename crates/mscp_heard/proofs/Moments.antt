@@ -9,10 +9,8 @@ reads_before x0 calls reads = grind arith
 
 pub answered_last : (old new : PortAccount) (h : PortHistory) (m : PortMoment) → PortAnswered old (h ++ m ∷ []) new
     → (mid : PortAccount) × PortAnswered old h mid × PortAnswers mid m new
-answered_last old new [] m r =
-    (old, refl, subst (λ x. PortAnswers old m x) (sym r.2) r.1)
-answered_last old new (x ∷ h) m r =
-    let rest = answered_last r.0 new h m r.2 in (rest.0, (r.0, r.1, rest.1), rest.2)
+answered_last old new [] m r = grind arith
+answered_last old new (x ∷ h) m r = grind (arith, answered_last r.0 new h m r.2)
 
 pub heard_last : (h : PortHistory) (m : PortMoment)
     → hearings (h ++ m ∷ []) ≡ cond (is_hearing m) (suc (hearings h)) (hearings h)
@@ -26,5 +24,4 @@ pub same_numbers : (hist : History) (j : ℕ) (xs : List ℕ)
     ≡ map (λ (x : Rattle.mscp_host.specs.declared.submission.Submission.Submission). x.reference) (map
     (submission_at hist j) xs)
 same_numbers hist j [] = refl
-same_numbers hist j (x ∷ xs) = ap (λ ys. Rattle.mscp_host.specs.Histories.reference hist x ∷ ys)
-    (same_numbers hist j xs)
+same_numbers hist j (x ∷ xs) = grind (arith, same_numbers hist j xs)

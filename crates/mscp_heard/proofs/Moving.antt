@@ -27,12 +27,7 @@ said_append (s ∷ xs) ys = ap (λ cs. claim_said s.kind s.text ++ cs) (said_app
 all_pass : (n : ℕ) (ts : List (List ℕ)) → filter (has_number n) ts ≡ []
     → filter (λ t. not (has_number n t)) ts ≡ ts
 all_pass n [] e = refl
-all_pass n (t ∷ ts) e = by (has_number n t) e (all_pass n ts)
-  where
-    by : (b : Bool) → cond b (t ∷ filter (has_number n) ts) (filter (has_number n) ts) ≡ []
-        → (filter (has_number n) ts ≡ [] → filter (λ t. not (has_number n t)) ts ≡ ts)
-        → cond (not b) (t ∷ filter (λ t. not (has_number n t)) ts) (filter (λ t. not (has_number n t)) ts) ≡ t ∷ ts
-    by x0 h rest = grind arith
+all_pass n (t ∷ ts) e = grind (arith, all_pass n ts)
 
 same_head : (x y : List ℕ) (xs : List (List ℕ)) → x ∷ xs ≡ y ∷ [] → (x ≡ y) × (xs ≡ [])
 same_head x y xs e = search (arith, e)
@@ -42,41 +37,17 @@ pub tally_one : (n m : ℕ) (ts : List (List ℕ)) (t : List ℕ) → filter (ha
     → tally m (map claim_of ts)
     ≡ tally m (claim_of t ∷ []) + tally m (map claim_of (filter (λ x. not (has_number n x)) ts))
 tally_one n m [] t e = absurd (search (arith, e))
-tally_one n m (x ∷ ts) t e = by (has_number n x) e (tally_one n m ts t)
-  where
-    here : (xs : List (List ℕ)) → x ≡ t → xs ≡ ts
-        → cond (nat_eq (num x 0 4) m) (1 + tally m (map claim_of ts)) (tally m (map claim_of ts))
-        ≡ cond (nat_eq (num t 0 4) m) (1 + 0) 0 + tally m (map claim_of xs)
-    here xs same all = grind (arith, nat_eq, tally, claim_of)
-
-    other : (b : Bool) (x y z : ℕ) → x ≡ y + z → cond b (1 + x) x ≡ y + cond b (1 + z) z
-    other x0 x y z e = grind arith
-
-    by : (b : Bool) → cond b (x ∷ filter (has_number n) ts) (filter (has_number n) ts) ≡ t ∷ []
-        → (filter (has_number n) ts ≡ t ∷ [] → tally m (map claim_of ts)
-        ≡ tally m (claim_of t ∷ []) + tally m (map claim_of (filter (λ x. not (has_number n x)) ts)))
-        → cond (nat_eq (num x 0 4) m) (1 + tally m (map claim_of ts)) (tally m (map claim_of ts))
-        ≡ cond (nat_eq (num t 0 4) m) (1 + 0) 0 + tally m (map claim_of (cond (not b)
-        (x ∷ filter (λ x. not (has_number n x)) ts) (filter (λ x. not (has_number n x)) ts)))
-    by x0 h rest = grind (arith, same_head, here, all_pass, other, nat_eq, tally, claim_of)
+tally_one n m (x ∷ ts) t e = grind (arith, tally_one n m ts t, nat_eq, tally, claim_of, same_head, all_pass)
 
 known_left : (P : Claim → Type 0) (f : List ℕ → Bool) (ts : List (List ℕ)) → AllByRecursion P (map claim_of ts)
     → AllByRecursion P (map claim_of (filter f ts))
 known_left P f [] all = tt
-known_left P f (t ∷ ts) all = by (f t) (known_left P f ts all.1)
-  where
-    by : (b : Bool) → AllByRecursion P (map claim_of (filter f ts))
-        → AllByRecursion P (map claim_of (cond b (t ∷ filter f ts) (filter f ts)))
-    by x0 rest = grind arith
+known_left P f (t ∷ ts) all = grind (arith, known_left P f ts all.1, claim_of)
 
 known_one : (P : Claim → Type 0) (n : ℕ) (ts : List (List ℕ)) (t : List ℕ) → filter (has_number n) ts ≡ t ∷ []
     → AllByRecursion P (map claim_of ts) → P (claim_of t) × (num t 0 4 ≡ n)
 known_one P n [] t e all = absurd (search (arith, e))
-known_one P n (x ∷ ts) t e all = by (has_number n x) refl e (λ h. known_one P n ts t h all.1)
-  where
-    by : (b : Bool) → has_number n x ≡ b → cond b (x ∷ filter (has_number n) ts) (filter (has_number n) ts) ≡ t ∷ []
-        → (filter (has_number n) ts ≡ t ∷ [] → P (claim_of t) × (num t 0 4 ≡ n)) → P (claim_of t) × (num t 0 4 ≡ n)
-    by x0 is h rest = grind (arith, same_head, claim_of, eqb-true)
+known_one P n (x ∷ ts) t e all = grind (arith, known_one P n ts t, claim_of, same_head, eqb-true)
 
 -- ---- by a call
 

@@ -275,10 +275,8 @@ module _ {K : Type 0} (picks : Picking K) (c : Settings) (picker : K) (ends : Po
       → ServesBetweenPolls picks start p (calls_in deeds) a
       → is_dead p.stage ≡ false → (host : PortAccount) → PortAnswered fresh_of_port (did deeds) host
       → Told p (calls_in deeds) a host (hearings (did deeds)) (sent (did deeds))
-  told_so p [] asks small numbers a joined serves lives host r =
-      nothing_told host _ _ _ _ _ _ r
-  told_so p (Called WriteIp ∷ deeds) asks small numbers a joined serves lives host r =
-      nothing_told host _ _ _ _ _ _ r
+  told_so p [] asks small numbers a joined serves lives host r = grind (arith, nothing_told)
+  told_so p (Called WriteIp ∷ deeds) asks small numbers a joined serves lives host r = grind (arith, nothing_told)
   told_so p (Called call ∷ deeds) asks small numbers a joined serves lives host r =
       let never : call ≢ WriteIp = λ e. search (arith, e) in
       let d = ends c before controller hardware credits start p call (calls_in deeds) valid was quiet made small a never
@@ -308,8 +306,7 @@ module _ {K : Type 0} (picks : Picking K) (c : Settings) (picker : K) (ends : Po
       → ServesBetweenPolls picks start p (calls_in deeds) a
       → PortAnswered fresh_of_port (did deeds) old → PortAnswers old (Hear v b answer) new
       → (answer ≢ Ok heards.Reset) × (answer ≢ Ok heards.Lost)
-  hears_neither p deeds old new v b (Err fault) asks small numbers a joined serves answered r =
-      ((λ e. search (arith, e)), (λ e. search (arith, e)))
+  hears_neither p deeds old new v b (Err fault) asks small numbers a joined serves answered r = grind arith
   hears_neither p deeds old new v b (Ok heard) asks small numbers a joined serves answered r =
       let calls = calls_in deeds in
       let lives = none_told picks c picker ends hear tell open_so answer_so history before controller hardware credits

@@ -31,10 +31,7 @@ end_kind s v b e code text connection r = by s.kind refl
       (end_heard v b e r).1,
       ap (λ x. slice_index x 8) text ∙ (subst (λ x. IsRead x s.text) is code).0,
     ))
-    by kinds.UtilitiesEnd is = absurd (search (
-      arith,
-      sym (end_heard v b e r).0 ∙ (connection ∙ ap connection_told is),
-    ))
+    by kinds.UtilitiesEnd is = grind (arith, end_heard)
 
 pub read_short : (kind : OutgoingKind) (t : List ℕ) → IsRead kind t → length t ≤ 64
 read_short x0 t r = grind arith

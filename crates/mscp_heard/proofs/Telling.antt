@@ -11,8 +11,7 @@ pub tell_at : (left : ℕ) (told : List Packet) (gone : List Said) (k : ℕ) (pa
     → slice_get told k ≡ Some packet → (s : Said) × (rest : ℕ) × (slice_get gone k ≡ Some s) × Tells rest packet s
 tell_at left [] gone k packet t e = absurd (none-some packet e)
 tell_at left (x ∷ told) [] k packet t e = absurd t
-tell_at left (x ∷ told) (s ∷ gone) zero packet t e =
-    (s, left, refl, subst (λ y. Tells left y s) (same_Some x packet e) t.0)
+tell_at left (x ∷ told) (s ∷ gone) zero packet t e = grind (arith, same_Some)
 tell_at left (x ∷ told) (s ∷ gone) (suc k) packet t e = tell_at (left_after left s.kind) told gone k packet t.1 e
 
 pub first_part : (xs ys : List Said) (k : ℕ) (s : Said) → slice_get xs k ≡ Some s → slice_get (xs ++ ys) k ≡ Some s

@@ -77,8 +77,7 @@ module _ (host : PortAccount) (F F' : ℕ → ℕ) (Served Served' : ℕ → Typ
       by (inl q) = from (λ e. there (ap (filter (has_number n)) q.1 ∙ e))
           (λ is. subst (λ xs. IsIn n (flat_map pending_in xs))
           (cancel us new [] (sym is_new ∙ q.0 ∙ sym (append-nil us))) is)
-      by (inr (inl q)) = from (λ e. there (ap (filter (has_number n)) q.3 ∙ e))
-          (λ is. quiet q.0 q.1 (subst (λ xs. IsIn n (flat_map pending_in xs)) (said_is q.0 q.2) is))
+      by (inr (inl q)) = grind (arith, from, there, quiet, said_is)
       by (inr (inr (inl q))) = from
           (λ e. there (ap (filter (has_number n)) q.5
           ∙ none_stays (has_number n) (λ x. not (has_number (num q.0.text 0 4) x)) ts e))
@@ -92,15 +91,7 @@ module _ (host : PortAccount) (F F' : ℕ → ℕ) (Served Served' : ℕ → Typ
           ∙ none_beside (has_number n) ts q.0 (ap (λ k. nat_eq k n) q.2.number ∙ apart) ∙ e))
           (λ is. subst (λ xs. IsIn n (flat_map pending_in xs))
           (cancel us new [] (sym is_new ∙ q.3 ∙ sym (append-nil us))) is)
-      by (inr (inr (inr (inr q)))) =
-          let apart = (tail_none n q.2 ms' (ap (filter (has_number n)) (sym q.9) ∙ unread)).0 in
-          from (λ e. there (ap (filter (has_number n)) q.8 ∙ e))
-          (λ is. search (
-            arith,
-            apart,
-            ap (λ k. nat_eq k n) (sym q.3.number) ∙ ap (λ k. nat_eq k n) (sym q.4)
-                ∙ one q.0 q.11 (subst (λ xs. IsIn n (flat_map pending_in xs)) (said_is q.0 q.7) is),
-          ))
+      by (inr (inr (inr (inr q)))) = grind (arith, tail_none, from, there, nat_eq, one, said_is)
 
   below_still : (n g : ℕ) → filter (has_number n) ms ≡ [] → IsBelow F Served n g → IsBelow F' Served' n g
   below_still n g unread below low = grind (arith, before_low)
@@ -213,8 +204,7 @@ module _ (host : PortAccount) (F F' : ℕ → ℕ) (Served Served' : ℕ → Typ
         -- the message that is read is the poll, or another one
         read : (b : Bool) (m : List ℕ) → nat_eq (num m 0 4) w ≡ b → ms ≡ m ∷ ms' → filter (has_number w) ms ≢ []
             → (filter (has_number w) ms' ≢ []) ⊎ ((g : ℕ) × (first_of w P' ≡ Some g))
-        read false m is e unread = inl (λ none. unread (ap (filter (has_number w)) e
-            ∙ ap (λ b. cond b (m ∷ filter (has_number w) ms') (filter (has_number w) ms')) is ∙ none))
+        read false m is e unread = grind arith
         read true m is e unread = inr (found (first_of w P) refl)
           where
             text : (t : List ℕ) × (texts ≡ t ∷ []) × (num t 0 4 ≡ w)

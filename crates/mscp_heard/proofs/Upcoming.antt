@@ -123,26 +123,12 @@ some_has n xs h = by (filter (has_number n) xs) refl
 pub in_of_holds : (n : ℕ) (es : List End) → filter (λ (e : End). nat_eq e.reference n) es ≢ []
     → IsIn n (map pending_end es)
 in_of_holds n [] h = absurd (h refl)
-in_of_holds n (e ∷ es) h = by (nat_eq e.reference n) refl h (λ k. in_of_holds n es k)
-  where
-    by : (b : Bool) → nat_eq e.reference n ≡ b
-        → cond b (e ∷ filter (λ (e : End). nat_eq e.reference n) es) (filter (λ
-        (e : End). nat_eq e.reference n) es) ≢ []
-        → (filter (λ (e : End). nat_eq e.reference n) es ≢ [] → IsIn n (map pending_end es))
-        → (nat_eq e.reference n ≡ true) ⊎ IsIn n (map pending_end es)
-    by x0 is h rest = grind arith
+in_of_holds n (e ∷ es) h = grind (arith, in_of_holds n es, nat_eq)
 
 pub holds_of_in : (n : ℕ) (es : List End) → IsIn n (map pending_end es)
     → filter (λ (e : End). nat_eq e.reference n) es ≢ []
 holds_of_in n [] is h = is
-holds_of_in n (e ∷ es) is h = by (nat_eq e.reference n) refl h is (λ k. holds_of_in n es k)
-  where
-    by : (b : Bool) → nat_eq e.reference n ≡ b
-        → cond b (e ∷ filter (λ (e : End). nat_eq e.reference n) es) (filter (λ
-        (e : End). nat_eq e.reference n) es) ≡ []
-        → (nat_eq e.reference n ≡ true) ⊎ IsIn n (map pending_end es)
-        → (IsIn n (map pending_end es) → filter (λ (e : End). nat_eq e.reference n) es ≢ []) → ⊥
-    by x0 so h is rest = grind arith
+holds_of_in n (e ∷ es) is h = grind (arith, holds_of_in n es, nat_eq)
 
 pub in_said : (n : ℕ) (us : List Said) → IsIn n (flat_map pending_in us) → 1 ≤ tally n (claims_said us)
 in_said n [] is = absurd is

@@ -65,10 +65,7 @@ submit_notes old new c message small same e =
 all_found : (P : Submission → Type 0) (f : Submission → Bool) (xs : List Submission) (x : Submission)
     → AllByRecursion P xs → find f xs ≡ Some x → P x
 all_found P f [] x all e = absurd (none-some x e)
-all_found P f (y ∷ ys) x all e = by (f y) e (λ h. all_found P f ys x all.1 h)
-  where
-    by : (b : Bool) → cond b (Some y) (find f ys) ≡ Some x → (find f ys ≡ Some x → P x) → P x
-    by x0 h rest = grind (arith, same_Some)
+all_found P f (y ∷ ys) x all e = grind (arith, all_found P f ys x all.1, same_Some)
 
 abbrev pub AreSmall : List Asked → Type 0
 AreSmall asked = AllByRecursion (λ (n : ℕ). n < 2 ^ 32) (map (λ (x : Asked). x.reference) asked)
