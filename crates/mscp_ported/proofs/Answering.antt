@@ -59,7 +59,7 @@ refusing b status = record { code = slice_index b 8 + 0x80; status = status; tel
 pub none_so : (foreign : Bool) (v : Option Volume) (b : List ℕ) → own_end foreign v b ≡ None
     → own_answer foreign v b ≡ None
 unfolding refusing
-none_so x0 v b e = grind (arith, none-some, refusing, refusal_so)
+none_so foreign v b e = grind (arith, none-some, refusing, refusal_so)
 
 -- the text that is handed over is that of the table
 pub handed_so : (units : List Shape) (b : List ℕ) → handed units b ≡ text_handed units b

@@ -47,7 +47,7 @@ stood_in (a ∷ b ∷ c ∷ d ∷ e ∷ f ∷ g ∷ h ∷ rest) long =
 stood_in b long = search (arith, long)
 
 named_next : (b : List ℕ) (n : ℕ) → 12 ≤ length b → IsLikeIt (renamed b n) b
-named_next x0 n long = grind (arith, command_few)
+named_next b n long = grind (arith, command_few)
 
 pub handed_like : (units : List Shape) (b : List ℕ) → 12 ≤ length b → IsLikeIt (handed units b) b
 handed_like units b long = handed_cases (λ x. IsLikeIt x b) units b (λ formal. stood_in b long)

@@ -73,7 +73,7 @@ pub record AsksAbort (n : ℕ) (b : List ℕ) : Type 0 where
 
 abort_with : (o : Option Opcode) (b : List ℕ) (n : ℕ) → opcode_of (slice_index b 8) ≡ o
     → order_with o b ≡ orders.Abort n → AsksAbort n b
-abort_with x0 b n is e = grind (arith, nat_lt, eqb-true, found_is, nat_eq)
+abort_with o b n is e = grind (arith, nat_lt, eqb-true, found_is, nat_eq)
 
 abort_command : (b : List ℕ) (n : ℕ) → (command_of b).order ≡ orders.Abort n → AsksAbort n b
 unfolding command_of

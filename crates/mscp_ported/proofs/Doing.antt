@@ -54,14 +54,14 @@ aside_fewer tasks.Transfer clear = record { to_do = search arith; rest = search 
 aside_fewer t clear = record { to_do = search arith; rest = search arith; clear = clear }
 
 step_fewer : (o : Option ℕ) (t : Task) → (IsClear t → ⊥) → IsFewer 0 t (step_at o t)
-step_fewer x0 x1 clear = grind arith
+step_fewer o t clear = grind arith
 
 read_fewer : (bytes : List ℕ) (done : Unit {0}) (t : Task) → IsSlide t → IsGiven t (WasRead bytes (Ok done))
     → IsFewer 1 t (task_read bytes t)
-read_fewer bytes done x2 of given = grind arith
+read_fewer bytes done t of given = grind arith
 
 eased_fewer : (before after : Task) → (IsClear before → ⊥) → IsEased before after → IsFewer 1 before after
-eased_fewer x0 after clear x3 = grind arith
+eased_fewer before after clear h = grind arith
 
 -- of one of the ring of responses the rest alone
 abbrev Given : Side → Task → Type 0

@@ -74,7 +74,7 @@ module _ {K : Type 0} (old new : Port K) (w : Option Wish) (s : Steps old w) whe
 
   volume_so : (becomes : Volume → Volume) (o : Option ℕ)
       → new ≡ record old { volumes = volumes_with becomes o old.volumes; task = step_at o old.task } → Steps new w
-  volume_so becomes x1 e = grind (arith, keeps, no_steps, free_step)
+  volume_so becomes o e = grind (arith, keeps, no_steps, free_step)
 
 -- something is wanted
 wants_so : {K : Type 0} (picks : Picking K) (blocks : Bool) (action : Action) (bytes : List ℕ) (old new : Port K)
@@ -117,4 +117,4 @@ module _ {K : Type 0} (picks : Picking K) (hardware : Hardware) (credits : ℕ) 
   steps p (call ∷ calls) asks a = by (minor picks call a.0 p a.2 tt) (steps a.0 calls asks a.1)
     where
       by : Minor a.0 p → Steps a.0 (wish calls) → Steps p (wish calls)
-      by x0 s = grind (arith, same_so, either, free_aside, again_so, volume_so, no_steps)
+      by h s = grind (arith, same_so, either, free_aside, again_so, volume_so, no_steps)

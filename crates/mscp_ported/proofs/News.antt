@@ -54,7 +54,7 @@ module _ {K : Type 0} (call : Call) (old new : Port K) (place : ℕ) (low : plac
   after_end units bs via (Some e) f = heeded_at e.code _ _ f
 
   keeps_fresh : Remounted call old new → FreshThen new.volumes
-  keeps_fresh x0 f = grind (arith, not_new, set_one, with_one, after_end)
+  keeps_fresh h f = grind (arith, not_new, set_one, with_one, after_end)
 
 -- ---- what begins to go out
 

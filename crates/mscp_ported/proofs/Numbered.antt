@@ -46,7 +46,7 @@ AtEach aw rs es = (n : ℕ) → At aw rs es n
 pub at_same : {aw aw' : List (List ℕ)} {rs rs' : List Record} {es es' : List End} (n : ℕ)
     → filter (has_number n) aw' ≡ filter (has_number n) aw → filter (is_numbered n) rs' ≡ filter (is_numbered n) rs
     → filter (ends_numbered n) es' ≡ filter (ends_numbered n) es → At aw rs es n → At aw' rs' es' n
-at_same n texts records ends x4 = grind arith
+at_same n texts records ends h = grind arith
 
 -- ---- filters
 

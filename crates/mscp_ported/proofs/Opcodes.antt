@@ -190,7 +190,7 @@ module _ {c : Settings} {Told : Verdict → Record → Type 0} {K : Type 0} (pic
 
     stepped : (via : Connection) (o : Option End) → r0.connection ≡ via → end_given b d r0 ≡ o
         → AreFollowed Told aw (brought_for via o)
-    stepped x0 x1 via given = grind (arith, is_told, is)
+    stepped h o via given = grind (arith, is_told, is)
 
     brought : (via : Connection) (o : Option End) → r0.connection ≡ via → end_given b d r0 ≡ o
         → AllByRecursion (λ e. FitsIn c Told aw (left_with e (decided_by verdict old new e))) (brought_for via o)

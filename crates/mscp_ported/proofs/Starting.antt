@@ -40,7 +40,7 @@ SaysOn o old n new = (IsSaying new o × (n + to_do new.task ≤ to_do old.task))
 
 pub says_on : {K : Type 0} (picks : Picking K) (call : Call) (o : Outgoing) (old new : Port K) → IsSaying old o
     → Becomes picks call old new → IsGiven old.task call → SaysOn o old (acts (call ∷ [])) new
-says_on picks x1 o old new s r given = grind (arith, free_or_not, looks_or_not, none-some, to_do, goes_on)
+says_on picks call o old new s r given = grind (arith, free_or_not, looks_or_not, none-some, to_do, goes_on)
 
 -- ---- an end that waits
 

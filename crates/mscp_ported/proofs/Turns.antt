@@ -43,7 +43,7 @@ hears_quiet area side slot = grind arith
 
 -- what was read is a slot that a message may lie in, or its header
 slide_hears : (bytes : List ℕ) (t : Task) → IsHearing (task_read bytes t) → IsHearing t
-slide_hears bytes x1 = grind arith
+slide_hears bytes t = grind arith
 
 slide_text : (t : Task) → IsSlide t → IsReadingText t → ⊥
 slide_text (tasks.Text slot size foreign) of reading = of
