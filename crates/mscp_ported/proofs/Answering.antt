@@ -98,18 +98,7 @@ module _ {K : Type 0} (picks : Picking K) (hardware : Hardware) (credits : ℕ) 
           → IsSomeAnd e (λ x. IsSomeAnd p.outgoing (λ y. (y.bytes.items ≡ end_bytes x) × (y.kind ≡ end_kind foreign)))
           → IsOwnAnswer a.0 header bytes o
       answer_so foreign header of None e h = absurd h
-      answer_so foreign header of (Some x) e h =
-          let said = subst (λ q. IsSomeAnd q (λ y. (y.bytes.items ≡ end_bytes x)
-          × (y.kind ≡ end_kind foreign))) some h in
-          let own = own_so foreign (volume_named a.0 bytes) bytes x e in
-          record {
-            kind = said.1 ∙ ap kind_answered of;
-            own = (
-              own.0,
-              ap (λ f. own_answer f (volume_named a.0 bytes) bytes) (sym of) ∙ own.1,
-              said.0 ∙ own.2,
-            );
-          }
+      answer_so foreign header of (Some x) e h = grind (arith, own_so)
 
   pub hands_over : (p : Port K) (calls : List Call) (bytes : List ℕ) (done : Unit) (slot : Slot) (header : ℕ)
       → AsksAlways (WasRead bytes (Ok done) ∷ calls)
@@ -172,9 +161,4 @@ module _ {K : Type 0} (picks : Picking K) (hardware : Hardware) (credits : ℕ) 
       by : (foreign : Bool) → IsHandedOver (own_answer foreign (volume_named a.0 bytes) bytes) bytes a.0 p
           → come a.0 p ≡ polls_bring foreign a.0 bytes
       by true h = come_so a.0 p [] (ap ends_of h ∙ sym (append-nil (ends_of a.0.controller)))
-      by false h =
-          let new = subst (λ o. IsHandedOver o bytes a.0 p) (poll_own (volume_named a.0 bytes) bytes poll) h in
-          come_so a.0 p (poll_brings (answer_to_message First a.0.controller bytes) a.0.controller bytes)
-          (ap ends_of (new ∙ ap (after_message First a.0.controller)
-          (poll_handed a.0.controller.settings.units bytes poll))
-          ∙ poll_comes a.0.controller bytes poll long)
+      by false h = grind (arith, poll_own, come_so, ends_of, poll_handed, poll_comes)

@@ -58,9 +58,7 @@ handed_like units b long = handed_cases (λ x. IsLikeIt x b) units b (λ formal.
 none_ended : (n : ℕ) (es : List End) → list_any (λ x. nat_eq x n) (numbers_ended es) ≡ false
     → filter (ends_numbered n) es ≡ []
 none_ended n [] e = refl
-none_ended n (x ∷ es) e =
-    let o = or_parts (nat_eq x.reference n) (list_any (λ y. nat_eq y n) (numbers_ended es)) e in
-    ap (λ c. cond c (x ∷ filter (ends_numbered n) es) (filter (ends_numbered n) es)) o.0 ∙ none_ended n es o.1
+none_ended n (x ∷ es) e = grind (arith, none_ended n es, or_parts, nat_eq, ends_numbered)
 
 nothing_of : (aw : List (List ℕ)) (rs : List Record) (es : List End) (n : ℕ) → filter (is_numbered n) rs ≡ []
     → filter (ends_numbered n) es ≡ [] → At aw rs es n → IsNothing aw rs es n

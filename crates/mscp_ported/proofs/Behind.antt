@@ -49,20 +49,8 @@ module _ (n m : ℕ) where
   pub aborts_left : (k : ℕ) → nat_eq k n ≡ false → nat_eq k m ≡ false → (ts : List (List ℕ))
       → aborts_behind n m ts ≡ true → aborts_behind n m (filter (λ t. not (has_number k t)) ts) ≡ true
   aborts_left k apart other [] e = e
-  aborts_left k apart other (t ∷ ts) e = by (has_number k t) refl (has_number n t) refl e (aborts_left k apart other ts)
-    where
-      keep : List ℕ → Bool
-      keep = λ t. not (has_number k t)
-
-      kept : (x : List ℕ) → is_abort n m x ≡ true → not (has_number k x) ≡ true
-      kept x is = grind (arith, other_number, nat_eq)
-
-      by : (b : Bool) → has_number k t ≡ b → (c : Bool) → has_number n t ≡ c
-          → cond c (list_any (is_abort n m) ts) (aborts_behind n m ts) ≡ true
-          → (aborts_behind n m ts ≡ true → aborts_behind n m (filter (λ t. not (has_number k t)) ts) ≡ true)
-          → aborts_behind n m (cond (not b) (t ∷ filter (λ t. not (has_number k t)) ts)
-          (filter (λ t. not (has_number k t)) ts)) ≡ true
-      by b is c mine h rest = grind (arith, false≢true, eq-eqb, eqb-true, any_left, kept)
+  aborts_left k apart other (t ∷ ts) e =
+      grind (arith, aborts_left k apart other ts, other_number, nat_eq, false≢true, eq-eqb, eqb-true, any_left)
 
 -- ---- the message of an ABORT
 

@@ -285,13 +285,7 @@ few_each (suc k) (b ∷ bs) rs small each =
         ≤ length (filter (is_numbered j) (filter (λ r. not (is_numbered n r)) rs))) (eqb-true n m d)
         (subst (λ xs. length xs ≤ length (filter (is_numbered n) (filter (λ r. not (is_numbered n r)) rs)))
         (sym (none_of_it (is_of First n) (b ∷ bs))) (search arith))
-    others n m false d =
-        subst (λ xs. length xs ≤ length (filter (is_numbered m) (filter (λ r. not (is_numbered n r)) rs)))
-        (sym (sole_left (is_of First m) (λ x. not (is_of First n x)) (b ∷ bs)
-        (λ x is. other_number m n d x.reference is)))
-        (subst (λ xs. length (filter (is_of First m) (b ∷ bs)) ≤ length xs)
-        (sym (sole_left (is_numbered m) (λ r. not (is_numbered n r)) rs
-        (λ r is. apart_numbers m n r (λ same. false≢true (sym d ∙ eq-eqb n m (sym same))) is))) (each m))
+    others n m false d = grind (arith, is_numbered, sole_left, other_number, apart_numbers, false≢true, eq-eqb)
 
 pub few_kept : (aw : List (List ℕ)) (rs : List Record) (es : List End) (bs : List Buffer) → AtEach aw rs es
     → IsKeptEach aw rs bs → length bs ≤ length (waiting_on First rs)

@@ -64,9 +64,7 @@ after_end n place units bs via (Some e) vs none = by e.code _ _
 other_volume : (becomes : Volume → Volume) (units : List Shape) (unit to place : ℕ) (o : Option ℕ) (vs : List Volume)
     → ((v : Volume) → (becomes v).changes ≡ (v.changes + 1) % 0x1_0000_0000) → place_in units unit ≡ Some place
     → place_in units to ≡ o → Counts (cond (to == unit) 1 0) place vs (volumes_with becomes o vs)
-other_volume becomes units unit to place None vs one here none =
-    the_same _ place vs vs (ap (λ b. cond b 1 0) (other_unit units unit to place here (λ e. none-some place
-    (sym none ∙ e)))) refl
+other_volume becomes units unit to place None vs one here none = grind (arith, the_same, other_unit, none-some)
 other_volume becomes units unit to place (Some q) vs one here there =
     set_one _ place q vs (becomes (volume_at vs q))
     (λ same. inr (
@@ -94,9 +92,7 @@ goes_on picks call old new r = by (remounted picks call old new r)
         (subst (λ n. Counts n place old.volumes
         (volumes_with becomes (place_in old.controller.settings.units to) old.volumes)) (sym (changes unit))
         (other_volume becomes old.controller.settings.units unit to place _ old.volumes s.changes here refl)))
-    by (Heeds via ended none from to e) = inr (λ unit place here.
-        subst (λ ws. Counts (changed_by unit call) place old.volumes ws) (sym e)
-        (after_end (changed_by unit call) place _ _ via ended old.volumes (none unit)))
+    by (Heeds via ended none from to e) = grind (arith, after_end)
 
 -- ---- what is kept of a command
 
@@ -119,10 +115,8 @@ module _ {K : Type 0} (picks : Picking K) (start : Port K) where
       (m : ℕ) → m ≡ 0 → Ago number unit p calls a b m → IsOfItsVolume picks number unit start p calls a b
   none_ago number unit p [] a b m none h = absurd h
   none_ago number unit p (call ∷ earlier) a b m none (inl h) = inl h.0
-  none_ago number unit p (call ∷ earlier) a b m none (inr h) = inr (
-    search (arith, none, h.1),
-    none_ago number unit a.0 earlier a.1 b h.0 (search (arith, none, h.1)) h.2,
-  )
+  none_ago number unit p (call ∷ earlier) a b m none (inr h) =
+      grind (arith, none_ago number unit a.0 earlier a.1 b h.0 (search (arith, none, h.1)) h.2)
 
   -- it has changed so often since this was kept
   abbrev pub IsApart : ℕ → ℕ → ℕ → Type 0
@@ -140,25 +134,7 @@ module _ {K : Type 0} (picks : Picking K) (start : Port K) where
   said_now : (call : Call) (p : Port K) (calls : List Call) (a : Answered picks start (call ∷ calls) p) (unit : ℕ)
       (b : Buffer) → VolumesGoOn call a.0 p → p.controller.settings ≡ a.0.controller.settings
       → IsSaidBy b.reference unit call a.0 b → SaidAgo p (call ∷ calls) a unit b
-  said_now (WasRead bytes result) p calls a unit b goes same said = (
-    0,
-    inl (said, refl),
-    λ place here.
-        let there : place_in a.0.controller.settings.units unit ≡ Some place =
-        ap (λ s. place_in s.units unit) (sym same) ∙ here in
-        let on = goes unit place there in
-        elim on.1 [
-          | inl past ↦ inl (subst (λ n. n ≤ place) (sym on.0) past)
-          | inr after ↦ elim after [
-            | inl still ↦ inr (inl (
-              refl,
-              still.1 ∙ sym (ap (λ (x : Buffer). x.changes) said.kept
-                  ∙ ap (changes_at a.0.volumes) there),
-            ))
-            | inr more ↦ search (arith, more.0)
-          ]
-        ],
-  )
+  said_now (WasRead bytes result) p calls a unit b goes same said = grind arith
   said_now call p calls a unit b goes same said = absurd said
 
   said_before : (call : Call) (p : Port K) (calls : List Call) (a : Answered picks start (call ∷ calls) p) (unit : ℕ)

@@ -18,16 +18,7 @@ parameters_coded code b = refl
 order_coded : (o : Option Opcode) (b : List ℕ) → opcode_of (slice_index b 8) ≡ o
     → IsCodeFor (endcode (order_with o b)) b
 order_coded None b e = inl (refl, e)
-order_coded (Some o) b e = by (nat_lt (length b) (least o))
-  where
-    at : (row_of o).byte ≡ slice_index b 8
-    at = eqb-true (row_of o).byte (slice_index b 8)
-        (found_is (λ x. nat_eq (row_of x).byte (slice_index b 8)) opcodes o e)
-
-    by : (c : Bool) → IsCodeFor (endcode (cond c (orders.Invalid (slice_index b 8)
-        Rattle.mscp_packet.specs.Statuses.invalid_length) (parameters o b))) b
-    by true = inr (subst (λ x. bit_or x 0x80 ≡ x + 0x80) at (row_coded o))
-    by false = inr (parameters_coded o b ∙ row_coded o ∙ ap (λ x. x + 0x80) at)
+order_coded (Some o) b e = grind (arith, nat_lt, eqb-true, found_is, nat_eq, row_coded, parameters_coded)
 
 command_coded : (b : List ℕ) → IsCodeFor (endcode (command_of b).order) b
 unfolding command_of

@@ -44,18 +44,8 @@ brings {K} h b = by (refusal (balance_of First h) (outstanding_of First h) b)
             (with_end First (aborting First h (command_of b).order) (answered_end First h (command_of b))))
             (Ok (cond q (sents.Queued (command_of b).reference) (sents.Answered (command_of b).reference
             (reference_aborted First h.waiting (command_of b).order))))
-        taken true = record {
-          ends = [];
-          all = sym (append-nil (ends_of h));
-          queued = λ reference e. refl;
-          refused = λ fault e. search (arith, e);
-        }
-        taken false = record {
-          ends = brought ++ answered_end First h (command_of b) ∷ [];
-          all = append_assoc (ends_of h) brought (answered_end First h (command_of b) ∷ []);
-          queued = λ reference e. search (arith, e);
-          refused = λ fault e. search (arith, e);
-        }
+        taken true = grind (arith, append-nil)
+        taken false = grind (arith, brought, append_assoc)
 
 -- ---- a step
 

@@ -36,12 +36,8 @@ pub one_more : (o : Option Rings) (side : Side) (n : ℕ) (xs : List Slot) (x : 
     → x.side ≡ side → x.address ≡ address_in o side (n + length xs) → is_owned x.word ≡ true
     → StandInOrder o side n (xs ++ x ∷ [])
 one_more o side n [] x h at place own = (at, place ∙ ap (address_in o side) (search arith), own, tt)
-one_more o side n (y ∷ ys) x h at place own = (
-  h.0,
-  h.1,
-  h.2,
-  one_more o side (n + 1) ys x h.3 at (place ∙ ap (address_in o side) (search arith)) own,
-)
+one_more o side n (y ∷ ys) x h at place own =
+    grind (arith, one_more o side (n + 1) ys x h.3 at (place ∙ ap (address_in o side) (search arith)) own)
 
 pub tell_more : (left : ℕ) (ps : List Packet) (xs : List Said) (p : Packet) (x : Said) → TellAll left ps xs
     → Tells (left_all left xs) p x → TellAll left (ps ++ p ∷ []) (xs ++ x ∷ [])

@@ -77,17 +77,7 @@ module _ {K : Type 0} (bytes : List ℕ) (done : Unit) (old new : Port K) (aw : 
             → Rattle.std.specs.Prelude.IsSomeAnd q (λ y. (y.bytes.items ≡ end_bytes e)
             × (y.kind ≡ Rattle.mscp_port.specs.Packets.end_kind foreign)) → Said_so
         outs None is h = absurd h
-        outs (Some o) is h = inr (inr (inr (inr (record {
-          message = bytes;
-          read = (done, refl);
-          out = o;
-          nothing = none;
-          begun = is;
-          accepted = accepted_is ∙ ap (λ x. cond (accepts x old.outgoing (answered_to old bytes)) (bytes ∷ []) []) own
-              ∙ ap (λ x. cond (accepts (Some e) x (answered_to old bytes)) (bytes ∷ []) []) none;
-          taken = own_taken e own;
-          ended = refl;
-        }))))
+        outs (Some o) is h = grind (arith, accepted_is, own_taken)
     own_deals e own (Some x) some =
         let is : own_end_of old foreign bytes ≢ None = λ n. none-some e (sym n ∙ own) in
         let same = sees.own_waits is (λ n. none-some x (sym n ∙ some)) in
@@ -97,30 +87,8 @@ module _ {K : Type 0} (bytes : List ℕ) (done : Unit) (old new : Port K) (aw : 
 
     handed_deals : own_end_of old foreign bytes ≡ None → (a : Result Sent SendFault) → answered_to old bytes ≡ a
         → Said_so
-    handed_deals none (Ok s) answer = inr (inr (inr (inl (record {
-      message = bytes;
-      read = (done, refl);
-      begun = begins_same old.outgoing new.outgoing (inl (ap (λ (q : Port K). q.outgoing)
-          (sees.sent s none answer).frame
-          ∙ heeded_out s));
-      accepted = accepted_is ∙ ap (λ x. cond (accepts x old.outgoing (answered_to old bytes)) (bytes ∷ []) []) none
-          ∙ ap (λ x. cond (accepts None old.outgoing x) (bytes ∷ []) []) answer;
-      taken = taken_is bytes done old new r slot size foreign at
-          ∙ ap (λ x. cond (is_none x && is_ok (answered_to old bytes)) (bytes ∷ []) [])
-          (none_so foreign (volume_named old bytes) bytes none) ∙ ap (λ x. cond (is_ok x) (bytes ∷ []) []) answer;
-      ended = refl;
-    }))))
-      where
-        heeded_out : (s : Sent) → (Rattle.mscp_port.specs.Seen.heeded s bytes
-            (Rattle.mscp_port.specs.Seen.heard old)).outgoing ≡ old.outgoing
-        heeded_out s = grind arith
-    handed_deals none (Err fault) answer = quiet
-        (begins_same old.outgoing new.outgoing (inl (ap (λ (q : Port K). q.outgoing) (sees.waits fault none answer))))
-        (accepted_is ∙ ap (λ x. cond (accepts x old.outgoing (answered_to old bytes)) (bytes ∷ []) []) none
-        ∙ ap (λ x. cond (accepts None old.outgoing x) (bytes ∷ []) []) answer)
-        (taken_is bytes done old new r slot size foreign at ∙ ap (λ x. cond x (bytes ∷ []) [])
-        (and_false (is_none (own_answer foreign (volume_named old bytes)
-        bytes)) (is_ok (answered_to old bytes)) (ap is_ok answer)))
+    handed_deals none (Ok s) answer = grind (arith, begins_same, sees, accepted_is, taken_is, none_so)
+    handed_deals none (Err fault) answer = grind (arith, quiet, begins_same, sees, accepted_is, taken_is, and_false)
 
     text_deals : Said_so
     text_deals = elim (none_or_some (own_end_of old foreign bytes)) [

@@ -84,10 +84,7 @@ module _ {K : Type 0} (picks : List Choice → ℕ → Type 0) (outcome : Outcom
           taken _ (r'.clear at low (λ none. none-some area (sym none ∙ is))) refl refl tt refl
 
       by : (s : Stage) → old.stage ≡ s → So
-      by stages.First at = elim (is_one (word / 0x4000 % 2)) [
-        | inl wraps ↦ taken _ (r'.wrap at wraps) refl refl tt refl
-        | inr plain ↦ taken _ (r'.first at plain) refl refl (step_new word) refl
-      ]
+      by stages.First at = grind (arith, is_one, taken, step_new)
       by stages.Second at = taken _ (r'.second at) refl refl (step_new old.words.first) refl
       by stages.Third at = elim (is_low word) [
         | inl high ↦ taken _ (r'.probe at high) refl refl tt refl

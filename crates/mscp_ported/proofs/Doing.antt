@@ -146,22 +146,7 @@ module _ {K : Type 0} (old new : Port K) (u : InUse old) where
       by (Slides full polled of kept e) =
           on _ e refl (kept given ∙ u.room) refl refl (as_was e refl) (read_fewer bytes done old.task of given)
       by (IsFault code of d) = inl (stages.Dead code, d)
-      by (IsAnswered slot size foreign end at own none e a) = inr (record {
-        used = use_on _ e refl u.room refl (subst (λ p. IsClear p.task → ⊥) (sym e) (λ c. c));
-        ends = read_ends bytes done r slot size foreign at;
-        left = subst (λ t. 1 + rest new.task ≤ rest t) (sym at) (subst (λ p. 1 + rest p.task ≤ 5) (sym e) (search arith));
-        out = inr (inr (
-          none,
-          answers end (subst (λ q. IsSomeAnd q (λ x. IsSomeAnd new.outgoing (λ y. (y.bytes.items ≡ end_bytes x)
-              × (y.kind ≡ end_kind foreign)))) own a.out) new.outgoing refl,
-          subst (λ t. 1 + to_do new.task ≤ 10 + rest t) (sym at)
-              (subst (λ p. 1 + to_do p.task ≤ 15) (sym e) (search arith)),
-        ));
-      })
-        where
-          answers : (x : End) → IsSomeAnd new.outgoing (λ y. (y.bytes.items ≡ end_bytes x)
-              × (y.kind ≡ end_kind foreign)) → (o : Option Outgoing) → new.outgoing ≡ o → new.outgoing ≢ None
-          answers x h o is = grind (arith, none-some)
+      by (IsAnswered slot size foreign end at own none e a) = grind (arith, use_on, read_ends, none-some)
       by (StaysInSlot slot size foreign at why e) = on _ e refl u.room refl refl
           (read_ends bytes done r slot size foreign at) (text_fewer tasks.Free (search arith) (search arith) (λ c. c) at)
       by (IsSent slot size foreign (sents.Queued reference) at own answer e) = on _ e.frame refl u.room refl refl
@@ -188,29 +173,11 @@ module _ {K : Type 0} (old new : Port K) (u : InUse old) where
           on _ e refl u.room refl refl (as_was e refl) (eased_fewer old.task after u.clear eased)
       by (StepsOn frame lives calm (inl word)) = absurd (word.0 u.heard)
       by (StepsOn frame lives calm (inr c)) = absurd (u.clear c.0)
-      by (WritesPacket slot untold at e) = on _ e refl u.room refl refl (as_was e refl)
-          (subst (λ t. IsFewer 1 t (tasks.Return Responses slot)) (sym at)
-          (record { to_do = search arith; rest = search arith; clear = λ c. c }))
-      by (GivesSlot Responses slot area at e) =
-          let g = given_so area Responses slot in
-          inr (record {
-            used = use_on _ e refl u.room refl (subst (λ p. IsClear p.task → ⊥) (sym e) g.1);
-            ends = as_was e refl;
-            left = subst (λ t. 1 + rest new.task ≤ rest t) (sym at) (subst (λ p. 1 + rest p.task ≤ 4) (sym e) g.0);
-            out = inr (inl (ap (λ p. p.outgoing) e));
-          })
-      by (GivesSlot Commands slot area at e) =
-          let g = given_so area Commands slot in
-          on _ e refl u.room refl refl (as_was e refl)
-          (subst (λ t. IsFewer 1 t (hears_of area Commands slot)) (sym at)
-          (record { to_do = g.2; rest = g.0; clear = g.1 }))
-      by (ServesStep verdict how takes) = elim (taken_or_not picks old new (verdict, takes)) [
-        | inl e ↦ on _ e refl u.room refl refl (as_was e refl) (step_free old.task (stepping old outcome verdict how))
-        | inr t ↦ on _ t.2.finished.2.frame refl u.room refl refl
-            (more_ends (ends_of old.controller) (brought_for t.0.connection (end_brought t.2.finished.0))
-            (ends_of new.controller) (steps_bring picks t.0.connection t.0.reference (block_told t.1) old.controller
-            new.controller t.2.finished.0 t.2.finished.1)) (step_free old.task (stepping old outcome verdict how))
-      ]
+      by (WritesPacket slot untold at e) = grind (arith, on, as_was)
+      by (GivesSlot Responses slot area at e) = grind (arith, given_so, use_on, as_was)
+      by (GivesSlot Commands slot area at e) = grind (arith, given_so, on, as_was)
+      by (ServesStep verdict how takes) =
+          grind (arith, taken_or_not, on, as_was, step_free, stepping, more_ends, ends_of, brought_for, steps_bring)
 
   -- ---- a call by which nothing is wanted
 
@@ -223,7 +190,4 @@ module _ {K : Type 0} (old new : Port K) (u : InUse old) where
   goes_on picks (Next blocks action bytes) none r given = absurd none
   goes_on picks (WasRead bytes (Ok done)) none r given = read bytes done r given
   goes_on picks (Went outcome (Ok done)) none r given = went (picks old.controller.picker) outcome done r
-  goes_on picks call none r given = by (minor picks call old new r tt)
-    where
-      by : Minor old new → So (acts (call ∷ []))
-      by h = grind (arith, stay, on, as_was, aside_fewer, again_fewer, step_fewer)
+  goes_on picks call none r given = grind (arith, minor, stay, on, as_was, aside_fewer, again_fewer, step_fewer)

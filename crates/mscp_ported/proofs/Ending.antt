@@ -86,21 +86,5 @@ module _ {K : Type 0} (h : Hardware) (units : List Shape) (old new : Port K) (ca
 
       by : (b : Bool) → is_dead new.stage ≡ b → Ends h units new (since new.stage call came (came_by call old new))
           (since new.stage call said (ends_said_by call old new))
-      by true is =
-          let none = ends ∙ k.dead (dead is) in
-          both [] [] (none_left h units new none
-          (decided ∙ no_more old.decided.items (ends_of old.controller) (k.dead (dead is)) k.long))
-          (reset_came new.stage came _ ∙ ap (λ b. cond b [] (came ++ came_by call old new)) is)
-          (reset_said new.stage said _ ∙ ap (λ b. cond b [] (said ++ ends_said_by call old new)) is)
-      by false is = both came said (record {
-        gone = k.gone;
-        all = k.all ∙ ap (λ xs. k.gone ++ xs)
-            (sym (ap (λ es. zipped es new.decided.items) ends ∙ ap (zipped (ends_of old.controller)) decided));
-        long = ap length ends ∙ k.long ∙ sym (ap length decided);
-        texts = k.texts;
-        dead = λ d. search (arith, d, is);
-      })
-          (reset_came new.stage came _ ∙ ap (λ b. cond b [] (came ++ came_by call old new)) is
-          ∙ ap (λ xs. came ++ xs) no_came ∙ append-nil came)
-          (reset_said new.stage said _ ∙ ap (λ b. cond b [] (said ++ ends_said_by call old new)) is
-          ∙ ap (λ xs. said ++ xs) no_said ∙ append-nil said)
+      by true is = grind (arith, both, none_left, no_more, ends_of)
+      by false is = grind (arith, both, ends_of, append-nil)

@@ -52,46 +52,14 @@ module _ (Told : Verdict → Record → Type 0) (aw : List (List ℕ)) where
   pub followed_more : (es fs : List End) → AreFollowed Told aw es → AreFollowed Told aw fs
       → AreFollowed Told aw (es ++ fs)
   followed_more [] fs all behind = behind
-  followed_more (e ∷ es) fs all behind = (one all.0, followed_more es fs all.1 behind)
-    where
-      one : IsFollowed Told aw e es → IsFollowed Told aw e (es ++ fs)
-      one (inl x) = inl x
-      one (inr (inl x)) = inr (inl x)
-      one (inr (inr f)) = inr (inr (λ t only. let b = f t only in record {
-        number = b.number;
-        end = any_more (ends_numbered b.number) es fs b.end;
-        message = b.message;
-      }))
+  followed_more (e ∷ es) fs all behind = grind (arith, followed_more es fs all.1 behind, any_more, ends_numbered)
 
   -- a message comes
   pub followed_beside : (t : List ℕ) (es : List End) → filter (ends_numbered (num t 0 4)) es ≡ []
       → AreFollowed Told aw es → AreFollowed Told (aw ++ t ∷ []) es
   followed_beside t [] none all = tt
-  followed_beside t (e ∷ es) none all = by (nat_eq e.reference (num t 0 4)) refl none all.0
-      (λ h. followed_beside t es h all.1)
-    where
-      by : (b : Bool) → nat_eq e.reference (num t 0 4) ≡ b
-          → cond b (e ∷ filter (ends_numbered (num t 0 4)) es) (filter (ends_numbered (num t 0 4)) es) ≡ []
-          → IsFollowed Told aw e es
-          → (filter (ends_numbered (num t 0 4)) es ≡ [] → AreFollowed Told (aw ++ t ∷ []) es)
-          → AreFollowed Told (aw ++ t ∷ []) (e ∷ es)
-      by true is h x rest = absurd (some_none e (filter (ends_numbered (num t 0 4)) es) h)
-      by false is h x rest = (one x, rest h)
-        where
-          apart : (b : Bool) → nat_eq (num t 0 4) e.reference ≡ b → b ≡ false
-          apart b x = grind (arith, eq-eqb, eqb-true)
-
-          one : IsFollowed Told aw e es → IsFollowed Told (aw ++ t ∷ []) e es
-          one (inl x) = inl x
-          one (inr (inl x)) = inr (inl x)
-          one (inr (inr f)) = inr (inr (λ u only.
-              let b = f u (sym (none_beside (has_number e.reference) aw t
-              (apart (nat_eq (num t 0 4) e.reference) refl)) ∙ only) in
-              record {
-                number = b.number;
-                end = b.end;
-                message = aborts_more e.reference b.number aw (t ∷ []) b.message;
-              }))
+  followed_beside t (e ∷ es) none all =
+      grind (arith, followed_beside t es, nat_eq, ends_numbered, some_none, eq-eqb, eqb-true, none_beside, aborts_more)
 
   -- the end of a number is taken, of which no other is
   pub followed_left : (k : ℕ) (es : List End) → filter (ends_numbered k) es ≡ [] → AreFollowed Told aw es

@@ -76,8 +76,7 @@ module _ {K : Type 0} (picks : Picking K) (hardware : Hardware) (credits : ℕ) 
       (accepted picks start p calls a)
   in_step p [] asks a = begins_so p a
   in_step p (call ∷ calls) asks a =
-      after_call picks a.0 p (talk_of picks start a.0 calls a.1) (said picks start a.0 calls a.1)
-      (accepted picks start a.0 calls a.1) call calls asks a.2 (in_step a.0 calls (asked_before call calls asks) a.1)
+      grind (arith, in_step a.0 calls (asked_before call calls asks) a.1, after_call, asked_before)
 
   pub owed_so : (p : Port K) (calls : List Call) (blocks : Bool) (action : Action) (bytes : List ℕ) → AsksAlways calls
       → (a : Answered picks start (Next blocks action bytes ∷ calls) p)

@@ -71,10 +71,7 @@ module _ {K : Type 0} {picks : List Choice → ℕ → Type 0} {old new : Port K
           → IsSomeAnd o (λ x. Tells left (record { slot = s; address = address; bytes = w.bytes }) (said_in x)
           × (u ≡ left_after left x.kind))
       said_so None out is h left e = h
-      said_so {u} (Some x) out is h left e =
-          subst (λ n. Tells n (record { slot = s; address = address; bytes = w.bytes }) (said_in x)
-          × (u ≡ left_after n x.kind)) e
-          (packet_tells s address old.untold w.bytes x refl h, is ∙ left_so old.untold x.kind)
+      said_so {u} (Some x) out is h left e = grind (arith, s, address, packet_tells, left_so)
 
       tells_so : {u : ℕ} → u ≡ old.untold - (credits_with old.untold old.outgoing - 1)
           → AreTold old.more (tasks.Return Responses slot) (Written s address w.bytes) old.outgoing u t.told said

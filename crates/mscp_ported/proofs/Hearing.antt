@@ -227,9 +227,7 @@ module _ {K : Type 0} (old new : Port K) (t : Talk) (w : Wish) (bytes : List ℕ
           taken_so old.outgoing (ap (λ x. accepts x old.outgoing (answered_to old bytes)) none
           ∙ ap (accepts None old.outgoing) ok) (ap look (sees.sent (sents.Answered reference aborted) none ok).frame)
           (inl refl)
-      sent_or none (Err fault) err =
-          stays_so (ap (λ x. accepts x old.outgoing (answered_to old bytes)) none
-          ∙ ap (accepts None old.outgoing) err) (sees.waits fault none err)
+      sent_or none (Err fault) err = grind (arith, stays_so, none, sees)
 
       by : (o : Option _) → own_end_of old foreign bytes ≡ o → So
       by None none = sent_or none (answered_to old bytes) refl

@@ -88,23 +88,11 @@ module _ {K : Type 0} (picks : Picking K) (c : Settings) (picker : K)
       none_low x e h = search (arith, e, h)
 
       by : At aw p.controller.waiting (ends_of p.controller) n → HoldsAwaited p aw n
-      by (inl x) = record {
-        there = λ some. absurd (some x.0);
-        waits = λ low. absurd (none_low (figure_on p n)
-            (no_figure p.controller.settings.budget n p.controller.waiting x.1) low);
-        ended = λ holds. absurd (holds x.2);
-        one = λ low holds. holds x.2;
-      }
+      by (inl x) = grind (arith, none_low, no_figure)
       by (inr (inl w)) = record {
         there = λ some. inl (some_figure (picks picker) c promised.0 p.controller promised.1 n w.own w.sole);
         waits = λ low e. some_none w.text [] (sym w.message ∙ e);
         ended = λ holds. absurd (holds w.no_end);
         one = λ low holds. holds w.no_end;
       }
-      by (inr (inr x)) = record {
-        there = λ some. inr (λ e. some_none x.end [] (sym x.sole ∙ e));
-        waits = λ low e. some_none x.text [] (sym x.message ∙ e);
-        ended = λ holds e. some_none x.text [] (sym x.message ∙ e);
-        one = λ low holds. none_low (figure_on p n)
-            (no_figure p.controller.settings.budget n p.controller.waiting x.none) low;
-      }
+      by (inr (inr x)) = grind (arith, some_none, none_low, no_figure)

@@ -172,9 +172,7 @@ module _ {K : Type 0} (picks : Picking K) (hardware : Hardware) (credits : ℕ) 
   are_owned p [] asks a = nothing_kept picks start p [] a (ap (λ (q : Port K). q.buffers.items) a ∙ made.buffers)
   are_owned p (WriteIp ∷ calls) asks a = nothing_kept picks start p (WriteIp ∷ calls) a a.2.buffers
   are_owned p (Next asks_for action bytes ∷ calls) asks a =
-      quiet picks start p (Next asks_for action bytes) calls a (λ n. refl) (λ n. refl) (still_waits a.0 p a.2.0.says)
-      (λ b there. subst (λ bs. Contains bs b) (ap (λ (q : Port K). q.buffers.items) a.2.0.frame) there)
-      (are_owned a.0 calls asks a.1)
+      grind (arith, are_owned a.0 calls asks a.1, quiet, still_waits)
   are_owned p (WasRead bytes (Ok done) ∷ calls) asks a =
       read_owned picks start p calls bytes done a (are_owned a.0 calls asks.1 a.1)
   are_owned p (Went outcome (Ok done) ∷ calls) asks a =

@@ -73,11 +73,7 @@ module _ (why because : Type 0) (units : List Shape) (unit place : ℕ) (here : 
       → (Ended 0x89 unit (brought_for via ended) → because)
       → ((Ended 0x88 unit (brought_for via ended) → ⊥) → why → because)
       → Mounted because (volume_at (volumes_after units bs via ended vs) place)
-  ended_so None brought on = λ is. on (λ h. nothing via h) (m is)
-    where
-      nothing : (c : Connection) → Ended 0x88 unit (brought_for c None) → ⊥
-      nothing First h = none_ended 0x88 unit [] refl h
-      nothing Second h = none_ended 0x88 unit [] refl h
+  ended_so None brought on = grind (arith, brought_for, none_ended)
   ended_so (Some e) brought on = by (place_heeded units e) refl
     where
       kept : Option Buffer
@@ -137,11 +133,7 @@ module _ {K : Type 0} (picks : Picking K) (start : Port K) where
     by_call : call ≢ WriteIp → Remounted call a.0 p → Mounted On (volume_at p.volumes place)
     by_call never (Forgets n) =
         not_mounted On (volume_at p.volumes place) (ap (λ (v : Volume). v.is_mounted) (n.1.volumes place low))
-    by_call never (Rests calm e) = λ is. on_call call p calls a unit never (inr (
-      calm.changes unit,
-      calm.ended 0x88 unit,
-      before (ap (λ xs. (volume_at xs place).is_mounted) (sym e) ∙ is),
-    ))
+    by_call never (Rests calm e) = grind (arith, on_call)
     by_call never (Tunes calm q x t e) = subst (λ vs. Mounted On (volume_at vs place)) (sym e)
         (set_one Was On place q a.0.volumes x
         (λ same was is. on (was (ap (λ i. (volume_at a.0.volumes i).is_mounted) same ∙ sym t.mounted ∙ is)))
@@ -164,9 +156,7 @@ module _ {K : Type 0} (picks : Picking K) (start : Port K) where
       (a : Answered picks start calls p) (unit place : ℕ) → place < 16
       → place_in p.controller.settings.units unit ≡ Some place
       → Mounted (IsOnline picks unit start p calls a) (volume_at p.volumes place)
-  online hardware credits controller made p [] a unit place low here = not_mounted ⊥ (volume_at p.volumes place)
-      (ap (λ (q : Port K). (volume_at q.volumes place).is_mounted) a
-      ∙ ap (λ (v : Volume). v.is_mounted) (made.volumes place low))
+  online hardware credits controller made p [] a unit place low here = grind (arith, not_mounted)
   online hardware credits controller made p (WriteIp ∷ calls) a unit place low here =
       not_mounted ⊥ (volume_at p.volumes place) (ap (λ (v : Volume). v.is_mounted) (a.2.volumes place low))
   online hardware credits controller made p (call ∷ calls) a unit place low here =

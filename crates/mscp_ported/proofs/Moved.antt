@@ -45,19 +45,8 @@ module _ (u : Upcoming) (kind : MoveKind) (block : ℕ) (moves : block_moved u.c
     good_part : (at : MoveKind × ℕ) (b : Buffer) (v : Volume) (r : Result (ℕ × ℕ) Verdict)
         → part_with at.0 at.1 u.done b v ≡ r → part_task r ≡ tasks.Step (verdicts.Served blocks.Good)
         → Low b
-    good_part at b v (Ok part) e h = by (nat_eq part.1 0) refl h
-      where
-        by : (c : Bool) → nat_eq part.1 0 ≡ c
-            → cond c (tasks.Step (verdicts.Served blocks.Good)) tasks.Transfer ≡ tasks.Step
-            (verdicts.Served blocks.Good)
-            → Low b
-        by c is h = grind (arith, part_left, at, none_left, part_is, eqb-true, has_data)
-    good_part at b v (Err verdict) e h =
-        absurd (no_good_part at.0 at.1 u.done b v verdict e (ap (λ x. verdict_in x) h))
-      where
-        verdict_in : Task → Verdict
-        verdict_in (tasks.Step x) = x
-        verdict_in task = verdict
+    good_part at b v (Ok part) e h = grind (arith, nat_eq, part_left, none_left, part_is, eqb-true, has_data)
+    good_part at b v (Err verdict) e h = grind (arith, no_good_part)
 
     good_step : (b : Buffer) (v : Volume) → task_of u b v ≡ tasks.Step (verdicts.Served blocks.Good)
         → Low b
@@ -148,10 +137,7 @@ module _ (u : Upcoming) (kind : MoveKind) (block : ℕ) (moves : block_moved u.c
                 },
               ),
             )
-        by (Err verdict) e told (Some x) some wanted = absurd (bad verdict e (ap (told_unless outcome) (sym e) ∙ told))
-          where
-            bad : (verdict : Verdict) → part_now old u kind block ≡ Err verdict → told_of verdict ≡ blocks.Good → ⊥
-            bad verdict e h = grind (arith, good_verdict, no_good_part)
+        by (Err verdict) e told (Some x) some wanted = grind (arith, good_verdict, no_good_part)
 
 -- ---- who said it
 

@@ -100,11 +100,7 @@ takes_end aw rs e es at n = by (nat_eq e.reference n) refl (at n)
     by : (c : Bool) → nat_eq e.reference n ≡ c → At aw rs (e ∷ es) n → At left rs es n
     by true is (inl none) = absurd (some_none e (filter (ends_numbered n) es) (sym (here true is) ∙ none.2))
     by true is (inr (inl w)) = absurd (some_none e (filter (ends_numbered n) es) (sym (here true is) ∙ w.no_end))
-    by true is (inr (inr x)) = inl (
-      gone is,
-      x.none,
-      (first_of_one e x.end (filter (ends_numbered n) es) (sym (here true is) ∙ x.sole)).1,
-    )
+    by true is (inr (inr x)) = grind (arith, gone, first_of_one, here)
     by false is x = at_same n (same is) refl (sym (here false is)) x
 
 -- and it is that of an awaited message

@@ -100,55 +100,19 @@ module _ {K : Type 0} (p : Port K) (t : Talk) (action : Action) (bytes : List �
       → IsOwed p.stage t t.turn action bytes
   owed_of tasks.Transfer h is at within some up clear area fit = owed_open t.turn fit
       (else_calm p.stage t action bytes (subst (λ x. IsElse x) (sym h) (move_else p (block_begun p))))
-  owed_of (tasks.Clear done) h is at within some up clear area fit = owed_open t.turn fit
-      (in_rings (λ r. action ≡ actions.Write (clear_from p r done) (clear_count p r done))
-      (IsCalm p.stage t action bytes)
-      p.rings refl (area tt) h (λ r e x. subst (λ a. IsCalm p.stage t a bytes) (sym x)
-      (clear tt, zeros r e, inside r e x)))
-    where
-      zeros : (r : Rings) → p.rings ≡ Some r → bytes ≡ replicate (clear_count p r done) 0
-      zeros r e = is ∙ ap (zeros_out p done) e
-
-      inside : (r : Rings) → p.rings ≡ Some r → action ≡ actions.Write (clear_from p r done) (clear_count p r done)
-          → IsSomeAnd t.rings (λ r'. IsInArea r' (clear_from p r done) (clear_count p r done))
-      inside r e x = grind arith
-  owed_of (tasks.Slot side) h is at within some up clear area fit = owed_open t.turn fit
-      (in_rings (λ r. action ≡ actions.Read (slot_in r side (given_in p side)) 4)
-      (IsCalm p.stage t action bytes) p.rings
-      refl (some tt) h (λ r e x. subst (λ a. IsCalm p.stage t a bytes) (sym x) (
-        up tt,
-        refl,
-        (side, slot_count r side e),
-      )))
+  owed_of (tasks.Clear done) h is at within some up clear area fit = grind (arith, owed_open, in_rings, replicate)
+  owed_of (tasks.Slot side) h is at within some up clear area fit = grind (arith, owed_open, in_rings, slot_count)
   owed_of (tasks.Header slot) h is at within some up clear area fit =
       owed_at t.turn (Taken (slot_at (look p) Commands slot.word)) fit h
-  owed_of (tasks.Text slot size foreign) h is at within some up clear area fit =
-      owed_at t.turn (Opened (slot_at (look p) Commands slot.word) fit.0) fit.1
-      (h ∙ ap (λ n. actions.Read (text_of slot.word) n) fit.2)
-  owed_of (tasks.Packet slot) h is at within some up clear area fit =
-      owed_at t.turn (Taken (slot_at (look p) Responses slot.word)) fit
-      (h ∙ ap (λ b. actions.Write (text_of slot.word - 4) (length b)) (sym is))
+  owed_of (tasks.Text slot size foreign) h is at within some up clear area fit = grind (arith, owed_at, slot_at, look)
+  owed_of (tasks.Packet slot) h is at within some up clear area fit = grind (arith, owed_at, slot_at, look)
   owed_of (tasks.Return Responses slot) h is at within some up clear area fit =
-      owed_at t.turn (Written (slot_at (look p) Responses slot.word) fit.0 fit.1) fit.2
-      (back_so Responses slot.word (some tt) is h)
+      grind (arith, owed_at, slot_at, look, back_so)
   owed_of (tasks.Return Commands slot) h is at within some up clear area fit =
-      owed_at t.turn (Read (slot_at (look p) Commands slot.word) fit.0 fit.1) fit.2
-      (inl (back_so Commands slot.word (some tt) is h))
-  owed_of (tasks.Neighbour side) h is at within some up clear area fit = owed_at t.turn (Looks side) fit
-      (in_rings (λ r. action ≡ actions.Read (slot_in r side (given_in p side + 2 * slots_of r side - 2)) 4)
-      (IsLook t.rings t side action) p.rings refl (some tt) h
-      (λ r e x. subst (λ o. IsLook o t side action) (sym (names.named_so ∙ e))
-      (x ∙ ap (λ n. actions.Read (slot_in r side (n + 2 * slots_of r side - 2)) 4) (count_so side)
-      ∙ ap (λ n. actions.Read n 4) (look_count r side (given t side) (subst (λ o. IfSome o IsWide) e names.wide)
-      ∙ sym (place_so r side (given t side + 2 * slots_of r side - 2))
-      ∙ ap (λ m. slot_place r side (given t side + 2 * m - 2)) (sym (slots_so r side))))))
-  owed_of (tasks.Word side) h is at within some up clear area fit = owed_at t.turn (Marks side) fit (
-    in_rings (λ r. action ≡ actions.Write (word_of r side) 2)
-        (IsSomeAnd t.rings (λ r. action ≡ actions.Write (word_place r side) 2)) p.rings refl (some tt) h
-        (λ r e x. subst (λ o. IsSomeAnd o (λ r. action ≡ actions.Write (word_place r side) 2))
-        (sym (names.named_so ∙ e)) (x ∙ ap (λ n. actions.Write n 2) (sym (word_so r side)))),
-    is,
-  )
+      grind (arith, owed_at, slot_at, look, back_so)
+  owed_of (tasks.Neighbour side) h is at within some up clear area fit =
+      grind (arith, owed_at, in_rings, count_so, look_count, place_so, slots_so)
+  owed_of (tasks.Word side) h is at within some up clear area fit = grind (arith, owed_at, in_rings, word_so)
   owed_of tasks.Interrupt h is at within some up clear area fit = owed_at t.turn Due fit
       (h ∙ ap (λ n. actions.Interrupt (n % 0x80 * 4)) (sym names.first_so))
   owed_of task h is at within some up clear area fit = owed_open t.turn fit

@@ -35,12 +35,7 @@ module _ {K : Type 0} (picks : Picking K) (c : Settings) (picker : K)
     (made : IsMadeOf hardware credits controller start) where
   pub knows : (p : Port K) (calls : List Call) (a : Answered picks start calls p)
       → Knows picks c picker before start p calls a
-  knows p [] a = record {
-    made = before;
-    are = refl;
-    answered = subst (λ (h : Holdings K). AnsweredCalls (picks picker) (fresh c picker) before h)
-        (sym (ap (λ (q : Port K). q.controller) a ∙ made.over)) was;
-  }
+  knows p [] a = grind arith
   knows p (call ∷ calls) a =
       let k = knows a.0 calls a.1 in
       let same : a.0.controller.picker ≡ picker =

@@ -1,5 +1,5 @@
 -- In which ports the ring of responses wasn't found full, and no step of the initialisation waits.
-use Rattle.mscp_ported.proofs.Common.{Answered, AsksAlways, Becomes, Call, Choice, Commands, Hardware, HasRoom, Holdings, IsGiven, IsMadeOf, List, LookAgain, Next, None, Ok, Outcome, Picking, Port, ReadIp, Responses, Tick, WasRead, Went, WriteIp, WriteSa, [], ap, arith, blocks, false, false≢true, given, inl, inr, of, refl, sym, taken_or_not, true, written, ℕ, ◌∙◌, ◌∷◌, ◌≡◌}
+use Rattle.mscp_ported.proofs.Common.{Answered, AsksAlways, Becomes, Call, Choice, Commands, Hardware, HasRoom, Holdings, IsGiven, IsMadeOf, List, LookAgain, Next, None, Ok, Outcome, Picking, Port, ReadIp, Responses, Tick, WasRead, Went, WriteIp, WriteSa, [], ap, arith, blocks, false, false≢true, given, inl, inr, of, refl, sym, taken_or_not, true, written, ℕ, ◌∙◌, ◌∷◌, ◌≡◌, More}
 use Rattle.mscp_ported.proofs.Minor.{GivesUp, Minor, Mounts, PutsAside, ReadsAgain, Still, minor}
 use Rattle.mscp_controller.specs.declared.entry.Sent.TheVariants as sents
 use Rattle.mscp_port.specs.declared.stage.Stage.TheVariants as stages
@@ -47,10 +47,7 @@ module _ {K : Type 0} (old new : Port K) (clear : IsClear old.task → old.stage
   heard_by picks (Next blocks action bytes) r = still _ r.0.frame refl refl
   heard_by picks (WasRead bytes (Ok done)) r = elim r.frame [ inl e ↦ still _ e refl refl | inr dead ↦ dead.1.written ]
   heard_by picks (Went outcome (Ok done)) r = went (deed _ outcome done old new r)
-  heard_by picks call r = by (minor picks call old new r tt)
-    where
-      by : Minor old new → new.written ≡ None
-      by h = grind (arith, still)
+  heard_by picks call r = grind (arith, minor, still)
 
 -- ---- a history
 
@@ -74,10 +71,7 @@ module _ {K : Type 0} (picks : Picking K) (hardware : Hardware) (credits : ℕ) 
       went_room a.0 p (room a.0 calls a.1 has.1) (deed (picks a.0.controller.picker) outcome done a.0 p a.2)
   room p (LookAgain ∷ calls) a has = ap (λ x. x.is_full) a.2
   room p (Tick ∷ calls) a has = elim a.2.either [ inl e ↦ ap (λ x. x.is_full) e | inr dead ↦ dead.full ]
-  room p (call ∷ calls) a has = by (minor picks call a.0 p a.2 tt) (room a.0 calls a.1 has.1)
-    where
-      by : Minor a.0 p → a.0.is_full ≡ false → p.is_full ≡ false
-      by h was = grind arith
+  room p (call ∷ calls) a has = grind (arith, room a.0 calls a.1 has.1, minor)
 
   pub heard_so : (p : Port K) (calls : List Call) → AsksAlways calls → Answered picks start calls p
       → is_late p.stage ≡ true → p.written ≡ None

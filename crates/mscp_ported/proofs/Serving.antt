@@ -34,14 +34,8 @@ module _ {K : Type 0} (picks : Picking K) (old new : Port K) (lives : is_dead ne
   owes_on (WriteSa word) never none r = elim r.frame [ inl e ↦ as_it_was _ e refl | inr d ↦ dies d.0 d.1 ]
   owes_on (Next blocks action bytes) never none r = as_it_was _ r.0.frame refl
   owes_on (WasRead bytes (Ok done)) never none r = read_owes (sight bytes done old new r)
-  owes_on (Went outcome (Ok done)) never none r = elim r.commands [
-    | inl k ↦ k.owes ∙ owes
-    | inr more ↦ elim more [ inl block ↦ absurd (none block.0) | inr d ↦ dies d.0 d.1 ]
-  ]
-  owes_on call never none r = by (minor picks call old new r tt)
-    where
-      by : Minor old new → new.owes_block ≡ true
-      by h = grind (arith, as_it_was, dies)
+  owes_on (Went outcome (Ok done)) never none r = grind (arith, dies)
+  owes_on call never none r = grind (arith, minor, as_it_was, dies)
 
 -- ---- a poll
 
@@ -179,11 +173,7 @@ module _ {K : Type 0} (picks : Picking K) (start : Port K) where
         → AsksBehindPolls picks start p calls a → ServesBetweenPolls picks start p calls a
     serves_behind p [] a asks = tt
     serves_behind p (call ∷ calls) a asks =
-        (here (asks_before p call calls a asks), serves_behind a.0 calls a.1 (asks_before p call calls a asks))
-      where
-        here : AsksBehindPolls picks start a.0 calls a.1 → (number : ℕ) → TakesPoll number call a.0
-            → 1 ≤ figure_on a.0 number → IsServedSince picks start a.0 calls a.1 number
-        here old number takes low = grind (arith, fair, polls_so)
+        grind (arith, serves_behind a.0 calls a.1 (asks_before p call calls a asks), asks_before, fair, polls_so)
 
     -- who always asks for blocks does so
     always_asks : (p : Port K) (calls : List Call) (a : Answered picks start calls p) → AsksForBlocks calls

@@ -19,9 +19,7 @@ module _ {X : Type 0} where
   split : (xs ys : List X) (r : X) → xs ++ ys ≡ r ∷ []
       → ((xs ≡ r ∷ []) × (ys ≡ [])) ⊎ ((xs ≡ []) × (ys ≡ r ∷ []))
   split [] ys r e = inr (refl, e)
-  split (x ∷ xs) ys r e =
-      let n = nothing_two xs ys (ap others_in e) in
-      inl (ap (λ zs. x ∷ zs) n.0 ∙ ap (λ z. z ∷ []) (ap (first_in r) e), n.1)
+  split (x ∷ xs) ys r e = grind (arith, nothing_two)
 
   -- the one that passes is this, or another
   pub this_one : (f : X → Bool) (xs ys : List X) (y r : X) → filter f (xs ++ y ∷ ys) ≡ r ∷ [] → f y ≡ true

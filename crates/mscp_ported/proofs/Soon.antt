@@ -33,11 +33,7 @@ left_some o before after e h = ap (λ x. leaves x after) e ∙ ap (leaves (Some 
 
 far : {K : Type 0} (picks : Picking K) (o : Outgoing) (p q : Port K) (calls : List Call) → IsSaying p o
     → (a : Answered picks p calls q) → AreGiven picks p q calls a → Far picks o p q calls a
-far picks o p q [] s e given = inl (
-  refl,
-  subst (λ x. IsSaying x o) (sym e) s,
-  subst (λ x. 0 + to_do x.task ≤ to_do p.task) (sym e) (search arith),
-)
+far picks o p q [] s e given = grind (arith, to_do)
 far picks o p q (call ∷ calls) s a given = elim (far picks o p a.0 calls s a.1 given.1) [
   | inl k ↦ elim (says_on picks call o a.0 q k.1 a.2 given.0) [
     | inl on ↦ inl (

@@ -59,18 +59,8 @@ some_first (x ∷ xs) h e = none-some x (sym e)
 
 pub waits_on : {K : Type 0} (picks : Picking K) (call : Call) (old new : Port K) → IsWaiting old
     → Becomes picks call old new → IsGiven old.task call → WaitsOn old (acts (call ∷ [])) new
-waits_on picks (Next blocks action bytes) old new s r given = elim (free_or_not old.task) [
-  | inl free ↦
-      elim (r.0.says.looks (record { outgoing = s.out; free = free; step = s.used.heard; up = s.used.up })) [
-        | inl t ↦
-            let some : new.outgoing ≢ None = λ e. none-some _ (sym e ∙ t.out.2) in
-            let x = next_slot s.used r.0 free some in
-            begins old 0 new x.0 some (subst (λ t. 0 + to_do t ≤ 10 + rest old.task) (sym x.1) (search arith))
-        | inr n ↦ absurd (some_first (ends_of old.controller) s.end n.none)
-      ]
-  | inr busy ↦ inl (subst (λ p. IsWaiting p × (0 + rest p.task ≤ rest old.task)) (sym (r.0.goes_on busy))
-      (s, search arith))
-]
+waits_on picks (Next blocks action bytes) old new s r given =
+    grind (arith, free_or_not, none-some, begins, to_do, rest, some_first, ends_of, goes_on)
 waits_on picks call old new s r given = elim (goes_on old new s.used picks call tt r given) [
   | inl f ↦ inr (inl f)
   | inr g ↦ elim g.out [

@@ -61,14 +61,7 @@ pace_on {K} picks call old new n g r given busy (inl k) = elim (says_on picks ca
       | inr ends ↦ record { used = f.used; out = f.out; end = ends }
     ]
 pace_on {K} picks call old new n g r given busy (inr k) =
-    subst (λ xs. Pace new (acts (call ∷ []) + n) (g + length xs)) (sym (left_quiet old.outgoing new.outgoing k.0.out))
-    (elim (waits_on picks call old new k.0 r given) [
-      | inl on ↦ inr (on.0, waits_so n (rest old.task) g (acts (call ∷ [])) (rest new.task) on.1 k.1)
-      | inr over ↦ elim over [
-        | inl f ↦ absurd (forgotten old new f busy)
-        | inr b ↦ inl (b.0, b.1, begins_so n (rest old.task) g (acts (call ∷ [])) (to_do new.task) b.2 k.1)
-      ]
-    ])
+    grind (arith, left_quiet, waits_on, waits_so, rest, forgotten, begins_so, to_do)
 
 pace : {K : Type 0} (picks : Picking K) (p q : Port K) (calls : List Call) → Pace p 0 0
     → (a : Answered picks p calls q) → AreGiven picks p q calls a → HaveToTell picks p q calls a

@@ -122,7 +122,4 @@ module _ {K : Type 0} (picks : Picking K) (old new : Port K) where
   reads_on (WasRead bytes (Ok done)) none r = read_on (sight bytes done old new r)
   reads_on (Went outcome (Ok done)) none r =
       λ h. absurd (went_quiet (deed (picks old.controller.picker) outcome done old new r) h)
-  reads_on call none r = by (minor picks call old new r tt)
-    where
-      by : Minor old new → IsHearing new.task → ReadsOn old new
-      by h = grind (arith, on, put, again, anew, forgets)
+  reads_on call none r = grind (arith, minor, on, put, again, anew, forgets)

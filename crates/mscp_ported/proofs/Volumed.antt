@@ -153,10 +153,7 @@ module _ {K : Type 0} (picks : Picking K) (hardware : Hardware) (credits : ℕ) 
           × IsOnItsVolume picks u start a.0 calls a.1
 
       by : (task : Task) → a.0.task ≡ task → step_told a.0 outcome a.0.task ≡ Some blocks.Good → So
-      by (tasks.Step verdict) at told = search (
-        arith,
-        subst (λ o. IfSome o (λ x. x.action ≡ actions.Pause)) wished (s.paused verdict at),
-      )
+      by (tasks.Step verdict) at told = grind (arith, s)
       by tasks.Transfer at told =
           let w = wanted a.0 kind unit block address count
           (sym (subst (λ o. IfSome o (λ x. x.action ≡ move_wanted a.0 (block_begun a.0))) wished (s.wanted at))) in

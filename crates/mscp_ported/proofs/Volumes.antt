@@ -120,10 +120,7 @@ remounted picks (Went outcome (Err unasked)) old new r =
     Rests (record { changes = λ unit. refl; ended = λ code unit h. h }) (ap (λ p. p.volumes) r.unasked)
 remounted picks LookAgain old new r =
     Rests (record { changes = λ unit. refl; ended = λ code unit h. h }) (ap (λ p. p.volumes) r)
-remounted picks Tick old new r = elim r.either [
-  | inl e ↦ Rests (record { changes = λ unit. refl; ended = λ code unit h. h }) (ap (λ p. p.volumes) e)
-  | inr dead ↦ Forgets (stages.Dead 9, dead)
-]
+remounted picks Tick old new r = grind arith
 remounted picks (VolumeCame m to (Ok done)) old new r = Switches (volume_put m)
     (record { offline = λ v. refl; changes = λ v. refl; news = λ v e. refl }) to (λ unit. refl) (λ code unit h. h)
     (ap (λ p. p.volumes) (r.came refl))
@@ -132,13 +129,8 @@ remounted picks (VolumeCame m to (Err fault)) old new r =
 remounted picks (VolumeWent to (Ok done)) old new r = Switches (volume_changed false)
     (record { offline = λ v. refl; changes = λ v. refl; news = λ v e. e }) to (λ unit. refl) (λ code unit h. h)
     (ap (λ p. p.volumes) r.frame)
-remounted picks (VolumeWent to (Err fault)) old new r =
-    Rests (record { changes = λ unit. refl; ended = λ code unit h. h }) (ap (λ p. p.volumes) r.frame
-    ∙ ap (λ o. volumes_with (volume_changed false) o old.volumes) (r.no_unit.0 refl))
+remounted picks (VolumeWent to (Err fault)) old new r = grind arith
 remounted picks (Protect protected to result) old new r =
     guards (record { changes = λ unit. refl; ended = λ code unit h. h }) protected
     (place_in old.controller.settings.units to) (ap (λ p. p.volumes) r.frame)
-remounted picks call old new r = elim r.frame [
-  | inl e ↦ Rests (record { changes = λ unit. refl; ended = λ code unit h. h }) (ap (λ p. p.volumes) e)
-  | inr dead ↦ Forgets (stages.Dead dead.0, dead.1)
-]
+remounted picks call old new r = grind arith
