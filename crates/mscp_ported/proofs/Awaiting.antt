@@ -42,9 +42,7 @@ pub record IsLikeIt (sent b : List ℕ) : Type 0 where
 
 stood_in : (b : List ℕ) → 12 ≤ length b → IsLikeIt (stand_in b) b
 unfolding command_of
-stood_in (a ∷ b ∷ c ∷ d ∷ e ∷ f ∷ g ∷ h ∷ rest) long =
-    record { number = refl; bytes = omega arith }
-stood_in b long = search (arith, long)
+stood_in x0 long = grind arith
 
 named_next : (b : List ℕ) (n : ℕ) → 12 ≤ length b → IsLikeIt (renamed b n) b
 named_next b n long = grind (arith, command_few)
@@ -146,9 +144,7 @@ module _ {K : Type 0} (call : Call) (old new : Port K) (aw : List (List ℕ)) (k
   pub lives_so : (xs : List (List ℕ)) → is_dead new.stage ≡ false
       → without_ends (ends_said_by call old new) aw ++ taken_by call old ≡ xs
       → AtEach xs new.controller.waiting (ends_of new.controller) → AllByRecursion IsSmall xs → So
-  lives_so xs alive e at small = became xs (calm.texts new.stage _ _
-      ∙ ap (λ b. cond b [] (without_ends (ends_said_by call old new) aw ++ taken_by call old)) alive ∙ e)
-      (record { each = at; small = small; dead = λ d. search (arith, d, alive) })
+  lives_so xs alive e at small = grind (arith, became)
 
   pub stays_so : ends_said_by call old new ≡ [] → taken_by call old ≡ [] → Stays old new → So
   stays_so said taken either = grind (arith, same_so, ends_of, dies_so)

@@ -29,23 +29,7 @@ brings {K} h b = by (refusal (balance_of First h) (outstanding_of First h) b)
     c = command_of b
 
     by : (o : Option SendFault) → Brings h (held_unless First h (command_of b) o) (sent_unless First h (command_of b) o)
-    by (Some fault) = record {
-      ends = [];
-      all = sym (append-nil (ends_of h));
-      queued = λ reference e. refl;
-      refused = λ other e. refl;
-    }
-    by None = taken (is_queued h.settings (command_of b))
-      where
-        brought : List End
-        brought = option_to_list (option_map aborted_record (record_aborted First h.waiting (command_of b).order))
-
-        taken : (q : Bool) → Brings h (cond q (queued First h (command_of b))
-            (with_end First (aborting First h (command_of b).order) (answered_end First h (command_of b))))
-            (Ok (cond q (sents.Queued (command_of b).reference) (sents.Answered (command_of b).reference
-            (reference_aborted First h.waiting (command_of b).order))))
-        taken true = grind (arith, append-nil)
-        taken false = grind (arith, brought, append_assoc)
+    by x0 = grind (arith, append-nil, append_assoc)
 
 -- ---- a step
 

@@ -63,9 +63,7 @@ module _ {K : Type 0} (picks : Picking K) (c : Settings) (picker : K)
       poll : (b : List ℕ) (u : Unit) → WasRead bytes (Ok done) ≡ WasRead b (Ok u)
           → TakesPoll (num b 12 4) (WasRead bytes (Ok done)) a.0
           → map pending_end x.0.brought ≡ record { number = num b 0 4; figure = figure_on a.0 (num b 12 4) } ∷ []
-      poll b u e t = subst (λ z. TakesPoll (num z 12 4) (WasRead bytes (Ok done)) a.0
-          → map pending_end x.0.brought ≡ record { number = num z 0 4; figure = figure_on a.0 (num z 12 4) } ∷ [])
-          (same_bytes b u e) x.1 t
+      poll b u e t = grind (arith, x, same_bytes)
 
       none_begun : begins a.0.outgoing p.outgoing ≡ [] → PassesOn (WasRead bytes (Ok done)) a.0 p
       none_begun none = grown_passes (WasRead bytes (Ok done)) a.0 p x.0

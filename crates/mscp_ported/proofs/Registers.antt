@@ -109,16 +109,7 @@ module _ {K : Type 0} (word : ℕ) (old new : Port K) (t : Talk) (w : Option Wis
       fits task h = h
 
       again : Hand (record (look old) { word = Some word }) t.turn w
-      again = record {
-        fits = fits old.task k.hand.fits;
-        asked = k.hand.asked;
-        up = k.hand.up;
-        step = k.hand.step;
-        clear = k.hand.clear;
-        own = k.hand.own;
-        idle = k.hand.idle;
-        wished = k.hand.wished;
-      }
+      again = grind (arith, fits)
 
   -- the stage becomes another
   moves_so : (s s' : Stage) → old.stage ≡ s → s ≢ stages.Up → s ≢ stages.Clearing

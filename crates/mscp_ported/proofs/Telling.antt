@@ -56,10 +56,7 @@ pace_on {K} picks call old new n g r given busy (inl k) = elim (says_on picks ca
 ]
   where
     waits : IsFreed new → HasToTell new → IsWaiting new
-    waits f h = elim h [
-      | inl some ↦ absurd (some f.out)
-      | inr ends ↦ record { used = f.used; out = f.out; end = ends }
-    ]
+    waits f h = grind arith
 pace_on {K} picks call old new n g r given busy (inr k) =
     grind (arith, left_quiet, waits_on, waits_so, rest, forgotten, begins_so, to_do)
 
@@ -92,9 +89,7 @@ keeps_telling {K} picks hardware credits controller start p q before calls made 
     u = in_use_so picks hardware credits controller start p before made asks b has up
 
     begins : (o : Option Outgoing) → p.outgoing ≡ o → HasToTell p → Pace p 0 0
-    begins (Some o) e h = inl (o, record { used = u; out = e }, search (arith, ten p.task))
-    begins None e (inl some) = absurd (some e)
-    begins None e (inr ends) = inr (record { used = u; out = e; end = ends }, search (arith, seven p.task))
+    begins x0 e h = grind (arith, u, ten, seven)
 
     bound : Pace q (acts calls) (length (gone picks p q calls a))
         → acts calls ≤ 17 * (length (gone picks p q calls a) + 1)

@@ -93,9 +93,4 @@ told_whole p e shaped = told_cases IsWhole p e (whole (end_bytes e) refl (plain_
     -- a text of so many bytes with the end's code is
     whole : (xs : List ℕ) → slice_index xs 8 ≡ e.code
         → (end_length (kind_of_body e.body) ≤ length xs) × (12 ≤ length xs) × (length xs ≤ 64) → IsWhole xs
-    whole xs code l = record {
-      long = l.1;
-      short = l.2;
-      top = subst (λ x. 0x80 ≤ x) (sym code) (code_top e.code (kind_of_body e.body) shaped);
-      body = λ k is. lengths (length xs) k (sym (ap kind_of_code code) ∙ is) l.0;
-    }
+    whole xs code l = grind (arith, code_top, lengths)
