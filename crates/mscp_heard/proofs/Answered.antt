@@ -8,7 +8,7 @@ use Rattle.mscp_packet.specs.declared.end.EndBody.TheVariants as bodies
 use Rattle.mscp_heard.proofs.Claims.{claim_of, claim_said, claims, claims_said, find_left, tally}
 use Rattle.mscp_heard.proofs.Keeping.{apart_left, every_told, every_without, gone, last_left}
 use Rattle.mscp_heard.proofs.Saying.{IsDone, answer_is}
-use Rattle.mscp_heard.proofs.Common.{Account, AllByRecursion, Asked, Bool, End, Heard, List, None, Option, OutgoingKind, Pending, PortAccount, Said, Some, Watch, [], answered, ap, arith, as_read, cond, eq-eqb, eqb-true, false, filter, find, has_number, inl, inr, is_about, is_about_polled, is_of, is_poll_of, is_too_much, last_told, map, nat_eq, nat_lt, news_of_figure, news_said, news_with, none-some, num, outstanding_with, pending_in, pending_said, polled_is_outstanding, refl, same_Some, slice_index, subst, sym, true, watch_after, with_told, without, without_by, ℕ, ◌++◌, ◌+◌, ◌∙◌, ◌∷◌, ◌≡◌, ◌≢◌, ◌≤◌}
+use Rattle.mscp_heard.proofs.Common.{Account, AllByRecursion, Asked, Bool, End, Heard, List, None, Option, OutgoingKind, Pending, PortAccount, Said, Some, Watch, [], answered, ap, arith, as_read, cond, eq-eqb, eqb-true, false, filter, find, has_number, inl, inr, is_about, is_about_polled, is_of, is_poll_of, last_told, map, nat_eq, nat_lt, news_of_figure, news_said, news_with, none-some, num, outstanding_with, pending_in, pending_said, polled_is_outstanding, refl, same_Some, slice_index, subst, sym, true, watch_after, with_told, without, without_by, ℕ, ◌++◌, ◌∙◌, ◌∷◌, ◌≡◌, ◌≢◌, ◌≤◌}
 
 find_other : (n m : ℕ) (xs : List Asked) (y : Asked) → AreApart xs → find (is_of n) (without_by (is_of m) xs) ≡ Some y
     → nat_eq n m ≡ false
@@ -49,10 +49,10 @@ module _ (F : ℕ → ℕ) (Served : ℕ → Type 0) (old new : PortAccount) (s 
   }
     where
       no_claim : (kind : OutgoingKind) → s.kind ≡ kind → claim_said s.kind s.text ≡ []
-      no_claim x0 is = grind (arith, claim_said)
+      no_claim kind is = grind (arith, claim_said)
 
       no_pending : (kind : OutgoingKind) → s.kind ≡ kind → pending_in s ≡ []
-      no_pending x0 is = grind arith
+      no_pending kind is = grind arith
 
   -- an end is heard
   module _ (kind : s.kind ≡ kinds.End) (e : End) (named : e.reference ≡ num s.text 0 4)
@@ -184,7 +184,7 @@ module _ (F : ℕ → ℕ) (Served : ℕ → Type 0) (old new : PortAccount) (s 
 
         by : (o : Option Watch) → old.account.watch ≡ o → watch_after o e.reference ≡ Some v
             → KnowsPoll F Served new P ms v.polled v.reference
-        by x0 is h = grind (arith, none-some, nat_eq, same_Some, kept)
+        by o is h = grind (arith, none-some, nat_eq, same_Some, kept)
 
     pub knows_end : Knows F Served new us P ts ms
     knows_end = record {
@@ -210,14 +210,14 @@ module _ (F : ℕ → ℕ) (Served : ℕ → Type 0) (old new : PortAccount) (s 
             (heards.Ended e d.own.0)) ≢ heards.Reset)
             × (cond a (heards.Refused e) (cond c (heards.MovedTooMuch e d.own.0)
             (heards.Ended e d.own.0)) ≢ heards.Lost)
-        ended_so x0 c = grind arith
+        ended_so a c = grind arith
 
         figures : (last : Option ℕ) (figure : ℕ) → 1 ≤ figure → ((l : ℕ) → last ≡ Some l → l ≤ figure → ⊥)
             → (news_said (is_poll_of old.account.watch e.reference) e d.own.0 (news_of_figure last figure)
             ≢ heards.Reset)
             × (news_said (is_poll_of old.account.watch e.reference) e d.own.0 (news_of_figure last figure)
             ≢ heards.Lost)
-        figures x0 figure low above = grind (arith, nat_eq, nat_lt)
+        figures last figure low above = grind (arith, nat_eq, nat_lt)
 
         says : (o : Option (ℕ × ℕ)) → answered old.account.watch (as_read e) ≡ o
             → (heard ≢ heards.Reset) × (heard ≢ heards.Lost)

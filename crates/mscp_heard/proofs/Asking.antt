@@ -1,6 +1,5 @@
 -- What a host sends: a command, or a poll of the oldest one; and what it refuses to send.
-use Rattle.mscp_heard.proofs.Common.{watching, Account, ArrayVec, Bool, Command, Err, HostFault, List, None, Ok, Option, Poll, PortAccount, Result, Some, Submission, [], ap, arith, asked_of, asks, asks_unless, command_bytes, cond, credit_fault, false, has_reference, is_some, is_to_poll, list_any, nat_eq, none-some, noted_poll, oldest, opcode_byte, poll_of, polled_with, polls_oldest, port_polls, port_submits, refl, refusal, submission_of, submits_unless, submits_unless_faulty, submitted_with, sym, true, ℕ, ◌&&◌, ◌++◌, ◌∙◌, ◌∷◌, ◌≡◌}
-use Rattle.mscp_host.specs.declared.news.HostFault.TheVariants as faults
+use Rattle.mscp_heard.proofs.Common.{Account, ArrayVec, Bool, Command, Err, HostFault, List, None, Ok, Option, Poll, PortAccount, Result, Some, Submission, [], arith, asked_of, command_bytes, credit_fault, false, has_reference, list_any, nat_eq, none-some, oldest, opcode_byte, poll_of, port_polls, port_submits, refusal, submission_of, submits_unless, submits_unless_faulty, submitted_with, true, ℕ, ◌++◌, ◌∷◌, ◌≡◌}
 use Rattle.mscp_host.specs.declared.news.Poll.TheVariants as polls
 
 pub not_doubled : (a : Account) (opcode n : ℕ) → refusal a opcode n ≡ None
@@ -27,10 +26,10 @@ submit_is old new c message e = by (credit_fault old.credits (opcode_byte c.orde
 
     judged : (o : Option HostFault) → refusal old.account (opcode_byte c.order) c.reference ≡ o
         → submitted_with old c (submits_unless old.account c o) ≡ (Ok message, new) → So
-    judged x0 r h = grind (arith, not_doubled, items)
+    judged o r h = grind (arith, not_doubled, items)
 
     by : (o : Option HostFault) → submits_unless_faulty old c o ≡ (Ok message, new) → So
-    by x0 h = grind (arith, judged)
+    by o h = grind (arith, judged)
 
 pub submit_same : (old new : PortAccount) (c : Command) (fault : HostFault)
     → port_submits old c ≡ (Err fault, new) → new ≡ old

@@ -1,5 +1,5 @@
 -- What a host is owed: an end for each number, of no more than so many bytes.
-use Rattle.mscp_heard.proofs.Common.{AllByRecursion, Asked, BodyKind, Bool, List, None, Option, OutgoingKind, Said, Some, [], ap, arith, bytes_in, cond, eq-eqb, eqb-true, every_append, every_weaker, false, false≢true, find, is_of, kind_of_code, map, nat_eq, none-some, num, refl, slice_index, subst, sym, true, without_by, ℕ, ◌++◌, ◌+◌, ◌∙◌, ◌∷◌, ◌≡◌, ◌≤◌}
+use Rattle.mscp_heard.proofs.Common.{AllByRecursion, Asked, BodyKind, Bool, List, None, Option, OutgoingKind, Said, Some, [], ap, arith, bytes_in, cond, eq-eqb, eqb-true, every_append, every_weaker, false, false≢true, find, is_of, kind_of_code, map, nat_eq, none-some, num, refl, slice_index, true, without_by, ℕ, ◌++◌, ◌+◌, ◌∷◌, ◌≡◌, ◌≤◌}
 use Rattle.mscp_packet.specs.declared.end.BodyKind.TheVariants as bodykinds
 use Rattle.mscp_port.specs.declared.port.OutgoingKind.TheVariants as kinds
 
@@ -50,7 +50,7 @@ tally_append n (c ∷ cs) ds = by (nat_eq c.number n) (tally n (cs
     ++ ds)) (tally n cs) (tally n ds) (tally_append n cs ds)
   where
     by : (b : Bool) (x y z : ℕ) → x ≡ y + z → cond b (1 + x) x ≡ cond b (1 + y) y + z
-    by x0 x y z e = grind arith
+    by b x y z e = grind arith
 
 -- a number that isn't found is owed by none
 pub none_owed : (asked : List Asked) (cs : List Claim) (n : ℕ) → AllByRecursion (IsOwed asked) cs
@@ -66,7 +66,7 @@ others_apart n (c ∷ cs) e = by (nat_eq c.number n) refl e (λ h. others_apart 
     by : (b : Bool) → nat_eq c.number n ≡ b → cond b (1 + tally n cs) (tally n cs) ≡ 0
         → (tally n cs ≡ 0 → AllByRecursion (λ c. nat_eq c.number n ≡ false) cs)
         → (nat_eq c.number n ≡ false) × AllByRecursion (λ c. nat_eq c.number n ≡ false) cs
-    by x0 is h rest = grind arith
+    by b is h rest = grind arith
 
 -- ---- commands
 
@@ -98,7 +98,7 @@ owes_more asked cs x c new own few o = record {
 }
   where
     one : (n : ℕ) (b : Bool) → nat_eq c.number n ≡ b → tally n (cs ++ c ∷ []) ≤ 1
-    one n x1 is = grind (arith, none_owed, eqb-true, tally_append)
+    one n b is = grind (arith, none_owed, eqb-true, tally_append)
 
 -- ---- the first claim is met
 
@@ -116,7 +116,7 @@ owes_less asked c cs o = record {
 }
   where
     less : (b : Bool) (k : ℕ) → cond b (1 + k) k ≤ 1 → k ≤ 1
-    less x0 k h = grind arith
+    less b k h = grind arith
 
     left : (ds : List Claim) → AllByRecursion (IsOwed asked) ds
         → AllByRecursion (λ d. nat_eq d.number c.number ≡ false) ds

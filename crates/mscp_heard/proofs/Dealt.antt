@@ -1,6 +1,6 @@
 -- What a call of a port makes of what its host may be told.
 use Rattle.mscp_port.specs.declared.port.OutgoingKind.TheVariants as kinds
-use Rattle.mscp_heard.proofs.Common.{All, Answered, AnsweredCalls, AreJoined, AsksAlways, Call, Called, Deals, Deed, Did, First, Fits, Hardware, Holdings, IsAnswering, IsCopyOf, IsMadeOf, IsNextText, IsTaking, IsTextOf, IsValid, List, Made, None, Ok, Opened, Outgoing, Picking, Port, PortAccount, PortHostsKeepTheirHistory, PortsAnswerAsTheyMay, PortsEndByOpcode, PortsEndWhatTheyTook, PortsHearInOrder, PortsOpenWhatTheyAccept, PortsTellInOrder, ReadsBytes, ReadsInOrder, Said, Settings, Slot, Some, Talk, Turn, WasRead, [], accepted, accepted_by, ap, append-nil, arith, awaited, begins, bytes_small, calls_in, cond, did, drop, ends_said_by, filter, fresh, has_number, inl, inr, is_transfer, kind_answered, length, map, not, num, outstanding_of, own_answer, own_coded, refl, said, said_in, sent, slice_get, slice_index, subst, sym, taken_by, talk_of, volume_named, without_ends, ℕ, ◌++◌, ◌+◌, ◌<◌, ◌∙◌, ◌∷◌, ◌≡◌, ◌≢◌, ◌≤◌, ◌⊎◌}
+use Rattle.mscp_heard.proofs.Common.{All, Answered, AnsweredCalls, AreJoined, AsksAlways, Call, Called, Deals, Deed, Did, First, Fits, Hardware, Holdings, IsAnswering, IsCopyOf, IsMadeOf, IsTaking, IsTextOf, IsValid, List, Made, None, Ok, Opened, Outgoing, Picking, Port, PortAccount, PortHostsKeepTheirHistory, PortsAnswerAsTheyMay, PortsEndByOpcode, PortsEndWhatTheyTook, PortsHearInOrder, PortsOpenWhatTheyAccept, PortsTellInOrder, ReadsBytes, ReadsInOrder, Said, Settings, Slot, Some, Talk, WasRead, [], accepted, accepted_by, ap, append-nil, arith, awaited, begins, bytes_small, calls_in, drop, ends_said_by, filter, fresh, has_number, inl, inr, kind_answered, length, map, not, num, outstanding_of, own_answer, own_coded, refl, said, said_in, slice_get, slice_index, sym, taken_by, talk_of, volume_named, without_ends, ℕ, ◌++◌, ◌+◌, ◌<◌, ◌∙◌, ◌∷◌, ◌≡◌, ◌≢◌, ◌≤◌, ◌⊎◌}
 use Rattle.mscp_heard.proofs.Joined.{IsNext, next_of}
 use Rattle.mscp_heard.proofs.Moving.{drop_at, drop_beside}
 use Rattle.mscp_heard.proofs.Notes.{Noted, copy_answered, copy_taken, noted_end, noted_news}
@@ -33,7 +33,7 @@ noted_as host us us' ts ts' ms ms' e f g n = grind arith
 pub noted_dealt : (Took : List ℕ → Type 0) (texts : List (List ℕ)) (host : PortAccount) (us us' : List Said)
     (ts ts' ms ms' : List (List ℕ))
     → Dealt Took texts us ts ms us' ts' ms' → Noted host us ts ms → Noted host us' ts' ms'
-noted_dealt x0 texts host us us' ts ts' ms ms' x9 n =
+noted_dealt Took texts host us us' ts ts' ms ms' h n =
     grind (arith, noted_as, noted_news, noted_end, copy_taken, copy_answered)
 
 copy_text : (text message : List ℕ) → IsCopyOf text message → IsTextOf text message
@@ -41,7 +41,7 @@ copy_text text message is = grind arith
 
 copied_read : (call : Call) (t : Talk) (ms : List (List ℕ)) → ReadsInOrder IsCopyOf call t ms
     → ReadsInOrder IsTextOf call t ms
-copied_read x0 t ms h = grind (arith, copy_text)
+copied_read call t ms h = grind (arith, copy_text)
 
 pub copied : {K : Type 0} (picks : Picking K) (start p : Port K) (deeds : List Deed)
     (a : Answered picks start (calls_in deeds) p) → AreJoined IsCopyOf picks start p deeds a

@@ -1,11 +1,8 @@
 -- What each moment of a host makes of the commands whose ends it hasn't heard.
-use Rattle.mscp_heard.proofs.Common.{ArrayVec, Asked, Bool, Command, End, Envelope, Err, HearFault, Heard, List, Message, News, None, Ok, Option, Order, PortAccount, Result, Some, Submission, [], answered, ap, arith, as_read, asked_of, bytes_in, bytes_of, command_bytes, cond, end_says, ended, ends_of, false, find, four, granted, has_reference, heard_of, hears, is_of, is_poll_of, is_too_much, is_transfer, list_any, map, may_be_of, message_in, nat_eq, news_said, news_with, num, poll_of, port_polls, port_submits, refl, subst, sym, true, without_by, ℕ, ◌*◌, ◌++◌, ◌+◌, ◌/◌, ◌<◌, ◌^◌, ◌||◌, ◌∙◌, ◌∷◌, ◌≡◌, ◌≤◌, ◌⊎◌}
+use Rattle.mscp_heard.proofs.Common.{ArrayVec, Asked, Bool, Command, End, Envelope, Err, HearFault, Heard, List, Message, News, None, Ok, Option, Order, PortAccount, Result, Some, Submission, [], ap, arith, bytes_in, bytes_of, command_bytes, cond, end_says, ended, ends_of, false, find, four, granted, has_reference, heard_of, hears, is_of, is_too_much, list_any, map, message_in, nat_eq, news_said, num, poll_of, port_polls, port_submits, refl, subst, true, without_by, ℕ, ◌*◌, ◌++◌, ◌+◌, ◌/◌, ◌<◌, ◌^◌, ◌||◌, ◌∷◌, ◌≡◌, ◌≤◌, ◌⊎◌}
 use Rattle.std.proofs.Common.{◌%◌}
-use Rattle.mscp_packet.specs.declared.command.MoveKind.TheVariants as moves
-use Rattle.mscp_packet.specs.declared.command.Order.TheVariants as orders
 use Rattle.mscp_host.specs.declared.heard.Heard.TheVariants as heards
 use Rattle.mscp_host.specs.declared.message.HearFault.TheVariants as faults
-use Rattle.mscp_host.specs.declared.news.News.TheVariants as news
 use Rattle.mscp_host.specs.declared.message.Message.TheVariants as messages
 use Rattle.mscp_host.specs.declared.news.Poll.TheVariants as polls
 use Rattle.mscp_heard.proofs.Asking.{IsSent, poll_is, submit_is}
@@ -21,7 +18,7 @@ few_bytes x = omega arith
 
 order_bytes : (reference unit : ℕ) (order : Order)
     → bytes_in (command_bytes (record { reference = reference; unit = unit; order = order })) ≤ bytes_of order
-order_bytes reference unit x2 = grind (arith, few_bytes)
+order_bytes reference unit order = grind (arith, few_bytes)
 
 -- ---- what is found
 
@@ -84,7 +81,7 @@ hears_too_much old new v b e asked h = by (message_in v b) h
   where
     says : (end : End) (x : Asked) (poll c : Bool) → is_too_much end.body x.bytes ≡ c → (n : News)
         → is_it (Ok (news_said poll end x n), old) ≡ true → is_too_much end.body x.bytes ≡ true
-    says end x x2 c is x5 h = grind arith
+    says end x poll c is n h = grind arith
 
     judged : (end : End) (x : Asked) (c : Bool)
         → ◌≡◌ {A = Result Heard HearFault × PortAccount} (cond c (
@@ -93,17 +90,17 @@ hears_too_much old new v b e asked h = by (message_in v b) h
         )
         (Err faults.Unknown, old))
         (Ok (heards.MovedTooMuch e asked), new) → is_too_much end.body x.bytes ≡ true
-    judged end x x2 h = grind (arith, says)
+    judged end x c h = grind (arith, says)
 
     found : (end : End) (o : Option Asked) → find (is_of end.reference) old.asked ≡ o
         → ends_of old v.credits end o ≡ (Ok (heards.MovedTooMuch e asked), new)
         → (x : Asked) × (find (is_of end.reference) old.asked ≡ Some x) × (is_too_much end.body x.bytes ≡ true)
-    found end x1 is h = grind (arith, judged)
+    found end o is h = grind (arith, judged)
 
     by : (r : Result Message HearFault) → heard_of old v.credits r ≡ (Ok (heards.MovedTooMuch e asked), new)
         → (end : End) × (x : Asked) × (r ≡ Ok (messages.End end))
         × (find (is_of end.reference) old.asked ≡ Some x) × (is_too_much end.body x.bytes ≡ true)
-    by x0 h = grind (arith, found, nat_eq)
+    by r h = grind (arith, found, nat_eq)
 
 -- a message that is read is refused only as an end that is Unknown
 pub hears_refused : (old new : PortAccount) (v : Envelope) (b : List ℕ) (m : Message) (fault : HearFault)
@@ -118,11 +115,11 @@ hears_refused old new v b m fault is h =
           granted v.credits (ended old end),
         )
         (Err faults.Unknown, old)) (Err fault, new) → fault ≡ faults.Unknown
-    judged end x x2 h = grind arith
+    judged end x c h = grind arith
 
     found : (end : End) (o : Option Asked) → ends_of old v.credits end o ≡ (Err fault, new) → fault ≡ faults.Unknown
-    found end x1 h = grind (arith, judged)
+    found end o h = grind (arith, judged)
 
     by : (m : Message) → message_in v b ≡ Ok m → heard_of old v.credits (Ok m) ≡ (Err fault, new)
         → (fault ≡ faults.Unknown) × ((e : End) × (message_in v b ≡ Ok (messages.End e)))
-    by x0 is h = grind (arith, found)
+    by m is h = grind (arith, found)

@@ -1,5 +1,5 @@
 -- What a host is owed after each deed at its port.
-use Rattle.mscp_heard.proofs.Common.{Account, AllByRecursion, Answered, AnsweredCalls, AreJoined, Ask, Asked, AsksAlways, Bool, Call, Called, Deals, Deed, Did, End, Envelope, Err, First, Hardware, HasNumber, HaveNumbers, Hear, HearFault, Heard, HearsInOrder, HearsItsOwn, Holdings, IsAnswering, IsMadeOf, IsNextText, IsPacket, IsTaking, IsTextOf, IsValid, IsWhole, Likeness, List, Made, Ok, Opened, Other, OutgoingKind, Packet, Picking, Port, PortAccount, PortAnswered, PortAnswers, PortHistory, PortHostsKeepTheirHistory, PortMoment, PortsAnswerAsTheyMay, PortsEndWhatTheyTook, PortsHearInOrder, PortsOpenWhatTheyAccept, PortsTellInOrder, ReadsBytes, ReadsInOrder, Result, Resume, Settings, Slot, Some, Submit, WasRead, WriteIp, [], accepted, accepted_by, all_said, answered, ap, append-nil, arith, asks, awaited, begins, bytes_in, bytes_small, calls_in, cond, connection_told, did, drop, ends_said_by, envelope_in, false, filter, find, fresh, fresh_of_port, has_number, hearings, held, inl, inr, is_dead, is_for_utilities, is_hearing, is_of, is_too_much, kind_answered, kind_of_code, length, length-map, map, message_in, none-some, not, num, outstanding, outstanding_of, own_answer, refl, said, said_in, same_Some, seen, sent, sent_by, slice_get, slice_index, submission_at, subst, suc, sym, taken_by, talk_of, true, volume_named, without_ends, ℕ, ◌%◌, ◌++◌, ◌-◌, ◌∙◌, ◌∷◌, ◌≡◌, ◌≢◌, ◌≤◌}
+use Rattle.mscp_heard.proofs.Common.{AllByRecursion, Answered, AnsweredCalls, AreJoined, Ask, Asked, AsksAlways, Call, Called, Deals, Deed, Did, End, Envelope, Err, First, Hardware, HasNumber, HaveNumbers, Hear, HearFault, Heard, HearsInOrder, HearsItsOwn, Holdings, IsAnswering, IsMadeOf, IsPacket, IsTaking, IsTextOf, IsValid, IsWhole, Likeness, List, Made, Ok, Opened, Other, OutgoingKind, Packet, Picking, Port, PortAccount, PortAnswered, PortAnswers, PortHistory, PortHostsKeepTheirHistory, PortMoment, PortsAnswerAsTheyMay, PortsEndWhatTheyTook, PortsHearInOrder, PortsOpenWhatTheyAccept, PortsTellInOrder, ReadsBytes, ReadsInOrder, Result, Resume, Settings, Slot, Some, Submit, WasRead, WriteIp, [], accepted, accepted_by, all_said, answered, ap, append-nil, arith, asks, awaited, begins, bytes_in, bytes_small, calls_in, cond, connection_told, did, drop, ends_said_by, envelope_in, false, filter, find, fresh, fresh_of_port, has_number, hearings, held, inl, inr, is_dead, is_for_utilities, is_hearing, is_of, is_too_much, kind_answered, kind_of_code, length, length-map, map, message_in, none-some, not, num, outstanding_of, own_answer, refl, said, said_in, same_Some, sent, sent_by, slice_get, slice_index, subst, suc, sym, taken_by, talk_of, true, volume_named, without_ends, ℕ, ◌%◌, ◌++◌, ◌-◌, ◌∙◌, ◌∷◌, ◌≡◌, ◌≢◌, ◌≤◌}
 use Rattle.mscp_host.specs.declared.message.Message.TheVariants as messages
 use Rattle.mscp_host.specs.declared.news.Poll.TheVariants as polls
 use Rattle.mscp_port.specs.declared.port.OutgoingKind.TheVariants as kinds
@@ -38,7 +38,7 @@ module _ {K : Type 0} (picks : Picking K) (c : Settings) (picker : K) (ends : Po
       → (talk_of picks start a.0 calls a.1).turn ≡ Opened slot header
       → ReadsInOrder Like (WasRead bytes (Ok done)) (talk_of picks start a.0 calls a.1) ms
       → IsNext Like bytes header ms (length (accepted picks start a.0 calls a.1))
-  next_of x0 p calls bytes done ms slot header asks a opened reads = grind (arith, counted)
+  next_of Like p calls bytes done ms slot header asks a opened reads = grind (arith, counted)
 
   module _ (p : Port K) (calls : List Call) (asked : List Asked) (h : PortHistory) where
     takes_it : (call : Call) (a : Answered picks start (call ∷ calls) p) → AsksAlways (call ∷ calls)
@@ -292,10 +292,10 @@ module _ {K : Type 0} (picks : Picking K) (c : Settings) (picker : K) (ends : Po
       }
     where
       read_short : (kind : OutgoingKind) (t : List ℕ) → IsRead kind t → length t ≤ 64
-      read_short x0 t r = grind arith
+      read_short kind t r = grind arith
 
       read_disk : (kind : OutgoingKind) (t : List ℕ) → IsRead kind t → connection_told kind ≡ 0
-      read_disk x0 t r = grind arith
+      read_disk kind t r = grind arith
 
       small_size : (n : ℕ) → n ≤ 64 → n % 0x1_0000 ≡ n
       small_size n h = omega (arith, h)

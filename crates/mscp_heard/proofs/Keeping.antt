@@ -24,13 +24,13 @@ apart_more (y ∷ xs) x new all = by (nat_eq y.reference x.reference) refl new (
         none_more [] e = ap (λ c. cond c (Some x) None) (swapped (nat_eq x.reference y.reference) refl)
           where
             swapped : (c : Bool) → nat_eq x.reference y.reference ≡ c → c ≡ false
-            swapped x0 e = grind (arith, eq-eqb, eqb-true)
+            swapped c e = grind (arith, eq-eqb, eqb-true)
         none_more (z ∷ zs) e = cases (nat_eq z.reference y.reference) e (λ h. none_more zs h)
           where
             cases : (c : Bool) → cond c (Some z) (find (is_of y.reference) zs) ≡ None
                 → (find (is_of y.reference) zs ≡ None → find (is_of y.reference) (zs ++ x ∷ []) ≡ None)
                 → cond c (Some z) (find (is_of y.reference) (zs ++ x ∷ [])) ≡ None
-            cases x0 h rest = grind (arith, none-some)
+            cases c h rest = grind (arith, none-some)
 
 none_left : (m n : ℕ) (xs : List Asked) → find (is_of n) xs ≡ None → find (is_of n) (without_by (is_of m) xs) ≡ None
 none_left m n [] e = refl
@@ -39,7 +39,7 @@ none_left m n (x ∷ xs) e = by (is_of n x) refl e (λ h. none_left m n xs h)
     by : (b : Bool) → is_of n x ≡ b → cond b (Some x) (find (is_of n) xs) ≡ None
         → (find (is_of n) xs ≡ None → find (is_of n) (without_by (is_of m) xs) ≡ None)
         → find (is_of n) (cond (is_of m x) xs (x ∷ without_by (is_of m) xs)) ≡ None
-    by x0 is h rest = grind (arith, none-some)
+    by b is h rest = grind (arith, none-some)
 
 pub apart_left : (n : ℕ) (xs : List Asked) → AreApart xs → AreApart (without_by (is_of n) xs)
 apart_left n [] all = tt
@@ -89,7 +89,7 @@ last_left (y ∷ xs) n x d = by (nat_eq y.reference n) refl (last_left xs n x d)
     by : (b : Bool) → nat_eq y.reference n ≡ b → last_told (without n xs) x ≡ last_told xs x
         → told_of (find (has_reference x) (cond b xs (y ∷ without n xs)))
         ≡ told_of (cond (nat_eq y.reference x) (Some y) (find (has_reference x) xs))
-    by x0 is rest = grind (arith, nat_eq, eqb-true)
+    by b is rest = grind (arith, nat_eq, eqb-true)
 
 pub every_without : (P : Submission → Type 0) (n : ℕ) (xs : List Submission) → AllByRecursion P xs
     → AllByRecursion P (without n xs)
@@ -145,7 +145,7 @@ module _ (F : ℕ → ℕ) (Served : ℕ → Type 0) (old new : PortAccount) (us
               cases : (c : Bool) → cond c (Some z) (find (is_of n) zs) ≡ None
                   → (find (is_of n) zs ≡ None → find (is_of n) (zs ++ s.more ∷ []) ≡ None)
                   → cond c (Some z) (find (is_of n) (zs ++ s.more ∷ [])) ≡ None
-              cases x0 h rest = grind (arith, none-some)
+              cases c h rest = grind (arith, none-some)
 
       by : (b : Bool) → nat_eq (num m 0 4) n ≡ b → 1 ≤ tally n (claims us ts (ms ++ m ∷ []))
       by true is = grind (arith, most, tally, claims, claim_of, longer)

@@ -1,7 +1,7 @@
 -- What is known of the figures that a host was told, and of the poll in flight.
 use Rattle.mscp_heard.proofs.Upcoming.{first_of, Before}
 use Rattle.mscp_heard.proofs.Claims.{claims, tally}
-use Rattle.mscp_heard.proofs.Common.{AllByRecursion, Asked, Bool, List, None, Pending, PortAccount, Said, Some, Submission, Watch, [], cond, eqb-true, false, filter, find, has_number, has_reference, is_of, last_told, length, nat_eq, none-some, num, refl, slice_index, told_of, true, ℕ, ◌<◌, ◌∷◌, ◌≡◌, ◌≢◌, ◌≤◌, ◌⊎◌, arith}
+use Rattle.mscp_heard.proofs.Common.{AllByRecursion, Asked, List, None, Pending, PortAccount, Said, Some, Submission, Watch, [], eqb-true, false, filter, find, has_number, is_of, last_told, length, nat_eq, none-some, num, slice_index, true, ℕ, ◌<◌, ◌∷◌, ◌≡◌, ◌≢◌, ◌≤◌, ◌⊎◌, arith}
 
 -- ---- messages
 

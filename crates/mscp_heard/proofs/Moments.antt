@@ -1,11 +1,11 @@
 -- Lists of calls and of moments: what holds before the last one, and what the last one adds.
-use Rattle.mscp_heard.proofs.Common.{Asked, AsksAlways, Bool, Call, History, List, Ok, PortAccount, PortAnswered, PortAnswers, PortHistory, PortMoment, ReadsBytes, WasRead, Went, [], ap, append-nil, arith, asked_at, cond, false, filter, filter-append, flat_map-append, hearings, is_hearing, length, length-append, map, refl, sent, sent_by, submission_at, subst, suc, sym, true, ℕ, ◌++◌, ◌+◌, ◌∙◌, ◌∷◌, ◌≡◌}
+use Rattle.mscp_heard.proofs.Common.{Asked, AsksAlways, Call, History, List, PortAccount, PortAnswered, PortAnswers, PortHistory, PortMoment, ReadsBytes, [], ap, append-nil, arith, asked_at, cond, filter-append, flat_map-append, hearings, is_hearing, length-append, map, refl, sent, sent_by, submission_at, suc, ℕ, ◌++◌, ◌∙◌, ◌∷◌, ◌≡◌}
 
 pub asked_before : (call : Call) (calls : List Call) → AsksAlways (call ∷ calls) → AsksAlways calls
-asked_before x0 calls asks = grind arith
+asked_before call calls asks = grind arith
 
 pub reads_before : (call : Call) (calls : List Call) → ReadsBytes (call ∷ calls) → ReadsBytes calls
-reads_before x0 calls reads = grind arith
+reads_before call calls reads = grind arith
 
 pub answered_last : (old new : PortAccount) (h : PortHistory) (m : PortMoment) → PortAnswered old (h ++ m ∷ []) new
     → (mid : PortAccount) × PortAnswered old h mid × PortAnswers mid m new

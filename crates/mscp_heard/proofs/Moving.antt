@@ -1,5 +1,5 @@
 -- How what a host is owed moves through a port.
-use Rattle.mscp_heard.proofs.Common.{AllByRecursion, Asked, Bool, IsTextOf, List, Said, Some, [], ap, append-nil, append_assoc, arith, bytes_in, cond, drop, eqb-true, every_append, every_parts, false, filter, find, has_number, is_of, kind_of_code, length, map, map-append, nat_eq, none-some, not, num, refl, same_Some, slice_get, slice_index, subst, suc, sym, true, zero, ℕ, ◌++◌, ◌+◌, ◌∙◌, ◌∷◌, ◌≡◌, ◌≤◌}
+use Rattle.mscp_heard.proofs.Common.{AllByRecursion, Asked, Bool, IsTextOf, List, Said, Some, [], ap, append-nil, append_assoc, arith, bytes_in, cond, drop, eqb-true, every_append, every_parts, filter, find, has_number, is_of, kind_of_code, length, map, map-append, nat_eq, none-some, not, num, refl, same_Some, slice_get, slice_index, subst, suc, sym, zero, ℕ, ◌++◌, ◌+◌, ◌∙◌, ◌∷◌, ◌≡◌, ◌≤◌}
 use Rattle.mscp_port.specs.declared.port.OutgoingKind.TheVariants as kinds
 use Rattle.mscp_heard.proofs.Claims.{Claim, IsOwed, Owes, claim_of, claim_said, claims, claims_said, moved_in, owes_same, tally, tally_append}
 

@@ -1,7 +1,7 @@
 -- What a host may be told fits what it keeps: by endcode, and that of a poll by the command that it is about.
 use Rattle.mscp_port.specs.declared.port.OutgoingKind.TheVariants as kinds
 use Rattle.mscp_heard.proofs.Claims.{Claim, claim_of, claim_said, claims, claims_said}
-use Rattle.mscp_heard.proofs.Common.{AllByRecursion, Asked, Fits, IsCodeFor, IsCopyOf, List, OutgoingKind, PortAccount, Said, Some, [], ap, arith, eqb-true, every_append, every_kept, every_parts, filter, find, has_number, inl, inr, is_about, is_code_of, is_of, is_poll_of, length, map, nat_eq, not, num, one_of, refl, slice_index, subst, sym, true, ℕ, ◌++◌, ◌+◌, ◌||◌, ◌∙◌, ◌∷◌, ◌≡◌, ◌≢◌, ◌≤◌, ◌⊎◌}
+use Rattle.mscp_heard.proofs.Common.{AllByRecursion, Asked, Fits, IsCodeFor, IsCopyOf, List, OutgoingKind, PortAccount, Said, Some, [], ap, arith, eqb-true, every_append, every_kept, every_parts, filter, find, has_number, inr, is_about, is_code_of, is_of, is_poll_of, length, map, nat_eq, not, num, one_of, refl, slice_index, subst, sym, true, ℕ, ◌++◌, ◌+◌, ◌∙◌, ◌∷◌, ◌≡◌, ◌≢◌, ◌≤◌, ◌⊎◌}
 
 -- ---- notes
 
@@ -69,12 +69,12 @@ module _ (host new : PortAccount) (Q : ℕ → Type 0)
       }
 
 code_or : (code : ℕ) (t : List ℕ) → IsCodeFor code t → (code ≡ 0x80) ⊎ (code ≡ slice_index t 8 + 0x80)
-code_or code t x2 = grind arith
+code_or code t h = grind arith
 
 -- an end of that code fits as its message does
 coded : (opcode code byte : ℕ) → (code ≡ 0x80) ⊎ (code ≡ byte + 0x80) → is_code_of (byte + 0x80) opcode ≡ true
     → is_code_of code opcode ≡ true
-coded opcode code byte x3 is = grind (arith, nat_eq)
+coded opcode code byte h is = grind (arith, nat_eq)
 
 -- ---- by a call
 
@@ -140,7 +140,7 @@ module _ (host : PortAccount) (us : List Said) (ts : List (List ℕ)) where
       }
     where
       message_poll : (code byte : ℕ) → code ≡ 0x82 → (code ≡ 0x80) ⊎ (code ≡ byte + 0x80) → byte + 0x80 ≡ 0x82
-      message_poll code byte poll x3 = grind arith
+      message_poll code byte poll h = grind arith
 
   -- news are
   pub noted_news : (s : Said) (ms : List (List ℕ)) → s.kind ≡ kinds.Attention → Noted host us ts ms

@@ -2,7 +2,7 @@
 use Rattle.mscp_heard.proofs.Claims.{Claim, IsOwed, Owes, claims, find_left, find_more, find_new}
 use Rattle.mscp_heard.proofs.Notes.{FitsAsked, FitsNote, FitsText, Noted, noted_kept}
 use Rattle.mscp_heard.proofs.Watching.{AreSmall, Notes}
-use Rattle.mscp_heard.proofs.Common.{Account, AllByRecursion, Asked, Bool, List, None, Option, PortAccount, Said, Some, Watch, [], ap, arith, cond, eq-eqb, eqb-true, every_append, every_weaker, false, find, inl, inr, is_about, is_code_of, is_of, is_poll_of, nat_eq, none-some, num, refl, same_Some, slice_index, subst, sym, true, watch_after, without_by, ℕ, ◌++◌, ◌+◌, ◌<◌, ◌^◌, ◌||◌, ◌∙◌, ◌∷◌, ◌≡◌, ◌≤◌}
+use Rattle.mscp_heard.proofs.Common.{Account, AllByRecursion, Asked, Bool, List, Option, PortAccount, Said, Some, Watch, [], ap, arith, cond, eq-eqb, eqb-true, every_append, every_weaker, false, find, inl, inr, is_about, is_code_of, is_of, is_poll_of, nat_eq, none-some, num, refl, same_Some, subst, sym, true, watch_after, without_by, ℕ, ◌++◌, ◌<◌, ◌^◌, ◌∙◌, ◌∷◌, ◌≡◌, ◌≤◌}
 
 -- what a host keeps of its commands: the poll in flight is one of them, and their numbers fit their type
 pub record IsReady (host : PortAccount) : Type 0 where
@@ -21,7 +21,7 @@ small_left n [] all = tt
 small_left n (x ∷ xs) all = by (is_of n x) (small_left n xs all.1)
   where
     by : (b : Bool) → AreSmall (without_by (is_of n) xs) → AreSmall (cond b xs (x ∷ without_by (is_of n) xs))
-    by x0 rest = grind arith
+    by b rest = grind arith
 
 -- it sends a message
 module _ (old new : PortAccount) (m : List ℕ) (s : Notes old new m) (ready : IsReady old) where
@@ -116,7 +116,7 @@ module _ (old new : PortAccount) (m : ℕ) (asked : new.asked ≡ without_by (is
       by : (o : Option Watch) → new.account.watch ≡ o → endcode ≡ 0x82 → FitsAsked old n endcode other size x
           → is_poll_of new.account.watch n ≡ true
           → (16 ≤ size) × (is_about new.account.watch other ≡ true)
-      by x0 is poll f own = grind (arith, watched_before, nat_eq)
+      by o is poll f own = grind (arith, watched_before, nat_eq)
 
   pub heard_noted : (us : List Said) (ts ms : List (List ℕ))
       → AllByRecursion (λ (c : Claim). nat_eq c.number m ≡ false) (claims us ts ms) → Noted old us ts ms

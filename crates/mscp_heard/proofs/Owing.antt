@@ -1,5 +1,5 @@
 -- What a host is owed, and what a call of its port makes of that.
-use Rattle.mscp_heard.proofs.Common.{AllByRecursion, Asked, BodyKind, IsTextOf, List, Ok, Option, Result, Said, Some, [], ap, arith, bytes_in, drop, every_append, filter, has_number, kind_of_code, length, length-append, not, num, refl, slice_get, slice_index, subst, suc, sym, ℕ, ◌++◌, ◌∙◌, ◌∷◌, ◌≡◌, ◌≤◌}
+use Rattle.mscp_heard.proofs.Common.{AllByRecursion, Asked, BodyKind, IsTextOf, List, Ok, Option, Result, Said, Some, [], ap, arith, bytes_in, drop, every_append, filter, has_number, kind_of_code, length, length-append, not, num, slice_get, slice_index, subst, suc, sym, ℕ, ◌++◌, ◌∙◌, ◌∷◌, ◌≡◌, ◌≤◌}
 use Rattle.mscp_packet.specs.declared.end.BodyKind.TheVariants as bodykinds
 use Rattle.mscp_port.specs.declared.port.OutgoingKind.TheVariants as kinds
 pub use Rattle.mscp_ported.proofs.Growing.{begun_one}
@@ -27,10 +27,10 @@ pub inv_as : (asked : List Asked) (ss ss' : List Said) (k : ℕ) (aw aw' ms : Li
 inv_as asked ss ss' k aw aw' ms n n' e f g i = grind arith
 
 pub moved_few : (k : Option BodyKind) (x n : ℕ) → (k ≡ Some bodykinds.Moved → x ≤ n) → moved_in k x ≤ n
-moved_few x0 x n h = grind arith
+moved_few k x n h = grind arith
 
 moved_none : (k : Option BodyKind) (x : ℕ) → x ≡ 0 → moved_in k x ≡ 0
-moved_none x0 x e = grind arith
+moved_none k x e = grind arith
 
 -- ---- a call
 

@@ -1,5 +1,5 @@
 -- What a host reads in a packet that a port told.
-use Rattle.mscp_heard.proofs.Common.{BodyKind, Bool, End, Envelope, Err, HearFault, IsWhole, List, Message, None, Ok, Option, OutgoingKind, Result, Some, any_end, ap, arith, bare_end, body_at, cond, end_at, end_in, end_length, false, get_or-take, is_too_much, kind_of_code, length, length-take, message_in, min, nat_eq, nat_le, nat_lt, not, num, reading_with, refl, sequential_in, slice_index, subst, sym, take, take_all, true, typed_in, ℕ, ◌*◌, ◌+◌, ◌<◌, ◌∙◌, ◌≡◌, ◌≤◌}
+use Rattle.mscp_heard.proofs.Common.{BodyKind, Bool, End, Envelope, Err, HearFault, IsWhole, List, Message, None, Ok, Option, OutgoingKind, Result, Some, any_end, arith, bare_end, body_at, cond, end_at, end_in, end_length, false, get_or-take, is_too_much, kind_of_code, length, length-take, message_in, nat_eq, nat_le, nat_lt, not, num, reading_with, refl, sequential_in, slice_index, subst, sym, take, take_all, true, typed_in, ℕ, ◌*◌, ◌+◌, ◌<◌, ◌∙◌, ◌≡◌, ◌≤◌}
 use Rattle.std.specs.Prelude.{◌&&◌}
 use Rattle.mscp_packet.specs.declared.end.BodyKind.TheVariants as bodykinds
 use Rattle.mscp_packet.specs.declared.end.EndBody.TheVariants as bodies
@@ -35,15 +35,15 @@ top_bit n h = search (arith, h)
 
 module _ (t : List ℕ) (e : End) (long : 12 ≤ length t) (top : 0x80 ≤ slice_index t 8) where
   body_few : (k : BodyKind) (n : ℕ) → moved_in (Some k) (num t 12 4) ≤ n → is_too_much (body_at k t) n ≡ false
-  body_few x0 n h = grind (arith, not_more)
+  body_few k n h = grind (arith, not_more)
 
   tells : (k : BodyKind) (other figure : ℕ) → body_at k t ≡ bodies.Status other figure → end_length k ≤ length t
       → (other ≡ num t 12 4) × (figure ≡ num t 16 4) × (20 ≤ length t)
-  tells x0 other figure e long = grind arith
+  tells k other figure e long = grind arith
 
   read_with : (k : Option BodyKind) → kind_of_code (slice_index t 8) ≡ k
       → any_end t (reading_with k t) ≡ Ok (messages.End e) → IsEndIn e t
-  read_with x0 is h = grind (arith, nat_lt, body_few, moved_in, not_less, tells)
+  read_with k is h = grind (arith, nat_lt, body_few, moved_in, not_less, tells)
 
   read_so : any_end t (end_in t) ≡ Ok (messages.End e) → IsEndIn e t
   read_so h = grind (arith, nat_le, read_with)
@@ -64,7 +64,7 @@ sequential_so t e h = by (nat_lt (length t) 12) refl h
         (cond (nat_le 0x40 (slice_index t 8)) (Ok (messages.Attention (slice_index t 8) (num t 4 2)))
         (Err faults.Unreadable))) ≡ Ok (messages.End e)
         → IsEndIn e t
-    by x0 is h = grind (arith, low, nat_le, t, not_less)
+    by b is h = grind (arith, low, nat_le, t, not_less)
 
 typed_so : (kind : ℕ) (t : List ℕ) (e : End) → typed_in kind t ≡ Ok (messages.End e) → IsEndIn e t
 typed_so kind t e h = by (nat_eq kind 0) (nat_eq kind 1) (nat_eq kind 2) h
@@ -210,7 +210,7 @@ news_so t code long =
     (Err faults.Unreadable)))) (sym code) (messages.Attention (slice_index t 8) (num t 4 2), refl, tt))
 
 sequential_read : (kind : OutgoingKind) (t : List ℕ) → IsRead kind t → IsMessage kind (sequential_in t)
-sequential_read x0 t r = grind (arith, news_so, whole_so)
+sequential_read kind t r = grind (arith, news_so, whole_so)
 
 -- behind its envelope
 pub message_read : (kind : OutgoingKind) (t : List ℕ) (v : Envelope) → IsRead kind t → v.length ≡ length t

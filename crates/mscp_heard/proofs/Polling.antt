@@ -268,7 +268,7 @@ module _ {K : Type 0} (picks : Picking K) (c : Settings) (picker : K) (ends : Po
 
   nothing_told : (host : PortAccount) (F : ℕ → ℕ) (Served : ℕ → Type 0) (us : List Said) (P : List Pending)
       (ts ms : List (List ℕ)) → host ≡ fresh_of_port → Knows F Served host us P ts ms
-  nothing_told host x1 x2 us x4 ts ms is = grind (arith, none-some)
+  nothing_told host F Served us P ts ms is = grind (arith, none-some)
 
   told_so : (p : Port K) (deeds : List Deed) → AsksAlways (calls_in deeds) → ReadsBytes (calls_in deeds)
       → HaveNumbers deeds → (a : Answered picks start (calls_in deeds) p) → AreJoined IsCopyOf picks start p deeds a

@@ -34,10 +34,10 @@ end_kind s v b e code text connection r = by s.kind refl
     by kinds.UtilitiesEnd is = grind (arith, end_heard)
 
 pub read_short : (kind : OutgoingKind) (t : List ℕ) → IsRead kind t → length t ≤ 64
-read_short x0 t r = grind arith
+read_short kind t r = grind arith
 
 pub read_disk : (kind : OutgoingKind) (t : List ℕ) → IsRead kind t → connection_told kind ≡ 0
-read_disk x0 t r = grind arith
+read_disk kind t r = grind arith
 
 pub small_size : (n : ℕ) → n ≤ 64 → n % 0x1_0000 ≡ n
 small_size n h = omega (arith, h)

@@ -1,6 +1,6 @@
 -- What a host says of an end that it hears, and what it keeps of it.
 use Rattle.mscp_heard.proofs.Watching.{read_number}
-use Rattle.mscp_heard.proofs.Common.{Asked, Bool, End, EndBody, Envelope, Err, HearFault, Heard, List, Message, None, Ok, Option, PortAccount, Result, Some, Watch, answered, ap, arith, as_read, cond, end_says, ended, ends_of, false, find, granted, heard_of, hears, inl, inr, is_about_polled, is_code_of, is_of, is_success, may_be_of, message_in, nat_eq, none-some, outstanding_with, refl, same_Some, sym, told_in, true, watch_after, without, without_by, ℕ, ◌&&◌, ◌∙◌, ◌≡◌, ◌≢◌, ◌⊎◌, said}
+use Rattle.mscp_heard.proofs.Common.{Asked, Bool, End, Envelope, Err, HearFault, Heard, List, Message, Ok, Option, PortAccount, Result, Some, Watch, answered, arith, as_read, cond, end_says, ended, ends_of, granted, heard_of, hears, is_about_polled, is_of, may_be_of, message_in, nat_eq, none-some, outstanding_with, same_Some, true, watch_after, without, without_by, ℕ, ◌&&◌, ◌∙◌, ◌≡◌, ◌≢◌, ◌⊎◌, said}
 use Rattle.mscp_packet.specs.declared.end.EndBody.TheVariants as bodies
 use Rattle.mscp_host.specs.declared.heard.Heard.TheVariants as heards
 use Rattle.mscp_host.specs.declared.message.HearFault.TheVariants as faults
@@ -33,11 +33,11 @@ hear_done old new v b heard e = by (message_in v b) e
         )
         (Err faults.Unknown, old)) (Ok heard, new)
         → IsHeardSo old new (Ok (messages.End end)) heard
-    judged end x x2 x3 is about h = grind (arith, read_number)
+    judged end x c d is about h = grind (arith, read_number)
 
     found : (end : End) (o : Option Asked) → ends_of old v.credits end o ≡ (Ok heard, new)
         → IsHeardSo old new (Ok (messages.End end)) heard
-    found end x1 h = grind (arith, judged)
+    found end o h = grind (arith, judged)
 
     plain : (x : Heard) → x ≡ heard → (x ≢ heards.Reset) × (x ≢ heards.Lost)
         → (heard ≢ heards.Reset) × (heard ≢ heards.Lost)
@@ -45,13 +45,13 @@ hear_done old new v b heard e = by (message_in v b) e
 
     news : (c : Bool) (unit code : ℕ) → (cond c (heards.Available unit) (heards.Attention code unit) ≢ heards.Reset)
         × (cond c (heards.Available unit) (heards.Attention code unit) ≢ heards.Lost)
-    news x0 unit code = grind arith
+    news c unit code = grind arith
 
     by : (r : Result Message HearFault) → heard_of old v.credits r ≡ (Ok heard, new) → IsHeardSo old new r heard
-    by x0 h = grind (arith, found, plain, said, news, nat_eq)
+    by r h = grind (arith, found, plain, said, news, nat_eq)
 
 -- what answers a poll
 pub answer_is : (o : Option Watch) (e : End) (told : ℕ × ℕ) → answered o (as_read e) ≡ Some told
     → (w : Watch) × (o ≡ Some w) × (w.reference ≡ e.reference) × (e.code ≡ 0x82)
     × (e.body ≡ bodies.Status told.0 told.1)
-answer_is x0 e told h = grind (arith, none-some, same_Some, nat_eq)
+answer_is o e told h = grind (arith, none-some, same_Some, nat_eq)

@@ -5,7 +5,7 @@ use Rattle.mscp_port.specs.declared.port.OutgoingKind.TheVariants as kinds
 use Rattle.mscp_heard.proofs.Claims.{IsOwed, Owes, claim_of, claim_said, claims, claims_said, moved_in, owes_less, owes_more, owes_rest}
 use Rattle.mscp_heard.proofs.Hosts.{Sends, Settles}
 use Rattle.mscp_heard.proofs.Moving.{drop_at, drop_beside}
-use Rattle.mscp_heard.proofs.Packets.{IsRead, end_heard}
+use Rattle.mscp_heard.proofs.Packets.{end_heard}
 use Rattle.mscp_heard.proofs.Owing.{Inv, IsCoded}
 
 module _ (asked : List Asked) (ss : List Said) (k : ℕ) (aw ms : List (List ℕ)) (n : ℕ) (i : Inv asked ss k aw ms n)

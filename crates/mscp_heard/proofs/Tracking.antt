@@ -1,11 +1,11 @@
 -- How calls of a port leave what is known of the figures that its host was told, and of the poll in flight.
 use Rattle.mscp_heard.proofs.Upcoming.{first_of, Before, IsIn, before_more, first_more, first_behind, in_front, first_in, in_either, in_left, in_right, all_in, tally_texts, tally_in, has_some, some_has}
-use Rattle.mscp_heard.proofs.Known.{last_of, IsPollText, PollsLast, IsBelow, KnowsTold, KnowsPoll, Knows}
+use Rattle.mscp_heard.proofs.Known.{last_of, PollsLast, IsBelow, KnowsTold, KnowsPoll, Knows}
 use Rattle.mscp_heard.proofs.Claiming.{as_many}
 use Rattle.mscp_port.specs.declared.port.OutgoingKind.TheVariants as kinds
 use Rattle.mscp_heard.proofs.Claims.{claim_of, claims, claims_said, tally, tally_append}
 use Rattle.mscp_heard.proofs.Dealt.{Dealt}
-use Rattle.mscp_heard.proofs.Common.{AllByRecursion, Asked, Bool, IsCopyOf, List, None, Option, Pending, PortAccount, Said, Some, Submission, [], ap, append-nil, append_assoc, arith, cond, eq-eqb, eqb-true, false, filter, find, first_of_one, flat_map, flat_map-append, has_number, inl, inr, is_of, last_told, length, map, nat_eq, none-some, none_beside, none_of_it, none_stays, not, num, pending_in, pending_said, refl, same_Some, slice_index, subst, sym, true, ℕ, ◌++◌, ◌+◌, ◌<◌, ◌∙◌, ◌∷◌, ◌≡◌, ◌≢◌, ◌≤◌, ◌⊎◌}
+use Rattle.mscp_heard.proofs.Common.{AllByRecursion, Asked, Bool, List, None, Option, Pending, PortAccount, Said, Some, Submission, [], ap, append-nil, append_assoc, arith, cond, eq-eqb, eqb-true, false, filter, find, first_of_one, flat_map, flat_map-append, has_number, inl, inr, is_of, last_told, length, map, nat_eq, none-some, none_beside, none_of_it, none_stays, not, num, pending_in, pending_said, refl, same_Some, slice_index, subst, sym, true, ℕ, ◌++◌, ◌+◌, ◌<◌, ◌∙◌, ◌∷◌, ◌≡◌, ◌≢◌, ◌≤◌, ◌⊎◌}
 
 cancel : {X : Type 0} (xs ys zs : List X) → xs ++ ys ≡ xs ++ zs → ys ≡ zs
 cancel [] ys zs e = e

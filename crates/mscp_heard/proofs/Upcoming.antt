@@ -1,5 +1,4 @@
 -- Ends that are to be heard: which comes first, and how often a number is claimed.
-use Rattle.mscp_port.specs.declared.port.OutgoingKind.TheVariants as kinds
 use Rattle.mscp_heard.proofs.Claims.{claim_of, claim_said, claims_said, tally, tally_append}
 use Rattle.mscp_heard.proofs.Common.{AllByRecursion, Bool, End, List, None, Option, OutgoingKind, Pending, Said, Some, [], ap, arith, cond, eqb-true, false, filter, flat_map, has_number, inl, inr, length, map, nat_eq, none-some, num, pending_end, pending_in, pending_said, refl, subst, sym, true, ℕ, ◌++◌, ◌+◌, ◌∷◌, ◌≡◌, ◌≢◌, ◌≤◌, ◌⊎◌}
 
@@ -30,7 +29,7 @@ first_more n (x ∷ es) more g e = by (nat_eq x.number n) e (λ h. first_more n 
     by : (b : Bool) → cond b (Some x.figure) (first_of n es) ≡ Some g
         → (first_of n es ≡ Some g → first_of n (es ++ more) ≡ Some g)
         → cond b (Some x.figure) (first_of n (es ++ more)) ≡ Some g
-    by x0 h rest = grind arith
+    by b h rest = grind arith
 
 pub first_behind : (n : ℕ) (es more : List Pending) → first_of n es ≡ None → first_of n (es ++ more) ≡ first_of n more
 first_behind n [] more e = refl
@@ -39,7 +38,7 @@ first_behind n (x ∷ es) more e = by (nat_eq x.number n) e (λ h. first_behind 
     by : (b : Bool) → cond b (Some x.figure) (first_of n es) ≡ None
         → (first_of n es ≡ None → first_of n (es ++ more) ≡ first_of n more)
         → cond b (Some x.figure) (first_of n (es ++ more)) ≡ first_of n more
-    by x0 h rest = grind (arith, none-some)
+    by b h rest = grind (arith, none-some)
 
 -- where w isn't there yet, all stand in front of it
 pub in_front : (x w : ℕ) (es more : List Pending) → first_of w es ≡ None → IsIn x es → Before x w (es ++ more)
@@ -51,10 +50,10 @@ in_front x w (e ∷ es) more none (inr is) = inr (
 )
   where
     apart : (b : Bool) → cond b (Some e.figure) (first_of w es) ≡ None → b ≡ false
-    apart x0 h = grind (arith, none-some)
+    apart b h = grind (arith, none-some)
 
     rest : (b : Bool) → cond b (Some e.figure) (first_of w es) ≡ None → first_of w es ≡ None
-    rest x0 h = grind (arith, none-some)
+    rest b h = grind (arith, none-some)
 
 pub first_in : (n : ℕ) (es : List Pending) (g : ℕ) → first_of n es ≡ Some g → IsIn n es
 first_in n [] g e = absurd (none-some g e)
@@ -62,7 +61,7 @@ first_in n (x ∷ es) g e = by (nat_eq x.number n) refl e (λ h. first_in n es g
   where
     by : (b : Bool) → nat_eq x.number n ≡ b → cond b (Some x.figure) (first_of n es) ≡ Some g
         → (first_of n es ≡ Some g → IsIn n es) → (nat_eq x.number n ≡ true) ⊎ IsIn n es
-    by x0 is h rest = grind arith
+    by b is h rest = grind arith
 
 pub in_either : (n : ℕ) (es fs : List Pending) → IsIn n (es ++ fs) → IsIn n es ⊎ IsIn n fs
 in_either n [] fs is = inr is
@@ -93,7 +92,7 @@ tally_texts n (t ∷ ts) = by (nat_eq (num t 0 4) n) (tally_texts n ts)
     by : (b : Bool) → tally n (map claim_of ts) ≡ length (filter (has_number n) ts)
         → cond b (1 + tally n (map claim_of ts)) (tally n (map claim_of ts))
         ≡ length (cond b (t ∷ filter (has_number n) ts) (filter (has_number n) ts))
-    by x0 e = grind arith
+    by b e = grind arith
 
 pub tally_in : (n : ℕ) (us : List Said) → 1 ≤ tally n (claims_said us) → IsIn n (flat_map pending_in us)
 tally_in n [] h = absurd (search (arith, h))
@@ -106,7 +105,7 @@ tally_in n (s ∷ us) h = by s.kind (subst (λ k. 1 ≤ k)
     by : (kind : OutgoingKind) → 1 ≤ tally n (claim_said kind s.text) + tally n (claims_said us)
         → (1 ≤ tally n (claims_said us) → IsIn n (flat_map pending_in us))
         → IsIn n (pending_said kind s.text ++ flat_map pending_in us)
-    by x0 h rest = grind (arith, plain, tally, claims_said, nat_eq)
+    by kind h rest = grind (arith, plain, tally, claims_said, nat_eq)
 
 pub has_some : (n : ℕ) (xs : List (List ℕ)) → 1 ≤ length (filter (has_number n) xs) → filter (has_number n) xs ≢ []
 has_some n xs h e = search (arith, h, ap length e)
@@ -141,4 +140,4 @@ in_said n (s ∷ us) is = subst (λ k. 1 ≤ k) (sym (tally_append n (claim_said
     by : (kind : OutgoingKind) → IsIn n (pending_said kind s.text ++ flat_map pending_in us)
         → (IsIn n (flat_map pending_in us) → 1 ≤ tally n (claims_said us))
         → 1 ≤ tally n (claim_said kind s.text) + tally n (claims_said us)
-    by x0 is rest = grind (arith, more, tally, claims_said, claim_said)
+    by kind is rest = grind (arith, more, tally, claims_said, claim_said)

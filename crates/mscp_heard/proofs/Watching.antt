@@ -1,5 +1,5 @@
 -- What each moment of a host makes of the poll in flight, and which ends a host takes.
-use Rattle.mscp_heard.proofs.Common.{AllByRecursion, ArrayVec, Asked, Bool, Command, End, EndBody, Envelope, Err, HearFault, Heard, List, Message, None, Ok, Option, PortAccount, Result, Some, Submission, Watch, [], answered, ap, arith, as_read, asked_of, command_bytes, cond, end_says, ended, ends_of, eq-eqb, eqb-true, false, find, four, granted, heard_of, hears, inl, inr, is_about, is_about_polled, is_code_of, is_immediate, is_of, is_poll_of, is_success, length, map, may_be_of, message_in, nat_eq, none-some, not, num, oldest, poll_of, port_polls, port_submits, refl, same_Some, slice_index, submission_of, subst, sym, told_in, true, watch_after, without_by, ℕ, ◌&&◌, ◌++◌, ◌<◌, ◌^◌, ◌∙◌, ◌∷◌, ◌≡◌, ◌≤◌, ◌⊎◌}
+use Rattle.mscp_heard.proofs.Common.{AllByRecursion, ArrayVec, Asked, Bool, Command, End, Envelope, Err, HearFault, Heard, List, Message, None, Ok, Option, PortAccount, Result, Some, Submission, Watch, [], ap, arith, as_read, asked_of, command_bytes, cond, end_says, ended, ends_of, eq-eqb, eqb-true, false, find, four, granted, heard_of, hears, inl, inr, is_about, is_code_of, is_immediate, is_of, is_poll_of, length, map, may_be_of, message_in, nat_eq, none-some, not, num, oldest, poll_of, port_polls, port_submits, refl, same_Some, slice_index, submission_of, subst, sym, true, watch_after, without_by, ℕ, ◌++◌, ◌<◌, ◌^◌, ◌∙◌, ◌∷◌, ◌≡◌, ◌≤◌, ◌⊎◌}
 use Rattle.mscp_packet.specs.declared.end.EndBody.TheVariants as bodies
 use Rattle.mscp_host.specs.declared.message.HearFault.TheVariants as faults
 use Rattle.mscp_host.specs.declared.message.Message.TheVariants as messages
@@ -152,18 +152,18 @@ hear_watch old new v b answer e = by (message_in v b) e
         )
         (Err faults.Unknown, old)) (answer, new)
         → SettlesWatch old new (Ok (messages.End end))
-    judged end x x2 h = grind (arith, read_number)
+    judged end x c h = grind (arith, read_number)
 
     found : (end : End) (o : Option Asked) → ends_of old v.credits end o ≡ (answer, new)
         → SettlesWatch old new (Ok (messages.End end))
-    found end x1 h = grind (arith, judged)
+    found end o h = grind (arith, judged)
 
     by : (r : Result Message HearFault) → heard_of old v.credits r ≡ (answer, new) → SettlesWatch old new r
-    by x0 h = grind (arith, found)
+    by r h = grind (arith, found)
 
 pub settles : (old new : PortAccount) (r : Result Message HearFault) → SettlesWatch old new r
     → Settles old.asked new.asked r
-settles old new r x3 = grind arith
+settles old new r h = grind arith
 
 -- an end of the code of its command, and a poll's about the polled one, is that of the command
 pub may_be : (old : PortAccount) (e : End) (x : Asked) → is_code_of e.code x.opcode ≡ true

@@ -42,7 +42,7 @@ pub record IsLikeIt (sent b : List ℕ) : Type 0 where
 
 stood_in : (b : List ℕ) → 12 ≤ length b → IsLikeIt (stand_in b) b
 unfolding command_of
-stood_in x0 long = grind arith
+stood_in b long = grind arith
 
 named_next : (b : List ℕ) (n : ℕ) → 12 ≤ length b → IsLikeIt (renamed b n) b
 named_next b n long = grind (arith, command_few)

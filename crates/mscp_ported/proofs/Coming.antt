@@ -29,7 +29,7 @@ brings {K} h b = by (refusal (balance_of First h) (outstanding_of First h) b)
     c = command_of b
 
     by : (o : Option SendFault) → Brings h (held_unless First h (command_of b) o) (sent_unless First h (command_of b) o)
-    by x0 = grind (arith, append-nil, append_assoc)
+    by o = grind (arith, append-nil, append_assoc)
 
 -- ---- a step
 

@@ -45,7 +45,7 @@ pub record IsFewer (n : ℕ) (before after : Task) : Type 0 where
 -- ---- tasks
 
 again_fewer : (t : Task) → (IsClear t → ⊥) → IsFewer 0 t (read_again t)
-again_fewer x0 clear = grind arith
+again_fewer t clear = grind arith
 
 aside_fewer : (t : Task) → (IsClear t → ⊥) → IsFewer 0 t (aside t)
 aside_fewer tasks.Transfer clear = record { to_do = search arith; rest = search arith; clear = λ c. c }
@@ -161,7 +161,7 @@ module _ {K : Type 0} (old new : Port K) (u : InUse old) where
   went picks outcome done r = by (deed picks outcome done old new r)
     where
       step_free : (t : Task) → IsStepping t → IsFewer 1 t tasks.Free
-      step_free x0 of = grind arith
+      step_free t of = grind arith
 
       by : Deed picks outcome old new → So 1
       by (Fails code d) = inl (stages.Dead code, d)

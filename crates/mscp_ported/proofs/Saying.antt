@@ -73,7 +73,7 @@ told_figure p e d some t shaped fits = by e.body refl
     not_poll body kind other = none (nat_eq (slice_index (told_end p e) 8) 0x82) refl
       where
         formal : (c : Bool) → ends_formality d.code ≡ c → cond c d.code e.code ≡ 0x82 → ⊥
-        formal x0 is poll = grind (arith, same_Some)
+        formal c is poll = grind (arith, same_Some)
 
         none : (b : Bool) → nat_eq (slice_index (told_end p e) 8) 0x82 ≡ b → b ≡ false
         none false is = refl

@@ -89,7 +89,7 @@ keeps_telling {K} picks hardware credits controller start p q before calls made 
     u = in_use_so picks hardware credits controller start p before made asks b has up
 
     begins : (o : Option Outgoing) → p.outgoing ≡ o → HasToTell p → Pace p 0 0
-    begins x0 e h = grind (arith, u, ten, seven)
+    begins o e h = grind (arith, u, ten, seven)
 
     bound : Pace q (acts calls) (length (gone picks p q calls a))
         → acts calls ≤ 17 * (length (gone picks p q calls a) + 1)
