@@ -1,7 +1,5 @@
 -- What an action leaves that touches no memory, and the steps of the initialisation.
-use Rattle.mscp_ported.proofs.Common.{Action, Bool, Choice, Commands, Due, Goes, Idle, IsAsNew, List, MatchOption, Name, None, Ok, Option, Outcome, Port, Read, Responses, Rings, Said, Some, Stage, StandInOrder, TakesBegun, TakesBlock, Talk, Task, Turn, Verdict, Went, Wish, [], ap, append-nil, arith, at_step, begins, cond, false, interrupted, is_dead, map, message_slot, message_text, not, packet_slot, refl, said_in, step_task, stepped, subst, sym, true, written, ℕ, ◌%◌, ◌*◌, ◌++◌, ◌/◌, ◌==◌, ◌∙◌, ◌≡◌, ◌≢◌}
-use Rattle.std.specs.Prelude.{◌&&◌}
-use Rattle.mscp_port.specs.declared.action.Action.TheVariants as actions
+use Rattle.mscp_ported.proofs.Common.{Action, Choice, Due, Goes, Idle, IsAsNew, List, MatchOption, Name, None, Ok, Option, Outcome, Port, Rings, Said, Some, Stage, TakesBegun, TakesBlock, Talk, Task, Turn, Verdict, Went, Wish, [], ap, append-nil, arith, at_step, begins, false, is_dead, map, refl, said_in, step_task, stepped, subst, sym, true, written, ℕ, ◌++◌, ◌∙◌, ◌≡◌, ◌≢◌}
 use Rattle.mscp_port.specs.declared.stage.Stage.TheVariants as stages
 use Rattle.mscp_port.specs.declared.task.Task.TheVariants as tasks
 use Rattle.mscp_ported.specs.Talk.{done_by}
@@ -35,7 +33,8 @@ pub init_step : (l : Look) (t : Talk) (w : Option Wish) (said : List Said) (text
       rings = rings;
       task = task;
     }) (record t { turn = turn; first = said_first; second = said_second; rings = named }) None said texts
-init_step l t w said texts s first second rings word task turn named said_first said_second k not_up before names counts fits simple own no_rings loud clear alive =
+init_step l t w said texts s first second rings word task turn named
+    said_first said_second k not_up before names counts fits simple own no_rings loud clear alive =
     grind (arith, not_of_rings, block_rings, told_on)
 
 -- the host is interrupted at a step as its first word wants

@@ -1,5 +1,5 @@
 -- What a call leaves in step.
-use Rattle.mscp_ported.proofs.Common.{Call, List, None, Option, Outgoing, Packet, Port, Said, Some, Stage, Talk, Task, Turn, Wish, [], accepted_by, ap, append-nil, arith, begins, cond, false, inl, inr, is_dead, map, option_to_list, refl, said_in, silence, since, stepped, subst, sym, talk_after, talk_by, true, ℕ, ◌++◌, ◌∙◌, ◌≡◌, ◌⊎◌}
+use Rattle.mscp_ported.proofs.Common.{Call, List, None, Option, Outgoing, Packet, Port, Said, Some, Stage, Talk, Task, Turn, Wish, [], accepted_by, append-nil, arith, begins, cond, false, inl, inr, is_dead, map, refl, said_in, silence, since, stepped, talk_after, talk_by, true, ℕ, ◌++◌, ◌≡◌, ◌⊎◌}
 use Rattle.mscp_port.specs.declared.stage.Stage.TheVariants as stages
 use Rattle.mscp_ported.proofs.Look.{AreTold, InStep, IsTelling, Look, left_all, left_quiet, quiet_left}
 

@@ -1,5 +1,5 @@
 -- What a port answers itself.
-use Rattle.mscp_ported.proofs.Common.{Answered, AsksAlways, Bool, Call, Command, Commands, Descriptor, End, First, Hardware, Holdings, IsHandedOver, IsMadeOf, IsOwnAnswer, IsSomeAnd, List, None, Ok, Opened, Option, Outgoing, Own, Picking, Port, Responses, SendFault, Shape, Slot, Some, Task, Turn, Volume, WasRead, [], access_of_nothing, after_message, answer_to_message, ap, append-nil, arith, arrives, asks_next, asks_nothing, balance_of, bare_end, come, command_of, cond, drop, end_bytes, end_kind, false, handed, held_unless, inl, inr, is_for_utilities, is_none, kind_answered, length, little_bytes, nat_le, nat_lt, none-some, num, number_in, number_or_zero, of, opcode_of, option_map, order_with, outstanding_of, own_answer, own_end, own_end_of, own_refusal, own_text, poll_brings, poll_end, polls_bring, refl, refusal, refused_end, same_Some, sent_unless, slice_index, subst, sym, take, talk_of, text_handed, true, volume_named, volume_refusal, ℕ, ◌++◌, ◌+◌, ◌/◌, ◌==◌, ◌∙◌, ◌∷◌, ◌≡◌, ◌≤◌}
+use Rattle.mscp_ported.proofs.Common.{Answered, AsksAlways, Bool, Call, Command, Commands, Descriptor, End, First, Hardware, Holdings, IsHandedOver, IsMadeOf, IsOwnAnswer, IsSomeAnd, List, None, Ok, Opened, Option, Outgoing, Own, Picking, Port, Shape, Slot, Some, Task, Volume, WasRead, [], after_message, answer_to_message, ap, append-nil, arith, asks_nothing, bare_end, come, command_of, cond, end_bytes, end_kind, false, handed, inl, inr, is_for_utilities, is_none, length, nat_le, nat_lt, none-some, num, of, option_map, own_answer, own_end, own_end_of, own_refusal, own_text, poll_brings, polls_bring, refl, refused_end, same_Some, slice_index, subst, sym, talk_of, text_handed, true, volume_named, volume_refusal, ℕ, ◌++◌, ◌+◌, ◌∙◌, ◌∷◌, ◌≡◌, ◌≤◌}
 use Rattle.std.proofs.Common.{find}
 use Rattle.std.specs.Prelude.{◌&&◌}
 use Rattle.mscp_packet.specs.declared.command.Order.TheVariants as orders

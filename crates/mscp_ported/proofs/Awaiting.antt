@@ -1,7 +1,5 @@
 -- What there is of each reference number after each call of a port.
-use Rattle.mscp_ported.proofs.Common.{AllByRecursion, Bool, Call, Command, Dies, End, First, Holdings, List, MoveKind, Name, None, Opcode, Option, Order, Port, Record, Settings, Shape, Some, [], aborted_record, ap, append-nil, arith, balance_of, bytes_in, command_of, cond, ends_said_by, eq-eqb, eqb-true, false, false≢true, filter, found_is, fresh_record, handed, has_number, holds, inl, inr, is_dead, is_numbered, is_same, is_transfer, length, list_any, list_any-append, move_byte, name_of, name_on, nat_eq, nat_lt, none_waits, num, numbers_ended, opcode_of, opcodes, option_map, option_to_list, or_parts, order_with, outstanding_of, own_end_with, record_aborted, refl, refusal, row_of, same_is, since, slice_index, stand_in, subst, sym, taken_by, taken_number, true, unaborted, without_ends, ℕ, ◌%◌, ◌++◌, ◌/◌, ◌<◌, ◌^◌, ◌∙◌, ◌∷◌, ◌≡◌, ◌≤◌}
-use Rattle.mscp_packet.specs.declared.class.Opcode.TheVariants as codes
-use Rattle.mscp_packet.specs.declared.command.MoveKind.TheVariants as kinds
+use Rattle.mscp_ported.proofs.Common.{AllByRecursion, Bool, Call, Command, Dies, End, First, Holdings, List, None, Opcode, Option, Order, Port, Record, Settings, Shape, [], aborted_record, ap, append-nil, arith, balance_of, bytes_in, command_of, cond, ends_said_by, eq-eqb, eqb-true, false, false≢true, filter, found_is, fresh_record, handed, has_number, holds, is_dead, is_numbered, is_same, length, list_any, list_any-append, nat_eq, nat_lt, none_waits, num, numbers_ended, opcode_of, option_map, option_to_list, or_parts, order_with, outstanding_of, own_end_with, record_aborted, refl, refusal, same_is, since, slice_index, stand_in, subst, sym, taken_by, taken_number, true, unaborted, without_ends, ℕ, ◌++◌, ◌<◌, ◌^◌, ◌∙◌, ◌∷◌, ◌≡◌, ◌≤◌}
 use Rattle.mscp_packet.specs.declared.command.Order.TheVariants as orders
 use Rattle.mscp_ported.proofs.Coming.{ends_of}
 use Rattle.mscp_ported.proofs.Handed.{handed_cases, renamed}

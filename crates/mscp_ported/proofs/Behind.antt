@@ -1,7 +1,6 @@
 -- An ABORT stands behind the command that it names.
-use Rattle.mscp_ported.proofs.Common.{Bool, List, None, Opcode, Option, Shape, Some, [], and_parts, ap, arith, asks_for_next, command_of, cond, eq-eqb, eqb-true, false, false≢true, filter, found_is, handed, has_number, least, length, list_any, nat_eq, nat_lt, not, num, opcode_of, opcodes, order_with, parameters, refl, row_of, slice_index, stand_in, sym, true, ℕ, ◌&&◌, ◌++◌, ◌||◌, ◌∙◌, ◌∷◌, ◌≡◌}
+use Rattle.mscp_ported.proofs.Common.{Bool, List, Opcode, Option, Shape, [], and_parts, ap, arith, asks_for_next, command_of, cond, eq-eqb, eqb-true, false, false≢true, filter, found_is, handed, has_number, length, list_any, nat_eq, nat_lt, not, num, opcode_of, order_with, refl, slice_index, stand_in, sym, true, ℕ, ◌&&◌, ◌++◌, ◌||◌, ◌∙◌, ◌∷◌, ◌≡◌}
 use Rattle.std.specs.Prelude.{◌≤◌, nat_le}
-use Rattle.mscp_packet.specs.declared.class.Opcode.TheVariants as codes
 use Rattle.mscp_packet.specs.declared.command.Order.TheVariants as orders
 use Rattle.mscp_ported.proofs.Handed.{handed_cases, renamed, renamed_byte}
 use Rattle.mscp_ported.proofs.Numbered.{other_number, some_none}

@@ -1,7 +1,7 @@
 -- Each end that goes out fits its message, over a whole list of calls.
 use Rattle.mscp_ported.proofs.Holding.{small_figure}
 use Rattle.mscp_ported.proofs.Stepping.{IsHow}
-use Rattle.mscp_ported.proofs.Common.{All, AllByRecursion, Answered, AnsweredCalls, Call, ControllersKeepThePromise, First, Hardware, Holdings, IsMadeOf, IsValid, KeepsPromise, List, Made, Name, Next, Ok, Outcome, Picking, Port, ReadsBytes, Record, Settings, Some, Verdict, WasRead, Went, WriteIp, [], ap, arith, awaited, ends_said_by, filter, find, fresh, has_name, has_number, is_of, length, num, numbers, numbers_ended, of, outstanding_of, refl, subst, sym, waiting_on, ℕ, ◌<◌, ◌∙◌, ◌∷◌, ◌≡◌}
+use Rattle.mscp_ported.proofs.Common.{All, Answered, AnsweredCalls, Call, ControllersKeepThePromise, First, Hardware, Holdings, IsMadeOf, IsValid, KeepsPromise, List, Made, Name, Next, Ok, Outcome, Picking, Port, ReadsBytes, Record, Settings, Some, Verdict, WasRead, Went, WriteIp, [], arith, awaited, ends_said_by, filter, find, fresh, has_name, has_number, num, outstanding_of, refl, ℕ, ◌<◌, ◌∷◌, ◌≡◌}
 use Rattle.mscp_ported.proofs.Awaiting.{IsNoReset, Kept}
 use Rattle.mscp_ported.proofs.Coming.{ends_of, few_ends}
 use Rattle.mscp_ported.proofs.Dealing.{passive_taken}
@@ -9,8 +9,6 @@ use Rattle.mscp_ported.proofs.Decided.{passive_said}
 use Rattle.mscp_ported.proofs.Ended.{kept, no_ends, nothing_two, shaped}
 use Rattle.mscp_ported.proofs.Ending.{zipped}
 use Rattle.mscp_ported.proofs.Fitted.{Fitting, nothing_fits, stays}
-use Rattle.mscp_ported.proofs.Fitting.{FitsIn}
-use Rattle.mscp_ported.proofs.Followed.{AreFollowed}
 use Rattle.mscp_ported.proofs.Heeding.{read_fits}
 use Rattle.mscp_ported.proofs.Numbered.{some_none}
 use Rattle.mscp_ported.proofs.Opcodes.{IsSaid, next_fits, said_is, went_fits}

@@ -1,6 +1,6 @@
 -- How often the volume of a unit changed, and what is kept of a command of which it is known how often since.
-use Rattle.mscp_ported.proofs.Common.{Answered, Becomes, Bool, Buffer, Call, Connection, End, Hardware, Holdings, IsForgotten, IsMadeOf, IsOfItsVolume, IsSaidBy, Keeps, List, More, None, Option, Picking, Port, Shape, Some, Volume, WasRead, [], ap, arith, changed, changed_by, changes_at, cond, eq-eqb, eqb-true, false, false≢true, get_or_past, inl, inr, keeps_after, keeps_none, length, length-set, mod-add-mod, nat_eq, no_volume, none-some, one_block, place_in, position-Some, refl, same_Some, set, settings_stay, subst, sym, true, volume_at, volume_heeded, volumes_after, volumes_heeded, volumes_with, weaker_for, ℕ, ◌%◌, ◌+◌, ◌<◌, ◌==◌, ◌∙◌, ◌∷◌, ◌≡◌, ◌≢◌, ◌≤◌, ◌⊎◌}
-use Rattle.mscp_ported.proofs.Volumes.{Elsewhere, Forgets, Heeds, Here, Past, Remounted, Rests, SetAt, Switches, Tunes, remounted, set_at}
+use Rattle.mscp_ported.proofs.Common.{Answered, Becomes, Buffer, Call, Connection, End, Hardware, Holdings, IsForgotten, IsMadeOf, IsOfItsVolume, IsSaidBy, Keeps, List, More, None, Option, Picking, Port, Shape, Some, Volume, WasRead, [], ap, arith, changed, changed_by, cond, eq-eqb, eqb-true, false, false≢true, get_or_past, inl, inr, keeps_after, keeps_none, length, length-set, mod-add-mod, nat_eq, none-some, one_block, place_in, position-Some, refl, same_Some, set, settings_stay, subst, sym, true, volume_at, volume_heeded, volumes_after, volumes_heeded, volumes_with, weaker_for, ℕ, ◌%◌, ◌+◌, ◌<◌, ◌==◌, ◌∙◌, ◌∷◌, ◌≡◌, ◌≢◌, ◌≤◌, ◌⊎◌}
+use Rattle.mscp_ported.proofs.Volumes.{Forgets, Heeds, Remounted, Rests, Switches, Tunes, remounted, set_at}
 
 -- ---- units
 
@@ -83,7 +83,8 @@ goes_on picks call old new r = by (remounted picks call old new r)
   where
     by : Remounted call old new → IsForgotten old new ⊎ VolumesGoOn call old new
     by (Forgets f) = inl f
-    by (Rests calm e) = inr (λ unit place here. the_same (changed_by unit call) place old.volumes new.volumes (calm.changes unit) e)
+    by (Rests calm e) =
+        inr (λ unit place here. the_same (changed_by unit call) place old.volumes new.volumes (calm.changes unit) e)
     by (Tunes calm q x t e) = inr (λ unit place here.
         subst (λ ws. Counts (changed_by unit call) place old.volumes ws) (sym e)
         (set_alike (changed_by unit call) place q old.volumes x (calm.changes unit) t.changes))

@@ -1,7 +1,6 @@
 -- The endcode of a command is that of its message's opcode, and a poll is about the command that its message names.
-use Rattle.mscp_ported.proofs.Common.{Bool, Command, End, EndBody, IsCodeFor, List, MoveKind, None, Opcode, Option, Order, Settings, Shape, Some, [], ap, arith, bit_or, command_of, cond, endcode, eqb-true, false, fault_of, found_is, handed, inl, inr, is_formality, is_queued, least, length, move_fault, nat_eq, nat_lt, num, opcode_of, opcodes, order_with, own_end_with, parameters, refl, refused_body, row_of, slice_index, stand_in, subst, sym, true, unit_found, ℕ, ◌+◌, ◌<◌, ◌∙◌, ◌∷◌, ◌≡◌, ◌≤◌, ◌⊎◌, false≢true}
+use Rattle.mscp_ported.proofs.Common.{Bool, Command, End, EndBody, IsCodeFor, List, None, Opcode, Option, Order, Settings, Shape, Some, arith, bit_or, command_of, cond, endcode, eqb-true, false, fault_of, found_is, handed, inl, is_formality, is_queued, least, length, nat_eq, nat_lt, num, opcode_of, opcodes, order_with, own_end_with, parameters, refl, refused_body, row_of, slice_index, stand_in, subst, sym, true, ℕ, ◌+◌, ◌<◌, ◌∙◌, ◌≡◌, ◌≤◌, ◌⊎◌, false≢true}
 use Rattle.mscp_packet.specs.declared.class.Opcode.TheVariants as codes
-use Rattle.mscp_packet.specs.declared.command.MoveKind.TheVariants as kinds
 use Rattle.mscp_packet.specs.declared.command.Order.TheVariants as orders
 use Rattle.mscp_packet.specs.declared.end.EndBody.TheVariants as bodies
 use Rattle.mscp_ported.proofs.Handed.{handed_cases, renamed, renamed_about, renamed_byte, renamed_long}

@@ -1,6 +1,5 @@
 -- The ends that come for a host by a message or by a step.
-use Rattle.mscp_ported.proofs.Common.{Block, Bool, Choice, Command, Connection, End, Err, Finishes, First, Holdings, IsValid, KeepsPromise, List, Made, Name, None, NotBegun, Ok, Option, Port, Report, Result, Second, SendFault, Sent, Settings, Some, [], aborted_record, aborting, after_message, answer_to_message, answered_end, ap, append-nil, append_assoc, arith, balance_of, come, command_of, cond, credits_of, drop, drop-append_seam, end_brought, false, held_unless, history, if◌then◌else◌, is_queued, length, name_on, of, option_map, option_to_list, outstanding_of, queued, record_aborted, record_at, reference_aborted, refl, refusal, same_connection, sent_unless, served_name, subst, sym, take-length, true, untaken, waiting_by, with_end, ℕ, ◌++◌, ◌+◌, ◌∙◌, ◌∷◌, ◌≡◌, ◌≤◌}
-use Rattle.mscp_queue.specs.declared.report.Report.TheVariants as reports
+use Rattle.mscp_ported.proofs.Common.{Block, Choice, Command, Connection, End, Err, Finishes, First, Holdings, IsValid, KeepsPromise, List, Made, NotBegun, Ok, Option, Port, Report, Result, Second, SendFault, Sent, Settings, [], after_message, answer_to_message, ap, append-nil, append_assoc, arith, balance_of, come, command_of, credits_of, drop, drop-append_seam, end_brought, held_unless, history, length, name_on, of, option_to_list, outstanding_of, refusal, sent_unless, served_name, subst, take-length, untaken, waiting_by, ℕ, ◌++◌, ◌+◌, ◌∙◌, ◌≡◌, ◌≤◌}
 use Rattle.mscp_controller.specs.declared.entry.Sent.TheVariants as sents
 
 -- the ends of the host's connection

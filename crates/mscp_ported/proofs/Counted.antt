@@ -1,5 +1,5 @@
 -- An end counts no more bytes than its command asks for.
-use Rattle.mscp_ported.proofs.Common.{Block, Bool, Drive, End, None, Order, Record, Shape, Some, arith, cond, end_given, false, goes_on, left_of, moved_body, none-some, outcome_at, outcome_body, same_Some, subst, true, ℕ, ◌≡◌, ◌≤◌}
+use Rattle.mscp_ported.proofs.Common.{Block, Drive, End, Order, Record, Shape, Some, arith, end_given, moved_body, none-some, outcome_body, same_Some, ℕ, ◌≡◌, ◌≤◌}
 use Rattle.mscp_packet.specs.declared.command.Order.TheVariants as orders
 use Rattle.mscp_ported.proofs.Numbered.{asked_by, counted_in}
 

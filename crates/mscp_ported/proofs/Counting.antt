@@ -1,5 +1,5 @@
 -- Slots that were given back, one behind the other, and what was told in them.
-use Rattle.mscp_ported.proofs.Common.{Bool, Commands, IfSome, List, None, Option, Packet, Responses, Rings, Said, Side, Slot, Some, StandInOrder, TellAll, Tells, [], address_in, ap, area_named, arith, base_named, cond, false, is_owned, left_after, length, mod-lt, mod-mod-pow, nat_lt, pow_pos, refl, rings_named, slot_in, slot_place, slots_in, slots_of, sym, true, word_of, word_place, ℕ, ◌%◌, ◌*◌, ◌++◌, ◌+◌, ◌-◌, ◌/◌, ◌^◌, ◌∙◌, ◌∷◌, ◌≡◌}
+use Rattle.mscp_ported.proofs.Common.{Commands, IfSome, List, None, Option, Packet, Responses, Rings, Said, Side, Slot, Some, StandInOrder, TellAll, Tells, [], address_in, ap, arith, is_owned, left_after, length, mod-lt, mod-mod-pow, nat_lt, pow_pos, refl, rings_named, slot_in, slot_place, slots_in, slots_of, sym, true, word_of, word_place, ℕ, ◌%◌, ◌*◌, ◌++◌, ◌+◌, ◌-◌, ◌^◌, ◌∙◌, ◌∷◌, ◌≡◌}
 use Rattle.mscp_ported.proofs.Look.{IsWide, left_all}
 
 -- ---- counts

@@ -1,5 +1,5 @@
 -- What each call of a port deals with.
-use Rattle.mscp_ported.proofs.Common.{Action, AllByRecursion, Becomes, Bool, Call, Deals, Descriptor, End, Err, Hears, Holdings, IsEnding, IsOfKind, IsReadingText, IsSomeAnd, List, Next, None, Ok, Option, Outcome, Outgoing, Picking, Port, ReadIp, Result, SeesText, SendFault, Sent, Shape, Some, TakesEnd, Task, TellsOf, Volume, Wants, WasRead, Went, WriteIp, WriteSa, [], accepted_by, accepted_text, accepts, answered_to, ap, append-nil, arith, attention, begins, blocks, bytes_in, cond, drop, end_bytes, end_kind, ends_begun, eqb-true, every_kept, false, filter, has_number, heard, heeded, inl, inr, is_dead, is_none, is_ok, is_taken_text, looks_or_not, news_place, none-some, none_or_some, not, num, option_map, own_answer, own_end_of, refl, same_Some, since, slice_get, subst, sym, taken_by, told_end, true, volume_at, volume_named, without_ends, ℕ, ◌&&◌, ◌++◌, ◌<◌, ◌^◌, ◌∙◌, ◌∷◌, ◌≡◌, ◌≢◌, ◌≤◌, ◌⊎◌, Own}
+use Rattle.mscp_ported.proofs.Common.{Action, AllByRecursion, Becomes, Bool, Call, Deals, Descriptor, End, Err, Hears, Holdings, IsEnding, IsOfKind, IsReadingText, IsSomeAnd, List, Next, None, Ok, Option, Outcome, Outgoing, Picking, Port, Result, SeesText, SendFault, Sent, Shape, Some, TakesEnd, Task, TellsOf, Volume, Wants, WasRead, Went, [], accepted_by, accepted_text, accepts, answered_to, ap, append-nil, arith, attention, begins, bytes_in, cond, drop, end_bytes, end_kind, ends_begun, eqb-true, every_kept, false, filter, has_number, inl, inr, is_dead, is_none, is_ok, is_taken_text, looks_or_not, news_place, none-some, none_or_some, not, num, option_map, own_end_of, refl, same_Some, since, slice_get, subst, sym, taken_by, told_end, true, volume_at, volume_named, without_ends, ℕ, ◌&&◌, ◌++◌, ◌<◌, ◌^◌, ◌∙◌, ◌∷◌, ◌≡◌, ◌≢◌, ◌≤◌, ◌⊎◌}
 use Rattle.mscp_ported.proofs.Minor.{minor, minor_out}
 use Rattle.mscp_port.specs.declared.port.OutgoingKind.TheVariants as kinds
 use Rattle.mscp_port.specs.declared.task.Task.TheVariants as tasks
@@ -7,7 +7,7 @@ use Rattle.mscp_ported.proofs.Answering.{none_so, own_so}
 use Rattle.mscp_ported.proofs.Awaiting.{IsNoReset, IsSmall, Kept, lives_so, same_so}
 use Rattle.mscp_ported.proofs.Coming.{ends_of}
 use Rattle.mscp_ported.proofs.Decided.{passive_said}
-use Rattle.mscp_ported.proofs.Numbered.{AtEach, counted_in, end_awaited, takes_end, At}
+use Rattle.mscp_ported.proofs.Numbered.{AtEach, counted_in, end_awaited, takes_end}
 use Rattle.mscp_ported.proofs.Reading.{and_false, taken_is}
 use Rattle.mscp_ported.proofs.Staying.{IsPassive}
 use Rattle.mscp_ported.proofs.Taking.{begun_end, begun_same, says_is}

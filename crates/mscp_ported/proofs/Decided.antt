@@ -1,5 +1,5 @@
 -- Each end goes out with what was decided of it as it came.
-use Rattle.mscp_ported.proofs.Common.{Answered, AnsweredCalls, Bool, Call, ControllersKeepThePromise, Dies, End, Err, First, Hardware, Holdings, IsMadeOf, IsValid, KeepsPromise, Leaving, List, Made, Next, None, Ok, Option, Outcome, Outgoing, Picking, Port, Settings, Shape, Some, Stage, Verdict, WasRead, Went, WriteIp, [], answer_left, ap, append-nil, arith, block_begun, blocks, came, came_by, come, cond, end_text, ends_begun, ends_said, ends_said_by, false, fresh, inl, inr, is_dead, length, map, of, refl, since, step_left, subst, sym, true, verdict_in, ℕ, ◌++◌, ◌∙◌, ◌∷◌, ◌≡◌, ◌≤◌}
+use Rattle.mscp_ported.proofs.Common.{Answered, AnsweredCalls, Bool, Call, ControllersKeepThePromise, Dies, End, First, Hardware, Holdings, IsMadeOf, IsValid, KeepsPromise, Leaving, List, Made, Next, None, Ok, Option, Outcome, Outgoing, Picking, Port, Settings, Shape, Some, Stage, Verdict, WasRead, Went, WriteIp, [], answer_left, ap, append-nil, arith, blocks, came, came_by, come, cond, end_text, ends_begun, ends_said, ends_said_by, false, fresh, inl, inr, is_dead, length, map, of, refl, since, step_left, sym, true, verdict_in, ℕ, ◌++◌, ◌∙◌, ◌∷◌, ◌≡◌, ◌≤◌}
 use Rattle.mscp_port.specs.declared.stage.Stage.TheVariants as stages
 use Rattle.mscp_ported.proofs.Coming.{ends_of, few_ends}
 use Rattle.mscp_ported.proofs.Deeds.{is_alive}

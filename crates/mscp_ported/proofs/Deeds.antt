@@ -1,5 +1,5 @@
 -- What becomes of a port as it is told how an action went, case by case.
-use Rattle.mscp_ported.proofs.Common.{Bool, ChangesByWord, Choice, Clears, Descriptor, GivesBack, Goes, IfSome, IsAsNew, IsOutcomeOf, IsStepping, List, MatchOption, None, Ok, Option, Outcome, Port, Responses, Rings, Side, Some, Stage, TakesBegun, TakesStep, Task, Verdict, ap, arith, block_begun, block_served, cond, counted, end_of, false, hears_of, inl, inr, is_dead, none-some, not, refl, rings_named, start_of, step_answered, step_task, subst, sym, true, vector_in, ℕ, ◌%◌, ◌&&◌, ◌+◌, ◌/◌, ◌<◌, ◌==◌, ◌∙◌, ◌≡◌, ◌≢◌, ◌≤◌, ◌⊎◌}
+use Rattle.mscp_ported.proofs.Common.{Bool, ChangesByWord, Choice, Clears, Descriptor, GivesBack, Goes, IfSome, IsAsNew, IsOutcomeOf, IsStepping, List, MatchOption, None, Ok, Option, Outcome, Port, Responses, Rings, Side, Some, Stage, TakesBegun, TakesStep, Task, Verdict, ap, arith, block_begun, block_served, cond, counted, end_of, false, hears_of, inl, inr, is_dead, none-some, refl, rings_named, start_of, step_answered, step_task, subst, sym, true, vector_in, ℕ, ◌%◌, ◌+◌, ◌<◌, ◌==◌, ◌∙◌, ◌≡◌, ◌≢◌, ◌≤◌, ◌⊎◌}
 use Rattle.mscp_port.specs.declared.action.Outcome.TheVariants as outcomes
 use Rattle.mscp_port.specs.declared.stage.Stage.TheVariants as stages
 use Rattle.mscp_port.specs.declared.task.Task.TheVariants as tasks

@@ -1,11 +1,11 @@
 -- By each action that is done fewer are left before what goes out is gone, or before an end that waits begins to.
-use Rattle.mscp_ported.proofs.Common.{Becomes, Bool, Call, Choice, Commands, Descriptor, End, Goes, Hears, IsForgotten, IsGiven, IsSomeAnd, IsStepping, List, Next, None, Ok, Option, Outcome, Outgoing, Picking, Port, ReadIp, Responses, Rings, Side, Some, Task, WasRead, Went, WriteIp, WriteSa, [], acts, ap, arith, aside, block_told, cond, end_brought, end_bytes, end_kind, false, handed, hears_of, inl, inr, is_flagged, is_owned, length, length-append, none-some, none_or_some, not, num, own_end_of, read_again, refl, slots_of, step_at, subst, sym, taken_or_not, true, ℕ, ◌++◌, ◌+◌, ◌<◌, ◌==◌, ◌∙◌, ◌∷◌, ◌≡◌, ◌≢◌, ◌≤◌, ◌⊎◌}
+use Rattle.mscp_ported.proofs.Common.{Becomes, Bool, Call, Choice, Commands, Descriptor, End, Goes, Hears, IsForgotten, IsGiven, IsStepping, List, Next, None, Ok, Option, Outcome, Picking, Port, ReadIp, Responses, Rings, Side, Task, WasRead, Went, WriteIp, WriteSa, [], acts, ap, arith, aside, false, handed, hears_of, inl, inr, length, length-append, none-some, none_or_some, own_end_of, read_again, refl, step_at, subst, sym, taken_or_not, ℕ, ◌++◌, ◌+◌, ◌<◌, ◌∙◌, ◌∷◌, ◌≡◌, ◌≢◌, ◌≤◌, ◌⊎◌}
 use Rattle.mscp_controller.specs.declared.entry.Sent.TheVariants as sents
 use Rattle.mscp_port.specs.declared.stage.Stage.TheVariants as stages
 use Rattle.mscp_port.specs.declared.task.Task.TheVariants as tasks
 use Rattle.mscp_ported.proofs.Coming.{brings, brought_for, ends_of, steps_bring}
 use Rattle.mscp_ported.proofs.Deeds.{Deed, Eases, Fails, GivesSlot, IsClear, IsEased, ServesStep, StepsOn, WritesPacket, deed, stepping}
-use Rattle.mscp_ported.proofs.Minor.{GivesUp, Minor, Mounts, PutsAside, ReadsAgain, Still, minor}
+use Rattle.mscp_ported.proofs.Minor.{minor}
 use Rattle.mscp_ported.proofs.Sights.{IsAnswered, IsFault, IsSent, IsSlide, Seen, Slides, StaysInSlot, sight, task_read}
 use Rattle.mscp_ported.proofs.Turns.{IsNoNext}
 
@@ -71,8 +71,8 @@ given_so area side slot = grind arith
 
 -- ---- ports
 
--- the rings are in use, the ring of responses wasn't found full, no step of the initialisation waits, and the area isn't
--- being cleared
+-- the rings are in use, the ring of responses wasn't found full, no step of the initialisation waits, and the area
+-- isn't being cleared
 pub record InUse {K : Type 0} (p : Port K) : Type 0 where
   pub up : p.stage ≡ stages.Up
   pub room : p.is_full ≡ false
@@ -146,7 +146,8 @@ module _ {K : Type 0} (old new : Port K) (u : InUse old) where
       by (IsFault code of d) = inl (stages.Dead code, d)
       by (IsAnswered slot size foreign end at own none e a) = grind (arith, use_on, read_ends, none-some)
       by (StaysInSlot slot size foreign at why e) = on _ e refl u.room refl refl
-          (read_ends bytes done r slot size foreign at) (text_fewer tasks.Free (search arith) (search arith) (λ c. c) at)
+          (read_ends bytes done r slot size foreign at)
+          (text_fewer tasks.Free (search arith) (search arith) (λ c. c) at)
       by (IsSent slot size foreign (sents.Queued reference) at own answer e) = on _ e.frame refl u.room refl refl
           (read_ends bytes done r slot size foreign at)
           (text_fewer (tasks.Return Commands slot) (search arith) (search arith) (λ c. c) at)

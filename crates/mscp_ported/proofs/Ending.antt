@@ -1,5 +1,5 @@
 -- The ends that came go out with what was decided of them, call by call.
-use Rattle.mscp_ported.proofs.Common.{Bool, Call, Decided, End, Hardware, Leaving, List, Port, Shape, [], ap, append-nil, append_assoc, arith, came_by, come, cond, drop, drop-append_seam, end_text, ends_said_by, false, is_dead, length, length-append, length-map, map, refl, since, subst, sym, true, ℕ, ◌++◌, ◌∙◌, ◌∷◌, ◌≡◌}
+use Rattle.mscp_ported.proofs.Common.{Bool, Call, Decided, End, Hardware, Leaving, List, Port, Shape, [], ap, append-nil, append_assoc, arith, came_by, come, cond, drop-append_seam, end_text, ends_said_by, false, is_dead, length, length-append, length-map, map, refl, since, subst, sym, true, ℕ, ◌++◌, ◌∙◌, ◌∷◌, ◌≡◌}
 use Rattle.mscp_ported.proofs.Coming.{ends_of}
 use Rattle.mscp_ported.proofs.Tables.{fields_of}
 

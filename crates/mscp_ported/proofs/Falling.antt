@@ -1,11 +1,9 @@
 -- By each call of a port the figure of a command that waits falls or stays.
-use Rattle.mscp_ported.proofs.Common.{AllByRecursion, Answered, AnsweredCalls, AsksAlways, AtEach, Becomes, Block, Bool, Buffer, Call, Choice, ControllersKeepThePromise, Drive, EachWaiting, End, Err, Falling, Finish, First, Hardware, Holdings, IsFinish, IsForgotten, IsLegal, IsMadeOf, IsOfBlock, IsRight, IsStepping, IsValid, KeepsPromise, List, Lowers, Made, Makes, Moment, Name, Next, None, NotBegun, Ok, Option, Outcome, Outgoing, OutgoingKind, Picking, Plain, Port, Promise, Record, Report, Result, Settings, Shape, Some, Task, TellsStep, Trace, Volume, WasRead, Went, [], answered_to, ap, append-nil, arith, begin_made, begun_task, block_begun, cond, ends_in, every_append, every_kept, every_weaker, false, false≢true, figure, figure_of, figure_of_name, figure_on, filter, find, flat_map-append, fresh, handed, history, inl, inr, is_begun, is_same, is_step, is_waiting, length, length-append, moment, moment_last, moments_of, name, name_before, name_last, name_on, new_name, none-some, not, own_end_of, queued_name, queues, refl, same_Some, same_is, same_name, send_made, step_told, subst, sym, take, take_all, take_at, take_made, told_of, transfer_told, true, unless_own, upcoming_begun, waiting, waiting_more, waiting_waits, waits_below, waits_in, ℕ, ◌++◌, ◌+◌, ◌<◌, ◌∙◌, ◌∷◌, ◌≡◌, ◌≤◌, ◌⊎◌}
+use Rattle.mscp_ported.proofs.Common.{AllByRecursion, Answered, AnsweredCalls, AsksAlways, AtEach, Becomes, Block, Bool, Buffer, Call, Choice, ControllersKeepThePromise, Drive, EachWaiting, End, Err, Falling, Finish, First, Hardware, Holdings, IsFinish, IsForgotten, IsLegal, IsMadeOf, IsOfBlock, IsRight, IsStepping, IsValid, KeepsPromise, List, Lowers, Made, Makes, Moment, Name, None, NotBegun, Ok, Option, Outcome, Outgoing, Picking, Plain, Port, Promise, Record, Report, Result, Settings, Shape, Some, Task, TellsStep, Trace, Volume, Went, [], answered_to, ap, append-nil, arith, begin_made, begun_task, block_begun, cond, ends_in, every_append, every_kept, every_weaker, false, false≢true, figure, figure_of, figure_of_name, figure_on, filter, find, flat_map-append, fresh, handed, history, inl, inr, is_begun, is_same, is_step, is_waiting, length, length-append, moment_last, moments_of, name, name_before, name_last, name_on, new_name, none-some, not, own_end_of, queued_name, queues, refl, same_Some, same_is, send_made, step_told, subst, sym, take_all, take_at, take_made, told_of, transfer_told, true, unless_own, upcoming_begun, waiting, waiting_more, waiting_waits, waits_below, waits_in, ℕ, ◌++◌, ◌<◌, ◌∙◌, ◌∷◌, ◌≡◌, ◌≤◌, ◌⊎◌}
 use Rattle.std.specs.Prelude.{Contains}
 use Rattle.mscp_drive.specs.declared.event.Event.TheVariants as events
 use Rattle.mscp_controller.specs.declared.entry.Entry.TheVariants as entries
-use Rattle.mscp_port.specs.declared.port.OutgoingKind.TheVariants as kinds
 use Rattle.mscp_port.specs.declared.task.Task.TheVariants as tasks
-use Rattle.mscp_ported.specs.Making.{taken_as}
 use Rattle.mscp_ported.proofs.Made.{follows}
 use Rattle.mscp_ported.proofs.Making.{made_more}
 use Rattle.mscp_ported.proofs.Moving.{steps}

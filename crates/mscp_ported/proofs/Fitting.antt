@@ -1,5 +1,5 @@
 -- Each end that waits fits the message whose end it is.
-use Rattle.mscp_ported.proofs.Common.{AllByRecursion, Block, Bool, Buffer, Decided, Drive, End, First, IsCodeFor, Leaving, List, None, Option, Order, Port, Record, Settings, Shape, Some, Verdict, Volume, [], aborted_record, ap, arith, code_told, cond, controller_decided, end_decided, end_given, endcode, ends_formality, eq-eqb, eqb-true, false, filter, find, find_cases, find_first, find_none, found_decided, goes_on, has_number, inl, inr, is_formality, is_of, kept_at, kept_of, left_of, length, moved_body, nat_eq, not, num, outcome_at, outcome_body, position_first, position_none, refl, refused_body, slice_get, status_told, subst, sym, true, unit_found, volume_found, ℕ, ◌++◌, ◌+◌, ◌<◌, ◌^◌, ◌∙◌, ◌∷◌, ◌≡◌, ◌≤◌}
+use Rattle.mscp_ported.proofs.Common.{AllByRecursion, Block, Bool, Buffer, Decided, Drive, End, First, IsCodeFor, Leaving, List, None, Order, Port, Record, Settings, Shape, Some, Verdict, Volume, [], aborted_record, ap, arith, code_told, cond, end_decided, end_given, endcode, ends_formality, eq-eqb, eqb-true, false, filter, find, find_cases, find_first, find_none, has_number, inl, inr, is_formality, is_of, kept_at, kept_of, length, moved_body, nat_eq, not, num, outcome_body, position_first, position_none, refl, refused_body, slice_get, status_told, subst, sym, true, volume_found, ℕ, ◌++◌, ◌+◌, ◌<◌, ◌^◌, ◌∙◌, ◌∷◌, ◌≡◌, ◌≤◌}
 use Rattle.std.specs.Prelude.{position}
 use Rattle.mscp_packet.specs.declared.command.Order.TheVariants as orders
 use Rattle.mscp_packet.specs.declared.end.EndBody.TheVariants as bodies

@@ -1,10 +1,9 @@
 -- What follows each call of a port, and so a list of calls.
-use Rattle.mscp_ported.proofs.Common.{Action, Answered, AreAccepted, AsksAlways, Becomes, Bool, Call, Commands, Goes, Hardware, Holdings, Idle, IfSome, IsMadeOf, IsOfBlock, IsOwed, List, Message, Next, None, Ok, Opened, Option, Outcome, Picking, Port, Read, ReadIp, Said, Slot, Some, Talk, Task, Turn, WasRead, Went, Wish, WriteIp, WriteSa, [], accepted, accepted_by, accepted_text, ap, append-nil, arith, blocks, heard, inl, inr, map, message_text, option_to_list, refl, said, said_in, silence, subst, sym, talk_by, talk_of, wish, ℕ, ◌∙◌, ◌∷◌, ◌≡◌, ◌≢◌}
+use Rattle.mscp_ported.proofs.Common.{Action, Answered, AreAccepted, AsksAlways, Becomes, Bool, Call, Commands, Goes, Hardware, Holdings, IsMadeOf, IsOwed, List, Message, Next, None, Ok, Opened, Option, Outcome, Picking, Port, ReadIp, Said, Slot, Some, Talk, Task, Turn, WasRead, Went, Wish, WriteIp, WriteSa, [], accepted, accepted_by, accepted_text, ap, append-nil, arith, blocks, heard, refl, said, silence, talk_by, talk_of, wish, ℕ, ◌∷◌, ◌≡◌, ◌≢◌}
 use Rattle.mscp_ported.proofs.Minor.{GivesUp, Minor, Mounts, PutsAside, ReadsAgain, Still, minor}
-use Rattle.mscp_port.specs.declared.stage.Stage.TheVariants as stages
 use Rattle.mscp_port.specs.declared.task.Task.TheVariants as tasks
 use Rattle.mscp_ported.proofs.After.{After, IsNoReset, IsPlain}
-use Rattle.mscp_ported.proofs.Look.{Fits, HasLeft, Hears, InStep, IsClear, IsOfRings, IsWide, NeedsOut, has_area, in_hand, look, slot_at}
+use Rattle.mscp_ported.proofs.Look.{Fits, Hears, InStep, has_area, in_hand, look, slot_at}
 use Rattle.mscp_ported.proofs.Acting.{IsReported}
 use Rattle.mscp_ported.proofs.Going.{went}
 use Rattle.mscp_ported.proofs.Hearing.{was_read}

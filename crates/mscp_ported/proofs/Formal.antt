@@ -1,5 +1,5 @@
 -- A command that asks nothing of a disk waits in the controller, if the port doesn't answer it itself.
-use Rattle.mscp_ported.proofs.Common.{Bool, IsValid, List, None, Option, Settings, Shape, Some, Volume, ap, arith, bare_end, command_of, cond, false, find_cases, find_first, handed, inl, inr, is_formality, is_none, is_queued, length, move_fault, nat_le, nat_lt, next_named, none-some, num, option_map, own_end, place_in, position_none, range_fault, refl, refused_end, slice_index, stand_in, subst, sym, true, unit_found, volume_refusal, ℕ, ◌+◌, ◌<◌, ◌∙◌, ◌∷◌, ◌≡◌, ◌≤◌}
+use Rattle.mscp_ported.proofs.Common.{Bool, IsValid, List, None, Option, Settings, Shape, Some, Volume, ap, arith, command_of, cond, find_cases, find_first, handed, is_formality, is_none, is_queued, length, move_fault, next_named, none-some, num, option_map, own_end, place_in, position_none, range_fault, refl, slice_index, stand_in, subst, sym, true, unit_found, ℕ, ◌<◌, ◌∙◌, ◌∷◌, ◌≡◌, ◌≤◌}
 use Rattle.std.specs.Prelude.{All}
 use Rattle.mscp_ported.proofs.Sole.{found_all}
 

@@ -1,5 +1,5 @@
 -- A packet is written, and slots are given back.
-use Rattle.mscp_ported.proofs.Common.{Bool, Choice, Commands, Descriptor, GivesBack, Idle, IsAsNew, IsOfBlock, IsSomeAnd, List, Looks, Marks, MatchOption, Message, None, Ok, Option, Outcome, Outgoing, OutgoingKind, Packet, Port, Read, Responses, Rings, Said, Side, Slot, Some, StandInOrder, Taken, Talk, Tells, Turn, Went, Wish, Written, [], address_in, ap, append-nil, arith, begins, cond, connection_of, connection_told, credits_by, credits_in, credits_with, false, given_turn, hears_of, inl, inr, is_flagged, is_owned, left_after, length, length-append, length-map, map, map-append, message_slot, message_text, mod-add-mod, none-some, not, packet_of, packet_slot, packet_with, refl, said_in, slots_in, slots_of, subst, sym, text_of, true, written, ℕ, ◌%◌, ◌++◌, ◌+◌, ◌-◌, ◌==◌, ◌∙◌, ◌∷◌, ◌≡◌}
+use Rattle.mscp_ported.proofs.Common.{Choice, Commands, Descriptor, GivesBack, IsAsNew, IsOfBlock, IsSomeAnd, List, MatchOption, Message, None, Ok, Option, Outcome, Outgoing, OutgoingKind, Packet, Port, Read, Responses, Rings, Said, Side, Slot, Some, StandInOrder, Taken, Talk, Tells, Turn, Went, Wish, Written, [], address_in, ap, append-nil, arith, begins, connection_of, connection_told, credits_by, credits_in, credits_with, given_turn, hears_of, inl, inr, is_owned, left_after, length, length-append, length-map, map, map-append, message_slot, message_text, mod-add-mod, none-some, packet_of, packet_slot, refl, said_in, subst, sym, text_of, true, written, ℕ, ◌%◌, ◌++◌, ◌+◌, ◌-◌, ◌∙◌, ◌∷◌, ◌≡◌}
 use Rattle.mscp_port.specs.declared.action.Action.TheVariants as actions
 use Rattle.mscp_port.specs.declared.port.OutgoingKind.TheVariants as kinds
 use Rattle.mscp_port.specs.declared.stage.Stage.TheVariants as stages

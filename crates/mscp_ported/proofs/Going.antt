@@ -1,6 +1,5 @@
 -- What follows an action of the port's that went somehow.
-use Rattle.mscp_ported.proofs.Common.{Action, Bool, Choice, Due, Idle, IsOutcomeOf, List, Marks, Moves, None, Ok, Outcome, Port, Said, Side, Some, Talk, Task, Went, Wish, [], ap, arith, block_begun, block_served, cond, false, interrupted, interrupts, map, message_text, refl, subst, sym, true, ℕ, ◌%◌, ◌*◌, ◌++◌, ◌==◌, ◌∙◌, ◌≡◌}
-use Rattle.mscp_port.specs.declared.action.Action.TheVariants as actions
+use Rattle.mscp_ported.proofs.Common.{Action, Bool, Choice, Due, Idle, IsOutcomeOf, List, Marks, Moves, None, Ok, Outcome, Port, Said, Side, Some, Talk, Task, Went, Wish, [], ap, arith, block_begun, block_served, cond, false, interrupts, map, message_text, refl, subst, sym, true, ℕ, ◌%◌, ◌*◌, ◌++◌, ◌==◌, ◌∙◌, ◌≡◌}
 use Rattle.mscp_port.specs.declared.task.Task.TheVariants as tasks
 use Rattle.mscp_ported.specs.Talk.{done_by}
 use Rattle.mscp_ported.proofs.After.{After, same_stage}

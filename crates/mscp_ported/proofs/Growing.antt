@@ -1,5 +1,5 @@
 -- What begins to go out by a call of a port, and which ends its controller has more then.
-use Rattle.mscp_ported.proofs.Common.{AllByRecursion, Call, Deals, End, List, None, Ok, Option, Outgoing, PassesOn, Pending, Port, Some, TakesPoll, WasRead, [], accepted_by, ap, append-nil, arith, begins, ends_said_by, figure_on, flat_map, inl, inr, map, map-append, num, pending_end, pending_held, pending_in, pending_said, said_in, sym, ℕ, ◌++◌, ◌∙◌, ◌∷◌, ◌≡◌, ◌≤◌, ◌⊎◌}
+use Rattle.mscp_ported.proofs.Common.{AllByRecursion, Call, Deals, End, List, None, Ok, Option, Outgoing, PassesOn, Pending, Port, Some, TakesPoll, WasRead, [], accepted_by, ap, append-nil, arith, begins, ends_said_by, figure_on, flat_map, map, map-append, num, pending_end, pending_in, said_in, ℕ, ◌++◌, ◌∙◌, ◌∷◌, ◌≡◌, ◌≤◌, ◌⊎◌}
 use Rattle.mscp_ported.proofs.Coming.{ends_of}
 
 -- ---- what begins to go out

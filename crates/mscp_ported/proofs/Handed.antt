@@ -1,5 +1,5 @@
 -- A message as it is handed over to the controller, case by case.
-use Rattle.mscp_ported.proofs.Common.{Bool, List, Shape, arith, asks_for_next, cond, drop, false, handed, is_formality, length, little_bytes, next_unit, num, refl, slice_index, stand_in, take, true, ℕ, ◌++◌, ◌∷◌, ◌≡◌, ◌≤◌}
+use Rattle.mscp_ported.proofs.Common.{List, Shape, arith, asks_for_next, drop, false, handed, is_formality, length, little_bytes, num, refl, slice_index, stand_in, take, true, ℕ, ◌++◌, ◌∷◌, ◌≡◌, ◌≤◌}
 
 -- another unit is named in it
 abbrev pub renamed : List ℕ → ℕ → List ℕ

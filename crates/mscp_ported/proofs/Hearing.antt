@@ -1,11 +1,10 @@
 -- What follows when bytes of a host's memory were read.
-use Rattle.mscp_ported.proofs.Common.{Action, Bool, Commands, Descriptor, Err, Idle, IfSome, IsAsNew, IsOfBlock, IsSomeAnd, List, Looks, Marks, MatchOption, Message, None, Ok, Opened, Option, Outgoing, Packet, Port, Read, Reads, Responses, Result, Rings, Said, SeesText, Side, Slot, Some, Taken, Talk, Task, Turn, WasRead, Wish, [], accepted_by, accepted_text, accepts, address_in, answered_to, ap, append-nil, arith, begins, bytes_read, cond, connection_in, false, header_fault, inl, inr, is_dead, is_owned, length, length_in, map, message_text, mod-lt, none-some, num, own_end_of, read_by, read_size, read_turn, refl, said_in, side_at, slot_in, slot_read, stays, stepped, subst, sym, takes, true, ℕ, ◌++◌, ◌==◌, ◌∙◌, ◌∷◌, ◌≡◌, ◌≢◌, ◌≤◌, ◌⊎◌, Own}
+use Rattle.mscp_ported.proofs.Common.{Bool, Commands, Descriptor, Err, Idle, IsAsNew, IsOfBlock, List, Looks, Marks, MatchOption, Message, None, Ok, Opened, Option, Outgoing, Packet, Port, Read, Reads, Responses, Result, Rings, Said, SeesText, Side, Slot, Some, Taken, Talk, Task, Turn, WasRead, Wish, [], accepted_by, accepted_text, accepts, answered_to, ap, append-nil, arith, begins, bytes_read, cond, connection_in, false, header_fault, inl, inr, is_owned, length, length_in, map, message_text, mod-lt, none-some, num, own_end_of, read_by, read_size, read_turn, refl, said_in, side_at, slot_in, stays, subst, sym, takes, true, ℕ, ◌++◌, ◌==◌, ◌∙◌, ◌∷◌, ◌≡◌, ◌≢◌, ◌≤◌, ◌⊎◌}
 use Rattle.mscp_controller.specs.declared.entry.Sent.TheVariants as sents
-use Rattle.mscp_port.specs.declared.action.Action.TheVariants as actions
 use Rattle.mscp_port.specs.declared.stage.Stage.TheVariants as stages
 use Rattle.mscp_port.specs.declared.task.Task.TheVariants as tasks
 use Rattle.mscp_ported.proofs.After.{After, IsNoReset, alters, none_said, say_on, same_stage}
-use Rattle.mscp_ported.proofs.Look.{AreTold, Counts, Fits, Hears, InStep, IsAsked, IsClear, IsOfRings, IsOpen, IsOwned, IsRead, IsWide, IsTelling, Look, NeedsOut, given_at, in_hand, is_loud, look, slot_at, told_on}
+use Rattle.mscp_ported.proofs.Look.{AreTold, Counts, Fits, Hears, InStep, IsAsked, IsClear, IsOfRings, IsOwned, IsRead, IsTelling, Look, NeedsOut, given_at, in_hand, is_loud, look, slot_at, told_on}
 use Rattle.mscp_ported.proofs.Counting.{place_so}
 use Rattle.mscp_ported.proofs.Plain.{dies}
 
@@ -33,7 +32,8 @@ pub up_step : (l : Look) (t : Talk) (w : Option Wish) (said said' : List Said) (
       outgoing = outgoing;
       untold = untold;
     }) (record t { turn = turn; told = told; heard = heard }) None said' texts'
-up_step l t w said said' texts texts' responses commands task outgoing untold turn told heard k up counts fits own has clear no_block tells hears =
+up_step l t w said said' texts texts' responses commands task outgoing untold
+    turn told heard k up counts fits own has clear no_block tells hears =
     grind (arith, is_loud)
 
 -- a slot's address lies in its ring

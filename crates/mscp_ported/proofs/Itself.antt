@@ -1,6 +1,6 @@
 -- An answer of the port's own has the number of its message, and is whole.
-use Rattle.mscp_ported.proofs.Common.{BodyKind, Bool, Call, IsWhole, List, None, Option, Own, Some, Stage, Volume, WriteIp, [], and_parts, ap, arith, asks_nothing, blocks, cond, end_length, eqb-true, false, four, inl, inr, is_dead, is_none, kind_of_code, length, little_bytes, moves_data, none-some, num, option_map, own_answer, own_refusal, own_text, past_end, refl, replicate, same_Some, since, slice_index, subst, sym, true, ℕ, ◌++◌, ◌+◌, ◌<◌, ◌==◌, ◌^◌, ◌||◌, ◌∙◌, ◌∷◌, ◌≡◌, ◌≢◌, ◌≤◌, ◌⊎◌}
-use Rattle.std.specs.Prelude.{◌&&◌, nat_le, nat_lt}
+use Rattle.mscp_ported.proofs.Common.{BodyKind, Bool, Call, IsWhole, List, Option, Own, Some, Stage, Volume, WriteIp, [], and_parts, ap, arith, asks_nothing, cond, end_length, eqb-true, false, four, is_dead, kind_of_code, length, moves_data, none-some, num, own_answer, own_text, refl, same_Some, since, slice_index, true, ℕ, ◌++◌, ◌+◌, ◌<◌, ◌==◌, ◌^◌, ◌||◌, ◌≡◌, ◌≢◌, ◌≤◌, ◌⊎◌}
+use Rattle.std.specs.Prelude.{nat_le}
 
 pub own_number : (b : List ℕ) (own : Own) → num b 0 4 < 2 ^ 32 → num (own_text b own) 0 4 ≡ num b 0 4
 own_number b own small = four (num b 0 4) small

@@ -1,11 +1,10 @@
 -- What is kept of a command after each call: its blocks so far were moved at their places.
-use Rattle.mscp_ported.proofs.Common.{Action, Answered, AsksAlways, Block, Bool, Buffer, Call, Connection, Contains, Drive, End, Err, First, Hardware, Holdings, IsMadeOf, IsStepping, List, MoveKind, Name, Next, None, Ok, Option, Order, Outcome, Picking, Port, Record, Says, Some, Task, Verdict, WasRead, Went, WriteIp, [], advanced, ap, arith, asked, begun_step, block_told, buffer_in, comes, cond, done_by, end_given, false, filter, given, goes_on, inl, inr, is_done, is_first, is_moving, is_numbered, is_of, is_step_of, kept_after, left_of, looks_or_not, min, moved, name_of, name_on, none-some, not_of, num, order_weight, outcome_at, record_at, refl, same_Some, same_is, same_name, subst, suc, sym, transfers, true, upcoming_begun, wanted, wish, without_among, ℕ, ◌*◌, ◌++◌, ◌+◌, ◌-◌, ◌<◌, ◌∙◌, ◌∷◌, ◌≡◌, ◌≢◌, ◌≤◌}
+use Rattle.mscp_ported.proofs.Common.{Action, Answered, AsksAlways, Block, Bool, Buffer, Call, Connection, Contains, Drive, End, First, Hardware, Holdings, IsMadeOf, IsStepping, List, MoveKind, Name, Next, None, Ok, Option, Order, Outcome, Picking, Port, Record, Says, Some, Verdict, WasRead, Went, WriteIp, [], advanced, ap, arith, asked, begun_step, block_told, buffer_in, comes, done_by, end_given, false, filter, given, inl, inr, is_done, is_first, is_moving, is_numbered, is_of, is_step_of, kept_after, left_of, looks_or_not, min, moved, name_of, name_on, none-some, not_of, num, order_weight, record_at, refl, same_Some, same_is, same_name, subst, sym, true, wanted, wish, without_among, ℕ, ◌*◌, ◌++◌, ◌+◌, ◌-◌, ◌<◌, ◌∙◌, ◌∷◌, ◌≡◌, ◌≢◌, ◌≤◌}
 use Rattle.mscp_ported.proofs.Stepping.{IsHow, Serves, drive_in, went_is}
 use Rattle.mscp_ported.proofs.Staying.{IsPassive, passive_stays}
 use Rattle.mscp_packet.specs.declared.command.MoveKind.TheVariants as moves
 use Rattle.mscp_packet.specs.declared.command.Order.TheVariants as orders
 use Rattle.mscp_port.specs.declared.action.Action.TheVariants as actions
-use Rattle.mscp_port.specs.declared.task.Task.TheVariants as tasks
 use Rattle.mscp_ported.proofs.Transferring.{goes_on_so, moves_so, no_done, none_moving, other_step, told_so}
 use Rattle.mscp_ported.proofs.Moving.{Steps, steps}
 use Rattle.mscp_ported.proofs.Owning.{AreOwned, Own, Owned, carries, nothing_kept, number_of, parts_of, quiet, read_owned}

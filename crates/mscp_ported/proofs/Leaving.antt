@@ -1,5 +1,5 @@
 -- Ends that come by a message or by a step, and go out as something is wanted.
-use Rattle.mscp_ported.proofs.Common.{Bool, Connection, Decided, End, First, Hardware, Leaving, List, MayBegin, None, Option, Port, Says, Second, Shape, Some, Verdict, [], ap, append-nil, append_assoc, arith, cond, decided_ended, drop, end_left, end_text, end_told, ends_begun, false, inl, inr, is_dead, length, length-append, map, map-append, nat_lt, none-some, refl, same_Some, slice_get, sym, told_end, true, unit_found, ℕ, ◌++◌, ◌+◌, ◌∙◌, ◌∷◌, ◌≡◌, ◌≤◌}
+use Rattle.mscp_ported.proofs.Common.{Connection, Decided, End, Hardware, Leaving, List, MayBegin, Option, Port, Says, Shape, Some, Verdict, [], ap, append-nil, append_assoc, arith, decided_ended, drop, end_text, ends_begun, false, inl, inr, is_dead, length, length-append, map, map-append, nat_lt, none-some, refl, same_Some, slice_get, sym, told_end, true, ℕ, ◌++◌, ◌+◌, ◌∙◌, ◌∷◌, ◌≡◌, ◌≤◌}
 use Rattle.mscp_ported.proofs.Coming.{brought_for, ends_of}
 use Rattle.mscp_ported.proofs.Ending.{Ends, Grows, left_with, zipped}
 use Rattle.mscp_ported.proofs.Tables.{decided_by, text_so}

@@ -1,5 +1,5 @@
 -- What a port makes of its controller by each of its own calls.
-use Rattle.mscp_ported.proofs.Common.{Becomes, Call, Err, Makes, Next, Ok, Picking, Port, WasRead, Went, WriteIp, [], inl, inr, refl, arith}
+use Rattle.mscp_ported.proofs.Common.{Becomes, Call, Err, Makes, Next, Ok, Picking, Port, WasRead, Went, WriteIp, [], inl, inr, refl}
 use Rattle.mscp_port.specs.declared.stage.Stage.TheVariants as stages
 use Rattle.mscp_ported.proofs.Beginning.{next}
 use Rattle.mscp_ported.proofs.Making.{Follows, was_read, went}

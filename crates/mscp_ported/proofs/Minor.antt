@@ -1,5 +1,5 @@
 -- Calls that change no more of a port than what is in hand or a volume.
-use Rattle.mscp_ported.proofs.Common.{Becomes, Call, Err, IsAsNew, LookAgain, Next, None, Ok, Option, Picking, Port, Protect, PutAside, ReadIp, Tick, Volume, VolumeCame, VolumeWent, WasRead, Went, WriteIp, WriteSa, ap, aside, blocks, false, inl, inr, place_in, read_again, refl, step_at, volume_changed, volume_protected, volume_put, volumes_with, ℕ, ◌≡◌, ◌⊎◌, arith}
+use Rattle.mscp_ported.proofs.Common.{Becomes, Call, Err, IsAsNew, LookAgain, Next, None, Ok, Option, Picking, Port, Protect, PutAside, ReadIp, Tick, Volume, VolumeCame, VolumeWent, WasRead, Went, WriteIp, WriteSa, ap, aside, blocks, false, inl, inr, place_in, read_again, refl, step_at, volume_changed, volume_protected, volume_put, volumes_with, ℕ, ◌≡◌, ◌⊎◌}
 use Rattle.mscp_port.specs.declared.stage.Stage.TheVariants as stages
 
 -- neither a write or a read of the registers, nor something that is wanted, nor a report that was taken

@@ -1,9 +1,9 @@
 -- A unit that is online was brought online with the volume that is in it.
-use Rattle.mscp_ported.proofs.Common.{Answered, Bool, Buffer, Call, Connection, Contains, End, First, Hardware, Holdings, IsMadeOf, IsOnline, List, None, Option, Picking, Port, Second, Shape, Some, Succeeds, Volume, WriteIp, [], ap, arith, brought_online, cond, eq-eqb, eqb-true, false, false≢true, inl, inr, is_of, kept_found, kept_of, none-some, of_first, place_heeded, place_in, position, protected_by, refl, same_Some, set, settings_stay, subst, sym, true, volume_at, volume_heeded, volumes_after, volumes_heeded, volumes_with, ℕ, ◌%◌, ◌/◌, ◌<◌, ◌==◌, ◌∙◌, ◌∷◌, ◌≡◌, ◌≢◌, ◌⊎◌, changed_by}
+use Rattle.mscp_ported.proofs.Common.{Answered, Bool, Buffer, Call, Connection, End, First, Hardware, Holdings, IsMadeOf, IsOnline, List, None, Option, Picking, Port, Shape, Some, Succeeds, Volume, WriteIp, [], ap, arith, cond, eq-eqb, eqb-true, false, false≢true, inl, inr, kept_found, kept_of, none-some, of_first, place_heeded, place_in, refl, same_Some, set, settings_stay, subst, sym, true, volume_at, volume_heeded, volumes_after, volumes_heeded, volumes_with, ℕ, ◌%◌, ◌<◌, ◌==◌, ◌∙◌, ◌∷◌, ◌≡◌, ◌≢◌, ◌⊎◌, changed_by}
 use Rattle.mscp_ported.proofs.Changing.{other_unit, same_unit}
 use Rattle.mscp_ported.proofs.Coming.{brought_for}
 pub use Rattle.mscp_ported.proofs.Volumes.{Ended}
-use Rattle.mscp_ported.proofs.Volumes.{Elsewhere, Forgets, Heeds, Here, Past, Remounted, Rests, SetAt, Switches, Tunes, none_ended, remounted, set_at}
+use Rattle.mscp_ported.proofs.Volumes.{Forgets, Heeds, Remounted, Rests, Switches, Tunes, none_ended, remounted, set_at}
 
 -- ---- a volume
 

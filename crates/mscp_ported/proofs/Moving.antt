@@ -1,6 +1,6 @@
 -- A block of which the controller is told that it went well was moved.
-use Rattle.mscp_ported.proofs.Common.{Action, Answered, AsksAlways, Becomes, Bool, Buffer, Call, Dies, Drops, Hardware, Holdings, IfSome, IsAlive, IsMadeOf, IsOfBlock, IsWanted, Leaves, List, MoveKind, Next, None, Ok, Option, Picking, Port, ReadIp, Shape, Some, Task, Upcoming, Verdict, Volume, WasRead, Went, Wish, WriteIp, WriteSa, [], ap, arith, aside, begun_step, begun_task, block_begun, blocks, inl, inr, kept_of, move_wanted, moved_step, part_at, part_wanted, place_in, read_again, refl, step_again, step_at, subst, sym, volumes_with, wish, ℕ, ◌∙◌, ◌∷◌, ◌≡◌, ◌⊎◌}
-use Rattle.mscp_ported.proofs.Minor.{GivesUp, Minor, Mounts, PutsAside, ReadsAgain, Still, minor}
+use Rattle.mscp_ported.proofs.Common.{Action, Answered, AsksAlways, Becomes, Bool, Call, Dies, Drops, Hardware, Holdings, IfSome, IsMadeOf, IsOfBlock, Leaves, List, Next, None, Ok, Option, Picking, Port, ReadIp, Some, Task, Verdict, Volume, WasRead, Went, Wish, WriteIp, WriteSa, [], ap, arith, aside, begun_step, begun_task, block_begun, blocks, inl, inr, move_wanted, read_again, refl, step_again, step_at, subst, volumes_with, wish, ℕ, ◌∷◌, ◌≡◌, ◌⊎◌}
+use Rattle.mscp_ported.proofs.Minor.{Minor, minor}
 use Rattle.mscp_port.specs.declared.action.Action.TheVariants as actions
 use Rattle.mscp_port.specs.declared.stage.Stage.TheVariants as stages
 use Rattle.mscp_port.specs.declared.task.Task.TheVariants as tasks

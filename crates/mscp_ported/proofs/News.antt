@@ -1,7 +1,7 @@
 -- A port has no news of a unit that is online, or that has no volume.
-use Rattle.mscp_ported.proofs.Common.{Answered, Becomes, Bool, Buffer, Call, Connection, End, Hardware, Holdings, IsAvailable, IsMadeOf, IsNews, IsSomeAnd, IsUnitList, List, Next, None, Ok, Option, Outgoing, OutgoingKind, Picking, Port, ReadIp, Says, Shape, Some, TellsNews, Volume, WasRead, Went, WriteIp, WriteSa, [], ap, arith, attention, blocks, brought_online, cond, end_bytes, end_kind, eqb-true, false, false≢true, inl, inr, length, looks_or_not, news_place, no_volume, none-some, option_map, own_end_of, position, protected_by, refl, same_Some, set, settings_still, slice_get, subst, suc, sym, true, volume_at, volume_heeded, volume_reset, volumes_after, volumes_heeded, volumes_with, zero, ℕ, ◌<◌, ◌==◌, ◌∙◌, ◌∷◌, ◌≡◌, ◌≤◌}
+use Rattle.mscp_ported.proofs.Common.{Answered, Becomes, Bool, Buffer, Call, Connection, End, Hardware, Holdings, IsAvailable, IsMadeOf, IsNews, IsSomeAnd, IsUnitList, List, None, Option, Outgoing, OutgoingKind, Picking, Port, Says, Shape, Some, TellsNews, Volume, [], ap, arith, attention, cond, end_bytes, end_kind, eqb-true, false, false≢true, length, looks_or_not, news_place, none-some, option_map, protected_by, refl, same_Some, set, settings_still, slice_get, subst, suc, sym, true, volume_at, volume_heeded, volumes_after, volumes_heeded, volumes_with, zero, ℕ, ◌<◌, ◌==◌, ◌∙◌, ◌∷◌, ◌≡◌, ◌≤◌}
 use Rattle.mscp_ported.proofs.Minor.{minor, minor_out}
-use Rattle.mscp_ported.proofs.Volumes.{Elsewhere, Forgets, Heeds, Here, Past, Remounted, Rests, SetAt, Switches, Tunes, remounted, set_at}
+use Rattle.mscp_ported.proofs.Volumes.{Remounted, remounted, set_at}
 use Rattle.std.specs.Prelude.{◌/◌, ◌%◌}
 use Rattle.std.proofs.lemmas.List.Quantifiers.{position-Some}
 use Rattle.mscp_port.specs.declared.port.OutgoingKind.TheVariants as kinds

@@ -1,5 +1,5 @@
 -- How an end was made that waits: of which command, what its message was, and with which status it is told.
-use Rattle.mscp_ported.proofs.Common.{Bool, Buffer, Command, Drive, First, Holdings, Leaving, List, None, Option, Record, Settings, Some, Verdict, Volume, aborted_record, advanced, answered_end, ap, arith, block_told, code_told, command_of, cond, drive_of, end_given, ends_formality, false, figure_polled, fresh_record, handed, is_formality, is_queued, length, order_weight, refl, slice_index, status_told, subst, sym, true, ℕ, ◌+◌, ◌<◌, ◌^◌, ◌∙◌, ◌≡◌, ◌≤◌, ◌⊎◌}
+use Rattle.mscp_ported.proofs.Common.{Bool, Buffer, Drive, First, Holdings, Leaving, List, Option, Record, Settings, Some, Verdict, Volume, aborted_record, advanced, answered_end, ap, arith, block_told, code_told, command_of, end_given, ends_formality, false, figure_polled, fresh_record, handed, is_formality, is_queued, length, order_weight, refl, slice_index, status_told, true, ℕ, ◌+◌, ◌<◌, ◌^◌, ◌≡◌, ◌≤◌, ◌⊎◌}
 use Rattle.mscp_drive.specs.declared.block.Block.TheVariants as blocks
 use Rattle.mscp_controller.specs.Outcomes.{own_end}
 use Rattle.mscp_port.specs.declared.verdict.Verdict.TheVariants as verdicts

@@ -1,12 +1,12 @@
 -- What is wanted for what is in hand is what is due.
-use Rattle.mscp_ported.proofs.Common.{Action, Commands, Due, Err, Idle, IfSome, IsCalm, IsInArea, IsInPacket, IsLook, IsOwed, IsSomeAnd, IsWanted, IsWithin, List, Looks, Marks, MatchOption, None, Ok, Opened, Option, Outgoing, Port, Read, Responses, Result, Rings, Side, Some, Stage, Taken, Talk, Task, Turn, Written, address_in, ap, arith, block_begun, bytes_wanted, clear_count, clear_from, credits_by, credits_with, given, given_back, given_in, in_hand, inl, inr, length, little_bytes, mod-add-mod, move_wanted, packet_of, packet_out, part_now, part_wanted, refl, slot_in, slot_place, slots_of, subst, sym, text_of, word_of, word_place, zeros_out, ℕ, ◌%◌, ◌*◌, ◌+◌, ◌-◌, ◌^◌, ◌∙◌, ◌≡◌, ◌≢◌, ◌≤◌, ◌⊎◌}
+use Rattle.mscp_ported.proofs.Common.{Action, Commands, Due, Err, IfSome, IsCalm, IsOwed, IsSomeAnd, IsWanted, IsWithin, List, MatchOption, None, Ok, Option, Outgoing, Port, Responses, Result, Rings, Side, Some, Stage, Taken, Talk, Task, Turn, address_in, ap, arith, block_begun, bytes_wanted, credits_by, credits_with, given, given_back, given_in, little_bytes, mod-add-mod, move_wanted, packet_of, packet_out, part_now, part_wanted, refl, slot_in, slots_of, subst, sym, ℕ, ◌%◌, ◌*◌, ◌+◌, ◌-◌, ◌^◌, ◌∙◌, ◌≡◌, ◌≢◌, ◌≤◌}
 use Rattle.std.proofs.Common.{replicate}
 use Rattle.mscp_port.specs.declared.action.Action.TheVariants as actions
 use Rattle.mscp_port.specs.declared.stage.Stage.TheVariants as stages
 use Rattle.mscp_port.specs.declared.task.Task.TheVariants as tasks
 use Rattle.mscp_ported.specs.Owed.{GivesBack}
 use Rattle.mscp_ported.proofs.Counting.{address_mod, mod_power, place_so, slots_so, word_so}
-use Rattle.mscp_ported.proofs.Look.{Counts, Fits, IsAsked, IsClear, IsElse, IsOfRings, IsOpen, IsRead, IsWide, IsWrite, IsInterrupt, Names, NeedsOut, given_at, look, slot_at}
+use Rattle.mscp_ported.proofs.Look.{Counts, Fits, IsAsked, IsClear, IsElse, IsOfRings, IsOpen, IsWide, Names, NeedsOut, given_at, look, slot_at}
 
 -- ---- actions
 

@@ -1,7 +1,6 @@
 -- What is kept of a command was said by its own message, and its blocks so far were moved at their places.
-use Rattle.mscp_ported.proofs.Common.{Action, Answered, Bool, Buffer, Call, Command, Contains, Contains-push_cases, First, Holdings, IsLike, List, Name, None, Ok, Option, Order, Picking, Port, Record, Some, WasRead, [], ap, append-nil, arith, asked, asks_nothing, balance_of, buffer_in, changes_at, comes, command_of, cond, done_by, eq-eqb, eqb-true, false, filter, find, fresh_record, handed, handed_as_read, handed_like, inl, inr, is_first, is_formality, is_numbered, is_queued_text, length, moved, name_of, name_on, nat_eq, nat_lt, none-some, none_among, none_waits, not, not_of, num, option_map, order_weight, outstanding_of, place_in, reference_aborted, refl, same_Some, same_is, slice_index, subst, sym, taken_number, transfers, true, unaborted, waiting, wish, without_aborted, without_among, ℕ, ◌&&◌, ◌++◌, ◌<◌, ◌==◌, ◌∙◌, ◌∷◌, ◌≡◌, ◌≢◌, ◌≤◌, ◌⊎◌}
+use Rattle.mscp_ported.proofs.Common.{Action, Answered, Bool, Buffer, Call, Contains, Contains-push_cases, First, Holdings, IsLike, List, Name, None, Ok, Option, Order, Picking, Port, Record, Some, WasRead, [], ap, append-nil, arith, asked, asks_nothing, balance_of, buffer_in, changes_at, comes, command_of, cond, done_by, eq-eqb, eqb-true, false, filter, find, fresh_record, handed, handed_as_read, handed_like, inl, inr, is_first, is_formality, is_numbered, is_queued_text, length, moved, name_of, name_on, nat_eq, nat_lt, none-some, none_among, none_waits, not, not_of, num, option_map, order_weight, outstanding_of, place_in, reference_aborted, refl, same_Some, same_is, slice_index, subst, sym, taken_number, transfers, true, unaborted, waiting, wish, without_aborted, without_among, ℕ, ◌&&◌, ◌++◌, ◌<◌, ◌==◌, ◌∙◌, ◌∷◌, ◌≡◌, ◌≢◌, ◌≤◌, ◌⊎◌}
 use Rattle.mscp_packet.specs.declared.command.Order.TheVariants as orders
-use Rattle.mscp_ported.specs.Transfers.{text_of}
 use Rattle.mscp_ported.proofs.Reading.{Gets, Queues, and_false, answered_now, command_in, not_queued, queued_later, read_is}
 use Rattle.mscp_ported.proofs.Sole.{Alike, found_sole, itself, none_passes, sole_beside, sole_comes, sole_left, sole_passes}
 

@@ -1,9 +1,7 @@
 -- A part of what is kept of a command, where its block may be moved.
-use Rattle.mscp_ported.proofs.Common.{Bool, Buffer, Err, IfSome, MoveKind, None, Ok, Option, Some, Verdict, Volume, ap, arith, asks_nothing, changed_verdict, cond, false, fault_with, faulted, has_changed, is_formality, min, nat_eq, nat_lt, none-some, part_of, part_with, refl, refusal_of, same_Some, sym, true, unless_fault, ℕ, ◌*◌, ◌+◌, ◌-◌, ◌<◌, ◌≡◌, ◌≢◌, ◌≤◌}
-use Rattle.std.proofs.Common.{◌||◌}
+use Rattle.mscp_ported.proofs.Common.{Buffer, Err, IfSome, MoveKind, Ok, Some, Verdict, Volume, arith, asks_nothing, changed_verdict, false, fault_with, min, nat_eq, none-some, part_of, part_with, refusal_of, ℕ, ◌*◌, ◌+◌, ◌-◌, ◌<◌, ◌≡◌, ◌≢◌, ◌≤◌}
 use Rattle.mscp_drive.specs.declared.block.Block.TheVariants as blocks
 use Rattle.mscp_port.specs.declared.verdict.Verdict.TheVariants as verdicts
-use Rattle.mscp_port.specs.Buffers.{left_of}
 
 -- ---- parts of buffers
 

@@ -1,9 +1,9 @@
 -- Calls that report no action: what is in step stays so.
-use Rattle.mscp_ported.proofs.Common.{Call, Idle, IfSome, IsAsNew, IsOfBlock, List, None, Option, Port, Said, Some, Stage, Talk, Task, Turn, Wish, WriteIp, [], ap, arith, aside, false, inl, inr, is_dead, map, message_text, option_to_list, read_again, refl, said_in, silence, step_at, stepped, subst, sym, talk_after, ℕ, ◌++◌, ◌∙◌, ◌≡◌, ◌⊎◌, true, ◌≢◌}
+use Rattle.mscp_ported.proofs.Common.{Call, IfSome, IsAsNew, List, None, Option, Port, Said, Some, Stage, Talk, Task, Turn, Wish, WriteIp, [], ap, arith, aside, false, inl, inr, is_dead, read_again, refl, silence, step_at, stepped, subst, sym, ℕ, ◌≡◌, ◌⊎◌, true, ◌≢◌}
 use Rattle.mscp_port.specs.declared.stage.Stage.TheVariants as stages
 use Rattle.mscp_port.specs.declared.task.Task.TheVariants as tasks
 use Rattle.mscp_ported.proofs.After.{After, IsNoReset, IsPlain, ends, unmoved}
-use Rattle.mscp_ported.proofs.Look.{Fits, HasLeft, InStep, IsAsked, IsClear, IsEnd, IsOfRings, IsOpen, IsOwned, IsSimple, IsTelling, IsWide, Look, NeedsOut, block_rings, has_area, in_hand, look, told_on}
+use Rattle.mscp_ported.proofs.Look.{Fits, InStep, IsAsked, IsClear, IsEnd, IsOfRings, IsOpen, IsOwned, IsSimple, IsTelling, Look, NeedsOut, block_rings, has_area, in_hand, look, told_on}
 
 -- ---- all was forgotten
 

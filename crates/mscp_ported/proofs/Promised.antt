@@ -1,5 +1,5 @@
 -- What is promised of the controller in a port.
-use Rattle.mscp_ported.proofs.Common.{Answered, AnsweredCalls, AnswersCall, AreMade, Begin, Call, Choice, ControllersKeepThePromise, Err, Finish, Hardware, Holdings, IsMadeOf, IsValid, KeepsPromise, Line, List, Made, None, Ok, Picking, Plain, Port, Settings, Some, [], ap, fresh, inl, inr, owner_kept, refl, subst, sym, ℕ, ◌++◌, ◌∙◌, ◌∷◌, ◌≡◌, arith}
+use Rattle.mscp_ported.proofs.Common.{Answered, AnsweredCalls, AnswersCall, AreMade, Begin, Call, Choice, ControllersKeepThePromise, Err, Finish, Hardware, Holdings, IsMadeOf, IsValid, KeepsPromise, Line, List, Made, None, Ok, Picking, Plain, Port, Settings, Some, [], ap, fresh, inl, inr, owner_kept, refl, subst, ℕ, ◌++◌, ◌∙◌, ◌∷◌, ◌≡◌, arith}
 use Rattle.mscp_drive.specs.declared.event.Event.TheVariants as events
 use Rattle.mscp_controller.specs.declared.entry.Entry.TheVariants as entries
 use Rattle.mscp_ported.proofs.Made.{follows}

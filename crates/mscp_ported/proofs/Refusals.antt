@@ -1,8 +1,7 @@
 -- Which messages find a credit, and that an end which is answered at once tells no greater figure.
-use Rattle.mscp_ported.proofs.Common.{BodyKind, Bool, Command, List, None, Option, Order, SendFault, Settings, Some, answer_body, arith, cond, endcode, false, figure_in, kind_of_code, length, nat_eq, nat_lt, none-some, num, own_end_with, refl, refusal, slice_index, true, zero_body, ℕ, ◌*◌, ◌+◌, ◌<◌, ◌^◌, ◌≡◌, ◌≤◌}
+use Rattle.mscp_ported.proofs.Common.{BodyKind, Bool, Command, List, None, Option, SendFault, Settings, Some, arith, cond, figure_in, none-some, num, own_end_with, refl, refusal, slice_index, true, zero_body, ℕ, ◌<◌, ◌^◌, ◌≡◌, ◌≤◌}
 use Rattle.mscp_packet.specs.declared.end.BodyKind.TheVariants as kinds_of
 use Rattle.mscp_controller.specs.declared.entry.SendFault.TheVariants as faults
-use Rattle.mscp_packet.specs.declared.command.Order.TheVariants as orders
 
 pub num_small : (b : List ℕ) → ((i : ℕ) → slice_index b i < 2 ^ 8) → num b 12 4 < 2 ^ 32
 num_small b h = grind arith

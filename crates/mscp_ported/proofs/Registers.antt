@@ -1,9 +1,9 @@
 -- What follows when a host reads and writes registers.
-use Rattle.mscp_ported.proofs.Common.{Bool, IfSome, List, None, Option, Port, ReadIp, ReadsIp, Rings, Said, Some, Stage, Talk, Task, Turn, Wish, WriteSa, WritesSa, [], answered, ap, append-nil, arith, cond, false, inl, inr, is_dead, map, message_text, nat_lt, none-some, refl, stepped, subst, sym, true, ℕ, ◌%◌, ◌++◌, ◌==◌, ◌∙◌, ◌≡◌, ◌≢◌, ◌⊎◌}
+use Rattle.mscp_ported.proofs.Common.{Bool, List, None, Option, Port, ReadIp, ReadsIp, Rings, Said, Some, Stage, Talk, Task, Turn, Wish, WriteSa, WritesSa, [], answered, ap, append-nil, arith, cond, false, inl, inr, is_dead, nat_lt, none-some, refl, stepped, subst, sym, true, ℕ, ◌%◌, ◌==◌, ◌∙◌, ◌≡◌, ◌≢◌, ◌⊎◌}
 use Rattle.mscp_port.specs.declared.stage.Stage.TheVariants as stages
 use Rattle.mscp_port.specs.declared.task.Task.TheVariants as tasks
 use Rattle.mscp_ported.proofs.After.{After, IsNoReset, IsPlain, alters, none_said, same_stage}
-use Rattle.mscp_ported.proofs.Look.{Fits, Hand, InStep, IsAsked, IsClear, IsOfRings, IsOpen, IsTelling, Look, has_area, in_hand, is_early, is_loud, look, told_on}
+use Rattle.mscp_ported.proofs.Look.{Fits, Hand, InStep, IsOpen, IsTelling, Look, has_area, in_hand, is_early, is_loud, look, told_on}
 use Rattle.mscp_ported.proofs.Plain.{again_so, dies, lets_be, same_port}
 
 -- ---- the stage becomes another

@@ -1,12 +1,11 @@
 -- In which ports the ring of responses wasn't found full, and no step of the initialisation waits.
-use Rattle.mscp_ported.proofs.Common.{Answered, AsksAlways, Becomes, Call, Choice, Commands, Hardware, HasRoom, Holdings, IsGiven, IsMadeOf, List, LookAgain, Next, None, Ok, Outcome, Picking, Port, ReadIp, Responses, Tick, WasRead, Went, WriteIp, WriteSa, [], ap, arith, blocks, false, false≢true, given, inl, inr, of, refl, sym, taken_or_not, true, written, ℕ, ◌∙◌, ◌∷◌, ◌≡◌, More}
-use Rattle.mscp_ported.proofs.Minor.{GivesUp, Minor, Mounts, PutsAside, ReadsAgain, Still, minor}
-use Rattle.mscp_controller.specs.declared.entry.Sent.TheVariants as sents
+use Rattle.mscp_ported.proofs.Common.{Answered, AsksAlways, Becomes, Call, Choice, Hardware, HasRoom, Holdings, IsGiven, IsMadeOf, List, LookAgain, Next, None, Ok, Outcome, Picking, Port, ReadIp, Tick, WasRead, Went, WriteIp, WriteSa, [], ap, arith, blocks, false, false≢true, given, inl, inr, refl, sym, taken_or_not, true, written, ℕ, ◌∙◌, ◌∷◌, ◌≡◌}
+use Rattle.mscp_ported.proofs.Minor.{minor}
 use Rattle.mscp_port.specs.declared.stage.Stage.TheVariants as stages
 use Rattle.mscp_ported.proofs.Following.{asked_before, in_step}
-use Rattle.mscp_ported.proofs.Deeds.{Deed, Eases, Fails, GivesSlot, IsClear, ServesStep, StepsOn, WritesPacket, deed}
-use Rattle.mscp_ported.proofs.Sights.{IsAnswered, IsFault, IsSent, Seen, Slides, StaysInSlot, sight}
-use Rattle.mscp_ported.proofs.Touching.{Breaks, IsStage, IsWord, Polls, ToClear, Touched, Untouched, is_late, read_ip, wrote_sa}
+use Rattle.mscp_ported.proofs.Deeds.{Deed, IsClear, deed}
+use Rattle.mscp_ported.proofs.Sights.{Seen, sight}
+use Rattle.mscp_ported.proofs.Touching.{Touched, is_late, read_ip, wrote_sa}
 
 -- ---- room
 

@@ -1,5 +1,5 @@
 -- The bytes with which an end leaves say what it says.
-use Rattle.mscp_ported.proofs.Common.{AllByRecursion, BodyKind, Bool, Decided, End, EndBody, IsOfKind, List, Option, Port, Record, Settings, Shape, Some, Verdict, ap, arith, cond, end_bytes, end_left, end_with_body, endcodes, ends_formality, eq-eqb, eqb-true, false, figure_in, four, head, inl, inr, kind_of_body, kind_of_code, length, nat_eq, num, refl, slice_get, slice_index, sym, told_end, true, unit_found, ℕ, ◌∙◌, ◌≡◌, ◌≤◌, ◌⊎◌, subst}
+use Rattle.mscp_ported.proofs.Common.{BodyKind, Bool, Decided, End, EndBody, IsOfKind, List, Option, Port, Record, Settings, Shape, Some, Verdict, ap, arith, cond, end_bytes, end_left, end_with_body, ends_formality, eq-eqb, eqb-true, false, figure_in, four, head, inl, inr, kind_of_body, kind_of_code, length, nat_eq, num, refl, slice_get, slice_index, sym, told_end, true, unit_found, ℕ, ◌∙◌, ◌≡◌, ◌≤◌, ◌⊎◌, subst}
 use Rattle.mscp_packet.specs.declared.end.BodyKind.TheVariants as kinds_of
 use Rattle.mscp_packet.specs.declared.end.EndBody.TheVariants as bodies
 use Rattle.mscp_port.proofs.Common.{same_Some}

@@ -1,13 +1,13 @@
 -- Whoever always asks for blocks has a step told between two polls of a command that waits.
-use Rattle.mscp_ported.proofs.Common.{Action, Answered, AsksBehindPolls, AsksForBlocks, Becomes, Bool, Call, Descriptor, First, Hardware, Hears, Holdings, IsAsNew, IsMadeOf, IsReadingText, IsServedSince, IsStepping, List, Next, Ok, Picking, Port, ReadIp, Record, Sends, Sent, ServesBetweenPolls, TakesPoll, Task, TellsStep, Wants, WasRead, Went, WriteIp, WriteSa, [], ap, arith, blocks, cond, eq-eqb, false, false≢true, figure_of_name, figure_on, inl, inr, is_dead, is_queued, name_on, refl, slice_index, subst, sym, takes, true, ℕ, ◌∙◌, ◌∷◌, ◌≡◌, ◌≢◌, ◌≤◌, ◌⊎◌}
-use Rattle.mscp_ported.proofs.Minor.{GivesUp, Minor, Mounts, PutsAside, ReadsAgain, Still, minor}
+use Rattle.mscp_ported.proofs.Common.{Action, Answered, AsksBehindPolls, AsksForBlocks, Becomes, Bool, Call, Descriptor, Hardware, Hears, Holdings, IsAsNew, IsMadeOf, IsReadingText, IsServedSince, List, Next, Ok, Picking, Port, ReadIp, Sends, Sent, ServesBetweenPolls, TakesPoll, Task, TellsStep, Wants, WasRead, Went, WriteIp, WriteSa, [], ap, arith, blocks, eq-eqb, false, false≢true, inl, inr, is_dead, refl, subst, sym, takes, true, ℕ, ◌∙◌, ◌∷◌, ◌≡◌, ◌≢◌, ◌⊎◌}
+use Rattle.mscp_ported.proofs.Minor.{minor}
 use Rattle.mscp_port.specs.declared.stage.Stage.TheVariants as stages
 use Rattle.mscp_port.specs.declared.task.Task.TheVariants as tasks
 use Rattle.mscp_ported.proofs.Answering.{poll_sent}
 use Rattle.mscp_ported.proofs.Ended.{lived}
 use Rattle.mscp_ported.proofs.Reading.{Answers, Queues, read_is}
 use Rattle.mscp_ported.proofs.Deeds.{is_alive}
-use Rattle.mscp_ported.proofs.Sights.{IsAnswered, IsFault, IsSent, Seen, Slides, StaysInSlot, sight}
+use Rattle.mscp_ported.proofs.Sights.{Seen, sight}
 use Rattle.mscp_ported.proofs.Turns.{IsHearing, IsNoNext, reads_on, text_quiet, wants_hears}
 
 -- ---- a block that is owed stays so until a step is told

@@ -4,7 +4,7 @@ use Rattle.mscp_port.specs.declared.stage.Stage.TheVariants as stages
 use Rattle.mscp_port.specs.declared.task.Task.TheVariants as tasks
 use Rattle.mscp_ported.specs.Talk.{done_by}
 use Rattle.mscp_ported.proofs.After.{After, same_stage}
-use Rattle.mscp_ported.proofs.Look.{Fits, InStep, IsAsked, IsClear, IsElse, IsOfRings, IsOpen, IsTelling, Names, has_area, in_hand, is_early, is_loud, look}
+use Rattle.mscp_ported.proofs.Look.{Fits, InStep, IsClear, IsElse, IsOfRings, IsOpen, IsTelling, Names, has_area, in_hand, is_early, is_loud, look}
 use Rattle.mscp_ported.proofs.Counting.{named_wide}
 use Rattle.mscp_ported.proofs.Deeds.{done_or_not}
 use Rattle.mscp_ported.proofs.Plain.{retask}

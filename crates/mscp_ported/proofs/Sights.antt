@@ -1,5 +1,5 @@
 -- What becomes of a port as bytes of its host's memory were read, case by case.
-use Rattle.mscp_ported.proofs.Common.{AnswersItself, Bool, Commands, Descriptor, End, Err, Hears, IsAsNew, IsGiven, List, MatchOption, None, Ok, Option, Outgoing, Port, Responses, Result, SeesText, SendFault, Sends, Some, Task, WasRead, accepted_text, answered_to, ap, bytes_read, cond, connection_in, header_fault, heard, inl, inr, is_owned, is_taken_text, length, length_in, none-some, num, own_end_of, read_size, refl, stays, subst, sym, true, false, ℕ, ◌==◌, ◌∙◌, ◌≡◌, ◌⊎◌, [], arith}
+use Rattle.mscp_ported.proofs.Common.{AnswersItself, Bool, Commands, Descriptor, End, Err, Hears, IsAsNew, IsGiven, List, MatchOption, None, Ok, Option, Outgoing, Port, Responses, Result, SeesText, SendFault, Sends, Some, Task, WasRead, accepted_text, answered_to, ap, bytes_read, cond, connection_in, header_fault, heard, inl, inr, is_owned, is_taken_text, length, length_in, none-some, num, own_end_of, read_size, refl, stays, subst, sym, true, false, ℕ, ◌==◌, ◌∙◌, ◌≡◌, ◌⊎◌, []}
 use Rattle.mscp_controller.specs.declared.entry.Sent.{Sent}
 use Rattle.mscp_port.specs.declared.stage.Stage.TheVariants as stages
 use Rattle.mscp_port.specs.declared.task.Task.TheVariants as tasks
@@ -56,7 +56,8 @@ sight {K} bytes done old new r = by old.task refl
         (subst (λ x. IsGiven x (WasRead bytes (Ok done)) → full ≡ old.is_full) (sym at) kept)
         (e ∙ ap (λ x. record old { is_full = full; is_polled = polled; task = task_read bytes x }) (sym at))
 
-    response : (b : Bool) (t : Task) → cond b (record old { task = t }) (record old { is_full = true; task = tasks.Free })
+    response : (b : Bool) (t : Task)
+        → cond b (record old { task = t }) (record old { is_full = true; task = tasks.Free })
         ≡ record old { is_full = cond b old.is_full true; is_polled = old.is_polled; task = cond b t tasks.Free }
     response true t = refl
     response false t = refl

@@ -1,6 +1,5 @@
 -- While a message is read and nothing goes out, no end waits for the host.
-use Rattle.mscp_ported.proofs.Common.{Action, Answered, Becomes, Bool, Call, Choice, Descriptor, End, Hardware, Holdings, IsAlive, IsDue, IsMadeOf, List, LooksForOut, Next, None, Option, Picking, Port, Some, Stage, Task, Wants, [], ap, arith, inl, inr, looks_or_not, none-some, refl, slice_get, subst, sym, ℕ, ◌∙◌, ◌∷◌, ◌≡◌, ◌≢◌, ◌⊎◌}
-use Rattle.mscp_port.specs.declared.stage.Stage.TheVariants as stages
+use Rattle.mscp_ported.proofs.Common.{Action, Answered, Becomes, Bool, Call, Choice, Descriptor, End, Hardware, Holdings, IsMadeOf, List, Next, None, Picking, Port, Task, Wants, [], ap, arith, inl, inr, looks_or_not, none-some, refl, slice_get, subst, sym, ℕ, ◌∙◌, ◌∷◌, ◌≡◌, ◌≢◌, ◌⊎◌}
 use Rattle.mscp_port.specs.declared.task.Task.TheVariants as tasks
 use Rattle.mscp_ported.proofs.Coming.{ends_of}
 use Rattle.mscp_ported.proofs.Turns.{IsHearing, reads_on}

@@ -1,7 +1,6 @@
 -- What goes out is gone after ten actions.
-use Rattle.mscp_ported.proofs.Common.{Answered, AreGiven, AsksAlways, Call, Commands, Err, Hardware, HasRoom, Holdings, IsForgotten, IsMadeOf, List, None, Ok, Option, Outgoing, Picking, Port, Responses, Some, Task, WasRead, Went, [], acts, ap, arith, gone, inl, inr, leaves, refl, subst, sym, ℕ, ◌++◌, ◌+◌, ◌∙◌, ◌∷◌, ◌≡◌, ◌≤◌, ◌⊎◌}
+use Rattle.mscp_ported.proofs.Common.{Answered, AreGiven, AsksAlways, Call, Hardware, HasRoom, Holdings, IsForgotten, IsMadeOf, List, None, Option, Outgoing, Picking, Port, Some, Task, [], acts, ap, arith, gone, inl, inr, leaves, subst, sym, ℕ, ◌++◌, ◌+◌, ◌∙◌, ◌∷◌, ◌≡◌, ◌≤◌, ◌⊎◌}
 use Rattle.mscp_port.specs.declared.stage.Stage.TheVariants as stages
-use Rattle.mscp_port.specs.declared.task.Task.TheVariants as tasks
 use Rattle.mscp_ported.proofs.Doing.{InUse, to_do}
 use Rattle.mscp_ported.proofs.Room.{heard_so, room, uncleared}
 use Rattle.mscp_ported.proofs.Starting.{IsFreed, IsSaying, says_on}

@@ -1,9 +1,9 @@
 -- Calls that leave the controller as it was.
-use Rattle.mscp_ported.proofs.Common.{Becomes, Bool, Call, Choice, Commands, Dies, Goes, Hears, IsAsNew, IsReadingText, List, Next, None, Ok, Outcome, Picking, Port, ReadIp, Responses, Task, WasRead, Went, WriteIp, WriteSa, ap, arith, blocks, inl, inr, is_dead, none-some, refl, step_told, subst, sym, true, ℕ, ◌∙◌, ◌≡◌, ◌⊎◌}
-use Rattle.mscp_ported.proofs.Deeds.{Deed, Eases, Fails, GivesSlot, ServesStep, StepsOn, WritesPacket, deed}
-use Rattle.mscp_ported.proofs.Sights.{IsAnswered, IsFault, IsSent, Seen, Slides, StaysInSlot, sight}
-use Rattle.mscp_ported.proofs.Touching.{Breaks, IsStage, IsWord, Polls, ToClear, Touched, Untouched, read_ip, wrote_sa}
-use Rattle.mscp_ported.proofs.Minor.{GivesUp, Minor, Mounts, PutsAside, ReadsAgain, Still, minor}
+use Rattle.mscp_ported.proofs.Common.{Becomes, Bool, Call, Choice, Dies, Goes, Hears, IsAsNew, IsReadingText, List, Next, None, Ok, Outcome, Picking, Port, Task, WasRead, Went, WriteIp, ap, arith, blocks, inl, inr, is_dead, none-some, refl, step_told, subst, sym, true, ℕ, ◌∙◌, ◌≡◌, ◌⊎◌}
+use Rattle.mscp_ported.proofs.Deeds.{Deed, deed}
+use Rattle.mscp_ported.proofs.Sights.{Seen, sight}
+use Rattle.mscp_ported.proofs.Touching.{Touched, read_ip, wrote_sa}
+use Rattle.mscp_ported.proofs.Minor.{minor}
 use Rattle.mscp_port.specs.declared.stage.Stage.TheVariants as stages
 use Rattle.mscp_port.specs.declared.task.Task.TheVariants as tasks
 

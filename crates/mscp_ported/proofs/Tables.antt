@@ -1,10 +1,6 @@
 -- What is decided of an end, and the bytes with which it leaves, by either table.
-use Rattle.mscp_ported.proofs.Common.{Bool, Buffer, Decided, End, EndBody, Err, Fields, First, Hardware, List, MoveKind, None, Ok, Option, Outcome, Port, Result, Shape, Some, Upcoming, Verdict, Volume, answer_left, answer_of, ap, block_of, block_served, code_said, code_told, code_with, cond, controller_decided, end_decided, end_told, end_with_body, ends_nothing, false, fields_of_unit, fields_with, formal_status, found_decided, kept_of, part_now, part_served, refl, short_text, status_after, status_by, status_said, status_told, step_left, text_left, text_with, told_as, true, unit_found, verdict_of, verdict_with, volume_found, ℕ, ◌+◌, ◌==◌, ◌∙◌, ◌≡◌, arith}
-use Rattle.std.specs.Prelude.{◌%◌}
-use Rattle.mscp_packet.specs.declared.end.EndBody.TheVariants as bodies
-use Rattle.mscp_drive.specs.declared.block.Block.TheVariants as blocks
+use Rattle.mscp_ported.proofs.Common.{Decided, End, Fields, First, Hardware, List, MoveKind, Option, Outcome, Port, Shape, Upcoming, Verdict, Volume, answer_left, answer_of, block_of, block_served, code_said, code_told, end_decided, end_told, fields_with, kept_of, refl, status_said, status_told, step_left, text_left, told_as, unit_found, verdict_of, volume_found, ℕ, ◌≡◌, arith}
 use Rattle.mscp_port.specs.declared.action.Outcome.TheVariants as outcomes
-use Rattle.mscp_port.specs.declared.verdict.Verdict.TheVariants as verdicts
 
 -- ---- what is decided
 

@@ -1,6 +1,6 @@
 -- The end of a transfer counts just the blocks that were moved.
 use Rattle.mscp_port.specs.declared.task.Task.TheVariants as tasks
-use Rattle.mscp_ported.proofs.Common.{Answered, AsksAlways, Block, Bool, Buffer, Call, Command, Connection, Contains, Counts, Dies, Drive, End, Err, First, Hardware, Holdings, IsMadeOf, IsOfBlock, List, MoveKind, Name, None, Ok, Option, Order, Outcome, Picking, Port, Record, Result, Second, Shape, Some, Upcoming, Verdict, Volume, Went, Wish, [], and_parts, ap, append-nil, arith, asked, asks_nothing, begun_step, begun_task, block_begun, block_served, block_told, block_touched, changed_verdict, come, cond, done_by, drive_of, drop, end_given, false, false≢true, filter, find, found_is, given, goes_on, good_step, has_changed, has_name, inl, inr, is_available, is_done, is_good_block, is_moving, is_numbered, is_same, is_step_of, kept_of, known_task, left_of, length, min, move_of, move_task, moved, moved_by, moved_step, name, name_of, name_on, none-some, num, opcode_of, option_map, outcome_at, outcome_body, outcome_status, part_at, part_served, part_task, part_with, place_in, record_at, refl, same_Some, same_is, slice_index, subst, suc, sym, takes_any_volume, task_of, touches, transfers, true, upcoming_begun, upcoming_of, volume_at, wanted, wish, zero, ℕ, ◌&&◌, ◌*◌, ◌++◌, ◌+◌, ◌-◌, ◌<◌, ◌∙◌, ◌∷◌, ◌≡◌, ◌≤◌, ◌⊎◌}
+use Rattle.mscp_ported.proofs.Common.{Answered, AsksAlways, Block, Bool, Buffer, Call, Command, Connection, Contains, Counts, Dies, Drive, End, Err, First, Hardware, Holdings, IsMadeOf, List, MoveKind, Name, None, Ok, Option, Order, Outcome, Picking, Port, Record, Result, Shape, Some, Upcoming, Verdict, Volume, Went, Wish, [], and_parts, ap, append-nil, arith, asked, asks_nothing, begun_step, block_begun, block_served, block_told, block_touched, changed_verdict, come, cond, done_by, drive_of, drop, end_given, false, false≢true, filter, find, found_is, given, goes_on, good_step, has_changed, has_name, inl, inr, is_available, is_done, is_good_block, is_moving, is_numbered, is_same, is_step_of, known_task, left_of, length, min, move_of, move_task, moved, moved_by, name, name_of, name_on, none-some, num, opcode_of, outcome_at, outcome_body, outcome_status, part_at, part_task, part_with, record_at, refl, same_Some, same_is, slice_index, subst, suc, sym, takes_any_volume, task_of, touches, transfers, true, upcoming_of, wanted, wish, zero, ℕ, ◌&&◌, ◌*◌, ◌++◌, ◌+◌, ◌-◌, ◌<◌, ◌∙◌, ◌∷◌, ◌≡◌, ◌≤◌, ◌⊎◌}
 use Rattle.mscp_ported.proofs.Stepping.{IsHow, Serves, ServesNone, drive_in, end_served, went_is}
 use Rattle.mscp_packet.specs.declared.class.Opcode.TheVariants as codes
 use Rattle.mscp_packet.specs.declared.command.Order.TheVariants as orders
@@ -236,7 +236,8 @@ module _ {K : Type 0} (picks : Picking K) (hardware : Hardware) (credits : ℕ) 
         (outcome_at d.unit d.online r.command r.good (block_told g.verdict)) e g.given
 
     named : e.reference ≡ n
-    named = end_number (block_told g.verdict) d r e g.given ∙ (number_of n r (sole_passes (is_numbered n) rs r g.is.sole)).1
+    named = end_number (block_told g.verdict) d r e g.given
+        ∙ (number_of n r (sole_passes (is_numbered n) rs r g.is.sole)).1
 
     -- a step that moved no good block tells none
     none_done : is_good ≡ false → done_by n (Went outcome (Ok done)) (wish calls) a.0 ≡ []
@@ -269,7 +270,8 @@ module _ {K : Type 0} (picks : Picking K) (hardware : Hardware) (credits : ℕ) 
     told : is_good ≡ true → Told kind bytes
     told f =
         let both = and_parts (touches d.online r.command.order) (is_good_block (block_told g.verdict)) f in
-        let m = moves_so picks start a.0 calls a.1 owned outcome done asks.0 s g.name g.begun n g.named r g.is.sole both.0
+        let m = moves_so picks start a.0 calls a.1 owned outcome done asks.0 s g.name g.begun n g.named r g.is.sole
+        both.0
         (told_so a.0 outcome g.verdict g.how (good_is (block_told g.verdict) both.1)) in
         let same : m.1 ≡ bytes = same_Some m.1 bytes (sym m.3.own.message
         ∙ ap (λ i. asked picks i start a.0 calls a.1) m.3.number ∙ g.is.message) in

@@ -1,8 +1,7 @@
 -- While there is something to tell, one thing is gone for each seventeen actions.
-use Rattle.mscp_ported.proofs.Common.{Answered, AreGiven, AsksAlways, Becomes, Call, Commands, Err, Hardware, HasRoom, HasToTell, HaveToTell, Holdings, IsForgotten, IsGiven, IsMadeOf, List, None, Ok, Option, Outgoing, Picking, Port, Responses, Some, Task, WasRead, Went, [], acts, ap, arith, gone, inl, inr, leaves, length-append, refl, subst, sym, ℕ, ◌+◌, ◌∷◌, ◌≡◌, ◌≤◌, ◌⊎◌}
+use Rattle.mscp_ported.proofs.Common.{Answered, AreGiven, AsksAlways, Becomes, Call, Hardware, HasRoom, HasToTell, HaveToTell, Holdings, IsForgotten, IsGiven, IsMadeOf, List, None, Option, Outgoing, Picking, Port, Task, [], acts, ap, arith, gone, inl, inr, leaves, length-append, refl, subst, sym, ℕ, ◌+◌, ◌∷◌, ◌≡◌, ◌≤◌, ◌⊎◌}
 use Rattle.mscp_port.specs.declared.stage.Stage.TheVariants as stages
-use Rattle.mscp_port.specs.declared.task.Task.TheVariants as tasks
-use Rattle.std.specs.Prelude.{◌*◌, ◌<◌, length}
+use Rattle.std.specs.Prelude.{◌*◌, length}
 use Rattle.mscp_ported.proofs.Coming.{ends_of}
 use Rattle.mscp_ported.proofs.Doing.{InUse, rest, to_do}
 use Rattle.mscp_ported.proofs.Starting.{IsFreed, IsSaying, IsWaiting, says_on, waits_on}

@@ -1,11 +1,10 @@
 -- Which calls look for a message of a port's host, or read one on.
-use Rattle.mscp_ported.proofs.Common.{Action, Becomes, Bool, Call, Choice, Commands, IfSome, IsDue, IsReadingText, List, Next, None, Ok, Option, Outcome, Picking, Port, ReadIp, Record, Responses, Rings, Side, Some, Descriptor, Stage, Task, Wants, WasRead, Went, WriteIp, WriteSa, [], ap, arith, aside, block_is_due, cond, false, false≢true, hears_of, in_hand, inl, inr, is_dead, is_flagged, is_owned, length, nat_eq, none-some, none_or_not, not, num, read_again, refl, slots_of, step_again, step_at, subst, sym, taken_or_not, true, up_or_not, ℕ, ◌&&◌, ◌==◌, ◌∙◌, ◌∷◌, ◌≡◌, ◌⊎◌, ◌≢◌}
-use Rattle.mscp_ported.proofs.Deeds.{Deed, Eases, Fails, GivesSlot, IsNewStep, ServesStep, StepsOn, WritesPacket, deed}
-use Rattle.mscp_ported.proofs.Minor.{GivesUp, Minor, Mounts, PutsAside, ReadsAgain, Still, minor}
-use Rattle.mscp_ported.proofs.Sights.{IsAnswered, IsFault, IsSent, IsSlide, Seen, Slides, StaysInSlot, sight, task_read}
-use Rattle.mscp_ported.proofs.Touching.{Breaks, IsStage, IsWord, Polls, ToClear, Touched, Untouched, read_ip, wrote_sa}
+use Rattle.mscp_ported.proofs.Common.{Action, Becomes, Bool, Call, Choice, Commands, IsDue, IsReadingText, List, Next, Ok, Option, Outcome, Picking, Port, ReadIp, Record, Rings, Side, Descriptor, Task, Wants, WasRead, Went, WriteIp, WriteSa, [], arith, aside, block_is_due, false, false≢true, hears_of, inl, inr, is_dead, length, nat_eq, none-some, none_or_not, not, read_again, refl, step_at, subst, taken_or_not, true, up_or_not, ℕ, ◌&&◌, ◌∷◌, ◌≡◌, ◌⊎◌}
+use Rattle.mscp_ported.proofs.Deeds.{Deed, IsNewStep, deed}
+use Rattle.mscp_ported.proofs.Minor.{minor}
+use Rattle.mscp_ported.proofs.Sights.{IsSlide, Seen, sight, task_read}
+use Rattle.mscp_ported.proofs.Touching.{Touched, read_ip, wrote_sa}
 use Rattle.mscp_ported.proofs.Wanting.{alive_or_dead}
-use Rattle.mscp_port.specs.declared.stage.Stage.TheVariants as stages
 use Rattle.mscp_port.specs.declared.task.Task.TheVariants as tasks
 
 -- a message is looked for, or read

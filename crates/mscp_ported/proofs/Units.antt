@@ -1,5 +1,5 @@
 -- Which unit an end names: that of its message, unless that asks for the next unit.
-use Rattle.mscp_ported.proofs.Common.{Decided, End, EndBody, Hardware, IsUnitFor, List, Option, Port, Shape, arith, asks_next, command_of, end_with_body, handed, inl, inr, length, num, refl, slice_index, stand_in, subst, sym, told_end, true, two, unit_found, ℕ, ◌*◌, ◌+◌, ◌<◌, ◌^◌, ◌∙◌, ◌∷◌, ◌≡◌, ◌≤◌, ◌⊎◌}
+use Rattle.mscp_ported.proofs.Common.{Decided, End, EndBody, Hardware, IsUnitFor, List, Option, Port, Shape, arith, asks_next, command_of, end_with_body, handed, inl, inr, length, num, refl, slice_index, stand_in, told_end, true, two, unit_found, ℕ, ◌<◌, ◌^◌, ◌∙◌, ◌∷◌, ◌≡◌, ◌≤◌, ◌⊎◌}
 use Rattle.mscp_ported.proofs.Handed.{handed_cases}
 use Rattle.mscp_ported.proofs.Whole.{told_cases}
 

@@ -1,5 +1,5 @@
 -- What follows when something is wanted of a holder.
-use Rattle.mscp_ported.proofs.Common.{Action, Bool, Choice, Commands, HasNothingToSay, IsAlive, IsDue, IsOfBlock, IsOwed, IsWanted, List, Next, None, Option, Outgoing, Port, Responses, Said, Some, Stage, Talk, Task, Wants, Wish, [], ap, append-nil, arith, begins, block_is_due, bytes_wanted, false, inl, inr, is_dead, looks_or_not, map, message_text, none-some, refl, said_in, silence, stepped, subst, sym, true, ℕ, ◌++◌, ◌∙◌, ◌≡◌, ◌≢◌, ◌⊎◌}
+use Rattle.mscp_ported.proofs.Common.{Action, Bool, Choice, Commands, IsAlive, IsDue, IsOfBlock, IsOwed, IsWanted, List, Next, None, Option, Port, Responses, Said, Some, Stage, Talk, Task, Wants, Wish, [], ap, append-nil, arith, begins, bytes_wanted, false, inl, inr, is_dead, looks_or_not, map, message_text, none-some, refl, said_in, stepped, subst, sym, true, ℕ, ◌++◌, ◌∙◌, ◌≡◌, ◌≢◌, ◌⊎◌}
 use Rattle.mscp_port.specs.declared.action.Action.TheVariants as actions
 use Rattle.mscp_port.specs.declared.stage.Stage.TheVariants as stages
 use Rattle.mscp_port.specs.declared.task.Task.TheVariants as tasks
