@@ -1,11 +1,11 @@
 -- By each action that is done fewer are left before what goes out is gone, or before an end that waits begins to.
-use Rattle.mscp_ported.proofs.Common.{Becomes, Bool, Call, Choice, Commands, Descriptor, End, Goes, Hears, IsForgotten, IsGiven, IsStepping, List, Next, None, Ok, Option, Outcome, Picking, Port, ReadIp, Responses, Rings, Side, Task, WasRead, Went, WriteIp, WriteSa, [], acts, ap, arith, aside, false, handed, hears_of, inl, inr, length, length-append, none-some, none_or_some, own_end_of, read_again, refl, step_at, subst, sym, taken_or_not, ℕ, ◌++◌, ◌+◌, ◌<◌, ◌∙◌, ◌∷◌, ◌≡◌, ◌≢◌, ◌≤◌, ◌⊎◌}
+use Rattle.mscp_ported.proofs.Common.{Becomes, Bool, Call, Choice, Commands, Descriptor, End, Goes, Hears, IsForgotten, IsGiven, IsSomeAnd, IsStepping, List, Next, None, Ok, Option, Outcome, Outgoing, Picking, Port, ReadIp, Responses, Rings, Side, Some, Task, WasRead, Went, WriteIp, WriteSa, [], acts, ap, arith, aside, block_told, cond, end_brought, end_bytes, end_kind, false, handed, hears_of, inl, inr, is_flagged, is_owned, length, length-append, none-some, none_or_some, not, num, own_end_of, read_again, refl, slots_of, step_at, subst, sym, taken_or_not, true, ℕ, ◌++◌, ◌+◌, ◌<◌, ◌==◌, ◌∙◌, ◌∷◌, ◌≡◌, ◌≢◌, ◌≤◌, ◌⊎◌}
 use Rattle.mscp_controller.specs.declared.entry.Sent.TheVariants as sents
 use Rattle.mscp_port.specs.declared.stage.Stage.TheVariants as stages
 use Rattle.mscp_port.specs.declared.task.Task.TheVariants as tasks
 use Rattle.mscp_ported.proofs.Coming.{brings, brought_for, ends_of, steps_bring}
 use Rattle.mscp_ported.proofs.Deeds.{Deed, Eases, Fails, GivesSlot, IsClear, IsEased, ServesStep, StepsOn, WritesPacket, deed, stepping}
-use Rattle.mscp_ported.proofs.Minor.{minor}
+use Rattle.mscp_ported.proofs.Minor.{GivesUp, Minor, Mounts, PutsAside, ReadsAgain, Still, minor}
 use Rattle.mscp_ported.proofs.Sights.{IsAnswered, IsFault, IsSent, IsSlide, Seen, Slides, StaysInSlot, sight, task_read}
 use Rattle.mscp_ported.proofs.Turns.{IsNoNext}
 
@@ -45,21 +45,52 @@ pub record IsFewer (n : ℕ) (before after : Task) : Type 0 where
 -- ---- tasks
 
 again_fewer : (t : Task) → (IsClear t → ⊥) → IsFewer 0 t (read_again t)
-again_fewer t clear = grind arith
+again_fewer (tasks.Slot Responses) clear = record { to_do = search arith; rest = search arith; clear = λ c. c }
+again_fewer (tasks.Slot Commands) clear = record { to_do = search arith; rest = search arith; clear = λ c. c }
+again_fewer t clear = record { to_do = search arith; rest = search arith; clear = clear }
 
 aside_fewer : (t : Task) → (IsClear t → ⊥) → IsFewer 0 t (aside t)
 aside_fewer tasks.Transfer clear = record { to_do = search arith; rest = search arith; clear = λ c. c }
 aside_fewer t clear = record { to_do = search arith; rest = search arith; clear = clear }
 
 step_fewer : (o : Option ℕ) (t : Task) → (IsClear t → ⊥) → IsFewer 0 t (step_at o t)
-step_fewer o t clear = grind arith
+step_fewer (Some place) (tasks.Step verdict) clear =
+    record { to_do = search arith; rest = search arith; clear = λ c. c }
+step_fewer (Some place) tasks.Transfer clear = record { to_do = search arith; rest = search arith; clear = λ c. c }
+step_fewer (Some place) t clear = record { to_do = search arith; rest = search arith; clear = clear }
+step_fewer None t clear = record { to_do = search arith; rest = search arith; clear = clear }
 
 read_fewer : (bytes : List ℕ) (done : Unit {0}) (t : Task) → IsSlide t → IsGiven t (WasRead bytes (Ok done))
     → IsFewer 1 t (task_read bytes t)
-read_fewer bytes done t of given = grind arith
+read_fewer bytes done (tasks.Slot Responses) of given =
+    subst (λ b. IsFewer 1 (tasks.Slot Responses) (cond b (tasks.Packet (record { word = num bytes 0 4 })) tasks.Free))
+    (sym given) (record { to_do = search arith; rest = search arith; clear = λ c. c })
+read_fewer bytes done (tasks.Slot Commands) of given = by (is_owned (num bytes 0 4))
+  where
+    by : (b : Bool)
+        → IsFewer 1 (tasks.Slot Commands) (cond b (tasks.Header (record { word = num bytes 0 4 })) tasks.Free)
+    by true = record { to_do = search arith; rest = search arith; clear = λ c. c }
+    by false = record { to_do = search arith; rest = search arith; clear = λ c. c }
+read_fewer bytes done (tasks.Neighbour side) of given = by (is_owned (num bytes 0 4))
+  where
+    by : (b : Bool) → IsFewer 1 (tasks.Neighbour side) (cond b (tasks.Word side) tasks.Free)
+    by true = record { to_do = search arith; rest = search arith; clear = λ c. c }
+    by false = record { to_do = search arith; rest = search arith; clear = λ c. c }
+read_fewer bytes done (tasks.Header slot) of given =
+    record { to_do = search arith; rest = search arith; clear = λ c. c }
+read_fewer bytes done t of given = absurd of
 
 eased_fewer : (before after : Task) → (IsClear before → ⊥) → IsEased before after → IsFewer 1 before after
-eased_fewer before after clear h = grind arith
+eased_fewer (tasks.Word side) after clear (inl e) =
+    subst (IsFewer 1 (tasks.Word side)) (sym e) (record { to_do = search arith; rest = search arith; clear = λ c. c })
+eased_fewer (tasks.Word side) after clear (inr e) =
+    subst (IsFewer 1 (tasks.Word side)) (sym e) (record { to_do = search arith; rest = search arith; clear = λ c. c })
+eased_fewer tasks.Settle after clear e =
+    subst (IsFewer 1 tasks.Settle) (sym e) (record { to_do = search arith; rest = search arith; clear = λ c. c })
+eased_fewer tasks.Interrupt after clear e =
+    subst (IsFewer 1 tasks.Interrupt) (sym e) (record { to_do = search arith; rest = search arith; clear = λ c. c })
+eased_fewer (tasks.Clear done) after clear e = absurd (clear tt)
+eased_fewer task after clear e = absurd e
 
 -- of one of the ring of responses the rest alone
 abbrev Given : Side → Task → Type 0
@@ -67,7 +98,15 @@ Given Responses after = (1 + rest after ≤ 4) × (IsClear after → ⊥)
 Given Commands after = (1 + rest after ≤ 4) × (IsClear after → ⊥) × (1 + to_do after ≤ 7)
 
 given_so : (area : Rings) (side : Side) (slot : Descriptor) → Given side (hears_of area side slot)
-given_so area side slot = grind arith
+given_so area side slot = by side (not (is_flagged slot.word)) (slots_of area side == 1)
+  where
+    by : (at : Side) (b c : Bool) → Given at (cond b tasks.Free (cond c (tasks.Word side) (tasks.Neighbour side)))
+    by Responses true c = (search arith, λ x. x)
+    by Responses false true = (search arith, λ x. x)
+    by Responses false false = (search arith, λ x. x)
+    by Commands true c = (search arith, (λ x. x), search arith)
+    by Commands false true = (search arith, (λ x. x), search arith)
+    by Commands false false = (search arith, (λ x. x), search arith)
 
 -- ---- ports
 
@@ -100,12 +139,24 @@ module _ {K : Type 0} (old new : Port K) (u : InUse old) where
 
   use_on : (x : Port K) → new ≡ x → x.stage ≡ old.stage → x.is_full ≡ false → x.written ≡ old.written
       → (IsClear new.task → ⊥) → InUse new
-  use_on x e stage room written clear = grind arith
+  use_on x e stage room written clear = record {
+    up = ap (λ p. p.stage) e ∙ stage ∙ u.up;
+    room = ap (λ p. p.is_full) e ∙ room;
+    heard = ap (λ p. p.written) e ∙ written ∙ u.heard;
+    clear = clear;
+  }
 
   -- what goes out stays so
   on : {n : ℕ} (x : Port K) → new ≡ x → x.stage ≡ old.stage → x.is_full ≡ false → x.written ≡ old.written
       → x.outgoing ≡ old.outgoing → (HasEnd old → HasEnd new) → IsFewer n old.task x.task → So n
-  on {n} x e stage room written out ends fewer = grind (arith, use_on)
+  on {n} x e stage room written out ends fewer =
+      let less : IsFewer n old.task new.task = subst (λ p. IsFewer n old.task p.task) (sym e) fewer in
+      inr (record {
+        used = use_on x e stage room written less.clear;
+        ends = ends;
+        left = less.rest;
+        out = inl (ap (λ p. p.outgoing) e ∙ out, less.to_do);
+      })
 
   -- nothing changes
   stay : new ≡ old → So 0
@@ -144,10 +195,26 @@ module _ {K : Type 0} (old new : Port K) (u : InUse old) where
       by (Slides full polled of kept e) =
           on _ e refl (kept given ∙ u.room) refl refl (as_was e refl) (read_fewer bytes done old.task of given)
       by (IsFault code of d) = inl (stages.Dead code, d)
-      by (IsAnswered slot size foreign end at own none e a) = grind (arith, use_on, read_ends, none-some)
+      by (IsAnswered slot size foreign end at own none e a) = inr (record {
+        used = use_on _ e refl u.room refl (subst (λ p. IsClear p.task → ⊥) (sym e) (λ c. c));
+        ends = read_ends bytes done r slot size foreign at;
+        left = subst (λ t. 1 + rest new.task ≤ rest t) (sym at) (subst (λ p. 1 + rest p.task ≤ 5) (sym e) (search arith));
+        out = inr (inr (
+          none,
+          answers end (subst (λ q. IsSomeAnd q (λ x. IsSomeAnd new.outgoing (λ y. (y.bytes.items ≡ end_bytes x)
+              × (y.kind ≡ end_kind foreign)))) own a.out) new.outgoing refl,
+          subst (λ t. 1 + to_do new.task ≤ 10 + rest t) (sym at)
+              (subst (λ p. 1 + to_do p.task ≤ 15) (sym e) (search arith)),
+        ));
+      })
+        where
+          answers : (x : End) → IsSomeAnd new.outgoing (λ y. (y.bytes.items ≡ end_bytes x)
+              × (y.kind ≡ end_kind foreign)) → (o : Option Outgoing) → new.outgoing ≡ o → new.outgoing ≢ None
+          answers x h None is = absurd (subst (λ q. IsSomeAnd q (λ y. (y.bytes.items ≡ end_bytes x)
+              × (y.kind ≡ end_kind foreign))) is h)
+          answers x h (Some o) is = λ n. none-some o (sym n ∙ is)
       by (StaysInSlot slot size foreign at why e) = on _ e refl u.room refl refl
-          (read_ends bytes done r slot size foreign at)
-          (text_fewer tasks.Free (search arith) (search arith) (λ c. c) at)
+          (read_ends bytes done r slot size foreign at) (text_fewer tasks.Free (search arith) (search arith) (λ c. c) at)
       by (IsSent slot size foreign (sents.Queued reference) at own answer e) = on _ e.frame refl u.room refl refl
           (read_ends bytes done r slot size foreign at)
           (text_fewer (tasks.Return Commands slot) (search arith) (search arith) (λ c. c) at)
@@ -162,7 +229,9 @@ module _ {K : Type 0} (old new : Port K) (u : InUse old) where
   went picks outcome done r = by (deed picks outcome done old new r)
     where
       step_free : (t : Task) → IsStepping t → IsFewer 1 t tasks.Free
-      step_free t of = grind arith
+      step_free (tasks.Step verdict) of = record { to_do = search arith; rest = search arith; clear = λ c. c }
+      step_free tasks.Transfer of = record { to_do = search arith; rest = search arith; clear = λ c. c }
+      step_free t of = absurd of
 
       by : Deed picks outcome old new → So 1
       by (Fails code d) = inl (stages.Dead code, d)
@@ -170,11 +239,29 @@ module _ {K : Type 0} (old new : Port K) (u : InUse old) where
           on _ e refl u.room refl refl (as_was e refl) (eased_fewer old.task after u.clear eased)
       by (StepsOn frame lives calm (inl word)) = absurd (word.0 u.heard)
       by (StepsOn frame lives calm (inr c)) = absurd (u.clear c.0)
-      by (WritesPacket slot untold at e) = grind (arith, on, as_was)
-      by (GivesSlot Responses slot area at e) = grind (arith, given_so, use_on, as_was)
-      by (GivesSlot Commands slot area at e) = grind (arith, given_so, on, as_was)
-      by (ServesStep verdict how takes) =
-          grind (arith, taken_or_not, on, as_was, step_free, stepping, more_ends, ends_of, brought_for, steps_bring)
+      by (WritesPacket slot untold at e) = on _ e refl u.room refl refl (as_was e refl)
+          (subst (λ t. IsFewer 1 t (tasks.Return Responses slot)) (sym at)
+          (record { to_do = search arith; rest = search arith; clear = λ c. c }))
+      by (GivesSlot Responses slot area at e) =
+          let g = given_so area Responses slot in
+          inr (record {
+            used = use_on _ e refl u.room refl (subst (λ p. IsClear p.task → ⊥) (sym e) g.1);
+            ends = as_was e refl;
+            left = subst (λ t. 1 + rest new.task ≤ rest t) (sym at) (subst (λ p. 1 + rest p.task ≤ 4) (sym e) g.0);
+            out = inr (inl (ap (λ p. p.outgoing) e));
+          })
+      by (GivesSlot Commands slot area at e) =
+          let g = given_so area Commands slot in
+          on _ e refl u.room refl refl (as_was e refl)
+          (subst (λ t. IsFewer 1 t (hears_of area Commands slot)) (sym at)
+          (record { to_do = g.2; rest = g.0; clear = g.1 }))
+      by (ServesStep verdict how takes) = elim (taken_or_not picks old new (verdict, takes)) [
+        | inl e ↦ on _ e refl u.room refl refl (as_was e refl) (step_free old.task (stepping old outcome verdict how))
+        | inr t ↦ on _ t.2.finished.2.frame refl u.room refl refl
+            (more_ends (ends_of old.controller) (brought_for t.0.connection (end_brought t.2.finished.0))
+            (ends_of new.controller) (steps_bring picks t.0.connection t.0.reference (block_told t.1) old.controller
+            new.controller t.2.finished.0 t.2.finished.1)) (step_free old.task (stepping old outcome verdict how))
+      ]
 
   -- ---- a call by which nothing is wanted
 
@@ -187,4 +274,11 @@ module _ {K : Type 0} (old new : Port K) (u : InUse old) where
   goes_on picks (Next blocks action bytes) none r given = absurd none
   goes_on picks (WasRead bytes (Ok done)) none r given = read bytes done r given
   goes_on picks (Went outcome (Ok done)) none r given = went (picks old.controller.picker) outcome done r
-  goes_on picks call none r given = grind (arith, minor, stay, on, as_was, aside_fewer, again_fewer, step_fewer)
+  goes_on picks call none r given = by (minor picks call old new r tt)
+    where
+      by : Minor old new → So (acts (call ∷ []))
+      by (Still e) = stay e
+      by (PutsAside e) = on _ e refl u.room refl refl (as_was e refl) (aside_fewer old.task u.clear)
+      by (ReadsAgain left e) = on _ e refl refl refl refl (as_was e refl) (again_fewer old.task u.clear)
+      by (Mounts becomes place e) = on _ e refl u.room refl refl (as_was e refl) (step_fewer place old.task u.clear)
+      by (GivesUp d) = inl (stages.Dead 9, d)

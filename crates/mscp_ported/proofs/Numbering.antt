@@ -1,5 +1,5 @@
 -- What there is of each reference number after a step of a command, and after a message.
-use Rattle.mscp_ported.proofs.Common.{Block, Bool, Command, Connection, Drive, End, First, List, None, Option, Record, Some, [], aborted_record, advanced, ap, append-nil, arith, bytes_in, cond, drop, drop_more, end_given, eq-eqb, eqb-true, false, false≢true, filter, filter-append, find, has_number, inl, inr, is_numbered, length, map, name_on, nat_eq, no_record, none-some, not, num, option_map, option_to_list, passed_by, record_at, refl, remains, same_Some, subst, sym, take, take-append-drop, true, waiting_after, without, ℕ, ◌++◌, ◌+◌, ◌<◌, ◌∙◌, ◌∷◌, ◌≡◌, ◌≤◌, found_is}
+use Rattle.mscp_ported.proofs.Common.{Block, Bool, Command, Connection, Drive, End, First, List, None, Option, Record, Second, Some, [], aborted_record, advanced, ap, append-nil, arith, bytes_in, cond, drop, drop_more, end_given, eq-eqb, eqb-true, false, false≢true, filter, filter-append, find, has_number, inl, inr, is_numbered, length, map, name_on, nat_eq, no_record, none-some, not, num, option_map, option_to_list, passed_by, record_at, refl, remains, same_Some, step_charge, subst, sym, take, take-append-drop, true, waiting_after, without, ℕ, ◌++◌, ◌+◌, ◌<◌, ◌∙◌, ◌∷◌, ◌≡◌, ◌≤◌, found_is}
 use Rattle.mscp_ported.proofs.Coming.{brought_for}
 use Rattle.mscp_ported.proofs.Counted.{given_few, moved_few}
 use Rattle.mscp_ported.proofs.Keeping.{end_number}
@@ -46,7 +46,9 @@ module _ (n : ℕ) (k : Block) (d : Drive) (rs : List Record) (place : ℕ) (ins
 
       by : (c : Bool) → is_numbered n (record_at rs place) ≡ c
           → filter (is_numbered n) (waiting_after k d rs place) ≡ []
-      by true is = grind (arith, some_none, is_numbered, h)
+      by true is = absurd (some_none (record_at rs place) (filter (is_numbered n) (drop (place + 1) rs))
+          (sym (ap (λ c. cond c (record_at rs place ∷ filter (is_numbered n) (drop (place + 1) rs))
+          (filter (is_numbered n) (drop (place + 1) rs))) is) ∙ h.1))
       by false is = after_none (end_given k d (record_at rs place)) refl h.0
           (remains_none (end_given k d (record_at rs place)) is)
           (sym (ap (λ c. cond c (record_at rs place ∷ filter (is_numbered n) (drop (place + 1) rs))
@@ -97,8 +99,20 @@ step_serves k d aw rs es place inside at n = by (is_numbered n (record_at rs pla
 
     served : (w : Waits aw rs es n) → is_numbered n r0 ≡ true → (x : Option End) → end_given k d r0 ≡ x
         → At aw (waiting_after k d rs place) (es ++ brought_for r0.connection x) n
-    served w is None given =
-        grind (arith, r0, served_goes_on, asked_by, served_itself, ends_numbered, brought_for, append-nil)
+    served w is None given = inr (inl (record {
+      text = w.text;
+      own = advanced r0;
+      message = w.message;
+      sole = served_goes_on n k d rs place inside w.own w.sole is given;
+      no_end = none_of r0.connection ∙ w.no_end;
+      fits = subst (λ (r : Record). asked_by r.command.order ≤ bytes_in w.text)
+          (sym (served_itself n k d rs place inside w.own w.sole is)) w.fits;
+    }))
+      where
+        none_of : (via : Connection) → filter (ends_numbered n) (es ++ brought_for via None)
+            ≡ filter (ends_numbered n) es
+        none_of First = ap (filter (ends_numbered n)) (append-nil es)
+        none_of Second = ap (filter (ends_numbered n)) (append-nil es)
     served w is (Some e) given =
         let mine = number_of n r0 is in
         inr (inr (record {
@@ -127,7 +141,14 @@ step_serves k d aw rs es place inside at n = by (is_numbered n (record_at rs pla
           no_end = apart is ∙ w.no_end;
           fits = subst (λ (c : Command). asked_by c.order ≤ bytes_in w.text) (sym s.2.command) w.fits;
         }))
-    by false is (inr (inr x)) = grind (arith, still_none, apart)
+    by false is (inr (inr x)) = inr (inr (record {
+      text = x.text;
+      end = x.end;
+      message = x.message;
+      none = still_none n k d rs place inside x.none;
+      sole = apart is ∙ x.sole;
+      fits = x.fits;
+    }))
     by true is (inl none) = absurd (served_waits n k d rs place inside is none.1)
     by true is (inr (inl w)) = served w is o refl
     by true is (inr (inr x)) = absurd (served_waits n k d rs place inside is x.none)
@@ -158,9 +179,15 @@ aborts aw rs es m at n = by (nat_eq m n) refl (at n) (find (is_numbered m) rs) r
         → At aw left (es ++ option_to_list (option_map aborted_record o)) n
     by false is x o e = at_same n refl (sole_left (is_numbered n) (λ r. not (is_numbered m r)) rs (others is))
         (apart is o e) x
-    by true is (inl none) None e = grind (arith, at_same, none_stays, is_numbered, ends_numbered, append-nil)
-    by true is (inl none) (Some r) e = grind (arith, none-some, none_found, is_numbered, eqb-true)
-    by true is (inr (inl w)) None e = grind (arith, none-some, found_sole, is_numbered, eqb-true)
+    by true is (inl none) None e = at_same {aw = aw} {rs = rs} {es = es} n refl
+        (none_stays (is_numbered n) (λ r. not (is_numbered m r)) rs none.1 ∙ sym none.1)
+        (ap (filter (ends_numbered n)) (append-nil es)) (inl none)
+    by true is (inl none) (Some r) e = absurd (none-some r
+        (sym (none_found (is_numbered m) rs (subst (λ k. filter (is_numbered k) rs ≡ [])
+        (sym (eqb-true m n is)) none.1)) ∙ e))
+    by true is (inr (inl w)) None e = absurd (none-some w.own
+        (sym e ∙ found_sole (is_numbered m) rs w.own (subst (λ k. filter (is_numbered k) rs ≡ w.own ∷ [])
+        (sym (eqb-true m n is)) w.sole)))
     by true is (inr (inl w)) (Some r) e =
         let same : w.own ≡ r = same_Some w.own r (sym (found_sole (is_numbered m) rs w.own
         (subst (λ k. filter (is_numbered k) rs ≡ w.own ∷ []) (sym (eqb-true m n is)) w.sole)) ∙ e) in
@@ -174,8 +201,12 @@ aborts aw rs es m at n = by (nat_eq m n) refl (at n) (find (is_numbered m) rs) r
           fits = moved_few r.command.order r.good (bytes_in w.text)
               (subst (λ (x : Record). asked_by x.command.order ≤ bytes_in w.text) same w.fits);
         }))
-    by true is (inr (inr x)) None e = grind (arith, at_same, none_stays, is_numbered, ends_numbered, append-nil)
-    by true is (inr (inr x)) (Some r) e = grind (arith, none-some, none_found, is_numbered, eqb-true)
+    by true is (inr (inr x)) None e = at_same {aw = aw} {rs = rs} {es = es} n refl
+        (none_stays (is_numbered n) (λ r. not (is_numbered m r)) rs x.none ∙ sym x.none)
+        (ap (filter (ends_numbered n)) (append-nil es)) (inr (inr x))
+    by true is (inr (inr x)) (Some r) e = absurd (none-some r
+        (sym (none_found (is_numbered m) rs (subst (λ k. filter (is_numbered k) rs ≡ [])
+        (sym (eqb-true m n is)) x.none)) ∙ e))
 
 -- ---- a message comes, whose number is new
 
@@ -186,7 +217,14 @@ pub comes_waiting : (aw : List (List ℕ)) (rs : List Record) (es : List End) (t
 comes_waiting aw rs es t r new is others few at n = by (nat_eq (num t 0 4) n) refl (at n)
   where
     by : (c : Bool) → nat_eq (num t 0 4) n ≡ c → At aw rs es n → At (aw ++ t ∷ []) (rs ++ r ∷ []) es n
-    by true e x = grind (arith, eqb-true, sole_comes, eq-eqb, is_numbered)
+    by true e x = subst (At (aw ++ t ∷ []) (rs ++ r ∷ []) es) (eqb-true (num t 0 4) n e) (inr (inl (record {
+      text = t;
+      own = r;
+      message = sole_comes (has_number (num t 0 4)) aw t new.0 (eq-eqb (num t 0 4) (num t 0 4) refl);
+      sole = sole_comes (is_numbered (num t 0 4)) rs r new.1 is;
+      no_end = new.2;
+      fits = few;
+    })))
     by false e x = at_same n (none_beside (has_number n) aw t e) (none_beside (is_numbered n) rs r (others n e)) refl x
 
 pub comes_ended : (aw : List (List ℕ)) (rs : List Record) (es : List End) (t : List ℕ) (x : End)
@@ -198,5 +236,12 @@ comes_ended aw rs es t x new own few at n = by (nat_eq (num t 0 4) n) refl (at n
     other d = ap (λ m. nat_eq m n) own ∙ d
 
     by : (c : Bool) → nat_eq (num t 0 4) n ≡ c → At aw rs es n → At (aw ++ t ∷ []) rs (es ++ x ∷ []) n
-    by true e y = grind (arith, eqb-true, sole_comes, eq-eqb, ends_numbered)
+    by true e y = subst (At (aw ++ t ∷ []) rs (es ++ x ∷ [])) (eqb-true (num t 0 4) n e) (inr (inr (record {
+      text = t;
+      end = x;
+      message = sole_comes (has_number (num t 0 4)) aw t new.0 (eq-eqb (num t 0 4) (num t 0 4) refl);
+      none = new.1;
+      sole = sole_comes (ends_numbered (num t 0 4)) es x new.2 (eq-eqb x.reference (num t 0 4) own);
+      fits = few;
+    })))
     by false e y = at_same n (none_beside (has_number n) aw t e) refl (none_beside (ends_numbered n) es x (other e)) y
