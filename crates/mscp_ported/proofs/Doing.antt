@@ -198,7 +198,8 @@ module _ {K : Type 0} (old new : Port K) (u : InUse old) where
       by (IsAnswered slot size foreign end at own none e a) = inr (record {
         used = use_on _ e refl u.room refl (subst (λ p. IsClear p.task → ⊥) (sym e) (λ c. c));
         ends = read_ends bytes done r slot size foreign at;
-        left = subst (λ t. 1 + rest new.task ≤ rest t) (sym at) (subst (λ p. 1 + rest p.task ≤ 5) (sym e) (search arith));
+        left = subst (λ t. 1 + rest new.task ≤ rest t) (sym at)
+            (subst (λ p. 1 + rest p.task ≤ 5) (sym e) (search arith));
         out = inr (inr (
           none,
           answers end (subst (λ q. IsSomeAnd q (λ x. IsSomeAnd new.outgoing (λ y. (y.bytes.items ≡ end_bytes x)
@@ -214,7 +215,8 @@ module _ {K : Type 0} (old new : Port K) (u : InUse old) where
               × (y.kind ≡ end_kind foreign))) is h)
           answers x h (Some o) is = λ n. none-some o (sym n ∙ is)
       by (StaysInSlot slot size foreign at why e) = on _ e refl u.room refl refl
-          (read_ends bytes done r slot size foreign at) (text_fewer tasks.Free (search arith) (search arith) (λ c. c) at)
+          (read_ends bytes done r slot size foreign at)
+          (text_fewer tasks.Free (search arith) (search arith) (λ c. c) at)
       by (IsSent slot size foreign (sents.Queued reference) at own answer e) = on _ e.frame refl u.room refl refl
           (read_ends bytes done r slot size foreign at)
           (text_fewer (tasks.Return Commands slot) (search arith) (search arith) (λ c. c) at)
