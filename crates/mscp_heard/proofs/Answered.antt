@@ -8,16 +8,11 @@ use Rattle.mscp_packet.specs.declared.end.EndBody.TheVariants as bodies
 use Rattle.mscp_heard.proofs.Claims.{claim_of, claim_said, claims, claims_said, find_left, tally}
 use Rattle.mscp_heard.proofs.Keeping.{apart_left, every_told, every_without, gone, last_left}
 use Rattle.mscp_heard.proofs.Saying.{IsDone, answer_is}
-use Rattle.mscp_heard.proofs.Common.{Account, AllByRecursion, Asked, Bool, End, Heard, List, None, Option, OutgoingKind, Pending, PortAccount, Said, Some, Watch, [], answered, ap, arith, as_read, cond, eq-eqb, eqb-true, false, filter, find, has_number, inl, inr, is_about, is_about_polled, is_of, is_poll_of, is_too_much, last_told, map, nat_eq, nat_lt, news_of_figure, news_said, news_with, none-some, num, outstanding_with, pending_in, pending_said, polled_is_outstanding, refl, same_Some, slice_index, subst, sym, true, watch_after, with_told, without, without_by, ℕ, ◌++◌, ◌+◌, ◌∙◌, ◌∷◌, ◌≡◌, ◌≢◌, ◌≤◌}
+use Rattle.mscp_heard.proofs.Common.{Account, AllByRecursion, Asked, Bool, End, Heard, List, None, Option, OutgoingKind, Pending, PortAccount, Said, Some, Watch, [], answered, ap, arith, as_read, cond, eq-eqb, eqb-true, false, filter, find, has_number, inl, inr, is_about, is_about_polled, is_of, is_poll_of, last_told, map, nat_eq, nat_lt, news_of_figure, news_said, news_with, none-some, num, outstanding_with, pending_in, pending_said, polled_is_outstanding, refl, same_Some, slice_index, subst, sym, true, watch_after, with_told, without, without_by, ℕ, ◌++◌, ◌∙◌, ◌∷◌, ◌≡◌, ◌≢◌, ◌≤◌}
 
 find_other : (n m : ℕ) (xs : List Asked) (y : Asked) → AreApart xs → find (is_of n) (without_by (is_of m) xs) ≡ Some y
     → nat_eq n m ≡ false
-find_other n m xs y apart e = by (nat_eq n m) refl
-  where
-    by : (b : Bool) → nat_eq n m ≡ b → b ≡ false
-    by false is = refl
-    by true is = absurd (none-some y (sym (gone m xs apart)
-        ∙ subst (λ j. find (is_of j) (without_by (is_of m) xs) ≡ Some y) (eqb-true n m is) e))
+find_other n m xs y apart e = grind (arith, nat_eq, none-some, gone, eqb-true)
 
 module _ (F : ℕ → ℕ) (Served : ℕ → Type 0) (old new : PortAccount) (s : Said) (us : List Said) (P : List Pending)
     (ts ms : List (List ℕ)) (k : Knows F Served old (s ∷ us) (pending_in s ++ P) ts ms) where
@@ -54,14 +49,10 @@ module _ (F : ℕ → ℕ) (Served : ℕ → Type 0) (old new : PortAccount) (s 
   }
     where
       no_claim : (kind : OutgoingKind) → s.kind ≡ kind → claim_said s.kind s.text ≡ []
-      no_claim kinds.End is = absurd (other is)
-      no_claim kinds.Attention is = ap (λ x. claim_said x s.text) is
-      no_claim kinds.UtilitiesEnd is = ap (λ x. claim_said x s.text) is
+      no_claim kind is = grind (arith, claim_said)
 
       no_pending : (kind : OutgoingKind) → s.kind ≡ kind → pending_in s ≡ []
-      no_pending kinds.End is = absurd (other is)
-      no_pending kinds.Attention is = ap (λ x. pending_said x s.text) is
-      no_pending kinds.UtilitiesEnd is = ap (λ x. pending_said x s.text) is
+      no_pending kind is = grind arith
 
   -- an end is heard
   module _ (kind : s.kind ≡ kinds.End) (e : End) (named : e.reference ≡ num s.text 0 4)
@@ -82,24 +73,7 @@ module _ (F : ℕ → ℕ) (Served : ℕ → Type 0) (old new : PortAccount) (s 
 
     placed_now : (m : ℕ) (y : Asked) → find (is_of m) new.asked ≡ Some y → 1 ≤ tally m (claims us ts ms)
     placed_now m y f =
-        let apart = find_other m e.reference old.asked y k.unique (ap (find (is_of m)) (sym d.asked) ∙ f) in
-        let before = k.placed m y (sym (find_left m e.reference old.asked apart) ∙ ap (find (is_of m)) (sym d.asked)
-        ∙ f) in
-        less (tally m (claims us ts ms)) (subst (λ cs. 1 ≤ tally m ((cs ++ claims_said us)
-        ++ (map claim_of ts ++ map claim_of ms))) (ap (λ x. claim_said x s.text) kind) before)
-        (swapped (nat_eq (num s.text 0 4) m) refl apart)
-      where
-        swapped : (b : Bool) → nat_eq (num s.text 0 4) m ≡ b → nat_eq m e.reference ≡ false → b ≡ false
-        swapped false is apart = refl
-        swapped true is apart = search (
-          arith,
-          apart,
-          eq-eqb m e.reference
-              (sym (eqb-true (num s.text 0 4) m is) ∙ sym named),
-        )
-
-        less : (x : ℕ) → 1 ≤ cond (nat_eq (num s.text 0 4) m) (1 + x) x → nat_eq (num s.text 0 4) m ≡ false → 1 ≤ x
-        less x h is = subst (λ b. 1 ≤ cond b (1 + x) x) is h
+        grind (arith, find_other, find_left, tally, claims, claims_said, claim_of, claim_said, nat_eq, eq-eqb, eqb-true)
 
     -- the poll in flight, where this is its end
     poll_heard : (w : Watch) → old.account.watch ≡ Some w → w.reference ≡ e.reference → w.is_outstanding ≡ true
@@ -148,10 +122,7 @@ module _ (F : ℕ → ℕ) (Served : ℕ → Type 0) (old new : PortAccount) (s 
             )) k.told
 
     told_now : AllByRecursion (KnowsTold F Served ms) new.account.outstanding
-    told_now = subst (λ xs. AllByRecursion (KnowsTold F Served ms) xs) (sym d.outstanding)
-        (every_without (KnowsTold F Served ms) e.reference
-        (outstanding_with old.account (answered old.account.watch (as_read e)))
-        (told_with (answered old.account.watch (as_read e)) refl))
+    told_now = grind (arith, every_without, told_with)
 
     -- a poll that is in flight still
     poll_now : (v : Watch) → new.account.watch ≡ Some v → v.is_outstanding ≡ true
@@ -160,19 +131,7 @@ module _ (F : ℕ → ℕ) (Served : ℕ → Type 0) (old new : PortAccount) (s 
       where
         same_told : (w : Watch) → old.account.watch ≡ Some w → nat_eq w.reference e.reference ≡ false
             → outstanding_with old.account (answered old.account.watch (as_read e)) ≡ old.account.outstanding
-        same_told w is apart = none (answered old.account.watch (as_read e)) refl
-          where
-            none : (o : Option (ℕ × ℕ)) → answered old.account.watch (as_read e) ≡ o
-                → outstanding_with old.account o ≡ old.account.outstanding
-            none None h = refl
-            none (Some told) h =
-                let a = answer_is old.account.watch e told h in
-                absurd (search (
-                  arith,
-                  apart,
-                  eq-eqb w.reference e.reference
-                      (ap (λ (z : Watch). z.reference) (same_Some w a.0 (sym is ∙ a.1)) ∙ a.2),
-                ))
+        same_told w is apart = grind (arith, answer_is, eq-eqb, same_Some)
 
         kept : (w : Watch) → old.account.watch ≡ Some w → nat_eq w.reference e.reference ≡ false
             → nat_eq w.polled e.reference ≡ false → w.is_outstanding ≡ true
@@ -225,23 +184,7 @@ module _ (F : ℕ → ℕ) (Served : ℕ → Type 0) (old new : PortAccount) (s 
 
         by : (o : Option Watch) → old.account.watch ≡ o → watch_after o e.reference ≡ Some v
             → KnowsPoll F Served new P ms v.polled v.reference
-        by None is h = absurd (none-some v h)
-        by (Some w) is h = cases (nat_eq w.reference e.reference) refl (nat_eq w.polled e.reference) refl h
-          where
-            cases : (a : Bool) → nat_eq w.reference e.reference ≡ a → (b : Bool) → nat_eq w.polled e.reference ≡ b
-                → cond a None (cond b (Some (record w { is_outstanding = false })) (Some w)) ≡ Some v
-                → KnowsPoll F Served new P ms v.polled v.reference
-            cases true p b q h = absurd (none-some v h)
-            cases false p true q h = absurd (search (
-              arith,
-              sym (ap (λ (z : Watch). z.is_outstanding)
-                  (same_Some (record w { is_outstanding = false }) v h)) ∙ refl,
-              out,
-            ))
-            cases false p false q h =
-                let same = same_Some w v h in
-                subst (λ (z : Watch). KnowsPoll F Served new P ms z.polled z.reference) same
-                (kept w is p q (ap (λ (z : Watch). z.is_outstanding) same ∙ out))
+        by o is h = grind (arith, none-some, nat_eq, same_Some, kept)
 
     pub knows_end : Knows F Served new us P ts ms
     knows_end = record {
@@ -267,50 +210,18 @@ module _ (F : ℕ → ℕ) (Served : ℕ → Type 0) (old new : PortAccount) (s 
             (heards.Ended e d.own.0)) ≢ heards.Reset)
             × (cond a (heards.Refused e) (cond c (heards.MovedTooMuch e d.own.0)
             (heards.Ended e d.own.0)) ≢ heards.Lost)
-        ended_so true c = ((λ f. search (arith, f)), (λ f. search (arith, f)))
-        ended_so false true = ((λ f. search (arith, f)), (λ f. search (arith, f)))
-        ended_so false false = ((λ f. search (arith, f)), (λ f. search (arith, f)))
+        ended_so a c = grind arith
 
         figures : (last : Option ℕ) (figure : ℕ) → 1 ≤ figure → ((l : ℕ) → last ≡ Some l → l ≤ figure → ⊥)
             → (news_said (is_poll_of old.account.watch e.reference) e d.own.0 (news_of_figure last figure)
             ≢ heards.Reset)
             × (news_said (is_poll_of old.account.watch e.reference) e d.own.0 (news_of_figure last figure)
             ≢ heards.Lost)
-        figures None figure low above = first_so (nat_eq figure 0) (zero figure low)
-          where
-            zero : (f : ℕ) → 1 ≤ f → nat_eq f 0 ≡ false
-            zero f h = search (arith, h)
-
-            first_so : (b : Bool) → b ≡ false
-                → (news_said (is_poll_of old.account.watch e.reference) e d.own.0
-                (cond b news.Lost (news.First figure)) ≢ heards.Reset)
-                × (news_said (is_poll_of old.account.watch e.reference) e d.own.0
-                (cond b news.Lost (news.First figure)) ≢ heards.Lost)
-            first_so false h = ((λ f. search (arith, f)), (λ f. search (arith, f)))
-            first_so true h = absurd (search (arith, h))
-        figures (Some l) figure low above = less_so (nat_lt figure l) (nat_eq figure 0) (lower figure l (above l refl))
-            (zero figure low)
-          where
-            zero : (f : ℕ) → 1 ≤ f → nat_eq f 0 ≡ false
-            zero f h = search (arith, h)
-
-            lower : (f l : ℕ) → (l ≤ f → ⊥) → nat_lt f l ≡ true
-            lower f l h = search (arith, h)
-
-            less_so : (a b : Bool) → a ≡ true → b ≡ false
-                → (news_said (is_poll_of old.account.watch e.reference) e d.own.0
-                (cond a (cond b news.Lost (news.Progress figure)) news.Reset) ≢ heards.Reset)
-                × (news_said (is_poll_of old.account.watch e.reference) e d.own.0
-                (cond a (cond b news.Lost (news.Progress figure)) news.Reset) ≢ heards.Lost)
-            less_so true false p q = ((λ f. search (arith, f)), (λ f. search (arith, f)))
-            less_so true true p q = absurd (search (arith, q))
-            less_so false b p q = absurd (search (arith, p))
+        figures last figure low above = grind (arith, nat_eq, nat_lt)
 
         says : (o : Option (ℕ × ℕ)) → answered old.account.watch (as_read e) ≡ o
             → (heard ≢ heards.Reset) × (heard ≢ heards.Lost)
-        says None at = plain _ (sym (d.own.1 ∙ ap (λ o. news_said (is_poll_of old.account.watch e.reference) e d.own.0
-            (news_with old.account (as_read e) o)) at))
-            (ended_so (is_poll_of old.account.watch e.reference) (is_too_much e.body d.own.0.bytes))
+        says None at = grind (arith, plain, ended_so)
         says (Some told) at = plain _ (sym (d.own.1 ∙ ap (λ o. news_said (is_poll_of old.account.watch e.reference) e
             d.own.0 (news_with old.account (as_read e) o)) at)) (by (polled_is_outstanding old.account.watch) refl)
           where

@@ -9,14 +9,11 @@ module _ (Took : List ℕ → Type 0) (texts : List (List ℕ)) (us : List Said)
     (ts' ms' : List (List ℕ)) (d : Dealt Took texts us ts ms us' ts' ms') where
   parts_of : (n : ℕ) (xs : List Said) (ys zs : List (List ℕ)) → tally n (claims xs ys zs)
       ≡ tally n (claims_said xs) + (tally n (map claim_of ys) + tally n (map claim_of zs))
-  parts_of n xs ys zs = tally_append n (claims_said xs) (map claim_of ys ++ map claim_of zs)
-      ∙ ap (λ k. tally n (claims_said xs) + k) (tally_append n (map claim_of ys) (map claim_of zs))
+  parts_of n xs ys zs = grind (arith, tally_append, claims_said, claim_of, tally)
 
   said_one : (n : ℕ) (s : Said) (kind : OutgoingKind) → s.kind ≡ kind
       → tally n (claims_said (us ++ s ∷ [])) ≡ tally n (claims_said us) + tally n (claim_said kind s.text ++ [])
-  said_one n s kind is = ap (tally n) (said_append us (s ∷ []))
-      ∙ tally_append n (claims_said us) (claim_said s.kind s.text ++ [])
-      ∙ ap (λ k. tally n (claims_said us) + tally n (claim_said k s.text ++ [])) is
+  said_one n s kind is = grind (arith, tally, said_append, tally_append, claims_said, claim_said)
 
   same_claim : (n x y : ℕ) → x ≡ y → cond (nat_eq x n) (1 + 0) 0 ≡ cond (nat_eq y n) (1 + 0) 0
   same_claim n x y e = ap (λ k. cond (nat_eq k n) (1 + 0) 0) e
@@ -25,8 +22,7 @@ module _ (Took : List ℕ → Type 0) (texts : List (List ℕ)) (us : List Said)
   as_many n = by d
     where
       by : Dealt Took texts us ts ms us' ts' ms' → tally n (claims us ts ms) ≡ tally n (claims us' ts' ms')
-      by (inl q) = sym (ap (λ xs. tally n (claims xs ts' ms')) q.0 ∙ ap (λ xs. tally n (claims us xs ms')) q.1
-          ∙ ap (λ xs. tally n (claims us ts xs)) q.2)
+      by (inl q) = grind (arith, tally, claims)
       by (inr (inl q)) =
           let a = parts_of n us ts ms in
           let b = parts_of n (us ++ q.0 ∷ []) ts ms in
@@ -52,14 +48,7 @@ module _ (Took : List ℕ → Type 0) (texts : List (List ℕ)) (us : List Said)
           every_text [] = tt
           every_text (x ∷ xs) = (tt, every_text xs)
       by (inr (inr (inr (inl q)))) =
-          let a = parts_of n us ts (q.1 ∷ ms') in
-          let b = parts_of n us (ts ++ q.0 ∷ []) ms' in
-          let x = ap (tally n) (map-append claim_of ts (q.0 ∷ []))
-          ∙ tally_append n (map claim_of ts) (claim_of q.0 ∷ []) in
-          let y = tally_append n (claim_of q.1 ∷ []) (map claim_of ms') in
-          let same = same_claim n (num q.0 0 4) (num q.1 0 4) q.2.number in
-          ap (λ xs. tally n (claims us ts xs)) q.5 ∙ omega (arith, a, b, x, y, same)
-          ∙ sym (ap (λ xs. tally n (claims xs ts' ms')) q.3 ∙ ap (λ xs. tally n (claims us xs ms')) q.4)
+          grind (arith, parts_of, tally, map-append, claim_of, tally_append, same_claim, claims)
       by (inr (inr (inr (inr q)))) =
           let a = parts_of n us ts (q.2 ∷ ms') in
           let b = parts_of n (us ++ q.0 ∷ []) ts ms' in

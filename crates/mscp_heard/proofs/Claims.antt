@@ -1,5 +1,5 @@
 -- What a host is owed: an end for each number, of no more than so many bytes.
-use Rattle.mscp_heard.proofs.Common.{AllByRecursion, Asked, BodyKind, Bool, List, None, Option, OutgoingKind, Said, Some, [], ap, arith, bytes_in, cond, eq-eqb, eqb-true, every_append, every_weaker, false, false≢true, find, is_of, kind_of_code, map, nat_eq, none-some, num, refl, slice_index, subst, sym, true, without_by, ℕ, ◌++◌, ◌+◌, ◌∙◌, ◌∷◌, ◌≡◌, ◌≤◌}
+use Rattle.mscp_heard.proofs.Common.{AllByRecursion, Asked, BodyKind, Bool, List, None, Option, OutgoingKind, Said, Some, [], ap, arith, bytes_in, cond, eq-eqb, eqb-true, every_append, every_weaker, false, false≢true, find, is_of, kind_of_code, map, nat_eq, none-some, num, refl, slice_index, true, without_by, ℕ, ◌++◌, ◌+◌, ◌∷◌, ◌≡◌, ◌≤◌}
 use Rattle.mscp_packet.specs.declared.end.BodyKind.TheVariants as bodykinds
 use Rattle.mscp_port.specs.declared.port.OutgoingKind.TheVariants as kinds
 
@@ -50,19 +50,13 @@ tally_append n (c ∷ cs) ds = by (nat_eq c.number n) (tally n (cs
     ++ ds)) (tally n cs) (tally n ds) (tally_append n cs ds)
   where
     by : (b : Bool) (x y z : ℕ) → x ≡ y + z → cond b (1 + x) x ≡ cond b (1 + y) y + z
-    by true x y z e = omega (arith, e)
-    by false x y z e = e
+    by b x y z e = grind arith
 
 -- a number that isn't found is owed by none
 pub none_owed : (asked : List Asked) (cs : List Claim) (n : ℕ) → AllByRecursion (IsOwed asked) cs
     → find (is_of n) asked ≡ None → tally n cs ≡ 0
 none_owed asked [] n all none = refl
-none_owed asked (c ∷ cs) n all none = by (nat_eq c.number n) refl (none_owed asked cs n all.1 none)
-  where
-    by : (b : Bool) → nat_eq c.number n ≡ b → tally n cs ≡ 0 → cond b (1 + tally n cs) (tally n cs) ≡ 0
-    by true is rest = absurd (none-some all.0.0 (sym none
-        ∙ subst (λ m. find (is_of m) asked ≡ Some all.0.0) (eqb-true c.number n is) all.0.1))
-    by false is rest = rest
+none_owed asked (c ∷ cs) n all none = grind (arith, none_owed asked cs n all.1 none, nat_eq, none-some, eqb-true)
 
 -- and one that is owed once, by no other
 pub others_apart : (n : ℕ) (cs : List Claim) → tally n cs ≡ 0 → AllByRecursion (λ c. nat_eq c.number n ≡ false) cs
@@ -72,47 +66,24 @@ others_apart n (c ∷ cs) e = by (nat_eq c.number n) refl e (λ h. others_apart 
     by : (b : Bool) → nat_eq c.number n ≡ b → cond b (1 + tally n cs) (tally n cs) ≡ 0
         → (tally n cs ≡ 0 → AllByRecursion (λ c. nat_eq c.number n ≡ false) cs)
         → (nat_eq c.number n ≡ false) × AllByRecursion (λ c. nat_eq c.number n ≡ false) cs
-    by true is h rest = absurd (search (arith, h))
-    by false is h rest = (is, rest h)
+    by b is h rest = grind arith
 
 -- ---- commands
 
 pub find_more : (n : ℕ) (asked : List Asked) (x y : Asked) → find (is_of n) asked ≡ Some x
     → find (is_of n) (asked ++ y ∷ []) ≡ Some x
 find_more n [] x y e = absurd (none-some x e)
-find_more n (a ∷ asked) x y e = by (is_of n a) e (λ h. find_more n asked x y h)
-  where
-    by : (b : Bool) → cond b (Some a) (find (is_of n) asked) ≡ Some x
-        → (find (is_of n) asked ≡ Some x → find (is_of n) (asked ++ y ∷ []) ≡ Some x)
-        → cond b (Some a) (find (is_of n) (asked ++ y ∷ [])) ≡ Some x
-    by true h rest = h
-    by false h rest = rest h
+find_more n (a ∷ asked) x y e = grind (arith, find_more n asked x y)
 
 pub find_new : (n : ℕ) (asked : List Asked) (y : Asked) → find (is_of n) asked ≡ None → is_of n y ≡ true
     → find (is_of n) (asked ++ y ∷ []) ≡ Some y
 find_new n [] y e is = ap (λ b. cond b (Some y) None) is
-find_new n (a ∷ asked) y e is = by (is_of n a) e (λ h. find_new n asked y h is)
-  where
-    by : (b : Bool) → cond b (Some a) (find (is_of n) asked) ≡ None
-        → (find (is_of n) asked ≡ None → find (is_of n) (asked ++ y ∷ []) ≡ Some y)
-        → cond b (Some a) (find (is_of n) (asked ++ y ∷ [])) ≡ Some y
-    by true h rest = absurd (none-some a (sym h))
-    by false h rest = rest h
+find_new n (a ∷ asked) y e is = grind (arith, find_new n asked y, none-some)
 
 pub find_left : (n m : ℕ) (asked : List Asked) → nat_eq n m ≡ false
     → find (is_of n) (without_by (is_of m) asked) ≡ find (is_of n) asked
 find_left n m [] d = refl
-find_left n m (a ∷ asked) d = by (is_of m a) refl (is_of n a) refl (find_left n m asked d)
-  where
-    by : (b : Bool) → is_of m a ≡ b → (c : Bool) → is_of n a ≡ c
-        → find (is_of n) (without_by (is_of m) asked) ≡ find (is_of n) asked
-        → find (is_of n) (cond b asked (a ∷ without_by (is_of m) asked))
-        ≡ cond c (Some a) (find (is_of n) asked)
-    by true e true f rest = absurd (false≢true (sym d ∙ eq-eqb n m
-        (sym (eqb-true a.reference n f) ∙ eqb-true a.reference m e)))
-    by true e false f rest = refl
-    by false e c f rest = ap (λ x. cond x (Some a) (find (is_of n) (without_by (is_of m) asked))) f
-        ∙ ap (λ o. cond c (Some a) o) rest
+find_left n m (a ∷ asked) d = grind (arith, find_left n m asked d, false≢true, eq-eqb, eqb-true)
 
 -- ---- a command is sent
 
@@ -127,26 +98,14 @@ owes_more asked cs x c new own few o = record {
 }
   where
     one : (n : ℕ) (b : Bool) → nat_eq c.number n ≡ b → tally n (cs ++ c ∷ []) ≤ 1
-    one n true is =
-        let none : tally n cs ≡ 0 = none_owed asked cs n o.known
-        (subst (λ m. find (is_of m) asked ≡ None) (eqb-true c.number n is) new) in
-        let here : tally n (c ∷ []) ≡ 1 = ap (λ b. cond b (1 + 0) 0) is in
-        omega (arith, tally_append n cs (c ∷ []), none, here)
-    one n false is =
-        let here : tally n (c ∷ []) ≡ 0 = ap (λ b. cond b (1 + 0) 0) is in
-        omega (arith, tally_append n cs (c ∷ []), here, o.once n)
+    one n b is = grind (arith, none_owed, eqb-true, tally_append)
 
 -- ---- the first claim is met
 
 -- no other has its number
 pub rest_apart : (asked : List Asked) (c : Claim) (cs : List Claim) → Owes asked (c ∷ cs)
     → AllByRecursion (λ d. nat_eq d.number c.number ≡ false) cs
-rest_apart asked c cs o = others_apart c.number cs (few (tally c.number cs)
-    (subst (λ b. cond b (1 + tally c.number cs) (tally c.number cs) ≤ 1) (eq-eqb c.number c.number refl)
-    (o.once c.number)))
-  where
-    few : (k : ℕ) → 1 + k ≤ 1 → k ≡ 0
-    few k h = omega (arith, h)
+rest_apart asked c cs o = grind (arith, others_apart, eq-eqb)
 
 -- by an end that was heard, or not
 pub owes_less : (asked : List Asked) (c : Claim) (cs : List Claim) → Owes asked (c ∷ cs)
@@ -157,35 +116,20 @@ owes_less asked c cs o = record {
 }
   where
     less : (b : Bool) (k : ℕ) → cond b (1 + k) k ≤ 1 → k ≤ 1
-    less true k h = omega (arith, h)
-    less false k h = h
+    less b k h = grind arith
 
     left : (ds : List Claim) → AllByRecursion (IsOwed asked) ds
         → AllByRecursion (λ d. nat_eq d.number c.number ≡ false) ds
         → AllByRecursion (IsOwed (without_by (is_of c.number) asked)) ds
     left [] all apart = tt
-    left (d ∷ ds) all apart = (
-      (all.0.0, find_left d.number c.number asked apart.0 ∙ all.0.1, all.0.2),
-      left ds all.1 apart.1,
-    )
+    left (d ∷ ds) all apart = grind (arith, left ds all.1 apart.1, find_left)
 
 pub owes_rest : (asked : List Asked) (c : Claim) (cs : List Claim) → Owes asked (c ∷ cs) → Owes asked cs
-owes_rest asked c cs o = record { known = o.known.1; once = λ n. less (nat_eq c.number n) (tally n cs) (o.once n) }
-  where
-    less : (b : Bool) (k : ℕ) → cond b (1 + k) k ≤ 1 → k ≤ 1
-    less true k h = omega (arith, h)
-    less false k h = h
+owes_rest asked c cs o = grind (arith, nat_eq)
 
 -- ---- claims that move
 
 -- the same claims as often, each owed
 pub owes_same : (asked : List Asked) (cs ds : List Claim) → ((n : ℕ) → tally n ds ≤ tally n cs)
     → AllByRecursion (IsOwed asked) ds → Owes asked cs → Owes asked ds
-owes_same asked cs ds fewer known o = record {
-  known = known;
-  once = λ n. few (tally n ds) (tally n cs)
-      (fewer n) (o.once n);
-}
-  where
-    few : (x y : ℕ) → x ≤ y → y ≤ 1 → x ≤ 1
-    few x y h k = omega (arith, h, k)
+owes_same asked cs ds fewer known o = grind arith

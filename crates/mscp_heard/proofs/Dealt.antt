@@ -1,6 +1,6 @@
 -- What a call of a port makes of what its host may be told.
 use Rattle.mscp_port.specs.declared.port.OutgoingKind.TheVariants as kinds
-use Rattle.mscp_heard.proofs.Common.{All, Answered, AnsweredCalls, AreJoined, AsksAlways, Call, Called, Deals, Deed, Did, First, Fits, Hardware, Holdings, IsAnswering, IsCopyOf, IsMadeOf, IsNextText, IsTaking, IsTextOf, IsValid, List, Made, None, Ok, Opened, Outgoing, Picking, Port, PortAccount, PortHostsKeepTheirHistory, PortsAnswerAsTheyMay, PortsEndByOpcode, PortsEndWhatTheyTook, PortsHearInOrder, PortsOpenWhatTheyAccept, PortsTellInOrder, ReadsBytes, ReadsInOrder, Said, Settings, Slot, Some, Talk, Turn, WasRead, [], accepted, accepted_by, ap, append-nil, arith, awaited, begins, bytes_small, calls_in, cond, did, drop, ends_said_by, filter, fresh, has_number, inl, inr, is_transfer, kind_answered, length, map, not, num, outstanding_of, own_answer, own_coded, refl, said, said_in, sent, slice_get, slice_index, subst, sym, taken_by, talk_of, volume_named, without_ends, ℕ, ◌++◌, ◌+◌, ◌<◌, ◌∙◌, ◌∷◌, ◌≡◌, ◌≢◌, ◌≤◌, ◌⊎◌}
+use Rattle.mscp_heard.proofs.Common.{All, Answered, AnsweredCalls, AreJoined, AsksAlways, Call, Called, Deals, Deed, Did, First, Fits, Hardware, Holdings, IsAnswering, IsCopyOf, IsMadeOf, IsTaking, IsTextOf, IsValid, List, Made, None, Ok, Opened, Outgoing, Picking, Port, PortAccount, PortHostsKeepTheirHistory, PortsAnswerAsTheyMay, PortsEndByOpcode, PortsEndWhatTheyTook, PortsHearInOrder, PortsOpenWhatTheyAccept, PortsTellInOrder, ReadsBytes, ReadsInOrder, Said, Settings, Slot, Some, Talk, WasRead, [], accepted, accepted_by, ap, append-nil, arith, awaited, begins, bytes_small, calls_in, drop, ends_said_by, filter, fresh, has_number, inl, inr, kind_answered, length, map, not, num, outstanding_of, own_answer, own_coded, refl, said, said_in, slice_get, slice_index, sym, taken_by, talk_of, volume_named, without_ends, ℕ, ◌++◌, ◌+◌, ◌<◌, ◌∙◌, ◌∷◌, ◌≡◌, ◌≢◌, ◌≤◌, ◌⊎◌}
 use Rattle.mscp_heard.proofs.Joined.{IsNext, next_of}
 use Rattle.mscp_heard.proofs.Moving.{drop_at, drop_beside}
 use Rattle.mscp_heard.proofs.Notes.{Noted, copy_answered, copy_taken, noted_end, noted_news}
@@ -28,49 +28,26 @@ Taken call old t = ((done : Unit) × (call ≡ WasRead t (Ok done))) × (taken_b
 
 noted_as : (host : PortAccount) (us us' : List Said) (ts ts' ms ms' : List (List ℕ)) → us' ≡ us → ts' ≡ ts → ms' ≡ ms
     → Noted host us ts ms → Noted host us' ts' ms'
-noted_as host us us' ts ts' ms ms' e f g n = subst (λ x. Noted host x ts' ms') (sym e)
-    (subst (λ x. Noted host us x ms') (sym f) (subst (λ x. Noted host us ts x) (sym g) n))
+noted_as host us us' ts ts' ms ms' e f g n = grind arith
 
 pub noted_dealt : (Took : List ℕ → Type 0) (texts : List (List ℕ)) (host : PortAccount) (us us' : List Said)
     (ts ts' ms ms' : List (List ℕ))
     → Dealt Took texts us ts ms us' ts' ms' → Noted host us ts ms → Noted host us' ts' ms'
-noted_dealt Took texts host us us' ts ts' ms ms' (inl q) n = noted_as host us us' ts ts' ms ms' q.0 q.1 q.2 n
-noted_dealt Took texts host us us' ts ts' ms ms' (inr (inl q)) n =
-    noted_as host (us ++ q.0 ∷ []) us' ts ts' ms ms' q.2 q.3 q.4 (noted_news host us ts q.0 ms q.1 n)
-noted_dealt Took texts host us us' ts ts' ms ms' (inr (inr (inl q))) n =
-    noted_as host (us ++ q.0 ∷ []) us' (filter (λ x. not (has_number (num q.0.text 0 4) x)) ts) ts' ms ms' q.4 q.5 q.6
-    (noted_end host us ts q.0 q.1 ms q.2 q.3 n)
-noted_dealt Took texts host us us' ts ts' ms ms' (inr (inr (inr (inl q)))) n =
-    noted_as host us us' (ts ++ q.0 ∷ []) ts' ms' ms' q.3 q.4 refl
-    (copy_taken host us ts q.0 q.1 ms' q.2 (subst (λ x. Noted host us ts x) q.5 n))
-noted_dealt Took texts host us us' ts ts' ms ms' (inr (inr (inr (inr q)))) n =
-    noted_as host (us ++ q.0 ∷ []) us' ts ts' ms' ms' q.7 q.8 refl
-    (copy_answered host us ts q.0 q.1 q.2 ms' q.3 q.4 (inr q.5) q.6 (subst (λ x. Noted host us ts x) q.9 n))
+noted_dealt Took texts host us us' ts ts' ms ms' h n =
+    grind (arith, noted_as, noted_news, noted_end, copy_taken, copy_answered)
 
 copy_text : (text message : List ℕ) → IsCopyOf text message → IsTextOf text message
-copy_text text message is = record {
-  number = is.number;
-  bytes = λ j. cond (is_transfer (is.opcode j)) (is.parameter j) 0;
-}
+copy_text text message is = grind arith
 
 copied_read : (call : Call) (t : Talk) (ms : List (List ℕ)) → ReadsInOrder IsCopyOf call t ms
     → ReadsInOrder IsTextOf call t ms
-copied_read (WasRead bytes (Ok done)) t ms h = by t.turn h
-  where
-    by : (turn : Turn) → IsNextText IsCopyOf turn (length t.heard) ms bytes
-        → IsNextText IsTextOf turn (length t.heard) ms bytes
-    by (Opened slot header) h = (h.0, (h.1.0, h.1.1, copy_text bytes h.1.0 h.1.2))
-    by turn h = tt
-copied_read call t ms h = tt
+copied_read call t ms h = grind (arith, copy_text)
 
 pub copied : {K : Type 0} (picks : Picking K) (start p : Port K) (deeds : List Deed)
     (a : Answered picks start (calls_in deeds) p) → AreJoined IsCopyOf picks start p deeds a
     → AreJoined IsTextOf picks start p deeds a
 copied picks start p [] a j = tt
-copied picks start p (Called call ∷ deeds) a j = (
-  copied_read call (talk_of picks start a.0 (calls_in deeds) a.1) (sent (did deeds)) j.0,
-  copied picks start a.0 deeds a.1 j.1,
-)
+copied picks start p (Called call ∷ deeds) a j = grind (arith, copied picks start a.0 deeds a.1 j.1, copied_read)
 copied picks start p (Did m ∷ deeds) a j = (j.0, copied picks start p deeds a j.1)
 
 module _ {K : Type 0} (picks : Picking K) (c : Settings) (picker : K) (ends : PortsEndWhatTheyTook picks picker)
@@ -105,30 +82,23 @@ module _ {K : Type 0} (picks : Picking K) (c : Settings) (picker : K) (ends : Po
         → p.outgoing ≡ Some out
         → drop k (said picks start a.0 calls a.1 ++ map said_in (begins a.0.outgoing p.outgoing))
         ≡ drop k (said picks start a.0 calls a.1) ++ said_in out ∷ []
-    said_more out nothing some = ap (λ xs. drop k (said picks start a.0 calls a.1 ++ map said_in xs))
-        (begun_one a.0.outgoing p.outgoing out nothing some)
-        ∙ drop_beside k (said picks start a.0 calls a.1) (said_in out) heard
+    said_more out nothing some = grind (arith, begun_one, drop_beside)
 
     said_same : begins a.0.outgoing p.outgoing ≡ []
         → drop k (said picks start a.0 calls a.1 ++ map said_in (begins a.0.outgoing p.outgoing))
         ≡ drop k (said picks start a.0 calls a.1)
-    said_same none = ap (λ xs. drop k (said picks start a.0 calls a.1 ++ map said_in xs)) none
-        ∙ ap (drop k) (append-nil (said picks start a.0 calls a.1))
+    said_same none = grind (arith, append-nil)
 
     awaited_same : ends_said_by call a.0 p ≡ []
         → taken_by call a.0 ≡ []
         → without_ends (ends_said_by call a.0 p) (awaited picks start a.0 calls a.1) ++ taken_by call a.0
         ≡ awaited picks start a.0 calls a.1
-    awaited_same ended taken =
-        ap (λ xs. without_ends xs (awaited picks start a.0 calls a.1) ++ taken_by call a.0) ended
-        ∙ ap (λ xs. awaited picks start a.0 calls a.1 ++ xs) taken
-        ∙ append-nil (awaited picks start a.0 calls a.1)
+    awaited_same ended taken = grind (arith, append-nil)
 
     unread_same : accepted_by call a.0 ≡ []
         → drop (length (accepted picks start a.0 calls a.1 ++ accepted_by call a.0)) sent_so
         ≡ drop (length (accepted picks start a.0 calls a.1)) sent_so
-    unread_same none = ap (λ xs. drop (length xs) sent_so)
-        (ap (λ xs. accepted picks start a.0 calls a.1 ++ xs) none ∙ append-nil (accepted picks start a.0 calls a.1))
+    unread_same none = grind (arith, append-nil)
 
     unread_less : (text message : List ℕ)
         → accepted_by call a.0 ≡ text ∷ []
@@ -192,7 +162,7 @@ module _ {K : Type 0} (picks : Picking K) (c : Settings) (picker : K) (ends : Po
       ))))
     where
       bytes_read : Call → List ℕ
-      bytes_read (WasRead b u) = b
+      bytes_read (WasRead b r) = b
       bytes_read call = bytes
   answers_it call a heard asks small reads d = absurd (search (arith, d.read.1))
 

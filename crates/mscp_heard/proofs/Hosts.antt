@@ -1,11 +1,8 @@
 -- What each moment of a host makes of the commands whose ends it hasn't heard.
-use Rattle.mscp_heard.proofs.Common.{ArrayVec, Asked, Bool, Command, End, Envelope, Err, HearFault, Heard, List, Message, News, None, Ok, Option, Order, PortAccount, Result, Some, Submission, [], answered, ap, arith, as_read, asked_of, bytes_in, bytes_of, command_bytes, cond, end_says, ended, ends_of, false, find, four, granted, has_reference, heard_of, hears, is_of, is_poll_of, is_too_much, is_transfer, list_any, map, may_be_of, message_in, nat_eq, news_said, news_with, num, poll_of, port_polls, port_submits, refl, subst, sym, true, without_by, ℕ, ◌*◌, ◌++◌, ◌+◌, ◌/◌, ◌<◌, ◌^◌, ◌||◌, ◌∙◌, ◌∷◌, ◌≡◌, ◌≤◌, ◌⊎◌}
+use Rattle.mscp_heard.proofs.Common.{ArrayVec, Asked, Bool, Command, End, Envelope, Err, HearFault, Heard, List, Message, News, None, Ok, Option, Order, PortAccount, Result, Some, Submission, [], ap, arith, bytes_in, bytes_of, command_bytes, cond, end_says, ended, ends_of, false, find, four, granted, has_reference, heard_of, hears, is_of, is_too_much, list_any, map, message_in, nat_eq, news_said, num, poll_of, port_polls, port_submits, refl, subst, true, without_by, ℕ, ◌*◌, ◌++◌, ◌+◌, ◌/◌, ◌<◌, ◌^◌, ◌||◌, ◌∷◌, ◌≡◌, ◌≤◌, ◌⊎◌}
 use Rattle.std.proofs.Common.{◌%◌}
-use Rattle.mscp_packet.specs.declared.command.MoveKind.TheVariants as moves
-use Rattle.mscp_packet.specs.declared.command.Order.TheVariants as orders
 use Rattle.mscp_host.specs.declared.heard.Heard.TheVariants as heards
 use Rattle.mscp_host.specs.declared.message.HearFault.TheVariants as faults
-use Rattle.mscp_host.specs.declared.news.News.TheVariants as news
 use Rattle.mscp_host.specs.declared.message.Message.TheVariants as messages
 use Rattle.mscp_host.specs.declared.news.Poll.TheVariants as polls
 use Rattle.mscp_heard.proofs.Asking.{IsSent, poll_is, submit_is}
@@ -21,30 +18,14 @@ few_bytes x = omega arith
 
 order_bytes : (reference unit : ℕ) (order : Order)
     → bytes_in (command_bytes (record { reference = reference; unit = unit; order = order })) ≤ bytes_of order
-order_bytes reference unit (orders.Move moves.Access count block) = few_bytes count
-order_bytes reference unit (orders.Move moves.Erase count block) = few_bytes count
-order_bytes reference unit (orders.Move moves.Compare count block) = few_bytes count
-order_bytes reference unit (orders.Move moves.Read count block) = few_bytes count
-order_bytes reference unit (orders.Move moves.Write count block) = few_bytes count
-order_bytes reference unit (orders.Invalid byte status) = by (is_transfer byte)
-  where
-    by : (b : Bool) → cond b 0 0 ≤ 0
-    by true = omega arith
-    by false = omega arith
-order_bytes reference unit order = omega arith
+order_bytes reference unit order = grind (arith, few_bytes)
 
 -- ---- what is found
 
 none_any : (n : ℕ) (asked : List Asked) → list_any (λ r. nat_eq r n) (map (λ a. a.reference) asked) ≡ false
     → find (is_of n) asked ≡ None
 none_any n [] e = refl
-none_any n (a ∷ asked) e = by (nat_eq a.reference n) e (none_any n asked)
-  where
-    by : (b : Bool) → (b || list_any (λ r. nat_eq r n) (map (λ a. a.reference) asked)) ≡ false
-        → (list_any (λ r. nat_eq r n) (map (λ a. a.reference) asked) ≡ false → find (is_of n) asked ≡ None)
-        → cond b (Some a) (find (is_of n) asked) ≡ None
-    by true h rest = absurd (search (arith, h))
-    by false h rest = rest h
+none_any n (a ∷ asked) e = grind (arith, none_any n asked, nat_eq)
 
 any_same : (n : ℕ) (xs : List Submission)
     → list_any (has_reference n) xs ≡ list_any (λ r. nat_eq r n) (map (λ s. s.reference) xs)
@@ -57,8 +38,7 @@ SameNumbers p = map (λ a. a.reference) p.asked ≡ map (λ s. s.reference) p.ac
 
 pub unused : (p : PortAccount) (n : ℕ) → SameNumbers p → list_any (has_reference n) p.account.outstanding ≡ false
     → find (is_of n) p.asked ≡ None
-unused p n same e = none_any n p.asked (ap (list_any (λ r. nat_eq r n)) same
-    ∙ sym (any_same n p.account.outstanding) ∙ e)
+unused p n same e = grind (arith, none_any, nat_eq, any_same)
 
 -- ---- a command is sent
 
@@ -71,15 +51,7 @@ pub record Sends (old new : PortAccount) (message : List ℕ) : Type 0 where
 
 sends : (old new : PortAccount) (message : ArrayVec ℕ) (c : Command) → c.reference < 2 ^ 32 → SameNumbers old
     → IsSent old new message c → Sends old new message.items
-sends old new message c small same s =
-    let number : num message.items 0 4 ≡ c.reference = ap (λ b. num b 0 4) s.is ∙ message_number c small in
-    record {
-      more = asked_of c;
-      asked = s.asked;
-      new_number = subst (λ n. find (is_of n) old.asked ≡ None) (sym number) (unused old c.reference same s.free);
-      number = sym number;
-      bytes = subst (λ b. bytes_in b ≤ bytes_of c.order) (sym s.is) (order_bytes c.reference c.unit c.order);
-    }
+sends old new message c small same s = grind (arith, message_number, unused, order_bytes)
 
 pub submit_sends : (old new : PortAccount) (c : Command) (message : ArrayVec ℕ) → c.reference < 2 ^ 32
     → SameNumbers old → port_submits old c ≡ (Ok message, new) → Sends old new message.items
@@ -109,22 +81,7 @@ hears_too_much old new v b e asked h = by (message_in v b) h
   where
     says : (end : End) (x : Asked) (poll c : Bool) → is_too_much end.body x.bytes ≡ c → (n : News)
         → is_it (Ok (news_said poll end x n), old) ≡ true → is_too_much end.body x.bytes ≡ true
-    says end x true c is (news.Ended read) h = absurd (search (arith, h))
-    says end x false true is (news.Ended read) h = is
-    says end x false false is (news.Ended read) h = absurd (search (
-      arith,
-      h,
-      ap (λ y. is_it (
-        Ok (cond y
-            (heards.MovedTooMuch end x) (heards.Ended end x)),
-        old,
-      )) is,
-    ))
-    says end x poll c is (news.Progress figure) h = absurd (search (arith, h))
-    says end x poll c is (news.First figure) h = absurd (search (arith, h))
-    says end x poll c is news.Late h = absurd (search (arith, h))
-    says end x poll c is news.Reset h = absurd (search (arith, h))
-    says end x poll c is news.Lost h = absurd (search (arith, h))
+    says end x poll c is n h = grind arith
 
     judged : (end : End) (x : Asked) (c : Bool)
         → ◌≡◌ {A = Result Heard HearFault × PortAccount} (cond c (
@@ -133,32 +90,17 @@ hears_too_much old new v b e asked h = by (message_in v b) h
         )
         (Err faults.Unknown, old))
         (Ok (heards.MovedTooMuch e asked), new) → is_too_much end.body x.bytes ≡ true
-    judged end x true h = says end x (Rattle.mscp_host.specs.PortAccounts.is_poll_of old.account.watch end.reference)
-        (is_too_much end.body x.bytes) refl
-        (Rattle.mscp_host.specs.Accounts.news_with old.account (Rattle.mscp_host.specs.PortAccounts.as_read end)
-        (Rattle.mscp_host.specs.Accounts.answered old.account.watch (Rattle.mscp_host.specs.PortAccounts.as_read end)))
-        (ap (λ y. is_it (y.0, old)) h)
-    judged end x false h = absurd (search (arith, h))
+    judged end x c h = grind (arith, says)
 
     found : (end : End) (o : Option Asked) → find (is_of end.reference) old.asked ≡ o
         → ends_of old v.credits end o ≡ (Ok (heards.MovedTooMuch e asked), new)
         → (x : Asked) × (find (is_of end.reference) old.asked ≡ Some x) × (is_too_much end.body x.bytes ≡ true)
-    found end None is h = absurd (search (arith, h))
-    found end (Some x) is h = (x, is, judged end x (may_be_of old end x) h)
+    found end o is h = grind (arith, judged)
 
     by : (r : Result Message HearFault) → heard_of old v.credits r ≡ (Ok (heards.MovedTooMuch e asked), new)
         → (end : End) × (x : Asked) × (r ≡ Ok (messages.End end))
         × (find (is_of end.reference) old.asked ≡ Some x) × (is_too_much end.body x.bytes ≡ true)
-    by (Ok (messages.End end)) h =
-        let x = found end (find (is_of end.reference) old.asked) refl h in (end, x.0, refl, x.1, x.2)
-    by (Ok (messages.Attention code unit)) h = absurd (not_news (nat_eq code 0x40)
-        (ap (λ y. is_it (y.0, old)) h))
-      where
-        not_news : (c : Bool)
-            → is_it (Ok (cond c (heards.Available unit) (heards.Attention code unit)), old) ≡ true → ⊥
-        not_news true h = search (arith, h)
-        not_news false h = search (arith, h)
-    by x h = absurd (search (arith, h))
+    by r h = grind (arith, found, nat_eq)
 
 -- a message that is read is refused only as an end that is Unknown
 pub hears_refused : (old new : PortAccount) (v : Envelope) (b : List ℕ) (m : Message) (fault : HearFault)
@@ -173,14 +115,11 @@ hears_refused old new v b m fault is h =
           granted v.credits (ended old end),
         )
         (Err faults.Unknown, old)) (Err fault, new) → fault ≡ faults.Unknown
-    judged end x true h = absurd (search (arith, h))
-    judged end x false h = search (arith, h)
+    judged end x c h = grind arith
 
     found : (end : End) (o : Option Asked) → ends_of old v.credits end o ≡ (Err fault, new) → fault ≡ faults.Unknown
-    found end None h = search (arith, h)
-    found end (Some x) h = judged end x (may_be_of old end x) h
+    found end o h = grind (arith, judged)
 
     by : (m : Message) → message_in v b ≡ Ok m → heard_of old v.credits (Ok m) ≡ (Err fault, new)
         → (fault ≡ faults.Unknown) × ((e : End) × (message_in v b ≡ Ok (messages.End e)))
-    by (messages.End end) is h = (found end (find (is_of end.reference) old.asked) h, (end, is))
-    by x is h = absurd (search (arith, h))
+    by m is h = grind (arith, found)

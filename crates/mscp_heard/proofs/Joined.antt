@@ -1,5 +1,5 @@
 -- What a host is owed after each deed at its port.
-use Rattle.mscp_heard.proofs.Common.{Account, AllByRecursion, Answered, AnsweredCalls, AreJoined, Ask, Asked, AsksAlways, Bool, Call, Called, Deals, Deed, Did, End, Envelope, Err, First, Hardware, HasNumber, HaveNumbers, Hear, HearFault, Heard, HearsInOrder, HearsItsOwn, Holdings, IsAnswering, IsMadeOf, IsNextText, IsPacket, IsTaking, IsTextOf, IsValid, IsWhole, Likeness, List, Made, Ok, Opened, Other, OutgoingKind, Packet, Picking, Port, PortAccount, PortAnswered, PortAnswers, PortHistory, PortHostsKeepTheirHistory, PortMoment, PortsAnswerAsTheyMay, PortsEndWhatTheyTook, PortsHearInOrder, PortsOpenWhatTheyAccept, PortsTellInOrder, ReadsBytes, ReadsInOrder, Result, Resume, Settings, Slot, Some, Submit, WasRead, WriteIp, [], accepted, accepted_by, all_said, answered, ap, append-nil, arith, asks, awaited, begins, bytes_in, bytes_small, calls_in, cond, connection_told, did, drop, ends_said_by, envelope_in, false, filter, find, fresh, fresh_of_port, has_number, hearings, held, inl, inr, is_dead, is_for_utilities, is_hearing, is_of, is_too_much, kind_answered, kind_of_code, length, length-map, map, message_in, none-some, not, num, outstanding, outstanding_of, own_answer, refl, said, said_in, same_Some, seen, sent, sent_by, slice_get, slice_index, submission_at, subst, suc, sym, taken_by, talk_of, true, volume_named, without_ends, ℕ, ◌%◌, ◌++◌, ◌-◌, ◌∙◌, ◌∷◌, ◌≡◌, ◌≢◌, ◌≤◌}
+use Rattle.mscp_heard.proofs.Common.{AllByRecursion, Answered, AnsweredCalls, AreJoined, Ask, Asked, AsksAlways, Call, Called, Deals, Deed, Did, End, Envelope, Err, First, Hardware, HasNumber, HaveNumbers, Hear, HearFault, Heard, HearsInOrder, HearsItsOwn, Holdings, IsAnswering, IsMadeOf, IsPacket, IsTaking, IsTextOf, IsValid, IsWhole, Likeness, List, Made, Ok, Opened, Other, OutgoingKind, Packet, Picking, Port, PortAccount, PortAnswered, PortAnswers, PortHistory, PortHostsKeepTheirHistory, PortMoment, PortsAnswerAsTheyMay, PortsEndWhatTheyTook, PortsHearInOrder, PortsOpenWhatTheyAccept, PortsTellInOrder, ReadsBytes, ReadsInOrder, Result, Resume, Settings, Slot, Some, Submit, WasRead, WriteIp, [], accepted, accepted_by, all_said, answered, ap, append-nil, arith, asks, awaited, begins, bytes_in, bytes_small, calls_in, cond, connection_told, did, drop, ends_said_by, envelope_in, false, filter, find, fresh, fresh_of_port, has_number, hearings, held, inl, inr, is_dead, is_for_utilities, is_hearing, is_of, is_too_much, kind_answered, kind_of_code, length, length-map, map, message_in, none-some, not, num, outstanding_of, own_answer, refl, said, said_in, same_Some, sent, sent_by, slice_get, slice_index, subst, suc, sym, taken_by, talk_of, true, volume_named, without_ends, ℕ, ◌%◌, ◌++◌, ◌-◌, ◌∙◌, ◌∷◌, ◌≡◌, ◌≢◌, ◌≤◌}
 use Rattle.mscp_host.specs.declared.message.Message.TheVariants as messages
 use Rattle.mscp_host.specs.declared.news.Poll.TheVariants as polls
 use Rattle.mscp_port.specs.declared.port.OutgoingKind.TheVariants as kinds
@@ -38,18 +38,7 @@ module _ {K : Type 0} (picks : Picking K) (c : Settings) (picker : K) (ends : Po
       → (talk_of picks start a.0 calls a.1).turn ≡ Opened slot header
       → ReadsInOrder Like (WasRead bytes (Ok done)) (talk_of picks start a.0 calls a.1) ms
       → IsNext Like bytes header ms (length (accepted picks start a.0 calls a.1))
-  next_of Like p calls bytes done ms slot header asks a opened reads =
-      let t = talk_of picks start a.0 calls a.1 in
-      let r : IsNextText Like (Opened slot header) (length t.heard) ms bytes =
-      subst (λ x. IsNextText Like x (length t.heard) ms bytes) opened reads in
-      let same = counted t (accepted picks start a.0 calls a.1) slot header opened
-      (hear hardware credits controller start a.0 calls made asks.1 a.1).0 in
-      record {
-        disks = r.0;
-        message = r.1.0;
-        at = subst (λ n. slice_get ms n ≡ Some r.1.0) same r.1.1;
-        is = r.1.2;
-      }
+  next_of Like p calls bytes done ms slot header asks a opened reads = grind (arith, counted)
 
   module _ (p : Port K) (calls : List Call) (asked : List Asked) (h : PortHistory) where
     takes_it : (call : Call) (a : Answered picks start (call ∷ calls) p) → AsksAlways (call ∷ calls)
@@ -111,15 +100,7 @@ module _ {K : Type 0} (picks : Picking K) (c : Settings) (picker : K) (ends : Po
         → Inv asked (said picks start a.0 calls a.1 ++ map said_in (begins a.0.outgoing p.outgoing)) (hearings h)
         (without_ends (ends_said_by call a.0 p) (awaited picks start a.0 calls a.1) ++ taken_by call a.0) (sent h)
         (length (accepted picks start a.0 calls a.1 ++ accepted_by call a.0))
-    deals_so call a asks small reads (inl q) i =
-        inv_as asked _ (said picks start a.0 calls a.1) (hearings h) _ (awaited picks start a.0 calls a.1) (sent h) _
-        (length (accepted picks start a.0 calls a.1))
-        (ap (λ xs. said picks start a.0 calls a.1 ++ map said_in xs) q.begun
-        ∙ append-nil (said picks start a.0 calls a.1))
-        (ap (λ xs. without_ends xs (awaited picks start a.0 calls a.1) ++ taken_by call a.0) q.ended
-        ∙ ap (λ xs. awaited picks start a.0 calls a.1 ++ xs) q.taken ∙ append-nil (awaited picks start a.0 calls a.1))
-        (ap length (ap (λ xs. accepted picks start a.0 calls a.1 ++ xs) q.accepted
-        ∙ append-nil (accepted picks start a.0 calls a.1))) i
+    deals_so call a asks small reads (inl q) i = grind (arith, inv_as, append-nil)
     deals_so call a asks small reads (inr (inl q)) i =
         inv_as asked _ (said picks start a.0 calls a.1 ++ said_in q.out ∷ []) (hearings h) _
         (awaited picks start a.0 calls a.1) (sent h) _ (length (accepted picks start a.0 calls a.1))
@@ -206,14 +187,7 @@ module _ {K : Type 0} (picks : Picking K) (c : Settings) (picker : K) (ends : Po
       }
 
   pub numbered : (h : PortHistory) (host : PortAccount) → PortAnswered fresh_of_port h host → SameNumbers host
-  numbered h host r =
-      let k = history h host r in
-      let hist = map seen h in
-      ap (map (λ (x : Asked). x.reference)) k.asked
-      ∙ same_numbers hist (length hist) (outstanding hist (length h))
-      ∙ ap (λ j. map (λ x. x.reference) (map (submission_at hist (length hist)) (outstanding hist j)))
-      (sym (length-map h seen))
-      ∙ sym (ap (λ (x : Rattle.mscp_host.specs.Accounts.Account). map (λ s. s.reference) x.outstanding) k.host.keeps)
+  numbered h host r = grind (arith, same_numbers, length-map)
 
   -- ---- each deed
 
@@ -226,19 +200,11 @@ module _ {K : Type 0} (picks : Picking K) (c : Settings) (picker : K) (ends : Po
     as_last : (m : PortMoment) → Inv new.asked (all_said picks start p calls a)
         (cond (is_hearing m) (suc (hearings h)) (hearings h)) (awaited picks start p calls a) (sent h ++ sent_by m)
         (length (accepted picks start p calls a)) → Then m
-    as_last m x = subst (λ k. Inv new.asked (all_said picks start p calls a) k
-        (awaited picks start p calls a) (sent (h ++ m ∷ [])) (length (accepted picks start p calls a)))
-        (sym (heard_last h m))
-        (subst (λ ms. Inv new.asked (all_said picks start p calls a)
-        (cond (is_hearing m) (suc (hearings h)) (hearings h)) (awaited picks start p calls a) ms
-        (length (accepted picks start p calls a))) (sym (sent_last h m)) x)
+    as_last m x = grind (arith, heard_last, sent_last)
 
     still : new.asked ≡ mid.asked → Inv new.asked (all_said picks start p calls a) (hearings h)
         (awaited picks start p calls a) (sent h ++ []) (length (accepted picks start p calls a))
-    still same = subst (λ xs. Inv xs (all_said picks start p calls a) (hearings h)
-        (awaited picks start p calls a) (sent h ++ []) (length (accepted picks start p calls a))) (sym same)
-        (subst (λ ms. Inv mid.asked (all_said picks start p calls a) (hearings h)
-        (awaited picks start p calls a) ms (length (accepted picks start p calls a))) (sym (append-nil (sent h))) i)
+    still same = grind (arith, append-nil)
 
     pub moment : (m : PortMoment) → HasNumber m → HearsInOrder m (talk_of picks start p calls a) (hearings h)
         → PortAnswers mid m new → Then m
@@ -275,18 +241,8 @@ module _ {K : Type 0} (picks : Picking K) (c : Settings) (picker : K) (ends : Po
       → HaveNumbers deeds → (a : Answered picks start (calls_in deeds) p) → AreJoined IsTextOf picks start p deeds a
       → is_dead p.stage ≡ false → (host : PortAccount) → PortAnswered fresh_of_port (did deeds) host
       → State p (calls_in deeds) a host.asked (did deeds)
-  owed p [] asks small numbers a joined lives host r = record {
-    owes = record { known = tt; once = λ n. search arith };
-    heard = search arith;
-    read = search arith;
-    news = tt;
-  }
-  owed p (Called WriteIp ∷ deeds) asks small numbers a joined lives host r = record {
-    owes = record { known = tt; once = λ n. search arith };
-    heard = search arith;
-    read = search arith;
-    news = tt;
-  }
+  owed p [] asks small numbers a joined lives host r = grind arith
+  owed p (Called WriteIp ∷ deeds) asks small numbers a joined lives host r = grind arith
   owed p (Called call ∷ deeds) asks small numbers a joined lives host r =
       called p (calls_in deeds) host.asked (did deeds) call a asks small joined.0 (λ e. search (arith, e)) lives
       (λ alive. owed a.0 deeds (asked_before call (calls_in deeds) asks) (reads_before call (calls_in deeds) small)
@@ -302,14 +258,7 @@ module _ {K : Type 0} (picks : Picking K) (c : Settings) (picker : K) (ends : Po
   pub none_told : (p : Port K) (calls : List Call) (a : Answered picks start calls p) (k : ℕ) (packet : Packet)
       → slice_get (talk_of picks start p calls a).told k ≡ Some packet → is_dead p.stage ≡ false
   none_told p [] a k packet e = absurd (none-some packet e)
-  none_told p (call ∷ calls) a k packet e = by (is_dead p.stage) refl e
-    where
-      by : (b : Bool) → is_dead p.stage ≡ b
-          → slice_get (cond b Rattle.mscp_ported.specs.Talk.silence (Rattle.mscp_ported.specs.Talk.stepped a.0.stage
-          p.stage (Rattle.mscp_ported.specs.Talk.talk_by a.0.stage (Rattle.mscp_ported.specs.Talk.wish calls) call
-          (talk_of picks start a.0 calls a.1)))).told k ≡ Some packet → b ≡ false
-      by false is h = refl
-      by true is h = absurd (none-some packet h)
+  none_told p (call ∷ calls) a k packet e = grind (arith, none-some)
 
   pub hears_own : (p : Port K) (deeds : List Deed) (old new : PortAccount) (v : Envelope) (b : List ℕ)
       (answer : Result Heard HearFault) → AsksAlways (calls_in deeds) → ReadsBytes (calls_in deeds)
@@ -343,14 +292,10 @@ module _ {K : Type 0} (picks : Picking K) (c : Settings) (picker : K) (ends : Po
       }
     where
       read_short : (kind : OutgoingKind) (t : List ℕ) → IsRead kind t → length t ≤ 64
-      read_short kinds.Attention t r = r.2
-      read_short kinds.End t r = r.short
-      read_short kinds.UtilitiesEnd t r = absurd r
+      read_short kind t r = grind arith
 
       read_disk : (kind : OutgoingKind) (t : List ℕ) → IsRead kind t → connection_told kind ≡ 0
-      read_disk kinds.Attention t r = refl
-      read_disk kinds.End t r = refl
-      read_disk kinds.UtilitiesEnd t r = absurd r
+      read_disk kind t r = grind arith
 
       small_size : (n : ℕ) → n ≤ 64 → n % 0x1_0000 ≡ n
       small_size n h = omega (arith, h)

@@ -24,20 +24,13 @@ apart_more (y ∷ xs) x new all = by (nat_eq y.reference x.reference) refl new (
         none_more [] e = ap (λ c. cond c (Some x) None) (swapped (nat_eq x.reference y.reference) refl)
           where
             swapped : (c : Bool) → nat_eq x.reference y.reference ≡ c → c ≡ false
-            swapped false e = refl
-            swapped true e = search (
-              arith,
-              is,
-              eq-eqb y.reference x.reference
-                  (sym (eqb-true x.reference y.reference e)),
-            )
+            swapped c e = grind (arith, eq-eqb, eqb-true)
         none_more (z ∷ zs) e = cases (nat_eq z.reference y.reference) e (λ h. none_more zs h)
           where
             cases : (c : Bool) → cond c (Some z) (find (is_of y.reference) zs) ≡ None
                 → (find (is_of y.reference) zs ≡ None → find (is_of y.reference) (zs ++ x ∷ []) ≡ None)
                 → cond c (Some z) (find (is_of y.reference) (zs ++ x ∷ [])) ≡ None
-            cases true h rest = absurd (none-some z (sym h))
-            cases false h rest = rest h
+            cases c h rest = grind (arith, none-some)
 
 none_left : (m n : ℕ) (xs : List Asked) → find (is_of n) xs ≡ None → find (is_of n) (without_by (is_of m) xs) ≡ None
 none_left m n [] e = refl
@@ -46,13 +39,7 @@ none_left m n (x ∷ xs) e = by (is_of n x) refl e (λ h. none_left m n xs h)
     by : (b : Bool) → is_of n x ≡ b → cond b (Some x) (find (is_of n) xs) ≡ None
         → (find (is_of n) xs ≡ None → find (is_of n) (without_by (is_of m) xs) ≡ None)
         → find (is_of n) (cond (is_of m x) xs (x ∷ without_by (is_of m) xs)) ≡ None
-    by true is h rest = absurd (none-some x (sym h))
-    by false is h rest = cases (is_of m x) (rest h)
-      where
-        cases : (c : Bool) → find (is_of n) (without_by (is_of m) xs) ≡ None
-            → find (is_of n) (cond c xs (x ∷ without_by (is_of m) xs)) ≡ None
-        cases true rest = h
-        cases false rest = ap (λ d. cond d (Some x) (find (is_of n) (without_by (is_of m) xs))) is ∙ rest
+    by b is h rest = grind (arith, none-some)
 
 pub apart_left : (n : ℕ) (xs : List Asked) → AreApart xs → AreApart (without_by (is_of n) xs)
 apart_left n [] all = tt
@@ -80,38 +67,20 @@ beside_none n ms m apart e = none_beside (has_number n) ms m apart ∙ e
 last_beside : (x w : ℕ) (ms : List (List ℕ)) (m : List ℕ) → nat_eq (num m 0 4) x ≡ false → nat_eq (num m 0 4) w ≡ false
     → PollsLast x w ms → PollsLast x w (ms ++ m ∷ [])
 last_beside x w [] m other apart last = ((λ is. search (arith, is, apart)), tt)
-last_beside x w (y ∷ ms) m other apart last = (
-  λ is. ((last.0 is).0, beside_none x ms m other (last.0 is).1),
-  last_beside x w ms m other apart last.1,
-)
+last_beside x w (y ∷ ms) m other apart last = grind (arith, last_beside x w ms m other apart last.1, beside_none)
 
 -- where none has the poll's number, one that is sent is the last
 last_new : (x w : ℕ) (ms : List (List ℕ)) (m : List ℕ) → filter (has_number w) ms ≡ [] → IsPollText x m
     → PollsLast x w (ms ++ m ∷ [])
 last_new x w [] m none poll = ((λ is. (poll, refl)), tt)
-last_new x w (y ∷ ms) m none poll = by (nat_eq (num y 0 4) w) refl none (λ h. last_new x w ms m h poll)
-  where
-    by : (b : Bool) → nat_eq (num y 0 4) w ≡ b → cond b (y ∷ filter (has_number w) ms) (filter (has_number w) ms) ≡ []
-        → (filter (has_number w) ms ≡ [] → PollsLast x w (ms ++ m ∷ [])) → PollsLast x w (y ∷ ms ++ m ∷ [])
-    by true is h rest = absurd (search (arith, h))
-    by false is h rest = ((λ e. search (arith, sym is ∙ e)), rest h)
+last_new x w (y ∷ ms) m none poll = grind (arith, last_new x w ms m, nat_eq)
 
 -- ---- submissions
 
 last_more : (xs : List Submission) (s : Submission) (x : ℕ) → s.told ≡ None
     → last_told (xs ++ s ∷ []) x ≡ last_told xs x
-last_more [] s x e = by (nat_eq s.reference x)
-  where
-    by : (b : Bool) → told_of (cond b (Some s) None) ≡ None
-    by true = e
-    by false = refl
-last_more (y ∷ xs) s x e = by (nat_eq y.reference x) (last_more xs s x e)
-  where
-    by : (b : Bool) → last_told (xs ++ s ∷ []) x ≡ last_told xs x
-        → told_of (cond b (Some y) (find (has_reference x) (xs ++ s ∷ [])))
-        ≡ told_of (cond b (Some y) (find (has_reference x) xs))
-    by true rest = refl
-    by false rest = rest
+last_more [] s x e = grind (arith, nat_eq)
+last_more (y ∷ xs) s x e = grind (arith, last_more xs s x e, nat_eq)
 
 pub last_left : (xs : List Submission) (n x : ℕ) → nat_eq n x ≡ false → last_told (without n xs) x ≡ last_told xs x
 last_left [] n x d = refl
@@ -120,35 +89,18 @@ last_left (y ∷ xs) n x d = by (nat_eq y.reference n) refl (last_left xs n x d)
     by : (b : Bool) → nat_eq y.reference n ≡ b → last_told (without n xs) x ≡ last_told xs x
         → told_of (find (has_reference x) (cond b xs (y ∷ without n xs)))
         ≡ told_of (cond (nat_eq y.reference x) (Some y) (find (has_reference x) xs))
-    by true is rest = sym (ap (λ c. told_of (cond c (Some y) (find (has_reference x) xs)))
-        (ap (λ k. nat_eq k x) (eqb-true y.reference n is) ∙ d))
-    by false is rest = cases (nat_eq y.reference x) rest
-      where
-        cases : (c : Bool) → last_told (without n xs) x ≡ last_told xs x
-            → told_of (cond c (Some y) (find (has_reference x) (without n xs)))
-            ≡ told_of (cond c (Some y) (find (has_reference x) xs))
-        cases true rest = refl
-        cases false rest = rest
+    by b is rest = grind (arith, nat_eq, eqb-true)
 
 pub every_without : (P : Submission → Type 0) (n : ℕ) (xs : List Submission) → AllByRecursion P xs
     → AllByRecursion P (without n xs)
 every_without P n [] all = tt
-every_without P n (x ∷ xs) all = by (has_reference n x) (every_without P n xs all.1)
-  where
-    by : (b : Bool) → AllByRecursion P (without n xs) → AllByRecursion P (cond b xs (x ∷ without n xs))
-    by true rest = all.1
-    by false rest = (all.0, rest)
+every_without P n (x ∷ xs) all = grind (arith, every_without P n xs all.1)
 
 pub every_told : (P : Submission → Type 0) (n figure : ℕ) (xs : List Submission)
     → ((s : Submission) → s.reference ≡ n → P (record s { told = Some figure })) → AllByRecursion P xs
     → AllByRecursion P (with_told n figure xs)
 every_told P n figure [] known all = tt
-every_told P n figure (x ∷ xs) known all = by (has_reference n x) refl (every_told P n figure xs known all.1)
-  where
-    by : (b : Bool) → has_reference n x ≡ b → AllByRecursion P (with_told n figure xs)
-        → AllByRecursion P (cond b (record x { told = Some figure } ∷ xs) (x ∷ with_told n figure xs))
-    by true is rest = (known x (eqb-true x.reference n is), all.1)
-    by false is rest = (all.0, rest)
+every_told P n figure (x ∷ xs) known all = grind (arith, every_told P n figure xs known all.1, eqb-true)
 
 -- ---- the host sends a message
 
@@ -170,13 +122,7 @@ module _ (F : ℕ → ℕ) (Served : ℕ → Type 0) (old new : PortAccount) (us
 
   longer : (n : ℕ) → tally n (claims us ts (ms ++ m ∷ []))
       ≡ tally n (claims us ts ms) + tally n (claim_of m ∷ [])
-  longer n =
-      let a = tally_append n (claims_said us) (map claim_of ts ++ map claim_of (ms ++ m ∷ [])) in
-      let b = tally_append n (map claim_of ts) (map claim_of (ms ++ m ∷ [])) in
-      let c = ap (tally n) (map-append claim_of ms (m ∷ [])) ∙ tally_append n (map claim_of ms) (claim_of m ∷ []) in
-      let e = tally_append n (claims_said us) (map claim_of ts ++ map claim_of ms) in
-      let f = tally_append n (map claim_of ts) (map claim_of ms) in
-      omega (arith, a, b, c, e, f)
+  longer n = grind (arith, tally_append, claims_said, claim_of, tally, map-append)
 
   placed_now : (n : ℕ) (y : Asked) → find (is_of n) new.asked ≡ Some y → 1 ≤ tally n (claims us ts (ms ++ m ∷ []))
   placed_now n y e = by (nat_eq (num m 0 4) n) refl
@@ -189,8 +135,7 @@ module _ (F : ℕ → ℕ) (Served : ℕ → Type 0) (old new : PortAccount) (us
 
       found : (o : Option Asked) → find (is_of n) old.asked ≡ o → nat_eq (num m 0 4) n ≡ false
           → 1 ≤ tally n (claims us ts (ms ++ m ∷ []))
-      found (Some x) is apart = more (tally n (claims us ts (ms ++ m ∷ []))) (tally n (claims us ts ms))
-          (tally n (claim_of m ∷ [])) (longer n) (k.placed n x is)
+      found (Some x) is apart = grind (arith, more, tally, claims, claim_of, longer)
       found None is apart = absurd (none-some y (sym (none_more old.asked is) ∙ ap (find (is_of n)) (sym s.asked) ∙ e))
         where
           none_more : (xs : List Asked) → find (is_of n) xs ≡ None → find (is_of n) (xs ++ s.more ∷ []) ≡ None
@@ -200,22 +145,16 @@ module _ (F : ℕ → ℕ) (Served : ℕ → Type 0) (old new : PortAccount) (us
               cases : (c : Bool) → cond c (Some z) (find (is_of n) zs) ≡ None
                   → (find (is_of n) zs ≡ None → find (is_of n) (zs ++ s.more ∷ []) ≡ None)
                   → cond c (Some z) (find (is_of n) (zs ++ s.more ∷ [])) ≡ None
-              cases true h rest = absurd (none-some z (sym h))
-              cases false h rest = rest h
+              cases c h rest = grind (arith, none-some)
 
       by : (b : Bool) → nat_eq (num m 0 4) n ≡ b → 1 ≤ tally n (claims us ts (ms ++ m ∷ []))
-      by true is = most (tally n (claims us ts (ms ++ m ∷ []))) (tally n (claims us ts ms))
-          (tally n (claim_of m ∷ [])) (longer n)
-          (subst (λ c. 1 ≤ cond c (1 + 0) 0) (sym is) (search arith))
+      by true is = grind (arith, most, tally, claims, claim_of, longer)
       by false is = found (find (is_of n) old.asked) refl is
 
   told_now : (xs : List Submission) → AllByRecursion (λ (x : Submission). Found old.asked x.reference) xs
       → AllByRecursion (KnowsTold F Served ms) xs → AllByRecursion (KnowsTold F Served (ms ++ m ∷ [])) xs
   told_now [] found all = tt
-  told_now (x ∷ xs) found all = (
-    λ l e. (beside_none x.reference ms m (new_number x.reference found.0.0 found.0.1) (all.0 l e).0, (all.0 l e).1),
-    told_now xs found.1 all.1,
-  )
+  told_now (x ∷ xs) found all = grind (arith, told_now xs found.1 all.1, beside_none, new_number)
 
   unread_none : filter (has_number (num m 0 4)) ms ≡ []
   unread_none = none (filter (has_number (num m 0 4)) ms) refl
@@ -235,35 +174,7 @@ module _ (F : ℕ → ℕ) (Served : ℕ → Type 0) (old new : PortAccount) (us
   -- the poll that was in flight is so still
   poll_stays : (w : Watch) → old.account.watch ≡ Some w → KnowsPoll F Served old P ms w.polled w.reference
       → KnowsPoll F Served new P (ms ++ m ∷ []) w.polled w.reference
-  poll_stays w at x =
-      let y = ready.watched w at in
-      let other = new_number w.polled x.known.0 x.known.1 in
-      let apart = new_number w.reference y.0 y.1 in
-      record {
-        apart = x.apart;
-        known = (
-          x.known.0,
-          ap (find (is_of w.polled)) s.asked ∙ find_more w.polled old.asked x.known.0 s.more x.known.1,
-        );
-        last = last_beside w.polled w.reference ms m other apart x.last;
-        place = elim x.place [
-          | inl unread ↦ inl (λ e. unread (sym (none_beside (has_number w.reference) ms m apart) ∙ e))
-          | inr there ↦ inr there
-        ];
-        coming = λ g first.
-            let c = x.coming g first in (
-              beside_none w.polled ms m other c.0,
-              elim c.1 [
-                | inl front ↦ inl front
-                | inr r ↦ inr (
-                  r.0,
-                  (λ l e. r.1 l (sym (ap (λ xs. last_told xs w.polled) s.outstanding
-                      ∙ last_more old.account.outstanding s.submission w.polled s.untold) ∙ e)),
-                  r.2,
-                )
-              ],
-            );
-      }
+  poll_stays w at x = grind (arith, new_number, find_more, last_beside, none_beside, beside_none, last_more)
 
   -- or the message is that of a poll
   poll_begins : (w : Watch) → w.reference ≡ s.more.reference → w.polled ≡ num m 12 4 → 16 ≤ length m

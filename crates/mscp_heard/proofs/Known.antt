@@ -1,7 +1,7 @@
 -- What is known of the figures that a host was told, and of the poll in flight.
 use Rattle.mscp_heard.proofs.Upcoming.{first_of, Before}
 use Rattle.mscp_heard.proofs.Claims.{claims, tally}
-use Rattle.mscp_heard.proofs.Common.{AllByRecursion, Asked, Bool, List, None, Pending, PortAccount, Said, Some, Submission, Watch, [], cond, eqb-true, false, filter, find, has_number, has_reference, is_of, last_told, length, nat_eq, none-some, num, refl, slice_index, told_of, true, ℕ, ◌<◌, ◌∷◌, ◌≡◌, ◌≢◌, ◌≤◌, ◌⊎◌}
+use Rattle.mscp_heard.proofs.Common.{AllByRecursion, Asked, List, None, Pending, PortAccount, Said, Some, Submission, Watch, [], eqb-true, false, filter, find, has_number, is_of, last_told, length, nat_eq, none-some, num, slice_index, true, ℕ, ◌<◌, ◌∷◌, ◌≡◌, ◌≢◌, ◌≤◌, ◌⊎◌, arith}
 
 -- ---- messages
 
@@ -53,11 +53,4 @@ pub record Knows (F : ℕ → ℕ) (Served : ℕ → Type 0) (host : PortAccount
 pub last_of : (P : Submission → Type 0) (x l : ℕ) (xs : List Submission) → AllByRecursion P xs → last_told xs x ≡ Some l
     → (s : Submission) × P s × (s.reference ≡ x) × (s.told ≡ Some l)
 last_of P x l [] all e = absurd (none-some l e)
-last_of P x l (s ∷ xs) all e = by (nat_eq s.reference x) refl e (λ h. last_of P x l xs all.1 h)
-  where
-    by : (b : Bool) → nat_eq s.reference x ≡ b → told_of (cond b (Some s) (find (has_reference x) xs)) ≡ Some l
-        → (told_of (find (has_reference x) xs) ≡ Some l
-        → (s : Submission) × P s × (s.reference ≡ x) × (s.told ≡ Some l))
-        → (s : Submission) × P s × (s.reference ≡ x) × (s.told ≡ Some l)
-    by true is h rest = (s, all.0, eqb-true s.reference x is, h)
-    by false is h rest = rest h
+last_of P x l (s ∷ xs) all e = grind (arith, last_of P x l xs all.1, nat_eq, eqb-true)

@@ -1,5 +1,5 @@
 -- How what a host is owed moves through a port.
-use Rattle.mscp_heard.proofs.Common.{AllByRecursion, Asked, Bool, IsTextOf, List, Said, Some, [], ap, append-nil, append_assoc, arith, bytes_in, cond, drop, eqb-true, every_append, every_parts, false, filter, find, has_number, is_of, kind_of_code, length, map, map-append, nat_eq, none-some, not, num, refl, same_Some, slice_get, slice_index, subst, suc, sym, true, zero, ℕ, ◌++◌, ◌+◌, ◌∙◌, ◌∷◌, ◌≡◌, ◌≤◌}
+use Rattle.mscp_heard.proofs.Common.{AllByRecursion, Asked, Bool, IsTextOf, List, Said, Some, [], ap, append-nil, append_assoc, arith, bytes_in, cond, drop, eqb-true, every_append, every_parts, filter, find, has_number, is_of, kind_of_code, length, map, map-append, nat_eq, none-some, not, num, refl, same_Some, slice_get, slice_index, subst, suc, sym, zero, ℕ, ◌++◌, ◌+◌, ◌∙◌, ◌∷◌, ◌≡◌, ◌≤◌}
 use Rattle.mscp_port.specs.declared.port.OutgoingKind.TheVariants as kinds
 use Rattle.mscp_heard.proofs.Claims.{Claim, IsOwed, Owes, claim_of, claim_said, claims, claims_said, moved_in, owes_same, tally, tally_append}
 
@@ -27,13 +27,7 @@ said_append (s ∷ xs) ys = ap (λ cs. claim_said s.kind s.text ++ cs) (said_app
 all_pass : (n : ℕ) (ts : List (List ℕ)) → filter (has_number n) ts ≡ []
     → filter (λ t. not (has_number n t)) ts ≡ ts
 all_pass n [] e = refl
-all_pass n (t ∷ ts) e = by (has_number n t) e (all_pass n ts)
-  where
-    by : (b : Bool) → cond b (t ∷ filter (has_number n) ts) (filter (has_number n) ts) ≡ []
-        → (filter (has_number n) ts ≡ [] → filter (λ t. not (has_number n t)) ts ≡ ts)
-        → cond (not b) (t ∷ filter (λ t. not (has_number n t)) ts) (filter (λ t. not (has_number n t)) ts) ≡ t ∷ ts
-    by true h rest = absurd (search (arith, h))
-    by false h rest = ap (λ xs. t ∷ xs) (rest h)
+all_pass n (t ∷ ts) e = grind (arith, all_pass n ts)
 
 same_head : (x y : List ℕ) (xs : List (List ℕ)) → x ∷ xs ≡ y ∷ [] → (x ≡ y) × (xs ≡ [])
 same_head x y xs e = search (arith, e)
@@ -43,59 +37,17 @@ pub tally_one : (n m : ℕ) (ts : List (List ℕ)) (t : List ℕ) → filter (ha
     → tally m (map claim_of ts)
     ≡ tally m (claim_of t ∷ []) + tally m (map claim_of (filter (λ x. not (has_number n x)) ts))
 tally_one n m [] t e = absurd (search (arith, e))
-tally_one n m (x ∷ ts) t e = by (has_number n x) e (tally_one n m ts t)
-  where
-    here : (xs : List (List ℕ)) → x ≡ t → xs ≡ ts
-        → cond (nat_eq (num x 0 4) m) (1 + tally m (map claim_of ts)) (tally m (map claim_of ts))
-        ≡ cond (nat_eq (num t 0 4) m) (1 + 0) 0 + tally m (map claim_of xs)
-    here xs same all =
-        subst (λ ys. cond (nat_eq (num x 0 4) m) (1 + tally m (map claim_of ts)) (tally m (map claim_of ts))
-        ≡ cond (nat_eq (num t 0 4) m) (1 + 0) 0 + tally m (map claim_of ys)) (sym all)
-        (subst (λ y. cond (nat_eq (num x 0 4) m) (1 + tally m (map claim_of ts)) (tally m (map claim_of ts))
-        ≡ cond (nat_eq (num y 0 4) m) (1 + 0) 0 + tally m (map claim_of ts)) same
-        (sum (nat_eq (num x 0 4) m) (tally m (map claim_of ts))))
-      where
-        sum : (b : Bool) (k : ℕ) → cond b (1 + k) k ≡ cond b (1 + 0) 0 + k
-        sum true k = omega arith
-        sum false k = omega arith
-
-    other : (b : Bool) (x y z : ℕ) → x ≡ y + z → cond b (1 + x) x ≡ y + cond b (1 + z) z
-    other true x y z e = omega (arith, e)
-    other false x y z e = e
-
-    by : (b : Bool) → cond b (x ∷ filter (has_number n) ts) (filter (has_number n) ts) ≡ t ∷ []
-        → (filter (has_number n) ts ≡ t ∷ [] → tally m (map claim_of ts)
-        ≡ tally m (claim_of t ∷ []) + tally m (map claim_of (filter (λ x. not (has_number n x)) ts)))
-        → cond (nat_eq (num x 0 4) m) (1 + tally m (map claim_of ts)) (tally m (map claim_of ts))
-        ≡ cond (nat_eq (num t 0 4) m) (1 + 0) 0 + tally m (map claim_of (cond (not b)
-        (x ∷ filter (λ x. not (has_number n x)) ts) (filter (λ x. not (has_number n x)) ts)))
-    by true h rest =
-        let r = same_head x t (filter (has_number n) ts) h in
-        here (filter (λ x. not (has_number n x)) ts) r.0 (all_pass n ts r.1)
-    by false h rest = other (nat_eq (num x 0 4) m) (tally m (map claim_of ts)) (cond (nat_eq (num t 0 4) m) (1 + 0) 0)
-        (tally m (map claim_of (filter (λ x. not (has_number n x)) ts))) (rest h)
+tally_one n m (x ∷ ts) t e = grind (arith, tally_one n m ts t, nat_eq, tally, claim_of, same_head, all_pass)
 
 known_left : (P : Claim → Type 0) (f : List ℕ → Bool) (ts : List (List ℕ)) → AllByRecursion P (map claim_of ts)
     → AllByRecursion P (map claim_of (filter f ts))
 known_left P f [] all = tt
-known_left P f (t ∷ ts) all = by (f t) (known_left P f ts all.1)
-  where
-    by : (b : Bool) → AllByRecursion P (map claim_of (filter f ts))
-        → AllByRecursion P (map claim_of (cond b (t ∷ filter f ts) (filter f ts)))
-    by true rest = (all.0, rest)
-    by false rest = rest
+known_left P f (t ∷ ts) all = grind (arith, known_left P f ts all.1, claim_of)
 
 known_one : (P : Claim → Type 0) (n : ℕ) (ts : List (List ℕ)) (t : List ℕ) → filter (has_number n) ts ≡ t ∷ []
     → AllByRecursion P (map claim_of ts) → P (claim_of t) × (num t 0 4 ≡ n)
 known_one P n [] t e all = absurd (search (arith, e))
-known_one P n (x ∷ ts) t e all = by (has_number n x) refl e (λ h. known_one P n ts t h all.1)
-  where
-    by : (b : Bool) → has_number n x ≡ b → cond b (x ∷ filter (has_number n) ts) (filter (has_number n) ts) ≡ t ∷ []
-        → (filter (has_number n) ts ≡ t ∷ [] → P (claim_of t) × (num t 0 4 ≡ n)) → P (claim_of t) × (num t 0 4 ≡ n)
-    by true is h rest =
-        let r = same_head x t (filter (has_number n) ts) h in
-        (subst (λ y. P (claim_of y)) r.0 all.0, ap (λ y. num y 0 4) (sym r.0) ∙ eqb-true (num x 0 4) n is)
-    by false is h rest = rest h
+known_one P n (x ∷ ts) t e all = grind (arith, known_one P n ts t, claim_of, same_head, eqb-true)
 
 -- ---- by a call
 
@@ -109,8 +61,7 @@ module _ (asked : List Asked) (us : List Said) (ts ms : List (List ℕ)) (o : Ow
 
   -- what is said claims nothing
   pub news_said : (s : Said) → claim_said s.kind s.text ≡ [] → Owes asked (claims (us ++ s ∷ []) ts ms)
-  news_said s none = subst (λ cs. Owes asked (cs ++ (map claim_of ts ++ map claim_of ms)))
-      (sym (said_append us (s ∷ []) ∙ ap (λ cs. claims_said us ++ (cs ++ [])) none ∙ append-nil (claims_said us))) o
+  news_said s none = grind (arith, claim_of, said_append, claims_said, append-nil)
 
   -- a message's end is said
   pub end_said : (s : Said) (t : List ℕ) → s.kind ≡ kinds.End
@@ -164,14 +115,7 @@ module _ (asked : List Asked) (us : List Said) (ts ms : List (List ℕ)) (o : Ow
 -- the next message is read: the controller takes it
 pub text_taken : (asked : List Asked) (us : List Said) (ts ms : List (List ℕ)) (t m : List ℕ) → IsTextOf t m
     → Owes asked (claims us ts (m ∷ ms)) → Owes asked (claims us (ts ++ t ∷ []) ms)
-text_taken asked us ts ms t m is o = subst (λ cs. Owes asked (claims_said us ++ cs))
-    (sym (ap (λ cs. cs ++ map claim_of ms) (map-append claim_of ts (t ∷ []))
-    ∙ append_assoc (map claim_of ts) (claim_of t ∷ []) (map claim_of ms)
-    ∙ ap (λ c. map claim_of ts ++ (c ∷ map claim_of ms)) same)) o
-  where
-    same : claim_of t ≡ claim_of m
-    same = ap (λ n. record { number = n; bytes = bytes_in t }) is.number
-        ∙ ap (λ n. record { number = num m 0 4; bytes = n }) is.bytes
+text_taken asked us ts ms t m is o = grind (arith, claims_said, claim_of, map-append, append_assoc)
 
 -- or the port answers it itself, and counts no bytes
 pub text_answered : (asked : List Asked) (us : List Said) (ts ms : List (List ℕ)) (s : Said) (m : List ℕ)

@@ -1,7 +1,7 @@
 -- What a host may be told fits what it keeps: by endcode, and that of a poll by the command that it is about.
 use Rattle.mscp_port.specs.declared.port.OutgoingKind.TheVariants as kinds
 use Rattle.mscp_heard.proofs.Claims.{Claim, claim_of, claim_said, claims, claims_said}
-use Rattle.mscp_heard.proofs.Common.{AllByRecursion, Asked, Fits, IsCodeFor, IsCopyOf, List, OutgoingKind, PortAccount, Said, Some, [], ap, arith, eqb-true, every_append, every_kept, every_parts, filter, find, has_number, inl, inr, is_about, is_code_of, is_of, is_poll_of, length, map, nat_eq, not, num, one_of, refl, slice_index, subst, sym, true, ℕ, ◌++◌, ◌+◌, ◌||◌, ◌∙◌, ◌∷◌, ◌≡◌, ◌≢◌, ◌≤◌, ◌⊎◌}
+use Rattle.mscp_heard.proofs.Common.{AllByRecursion, Asked, Fits, IsCodeFor, IsCopyOf, List, OutgoingKind, PortAccount, Said, Some, [], ap, arith, eqb-true, every_append, every_kept, every_parts, filter, find, has_number, inr, is_about, is_code_of, is_of, is_poll_of, length, map, nat_eq, not, num, one_of, refl, slice_index, subst, sym, true, ℕ, ◌++◌, ◌+◌, ◌∙◌, ◌∷◌, ◌≡◌, ◌≢◌, ◌≤◌, ◌⊎◌}
 
 -- ---- notes
 
@@ -69,14 +69,12 @@ module _ (host new : PortAccount) (Q : ℕ → Type 0)
       }
 
 code_or : (code : ℕ) (t : List ℕ) → IsCodeFor code t → (code ≡ 0x80) ⊎ (code ≡ slice_index t 8 + 0x80)
-code_or code t (inl e) = inl e.0
-code_or code t (inr e) = inr e
+code_or code t h = grind arith
 
 -- an end of that code fits as its message does
 coded : (opcode code byte : ℕ) → (code ≡ 0x80) ⊎ (code ≡ byte + 0x80) → is_code_of (byte + 0x80) opcode ≡ true
     → is_code_of code opcode ≡ true
-coded opcode code byte (inl e) is = ap (λ n. nat_eq n 0x80 || nat_eq n (opcode + 0x80)) e
-coded opcode code byte (inr e) is = ap (λ n. is_code_of n opcode) e ∙ is
+coded opcode code byte h is = grind (arith, nat_eq)
 
 -- ---- by a call
 
@@ -110,20 +108,7 @@ module _ (host : PortAccount) (us : List Said) (ts : List (List ℕ)) where
   pub copy_answered : (s : Said) (t m : List ℕ) (ms : List (List ℕ)) → IsCopyOf t m → num s.text 0 4 ≡ num t 0 4
       → (slice_index s.text 8 ≡ 0x80) ⊎ (slice_index s.text 8 ≡ slice_index t 8 + 0x80)
       → slice_index s.text 8 ≢ 0x82 → Noted host us ts (m ∷ ms) → Noted host (us ++ s ∷ []) ts ms
-  copy_answered s t m ms is named code never noted = record {
-    said = every_append (FitsSaid host) us (s ∷ []) noted.said (
-      (λ kind x found.
-          let f = noted.messages.0 x (ap (λ n. find (is_of n) host.asked) (sym is.number ∙ sym named) ∙ found) in
-          record {
-            code = coded x.opcode (slice_index s.text 8) (slice_index t 8) code
-                (subst (λ n. is_code_of (n + 0x80) x.opcode ≡ true) (sym is.opcode) f.code);
-            about = λ poll own. absurd (never poll);
-          }),
-      tt,
-    );
-    texts = noted.texts;
-    messages = noted.messages.1;
-  }
+  copy_answered s t m ms is named code never noted = grind (arith, every_append, coded)
 
   -- a message's end is said
   pub noted_end : (s : Said) (t : List ℕ) (ms : List (List ℕ)) → filter (has_number (num s.text 0 4)) ts ≡ t ∷ []
@@ -155,14 +140,9 @@ module _ (host : PortAccount) (us : List Said) (ts : List (List ℕ)) where
       }
     where
       message_poll : (code byte : ℕ) → code ≡ 0x82 → (code ≡ 0x80) ⊎ (code ≡ byte + 0x80) → byte + 0x80 ≡ 0x82
-      message_poll code byte poll (inl e) = absurd (search (arith, sym e ∙ poll))
-      message_poll code byte poll (inr e) = sym e ∙ poll
+      message_poll code byte poll h = grind arith
 
   -- news are
   pub noted_news : (s : Said) (ms : List (List ℕ)) → s.kind ≡ kinds.Attention → Noted host us ts ms
       → Noted host (us ++ s ∷ []) ts ms
-  noted_news s ms kind noted = record {
-    said = every_append (FitsSaid host) us (s ∷ []) noted.said ((λ end. absurd (search (arith, sym kind ∙ end))), tt);
-    texts = noted.texts;
-    messages = noted.messages;
-  }
+  noted_news s ms kind noted = grind (arith, every_append)

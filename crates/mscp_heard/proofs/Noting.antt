@@ -2,7 +2,7 @@
 use Rattle.mscp_heard.proofs.Claims.{Claim, IsOwed, Owes, claims, find_left, find_more, find_new}
 use Rattle.mscp_heard.proofs.Notes.{FitsAsked, FitsNote, FitsText, Noted, noted_kept}
 use Rattle.mscp_heard.proofs.Watching.{AreSmall, Notes}
-use Rattle.mscp_heard.proofs.Common.{Account, AllByRecursion, Asked, Bool, List, None, Option, PortAccount, Said, Some, Watch, [], ap, arith, cond, eq-eqb, eqb-true, every_append, every_weaker, false, find, inl, inr, is_about, is_code_of, is_of, is_poll_of, nat_eq, none-some, num, refl, same_Some, slice_index, subst, sym, true, watch_after, without_by, ℕ, ◌++◌, ◌+◌, ◌<◌, ◌^◌, ◌||◌, ◌∙◌, ◌∷◌, ◌≡◌, ◌≤◌}
+use Rattle.mscp_heard.proofs.Common.{Account, AllByRecursion, Asked, Bool, List, Option, PortAccount, Said, Some, Watch, [], ap, arith, cond, eq-eqb, eqb-true, every_append, every_weaker, false, find, inl, inr, is_about, is_code_of, is_of, is_poll_of, nat_eq, none-some, num, refl, same_Some, subst, sym, true, watch_after, without_by, ℕ, ◌++◌, ◌<◌, ◌^◌, ◌∙◌, ◌∷◌, ◌≡◌, ◌≤◌}
 
 -- what a host keeps of its commands: the poll in flight is one of them, and their numbers fit their type
 pub record IsReady (host : PortAccount) : Type 0 where
@@ -21,28 +21,15 @@ small_left n [] all = tt
 small_left n (x ∷ xs) all = by (is_of n x) (small_left n xs all.1)
   where
     by : (b : Bool) → AreSmall (without_by (is_of n) xs) → AreSmall (cond b xs (x ∷ without_by (is_of n) xs))
-    by true rest = all.1
-    by false rest = (all.0, rest)
+    by b rest = grind arith
 
 -- it sends a message
 module _ (old new : PortAccount) (m : List ℕ) (s : Notes old new m) (ready : IsReady old) where
   here : find (is_of (num m 0 4)) new.asked ≡ Some s.more
-  here = ap (find (is_of (num m 0 4))) s.asked ∙ find_new (num m 0 4) old.asked s.more s.new_number
-      (eq-eqb s.more.reference (num m 0 4) s.number)
+  here = grind (arith, find_new, eq-eqb)
 
   pub sent_ready : IsReady new
-  sent_ready = record {
-    watched = λ w is. elim s.watch [
-      | inl same ↦
-          let x = ready.watched w (sym same ∙ is) in
-          (x.0, ap (find (is_of w.reference)) s.asked ∙ find_more w.reference old.asked x.0 s.more x.1)
-      | inr poll ↦
-          let own : w.reference ≡ num m 0 4 =
-          ap (λ (y : Watch). y.reference) (same_Some w poll.0 (sym is ∙ poll.1)) ∙ poll.2 ∙ s.number in
-          (s.more, ap (λ n. find (is_of n) new.asked) own ∙ here)
-    ];
-    small = subst AreSmall (sym s.asked) (small_more old.asked s.more s.small ready.small);
-  }
+  sent_ready = grind (arith, find_more, same_Some, here, small_more)
 
   -- what was noted stays so
   sent_keeps : (n endcode other size : ℕ) → (x : Asked) × (find (is_of n) old.asked ≡ Some x)
@@ -65,38 +52,7 @@ module _ (old new : PortAccount) (m : List ℕ) (s : Notes old new m) (ready : I
 
   -- and the message fits
   sent_fits : FitsText new m
-  sent_fits x found =
-      let same : s.more ≡ x = same_Some s.more x (sym here ∙ found) in
-      record {
-        code = subst (λ (y : Asked). is_code_of (slice_index m 8 + 0x80) y.opcode ≡ true) same
-            (own_code s.more.opcode (slice_index m 8) s.opcode);
-        about = λ poll own. elim s.watch [
-          | inl still ↦ absurd (not_watched (subst (λ o. is_poll_of o (num m 0 4) ≡ true) still own))
-          | inr w ↦ (
-            w.4,
-            subst (λ o. is_about o (num m 12 4) ≡ true) (sym w.1)
-                (eq-eqb w.0.polled (num m 12 4) w.3),
-          )
-        ];
-      }
-    where
-      own_code : (opcode byte : ℕ) → opcode ≡ byte → is_code_of (byte + 0x80) opcode ≡ true
-      own_code opcode byte is = by (nat_eq (byte + 0x80) 0x80) (nat_eq (byte + 0x80) (opcode + 0x80))
-          (eq-eqb (byte + 0x80) (opcode + 0x80) (ap (λ n. n + 0x80) (sym is)))
-        where
-          by : (a b : Bool) → b ≡ true → (a || b) ≡ true
-          by true b h = refl
-          by false b h = h
-
-      not_watched : is_poll_of old.account.watch (num m 0 4) ≡ true → ⊥
-      not_watched own = by old.account.watch refl own
-        where
-          by : (o : Option Watch) → old.account.watch ≡ o → is_poll_of o (num m 0 4) ≡ true → ⊥
-          by None is h = search (arith, h)
-          by (Some w) is h =
-              let x = ready.watched w is in
-              none-some x.0 (sym s.new_number ∙ ap (λ k. find (is_of k) old.asked)
-              (sym (eqb-true w.reference (num m 0 4) h)) ∙ x.1)
+  sent_fits x found = grind (arith, same_Some, here, eq-eqb, nat_eq, none-some, eqb-true)
 
   pub sent_noted : (us : List Said) (ts ms : List (List ℕ)) → Owes old.asked (claims us ts ms) → Noted old us ts ms
       → Noted new us ts (ms ++ m ∷ [])
@@ -113,12 +69,7 @@ module _ (old new : PortAccount) (m : List ℕ) (s : Notes old new m) (ready : I
 -- what it keeps doesn't change
 pub same_ready : (old new : PortAccount) → new.asked ≡ old.asked → new.account ≡ old.account → IsReady old
     → IsReady new
-same_ready old new asked account ready = record {
-  watched = λ w is.
-      let x = ready.watched w (ap (λ (a : Account). a.watch) (sym account) ∙ is) in
-      (x.0, ap (find (is_of w.reference)) asked ∙ x.1);
-  small = subst AreSmall (sym asked) ready.small;
-}
+same_ready old new asked account ready = grind arith
 
 same_keeps : (old new : PortAccount) → new.asked ≡ old.asked → new.account ≡ old.account
     → (n endcode other size : ℕ) → Unit {0} → FitsNote old n endcode other size → FitsNote new n endcode other size
@@ -148,37 +99,10 @@ module _ (old new : PortAccount) (m : ℕ) (asked : new.asked ≡ without_by (is
   watched_before : (w : Watch) → new.account.watch ≡ Some w
       → (v : Watch) × (old.account.watch ≡ Some v) × (w.reference ≡ v.reference) × (w.polled ≡ v.polled)
       × (nat_eq v.reference m ≡ false)
-  watched_before w is = by old.account.watch refl (sym watch ∙ is)
-    where
-      by : (o : Option Watch) → old.account.watch ≡ o → watch_after o m ≡ Some w
-          → (v : Watch) × (old.account.watch ≡ Some v) × (w.reference ≡ v.reference) × (w.polled ≡ v.polled)
-          × (nat_eq v.reference m ≡ false)
-      by None at h = absurd (none-some w h)
-      by (Some v) at h = cases (nat_eq v.reference m) refl (nat_eq v.polled m) h
-        where
-          cases : (c : Bool) → nat_eq v.reference m ≡ c → (d : Bool)
-              → cond c None (cond d (Some (record v { is_outstanding = false })) (Some v)) ≡ Some w
-              → (v : Watch) × (old.account.watch ≡ Some v) × (w.reference ≡ v.reference) × (w.polled ≡ v.polled)
-              × (nat_eq v.reference m ≡ false)
-          cases true e d h = absurd (none-some w h)
-          cases false e true h =
-              let s = same_Some (record v { is_outstanding = false }) w h in
-              (v, at, ap (λ (y : Watch). y.reference) (sym s), ap (λ (y : Watch). y.polled) (sym s), e)
-          cases false e false h =
-              let s = same_Some v w h in
-              (v, at, ap (λ (y : Watch). y.reference) (sym s), ap (λ (y : Watch). y.polled) (sym s), e)
+  watched_before w is = grind (arith, nat_eq, none-some, same_Some)
 
   pub heard_ready : IsReady old → IsReady new
-  heard_ready ready = record {
-    watched = λ w is.
-        let b = watched_before w is in
-        let x = ready.watched b.0 b.1 in (
-          x.0,
-          ap (λ n. find (is_of n) new.asked) b.2 ∙ ap (find (is_of b.0.reference)) asked
-              ∙ find_left b.0.reference m old.asked b.4 ∙ x.1,
-        );
-    small = subst AreSmall (sym asked) (small_left m old.asked ready.small);
-  }
+  heard_ready ready = grind (arith, watched_before, find_left, small_left)
 
   heard_keeps : (n endcode other size : ℕ) → nat_eq n m ≡ false → FitsNote old n endcode other size
       → FitsNote new n endcode other size
@@ -192,15 +116,7 @@ module _ (old new : PortAccount) (m : ℕ) (asked : new.asked ≡ without_by (is
       by : (o : Option Watch) → new.account.watch ≡ o → endcode ≡ 0x82 → FitsAsked old n endcode other size x
           → is_poll_of new.account.watch n ≡ true
           → (16 ≤ size) × (is_about new.account.watch other ≡ true)
-      by None is poll f own = absurd (search (arith, sym (ap (λ o. is_poll_of o n) is) ∙ own))
-      by (Some w) is poll f own =
-          let b = watched_before w is in
-          let mine : nat_eq w.reference n ≡ true = sym (ap (λ o. is_poll_of o n) is) ∙ own in
-          let a = f.about poll (ap (λ o. is_poll_of o n) b.1 ∙ ap (λ k. nat_eq k n) (sym b.2) ∙ mine) in (
-            a.0,
-            ap (λ o. is_about o other) is ∙ ap (λ k. nat_eq k other) b.3
-                ∙ sym (ap (λ o. is_about o other) b.1) ∙ a.1,
-          )
+      by o is poll f own = grind (arith, watched_before, nat_eq)
 
   pub heard_noted : (us : List Said) (ts ms : List (List ℕ))
       → AllByRecursion (λ (c : Claim). nat_eq c.number m ≡ false) (claims us ts ms) → Noted old us ts ms

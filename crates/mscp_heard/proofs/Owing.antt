@@ -1,5 +1,5 @@
 -- What a host is owed, and what a call of its port makes of that.
-use Rattle.mscp_heard.proofs.Common.{AllByRecursion, Asked, BodyKind, IsTextOf, List, Ok, Option, Result, Said, Some, [], ap, arith, bytes_in, drop, every_append, filter, has_number, kind_of_code, length, length-append, not, num, refl, slice_get, slice_index, subst, suc, sym, ℕ, ◌++◌, ◌∙◌, ◌∷◌, ◌≡◌, ◌≤◌}
+use Rattle.mscp_heard.proofs.Common.{AllByRecursion, Asked, BodyKind, IsTextOf, List, Ok, Option, Result, Said, Some, [], ap, arith, bytes_in, drop, every_append, filter, has_number, kind_of_code, length, length-append, not, num, slice_get, slice_index, subst, suc, sym, ℕ, ◌++◌, ◌∙◌, ◌∷◌, ◌≡◌, ◌≤◌}
 use Rattle.mscp_packet.specs.declared.end.BodyKind.TheVariants as bodykinds
 use Rattle.mscp_port.specs.declared.port.OutgoingKind.TheVariants as kinds
 pub use Rattle.mscp_ported.proofs.Growing.{begun_one}
@@ -24,17 +24,13 @@ pub record Inv (asked : List Asked) (said : List Said) (k : ℕ) (aw sent : List
 pub inv_as : (asked : List Asked) (ss ss' : List Said) (k : ℕ) (aw aw' ms : List (List ℕ)) (n n' : ℕ) → ss ≡ ss'
     → aw ≡ aw'
     → n ≡ n' → Inv asked ss' k aw' ms n' → Inv asked ss k aw ms n
-inv_as asked ss ss' k aw aw' ms n n' e f g i =
-    subst (λ x. Inv asked x k aw ms n) (sym e)
-    (subst (λ x. Inv asked ss' k x ms n) (sym f) (subst (λ x. Inv asked ss' k aw' ms x) (sym g) i))
+inv_as asked ss ss' k aw aw' ms n n' e f g i = grind arith
 
 pub moved_few : (k : Option BodyKind) (x n : ℕ) → (k ≡ Some bodykinds.Moved → x ≤ n) → moved_in k x ≤ n
-moved_few (Some bodykinds.Moved) x n h = h refl
-moved_few k x n h = search arith
+moved_few k x n h = grind arith
 
 moved_none : (k : Option BodyKind) (x : ℕ) → x ≡ 0 → moved_in k x ≡ 0
-moved_none (Some bodykinds.Moved) x e = e
-moved_none k x e = refl
+moved_none k x e = grind arith
 
 -- ---- a call
 

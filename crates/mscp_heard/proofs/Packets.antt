@@ -1,5 +1,5 @@
 -- What a host reads in a packet that a port told.
-use Rattle.mscp_heard.proofs.Common.{BodyKind, Bool, End, Envelope, Err, HearFault, IsWhole, List, Message, None, Ok, Option, OutgoingKind, Result, Some, any_end, ap, arith, bare_end, body_at, cond, end_at, end_in, end_length, false, get_or-take, is_too_much, kind_of_code, length, length-take, message_in, min, nat_eq, nat_le, nat_lt, not, num, reading_with, refl, sequential_in, slice_index, subst, sym, take, take_all, true, typed_in, ℕ, ◌*◌, ◌+◌, ◌<◌, ◌∙◌, ◌≡◌, ◌≤◌}
+use Rattle.mscp_heard.proofs.Common.{BodyKind, Bool, End, Envelope, Err, HearFault, IsWhole, List, Message, None, Ok, Option, OutgoingKind, Result, Some, any_end, arith, bare_end, body_at, cond, end_at, end_in, end_length, false, get_or-take, is_too_much, kind_of_code, length, length-take, message_in, nat_eq, nat_le, nat_lt, not, num, reading_with, refl, sequential_in, slice_index, subst, sym, take, take_all, true, typed_in, ℕ, ◌*◌, ◌+◌, ◌<◌, ◌∙◌, ◌≡◌, ◌≤◌}
 use Rattle.std.specs.Prelude.{◌&&◌}
 use Rattle.mscp_packet.specs.declared.end.BodyKind.TheVariants as bodykinds
 use Rattle.mscp_packet.specs.declared.end.EndBody.TheVariants as bodies
@@ -35,56 +35,18 @@ top_bit n h = search (arith, h)
 
 module _ (t : List ℕ) (e : End) (long : 12 ≤ length t) (top : 0x80 ≤ slice_index t 8) where
   body_few : (k : BodyKind) (n : ℕ) → moved_in (Some k) (num t 12 4) ≤ n → is_too_much (body_at k t) n ≡ false
-  body_few bodykinds.Moved n h = not_more n (num t 12 4) h
-  body_few x n h = refl
+  body_few k n h = grind (arith, not_more)
 
   tells : (k : BodyKind) (other figure : ℕ) → body_at k t ≡ bodies.Status other figure → end_length k ≤ length t
       → (other ≡ num t 12 4) × (figure ≡ num t 16 4) × (20 ≤ length t)
-  tells bodykinds.Status other figure e long = search (arith, e, long)
-  tells x other figure e long = absurd (search (arith, e))
+  tells k other figure e long = grind arith
 
   read_with : (k : Option BodyKind) → kind_of_code (slice_index t 8) ≡ k
       → any_end t (reading_with k t) ≡ Ok (messages.End e) → IsEndIn e t
-  read_with None is h =
-      let same : bare_end t ≡ e = ap (λ r. message_or r e) h in
-      record {
-        long = long;
-        top = top;
-        reference = ap (λ (x : End). x.reference) (sym same);
-        moved = λ n few. subst (λ (x : End). is_too_much x.body n ≡ false) same refl;
-        whole = λ m. search (arith, sym is ∙ m);
-        code = ap (λ (x : End). x.code) (sym same);
-        told = λ other figure body. absurd (search (arith, ap (λ (x : End). x.body) same ∙ body));
-      }
-  read_with (Some k) is h = by (nat_lt (length t) (end_length k)) refl h
-    where
-      by : (b : Bool) → nat_lt (length t) (end_length k) ≡ b
-          → any_end t (cond b (Err endfaults.Length) (Ok (end_at k t))) ≡ Ok (messages.End e) → IsEndIn e t
-      by true is_short h = search (arith, h)
-      by false is_long h =
-          let same : end_at k t ≡ e = ap (λ r. message_or r e) h in
-          record {
-            long = long;
-            top = top;
-            reference = ap (λ (x : End). x.reference) (sym same);
-            moved = λ n few. subst (λ (x : End). is_too_much x.body n ≡ false) same
-                (body_few k n (subst (λ o. moved_in o (num t 12 4) ≤ n) is few));
-            whole = λ m. subst (λ (x : BodyKind). end_length x ≤ length t)
-                (Rattle.std.proofs.lemmas.Option.same_Some k bodykinds.Moved (sym is ∙ m))
-                (not_less (length t) (end_length k) is_long);
-            code = ap (λ (x : End). x.code) (sym same);
-            told = λ other figure body. tells k other figure (ap (λ (x : End). x.body) same ∙ body)
-                (not_less (length t) (end_length k) is_long);
-          }
+  read_with k is h = grind (arith, nat_lt, body_few, moved_in, not_less, tells)
 
   read_so : any_end t (end_in t) ≡ Ok (messages.End e) → IsEndIn e t
-  read_so h = by (nat_le 12 (length t)) (nat_le (length t) 64) h
-    where
-      by : (a b : Bool) → any_end t (cond (a && b) (reading_with (kind_of_code (slice_index t 8)) t)
-          (Err endfaults.Length)) ≡ Ok (messages.End e) → IsEndIn e t
-      by true true h = read_with (kind_of_code (slice_index t 8)) refl h
-      by true false h = search (arith, h)
-      by false b h = search (arith, h)
+  read_so h = grind (arith, nat_le, read_with)
 
 sequential_so : (t : List ℕ) (e : End) → sequential_in t ≡ Ok (messages.End e) → IsEndIn e t
 sequential_so t e h = by (nat_lt (length t) 12) refl h
@@ -102,9 +64,7 @@ sequential_so t e h = by (nat_lt (length t) 12) refl h
         (cond (nat_le 0x40 (slice_index t 8)) (Ok (messages.Attention (slice_index t 8) (num t 4 2)))
         (Err faults.Unreadable))) ≡ Ok (messages.End e)
         → IsEndIn e t
-    by true is h = search (arith, h)
-    by false is h = low (nat_le 0x80 (slice_index t 8)) (nat_le 0x40 (slice_index t 8)) refl
-        (not_less (length t) 12 is) h
+    by b is h = grind (arith, low, nat_le, t, not_less)
 
 typed_so : (kind : ℕ) (t : List ℕ) (e : End) → typed_in kind t ≡ Ok (messages.End e) → IsEndIn e t
 typed_so kind t e h = by (nat_eq kind 0) (nat_eq kind 1) (nat_eq kind 2) h
@@ -117,10 +77,7 @@ typed_so kind t e h = by (nat_eq kind 0) (nat_eq kind 1) (nat_eq kind 2) h
     by false false false h = search (arith, h)
 
 taken_byte : (n : ℕ) (b : List ℕ) (i : ℕ) → i < length (take n b) → slice_index (take n b) i ≡ slice_index b i
-taken_byte n b i h = get_or-take n b i 0 (few (length (take n b)) n (length b) (length-take n b) h)
-  where
-    few : (x n m : ℕ) → x ≡ min n m → i < x → i < n
-    few x n m e h = search (arith, e, h)
+taken_byte n b i h = grind (arith, get_or-take, length-take)
 
 -- the text behind an envelope
 pub end_heard : (v : Envelope) (b : List ℕ) (e : End) → message_in v b ≡ Ok (messages.End e)
@@ -253,30 +210,14 @@ news_so t code long =
     (Err faults.Unreadable)))) (sym code) (messages.Attention (slice_index t 8) (num t 4 2), refl, tt))
 
 sequential_read : (kind : OutgoingKind) (t : List ℕ) → IsRead kind t → IsMessage kind (sequential_in t)
-sequential_read kinds.Attention t r = news_so t r.0 r.1
-sequential_read kinds.End t r = whole_so t r
-sequential_read kinds.UtilitiesEnd t r = absurd r
+sequential_read kind t r = grind (arith, news_so, whole_so)
 
 -- behind its envelope
 pub message_read : (kind : OutgoingKind) (t : List ℕ) (v : Envelope) → IsRead kind t → v.length ≡ length t
     → v.connection ≡ 0 → v.kind ≡ 0 → IsMessage kind (message_in v t)
-message_read kind t v r size disk sequential =
-    subst (λ n. IsMessage kind (cond (nat_lt (length t) n) (Err faults.Cut)
-    (cond (not (nat_eq v.connection 0)) (Err faults.Connection) (typed_in v.kind (take n t))))) (sym size)
-    (subst (λ b. IsMessage kind (cond b (Err faults.Cut)
-    (cond (not (nat_eq v.connection 0)) (Err faults.Connection) (typed_in v.kind (take (length t) t)))))
-    (sym (not_more (length t) (length t) (search arith)))
-    (subst (λ n. IsMessage kind (cond (not (nat_eq n 0)) (Err faults.Connection) (typed_in v.kind (take (length t) t))))
-    (sym disk)
-    (subst (λ n. IsMessage kind (typed_in n (take (length t) t))) (sym sequential)
-    (subst (λ xs. IsMessage kind (sequential_in xs)) (sym (take_all (length t) t (search arith)))
-    (sequential_read kind t r)))))
+message_read kind t v r size disk sequential = grind (arith, nat_lt, nat_eq, not_more, take_all, sequential_read)
 
 -- and an end as one
 pub is_end : (kind : OutgoingKind) (r : Result Message HearFault) → kind ≡ kinds.End → IsMessage kind r
     → (e : End) × (r ≡ Ok (messages.End e))
-is_end kind r is x = by x.0 x.1 (subst (λ k. IsSo k x.0) is x.2)
-  where
-    by : (m : Message) → r ≡ Ok m → IsSo kinds.End m → (e : End) × (r ≡ Ok (messages.End e))
-    by (messages.End e) h so = (e, h)
-    by m h so = absurd so
+is_end kind r is x = grind arith

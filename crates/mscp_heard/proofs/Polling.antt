@@ -37,8 +37,7 @@ no_step old call t done is s = subst (λ x. TellsStep x old) is s
 
 takes_poll : {K : Type 0} (old : Port K) (call : Call) (t : List ℕ) (done : Unit) → call ≡ WasRead t (Ok done)
     → taken_by call old ≡ t ∷ [] → slice_index t 8 ≡ 2 → 16 ≤ length t → TakesPoll (num t 12 4) call old
-takes_poll old call t done is took poll long = subst (λ x. TakesPoll (num t 12 4) x old) (sym is)
-    (subst (λ x. taken_by x old ≡ t ∷ []) is took, poll, long, refl)
+takes_poll old call t done is took poll long = grind arith
 
 -- ---- all deeds
 
@@ -146,13 +145,10 @@ module _ {K : Type 0} (picks : Picking K) (c : Settings) (picker : K) (ends : Po
     as_last : (m : PortMoment)
         → Told p calls a new (cond (is_hearing m) (suc (hearings h)) (hearings h)) (sent h ++ sent_by m)
         → Told p calls a new (hearings (h ++ m ∷ [])) (sent (h ++ m ∷ []))
-    as_last m x = subst (λ j. Told p calls a new j (sent (h ++ m ∷ []))) (sym (heard_last h m))
-        (subst (λ ms. Told p calls a new (cond (is_hearing m) (suc (hearings h)) (hearings h)) ms)
-        (sym (sent_last h m)) x)
+    as_last m x = grind (arith, heard_last, sent_last)
 
     still : new ≡ mid → Told p calls a new (hearings h) (sent h ++ [])
-    still same = subst (λ ms. Told p calls a new (hearings h) ms) (sym (append-nil (sent h)))
-        (subst (λ x. Told p calls a x (hearings h) (sent h)) (sym same) k)
+    still same = grind (arith, append-nil)
 
     is_claimed : (m g : ℕ) → first_of m (flat_map pending_in (drop (hearings h) us) ++ pending_held p) ≡ Some g
         → 1 ≤ tally m (claims (drop (hearings h) us) aw (drop n (sent h)))
@@ -196,17 +192,13 @@ module _ {K : Type 0} (picks : Picking K) (c : Settings) (picker : K) (ends : Po
 
         next : Knows F Served mid (s ∷ drop (suc (hearings h)) us)
             (pending_in s ++ (flat_map pending_in (drop (suc (hearings h)) us) ++ pending_held p)) aw (drop n (sent h))
-        next = subst (λ es. Knows F Served mid (s ∷ drop (suc (hearings h)) us) es aw (drop n (sent h)))
-            (append_assoc (pending_in s) (flat_map pending_in (drop (suc (hearings h)) us)) (pending_held p))
-            (subst (λ xs. Knows F Served mid xs (flat_map pending_in xs ++ pending_held p) aw (drop n (sent h))) d.0 k)
+        next = grind (arith, append_assoc, d)
 
         read : IsRead s.kind s.text
         read = (subst (λ xs. AllByRecursion IsCoded xs) d.0 i.news).0
 
         message : IsMessage s.kind (message_in v b)
-        message = subst (λ t. IsMessage s.kind (message_in v t)) (sym text)
-            (message_read s.kind s.text v read (size ∙ small_size (length s.text) (read_short s.kind s.text read))
-            (connection ∙ read_disk s.kind s.text read) plain)
+        message = grind (arith, message_read, read, small_size, read_short, read_disk)
 
         by : IsHeardSo mid new (message_in v b) heard
             → Told p calls a new (suc (hearings h)) (sent h) × ((heard ≢ heards.Reset) × (heard ≢ heards.Lost))
@@ -276,22 +268,15 @@ module _ {K : Type 0} (picks : Picking K) (c : Settings) (picker : K) (ends : Po
 
   nothing_told : (host : PortAccount) (F : ℕ → ℕ) (Served : ℕ → Type 0) (us : List Said) (P : List Pending)
       (ts ms : List (List ℕ)) → host ≡ fresh_of_port → Knows F Served host us P ts ms
-  nothing_told host F Served us P ts ms is = subst (λ x. Knows F Served x us P ts ms) (sym is) (record {
-    placed = λ n y e. absurd (none-some y e);
-    told = tt;
-    poll = λ w e out. absurd (none-some w e);
-    unique = tt;
-  })
+  nothing_told host F Served us P ts ms is = grind (arith, none-some)
 
   told_so : (p : Port K) (deeds : List Deed) → AsksAlways (calls_in deeds) → ReadsBytes (calls_in deeds)
       → HaveNumbers deeds → (a : Answered picks start (calls_in deeds) p) → AreJoined IsCopyOf picks start p deeds a
       → ServesBetweenPolls picks start p (calls_in deeds) a
       → is_dead p.stage ≡ false → (host : PortAccount) → PortAnswered fresh_of_port (did deeds) host
       → Told p (calls_in deeds) a host (hearings (did deeds)) (sent (did deeds))
-  told_so p [] asks small numbers a joined serves lives host r =
-      nothing_told host _ _ _ _ _ _ r
-  told_so p (Called WriteIp ∷ deeds) asks small numbers a joined serves lives host r =
-      nothing_told host _ _ _ _ _ _ r
+  told_so p [] asks small numbers a joined serves lives host r = grind (arith, nothing_told)
+  told_so p (Called WriteIp ∷ deeds) asks small numbers a joined serves lives host r = grind (arith, nothing_told)
   told_so p (Called call ∷ deeds) asks small numbers a joined serves lives host r =
       let never : call ≢ WriteIp = λ e. search (arith, e) in
       let d = ends c before controller hardware credits start p call (calls_in deeds) valid was quiet made small a never
@@ -321,8 +306,7 @@ module _ {K : Type 0} (picks : Picking K) (c : Settings) (picker : K) (ends : Po
       → ServesBetweenPolls picks start p (calls_in deeds) a
       → PortAnswered fresh_of_port (did deeds) old → PortAnswers old (Hear v b answer) new
       → (answer ≢ Ok heards.Reset) × (answer ≢ Ok heards.Lost)
-  hears_neither p deeds old new v b (Err fault) asks small numbers a joined serves answered r =
-      ((λ e. search (arith, e)), (λ e. search (arith, e)))
+  hears_neither p deeds old new v b (Err fault) asks small numbers a joined serves answered r = grind arith
   hears_neither p deeds old new v b (Ok heard) asks small numbers a joined serves answered r =
       let calls = calls_in deeds in
       let lives = none_told picks c picker ends hear tell open_so answer_so history before controller hardware credits
@@ -338,8 +322,4 @@ module _ {K : Type 0} (picks : Picking K) (c : Settings) (picker : K) (ends : Po
       ((λ e. x.0 (same_heard heard heards.Reset e)), (λ e. x.1 (same_heard heard heards.Lost e)))
     where
       same_heard : (x y : Heard) → ◌≡◌ {A = Result Heard HearFault} (Ok x) (Ok y) → x ≡ y
-      same_heard x y e = ap said_so e
-        where
-          said_so : Result Heard HearFault → Heard
-          said_so (Ok z) = z
-          said_so (Err fault) = x
+      same_heard x y e = grind arith

@@ -31,20 +31,13 @@ end_kind s v b e code text connection r = by s.kind refl
       (end_heard v b e r).1,
       ap (λ x. slice_index x 8) text ∙ (subst (λ x. IsRead x s.text) is code).0,
     ))
-    by kinds.UtilitiesEnd is = absurd (search (
-      arith,
-      sym (end_heard v b e r).0 ∙ (connection ∙ ap connection_told is),
-    ))
+    by kinds.UtilitiesEnd is = grind (arith, end_heard)
 
 pub read_short : (kind : OutgoingKind) (t : List ℕ) → IsRead kind t → length t ≤ 64
-read_short kinds.Attention t r = r.2
-read_short kinds.End t r = r.short
-read_short kinds.UtilitiesEnd t r = absurd r
+read_short kind t r = grind arith
 
 pub read_disk : (kind : OutgoingKind) (t : List ℕ) → IsRead kind t → connection_told kind ≡ 0
-read_disk kinds.Attention t r = refl
-read_disk kinds.End t r = refl
-read_disk kinds.UtilitiesEnd t r = absurd r
+read_disk kind t r = grind arith
 
 pub small_size : (n : ℕ) → n ≤ 64 → n % 0x1_0000 ≡ n
 small_size n h = omega (arith, h)
@@ -90,23 +83,12 @@ module _ {K : Type 0} (picks : Picking K) (c : Settings) (picker : K) (ends : Po
 
     as_last : (m : PortMoment) → Noted new (drop (cond (is_hearing m) (suc (hearings h)) (hearings h)) us)
         (awaited picks start p calls a) (drop n (sent h ++ sent_by m)) → IsReady new → Then m
-    as_last m x now = (
-      subst (λ k. Noted new (drop k us) (awaited picks start p calls a) (drop n (sent (h ++ m ∷ []))))
-          (sym (heard_last h m))
-          (subst (λ ms. Noted new (drop (cond (is_hearing m) (suc (hearings h)) (hearings h)) us)
-          (awaited picks start p calls a) (drop n ms)) (sym (sent_last h m)) x),
-      now,
-    )
+    as_last m x now = grind (arith, heard_last, sent_last)
 
     -- it keeps the same
     still : new ≡ mid → Noted new (drop (hearings h) us) (awaited picks start p calls a) (drop n (sent h ++ []))
         × IsReady new
-    still same = (
-      subst (λ ms. Noted new (drop (hearings h) us) (awaited picks start p calls a) (drop n ms))
-          (sym (append-nil (sent h))) (subst (λ x. Noted x (drop (hearings h) us) (awaited picks start p calls a)
-          (drop n (sent h))) (sym same) noted),
-      subst IsReady (sym same) ready,
-    )
+    still same = grind (arith, append-nil, noted)
 
     -- it sent a message
     sent_it : (m : List ℕ) → Notes mid new m
@@ -186,10 +168,7 @@ module _ {K : Type 0} (picks : Picking K) (c : Settings) (picker : K) (ends : Po
   -- ---- all deeds
 
   pub new_ready : (host : PortAccount) → host ≡ fresh_of_port → IsReady host
-  new_ready host is = subst IsReady (sym is) (record {
-    watched = λ w e. absurd (none-some w e);
-    small = tt;
-  })
+  new_ready host is = grind (arith, none-some)
 
   -- by a call of the port
   pub by_call : (p : Port K) (calls : List Call) (call : Call) (a : Answered picks start (call ∷ calls) p)

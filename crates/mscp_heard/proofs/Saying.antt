@@ -1,6 +1,6 @@
 -- What a host says of an end that it hears, and what it keeps of it.
 use Rattle.mscp_heard.proofs.Watching.{read_number}
-use Rattle.mscp_heard.proofs.Common.{Asked, Bool, End, EndBody, Envelope, Err, HearFault, Heard, List, Message, None, Ok, Option, PortAccount, Result, Some, Watch, answered, ap, arith, as_read, cond, end_says, ended, ends_of, false, find, granted, heard_of, hears, inl, inr, is_about_polled, is_code_of, is_of, is_success, may_be_of, message_in, nat_eq, none-some, outstanding_with, refl, same_Some, sym, told_in, true, watch_after, without, without_by, ℕ, ◌&&◌, ◌∙◌, ◌≡◌, ◌≢◌, ◌⊎◌}
+use Rattle.mscp_heard.proofs.Common.{Asked, Bool, End, Envelope, Err, HearFault, Heard, List, Message, Ok, Option, PortAccount, Result, Some, Watch, answered, arith, as_read, cond, end_says, ended, ends_of, granted, heard_of, hears, is_about_polled, is_of, may_be_of, message_in, nat_eq, none-some, outstanding_with, same_Some, true, watch_after, without, without_by, ℕ, ◌&&◌, ◌∙◌, ◌≡◌, ◌≢◌, ◌⊎◌, said}
 use Rattle.mscp_packet.specs.declared.end.EndBody.TheVariants as bodies
 use Rattle.mscp_host.specs.declared.heard.Heard.TheVariants as heards
 use Rattle.mscp_host.specs.declared.message.HearFault.TheVariants as faults
@@ -25,10 +25,6 @@ pub hear_done : (old new : PortAccount) (v : Envelope) (b : List ℕ) (heard : H
     → hears old v b ≡ (Ok heard, new) → IsHeardSo old new (message_in v b) heard
 hear_done old new v b heard e = by (message_in v b) e
   where
-    said : Result Heard HearFault × PortAccount → Heard
-    said (Ok x, p) = x
-    said (Err fault, p) = heard
-
     judged : (end : End) (x : Asked) (c d : Bool) → (c && d) ≡ may_be_of old end x
         → d ≡ is_about_polled old.account.watch (answered old.account.watch (as_read end))
         → ◌≡◌ {A = Result Heard HearFault × PortAccount} (cond (c && d) (
@@ -37,27 +33,11 @@ hear_done old new v b heard e = by (message_in v b) e
         )
         (Err faults.Unknown, old)) (Ok heard, new)
         → IsHeardSo old new (Ok (messages.End end)) heard
-    judged end x true true is about h = inr (
-      end,
-      refl,
-      record {
-        own = (x, sym (ap said h));
-        asked = sym (ap (λ y. y.1.asked) h);
-        outstanding = sym (ap (λ y. y.1.account.outstanding) h)
-            ∙ ap (λ n. without n (outstanding_with old.account (answered old.account.watch (as_read end))))
-            (read_number end);
-        watch = sym (ap (λ y. y.1.account.watch) h) ∙ ap (watch_after old.account.watch) (read_number end);
-        about = sym about;
-      },
-    )
-    judged end x true false is about h = absurd (search (arith, h))
-    judged end x false d is about h = absurd (search (arith, h))
+    judged end x c d is about h = grind (arith, read_number)
 
     found : (end : End) (o : Option Asked) → ends_of old v.credits end o ≡ (Ok heard, new)
         → IsHeardSo old new (Ok (messages.End end)) heard
-    found end None h = absurd (search (arith, h))
-    found end (Some x) h = judged end x (is_code_of end.code x.opcode)
-        (is_about_polled old.account.watch (answered old.account.watch (as_read end))) refl refl h
+    found end o h = grind (arith, judged)
 
     plain : (x : Heard) → x ≡ heard → (x ≢ heards.Reset) × (x ≢ heards.Lost)
         → (heard ≢ heards.Reset) × (heard ≢ heards.Lost)
@@ -65,63 +45,13 @@ hear_done old new v b heard e = by (message_in v b) e
 
     news : (c : Bool) (unit code : ℕ) → (cond c (heards.Available unit) (heards.Attention code unit) ≢ heards.Reset)
         × (cond c (heards.Available unit) (heards.Attention code unit) ≢ heards.Lost)
-    news true unit code = ((λ e. search (arith, e)), (λ e. search (arith, e)))
-    news false unit code = ((λ e. search (arith, e)), (λ e. search (arith, e)))
+    news c unit code = grind arith
 
     by : (r : Result Message HearFault) → heard_of old v.credits r ≡ (Ok heard, new) → IsHeardSo old new r heard
-    by (Err fault) h = absurd (search (arith, h))
-    by (Ok (messages.End end)) h = found end (find (is_of end.reference) old.asked) h
-    by (Ok (messages.Attention code unit)) h = inl (
-      sym (ap (λ y. y.1.asked) h),
-      sym (ap (λ y. y.1.account) h),
-      plain _ (ap said h) (news (nat_eq code 0x40) unit code),
-      λ e x. search (arith, x),
-    )
-    by (Ok messages.Datagram) h = inl (
-      sym (ap (λ y. y.1.asked) h),
-      sym (ap (λ y. y.1.account) h),
-      plain heards.Logged (ap said h) ((λ e. search (arith, e)), (λ e. search (arith, e))),
-      λ e x. search (arith, x),
-    )
-    by (Ok messages.Credits) h = inl (
-      sym (ap (λ y. y.1.asked) h),
-      sym (ap (λ y. y.1.account) h),
-      plain (heards.Credits v.credits) (ap said h) ((λ e. search (arith, e)), (λ e. search (arith, e))),
-      λ e x. search (arith, x),
-    )
+    by r h = grind (arith, found, plain, said, news, nat_eq)
 
 -- what answers a poll
 pub answer_is : (o : Option Watch) (e : End) (told : ℕ × ℕ) → answered o (as_read e) ≡ Some told
     → (w : Watch) × (o ≡ Some w) × (w.reference ≡ e.reference) × (e.code ≡ 0x82)
     × (e.body ≡ bodies.Status told.0 told.1)
-answer_is None e told h = absurd (none-some told h)
-answer_is (Some w) e told h = by (is_success e.status) h
-  where
-    tells : (body : EndBody) → e.body ≡ body → told_in body ≡ Some told → e.body ≡ bodies.Status told.0 told.1
-    tells (bodies.Status other figure) is h =
-        is ∙ ap (λ (x : ℕ × ℕ). bodies.Status x.0 x.1) (same_Some (other, figure) told h)
-    tells body is h = absurd (none-some told h)
-
-    cases : (c : Bool) → nat_eq w.reference e.reference ≡ c → (d : Bool) → nat_eq e.code 0x82 ≡ d
-        → cond (c && d) (told_in e.body) None ≡ Some told
-        → (v : Watch) × (Some w ≡ Some v) × (v.reference ≡ e.reference) × (e.code ≡ 0x82)
-        × (e.body ≡ bodies.Status told.0 told.1)
-    cases true p true q h = (
-      w,
-      refl,
-      Rattle.mscp_port.proofs.Common.eqb-true w.reference e.reference p,
-      Rattle.mscp_port.proofs.Common.eqb-true e.code 0x82 q,
-      tells e.body refl h,
-    )
-    cases true p false q h = absurd (none-some told h)
-    cases false p d q h = absurd (none-some told h)
-
-    by : (c : Bool) → answered (Some w) (cond c e (record e { code = 0x80; body = bodies.Bare })) ≡ Some told
-        → (v : Watch) × (Some w ≡ Some v) × (v.reference ≡ e.reference) × (e.code ≡ 0x82)
-        × (e.body ≡ bodies.Status told.0 told.1)
-    by true h = cases (nat_eq w.reference e.reference) refl (nat_eq e.code 0x82) refl h
-    by false h = absurd (none (nat_eq w.reference e.reference) h)
-      where
-        none : (c : Bool) → cond (c && false) (told_in bodies.Bare) None ≡ Some told → ⊥
-        none true h = none-some told h
-        none false h = none-some told h
+answer_is o e told h = grind (arith, none-some, same_Some, nat_eq)

@@ -5,7 +5,7 @@ use Rattle.mscp_port.specs.declared.port.OutgoingKind.TheVariants as kinds
 use Rattle.mscp_heard.proofs.Claims.{IsOwed, Owes, claim_of, claim_said, claims, claims_said, moved_in, owes_less, owes_more, owes_rest}
 use Rattle.mscp_heard.proofs.Hosts.{Sends, Settles}
 use Rattle.mscp_heard.proofs.Moving.{drop_at, drop_beside}
-use Rattle.mscp_heard.proofs.Packets.{IsRead, end_heard}
+use Rattle.mscp_heard.proofs.Packets.{end_heard}
 use Rattle.mscp_heard.proofs.Owing.{Inv, IsCoded}
 
 module _ (asked : List Asked) (ss : List Said) (k : ℕ) (aw ms : List (List ℕ)) (n : ℕ) (i : Inv asked ss k aw ms n)
@@ -59,14 +59,12 @@ module _ (asked : List Asked) (ss : List Said) (k : ℕ) (aw ms : List (List ℕ
             let h = end_heard v b e r in search (arith, h.1, ap (λ x. slice_index x 8) text ∙ code)
 
         not_disk : (e : End) → s.kind ≡ kinds.UtilitiesEnd → message_in v b ≡ Ok (messages.End e) → ⊥
-        not_disk e kind r =
-            let h = end_heard v b e r in search (arith, sym h.0 ∙ (connection ∙ ap connection_told kind))
+        not_disk e kind r = grind (arith, end_heard)
 
         by : (kind : OutgoingKind) → s.kind ≡ kind
             → Owes asked (claim_said s.kind s.text ++ claims (drop (suc k) ss) aw (drop n ms)) → IsCoded s
             → Settles asked new (message_in v b) → Owes new (claims (drop (suc k) ss) aw (drop n ms))
-        by kinds.Attention kind o code (inr r) = absurd (not_heard r.0 kind (subst
-            (λ x. IsRead x s.text) kind code).0 r.1)
+        by kinds.Attention kind o code (inr r) = grind (arith, not_heard)
         by kinds.UtilitiesEnd kind o code (inr r) = absurd (not_disk r.0 kind r.1)
         by kinds.End kind o code (inl same) = subst (λ xs. Owes xs (claims (drop (suc k) ss) aw (drop n ms)))
             (sym same) (owes_rest asked _ (claims (drop (suc k) ss) aw (drop n ms))
@@ -79,8 +77,7 @@ module _ (asked : List Asked) (ss : List Said) (k : ℕ) (aw ms : List (List ℕ
             (claims (drop (suc k) ss) aw (drop n ms))) (sym named)
             (owes_less asked _ (claims (drop (suc k) ss) aw (drop n ms))
             (subst (λ x. Owes asked (claim_said x s.text ++ claims (drop (suc k) ss) aw (drop n ms))) kind o)))
-        by other kind o code (inl same) = subst (λ xs. Owes xs (claims (drop (suc k) ss) aw (drop n ms))) (sym same)
-            (subst (λ x. Owes asked (claim_said x s.text ++ claims (drop (suc k) ss) aw (drop n ms))) kind o)
+        by other kind o code (inl same) = grind (arith, claims, claim_said)
 
     -- and each end in it is that of a command
     pub heard_own : (s : Said) (v : Envelope) (b : List ℕ) (e : End) → slice_get ss k ≡ Some s → b ≡ s.text
@@ -101,15 +98,6 @@ module _ (asked : List Asked) (ss : List Said) (k : ℕ) (aw ms : List (List ℕ
             × ((m : ℕ) → moved_in (kind_of_code (slice_index b 8)) (num b 12 4) ≤ m → is_too_much e.body m ≡ false))
             → AllByRecursion (IsOwed asked) (claim_said s.kind s.text ++ claims (drop (suc k) ss) aw (drop n ms))
             → (x : Asked) × (find (is_of e.reference) asked ≡ Some x) × (is_too_much e.body x.bytes ≡ false)
-        by kinds.Attention kind code h all =
-            absurd (search (arith, h.1, ap (λ x. slice_index x 8) text ∙ (subst (λ x. IsRead x s.text) kind code).0))
-        by kinds.UtilitiesEnd kind code h all =
-            absurd (search (arith, sym h.0 ∙ (connection ∙ ap connection_told kind)))
-        by kinds.End kind code h all =
-            let mine = (subst (λ x. AllByRecursion (IsOwed asked)
-            (claim_said x s.text ++ claims (drop (suc k) ss) aw (drop n ms))) kind all).0 in (
-              mine.0,
-              ap (λ m. find (is_of m) asked) (h.2 ∙ ap (λ x. num x 0 4) text) ∙ mine.1,
-              h.3 mine.0.bytes (subst (λ x. moved_in (kind_of_code (slice_index x 8)) (num x 12 4) ≤ mine.0.bytes)
-                  (sym text) mine.2),
-            )
+        by kinds.Attention kind code h all = grind arith
+        by kinds.UtilitiesEnd kind code h all = grind arith
+        by kinds.End kind code h all = grind (arith, claim_said, claims, moved_in)

@@ -1,19 +1,16 @@
 -- What a port told, as what it said is packed.
-use Rattle.mscp_heard.proofs.Common.{AreAccepted, Envelope, List, Opened, OutgoingKind, Packet, Said, Slot, Some, Talk, TellAll, Tells, [], ap, arith, connection_told, credits_in, inl, inr, left_after, length, length-map, message_text, none-some, refl, same_Some, slice_get, subst, suc, sym, zero, ℕ, ◌%◌, ◌*◌, ◌++◌, ◌+◌, ◌∙◌, ◌∷◌, ◌≡◌}
+use Rattle.mscp_heard.proofs.Common.{AreAccepted, Envelope, List, Opened, OutgoingKind, Packet, Said, Slot, Some, Talk, TellAll, Tells, [], arith, connection_told, credits_in, left_after, length, length-map, none-some, same_Some, slice_get, suc, zero, ℕ, ◌%◌, ◌*◌, ◌++◌, ◌+◌, ◌∷◌, ◌≡◌}
 use Rattle.std.specs.Prelude.{◌/◌}
-use Rattle.mscp_port.specs.declared.port.OutgoingKind.TheVariants as kinds
 
 pub counted : (t : Talk) (texts : List (List ℕ)) (slot : Slot) (header : ℕ) → t.turn ≡ Opened slot header
     → AreAccepted t.heard t.turn texts → length t.heard ≡ length texts
-counted t texts slot header opened (inl e) = sym (ap length e ∙ length-map t.heard message_text)
-counted t texts slot header opened (inr r) = absurd (search (arith, sym opened ∙ r.3))
+counted t texts slot header opened h = grind (arith, length-map)
 
 pub tell_at : (left : ℕ) (told : List Packet) (gone : List Said) (k : ℕ) (packet : Packet) → TellAll left told gone
     → slice_get told k ≡ Some packet → (s : Said) × (rest : ℕ) × (slice_get gone k ≡ Some s) × Tells rest packet s
 tell_at left [] gone k packet t e = absurd (none-some packet e)
 tell_at left (x ∷ told) [] k packet t e = absurd t
-tell_at left (x ∷ told) (s ∷ gone) zero packet t e =
-    (s, left, refl, subst (λ y. Tells left y s) (same_Some x packet e) t.0)
+tell_at left (x ∷ told) (s ∷ gone) zero packet t e = grind (arith, same_Some)
 tell_at left (x ∷ told) (s ∷ gone) (suc k) packet t e = tell_at (left_after left s.kind) told gone k packet t.1 e
 
 pub first_part : (xs ys : List Said) (k : ℕ) (s : Said) → slice_get xs k ≡ Some s → slice_get (xs ++ ys) k ≡ Some s
@@ -25,9 +22,7 @@ pub size_of : (n : ℕ) → 0 + n % 256 * 1 + n / 256 % 256 * 256 ≡ n % 0x1_00
 size_of n = omega arith
 
 pub few_credits : (left : ℕ) (kind : OutgoingKind) → credits_in left kind / 16 ≡ 0
-few_credits left kinds.Attention = refl
-few_credits left kinds.End = omega arith
-few_credits left kinds.UtilitiesEnd = refl
+few_credits left kind = grind arith
 
 pub record IsHeard (ss : List Said) (k : ℕ) (v : Envelope) (b : List ℕ) : Type 0 where
   pub said : Said

@@ -1,11 +1,11 @@
 -- How calls of a port leave what is known of the figures that its host was told, and of the poll in flight.
 use Rattle.mscp_heard.proofs.Upcoming.{first_of, Before, IsIn, before_more, first_more, first_behind, in_front, first_in, in_either, in_left, in_right, all_in, tally_texts, tally_in, has_some, some_has}
-use Rattle.mscp_heard.proofs.Known.{last_of, IsPollText, PollsLast, IsBelow, KnowsTold, KnowsPoll, Knows}
+use Rattle.mscp_heard.proofs.Known.{last_of, PollsLast, IsBelow, KnowsTold, KnowsPoll, Knows}
 use Rattle.mscp_heard.proofs.Claiming.{as_many}
 use Rattle.mscp_port.specs.declared.port.OutgoingKind.TheVariants as kinds
 use Rattle.mscp_heard.proofs.Claims.{claim_of, claims, claims_said, tally, tally_append}
 use Rattle.mscp_heard.proofs.Dealt.{Dealt}
-use Rattle.mscp_heard.proofs.Common.{AllByRecursion, Asked, Bool, IsCopyOf, List, None, Option, Pending, PortAccount, Said, Some, Submission, [], ap, append-nil, append_assoc, arith, cond, eq-eqb, eqb-true, false, filter, find, first_of_one, flat_map, flat_map-append, has_number, inl, inr, is_of, last_told, length, map, nat_eq, none-some, none_beside, none_of_it, none_stays, not, num, pending_in, pending_said, refl, same_Some, slice_index, subst, sym, true, ℕ, ◌++◌, ◌+◌, ◌<◌, ◌∙◌, ◌∷◌, ◌≡◌, ◌≢◌, ◌≤◌, ◌⊎◌}
+use Rattle.mscp_heard.proofs.Common.{AllByRecursion, Asked, Bool, List, None, Option, Pending, PortAccount, Said, Some, Submission, [], ap, append-nil, append_assoc, arith, cond, eq-eqb, eqb-true, false, filter, find, first_of_one, flat_map, flat_map-append, has_number, inl, inr, is_of, last_told, length, map, nat_eq, none-some, none_beside, none_of_it, none_stays, not, num, pending_in, pending_said, refl, same_Some, slice_index, subst, sym, true, ℕ, ◌++◌, ◌+◌, ◌<◌, ◌∙◌, ◌∷◌, ◌≡◌, ◌≢◌, ◌≤◌, ◌⊎◌}
 
 cancel : {X : Type 0} (xs ys zs : List X) → xs ++ ys ≡ xs ++ zs → ys ≡ zs
 cancel [] ys zs e = e
@@ -34,39 +34,18 @@ module _ (host : PortAccount) (F F' : ℕ → ℕ) (Served Served' : ℕ → Typ
   P' = flat_map pending_in us' ++ held'
 
   grows : P' ≡ P ++ more
-  grows = ap (λ xs. flat_map pending_in xs ++ held') is_new
-      ∙ ap (λ xs. xs ++ held') (flat_map-append pending_in us new)
-      ∙ append_assoc (flat_map pending_in us) (flat_map pending_in new) held'
-      ∙ ap (λ xs. flat_map pending_in us ++ xs) behind
-      ∙ sym (append_assoc (flat_map pending_in us) held more)
+  grows = grind (arith, flat_map-append, append_assoc)
 
   -- a text that was read is no longer unread
   unread_or : (ms' ≡ ms) ⊎ ((m : List ℕ) × (ms ≡ m ∷ ms'))
-  unread_or = elim d [
-    | inl q ↦ inl q.2
-    | inr more ↦ elim more [
-      | inl q ↦ inl q.4
-      | inr more ↦ elim more [
-        | inl q ↦ inl q.6
-        | inr more ↦ elim more [ inl q ↦ inr (q.1, q.5) | inr q ↦ inr (q.2, q.9) ]
-      ]
-    ]
-  ]
+  unread_or = grind arith
 
   tail_none : (n : ℕ) (m : List ℕ) (xs : List (List ℕ)) → filter (has_number n) (m ∷ xs) ≡ []
       → (nat_eq (num m 0 4) n ≡ false) × (filter (has_number n) xs ≡ [])
-  tail_none n m xs e = by (nat_eq (num m 0 4) n) e
-    where
-      by : (b : Bool) → cond b (m ∷ filter (has_number n) xs) (filter (has_number n) xs) ≡ []
-          → (b ≡ false) × (filter (has_number n) xs ≡ [])
-      by true h = absurd (search (arith, h))
-      by false h = (refl, h)
+  tail_none n m xs e = grind (arith, nat_eq)
 
   fewer : (n : ℕ) → filter (has_number n) ms ≡ [] → filter (has_number n) ms' ≡ []
-  fewer n e = elim unread_or [
-    | inl same ↦ ap (filter (has_number n)) same ∙ e
-    | inr x ↦ (tail_none n x.0 ms' (ap (filter (has_number n)) (sym x.1) ∙ e)).1
-  ]
+  fewer n e = grind (arith, unread_or, tail_none)
 
   -- what waits behind the call, and was no unread message, waited before it
   before_low : (n : ℕ) → filter (has_number n) ms ≡ [] → 1 ≤ F' n → 1 ≤ F n
@@ -89,8 +68,7 @@ module _ (host : PortAccount) (F F' : ℕ → ℕ) (Served Served' : ℕ → Typ
 
       one : (s : Said) → s.kind ≡ kinds.End → IsIn n (pending_said s.kind s.text ++ [])
           → nat_eq (num s.text 0 4) n ≡ true
-      one s kind is = elim (subst (λ k. IsIn n (pending_said k s.text ++ [])) kind is)
-          [ inl x ↦ x | inr x ↦ absurd x ]
+      one s kind is = grind arith
 
       said_is : (s : Said) → us' ≡ us ++ s ∷ [] → new ≡ s ∷ []
       said_is s e = cancel us new (s ∷ []) (sym is_new ∙ e)
@@ -99,8 +77,7 @@ module _ (host : PortAccount) (F F' : ℕ → ℕ) (Served Served' : ℕ → Typ
       by (inl q) = from (λ e. there (ap (filter (has_number n)) q.1 ∙ e))
           (λ is. subst (λ xs. IsIn n (flat_map pending_in xs))
           (cancel us new [] (sym is_new ∙ q.0 ∙ sym (append-nil us))) is)
-      by (inr (inl q)) = from (λ e. there (ap (filter (has_number n)) q.3 ∙ e))
-          (λ is. quiet q.0 q.1 (subst (λ xs. IsIn n (flat_map pending_in xs)) (said_is q.0 q.2) is))
+      by (inr (inl q)) = grind (arith, from, there, quiet, said_is)
       by (inr (inr (inl q))) = from
           (λ e. there (ap (filter (has_number n)) q.5
           ∙ none_stays (has_number n) (λ x. not (has_number (num q.0.text 0 4) x)) ts e))
@@ -114,35 +91,10 @@ module _ (host : PortAccount) (F F' : ℕ → ℕ) (Served Served' : ℕ → Typ
           ∙ none_beside (has_number n) ts q.0 (ap (λ k. nat_eq k n) q.2.number ∙ apart) ∙ e))
           (λ is. subst (λ xs. IsIn n (flat_map pending_in xs))
           (cancel us new [] (sym is_new ∙ q.3 ∙ sym (append-nil us))) is)
-      by (inr (inr (inr (inr q)))) =
-          let apart = (tail_none n q.2 ms' (ap (filter (has_number n)) (sym q.9) ∙ unread)).0 in
-          from (λ e. there (ap (filter (has_number n)) q.8 ∙ e))
-          (λ is. search (
-            arith,
-            apart,
-            ap (λ k. nat_eq k n) (sym q.3.number) ∙ ap (λ k. nat_eq k n) (sym q.4)
-                ∙ one q.0 q.11 (subst (λ xs. IsIn n (flat_map pending_in xs)) (said_is q.0 q.7) is),
-          ))
+      by (inr (inr (inr (inr q)))) = grind (arith, tail_none, from, there, nat_eq, one, said_is)
 
   below_still : (n g : ℕ) → filter (has_number n) ms ≡ [] → IsBelow F Served n g → IsBelow F' Served' n g
-  below_still n g unread below low =
-      let before = before_low n unread low in
-      let b = below before in (
-        le (F' n) (F n) g (lowers n before) b.0,
-        λ s. elim (served n s) [
-          | inl falls ↦ lt_le (F' n) (F n) g (falls before) b.0
-          | inr was ↦ le_lt (F' n) (F n) g (lowers n before) (b.1 was)
-        ],
-      )
-    where
-      le : (x y z : ℕ) → x ≤ y → y ≤ z → x ≤ z
-      le x y z h k = omega (arith, h, k)
-
-      lt_le : (x y z : ℕ) → x < y → y ≤ z → x < z
-      lt_le x y z h k = omega (arith, h, k)
-
-      le_lt : (x y z : ℕ) → x ≤ y → y < z → x < z
-      le_lt x y z h k = omega (arith, h, k)
+  below_still n g unread below low = grind (arith, before_low)
 
   told_still : (xs : List Submission) → AllByRecursion (KnowsTold F Served ms) xs
       → AllByRecursion (KnowsTold F' Served' ms') xs
@@ -158,55 +110,10 @@ module _ (host : PortAccount) (F F' : ℕ → ℕ) (Served Served' : ℕ → Typ
   poll_is : (w x : ℕ) → PollsLast x w ms → (text : List ℕ) → texts ≡ text ∷ [] → num text 0 4 ≡ w
       → (filter (has_number x) ms' ≡ []) × ((m : List ℕ) × (ms ≡ m ∷ ms') × (num m 0 4 ≡ w))
       × ((t : List ℕ) × Took t × (slice_index t 8 ≡ 2) × (16 ≤ length t) × (num t 12 4 ≡ x) × (num t 0 4 ≡ w))
-  poll_is w x last text one named = by d
-    where
-      same_text : (t : List ℕ) → texts ≡ t ∷ [] → text ≡ t
-      same_text t e = (first_of_one text t [] (sym one ∙ e)).0
-
-      none : texts ≡ [] → ⊥
-      none e = search (arith, sym e ∙ one)
-
-      longer : (a b c : ℕ) → a ≤ b → b ≤ c → a ≤ c
-      longer a b c h k = omega (arith, h, k)
-
-      poll_text : (t m : List ℕ) → IsCopyOf t m → ms ≡ m ∷ ms' → texts ≡ t ∷ []
-          → (num m 0 4 ≡ w) × IsPollText x m × (filter (has_number x) ms' ≡ [])
-      poll_text t m is e f =
-          let own : num m 0 4 ≡ w = sym is.number ∙ ap (λ y. num y 0 4) (sym (same_text t f)) ∙ named in
-          let l = (subst (λ xs. PollsLast x w xs) e last).0 (eq-eqb (num m 0 4) w own) in
-          (own, l.0, l.1)
-
-      never : (s : Said) (t m : List ℕ) → IsCopyOf t m → slice_index s.text 8 ≡ slice_index t 8 + 0x80
-          → slice_index s.text 8 ≢ 0x82 → IsPollText x m → ⊥
-      never s t m is code other poll = other (code ∙ ap (λ n. n + 0x80) (is.opcode ∙ poll.0))
-
-      by : Dealt Took texts us ts ms us' ts' ms'
-          → (filter (has_number x) ms' ≡ []) × ((m : List ℕ) × (ms ≡ m ∷ ms') × (num m 0 4 ≡ w))
-          × ((t : List ℕ) × Took t × (slice_index t 8 ≡ 2) × (16 ≤ length t) × (num t 12 4 ≡ x) × (num t 0 4 ≡ w))
-      by (inl q) = absurd (none q.3)
-      by (inr (inl q)) = absurd (none q.5)
-      by (inr (inr (inl q))) = absurd (none q.7)
-      by (inr (inr (inr (inl q)))) =
-          let p = poll_text q.0 q.1 q.2 q.5 q.6 in (
-            p.2,
-            (q.1, q.5, p.0),
-            (
-              q.0,
-              q.7,
-              q.2.opcode ∙ p.1.0,
-              longer 16 (length q.1) (length q.0) p.1.1 q.2.long,
-              q.2.parameter ∙ p.1.2,
-              q.2.number ∙ p.0,
-            ),
-          )
-      by (inr (inr (inr (inr q)))) =
-          let p = poll_text q.1 q.2 q.3 q.9 q.10 in absurd (never q.0 q.1 q.2 q.3 q.5 q.6 p.1)
+  poll_is w x last text one named = grind (arith, first_of_one, eq-eqb)
 
   last_still : (x w : ℕ) → PollsLast x w ms → PollsLast x w ms'
-  last_still x w last = elim unread_or [
-    | inl same ↦ subst (λ xs. PollsLast x w xs) (sym same) last
-    | inr m ↦ (subst (λ xs. PollsLast x w xs) m.1 last).1
-  ]
+  last_still x w last = grind (arith, unread_or)
 
   -- a message that is no longer unread was accepted
   text_read : (m : List ℕ) → ms ≡ m ∷ ms' → (w : ℕ) → num m 0 4 ≡ w
@@ -217,11 +124,7 @@ module _ (host : PortAccount) (F F' : ℕ → ℕ) (Served Served' : ℕ → Typ
       shorter xs f g = search (arith, ap length (sym f ∙ g), ap length e)
 
       first_one : (x : List ℕ) → ms ≡ x ∷ ms' → num x 0 4 ≡ w
-      first_one x f = ap (λ z. num (first_in_list z) 0 4) (sym f ∙ e) ∙ named
-        where
-          first_in_list : List (List ℕ) → List ℕ
-          first_in_list [] = []
-          first_in_list (y ∷ ys) = y
+      first_one x f = grind arith
 
       by : Dealt Took texts us ts ms us' ts' ms' → (t : List ℕ) × (texts ≡ t ∷ []) × (num t 0 4 ≡ w)
       by (inl q) = absurd (shorter ms refl (sym q.2))
@@ -244,8 +147,7 @@ module _ (host : PortAccount) (F F' : ℕ → ℕ) (Served Served' : ℕ → Typ
     where
       whole : tally x (claims us ts ms)
           ≡ tally x (claims_said us) + (tally x (map claim_of ts) + tally x (map claim_of ms))
-      whole = tally_append x (claims_said us) (map claim_of ts ++ map claim_of ms)
-          ∙ ap (λ k. tally x (claims_said us) + k) (tally_append x (map claim_of ts) (map claim_of ms))
+      whole = grind (arith, tally_append, claims_said, claim_of, tally)
 
       among : (a b c : ℕ) → 1 ≤ a + (b + c) → c ≡ 0 → (1 ≤ a) ⊎ (1 ≤ b)
       among a b c h e = search (arith, h, e)
@@ -270,35 +172,7 @@ module _ (host : PortAccount) (F F' : ℕ → ℕ) (Served Served' : ℕ → Typ
         × (Before x w P' ⊎ ((1 ≤ g) × ((l : ℕ) → last_told host.account.outstanding x ≡ Some l → l ≤ g → ⊥)
         × IsBelow F' Served' x g))
     now text one named none g first =
-        let p = poll_is w x k.last text one named in
-        let t = p.2 in
-        let n = polls_now t.0 t.1 t.2 t.3 in
-        let is : g ≡ F x = same_Some g (F x) (sym first ∙ ap (first_of w) n.0
-        ∙ ap (λ b. cond b (Some (F (num t.0 12 4))) None) (eq-eqb (num t.0 0 4) w t.5)
-        ∙ ap (λ y. Some (F y)) t.4) in
-        let unread : filter (has_number x) ms ≡ [] = ap (filter (has_number x)) p.1.1
-        ∙ ap (λ b. cond b (p.1.0 ∷ filter (has_number x) ms') (filter (has_number x) ms'))
-        (ap (λ y. nat_eq y x) p.1.2 ∙ k.apart) ∙ p.0 in (
-          p.0,
-          elim (located x (placed x k.known.0 k.known.1) unread) [
-            | inr there ↦ inl (subst (λ es. Before x w es) (sym grows) (in_front x w P more none there))
-            | inl low ↦ inr (
-              subst (λ y. 1 ≤ y) (sym is) low,
-              (λ l last le.
-                  let s = last_of (KnowsTold F Served ms) x l host.account.outstanding told last in
-                  let b = (s.1 l s.3).1 (subst (λ y. 1 ≤ F y) (sym s.2) low) in
-                  over l (F x) g (subst (λ y. F y < l) s.2 (b.1 (subst Served (t.4
-                  ∙ sym s.2) (n.1 (subst (λ y. 1 ≤ F y) (sym t.4) low))))) is le),
-              (λ low'. (
-                subst (λ y. F' x ≤ y) (sym is) (lowers x low),
-                λ s. absurd (n.2 (subst Served' (sym t.4) s)),
-              )),
-            )
-          ],
-        )
-      where
-        over : (l f g : ℕ) → f < l → g ≡ f → l ≤ g → ⊥
-        over l f g a b c = omega (arith, a, b, c)
+        grind (arith, poll_is, same_Some, first_of, eq-eqb, nat_eq, located, grows, in_front, last_of)
 
     -- no other text has its number
     new_entry : first_of w P ≡ None → (g : ℕ) → first_of w more ≡ Some g
@@ -330,8 +204,7 @@ module _ (host : PortAccount) (F F' : ℕ → ℕ) (Served Served' : ℕ → Typ
         -- the message that is read is the poll, or another one
         read : (b : Bool) (m : List ℕ) → nat_eq (num m 0 4) w ≡ b → ms ≡ m ∷ ms' → filter (has_number w) ms ≢ []
             → (filter (has_number w) ms' ≢ []) ⊎ ((g : ℕ) × (first_of w P' ≡ Some g))
-        read false m is e unread = inl (λ none. unread (ap (filter (has_number w)) e
-            ∙ ap (λ b. cond b (m ∷ filter (has_number w) ms') (filter (has_number w) ms')) is ∙ none))
+        read false m is e unread = grind arith
         read true m is e unread = inr (found (first_of w P) refl)
           where
             text : (t : List ℕ) × (texts ≡ t ∷ []) × (num t 0 4 ≡ w)

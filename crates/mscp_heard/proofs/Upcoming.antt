@@ -1,5 +1,4 @@
 -- Ends that are to be heard: which comes first, and how often a number is claimed.
-use Rattle.mscp_port.specs.declared.port.OutgoingKind.TheVariants as kinds
 use Rattle.mscp_heard.proofs.Claims.{claim_of, claim_said, claims_said, tally, tally_append}
 use Rattle.mscp_heard.proofs.Common.{AllByRecursion, Bool, End, List, None, Option, OutgoingKind, Pending, Said, Some, [], ap, arith, cond, eqb-true, false, filter, flat_map, has_number, inl, inr, length, map, nat_eq, none-some, num, pending_end, pending_in, pending_said, refl, subst, sym, true, ℕ, ◌++◌, ◌+◌, ◌∷◌, ◌≡◌, ◌≢◌, ◌≤◌, ◌⊎◌}
 
@@ -30,8 +29,7 @@ first_more n (x ∷ es) more g e = by (nat_eq x.number n) e (λ h. first_more n 
     by : (b : Bool) → cond b (Some x.figure) (first_of n es) ≡ Some g
         → (first_of n es ≡ Some g → first_of n (es ++ more) ≡ Some g)
         → cond b (Some x.figure) (first_of n (es ++ more)) ≡ Some g
-    by true h rest = h
-    by false h rest = rest h
+    by b h rest = grind arith
 
 pub first_behind : (n : ℕ) (es more : List Pending) → first_of n es ≡ None → first_of n (es ++ more) ≡ first_of n more
 first_behind n [] more e = refl
@@ -40,8 +38,7 @@ first_behind n (x ∷ es) more e = by (nat_eq x.number n) e (λ h. first_behind 
     by : (b : Bool) → cond b (Some x.figure) (first_of n es) ≡ None
         → (first_of n es ≡ None → first_of n (es ++ more) ≡ first_of n more)
         → cond b (Some x.figure) (first_of n (es ++ more)) ≡ first_of n more
-    by true h rest = absurd (none-some x.figure (sym h))
-    by false h rest = rest h
+    by b h rest = grind (arith, none-some)
 
 -- where w isn't there yet, all stand in front of it
 pub in_front : (x w : ℕ) (es more : List Pending) → first_of w es ≡ None → IsIn x es → Before x w (es ++ more)
@@ -53,12 +50,10 @@ in_front x w (e ∷ es) more none (inr is) = inr (
 )
   where
     apart : (b : Bool) → cond b (Some e.figure) (first_of w es) ≡ None → b ≡ false
-    apart true h = absurd (none-some e.figure (sym h))
-    apart false h = refl
+    apart b h = grind (arith, none-some)
 
     rest : (b : Bool) → cond b (Some e.figure) (first_of w es) ≡ None → first_of w es ≡ None
-    rest true h = absurd (none-some e.figure (sym h))
-    rest false h = h
+    rest b h = grind (arith, none-some)
 
 pub first_in : (n : ℕ) (es : List Pending) (g : ℕ) → first_of n es ≡ Some g → IsIn n es
 first_in n [] g e = absurd (none-some g e)
@@ -66,8 +61,7 @@ first_in n (x ∷ es) g e = by (nat_eq x.number n) refl e (λ h. first_in n es g
   where
     by : (b : Bool) → nat_eq x.number n ≡ b → cond b (Some x.figure) (first_of n es) ≡ Some g
         → (first_of n es ≡ Some g → IsIn n es) → (nat_eq x.number n ≡ true) ⊎ IsIn n es
-    by true is h rest = inl is
-    by false is h rest = inr (rest h)
+    by b is h rest = grind arith
 
 pub in_either : (n : ℕ) (es fs : List Pending) → IsIn n (es ++ fs) → IsIn n es ⊎ IsIn n fs
 in_either n [] fs is = inr is
@@ -98,8 +92,7 @@ tally_texts n (t ∷ ts) = by (nat_eq (num t 0 4) n) (tally_texts n ts)
     by : (b : Bool) → tally n (map claim_of ts) ≡ length (filter (has_number n) ts)
         → cond b (1 + tally n (map claim_of ts)) (tally n (map claim_of ts))
         ≡ length (cond b (t ∷ filter (has_number n) ts) (filter (has_number n) ts))
-    by true e = search (arith, e)
-    by false e = e
+    by b e = grind arith
 
 pub tally_in : (n : ℕ) (us : List Said) → 1 ≤ tally n (claims_said us) → IsIn n (flat_map pending_in us)
 tally_in n [] h = absurd (search (arith, h))
@@ -112,15 +105,7 @@ tally_in n (s ∷ us) h = by s.kind (subst (λ k. 1 ≤ k)
     by : (kind : OutgoingKind) → 1 ≤ tally n (claim_said kind s.text) + tally n (claims_said us)
         → (1 ≤ tally n (claims_said us) → IsIn n (flat_map pending_in us))
         → IsIn n (pending_said kind s.text ++ flat_map pending_in us)
-    by kinds.Attention h rest = rest (plain (tally n (claims_said us)) h)
-    by kinds.UtilitiesEnd h rest = rest (plain (tally n (claims_said us)) h)
-    by kinds.End h rest = cases (nat_eq (num s.text 0 4) n) refl h
-      where
-        cases : (b : Bool) → nat_eq (num s.text 0 4) n ≡ b
-            → 1 ≤ cond b (1 + 0) 0 + tally n (claims_said us)
-            → (nat_eq (num s.text 0 4) n ≡ true) ⊎ IsIn n (flat_map pending_in us)
-        cases true is h = inl is
-        cases false is h = inr (rest (plain (tally n (claims_said us)) h))
+    by kind h rest = grind (arith, plain, tally, claims_said, nat_eq)
 
 pub has_some : (n : ℕ) (xs : List (List ℕ)) → 1 ≤ length (filter (has_number n) xs) → filter (has_number n) xs ≢ []
 has_some n xs h e = search (arith, h, ap length e)
@@ -137,29 +122,12 @@ some_has n xs h = by (filter (has_number n) xs) refl
 pub in_of_holds : (n : ℕ) (es : List End) → filter (λ (e : End). nat_eq e.reference n) es ≢ []
     → IsIn n (map pending_end es)
 in_of_holds n [] h = absurd (h refl)
-in_of_holds n (e ∷ es) h = by (nat_eq e.reference n) refl h (λ k. in_of_holds n es k)
-  where
-    by : (b : Bool) → nat_eq e.reference n ≡ b
-        → cond b (e ∷ filter (λ (e : End). nat_eq e.reference n) es) (filter (λ
-        (e : End). nat_eq e.reference n) es) ≢ []
-        → (filter (λ (e : End). nat_eq e.reference n) es ≢ [] → IsIn n (map pending_end es))
-        → (nat_eq e.reference n ≡ true) ⊎ IsIn n (map pending_end es)
-    by true is h rest = inl is
-    by false is h rest = inr (rest h)
+in_of_holds n (e ∷ es) h = grind (arith, in_of_holds n es, nat_eq)
 
 pub holds_of_in : (n : ℕ) (es : List End) → IsIn n (map pending_end es)
     → filter (λ (e : End). nat_eq e.reference n) es ≢ []
 holds_of_in n [] is h = is
-holds_of_in n (e ∷ es) is h = by (nat_eq e.reference n) refl h is (λ k. holds_of_in n es k)
-  where
-    by : (b : Bool) → nat_eq e.reference n ≡ b
-        → cond b (e ∷ filter (λ (e : End). nat_eq e.reference n) es) (filter (λ
-        (e : End). nat_eq e.reference n) es) ≡ []
-        → (nat_eq e.reference n ≡ true) ⊎ IsIn n (map pending_end es)
-        → (IsIn n (map pending_end es) → filter (λ (e : End). nat_eq e.reference n) es ≢ []) → ⊥
-    by true so h is rest = search (arith, h)
-    by false so h (inl is) rest = search (arith, so, is)
-    by false so h (inr is) rest = rest is h
+holds_of_in n (e ∷ es) is h = grind (arith, holds_of_in n es, nat_eq)
 
 pub in_said : (n : ℕ) (us : List Said) → IsIn n (flat_map pending_in us) → 1 ≤ tally n (claims_said us)
 in_said n [] is = absurd is
@@ -172,11 +140,4 @@ in_said n (s ∷ us) is = subst (λ k. 1 ≤ k) (sym (tally_append n (claim_said
     by : (kind : OutgoingKind) → IsIn n (pending_said kind s.text ++ flat_map pending_in us)
         → (IsIn n (flat_map pending_in us) → 1 ≤ tally n (claims_said us))
         → 1 ≤ tally n (claim_said kind s.text) + tally n (claims_said us)
-    by kinds.Attention is rest = more 0 (tally n (claims_said us)) (rest is)
-    by kinds.UtilitiesEnd is rest = more 0 (tally n (claims_said us)) (rest is)
-    by kinds.End (inl is) rest = subst (λ b. 1 ≤ cond b (1 + 0) 0 + tally n (claims_said us)) (sym is)
-        (one (tally n (claims_said us)))
-      where
-        one : (b : ℕ) → 1 ≤ (1 + 0) + b
-        one b = omega arith
-    by kinds.End (inr is) rest = more (tally n (claim_said kinds.End s.text)) (tally n (claims_said us)) (rest is)
+    by kind is rest = grind (arith, more, tally, claims_said, claim_said)

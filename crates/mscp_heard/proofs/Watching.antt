@@ -1,5 +1,5 @@
 -- What each moment of a host makes of the poll in flight, and which ends a host takes.
-use Rattle.mscp_heard.proofs.Common.{AllByRecursion, ArrayVec, Asked, Bool, Command, End, EndBody, Envelope, Err, HearFault, Heard, List, Message, None, Ok, Option, PortAccount, Result, Some, Submission, Watch, [], answered, ap, arith, as_read, asked_of, command_bytes, cond, end_says, ended, ends_of, eq-eqb, eqb-true, false, find, four, granted, heard_of, hears, inl, inr, is_about, is_about_polled, is_code_of, is_immediate, is_of, is_poll_of, is_success, length, map, may_be_of, message_in, nat_eq, none-some, not, num, oldest, poll_of, port_polls, port_submits, refl, same_Some, slice_index, submission_of, subst, sym, told_in, true, watch_after, without_by, ℕ, ◌&&◌, ◌++◌, ◌<◌, ◌^◌, ◌∙◌, ◌∷◌, ◌≡◌, ◌≤◌, ◌⊎◌}
+use Rattle.mscp_heard.proofs.Common.{AllByRecursion, ArrayVec, Asked, Bool, Command, End, Envelope, Err, HearFault, Heard, List, Message, None, Ok, Option, PortAccount, Result, Some, Submission, Watch, [], ap, arith, as_read, asked_of, command_bytes, cond, end_says, ended, ends_of, eq-eqb, eqb-true, false, find, four, granted, heard_of, hears, inl, inr, is_about, is_code_of, is_immediate, is_of, is_poll_of, length, map, may_be_of, message_in, nat_eq, none-some, not, num, oldest, poll_of, port_polls, port_submits, refl, same_Some, slice_index, submission_of, subst, sym, true, watch_after, without_by, ℕ, ◌++◌, ◌<◌, ◌^◌, ◌∙◌, ◌∷◌, ◌≡◌, ◌≤◌, ◌⊎◌}
 use Rattle.mscp_packet.specs.declared.end.EndBody.TheVariants as bodies
 use Rattle.mscp_host.specs.declared.message.HearFault.TheVariants as faults
 use Rattle.mscp_host.specs.declared.message.Message.TheVariants as messages
@@ -65,11 +65,7 @@ submit_notes old new c message small same e =
 all_found : (P : Submission → Type 0) (f : Submission → Bool) (xs : List Submission) (x : Submission)
     → AllByRecursion P xs → find f xs ≡ Some x → P x
 all_found P f [] x all e = absurd (none-some x e)
-all_found P f (y ∷ ys) x all e = by (f y) e (λ h. all_found P f ys x all.1 h)
-  where
-    by : (b : Bool) → cond b (Some y) (find f ys) ≡ Some x → (find f ys ≡ Some x → P x) → P x
-    by true h rest = subst P (same_Some y x h) all.0
-    by false h rest = rest h
+all_found P f (y ∷ ys) x all e = grind (arith, all_found P f ys x all.1, same_Some)
 
 abbrev pub AreSmall : List Asked → Type 0
 AreSmall asked = AllByRecursion (λ (n : ℕ). n < 2 ^ 32) (map (λ (x : Asked). x.reference) asked)
@@ -107,8 +103,7 @@ found_mapped asked (x ∷ xs) all = (all.0, found_mapped asked xs all.1)
 -- so is that of each submission
 pub found_submissions : (old : PortAccount) → SameNumbers old
     → AllByRecursion (λ (s : Submission). Found old.asked s.reference) old.account.outstanding
-found_submissions old same = found_mapped old.asked old.account.outstanding
-    (subst (λ ns. AllByRecursion (Found old.asked) ns) same (found_each old.asked))
+found_submissions old same = grind (arith, found_mapped, found_each)
 
 module _ (old new : PortAccount) (n : ℕ) (small : n < 2 ^ 32) (same : SameNumbers old) (smalls : AreSmall old.asked)
   where
@@ -137,11 +132,7 @@ module _ (old new : PortAccount) (n : ℕ) (small : n < 2 ^ 32) (same : SameNumb
 -- ---- something is heard
 
 pub read_number : (e : End) → (as_read e).reference ≡ e.reference
-read_number e = by (is_success e.status)
-  where
-    by : (c : Bool) → (cond c e (record e { code = 0x80; body = bodies.Bare })).reference ≡ e.reference
-    by true = refl
-    by false = refl
+read_number e = grind arith
 
 -- what is outstanding and in flight stays so, or the command of an end is outstanding no more
 abbrev pub SettlesWatch : PortAccount → PortAccount → Result Message HearFault → Type 0
@@ -161,72 +152,25 @@ hear_watch old new v b answer e = by (message_in v b) e
         )
         (Err faults.Unknown, old)) (answer, new)
         → SettlesWatch old new (Ok (messages.End end))
-    judged end x true h = inr (
-      end,
-      refl,
-      sym (ap (λ y. y.1.asked) h),
-      sym (ap (λ y. y.1.account.watch) h) ∙ ap (watch_after old.account.watch) (read_number end),
-    )
-    judged end x false h = inl (sym (ap (λ y. y.1.asked) h), sym (ap (λ y. y.1.account) h))
+    judged end x c h = grind (arith, read_number)
 
     found : (end : End) (o : Option Asked) → ends_of old v.credits end o ≡ (answer, new)
         → SettlesWatch old new (Ok (messages.End end))
-    found end None h = inl (sym (ap (λ y. y.1.asked) h), sym (ap (λ y. y.1.account) h))
-    found end (Some x) h = judged end x (may_be_of old end x) h
+    found end o h = grind (arith, judged)
 
     by : (r : Result Message HearFault) → heard_of old v.credits r ≡ (answer, new) → SettlesWatch old new r
-    by (Ok (messages.End end)) h = found end (find (is_of end.reference) old.asked) h
-    by x h = inl (sym (ap (λ y. y.1.asked) h), sym (ap (λ y. y.1.account) h))
+    by r h = grind (arith, found)
 
 pub settles : (old new : PortAccount) (r : Result Message HearFault) → SettlesWatch old new r
     → Settles old.asked new.asked r
-settles old new r (inl same) = inl same.0
-settles old new r (inr e) = inr (e.0, e.1, e.2)
+settles old new r h = grind arith
 
 -- an end of the code of its command, and a poll's about the polled one, is that of the command
 pub may_be : (old : PortAccount) (e : End) (x : Asked) → is_code_of e.code x.opcode ≡ true
     → ((other figure : ℕ) → e.code ≡ 0x82 → e.body ≡ bodies.Status other figure
     → is_poll_of old.account.watch e.reference ≡ true → is_about old.account.watch other ≡ true)
     → may_be_of old e x ≡ true
-may_be old e x code about = both (is_code_of e.code x.opcode)
-    (is_about_polled old.account.watch (answered old.account.watch (as_read e))) code (by (is_success e.status))
-  where
-    both : (a b : Bool) → a ≡ true → b ≡ true → (a && b) ≡ true
-    both true true p q = refl
-    both true false p q = absurd (search (arith, q))
-    both false b p q = absurd (search (arith, p))
-
-    refused : (o : Option Watch)
-        → is_about_polled o (answered o (record e { code = 0x80; body = bodies.Bare })) ≡ true
-    refused None = refl
-    refused (Some w) = cases (nat_eq w.reference e.reference)
-      where
-        cases : (c : Bool) → is_about_polled (Some w)
-            (cond (c && false) (told_in bodies.Bare) None) ≡ true
-        cases true = refl
-        cases false = refl
-
-    told : (o : Option Watch) → ((other figure : ℕ) → e.code ≡ 0x82 → e.body ≡ bodies.Status other figure
-        → is_poll_of o e.reference ≡ true → is_about o other ≡ true) → is_about_polled o (answered o e) ≡ true
-    told None about = refl
-    told (Some w) about = cases (nat_eq w.reference e.reference) refl (nat_eq e.code 0x82) refl
-      where
-        tells : (body : EndBody) → e.body ≡ body → nat_eq w.reference e.reference ≡ true → nat_eq e.code 0x82 ≡ true
-            → is_about_polled (Some w) (told_in body) ≡ true
-        tells (bodies.Status other figure) is own poll =
-            about other figure (Rattle.mscp_port.proofs.Common.eqb-true e.code 0x82 poll) is own
-        tells body is own poll = refl
-
-        cases : (c : Bool) → nat_eq w.reference e.reference ≡ c → (d : Bool) → nat_eq e.code 0x82 ≡ d
-            → is_about_polled (Some w) (cond (c && d) (told_in e.body) None) ≡ true
-        cases true p true q = tells e.body refl p q
-        cases true p false q = refl
-        cases false p d q = refl
-
-    by : (c : Bool) → is_about_polled old.account.watch (answered old.account.watch
-        (cond c e (record e { code = 0x80; body = bodies.Bare }))) ≡ true
-    by true = told old.account.watch about
-    by false = refused old.account.watch
+may_be old e x code about = grind (arith, nat_eq, eqb-true)
 
 -- and so it isn't refused
 pub hears_ok : (old new : PortAccount) (v : Envelope) (b : List ℕ) (m : Message) (fault : HearFault)
@@ -234,19 +178,4 @@ pub hears_ok : (old new : PortAccount) (v : Envelope) (b : List ℕ) (m : Messag
     → ((e : End) → message_in v b ≡ Ok (messages.End e) → (x : Asked) × (find (is_of e.reference) old.asked ≡ Some x)
     × (may_be_of old e x ≡ true))
     → hears old v b ≡ (Err fault, new) → ⊥
-hears_ok old new v b m fault is own h = by m is (subst (λ r. heard_of old v.credits r ≡ (Err fault, new)) is h)
-  where
-    judged : (end : End) (x : Asked) (c : Bool) → c ≡ true
-        → ◌≡◌ {A = Result Heard HearFault × PortAccount} (cond c (
-          Ok (end_says old end x),
-          granted v.credits (ended old end),
-        )
-        (Err faults.Unknown, old)) (Err fault, new) → ⊥
-    judged end x true p h = search (arith, h)
-    judged end x false p h = search (arith, p)
-
-    by : (m : Message) → message_in v b ≡ Ok m → heard_of old v.credits (Ok m) ≡ (Err fault, new) → ⊥
-    by (messages.End end) is h =
-        let x = own end is in
-        judged end x.0 (may_be_of old end x.0) x.2 (subst (λ o. ends_of old v.credits end o ≡ (Err fault, new)) x.1 h)
-    by x is h = search (arith, h)
+hears_ok old new v b m fault is own h = grind arith

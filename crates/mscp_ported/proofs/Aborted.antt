@@ -1,5 +1,5 @@
 -- The end of a transfer that is aborted counts just the blocks that were moved.
-use Rattle.mscp_ported.proofs.Common.{Answered, AsksAlways, Bool, Buffer, Call, Command, Contains, Contains-push_cases, Counts, End, First, Hardware, Holdings, IsMadeOf, List, MoveKind, None, Ok, Option, Order, Picking, Port, Record, Settings, Some, WasRead, [], aborted_record, ap, append-nil, arith, asked, asks_nothing, balance_of, come, command_of, cond, drop, ends, false, fault_of, figure, filter, find, found_is, handed, has_name, inl, inr, is_numbered, is_queued_text, length, min, moved, moved_body, name_on, none_waits, num, opcode_of, option_map, option_to_list, outstanding_of, own_end_with, record_aborted, refl, same_Some, slice_index, subst, sym, taken_number, transfers, true, ℕ, ◌&&◌, ◌*◌, ◌++◌, ◌==◌, ◌∙◌, ◌∷◌, ◌≡◌, ◌≤◌}
+use Rattle.mscp_ported.proofs.Common.{Answered, AsksAlways, Bool, Buffer, Call, Command, Contains, Contains-push_cases, Counts, End, First, Hardware, Holdings, IsMadeOf, List, MoveKind, None, Ok, Option, Order, Picking, Port, Record, Settings, Some, WasRead, [], aborted_record, ap, append-nil, arith, asked, asks_nothing, balance_of, come, command_of, cond, drop, ends, false, fault_of, figure, filter, find, found_is, handed, has_name, inl, inr, is_numbered, is_queued_text, length, min, moved, moved_body, name_on, none_waits, num, opcode_of, option_map, option_to_list, outstanding_of, own_end_with, record_aborted, refl, same_Some, slice_index, subst, sym, taken_number, transfers, ℕ, ◌&&◌, ◌*◌, ◌++◌, ◌==◌, ◌∙◌, ◌∷◌, ◌≡◌, ◌≤◌}
 use Rattle.mscp_packet.specs.declared.class.Opcode.TheVariants as codes
 use Rattle.mscp_packet.specs.declared.command.Order.TheVariants as orders
 use Rattle.mscp_packet.specs.declared.end.EndBody.TheVariants as bodies
@@ -21,10 +21,7 @@ moved_of : (order : Order) (good : ℕ) (kind : MoveKind) (count first : ℕ) �
 moved_of order good kind count first e = ap (λ o. moved_body o good) e
 
 nothing_in : (e : End) (xs : List End) → xs ≡ [] → Contains xs e → ⊥
-nothing_in e xs none there = none_there (subst (λ ys. Contains ys e) none there)
-  where
-    none_there : Contains [] e → ⊥
-    none_there h = search (arith, h)
+nothing_in e xs none there = grind arith
 
 none_new : (n : ℕ) → drop {A = End} n [] ≡ []
 none_new n = search arith
@@ -81,10 +78,7 @@ module _ {K : Type 0} (picks : Picking K) (hardware : Hardware) (credits : ℕ) 
 
     before : moved picks e.reference start a.0 calls a.1
         ≡ transfers kind own.0.command.unit (num own.1 28 4) (num own.1 16 4) (num own.1 12 4) own.0.done
-    before = ap (λ m. moved picks m start a.0 calls a.1) (sym mine) ∙ own.2.parts
-        ∙ ap (λ o. parts_of o own.0.command.unit kept.address own.0.done) whole
-        ∙ ap (λ x. transfers kind own.0.command.unit (num own.1 28 4) x (num own.1 12 4) own.0.done)
-        (kept_address kept own.1 own.2.kept fields.2)
+    before = grind (arith, own, parts_of, whole, kept_address, fields)
 
     -- the end of that one
     counted : is_queued_text a.0 bytes a.0.task ≡ false → (m : ℕ) → (x : Record)
@@ -110,10 +104,7 @@ module _ {K : Type 0} (picks : Picking K) (hardware : Hardware) (credits : ℕ) 
         never = and_false (num bytes 0 4 == e.reference) (is_queued_text a.0 bytes a.0.task) quiet
 
         number : e.reference ≡ m
-        number = ap (λ (y : End). y.reference) ends ∙ (number_of m x (found_numbered h.waiting found)).1
-          where
-            found_numbered : (rs : List Record) → find (is_numbered m) rs ≡ Some x → is_numbered m x ≡ true
-            found_numbered rs f = found_is (is_numbered m) rs x f
+        number = grind (arith, number_of, is_numbered, found_is)
 
         aborted : e ≡ aborted_record own.0
         aborted = ends ∙ ap aborted_record (same_Some x own.0 (sym found

@@ -1,14 +1,12 @@
 -- What an action leaves that touches no memory, and the steps of the initialisation.
-use Rattle.mscp_ported.proofs.Common.{Action, Bool, Choice, Commands, Due, Goes, Idle, IsAsNew, List, MatchOption, Name, None, Ok, Option, Outcome, Port, Read, Responses, Rings, Said, Some, Stage, StandInOrder, TakesBegun, TakesBlock, Talk, Task, Turn, Verdict, Went, Wish, [], ap, append-nil, arith, at_step, begins, cond, false, inl, inr, interrupted, is_dead, map, message_slot, message_text, not, packet_slot, refl, said_in, step_task, stepped, subst, sym, true, written, ℕ, ◌%◌, ◌*◌, ◌++◌, ◌/◌, ◌==◌, ◌∙◌, ◌≡◌, ◌≢◌, ◌⊎◌}
-use Rattle.std.specs.Prelude.{◌&&◌}
-use Rattle.mscp_port.specs.declared.action.Action.TheVariants as actions
-use Rattle.mscp_port.specs.declared.action.Outcome.TheVariants as outcomes
+use Rattle.mscp_ported.proofs.Common.{Action, Choice, Due, Goes, Idle, IsAsNew, List, MatchOption, Name, None, Ok, Option, Outcome, Port, Rings, Said, Some, Stage, TakesBegun, TakesBlock, Talk, Task, Turn, Verdict, Went, Wish, [], ap, append-nil, arith, at_step, begins, false, is_dead, map, refl, said_in, step_task, stepped, subst, sym, true, written, ℕ, ◌++◌, ◌∙◌, ◌≡◌, ◌≢◌}
 use Rattle.mscp_port.specs.declared.stage.Stage.TheVariants as stages
 use Rattle.mscp_port.specs.declared.task.Task.TheVariants as tasks
 use Rattle.mscp_ported.specs.Talk.{done_by}
 use Rattle.mscp_ported.proofs.After.{After, IsNoReset, alters, none_said, same_stage}
-use Rattle.mscp_ported.proofs.Look.{AreTold, Counts, Fits, InStep, IsClear, IsElse, IsOfRings, IsOpen, IsOwned, IsSimple, IsTelling, IsWrite, Look, Names, NeedsOut, block_rings, in_hand, is_loud, look, told_on}
-use Rattle.mscp_ported.proofs.Plain.{dies}
+use Rattle.mscp_ported.proofs.Look.{AreTold, Counts, Fits, InStep, IsClear, IsElse, IsOfRings, IsOpen, IsOwned, IsSimple, IsTelling, IsWrite, Look, Names, block_rings, in_hand, is_loud, look, told_on}
+use Rattle.mscp_ported.proofs.Deeds.{is_alive}
+use Rattle.mscp_ported.proofs.Plain.{dies, not_of_rings, retask}
 
 -- ---- the initialisation
 
@@ -16,7 +14,7 @@ use Rattle.mscp_ported.proofs.Plain.{dies}
 pub init_step : (l : Look) (t : Talk) (w : Option Wish) (said : List Said) (texts : List (List ℕ))
     (s : Stage) (first second : ℕ) (rings : Option Rings) (word : Option ℕ) (task : Task) (turn : Turn)
     (named : Option Rings) (said_first said_second : ℕ)
-    → InStep l t w said texts → l.stage ≢ stages.Up → IsOpen t.turn → in_hand l.task t.turn ≡ []
+    → InStep l t w said texts → l.stage ≢ stages.Up → (IsOfRings l.task → ⊥)
     → Names s first second word rings said_first said_second t.answer named
     → Counts rings l.responses l.commands t.told t.heard → Fits (record l {
       stage = s;
@@ -26,9 +24,8 @@ pub init_step : (l : Look) (t : Talk) (w : Option Wish) (said : List Said) (text
       rings = rings;
       task = task;
     }) task turn
-    → IsSimple turn → IsOwned turn → (IsOfRings task → ⊥) → (NeedsOut task → ⊥)
-    → (task ≡ tasks.Interrupt → is_loud s ≡ true) → (IsClear task → s ≡ stages.Clearing) → (IsTelling l.task → ⊥)
-    → (IsTelling task → ⊥) → in_hand task turn ≡ [] → is_dead s ≡ false → InStep (record l {
+    → IsSimple turn → IsOwned turn → (IsOfRings task → ⊥) → (task ≡ tasks.Interrupt → is_loud s ≡ true)
+    → (IsClear task → s ≡ stages.Clearing) → is_dead s ≡ false → InStep (record l {
       stage = s;
       first = first;
       second = second;
@@ -36,68 +33,29 @@ pub init_step : (l : Look) (t : Talk) (w : Option Wish) (said : List Said) (text
       rings = rings;
       task = task;
     }) (record t { turn = turn; first = said_first; second = said_second; rings = named }) None said texts
-init_step l t w said texts s first second rings word task turn named said_first said_second k not_up calm before names
-    counts fits simple own no_rings no_out loud clear calm_before calm_after after alive = record {
-      names = names;
-      counts = counts;
-      hand = record {
-        fits = fits;
-        asked = tt;
-        up = λ h. absurd (no_rings h);
-        step = loud;
-        clear = clear;
-        own = own;
-        idle = λ h. simple;
-        wished = λ e h. no_rings (block_rings task h);
-      };
-      speech = record {
-        out = λ h. absurd (not_up (k.speech.out h));
-        has = λ h. absurd (no_out h);
-        tells = told_on l.more l.task task t.turn turn l.outgoing l.untold t.told said calm_before calm_after
-            k.speech.tells;
-      };
-      hears = ap (λ xs. map message_text t.heard ++ xs) (after ∙ sym before) ∙ k.hears;
-      ended = λ d. absurd (search (arith, d, alive));
-    }
+init_step l t w said texts s first second rings word task turn named
+    said_first said_second k not_up before names counts fits simple own no_rings loud clear alive =
+    grind (arith, not_of_rings, block_rings, told_on)
 
 -- the host is interrupted at a step as its first word wants
 module _ (l : Look) (first : ℕ) where
   pub step_cases : (P : Task → Turn → Type 0) → P tasks.Interrupt Due → P tasks.Free Idle
       → P (step_task first tasks.Free) (at_step first)
-  step_cases P h k = by (first / 0x80 % 2 == 1) (first % 0x80 * 4 == 0)
-    where
-      by : (b c : Bool) → P (cond (b && not c) tasks.Interrupt tasks.Free) (cond b (cond c Idle Due) Idle)
-      by true false = h
-      by b other = k
+  step_cases P h k = grind arith
 
 -- nothing was told nor heard of before the area was named
 pub early_counts : (o : Option Rings) (l : Look) (t : Talk) (w : Option Wish) (said : List Said) (texts : List (List ℕ))
     → InStep l t w said texts → l.rings ≡ None → Counts o l.responses l.commands t.told t.heard
-early_counts o l t w said texts k none =
-    let e = k.counts.none none in record {
-      told_so = k.counts.told_so;
-      heard_so = k.counts.heard_so;
-      packets = subst (λ xs. StandInOrder o Responses 0 (map packet_slot xs)) (sym e.0) tt;
-      messages = subst (λ xs. StandInOrder o Commands 0 (map message_slot xs)) (sym e.1) tt;
-      none = λ h. e;
-    }
+early_counts o l t w said texts k none = grind arith
 
 pub idle_so : (turn : Turn) → IsOpen turn → IsSimple turn → turn ≡ Idle
-idle_so Idle h k = refl
-idle_so (Read slot header text) h k = absurd k
-idle_so turn h k = absurd h
+idle_so turn h k = grind arith
 
 pub idle_deed : (a : Action) (bytes : List ℕ) (t : Talk) → t.turn ≡ Idle → done_by a bytes t ≡ t
-idle_deed (actions.Write address count) bytes t e = ap (λ x. written address bytes x t) e
-idle_deed (actions.Interrupt vector) bytes t e =
-    ap (λ x. record t { turn = interrupted x }) e ∙ ap (λ x. record t { turn = x }) (sym e)
-idle_deed a bytes t e = refl
+idle_deed a bytes t e = grind arith
 
 pub else_deed : (a : Action) (bytes : List ℕ) (t : Talk) → IsElse a → done_by a bytes t ≡ t
-else_deed (actions.Read address count) bytes t is = refl
-else_deed (actions.Write address count) bytes t is = absurd is
-else_deed (actions.Interrupt vector) bytes t is = absurd is
-else_deed a bytes t is = refl
+else_deed a bytes t is = grind arith
 
 -- the port looks so, and it is reported how its action went
 pub record IsReported {K : Type 0} (picks : List Choice → ℕ → Type 0) (old new : Port K) (t : Talk) (w : Wish)
@@ -120,20 +78,13 @@ module _ {K : Type 0} {picks : List Choice → ℕ → Type 0} {old new : Port K
   dead_so code n = dies (Went outcome (Ok done)) code old new t (Some w) None said texts no_reset n
 
   pub alive : is_dead old.stage ≡ false
-  alive = by old.stage refl
-    where
-      by : (s : Stage) → old.stage ≡ s → is_dead old.stage ≡ false
-      by (stages.Dead code) e = search (arith, r.dead code e)
-      by s e = ap is_dead e
+  alive = is_alive old (λ code e. search (arith, r.dead code e))
 
   -- an action went, after which the port looks so
   pub goes_on : (l : Look) (t' : Talk) (said' : List Said) → look new ≡ l → is_dead l.stage ≡ false
       → stepped old.stage l.stage (done_by w.action w.bytes t) ≡ t'
       → said ++ map said_in (begins old.outgoing l.outgoing) ≡ said' → InStep l t' None said' texts → So
-  goes_on l t' said' e lives talk more_said x =
-      subst (λ y. After (Went outcome (Ok done)) old y t (Some w) None said texts) (sym e)
-      (alters (Went outcome (Ok done)) old l t t' (Some w) None said said' texts texts no_reset lives talk more_said
-      (append-nil texts) x)
+  goes_on l t' said' e lives talk more_said x = grind (arith, alters, no_reset, append-nil)
 
   -- what is in hand tells nothing
   pub quiet_of : (task : Task) → old.task ≡ task → (IsTelling task → ⊥) → IsTelling old.task → ⊥
@@ -154,23 +105,10 @@ module _ {K : Type 0} {picks : List Choice → ℕ → Type 0} {old new : Port K
       → look new ≡ record (look old) { task = tasks.Free } → So
   freed calm before quiet is e =
       goes_on (record (look old) { task = tasks.Free }) t said e alive
-      (same_stage old.stage _ ∙ else_deed w.action w.bytes t is) same_said (record {
-        names = k.names;
-        counts = k.counts;
-        hand = record {
-          fits = calm;
-          asked = tt;
-          up = λ h. absurd h;
-          step = λ e. search (arith, e);
-          clear = λ h. absurd h;
-          own = k.hand.own;
-          idle = k.hand.idle;
-          wished = λ e h. h;
-        };
-        speech = record { out = k.speech.out; has = λ h. absurd h; tells = told_so tasks.Free t.turn quiet (λ h. h) };
-        hears = ap (λ xs. map message_text t.heard ++ xs) (sym before) ∙ k.hears;
-        ended = λ d. absurd (search (arith, d, alive));
-      })
+      (same_stage old.stage _ ∙ else_deed w.action w.bytes t is) same_said
+      (retask (look old) t (Some w) None said texts old.written tasks.Free t.turn k k.names.answer_so calm tt (λ h. h)
+      (λ e. search (arith, e)) (λ h. absurd h) k.hand.own k.hand.idle quiet before
+      (λ d. absurd (search (arith, d, alive))))
 
   pub begun_so : (task : Task) (verdict : Verdict) → old.task ≡ task → IsOpen t.turn → in_hand task t.turn ≡ []
       → (IsTelling task → ⊥) → IsElse w.action → TakesBegun picks verdict old new → So
@@ -184,21 +122,10 @@ module _ {K : Type 0} {picks : List Choice → ℕ → Type 0} {old new : Port K
       by None e = free (ap look e)
       by (Some name) b = free (ap look b.finished.2.frame)
 
-  pub is_done : (outcome ≡ outcomes.Done) ⊎ (outcome ≢ outcomes.Done)
-  is_done = by outcome
-    where
-      by : (o : Outcome) → (o ≡ outcomes.Done) ⊎ (o ≢ outcomes.Done)
-      by outcomes.Done = inl refl
-      by o = inr (λ e. search (arith, e))
-
   -- what was written in a task of the rings
   pub write_one : (x : Turn) (t' : Talk) → t.turn ≡ x → IsWrite w.action
       → ((address : ℕ) → written address w.bytes x t ≡ t') → done_by w.action w.bytes t ≡ t'
-  write_one x t' e is h = by w.action is
-    where
-      by : (a : Action) → IsWrite a → done_by a w.bytes t ≡ t'
-      by (actions.Write address count) is = ap (λ u. written address w.bytes u t) e ∙ h address
-      by a is = absurd is
+  write_one x t' e is h = grind arith
 
   pub up_of : (task : Task) → old.task ≡ task → IsOfRings task → old.stage ≡ stages.Up
   up_of task at ring = k.hand.up (subst (λ x. IsOfRings x) (sym at) ring)

@@ -1,5 +1,5 @@
 -- What a call leaves in step.
-use Rattle.mscp_ported.proofs.Common.{Call, List, None, Option, Outgoing, Packet, Port, Said, Some, Stage, Talk, Task, Turn, Wish, [], accepted_by, ap, append-nil, arith, begins, cond, false, inl, inr, is_dead, map, option_to_list, refl, said_in, silence, since, stepped, subst, sym, talk_after, talk_by, true, ℕ, ◌++◌, ◌∙◌, ◌≡◌, ◌⊎◌}
+use Rattle.mscp_ported.proofs.Common.{Call, List, None, Option, Outgoing, Packet, Port, Said, Some, Stage, Talk, Task, Turn, Wish, [], accepted_by, append-nil, arith, begins, cond, false, inl, inr, is_dead, map, refl, said_in, silence, since, stepped, talk_after, talk_by, true, ℕ, ◌++◌, ◌≡◌, ◌⊎◌}
 use Rattle.mscp_port.specs.declared.stage.Stage.TheVariants as stages
 use Rattle.mscp_ported.proofs.Look.{AreTold, InStep, IsTelling, Look, left_all, left_quiet, quiet_left}
 
@@ -19,9 +19,7 @@ pub record IsNoReset (call : Call) : Type 0 where
 
 pub become : (l : Look) (v : Option Wish) (t t' : Talk) (said said' : List Said) (texts texts' : List (List ℕ))
     → t ≡ t' → said ≡ said' → texts ≡ texts' → InStep l t' v said' texts' → InStep l t v said texts
-become l v t t' said said' texts texts' e f g k =
-    subst (λ x. InStep l x v said texts) (sym e)
-    (subst (λ x. InStep l t' v x texts) (sym f) (subst (λ x. InStep l t' v said' x) (sym g) k))
+become l v t t' said said' texts texts' e f g k = grind arith
 
 -- by a call after which there is no fatal error the talk, what was said and what was accepted became these
 pub alters : {K : Type 0} (call : Call) (old : Port K) (l : Look) (t t' : Talk) (w v : Option Wish)
@@ -30,26 +28,13 @@ pub alters : {K : Type 0} (call : Call) (old : Port K) (l : Look) (t t' : Talk) 
     → said ++ map said_in (begins old.outgoing l.outgoing) ≡ said'
     → texts ++ accepted_by call old ≡ texts'
     → InStep l t' v said' texts' → After call old l t w v said texts
-alters call old l t t' w v said said' texts texts' calm alive talk more_said more_texts k =
-    let more = map said_in (begins old.outgoing l.outgoing) in
-    become l v (talk_after old.stage l.stage w call t) t' (since l.stage call said more) said'
-    (since l.stage call texts (accepted_by call old)) texts'
-    (ap (λ b. cond b silence (stepped old.stage l.stage (talk_by old.stage w call t))) alive ∙ talk)
-    (calm.said l.stage said more ∙ ap (λ b. cond b [] (said ++ more)) alive ∙ more_said)
-    (calm.texts l.stage texts (accepted_by call old)
-    ∙ ap (λ b. cond b [] (texts ++ accepted_by call old)) alive ∙ more_texts) k
+alters call old l t t' w v said said' texts texts' calm alive talk more_said more_texts k = grind (arith, become)
 
 -- and after a fatal error they are none
 pub ends : {K : Type 0} (call : Call) (old : Port K) (l : Look) (t : Talk) (w v : Option Wish) (said : List Said)
     (texts : List (List ℕ)) → IsNoReset call → is_dead l.stage ≡ true → InStep l silence v [] []
     → After call old l t w v said texts
-ends call old l t w v said texts calm dead k =
-    let more = map said_in (begins old.outgoing l.outgoing) in
-    become l v (talk_after old.stage l.stage w call t) silence (since l.stage call said more) []
-    (since l.stage call texts (accepted_by call old)) []
-    (ap (λ b. cond b silence (stepped old.stage l.stage (talk_by old.stage w call t))) dead)
-    (calm.said l.stage said more ∙ ap (λ b. cond b [] (said ++ more)) dead)
-    (calm.texts l.stage texts (accepted_by call old) ∙ ap (λ b. cond b [] (texts ++ accepted_by call old)) dead) k
+ends call old l t w v said texts calm dead k = grind (arith, become)
 
 pub begins_same : (o : Option Outgoing) → begins o o ≡ []
 begins_same None = refl
@@ -58,33 +43,15 @@ begins_same (Some o) = refl
 -- nothing more is said
 pub none_said : (before after : Option Outgoing) (said : List Said) → after ≡ before
     → said ++ map said_in (begins before after) ≡ said
-none_said before after said e =
-    ap (λ o. said ++ map said_in (begins before o)) e ∙ ap (λ xs. said ++ map said_in xs) (begins_same before)
-    ∙ append-nil said
+none_said before after said e = grind (arith, begins_same, append-nil)
 
 -- what is in hand tells nothing, and nothing more is said, or something is where nothing went out
 pub say_on : (more : ℕ) (task task' : Task) (turn turn' : Turn) (before after : Option Outgoing) (untold : ℕ)
     (told : List Packet) (said : List Said) → (IsTelling task → ⊥) → (IsTelling task' → ⊥)
     → (after ≡ before) ⊎ (before ≡ None) → AreTold more task turn before untold told said
     → AreTold more task' turn' after untold told (said ++ map said_in (begins before after))
-say_on more task task' turn turn' before after untold told said calm calm' either h = (
-  h.0,
-  elim either [
-    | inl same ↦ ap (λ o. h.0 ++ map said_in (option_to_list o)) same ∙ h.1 ∙ sym (none_said before after said same)
-    | inr none ↦
-        let is : h.0 ≡ said = sym (append-nil h.0)
-        ∙ ap (λ x. h.0 ++ map said_in (option_to_list x)) (sym none) ∙ h.1 in
-        ap (λ xs. xs ++ map said_in (option_to_list after)) is ∙ by after
-        ∙ ap (λ b. said ++ map said_in (begins b after)) (sym none)
-  ],
-  h.2,
-  quiet_left task' turn' after untold (left_all more h.0) calm'
-      (left_quiet task turn before untold (left_all more h.0) calm h.3),
-)
-  where
-    by : (o : Option Outgoing) → said ++ map said_in (option_to_list o) ≡ said ++ map said_in (begins None o)
-    by None = refl
-    by (Some x) = refl
+say_on more task task' turn turn' before after untold told said calm calm' either h =
+    grind (arith, none_said, append-nil, quiet_left, left_all, left_quiet)
 
 -- ---- calls that report no action
 
@@ -105,17 +72,8 @@ module _ {K : Type 0} (call : Call) (old : Port K) (l : Look) (t : Talk) (w v : 
     (texts : List (List ℕ)) (stage : l.stage ≡ old.stage) (out : l.outgoing ≡ old.outgoing) (plain : IsPlain call old)
     (k : InStep l t v said texts) where
   end_so : is_dead l.stage ≡ true → After call old l t w v said texts
-  end_so dead =
-      let e = k.ended dead in
-      ends call old l t w v said texts plain.no_reset dead
-      (become l v silence t [] said [] texts (sym e.talk) (sym e.none_said) (sym e.none_accepted) k)
+  end_so dead = grind (arith, ends, become, none_said)
 
   -- the talk stays as it was
   pub unmoved : After call old l t w v said texts
-  unmoved = elim (by_dead old.stage) [
-    | inl d ↦ end_so (ap is_dead stage ∙ d)
-    | inr d ↦ alters call old l t t w v said said texts texts plain.no_reset (ap is_dead stage ∙ d)
-        (ap (stepped old.stage l.stage) (plain.talk w t) ∙ ap (λ s. stepped old.stage s t) stage
-        ∙ same_stage old.stage t)
-        (none_said old.outgoing l.outgoing said out) (ap (λ ys. texts ++ ys) plain.accepts ∙ append-nil texts) k
-  ]
+  unmoved = grind (arith, by_dead, end_so, alters, same_stage, none_said, append-nil)

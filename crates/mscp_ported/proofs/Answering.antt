@@ -1,5 +1,5 @@
 -- What a port answers itself.
-use Rattle.mscp_ported.proofs.Common.{Answered, AsksAlways, Bool, Call, Command, Commands, Descriptor, End, First, Hardware, Holdings, IsHandedOver, IsMadeOf, IsOwnAnswer, IsSomeAnd, List, None, Ok, Opened, Option, Outgoing, Own, Picking, Port, Responses, SendFault, Shape, Slot, Some, Task, Turn, Volume, WasRead, [], access_of_nothing, after_message, answer_to_message, ap, append-nil, arith, arrives, asks_next, asks_nothing, balance_of, bare_end, come, command_of, cond, drop, end_bytes, end_kind, false, handed, held_unless, inl, inr, is_for_utilities, is_none, kind_answered, length, little_bytes, nat_le, nat_lt, none-some, num, number_in, number_or_zero, of, opcode_of, option_map, order_with, outstanding_of, own_answer, own_end, own_end_of, own_refusal, own_text, poll_brings, poll_end, polls_bring, refl, refusal, refused_end, same_Some, sent_unless, slice_index, subst, sym, take, talk_of, text_handed, true, volume_named, volume_refusal, ℕ, ◌++◌, ◌+◌, ◌/◌, ◌==◌, ◌∙◌, ◌∷◌, ◌≡◌, ◌≤◌}
+use Rattle.mscp_ported.proofs.Common.{Answered, AsksAlways, Bool, Call, Command, Commands, Descriptor, End, First, Hardware, Holdings, IsHandedOver, IsMadeOf, IsOwnAnswer, IsSomeAnd, List, None, Ok, Opened, Option, Outgoing, Own, Picking, Port, Shape, Slot, Some, Task, Volume, WasRead, [], after_message, answer_to_message, ap, append-nil, arith, asks_nothing, bare_end, come, command_of, cond, end_bytes, end_kind, false, handed, inl, inr, is_for_utilities, is_none, length, nat_le, nat_lt, none-some, num, of, option_map, own_answer, own_end, own_end_of, own_refusal, own_text, poll_brings, polls_bring, refl, refused_end, same_Some, slice_index, subst, sym, talk_of, text_handed, true, volume_named, volume_refusal, ℕ, ◌++◌, ◌+◌, ◌∙◌, ◌∷◌, ◌≡◌, ◌≤◌}
 use Rattle.std.proofs.Common.{find}
 use Rattle.std.specs.Prelude.{◌&&◌}
 use Rattle.mscp_packet.specs.declared.command.Order.TheVariants as orders
@@ -59,51 +59,16 @@ refusing b status = record { code = slice_index b 8 + 0x80; status = status; tel
 pub none_so : (foreign : Bool) (v : Option Volume) (b : List ℕ) → own_end foreign v b ≡ None
     → own_answer foreign v b ≡ None
 unfolding refusing
-none_so true v b e = absurd (none-some (bare_end b 0x80 0x0801) (sym e))
-none_so false v b e = by (is_none v && asks_nothing (slice_index b 8)) e
-  where
-    refused : (o : Option ℕ) → option_map (refused_end b) o ≡ None → option_map (refusing b) o ≡ None
-    refused None h = refl
-    refused (Some status) h = absurd (none-some (refused_end b status) (sym h))
-
-    by : (c : Bool) → cond c (Some (bare_end b (slice_index b 8 + 0x80) 0))
-        (option_map (refused_end b) (volume_refusal v b)) ≡ None
-        → cond c (Some (record { code = slice_index b 8 + 0x80; status = 0; tells_bytes = false }))
-        (option_map (refusing b) (own_refusal b v)) ≡ None
-    by true h = absurd (none-some (bare_end b (slice_index b 8 + 0x80) 0) (sym h))
-    by false h = subst (λ o. option_map (refusing b) o ≡ None) (refusal_so v b) (refused (volume_refusal v b) h)
+none_so foreign v b e = grind (arith, none-some, refusing, refusal_so)
 
 -- the text that is handed over is that of the table
 pub handed_so : (units : List Shape) (b : List ℕ) → handed units b ≡ text_handed units b
-handed_so units b = ap (λ xs. cond (asks_nothing (slice_index b 8)) (access_of_nothing b) xs)
-    (by (asks_next b) (find (λ unit. nat_le (num b 4 2) unit.number) units))
-  where
-    by : (c : Bool) (o : Option Shape)
-        → cond c (take 4 b ++ little_bytes 2 (number_or_zero o) ++ drop 6 b) b
-        ≡ cond c (take 4 b ++ little_bytes 2 (number_in o) ++ drop 6 b) b
-    by c None = refl
-    by c (Some unit) = refl
+handed_so units b = grind (arith, find, nat_le)
 
 -- where a text is to be read, it is of the connection of its header
 is_text : (l : Look) (task : Task) (slot : Slot) (header : ℕ) → Fits l task (Opened slot header)
     → (d : Descriptor) × (size : ℕ) × (task ≡ tasks.Text d size (is_for_utilities header))
-is_text l (tasks.Text d size foreign) slot header f =
-    (d, size, ap (tasks.Text d size) (f.3 ∙ ap (λ h. h / 0x100_0000 == 2) (sym (header_same (f.1)))))
-  where
-    header_in : Turn → ℕ
-    header_in (Opened s h) = h
-    header_in turn = header
-
-    header_same : Opened slot header ≡ Opened (slot_at l Commands d.word) f.0 → header ≡ f.0
-    header_same e = ap header_in e
-is_text l (tasks.Header d) slot header f = search (arith, f)
-is_text l (tasks.Packet d) slot header f = search (arith, f)
-is_text l (tasks.Return Responses d) slot header f = search (arith, f.2)
-is_text l (tasks.Return Commands d) slot header f = search (arith, f.2)
-is_text l (tasks.Neighbour side) slot header f = search (arith, f)
-is_text l (tasks.Word side) slot header f = search (arith, f)
-is_text l tasks.Interrupt slot header f = search (arith, f)
-is_text l task slot header f = absurd f
+is_text l task slot header f = grind (arith, slot_at)
 
 module _ {K : Type 0} (picks : Picking K) (hardware : Hardware) (credits : ℕ) (controller : Holdings K)
     (start : Port K) (made : IsMadeOf hardware credits controller start) where
@@ -133,18 +98,7 @@ module _ {K : Type 0} (picks : Picking K) (hardware : Hardware) (credits : ℕ) 
           → IsSomeAnd e (λ x. IsSomeAnd p.outgoing (λ y. (y.bytes.items ≡ end_bytes x) × (y.kind ≡ end_kind foreign)))
           → IsOwnAnswer a.0 header bytes o
       answer_so foreign header of None e h = absurd h
-      answer_so foreign header of (Some x) e h =
-          let said = subst (λ q. IsSomeAnd q (λ y. (y.bytes.items ≡ end_bytes x)
-          × (y.kind ≡ end_kind foreign))) some h in
-          let own = own_so foreign (volume_named a.0 bytes) bytes x e in
-          record {
-            kind = said.1 ∙ ap kind_answered of;
-            own = (
-              own.0,
-              ap (λ f. own_answer f (volume_named a.0 bytes) bytes) (sym of) ∙ own.1,
-              said.0 ∙ own.2,
-            );
-          }
+      answer_so foreign header of (Some x) e h = grind (arith, own_so)
 
   pub hands_over : (p : Port K) (calls : List Call) (bytes : List ℕ) (done : Unit) (slot : Slot) (header : ℕ)
       → AsksAlways (WasRead bytes (Ok done) ∷ calls)
@@ -173,11 +127,7 @@ module _ {K : Type 0} (picks : Picking K) (hardware : Hardware) (credits : ℕ) 
 -- ---- polls
 
 poll_own : (v : Option Volume) (b : List ℕ) → slice_index b 8 ≡ 2 → own_answer false v b ≡ None
-poll_own v b e = by v
-  where
-    by : (v : Option Volume) → own_answer false v b ≡ None
-    by None = grind (arith, e)
-    by (Some x) = grind (arith, e)
+poll_own v b e = grind arith
 
 poll_handed : (units : List Shape) (b : List ℕ) → slice_index b 8 ≡ 2 → text_handed units b ≡ b
 poll_handed units b e = grind (arith, e)
@@ -188,13 +138,7 @@ polled b = record { reference = num b 0 4; unit = num b 4 2; order = orders.Stat
 
 poll_command : (b : List ℕ) → slice_index b 8 ≡ 2 → 16 ≤ length b → command_of b ≡ polled b
 unfolding command_of
-poll_command b e long = ap (λ o. record { reference = num b 0 4; unit = num b 4 2; order = o })
-    (ap (λ n. order_with (opcode_of n) b) e ∙ by (nat_lt (length b) 16) (search (arith, long)))
-  where
-    by : (c : Bool) → c ≡ false
-        → cond c (orders.Invalid (slice_index b 8) 0x0001) (orders.Status (num b 12 4)) ≡ orders.Status (num b 12 4)
-    by false h = refl
-    by true h = search (arith, h)
+poll_command b e long = grind (arith, nat_lt)
 
 pub poll_sent : (units : List Shape) (b : List ℕ) → slice_index b 8 ≡ 2 → 16 ≤ length b
     → command_of (handed units b) ≡ polled b
@@ -202,13 +146,7 @@ poll_sent units b e long = ap command_of (handed_so units b ∙ poll_handed unit
 
 poll_comes : {K : Type 0} (h : Holdings K) (b : List ℕ) → slice_index b 8 ≡ 2 → 16 ≤ length b
     → ends_of (after_message First h b) ≡ ends_of h ++ poll_brings (answer_to_message First h b) h b
-poll_comes {K} h b e long = by (refusal (balance_of First h) (outstanding_of First h) b)
-  where
-    by : (o : Option SendFault) → ends_of (held_unless First h (command_of b) o)
-        ≡ ends_of h ++ poll_brings (sent_unless First h (command_of b) o) h b
-    by (Some fault) = sym (append-nil (ends_of h))
-    by None = ap (λ c. ends_of (arrives First h c)) (poll_command b e long)
-        ∙ ap (λ xs. xs ++ poll_end h b ∷ []) (append-nil (ends_of h))
+poll_comes {K} h b e long = grind (arith, ends_of, append-nil, poll_command)
 
 module _ {K : Type 0} (picks : Picking K) (hardware : Hardware) (credits : ℕ) (controller : Holdings K)
     (start : Port K) (made : IsMadeOf hardware credits controller start) where
@@ -223,9 +161,4 @@ module _ {K : Type 0} (picks : Picking K) (hardware : Hardware) (credits : ℕ) 
       by : (foreign : Bool) → IsHandedOver (own_answer foreign (volume_named a.0 bytes) bytes) bytes a.0 p
           → come a.0 p ≡ polls_bring foreign a.0 bytes
       by true h = come_so a.0 p [] (ap ends_of h ∙ sym (append-nil (ends_of a.0.controller)))
-      by false h =
-          let new = subst (λ o. IsHandedOver o bytes a.0 p) (poll_own (volume_named a.0 bytes) bytes poll) h in
-          come_so a.0 p (poll_brings (answer_to_message First a.0.controller bytes) a.0.controller bytes)
-          (ap ends_of (new ∙ ap (after_message First a.0.controller)
-          (poll_handed a.0.controller.settings.units bytes poll))
-          ∙ poll_comes a.0.controller bytes poll long)
+      by false h = grind (arith, poll_own, come_so, ends_of, poll_handed, poll_comes)

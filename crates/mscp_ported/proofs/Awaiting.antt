@@ -1,9 +1,8 @@
 -- What there is of each reference number after each call of a port.
-use Rattle.mscp_ported.proofs.Common.{AllByRecursion, Bool, Call, Command, Dies, End, First, Holdings, List, MoveKind, Name, None, Opcode, Option, Order, Port, Record, Settings, Shape, Some, [], aborted_record, ap, append-nil, arith, asks_for_next, balance_of, bytes_in, command_of, cond, drop, ends_said_by, eq-eqb, eqb-true, false, false≢true, filter, found_is, fresh_record, handed, has_number, holds, inl, inr, is_dead, is_formality, is_numbered, is_same, is_transfer, length, list_any, list_any-append, little_bytes, move_byte, name_of, name_on, nat_eq, nat_lt, next_unit, none_waits, num, numbers_ended, opcode_of, opcodes, option_map, option_to_list, or_parts, order_with, outstanding_of, own_end_with, record_aborted, refl, refusal, row_of, same_is, since, slice_index, stand_in, subst, sym, take, taken_by, taken_number, true, unaborted, without_ends, ℕ, ◌%◌, ◌++◌, ◌/◌, ◌<◌, ◌^◌, ◌∙◌, ◌∷◌, ◌≡◌, ◌≤◌}
-use Rattle.mscp_packet.specs.declared.class.Opcode.TheVariants as codes
-use Rattle.mscp_packet.specs.declared.command.MoveKind.TheVariants as kinds
+use Rattle.mscp_ported.proofs.Common.{AllByRecursion, Bool, Call, Command, Dies, End, First, Holdings, List, None, Opcode, Option, Order, Port, Record, Settings, Shape, [], aborted_record, ap, append-nil, arith, balance_of, bytes_in, command_of, cond, ends_said_by, eq-eqb, eqb-true, false, false≢true, filter, found_is, fresh_record, handed, has_number, holds, is_dead, is_numbered, is_same, length, list_any, list_any-append, nat_eq, nat_lt, none_waits, num, numbers_ended, opcode_of, option_map, option_to_list, or_parts, order_with, outstanding_of, own_end_with, record_aborted, refl, refusal, same_is, since, slice_index, stand_in, subst, sym, taken_by, taken_number, true, unaborted, without_ends, ℕ, ◌++◌, ◌<◌, ◌^◌, ◌∙◌, ◌∷◌, ◌≡◌, ◌≤◌}
 use Rattle.mscp_packet.specs.declared.command.Order.TheVariants as orders
 use Rattle.mscp_ported.proofs.Coming.{ends_of}
+use Rattle.mscp_ported.proofs.Handed.{handed_cases, renamed}
 use Rattle.mscp_ported.proofs.Numbered.{At, AtEach, IsNothing, asked_by, counted_in, ends_numbered, some_none}
 use Rattle.mscp_ported.proofs.Numbering.{aborts, comes_ended, comes_waiting}
 use Rattle.mscp_ported.proofs.Sole.{none_passes}
@@ -22,34 +21,13 @@ pub record IsNoReset (call : Call) : Type 0 where
   pub texts : (s : _) (xs ys : List (List ℕ)) → since s call xs ys ≡ cond (is_dead s) [] (xs ++ ys)
 
 pub nothing_kept : {K : Type 0} (p : Port K) → p.controller.waiting ≡ [] → ends_of p.controller ≡ [] → Kept p []
-nothing_kept p none no_end = record {
-  each = λ n. inl (refl, ap (filter (is_numbered n)) none, ap (filter (ends_numbered n)) no_end);
-  small = tt;
-  dead = λ d. refl;
-}
+nothing_kept p none no_end = grind (arith, is_numbered, ends_numbered)
 
 -- ---- a message as it is handed over
 
 pub order_few : (o : Option Opcode) (b : List ℕ) → opcode_of (slice_index b 8) ≡ o
     → asked_by (order_with o b) ≤ bytes_in b
-order_few None b e = omega arith
-order_few (Some (codes.Move kind)) b e =
-    let at : move_byte kind ≡ slice_index b 8 =
-    eqb-true (move_byte kind) (slice_index b 8)
-    (found_is (λ o. nat_eq (row_of o).byte (slice_index b 8)) opcodes (codes.Move kind) e) in
-    by (nat_lt (length b) 32)
-    (subst (λ n. asked_by (orders.Move kind (num b 12 4) 0) ≤ cond (is_transfer n) (num b 12 4) 0) at (moves kind))
-  where
-    moves : (kind : MoveKind) → num b 12 4 ≤ cond (is_transfer (move_byte kind)) (num b 12 4) 0
-    moves kinds.Access = omega arith
-    moves kind = omega arith
-
-    by : (c : Bool) → num b 12 4 ≤ bytes_in b
-        → asked_by (cond c (orders.Invalid (slice_index b 8) 0x0001) (orders.Move kind (num b 12 4) (num b 28 4)))
-        ≤ bytes_in b
-    by true h = omega arith
-    by false h = h
-order_few (Some o) b e = grind arith
+order_few o b e = grind (arith, eqb-true, found_is, nat_eq, nat_lt, asked_by)
 
 command_few : (b : List ℕ) → asked_by (command_of b).order ≤ bytes_in b
 unfolding command_of
@@ -62,49 +40,29 @@ pub record IsLikeIt (sent b : List ℕ) : Type 0 where
 
 stood_in : (b : List ℕ) → 12 ≤ length b → IsLikeIt (stand_in b) b
 unfolding command_of
-stood_in (a ∷ b ∷ c ∷ d ∷ e ∷ f ∷ g ∷ h ∷ rest) long =
-    record { number = refl; bytes = omega arith }
-stood_in b long = search (arith, long)
+stood_in b long = grind arith
 
-named_next : (b : List ℕ) (n : ℕ) → 12 ≤ length b → IsLikeIt (take 4 b ++ little_bytes 2 n ++ drop 6 b) b
-named_next (a ∷ b ∷ c ∷ d ∷ e ∷ f ∷ g ∷ h ∷ i ∷ j ∷ k ∷ l ∷ rest) n long = record {
-  number = refl;
-  bytes = command_few (a ∷ b ∷ c ∷ d ∷ (n % 256) ∷ (n / 256 % 256) ∷ g ∷ h ∷ i ∷ j ∷ k ∷ l ∷ rest);
-}
-named_next b n long = search (arith, long)
+named_next : (b : List ℕ) (n : ℕ) → 12 ≤ length b → IsLikeIt (renamed b n) b
+named_next b n long = grind (arith, command_few)
 
 pub handed_like : (units : List Shape) (b : List ℕ) → 12 ≤ length b → IsLikeIt (handed units b) b
-handed_like units b long = by (is_formality (slice_index b 8)) (asks_for_next b)
-  where
-    itself : IsLikeIt b b
-    itself = record { number = refl; bytes = command_few b }
-
-    by : (x y : Bool) → IsLikeIt (cond x (stand_in b)
-        (cond y (take 4 b ++ little_bytes 2 (next_unit units (num b 4 2)) ++ drop 6 b) b)) b
-    by true y = stood_in b long
-    by false true = named_next b (next_unit units (num b 4 2)) long
-    by false false = itself
+handed_like units b long = handed_cases (λ x. IsLikeIt x b) units b (λ formal. stood_in b long)
+    (λ plain asks n. named_next b n long) (λ plain. record { number = refl; bytes = command_few b })
 
 -- ---- its number is new
 
 none_ended : (n : ℕ) (es : List End) → list_any (λ x. nat_eq x n) (numbers_ended es) ≡ false
     → filter (ends_numbered n) es ≡ []
 none_ended n [] e = refl
-none_ended n (x ∷ es) e =
-    let o = or_parts (nat_eq x.reference n) (list_any (λ y. nat_eq y n) (numbers_ended es)) e in
-    ap (λ c. cond c (x ∷ filter (ends_numbered n) es) (filter (ends_numbered n) es)) o.0 ∙ none_ended n es o.1
+none_ended n (x ∷ es) e = grind (arith, none_ended n es, or_parts, nat_eq, ends_numbered)
 
 nothing_of : (aw : List (List ℕ)) (rs : List Record) (es : List End) (n : ℕ) → filter (is_numbered n) rs ≡ []
     → filter (ends_numbered n) es ≡ [] → At aw rs es n → IsNothing aw rs es n
-nothing_of aw rs es n none no_end (inl x) = x
-nothing_of aw rs es n none no_end (inr (inl w)) = absurd (some_none w.own [] (sym w.sole ∙ none))
-nothing_of aw rs es n none no_end (inr (inr x)) = absurd (some_none x.end [] (sym x.sole ∙ no_end))
+nothing_of aw rs es n none no_end h = grind (arith, some_none)
 
 nothing_by : (aw : List (List ℕ)) (rs : List Record) (es : List End) (n : ℕ) → filter (has_number n) aw ≡ []
     → At aw rs es n → IsNothing aw rs es n
-nothing_by aw rs es n none (inl x) = x
-nothing_by aw rs es n none (inr (inl w)) = absurd (some_none w.text [] (sym w.message ∙ none))
-nothing_by aw rs es n none (inr (inr x)) = absurd (some_none x.text [] (sym x.message ∙ none))
+nothing_by aw rs es n none h = grind (arith, some_none)
 
 -- ---- an end that is answered at once
 
@@ -134,19 +92,10 @@ module _ {K : Type 0} (h : Holdings K) (aw : List (List ℕ)) (bytes sent : List
       (none_ended number (ends_of h) (search (arith, list_any-append, or_parts, holds_not))) (at number)
 
   pub is_it : (r : Record) → r.connection ≡ First → r.command.reference ≡ number → is_numbered number r ≡ true
-  is_it r first named = search (
-    arith,
-    is_same (name_of r) (name_on First number)
-        (search (arith, first, named)),
-  )
+  is_it r first named = grind (arith, is_same)
 
   pub others : (r : Record) → r.command.reference ≡ number → (n : ℕ) → nat_eq number n ≡ false → is_numbered n r ≡ false
-  others r named n d = by (is_numbered n r) refl
-    where
-      by : (c : Bool) → is_numbered n r ≡ c → c ≡ false
-      by false e = refl
-      by true e = absurd (false≢true (sym d ∙ eq-eqb number n (sym named
-          ∙ ap (λ (x : Name). x.reference) (same_is (name_of r) (name_on First n) e))))
+  others r named n d = grind (arith, is_numbered, false≢true, eq-eqb, same_is)
 
   pub queued_so : AtEach (aw ++ bytes ∷ []) (h.waiting ++ fresh_record First (command_of sent) ∷ []) (ends_of h)
   unfolding command_of
@@ -181,42 +130,19 @@ module _ {K : Type 0} (call : Call) (old new : Port K) (aw : List (List ℕ)) (k
   became xs e x = subst (λ z. Kept new z) (sym e) x
 
   pub dies_so : Dies old new → So
-  dies_so d = became [] (calm.texts new.stage (without_ends (ends_said_by call old new) aw) (taken_by call old)
-      ∙ ap (λ b. cond b [] (without_ends (ends_said_by call old new) aw ++ taken_by call old)) (ap is_dead d.1.stage))
-      (nothing_kept new (ap (λ (h : Holdings K). h.waiting) d.1.controller)
-      (ap (λ (h : Holdings K). ends_of h) d.1.controller))
+  dies_so d = grind (arith, became, nothing_kept, ends_of)
 
   -- neither ends nor messages change
   pub same_so : ends_said_by call old new ≡ [] → taken_by call old ≡ []
       → new.controller.waiting ≡ old.controller.waiting → ends_of new.controller ≡ ends_of old.controller
       → (is_dead new.stage ≡ true → is_dead old.stage ≡ true) → So
-  same_so said taken waiting ends dead = became aw (by (is_dead new.stage) refl) (record {
-    each = subst (λ rs. AtEach aw rs (ends_of new.controller)) (sym waiting)
-        (subst (λ es. AtEach aw old.controller.waiting es) (sym ends) k.each);
-    small = k.small;
-    dead = λ d. k.dead (dead d);
-  })
-    where
-      by : (b : Bool) → is_dead new.stage ≡ b
-          → since new.stage call (without_ends (ends_said_by call old new) aw) (taken_by call old) ≡ aw
-      by true is = calm.texts new.stage _ _
-          ∙ ap (λ b. cond b [] (without_ends (ends_said_by call old new) aw ++ taken_by call old)) is
-          ∙ sym (k.dead (dead is))
-      by false is = calm.texts new.stage _ _
-          ∙ ap (λ b. cond b [] (without_ends (ends_said_by call old new) aw ++ taken_by call old)) is
-          ∙ ap (λ xs. without_ends xs aw ++ taken_by call old) said ∙ ap (λ xs. aw ++ xs) taken ∙ append-nil aw
+  same_so said taken waiting ends dead = grind (arith, became, ends_of, append-nil)
 
   -- while there is no fatal error
   pub lives_so : (xs : List (List ℕ)) → is_dead new.stage ≡ false
       → without_ends (ends_said_by call old new) aw ++ taken_by call old ≡ xs
       → AtEach xs new.controller.waiting (ends_of new.controller) → AllByRecursion IsSmall xs → So
-  lives_so xs alive e at small = became xs (calm.texts new.stage _ _
-      ∙ ap (λ b. cond b [] (without_ends (ends_said_by call old new) aw ++ taken_by call old)) alive ∙ e)
-      (record { each = at; small = small; dead = λ d. search (arith, d, alive) })
+  lives_so xs alive e at small = grind (arith, became)
 
   pub stays_so : ends_said_by call old new ≡ [] → taken_by call old ≡ [] → Stays old new → So
-  stays_so said taken either = elim either [
-    | inl same ↦ same_so said taken (ap (λ (h : Holdings K). h.waiting) same.0)
-        (ap (λ (h : Holdings K). ends_of h) same.0) same.3
-    | inr d ↦ dies_so d
-  ]
+  stays_so said taken either = grind (arith, same_so, ends_of, dies_so)

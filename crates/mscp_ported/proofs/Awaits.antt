@@ -2,7 +2,7 @@
 use Rattle.mscp_ported.proofs.Common.{First, Goes, Hears, Holdings, List, Ok, Outcome, Port, Record, Some, Verdict, WasRead, Went, [], ap, append-nil, arith, block_told, command_of, every_append, false, fault_of, filter, find, fresh_record, handed, has_name, inl, inr, is_dead, is_numbered, name_on, nat_eq, num, record_at, refl, since, subst, sym, taken_by, true, waiting_after, ℕ, ◌++◌, ◌∙◌, ◌∷◌, ◌≡◌, ◌⊎◌}
 use Rattle.mscp_ported.proofs.Awaiting.{IsLikeIt, IsNoReset, IsSmall, Kept, answered_so, dies_so, handed_like, is_it, lives_so, nothing_there, others, own_bytes, own_number, queued_so, stays_so}
 use Rattle.mscp_ported.proofs.Coming.{ends_of}
-use Rattle.mscp_ported.proofs.Decided.{is_alive}
+use Rattle.mscp_ported.proofs.Deeds.{is_alive}
 use Rattle.mscp_ported.proofs.Reading.{Answers, Gets, Queues, command_in, heard_same, own_end_in, read_is}
 use Rattle.mscp_ported.proofs.Numbered.{At, AtEach, IsNothing, Waits}
 use Rattle.mscp_ported.proofs.Numbering.{served_waits, step_serves}

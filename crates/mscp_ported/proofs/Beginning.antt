@@ -1,5 +1,5 @@
 -- What a port makes of its controller as something is wanted: a take, and a begin.
-use Rattle.mscp_ported.proofs.Common.{Action, AnsweredCalls, Begin, Begins, BeginsBlock, Bool, Choice, First, Foretells, Holdings, IsNews, IsOfBlock, List, MayBegin, Next, None, Option, Outgoing, Picking, Plain, Port, Says, Some, TakesEnd, Task, Upcoming, Wants, [], after_take, ap, arith, begin_made, begun_step, end_taken, inl, inr, line_of, looks_or_not, news_place, none-some, refl, subst, sym, take_made, ℕ, ◌++◌, ◌∙◌, ◌∷◌, ◌≡◌, ◌≢◌, ◌⊎◌}
+use Rattle.mscp_ported.proofs.Common.{Action, AnsweredCalls, Begin, BeginsBlock, Bool, Choice, First, Foretells, Holdings, IsNews, IsOfBlock, List, MayBegin, Next, None, Option, Outgoing, Picking, Plain, Port, Says, Some, TakesEnd, Task, Upcoming, Wants, [], after_take, ap, arith, begin_made, begun_step, end_taken, inl, inr, looks_or_not, news_place, none-some, refl, subst, sym, take_made, ℕ, ◌++◌, ◌∙◌, ◌∷◌, ◌≡◌, ◌≢◌, ◌⊎◌}
 use Rattle.mscp_drive.specs.declared.event.Event.TheVariants as events
 use Rattle.mscp_controller.specs.declared.entry.Entry.TheVariants as entries
 use Rattle.mscp_port.specs.declared.task.Task.TheVariants as tasks
@@ -63,25 +63,12 @@ finds {K} picks old new says = elim (looks_or_not old) [
 foretold_of : {K : Type 0} (picks : List Choice → ℕ → Type 0) (h held between new : Holdings K)
     (upcoming : Option Upcoming) → (held ≡ h) ⊎ (held ≡ after_take First h) → Foretells picks held upcoming new
     → (between ≡ h) ⊎ (between ≡ after_take First h) → MayBegin between new → Foretells picks between upcoming new
-foretold_of picks h held between new upcoming either f at may = record {
-  begins = subst (λ l. Begins picks l upcoming (line_of new)) (sym line_at) f.begins;
-  untaken = ap (λ (x : Holdings _). x.untaken) may;
-  settings = ap (λ (x : Holdings _). x.settings) may;
-}
-  where
-    line_at : line_of between ≡ line_of held
-    line_at = elim at [
-      | inl e ↦ ap line_of e ∙ elim either [ inl d ↦ sym (ap line_of d) | inr d ↦ sym (ap line_of d) ]
-      | inr e ↦ ap line_of e ∙ elim either [ inl d ↦ sym (ap line_of d) | inr d ↦ sym (ap line_of d) ]
-    ]
+foretold_of picks h held between new upcoming either f at may = grind arith
 
 begun_of : {K : Type 0} (picks : List Choice → ℕ → Type 0) (task : Task) (old new : Port K) (between : Holdings K)
     → BeginsBlock picks task old new → (between ≡ old.controller) ⊎ (between ≡ after_take First old.controller)
     → MayBegin between new.controller → Foretells picks between (begun_step new.controller) new.controller
-begun_of picks task old new between b at may =
-    let g = b.begun in
-    subst (λ u. Foretells picks between u new.controller) (sym g.5)
-    (foretold_of picks old.controller g.0 between new.controller g.1 g.2 g.3 at may)
+begun_of picks task old new between b at may = grind (arith, foretold_of)
 
 pub next : {K : Type 0} (picks : Picking K) (blocks : Bool) (action : Action) (bytes : List ℕ) (old new : Port K)
     → Wants (picks old.controller.picker) blocks old action new → Follows picks (Next blocks action bytes) old new
@@ -104,10 +91,7 @@ next {K} picks blocks action bytes old new r = inr (
     -- what was found, and no block was begun
     without : (before after : Task) → begin_made new before after ≡ [] → f.between ≡ new.controller
         → Answered_so before after
-    without before after none same =
-        made_more so old.controller (take_made old old.outgoing new.outgoing) (begin_made new before after) f.between
-        new.controller f.taken
-        (subst (λ xs. AnsweredCalls so f.between xs new.controller) (sym none) (sym same))
+    without before after none same = grind (arith, made_more, so, f)
 
     -- and one was begun
     begun : (before after : Task) → begin_made new before after ≡ Begin (begun_step new.controller) ∷ []
@@ -120,10 +104,7 @@ next {K} picks blocks action bytes old new r = inr (
 
     -- nothing was begun
     begun_as : f.between.begun ≡ old.controller.begun
-    begun_as = elim f.either [
-      | inl e ↦ ap (λ (h : Holdings K). h.begun) e
-      | inr e ↦ ap (λ (h : Holdings K). h.begun) e
-    ]
+    begun_as = grind (arith, f, begun)
 
     same_begun : new.controller.begun ≡ old.controller.begun → f.between ≡ new.controller
     same_begun e = sym (f.may ∙ ap (λ b. record f.between { begun = b }) (e ∙ sym begun_as))

@@ -1,8 +1,8 @@
 -- An ABORT stands behind the command that it names.
-use Rattle.mscp_ported.proofs.Common.{Bool, List, None, Opcode, Option, Shape, Some, [], and_parts, ap, arith, asks_for_next, command_of, cond, eq-eqb, eqb-true, false, false≢true, filter, found_is, handed, has_number, is_formality, least, length, list_any, little_bytes, nat_eq, nat_lt, next_unit, not, num, opcode_of, opcodes, order_with, parameters, refl, row_of, slice_index, stand_in, sym, true, ℕ, ◌&&◌, ◌++◌, ◌||◌, ◌∙◌, ◌∷◌, ◌≡◌}
-use Rattle.std.specs.Prelude.{◌≤◌, drop, nat_le, take}
-use Rattle.mscp_packet.specs.declared.class.Opcode.TheVariants as codes
+use Rattle.mscp_ported.proofs.Common.{Bool, List, Opcode, Option, Shape, [], and_parts, ap, arith, asks_for_next, command_of, cond, eq-eqb, eqb-true, false, false≢true, filter, found_is, handed, has_number, length, list_any, nat_eq, nat_lt, not, num, opcode_of, order_with, refl, slice_index, stand_in, sym, true, ℕ, ◌&&◌, ◌++◌, ◌||◌, ◌∙◌, ◌∷◌, ◌≡◌}
+use Rattle.std.specs.Prelude.{◌≤◌, nat_le}
 use Rattle.mscp_packet.specs.declared.command.Order.TheVariants as orders
+use Rattle.mscp_ported.proofs.Handed.{handed_cases, renamed, renamed_byte}
 use Rattle.mscp_ported.proofs.Numbered.{other_number, some_none}
 
 -- ---- the messages
@@ -20,100 +20,36 @@ aborts_behind n m (t ∷ ts) = cond (has_number n t) (list_any (is_abort n m) ts
 module _ {X : Type 0} (f : X → Bool) where
   pub any_more : (xs ys : List X) → list_any f xs ≡ true → list_any f (xs ++ ys) ≡ true
   any_more [] ys e = absurd (false≢true e)
-  any_more (x ∷ xs) ys e = by (f x) e (any_more xs ys)
-    where
-      by : (b : Bool) → (b || list_any f xs) ≡ true
-          → (list_any f xs ≡ true → list_any f (xs ++ ys) ≡ true)
-          → (b || list_any f (xs ++ ys)) ≡ true
-      by true h rest = refl
-      by false h rest = rest h
+  any_more (x ∷ xs) ys e = grind (arith, any_more xs ys)
 
   pub any_last : (xs : List X) (x : X) → f x ≡ true → list_any f (xs ++ x ∷ []) ≡ true
   any_last [] x e = ap (λ b. (b || false)) e
-  any_last (y ∷ xs) x e = by (f y) (any_last xs x e)
-    where
-      by : (b : Bool) → list_any f (xs ++ x ∷ []) ≡ true
-          → (b || list_any f (xs ++ x ∷ [])) ≡ true
-      by true h = refl
-      by false h = h
+  any_last (y ∷ xs) x e = grind (arith, any_last xs x e)
 
   any_left : (keep : X → Bool) → ((x : X) → f x ≡ true → keep x ≡ true) → (xs : List X) → list_any f xs ≡ true
       → list_any f (filter keep xs) ≡ true
   any_left keep kept [] e = e
-  any_left keep kept (x ∷ xs) e = by (f x) refl (keep x) refl e (any_left keep kept xs)
-    where
-      by : (b : Bool) → f x ≡ b → (c : Bool) → keep x ≡ c → (b || list_any f xs) ≡ true
-          → (list_any f xs ≡ true → list_any f (filter keep xs) ≡ true)
-          → list_any f (cond c (x ∷ filter keep xs) (filter keep xs)) ≡ true
-      by true is true k h rest = ap (λ b. (b || list_any f (filter keep xs))) is
-      by true is false k h rest = absurd (false≢true (sym k ∙ kept x is))
-      by false is true k h rest =
-          ap (λ b. (b || list_any f (filter keep xs))) is ∙ rest h
-      by false is false k h rest = rest h
+  any_left keep kept (x ∷ xs) e = grind (arith, any_left keep kept xs, kept x, false≢true)
 
   pub any_none : (xs : List X) → filter f xs ≡ [] → list_any f xs ≡ true → ⊥
   any_none [] none e = false≢true e
-  any_none (x ∷ xs) none e = by (f x) none e (any_none xs)
-    where
-      by : (b : Bool) → cond b (x ∷ filter f xs) (filter f xs) ≡ []
-          → (b || list_any f xs) ≡ true
-          → (filter f xs ≡ [] → list_any f xs ≡ true → ⊥) → ⊥
-      by true h k rest = some_none x (filter f xs) h
-      by false h k rest = rest h k
+  any_none (x ∷ xs) none e = grind (arith, any_none xs)
 
 module _ (n m : ℕ) where
   pub aborts_more : (ts us : List (List ℕ)) → aborts_behind n m ts ≡ true → aborts_behind n m (ts ++ us) ≡ true
   aborts_more [] us e = absurd (false≢true e)
-  aborts_more (t ∷ ts) us e = by (has_number n t) e (aborts_more ts us)
-    where
-      by : (b : Bool) → cond b (list_any (is_abort n m) ts) (aborts_behind n m ts) ≡ true
-          → (aborts_behind n m ts ≡ true → aborts_behind n m (ts ++ us) ≡ true)
-          → cond b (list_any (is_abort n m) (ts ++ us)) (aborts_behind n m (ts ++ us)) ≡ true
-      by true h rest = any_more (is_abort n m) ts us h
-      by false h rest = rest h
+  aborts_more (t ∷ ts) us e = grind (arith, aborts_more ts us, any_more (is_abort n m) ts us)
 
   pub aborts_come : (ts : List (List ℕ)) (x t : List ℕ) → filter (has_number n) ts ≡ x ∷ [] → is_abort n m t ≡ true
       → aborts_behind n m (ts ++ t ∷ []) ≡ true
   aborts_come [] x t e is = absurd (some_none x [] (sym e))
-  aborts_come (y ∷ ts) x t e is = by (has_number n y) e (λ h. aborts_come ts x t h is)
-    where
-      by : (b : Bool) → cond b (y ∷ filter (has_number n) ts) (filter (has_number n) ts) ≡ x ∷ []
-          → (filter (has_number n) ts ≡ x ∷ [] → aborts_behind n m (ts ++ t ∷ []) ≡ true)
-          → cond b (list_any (is_abort n m) (ts ++ t ∷ [])) (aborts_behind n m (ts ++ t ∷ [])) ≡ true
-      by true h rest = any_last (is_abort n m) ts t is
-      by false h rest = rest h
+  aborts_come (y ∷ ts) x t e is = grind (arith, aborts_come ts x t, any_last (is_abort n m) ts t is)
 
   pub aborts_left : (k : ℕ) → nat_eq k n ≡ false → nat_eq k m ≡ false → (ts : List (List ℕ))
       → aborts_behind n m ts ≡ true → aborts_behind n m (filter (λ t. not (has_number k t)) ts) ≡ true
   aborts_left k apart other [] e = e
-  aborts_left k apart other (t ∷ ts) e = by (has_number k t) refl (has_number n t) refl e (aborts_left k apart other ts)
-    where
-      keep : List ℕ → Bool
-      keep = λ t. not (has_number k t)
-
-      kept : (x : List ℕ) → is_abort n m x ≡ true → not (has_number k x) ≡ true
-      kept x is = other_number m k other (num x 0 4)
-          (first_of (has_number m x) (nat_eq (slice_index x 8) 1) (nat_le 16 (length x)) (nat_eq (num x 12 4) n) is)
-        where
-          first_of : (a b c d : Bool) → (a && b && c && d) ≡ true → a ≡ true
-          first_of true b c d e = refl
-          first_of false b c d e = e
-
-      by : (b : Bool) → has_number k t ≡ b → (c : Bool) → has_number n t ≡ c
-          → cond c (list_any (is_abort n m) ts) (aborts_behind n m ts) ≡ true
-          → (aborts_behind n m ts ≡ true → aborts_behind n m (filter (λ t. not (has_number k t)) ts) ≡ true)
-          → aborts_behind n m (cond (not b) (t ∷ filter (λ t. not (has_number k t)) ts)
-          (filter (λ t. not (has_number k t)) ts)) ≡ true
-      by true is true mine h rest = absurd (false≢true (sym apart ∙ eq-eqb k n
-          (sym (eqb-true (num t 0 4) k is) ∙ eqb-true (num t 0 4) n mine)))
-      by true is false mine h rest = rest h
-      by false is true mine h rest = ap (λ c. cond c
-          (list_any (is_abort n m) (filter (λ t. not (has_number k t)) ts))
-          (aborts_behind n m (filter (λ t. not (has_number k t)) ts))) mine
-          ∙ any_left (is_abort n m) (λ t. not (has_number k t)) kept ts h
-      by false is false mine h rest = ap (λ c. cond c
-          (list_any (is_abort n m) (filter (λ t. not (has_number k t)) ts))
-          (aborts_behind n m (filter (λ t. not (has_number k t)) ts))) mine ∙ rest h
+  aborts_left k apart other (t ∷ ts) e =
+      grind (arith, aborts_left k apart other ts, other_number, nat_eq, false≢true, eq-eqb, eqb-true, any_left)
 
 -- ---- the message of an ABORT
 
@@ -124,32 +60,7 @@ pub record AsksAbort (n : ℕ) (b : List ℕ) : Type 0 where
 
 abort_with : (o : Option Opcode) (b : List ℕ) (n : ℕ) → opcode_of (slice_index b 8) ≡ o
     → order_with o b ≡ orders.Abort n → AsksAbort n b
-abort_with None b n is e = search (arith, e)
-abort_with (Some o) b n is e = by (nat_lt (length b) (least o)) refl o refl e
-  where
-    at : (row_of o).byte ≡ slice_index b 8
-    at = eqb-true (row_of o).byte (slice_index b 8)
-        (found_is (λ x. nat_eq (row_of x).byte (slice_index b 8)) opcodes o is)
-
-    enough : nat_lt (length b) 16 ≡ false → nat_le 16 (length b) ≡ true
-    enough h = search (arith, h)
-
-    by : (c : Bool) → nat_lt (length b) (least o) ≡ c → (x : Opcode) → o ≡ x
-        → cond c (orders.Invalid (slice_index b 8) Rattle.mscp_packet.specs.Statuses.invalid_length) (parameters x b)
-        ≡ orders.Abort n → AsksAbort n b
-    by true short x same h = search (arith, h)
-    by false short codes.Abort same h = record {
-      opcode = sym at ∙ ap (λ x. (row_of x).byte) same;
-      long = enough (ap (λ x. nat_lt (length b) (least x)) (sym same) ∙ short);
-      about = search (arith, h);
-    }
-    by false short codes.Status same h = search (arith, h)
-    by false short codes.UnitStatus same h = search (arith, h)
-    by false short codes.SetController same h = search (arith, h)
-    by false short codes.Available same h = search (arith, h)
-    by false short codes.Online same h = search (arith, h)
-    by false short codes.SetUnit same h = search (arith, h)
-    by false short (codes.Move kind) same h = search (arith, h)
+abort_with o b n is e = grind (arith, nat_lt, eqb-true, found_is, nat_eq)
 
 abort_command : (b : List ℕ) (n : ℕ) → (command_of b).order ≡ orders.Abort n → AsksAbort n b
 unfolding command_of
@@ -161,34 +72,19 @@ unfolding command_of
 no_abort (a ∷ b ∷ c ∷ d ∷ e ∷ f ∷ g ∷ h ∷ rest) n long is = search (arith, is)
 no_abort b n long is = search (arith, long)
 
-renamed_opcode : (b : List ℕ) (n : ℕ) → 12 ≤ length b
-    → slice_index (take 4 b ++ little_bytes 2 n
-    ++ drop 6 b) 8 ≡ slice_index b 8
-renamed_opcode (a ∷ b ∷ c ∷ d ∷ e ∷ f ∷ g ∷ h ∷ i ∷ j ∷ k ∷ l ∷ rest) n long = refl
-renamed_opcode b n long = absurd (search (arith, long))
-
 pub handed_abort : (units : List Shape) (b : List ℕ) (n : ℕ) → 12 ≤ length b
     → (command_of (handed units b)).order ≡ orders.Abort n → AsksAbort n b
-handed_abort units b n long e = by (is_formality (slice_index b 8)) (asks_for_next b) refl e
+handed_abort units b n long e = handed_cases (λ x. (command_of x).order ≡ orders.Abort n → AsksAbort n b) units b
+    (λ formal h. absurd (no_abort b n long h))
+    (λ plain asks m h. absurd (search (
+      arith,
+      sym (third asks) ∙ sym (renamed_byte b m long) ∙ (abort_command (renamed b m) n h).opcode,
+    )))
+    (λ plain h. abort_command b n h) e
   where
     third : asks_for_next b ≡ true → slice_index b 8 ≡ 3
     third h = eqb-true (slice_index b 8) 3 (and_parts (nat_eq (slice_index b 8) 3) _ h).0
 
-    by : (x y : Bool) → asks_for_next b ≡ y → (command_of (cond x (stand_in b)
-        (cond y (take 4 b ++ little_bytes 2
-        (next_unit units (num b 4 2)) ++ drop 6 b) b))).order ≡ orders.Abort n
-        → AsksAbort n b
-    by true y is h = absurd (no_abort b n long h)
-    by false true is h = absurd (search (
-      arith,
-      sym (third is) ∙ sym (renamed_opcode b (next_unit units (num b 4 2)) long)
-          ∙ (abort_command _ n h).opcode,
-    ))
-    by false false is h = abort_command b n h
-
 -- it is one of its own number
 pub is_abort_of : (n : ℕ) (b : List ℕ) → AsksAbort n b → is_abort n (num b 0 4) b ≡ true
-is_abort_of n b a = ap (λ x. x && nat_eq (slice_index b 8) 1 && nat_le 16 (length b) && nat_eq (num b 12 4) n)
-    (eq-eqb (num b 0 4) (num b 0 4) refl)
-    ∙ ap (λ x. x && nat_le 16 (length b) && nat_eq (num b 12 4) n) (eq-eqb (slice_index b 8) 1 a.opcode)
-    ∙ ap (λ x. x && nat_eq (num b 12 4) n) a.long ∙ eq-eqb (num b 12 4) n a.about
+is_abort_of n b a = grind (arith, nat_eq, eq-eqb)

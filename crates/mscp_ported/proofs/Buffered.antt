@@ -1,5 +1,5 @@
 -- What is kept of each command that waits for a host is what its message said, and there is room for it.
-use Rattle.mscp_ported.proofs.Common.{Block, Bool, Buffer, Command, Connection, Drive, End, First, IsCodeFor, List, None, Option, Order, Record, Second, Some, [], advanced, ap, arith, buffer_in, cond, end_given, endcode, eq-eqb, eqb-true, false, false≢true, filter, find, has_number, inl, inr, is_formality, is_numbered, is_of, kept_after, length, name_on, nat_eq, nat_lt, none-some, not, num, option_map, record_at, reference_aborted, refl, refused_body, slice_index, subst, suc, sym, true, unaborted, waiting_after, waiting_on, without, without_aborted, without_kept, zero, ℕ, ◌++◌, ◌+◌, ◌<◌, ◌∙◌, ◌∷◌, ◌≡◌, ◌≤◌}
+use Rattle.mscp_ported.proofs.Common.{Block, Bool, Buffer, Connection, Drive, End, First, IsCodeFor, List, None, Option, Order, Record, Some, [], advanced, ap, arith, buffer_in, cond, end_given, endcode, eq-eqb, eqb-true, false, false≢true, filter, find, has_number, inl, inr, is_formality, is_numbered, is_of, kept_after, length, name_on, nat_eq, nat_lt, none-some, not, num, option_map, record_at, reference_aborted, refl, refused_body, slice_index, subst, suc, sym, true, unaborted, waiting_after, waiting_on, without, without_aborted, without_kept, zero, ℕ, ◌++◌, ◌+◌, ◌<◌, ◌∙◌, ◌∷◌, ◌≡◌, ◌≤◌}
 use Rattle.mscp_packet.specs.declared.command.Order.TheVariants as orders
 use Rattle.mscp_ported.proofs.Units.{IsUnitIn}
 use Rattle.mscp_ported.proofs.Codes.{about_in}
@@ -37,33 +37,19 @@ kept_as aw aw' rs rs' bs bs' n texts records buffers k = record {
 }
 
 fits_left : (r s : Record) (b : Buffer) (t : List ℕ) → IsLeft r s → FitsBuffer r b t → FitsBuffer s b t
-fits_left r s b t left f = record {
-  opcode = f.opcode;
-  unit = subst (λ (c : Command). IsUnitIn c.unit t) (sym left.command) f.unit;
-  code = λ plain. subst (λ (c : Command). IsCodeFor (endcode c.order) t) (sym left.command) (f.code plain);
-  no_about = λ other is.
-      f.no_about other (ap (λ (c : Command). about_in (refused_body (endcode c.order))) (sym left.command) ∙ is);
-  of = of_left r s t left f.of;
-}
+fits_left r s b t left f = grind (arith, about_in, of_left)
 
 -- where no command of the number waits, none is kept
 nothing_kept : (aw : List (List ℕ)) (rs : List Record) (bs : List Buffer) (n : ℕ) → filter (is_numbered n) rs ≡ []
     → filter (is_of First n) bs ≡ [] → IsKept aw rs bs n
-nothing_kept aw rs bs n none kept = record {
-  none = λ e. kept;
-  own = λ r t e f. absurd (some_none r [] (sym e ∙ none));
-}
+nothing_kept aw rs bs n none kept = grind (arith, some_none)
 
 -- ---- a step
 
 other_left : (n : ℕ) (via : Connection) (o : Option End) (bs : List Buffer)
     → ((e : End) → o ≡ Some e → via ≡ First → nat_eq e.reference n ≡ false)
     → filter (is_of First n) (kept_after via o bs) ≡ filter (is_of First n) bs
-other_left n via None bs other = refl
-other_left n First (Some e) bs other = sole_left (is_of First n) (λ b. not (is_of First e.reference b)) bs
-    (λ b is. other_number n e.reference (other e refl refl) b.reference is)
-other_left n Second (Some e) bs other =
-    sole_left (is_of First n) (λ b. not (is_of Second e.reference b)) bs (λ b is. refl)
+other_left n via o bs other = grind (arith, sole_left, other_number)
 
 module _ (k : Block) (d : Drive) (aw : List (List ℕ)) (rs : List Record) (es : List End) (bs : List Buffer)
     (place : ℕ) (inside : place < length rs) (at : AtEach aw rs es) (kept : IsKeptEach aw rs bs) where
@@ -135,11 +121,7 @@ module _ (k : Block) (d : Drive) (aw : List (List ℕ)) (rs : List Record) (es :
           ∙ none_of_it (is_of First n) bs)
 
   pub step_kept : IsKeptEach aw (waiting_after k d rs place) (kept_after r0.connection o bs)
-  step_kept n = by (is_numbered n r0) refl
-    where
-      by : (c : Bool) → is_numbered n r0 ≡ c → So n
-      by true is = it_served n is (at n)
-      by false is = other_served n is (at n)
+  step_kept n = grind (arith, is_numbered, it_served, other_served)
 
 -- ---- an abort
 
@@ -163,9 +145,7 @@ abort_kept aw rs es bs m at kept n = by (nat_eq m n) refl (find (is_numbered m) 
 
     kept_other : nat_eq m n ≡ false → (o : Option Record) → find (is_numbered m) rs ≡ o
         → filter (is_of First n) (kept_left o) ≡ filter (is_of First n) bs
-    kept_other d None e = refl
-    kept_other d (Some r) e = ap (λ k. filter (is_of First n) (without_kept First k bs)) (found_number r e)
-        ∙ sole_left (is_of First n) (λ b. not (is_of First m b)) bs (λ b is. other_number n m d b.reference is)
+    kept_other d o e = grind (arith, found_number, sole_left, other_number)
 
     by : (c : Bool) → nat_eq m n ≡ c → (o : Option Record) → find (is_numbered m) rs ≡ o → At aw rs es n
         → IsKept aw left (kept_left o) n
@@ -275,13 +255,7 @@ taken_kept aw rs bs m kept n = by (nat_eq m n) refl
 split_length : {X : Type 0} (f : X → Bool) (xs : List X)
     → length xs ≡ length (filter f xs) + length (filter (λ x. not (f x)) xs)
 split_length f [] = refl
-split_length f (x ∷ xs) = by (f x) (split_length f xs)
-  where
-    by : (c : Bool) → length xs ≡ length (filter f xs) + length (filter (λ x. not (f x)) xs)
-        → suc (length xs) ≡ length (cond c (x ∷ filter f xs) (filter f xs))
-        + length (cond (not c) (x ∷ filter (λ x. not (f x)) xs) (filter (λ x. not (f x)) xs))
-    by true e = search (arith, e)
-    by false e = search (arith, e)
+split_length f (x ∷ xs) = grind (arith, split_length f xs)
 
 -- as few of each number are as few in all
 few_each : (k : ℕ) (bs : List Buffer) (rs : List Record) → length bs ≤ k
@@ -311,13 +285,7 @@ few_each (suc k) (b ∷ bs) rs small each =
         ≤ length (filter (is_numbered j) (filter (λ r. not (is_numbered n r)) rs))) (eqb-true n m d)
         (subst (λ xs. length xs ≤ length (filter (is_numbered n) (filter (λ r. not (is_numbered n r)) rs)))
         (sym (none_of_it (is_of First n) (b ∷ bs))) (search arith))
-    others n m false d =
-        subst (λ xs. length xs ≤ length (filter (is_numbered m) (filter (λ r. not (is_numbered n r)) rs)))
-        (sym (sole_left (is_of First m) (λ x. not (is_of First n x)) (b ∷ bs)
-        (λ x is. other_number m n d x.reference is)))
-        (subst (λ xs. length (filter (is_of First m) (b ∷ bs)) ≤ length xs)
-        (sym (sole_left (is_numbered m) (λ r. not (is_numbered n r)) rs
-        (λ r is. apart_numbers m n r (λ same. false≢true (sym d ∙ eq-eqb n m (sym same))) is))) (each m))
+    others n m false d = grind (arith, is_numbered, sole_left, other_number, apart_numbers, false≢true, eq-eqb)
 
 pub few_kept : (aw : List (List ℕ)) (rs : List Record) (es : List End) (bs : List Buffer) → AtEach aw rs es
     → IsKeptEach aw rs bs → length bs ≤ length (waiting_on First rs)

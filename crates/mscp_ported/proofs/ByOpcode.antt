@@ -1,7 +1,7 @@
 -- Each end that goes out fits its message, over a whole list of calls.
 use Rattle.mscp_ported.proofs.Holding.{small_figure}
 use Rattle.mscp_ported.proofs.Stepping.{IsHow}
-use Rattle.mscp_ported.proofs.Common.{All, AllByRecursion, Answered, AnsweredCalls, Call, ControllersKeepThePromise, First, Hardware, Holdings, IsMadeOf, IsValid, KeepsPromise, List, Made, Name, Next, Ok, Outcome, Picking, Port, ReadsBytes, Record, Settings, Some, Verdict, WasRead, Went, WriteIp, [], ap, arith, awaited, ends_said_by, filter, find, fresh, has_name, has_number, is_of, length, num, numbers, numbers_ended, of, outstanding_of, refl, subst, sym, waiting_on, ℕ, ◌<◌, ◌∙◌, ◌∷◌, ◌≡◌}
+use Rattle.mscp_ported.proofs.Common.{All, Answered, AnsweredCalls, Call, ControllersKeepThePromise, First, Hardware, Holdings, IsMadeOf, IsValid, KeepsPromise, List, Made, Name, Next, Ok, Outcome, Picking, Port, ReadsBytes, Record, Settings, Some, Verdict, WasRead, Went, WriteIp, [], arith, awaited, ends_said_by, filter, find, fresh, has_name, has_number, num, outstanding_of, refl, ℕ, ◌<◌, ◌∷◌, ◌≡◌}
 use Rattle.mscp_ported.proofs.Awaiting.{IsNoReset, Kept}
 use Rattle.mscp_ported.proofs.Coming.{ends_of, few_ends}
 use Rattle.mscp_ported.proofs.Dealing.{passive_taken}
@@ -9,8 +9,6 @@ use Rattle.mscp_ported.proofs.Decided.{passive_said}
 use Rattle.mscp_ported.proofs.Ended.{kept, no_ends, nothing_two, shaped}
 use Rattle.mscp_ported.proofs.Ending.{zipped}
 use Rattle.mscp_ported.proofs.Fitted.{Fitting, nothing_fits, stays}
-use Rattle.mscp_ported.proofs.Fitting.{FitsIn}
-use Rattle.mscp_ported.proofs.Followed.{AreFollowed}
 use Rattle.mscp_ported.proofs.Heeding.{read_fits}
 use Rattle.mscp_ported.proofs.Numbered.{some_none}
 use Rattle.mscp_ported.proofs.Opcodes.{IsSaid, next_fits, said_is, went_fits}
@@ -55,32 +53,14 @@ module _ {K : Type 0} (picks : Picking K) (c : Settings) (picker : K)
 
   pub fitting : (p : Port K) (calls : List Call) → ReadsBytes calls → Fine calls → (a : Answered picks start calls p)
       → Fitting c Told p (awaited picks start p calls a)
-  fitting p [] reads fine a =
-      let same : p.controller ≡ controller = ap (λ (q : Port K). q.controller) a ∙ made.over in
-      let k = numbers_kept p [] reads a in
-      let no_end : ends_of p.controller ≡ [] = ap (λ h. ends_of h) same ∙ no_ends (of First controller.untaken)
-      (nothing_two (numbers (waiting_on First controller.waiting)) (numbers_ended (of First controller.untaken))
-      quiet).1 in
-      let nothing : p.decided.items ≡ [] = ap (λ (q : Port K). q.decided.items) a ∙ made.decided in
-      let no_buffer : p.buffers.items ≡ [] = ap (λ (q : Port K). q.buffers.items) a ∙ made.buffers in
-      record {
-        long = ap length no_end ∙ sym (ap length nothing);
-        kept = λ n. record {
-          none = λ e. ap (filter (is_of First n)) no_buffer;
-          own = λ r t e f. absurd (some_none t [] (sym f));
-        };
-        fits = subst (λ es. AllByRecursion (FitsIn c Told []) (zipped es p.decided.items)) (sym no_end) tt;
-        followed = subst (λ es. AreFollowed Told [] es) (sym no_end) tt;
-      }
+  fitting p [] reads fine a = grind (arith, numbers_kept, ends_of, no_ends, nothing_two, kept, some_none, zipped)
   fitting p (call ∷ calls) reads fine a = by call a reads fine
       (fitting a.0 calls (reads_before call calls reads) (fine_before call calls fine) a.1)
     where
       by : (call : Call) (a : Answered picks start (call ∷ calls) p) → ReadsBytes (call ∷ calls) → Fine (call ∷ calls)
           → Fitting c Told a.0 (awaited picks start a.0 calls a.1)
           → Fitting c Told p (awaited picks start p (call ∷ calls) a)
-      by WriteIp a reads fine f =
-          nothing_fits p [] (ap (λ (h : Holdings K). h.waiting) a.2.controller) (ap (λ h. ends_of h) a.2.controller)
-          a.2.decided a.2.buffers
+      by WriteIp a reads fine f = grind (arith, nothing_fits, ends_of)
       by (Next blocks action bytes) a reads fine f =
           next_fits blocks action bytes a.0 p (awaited picks start a.0 calls a.1) (numbers_kept a.0 calls reads a.1) f
           (picks a.0.controller.picker) a.2.0

@@ -1,6 +1,6 @@
 -- How often the volume of a unit changed, and what is kept of a command of which it is known how often since.
-use Rattle.mscp_ported.proofs.Common.{Answered, Becomes, Bool, Buffer, Call, Choice, Connection, End, Err, GoesOnWithBlock, Hardware, Holdings, IsForgotten, IsMadeOf, IsNews, IsOfItsVolume, IsSaidBy, Keeps, List, LookAgain, More, Next, None, Ok, Option, Outgoing, Picking, Port, Protect, PutAside, Says, Shape, Some, Tick, Volume, VolumeCame, VolumeWent, WasRead, Went, WriteIp, [], ap, arith, cases_eq, cases_lt, changed, changed_by, changes_at, cond, end_brought, eq-eqb, eqb-true, false, false≢true, get_or-set_other, get_or-set_same, get_or_past, inl, inr, keeps_after, keeps_none, length, length-set, looks_or_not, mod-add-mod, nat_eq, news_place, no_volume, none-some, one_block, place_in, position-Some, refl, same_Some, set, settings_stay, subst, sym, taken_or_not, true, volume_at, volume_changed, volume_heeded, volume_protected, volume_put, volumes_after, volumes_heeded, volumes_with, weaker_for, ℕ, ◌%◌, ◌+◌, ◌<◌, ◌==◌, ◌∙◌, ◌∷◌, ◌≡◌, ◌≢◌, ◌≤◌, ◌⊎◌}
-use Rattle.mscp_port.specs.declared.stage.Stage.TheVariants as stages
+use Rattle.mscp_ported.proofs.Common.{Answered, Becomes, Buffer, Call, Connection, End, Hardware, Holdings, IsForgotten, IsMadeOf, IsOfItsVolume, IsSaidBy, Keeps, List, More, None, Option, Picking, Port, Shape, Some, Volume, WasRead, [], ap, arith, changed, changed_by, cond, eq-eqb, eqb-true, false, false≢true, get_or_past, inl, inr, keeps_after, keeps_none, length, length-set, mod-add-mod, nat_eq, none-some, one_block, place_in, position-Some, refl, same_Some, set, settings_stay, subst, sym, true, volume_at, volume_heeded, volumes_after, volumes_heeded, volumes_with, weaker_for, ℕ, ◌%◌, ◌+◌, ◌<◌, ◌==◌, ◌∙◌, ◌∷◌, ◌≡◌, ◌≢◌, ◌≤◌, ◌⊎◌}
+use Rattle.mscp_ported.proofs.Volumes.{Forgets, Heeds, Remounted, Rests, Switches, Tunes, remounted, set_at}
 
 -- ---- units
 
@@ -11,6 +11,11 @@ same_unit units place unit to e f =
     let a = position-Some (λ (u : Shape). nat_eq u.number unit) units place one_block e in
     let b = position-Some (λ (u : Shape). nat_eq u.number to) units place one_block f in
     sym (eqb-true _ to b.1) ∙ eqb-true _ unit a.1
+
+-- and one at another place is another
+pub other_unit : (units : List Shape) (unit to place : ℕ) → place_in units unit ≡ Some place
+    → (place_in units to ≡ Some place → ⊥) → (to == unit) ≡ false
+other_unit units unit to place here other = grind (arith, eqb-true)
 
 -- ---- how often a volume changed
 
@@ -35,139 +40,60 @@ the_same n place vs ws none e =
 set_one : (n place q : ℕ) (vs : List Volume) (x : Volume)
     → (place ≡ q → After n (volume_at vs place).changes x.changes) → (place ≢ q → n ≡ 0)
     → Counts n place vs (set vs q x)
-set_one n place q vs x here elsewhere = (
-  length-set vs q x,
-  elim (cases_eq place q) [
-    | inl same ↦ elim (cases_lt place (length vs)) [
-      | inl within ↦ inr (subst (λ (v : Volume). After n (volume_at vs place).changes v.changes)
-          (sym (ap (λ i. volume_at (set vs i x) place) (sym same) ∙ get_or-set_same vs place x no_volume within))
-          (here same))
-      | inr past ↦ inl past
-    ]
-    | inr other ↦ inr (inl (
-      elsewhere other,
-      ap (λ (v : Volume). v.changes) (get_or-set_other vs q place x no_volume other),
-    ))
-  ],
-)
+set_one n place q vs x here elsewhere = grind (arith, length-set, set_at)
 
 -- and stays as it was but for other things
-set_alike : (place q : ℕ) (vs : List Volume) (x : Volume) → x.changes ≡ (volume_at vs q).changes
-    → Counts 0 place vs (set vs q x)
-set_alike place q vs x same = set_one 0 place q vs x
-    (λ e. inl (refl, same ∙ ap (λ i. (volume_at vs i).changes) (sym e))) (λ other. refl)
+set_alike : (n place q : ℕ) (vs : List Volume) (x : Volume) → n ≡ 0 → x.changes ≡ (volume_at vs q).changes
+    → Counts n place vs (set vs q x)
+set_alike n place q vs x none same = set_one n place q vs x
+    (λ e. inl (none, same ∙ ap (λ i. (volume_at vs i).changes) (sym e))) (λ other. none)
 
 heeded_same : (code : ℕ) (kept : Option Buffer) (v : Volume) → (volume_heeded code kept v).changes ≡ v.changes
 heeded_same code kept v = grind arith
 
-after_end : (place : ℕ) (units : List Shape) (bs : List Buffer) (via : Connection) (ended : Option End)
-    (vs : List Volume) → Counts 0 place vs (volumes_after units bs via ended vs)
-after_end place units bs via None vs = the_same 0 place vs vs refl refl
-after_end place units bs via (Some e) vs = by e.code _ _
+after_end : (n place : ℕ) (units : List Shape) (bs : List Buffer) (via : Connection) (ended : Option End)
+    (vs : List Volume) → n ≡ 0 → Counts n place vs (volumes_after units bs via ended vs)
+after_end n place units bs via None vs none = the_same n place vs vs none refl
+after_end n place units bs via (Some e) vs none = by e.code _ _
   where
-    by : (code : ℕ) (kept : Option Buffer) (o : Option ℕ) → Counts 0 place vs (volumes_heeded code kept o vs)
-    by code kept None = the_same 0 place vs vs refl refl
-    by code kept (Some q) = set_alike place q vs (volume_heeded code kept (volume_at vs q)) (heeded_same code kept _)
-
-with_block : {K : Type 0} (picks : List Choice → ℕ → Type 0) (place : ℕ) (old new : Port K)
-    → GoesOnWithBlock picks old new → Counts 0 place old.volumes new.volumes
-with_block picks place old new goes = elim (taken_or_not picks old new goes) [
-  | inl e ↦ the_same 0 place old.volumes new.volumes refl (ap (λ p. p.volumes) e)
-  | inr t ↦ subst (λ p. Counts 0 place old.volumes p.volumes) (sym t.2.finished.2.frame)
-      (after_end place old.controller.settings.units old.buffers.items t.0.connection (end_brought t.2.finished.0)
-      old.volumes)
-]
-
-with_news : (place : ℕ) (units : List Shape) (vs ws : List Volume) (o : Option ℕ) (out : Option Outgoing)
-    → IsNews units vs o out ws → Counts 0 place vs ws
-with_news place units vs ws None out h = the_same 0 place vs ws refl h.1
-with_news place units vs ws (Some q) out h =
-    subst (λ xs. Counts 0 place vs xs) (sym h.1)
-    (set_alike place q vs (record (volume_at vs q) { is_news = false }) refl)
-
-said : {K : Type 0} (place : ℕ) (old new : Port K) → Says old new → Counts 0 place old.volumes new.volumes
-said place old new says = elim (looks_or_not old) [
-  | inl looks ↦ elim (says.looks looks) [
-    | inl t ↦ the_same 0 place old.volumes new.volumes refl t.volumes
-    | inr n ↦ with_news place old.controller.settings.units old.volumes new.volumes (news_place old) new.outgoing n.out
-  ]
-  | inr never ↦ the_same 0 place old.volumes new.volumes refl (says.keeps never).volumes
-]
+    by : (code : ℕ) (kept : Option Buffer) (o : Option ℕ) → Counts n place vs (volumes_heeded code kept o vs)
+    by code kept None = the_same n place vs vs none refl
+    by code kept (Some q) = set_alike n place q vs _ none (heeded_same code kept (volume_at vs q))
 
 -- another volume comes into a unit, or none
 other_volume : (becomes : Volume → Volume) (units : List Shape) (unit to place : ℕ) (o : Option ℕ) (vs : List Volume)
     → ((v : Volume) → (becomes v).changes ≡ (v.changes + 1) % 0x1_0000_0000) → place_in units unit ≡ Some place
     → place_in units to ≡ o → Counts (cond (to == unit) 1 0) place vs (volumes_with becomes o vs)
-other_volume becomes units unit to place None vs one here none =
-    the_same _ place vs vs (ap (λ b. cond b 1 0) (by (to == unit) refl)) refl
-  where
-    by : (b : Bool) → (to == unit) ≡ b → b ≡ false
-    by false e = refl
-    by true e =
-        absurd (none-some place (sym none ∙ ap (place_in units) (eqb-true to unit e) ∙ here))
+other_volume becomes units unit to place None vs one here none = grind (arith, the_same, other_unit, none-some)
 other_volume becomes units unit to place (Some q) vs one here there =
     set_one _ place q vs (becomes (volume_at vs q))
     (λ same. inr (
       ap (λ b. cond b 1 0) (eq-eqb to unit (same_unit units place unit to here (there ∙ ap Some (sym same)))),
       one (volume_at vs q) ∙ ap (λ i. ((volume_at vs i).changes + 1) % 0x1_0000_0000) (sym same),
     ))
-    (λ other. ap (λ b. cond b 1 0) (by (to == unit) refl other))
-  where
-    by : (b : Bool) → (to == unit) ≡ b → place ≢ q → b ≡ false
-    by false e other = refl
-    by true e other =
-        absurd (other (same_Some place q (sym here ∙ ap (place_in units) (sym (eqb-true to unit e)) ∙ there)))
-
-guards : (protected : Bool) (place : ℕ) (o : Option ℕ) (vs : List Volume)
-    → Counts 0 place vs (volumes_with (volume_protected protected) o vs)
-guards protected place None vs = the_same 0 place vs vs refl refl
-guards protected place (Some q) vs = set_alike place q vs (volume_protected protected (volume_at vs q)) refl
+    (λ other. ap (λ b. cond b 1 0) (other_unit units unit to place here (λ e. other (same_Some place q
+    (sym e ∙ there)))))
 
 -- ---- calls
 
 -- all is forgotten, or the volumes go on
 pub goes_on : {K : Type 0} (picks : Picking K) (call : Call) (old new : Port K) → Becomes picks call old new
     → IsForgotten old new ⊎ VolumesGoOn call old new
-goes_on picks WriteIp old new r = inl (stages.First, r)
-goes_on picks (Next blocks action bytes) old new r = inr (λ unit place here. said place old new r.0.says)
-goes_on picks PutAside old new r =
-    inr (λ unit place here. the_same 0 place old.volumes new.volumes refl (ap (λ p. p.volumes) r))
-goes_on picks (Went outcome result) old new r = elim r.commands [
-  | inl e ↦ inr (λ unit place here. the_same 0 place old.volumes new.volumes refl e.volumes)
-  | inr more ↦ elim more [
-    | inl block ↦ inr (λ unit place here. with_block _ place old new block.1)
-    | inr dead ↦ inl (stages.Dead dead.0, dead.1)
-  ]
-]
-goes_on picks LookAgain old new r =
-    inr (λ unit place here. the_same 0 place old.volumes new.volumes refl (ap (λ p. p.volumes) r))
-goes_on picks Tick old new r = elim r.either [
-  | inl e ↦ inr (λ unit place here. the_same 0 place old.volumes new.volumes refl (ap (λ p. p.volumes) e))
-  | inr dead ↦ inl (stages.Dead 9, dead)
-]
-goes_on picks (VolumeCame m to (Ok done)) old new r = inr (λ unit place here.
-    subst (λ ws. Counts (changed_by unit (VolumeCame m to (Ok done))) place old.volumes ws)
-    (sym (ap (λ p. p.volumes) (r.came refl)))
-    (other_volume (volume_put m) old.controller.settings.units unit to place
-    (place_in old.controller.settings.units to) old.volumes (λ v. refl) here refl))
-goes_on picks (VolumeCame m to (Err fault)) old new r =
-    inr (λ unit place here. the_same 0 place old.volumes new.volumes refl (ap (λ p. p.volumes) r.refused))
-goes_on picks (VolumeWent to (Ok done)) old new r = inr (λ unit place here.
-    subst (λ ws. Counts (changed_by unit (VolumeWent to (Ok done))) place old.volumes ws)
-    (sym (ap (λ p. p.volumes) r.frame))
-    (other_volume (volume_changed false) old.controller.settings.units unit to place
-    (place_in old.controller.settings.units to) old.volumes (λ v. refl) here refl))
-goes_on picks (VolumeWent to (Err fault)) old new r = inr (λ unit place here.
-    the_same 0 place old.volumes new.volumes refl (ap (λ p. p.volumes) r.frame
-    ∙ ap (λ o. volumes_with (volume_changed false) o old.volumes) (r.no_unit.0 refl)))
-goes_on picks (Protect protected to result) old new r = inr (λ unit place here.
-    subst (λ ws. Counts 0 place old.volumes ws) (sym (ap (λ p. p.volumes) r.frame))
-    (guards protected place (place_in old.controller.settings.units to) old.volumes))
-goes_on picks call old new r = elim r.frame [
-  | inl e ↦ inr (λ unit place here. the_same 0 place old.volumes new.volumes
-      refl (ap (λ p. p.volumes) e))
-  | inr dead ↦ inl (stages.Dead dead.0, dead.1)
-]
+goes_on picks call old new r = by (remounted picks call old new r)
+  where
+    by : Remounted call old new → IsForgotten old new ⊎ VolumesGoOn call old new
+    by (Forgets f) = inl f
+    by (Rests calm e) =
+        inr (λ unit place here. the_same (changed_by unit call) place old.volumes new.volumes (calm.changes unit) e)
+    by (Tunes calm q x t e) = inr (λ unit place here.
+        subst (λ ws. Counts (changed_by unit call) place old.volumes ws) (sym e)
+        (set_alike (changed_by unit call) place q old.volumes x (calm.changes unit) t.changes))
+    by (Switches becomes s to changes none e) = inr (λ unit place here.
+        subst (λ ws. Counts (changed_by unit call) place old.volumes ws) (sym e)
+        (subst (λ n. Counts n place old.volumes
+        (volumes_with becomes (place_in old.controller.settings.units to) old.volumes)) (sym (changes unit))
+        (other_volume becomes old.controller.settings.units unit to place _ old.volumes s.changes here refl)))
+    by (Heeds via ended none from to e) = grind (arith, after_end)
 
 -- ---- what is kept of a command
 
@@ -190,25 +116,15 @@ module _ {K : Type 0} (picks : Picking K) (start : Port K) where
       (m : ℕ) → m ≡ 0 → Ago number unit p calls a b m → IsOfItsVolume picks number unit start p calls a b
   none_ago number unit p [] a b m none h = absurd h
   none_ago number unit p (call ∷ earlier) a b m none (inl h) = inl h.0
-  none_ago number unit p (call ∷ earlier) a b m none (inr h) = inr (
-    search (arith, none, h.1),
-    none_ago number unit a.0 earlier a.1 b h.0 (search (arith, none, h.1)) h.2,
-  )
+  none_ago number unit p (call ∷ earlier) a b m none (inr h) =
+      grind (arith, none_ago number unit a.0 earlier a.1 b h.0 (search (arith, none, h.1)) h.2)
 
   -- it has changed so often since this was kept
   abbrev pub IsApart : ℕ → ℕ → ℕ → Type 0
   IsApart kept m now = ((m ≡ 0) × (now ≡ kept)) ⊎ (now ≡ (kept + m) % 0x1_0000_0000)
 
   apart_more : (kept m now n later : ℕ) → IsApart kept m now → After n now later → IsApart kept (n + m) later
-  apart_more kept m now n later (inl h) (inl x) = inl (search (arith, h.0, x.0), x.1 ∙ h.1)
-  apart_more kept m now n later (inr h) (inl x) = inr (x.1 ∙ h
-      ∙ ap (λ i. (kept + i) % 0x1_0000_0000) (search (arith, x.0)))
-  apart_more kept m now n later (inl h) (inr x) = inr (x.1
-      ∙ ap (λ i. (i + 1) % 0x1_0000_0000) h.1
-      ∙ ap (λ i. (kept + i) % 0x1_0000_0000) (search (arith, h.0, x.0)))
-  apart_more kept m now n later (inr h) (inr x) = inr (x.1
-      ∙ ap (λ i. (i + 1) % 0x1_0000_0000) h ∙ mod-add-mod (kept + m) 0x1_0000_0000 1
-      ∙ ap (λ i. i % 0x1_0000_0000) (search (arith, x.0)))
+  apart_more kept m now n later h k = grind (arith, mod-add-mod)
 
   abbrev pub SaidAgo : (p : Port K) → (calls : List Call) → Answered picks start calls p → ℕ → Buffer → Type 0
   SaidAgo p calls a unit b = (m : ℕ) × Ago b.reference unit p calls a b m
@@ -219,25 +135,7 @@ module _ {K : Type 0} (picks : Picking K) (start : Port K) where
   said_now : (call : Call) (p : Port K) (calls : List Call) (a : Answered picks start (call ∷ calls) p) (unit : ℕ)
       (b : Buffer) → VolumesGoOn call a.0 p → p.controller.settings ≡ a.0.controller.settings
       → IsSaidBy b.reference unit call a.0 b → SaidAgo p (call ∷ calls) a unit b
-  said_now (WasRead bytes result) p calls a unit b goes same said = (
-    0,
-    inl (said, refl),
-    λ place here.
-        let there : place_in a.0.controller.settings.units unit ≡ Some place =
-        ap (λ s. place_in s.units unit) (sym same) ∙ here in
-        let on = goes unit place there in
-        elim on.1 [
-          | inl past ↦ inl (subst (λ n. n ≤ place) (sym on.0) past)
-          | inr after ↦ elim after [
-            | inl still ↦ inr (inl (
-              refl,
-              still.1 ∙ sym (ap (λ (x : Buffer). x.changes) said.kept
-                  ∙ ap (changes_at a.0.volumes) there),
-            ))
-            | inr more ↦ search (arith, more.0)
-          ]
-        ],
-  )
+  said_now (WasRead bytes result) p calls a unit b goes same said = grind arith
   said_now call p calls a unit b goes same said = absurd said
 
   said_before : (call : Call) (p : Port K) (calls : List Call) (a : Answered picks start (call ∷ calls) p) (unit : ℕ)
@@ -288,11 +186,5 @@ module _ {K : Type 0} (picks : Picking K) (start : Port K) where
       → SaidAgo p calls a unit b → place_in p.controller.settings.units unit ≡ Some place
       → (volume_at p.volumes place).is_there ≡ true → b.changes ≡ (volume_at p.volumes place).changes
       → changed unit calls < 0x1_0000_0000 → IsOfItsVolume picks b.reference unit start p calls a b
-  of_its_volume p calls a unit place b said here there same few = elim (said.2 place here) [
-    | inl past ↦ absurd (false≢true (sym (ap (λ (v : Volume). v.is_there)
-        (get_or_past p.volumes place no_volume past)) ∙ there))
-    | inr apart ↦
-        let low = few_ago b.reference unit p calls a b said.0 said.1 in
-        none_ago b.reference unit p calls a b said.0
-        (wraps b.changes said.0 (volume_at p.volumes place).changes apart same (search (arith, low, few))) said.1
-  ]
+  of_its_volume p calls a unit place b said here there same few =
+      grind (arith, false≢true, get_or_past, few_ago, none_ago, wraps)

@@ -1,16 +1,14 @@
 -- The endcode of a command is that of its message's opcode, and a poll is about the command that its message names.
-use Rattle.mscp_ported.proofs.Common.{Bool, Command, End, EndBody, IsCodeFor, List, MoveKind, None, Opcode, Option, Order, Settings, Shape, Some, [], ap, arith, asks_for_next, bit_or, command_of, cond, drop, endcode, eqb-true, false, fault_of, found_is, handed, inl, inr, is_formality, is_queued, least, length, little_bytes, move_fault, nat_eq, nat_lt, next_unit, num, opcode_of, opcodes, order_with, own_end_with, parameters, refl, refused_body, row_of, slice_index, stand_in, subst, sym, take, true, unit_fault, unit_found, version_fault, ℕ, ◌++◌, ◌+◌, ◌<◌, ◌∙◌, ◌∷◌, ◌≡◌, ◌≤◌, ◌⊎◌}
+use Rattle.mscp_ported.proofs.Common.{Bool, Command, End, EndBody, IsCodeFor, List, None, Opcode, Option, Order, Settings, Shape, Some, arith, bit_or, command_of, cond, endcode, eqb-true, false, fault_of, found_is, handed, inl, is_formality, is_queued, least, length, nat_eq, nat_lt, num, opcode_of, opcodes, order_with, own_end_with, parameters, refl, refused_body, row_of, slice_index, stand_in, subst, sym, true, ℕ, ◌+◌, ◌<◌, ◌∙◌, ◌≡◌, ◌≤◌, ◌⊎◌, false≢true}
 use Rattle.mscp_packet.specs.declared.class.Opcode.TheVariants as codes
-use Rattle.mscp_packet.specs.declared.command.MoveKind.TheVariants as kinds
 use Rattle.mscp_packet.specs.declared.command.Order.TheVariants as orders
 use Rattle.mscp_packet.specs.declared.end.EndBody.TheVariants as bodies
+use Rattle.mscp_ported.proofs.Handed.{handed_cases, renamed, renamed_about, renamed_byte, renamed_long}
 
 -- ---- codes
 
 row_coded : (o : Opcode) → bit_or (row_of o).byte 0x80 ≡ (row_of o).byte + 0x80
-row_coded codes.Abort = refl
-row_coded (codes.Move kinds.Access) = refl
-row_coded code = refl
+row_coded o = grind arith
 
 parameters_coded : (o : Opcode) (b : List ℕ) → endcode (parameters o b) ≡ bit_or (row_of o).byte 0x80
 parameters_coded codes.Abort b = refl
@@ -19,49 +17,19 @@ parameters_coded code b = refl
 order_coded : (o : Option Opcode) (b : List ℕ) → opcode_of (slice_index b 8) ≡ o
     → IsCodeFor (endcode (order_with o b)) b
 order_coded None b e = inl (refl, e)
-order_coded (Some o) b e = by (nat_lt (length b) (least o))
-  where
-    at : (row_of o).byte ≡ slice_index b 8
-    at = eqb-true (row_of o).byte (slice_index b 8)
-        (found_is (λ x. nat_eq (row_of x).byte (slice_index b 8)) opcodes o e)
-
-    by : (c : Bool) → IsCodeFor (endcode (cond c (orders.Invalid (slice_index b 8)
-        Rattle.mscp_packet.specs.Statuses.invalid_length) (parameters o b))) b
-    by true = inr (subst (λ x. bit_or x 0x80 ≡ x + 0x80) at (row_coded o))
-    by false = inr (parameters_coded o b ∙ row_coded o ∙ ap (λ x. x + 0x80) at)
+order_coded (Some o) b e = grind (arith, nat_lt, eqb-true, found_is, nat_eq, row_coded, parameters_coded)
 
 command_coded : (b : List ℕ) → IsCodeFor (endcode (command_of b).order) b
 unfolding command_of
 command_coded b = order_coded (opcode_of (slice_index b 8)) b refl
 
--- where another unit is named
-named_byte : (b : List ℕ) (n : ℕ) → 12 ≤ length b
-    → slice_index (take 4 b ++ little_bytes 2 n ++ drop 6 b) 8 ≡ slice_index b 8
-named_byte (a ∷ b ∷ c ∷ d ∷ e ∷ f ∷ g ∷ h ∷ i ∷ j ∷ k ∷ l ∷ rest) n long = refl
-named_byte b n long = absurd (search (arith, long))
-
-named_about : (b : List ℕ) (n : ℕ) → 12 ≤ length b
-    → num (take 4 b ++ little_bytes 2 n ++ drop 6 b) 12 4 ≡ num b 12 4
-named_about (a ∷ b ∷ c ∷ d ∷ e ∷ f ∷ g ∷ h ∷ i ∷ j ∷ k ∷ l ∷ rest) n long = refl
-named_about b n long = absurd (search (arith, long))
-
 pub handed_coded : (units : List Shape) (b : List ℕ) → 12 ≤ length b → is_formality (slice_index b 8) ≡ false
     → IsCodeFor (endcode (command_of (handed units b)).order) b
-handed_coded units b long plain =
-    subst (λ c. IsCodeFor (endcode (command_of (cond c (stand_in b) (cond (asks_for_next b)
-    (take 4 b ++ little_bytes 2 (next_unit units (num b 4 2)) ++ drop 6 b) b))).order) b) (sym plain)
-    (by (asks_for_next b))
-  where
-    by : (c : Bool) → IsCodeFor (endcode (command_of (cond c
-        (take 4 b ++ little_bytes 2 (next_unit units (num b 4 2)) ++ drop 6 b) b)).order) b
-    by true = subst (λ x. ((endcode (command_of (take 4 b ++ little_bytes 2 (next_unit units (num b 4 2))
-        ++ drop 6 b)).order ≡ 0x80) × (opcode_of x ≡ None))
-        ⊎ (endcode (command_of (take 4 b ++ little_bytes 2 (next_unit units (num b 4 2)) ++ drop 6 b)).order
-        ≡ x + 0x80)) (named_byte b (next_unit units (num b 4 2)) long)
-        (command_coded (take 4 b ++ little_bytes 2 (next_unit units (num b 4 2)) ++ drop 6 b))
-    by false = command_coded b
-
--- ---- polls
+handed_coded units b long plain = handed_cases (λ x. IsCodeFor (endcode (command_of x).order) b) units b
+    (λ formal. absurd (false≢true (sym plain ∙ formal)))
+    (λ other asks n. subst (λ x. ((endcode (command_of (renamed b n)).order ≡ 0x80) × (opcode_of x ≡ None))
+    ⊎ (endcode (command_of (renamed b n)).order ≡ x + 0x80)) (renamed_byte b n long) (command_coded (renamed b n)))
+    (λ other. command_coded b)
 
 -- ---- an end that is answered at once
 
@@ -88,14 +56,7 @@ short_about o b byte at small long short = search (arith, small, long, short)
 
 other_about : (o : Opcode) (b : List ℕ) (byte : ℕ) → (row_of o).byte ≡ byte → 16 < least o → (other : ℕ)
     → about_in (refused_body (bit_or byte 0x80)) ≡ Some other → ⊥
-other_about (codes.Move kind) b byte at more other is = moved kind other
-    (ap (λ x. about_in (refused_body (bit_or x 0x80))) at ∙ is)
-  where
-    moved : (kind : MoveKind) (other : ℕ)
-        → about_in (refused_body (bit_or (row_of (codes.Move kind)).byte 0x80)) ≡ Some other → ⊥
-    moved kinds.Access other is = search (arith, is)
-    moved kind other is = search (arith, is)
-other_about code b byte at more other is = search (arith, more)
+other_about o b byte at more other is = grind arith
 
 abbrev own_of : Settings → Bool → ℕ → Command → End
 own_of c online figure command = own_end_with c online figure command (fault_of c command)
@@ -108,55 +69,23 @@ Untold c online figure command = (o : Option ℕ) (other : ℕ)
 abbrev commanded : ℕ → ℕ → Order → Command
 commanded unit reference order = record { reference = reference; unit = unit; order = order }
 
-controller_untold : (c : Settings) (online : Bool) (figure unit reference version : ℕ)
-    → Untold c online figure (commanded unit reference (orders.SetController version))
-controller_untold c online figure unit reference version None other h = search (arith, h)
-controller_untold c online figure unit reference version (Some u) other h = search (arith, h)
+-- so are the ends of all orders but an ABORT, a poll, and those of unknown opcodes
+abbrev IsTold : Order → Type 0
+IsTold (orders.SetController version) = Unit {0}
+IsTold orders.Available = Unit {0}
+IsTold orders.Online = Unit {0}
+IsTold orders.SetUnit = Unit {0}
+IsTold orders.UnitStatus = Unit {0}
+IsTold (orders.Move kind count block) = Unit {0}
+IsTold order = ⊥
 
-available_untold : (c : Settings) (online : Bool) (figure unit reference : ℕ)
-    → Untold c online figure (commanded unit reference orders.Available)
-available_untold c online figure unit reference None other h = search (arith, h)
-available_untold c online figure unit reference (Some u) other h = search (arith, h)
-
-online_untold : (c : Settings) (online : Bool) (figure unit reference : ℕ)
-    → Untold c online figure (commanded unit reference orders.Online)
-online_untold c online figure unit reference None other h = search (arith, h)
-online_untold c online figure unit reference (Some u) other h = search (arith, h)
-
-unit_untold : (c : Settings) (online : Bool) (figure unit reference : ℕ)
-    → Untold c online figure (commanded unit reference orders.SetUnit)
-unit_untold c online figure unit reference None other h = search (arith, h)
-unit_untold c online figure unit reference (Some u) other h = search (arith, h)
-
-move_untold : (c : Settings) (online : Bool) (figure unit reference count block : ℕ) (kind : MoveKind)
-    → Untold c online figure (commanded unit reference (orders.Move kind count block))
-move_untold c online figure unit reference count block kinds.Access None other h = search (arith, h)
-move_untold c online figure unit reference count block kind x other h = search (arith, h)
+order_untold : (c : Settings) (online : Bool) (figure unit reference : ℕ) (order : Order) → IsTold order
+    → Untold c online figure (commanded unit reference order)
+order_untold c online figure unit reference order told k other h = grind arith
 
 parameters_about : (c : Settings) (online : Bool) (figure unit reference : ℕ) (b : List ℕ) (o : Opcode)
     → IsAbout b (own_of c online figure (commanded unit reference (parameters o b)))
-parameters_about c online figure unit reference b codes.Status other is =
-    (search (arith, is), refl, inr refl)
-parameters_about c online figure unit reference b codes.Abort other is =
-    (search (arith, is), refl, inl refl)
-parameters_about c online figure unit reference b codes.UnitStatus other is = absurd (by
-    (unit_found c.units unit) is)
-  where
-    by : (o : Option Shape) → about_in (own_end_with c online figure (commanded unit reference orders.UnitStatus)
-        (unit_fault o)).body ≡ Some other → ⊥
-    by None h = search (arith, h)
-    by (Some u) h = search (arith, h)
-parameters_about c online figure unit reference b codes.SetController other is = absurd
-    (controller_untold c online figure unit reference (num b 12 2) (version_fault (num b 12 2)) other is)
-parameters_about c online figure unit reference b codes.Available other is = absurd
-    (available_untold c online figure unit reference (unit_fault (unit_found c.units unit)) other is)
-parameters_about c online figure unit reference b codes.Online other is = absurd
-    (online_untold c online figure unit reference (unit_fault (unit_found c.units unit)) other is)
-parameters_about c online figure unit reference b codes.SetUnit other is = absurd
-    (unit_untold c online figure unit reference (unit_fault (unit_found c.units unit)) other is)
-parameters_about c online figure unit reference b (codes.Move kind) other is = absurd
-    (move_untold c online figure unit reference (num b 12 4) (num b 28 4) kind
-    (move_fault c (num b 12 4) (num b 28 4) (unit_found c.units unit)) other is)
+parameters_about c online figure unit reference b o other is = grind (arith, order_untold)
 
 answered_with : (c : Settings) (online : Bool) (figure unit reference : ℕ) (b : List ℕ) (o : Option Opcode)
     → opcode_of (slice_index b 8) ≡ o → 16 ≤ length b
@@ -170,13 +99,7 @@ answered_with c online figure unit reference b (Some o) e long = by (nat_lt (len
 
     refused : nat_lt (length b) (least o) ≡ true → (n other : ℕ) → least o ≡ n
         → about_in (refused_body (bit_or (slice_index b 8) 0x80)) ≡ Some other → ⊥
-    refused short n other same h = elim (low n) [
-      | inl few ↦ short_about o b (slice_index b 8) at (subst (λ m. m ≤ 16) (sym same) few) long short
-      | inr more ↦ other_about o b (slice_index b 8) at (subst (λ m. 16 < m) (sym same) more) other h
-    ]
-      where
-        low : (n : ℕ) → (n ≤ 16) ⊎ (16 < n)
-        low n = search arith
+    refused short n other same h = grind (arith, short_about, at, other_about)
 
     by : (x : Bool) → nat_lt (length b) (least o) ≡ x
         → IsAbout b (own_of c online figure (record {
@@ -194,35 +117,20 @@ unfolding command_of
 answered_command c online figure b long =
     answered_with c online figure (num b 4 2) (num b 0 4) b (opcode_of (slice_index b 8)) refl long
 
--- where another unit is named
-named_long : (b : List ℕ) (n : ℕ) → 16 ≤ length b → 16 ≤ length (take 4 b ++ little_bytes 2 n ++ drop 6 b)
-named_long (a ∷ b ∷ c ∷ d ∷ e ∷ f ∷ g ∷ h ∷ i ∷ j ∷ k ∷ l ∷ rest) n long = long
-named_long b n long = search (arith, long)
-
 stood_about : (c : Settings) (online : Bool) (figure : ℕ) (b : List ℕ) → 16 ≤ length b
     → (other : ℕ) → about_in (own_of c online figure (command_of (stand_in b))).body ≡ Some other → ⊥
 unfolding command_of
-stood_about c online figure (x ∷ b ∷ d ∷ e ∷ f ∷ g ∷ h ∷ i ∷ rest) long other is =
-    by (move_fault c 0 0 (unit_found c.units (num (f ∷ g ∷ []) 0 2))) is
-  where
-    by : (o : Option ℕ) → about_in (own_end_with c online figure
-        (command_of (stand_in (x ∷ b ∷ d ∷ e ∷ f ∷ g ∷ h ∷ i ∷ rest))) o).body ≡ Some other → ⊥
-    by None h = search (arith, h)
-    by (Some u) h = search (arith, h)
-stood_about c online figure b long other is = search (arith, long)
+stood_about c online figure b long other is = grind arith
 
 pub answered_about : (c : Settings) (online : Bool) (figure : ℕ) (units : List Shape) (b : List ℕ) → 16 ≤ length b
     → IsAbout b (own_of c online figure (command_of (handed units b)))
-answered_about c online figure units b long = by (is_formality (slice_index b 8)) (asks_for_next b)
-  where
-    by : (x y : Bool) → IsAbout b (own_of c online figure (command_of (cond x (stand_in b)
-        (cond y (take 4 b ++ little_bytes 2 (next_unit units (num b 4 2)) ++ drop 6 b) b))))
-    by true y other h = absurd (stood_about c online figure b long other h)
-    by false true other h =
-        let a = answered_command c online figure (take 4 b ++ little_bytes 2 (next_unit units (num b 4 2)) ++ drop 6 b)
-        (named_long b (next_unit units (num b 4 2)) long) other h in
-        (a.0 ∙ named_about b (next_unit units (num b 4 2)) (search (arith, long)), a.1, a.2)
-    by false false other h = answered_command c online figure b long other h
+answered_about c online figure units b long =
+    handed_cases (λ x. IsAbout b (own_of c online figure (command_of x))) units b
+    (λ formal other h. absurd (stood_about c online figure b long other h))
+    (λ plain asks n other h.
+    let a = answered_command c online figure (renamed b n) (renamed_long b n long) other h in
+    (a.0 ∙ renamed_about b n (search (arith, long)), a.1, a.2))
+    (λ plain. answered_command c online figure b long)
 
 -- it has the code and the unit of its command
 pub answered_code : (s : Settings) (online : Bool) (figure : ℕ) (x : Command) (o : Option ℕ)
@@ -244,16 +152,4 @@ under_64 m less = search (arith, less)
 -- it is about none
 pub queued_no_about : (c : Settings) (command : Command) → is_queued c command ≡ true → (other : ℕ)
     → about_in (refused_body (endcode command.order)) ≡ Some other → ⊥
-queued_no_about c command q other is = by command.order refl
-  where
-    by : (order : Order) → command.order ≡ order → ⊥
-    by orders.Available e = search (arith, sym (ap (λ o. about_in (refused_body (endcode o))) e) ∙ is)
-    by orders.Online e = search (arith, sym (ap (λ o. about_in (refused_body (endcode o))) e) ∙ is)
-    by orders.SetUnit e = search (arith, sym (ap (λ o. about_in (refused_body (endcode o))) e) ∙ is)
-    by (orders.Move kind count block) e = moved kind (sym (ap (λ o. about_in (refused_body (endcode o))) e) ∙ is)
-      where
-        moved : (kind : MoveKind) → about_in (refused_body (endcode
-            (orders.Move kind count block))) ≡ Some other → ⊥
-        moved kinds.Access h = search (arith, h)
-        moved kind h = search (arith, h)
-    by order e = search (arith, q, e)
+queued_no_about c command q other is = grind arith

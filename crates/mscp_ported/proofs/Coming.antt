@@ -1,6 +1,5 @@
 -- The ends that come for a host by a message or by a step.
-use Rattle.mscp_ported.proofs.Common.{Block, Bool, Choice, Command, Connection, End, Err, Finishes, First, Holdings, IsValid, KeepsPromise, List, Made, Name, None, NotBegun, Ok, Option, Port, Report, Result, Second, SendFault, Sent, Settings, Some, [], aborted_record, aborting, after_message, answer_to_message, answered_end, ap, append-nil, append_assoc, arith, balance_of, come, command_of, cond, credits_of, drop, drop-append_seam, end_brought, false, held_unless, history, if◌then◌else◌, is_queued, length, name_on, of, option_map, option_to_list, outstanding_of, queued, record_aborted, record_at, reference_aborted, refl, refusal, same_connection, sent_unless, served_name, subst, sym, take-length, true, untaken, waiting_by, with_end, ℕ, ◌++◌, ◌+◌, ◌∙◌, ◌∷◌, ◌≡◌, ◌≤◌}
-use Rattle.mscp_queue.specs.declared.report.Report.TheVariants as reports
+use Rattle.mscp_ported.proofs.Common.{Block, Choice, Command, Connection, End, Err, Finishes, First, Holdings, IsValid, KeepsPromise, List, Made, NotBegun, Ok, Option, Port, Report, Result, Second, SendFault, Sent, Settings, [], after_message, answer_to_message, ap, append-nil, append_assoc, arith, balance_of, come, command_of, credits_of, drop, drop-append_seam, end_brought, held_unless, history, length, name_on, of, option_to_list, outstanding_of, refusal, sent_unless, served_name, subst, take-length, untaken, waiting_by, ℕ, ◌++◌, ◌+◌, ◌∙◌, ◌≡◌, ◌≤◌}
 use Rattle.mscp_controller.specs.declared.entry.Sent.TheVariants as sents
 
 -- the ends of the host's connection
@@ -29,33 +28,7 @@ brings {K} h b = by (refusal (balance_of First h) (outstanding_of First h) b)
     c = command_of b
 
     by : (o : Option SendFault) → Brings h (held_unless First h (command_of b) o) (sent_unless First h (command_of b) o)
-    by (Some fault) = record {
-      ends = [];
-      all = sym (append-nil (ends_of h));
-      queued = λ reference e. refl;
-      refused = λ other e. refl;
-    }
-    by None = taken (is_queued h.settings (command_of b))
-      where
-        brought : List End
-        brought = option_to_list (option_map aborted_record (record_aborted First h.waiting (command_of b).order))
-
-        taken : (q : Bool) → Brings h (cond q (queued First h (command_of b))
-            (with_end First (aborting First h (command_of b).order) (answered_end First h (command_of b))))
-            (Ok (cond q (sents.Queued (command_of b).reference) (sents.Answered (command_of b).reference
-            (reference_aborted First h.waiting (command_of b).order))))
-        taken true = record {
-          ends = [];
-          all = sym (append-nil (ends_of h));
-          queued = λ reference e. refl;
-          refused = λ fault e. search (arith, e);
-        }
-        taken false = record {
-          ends = brought ++ answered_end First h (command_of b) ∷ [];
-          all = append_assoc (ends_of h) brought (answered_end First h (command_of b) ∷ []);
-          queued = λ reference e. search (arith, e);
-          refused = λ fault e. search (arith, e);
-        }
+    by o = grind (arith, append-nil, append_assoc)
 
 -- ---- a step
 
@@ -68,32 +41,7 @@ pub steps_bring : {K : Type 0} (picks : List Choice → ℕ → Type 0) (via : C
     (old new : Holdings K) (result : Result Report NotBegun)
     → Finishes picks (name_on via reference) block old result new
     → ends_of new ≡ ends_of old ++ brought_for via (end_brought result)
-steps_bring picks via reference block old new (Err not_begun) f =
-    ap (λ h. ends_of h) f.1 ∙ sym (append-nil (ends_of old)) ∙ ap (λ xs. ends_of old ++ xs) (none via)
-  where
-    none : (via : Connection) → [] ≡ brought_for via None
-    none First = refl
-    none Second = refl
-steps_bring picks via reference block old new (Ok reports.Idle) f = search (arith, f.0)
-steps_bring picks via reference block old new (Ok (reports.Served other number unit lbn started seek ended)) f =
-    ap (of First) f.1.ends ∙ ap (λ xs. ends_of old ++ xs) (by other same)
-  where
-    connection_in : Report → Connection
-    connection_in (reports.Served c n u l b k e) = c
-    connection_in reports.Idle = other
-
-    same : other ≡ via
-    same =
-        let place = f.1.serves.0 in
-        let s = f.1.serves.1 in
-        let r = record_at old.waiting place in
-        ap connection_in s.told
-        ∙ ap (λ (n : Name). n.connection) (served_name old.begun (name_on via reference) r f.0 s.next.same)
-
-    by : (c : Connection) → c ≡ via
-        → (if same_connection c First then option_to_list ended else []) ≡ brought_for via ended
-    by First e = subst (λ x. option_to_list ended ≡ brought_for x ended) e refl
-    by Second e = subst (λ x. [] ≡ brought_for x ended) e refl
+steps_bring picks via reference block old new result f = grind (arith, append-nil, served_name)
 
 -- ---- how many
 

@@ -71,7 +71,7 @@ pub use Rattle.mscp_port.specs.Acted.{Clears, GivesBack, WritesOut, counted, hea
 pub use Rattle.mscp_port.specs.Areas.{IsInArea, Rings, area_named, base_named, end_of, rings_named, slot_in, slots_of, start_of, word_of}
 pub use Rattle.mscp_port.specs.Blocks.{block_of, block_told, changed_verdict, fault_with, faulted, good_step, has_changed, is_available, kept_at, kept_of, move_of, move_task, moved_by, part_task, part_with, refusal_of, takes_any_volume, task_of, unless_fault}
 pub use Rattle.mscp_port.specs.Buffers.{buffer_in, is_of, part_of, without as without_kept, without_aborted}
-pub use Rattle.mscp_port.specs.Calls.{Dies, Goes, Hears, Hears as Reads, IsMadeOf, ReadsIp, TakesStep, Wants, WritesSa, read_again, step_again, step_answered, step_at}
+pub use Rattle.mscp_port.specs.Calls.{ChangesByWord, Dies, Goes, Hears, Hears as Reads, IsMadeOf, ReadsIp, TakesStep, Wants, WritesSa, read_again, step_again, step_answered, step_at}
 pub use Rattle.mscp_port.specs.Decided.{answer_of, controller_decided, end_decided, found_decided, status_after, status_told}
 pub use Rattle.mscp_port.specs.Departures.{IsForgotten, begins, gone, leaves}
 pub use Rattle.mscp_port.specs.Fair.{TellsStep}
@@ -81,7 +81,7 @@ pub use Rattle.mscp_port.specs.Kept.{IsSaidBy, WasSaid}
 pub use Rattle.mscp_port.specs.Leaving.{attention, end_left, end_told, end_with_body, head, told_end}
 pub use Rattle.mscp_port.specs.Messages.{asks_for_next, bare_end, handed, next_named, next_unit, number_or_zero, own_end, own_end_of, refused_end, volume_refusal}
 pub use Rattle.mscp_port.specs.Moved.{BeginsBlock, GoesOnWithBlock, HeedsStep, IsStepping, Moves, TakesBegun, TakesBlock, begun_task, block_begun, block_served, decided_ended, end_brought, kept_after, known_task, move_wanted, moved_step, part_at, part_now, part_served, part_wanted, place_heeded, volumes_after}
-pub use Rattle.mscp_port.specs.Outgoings.{IsNews, IsNews as TellsOf, LooksForOut, MayBegin, Says, TakesEnd, TellsNews, news_place}
+pub use Rattle.mscp_port.specs.Outgoings.{AnswersItself, IsNews, IsNews as TellsOf, LooksForOut, MayBegin, Says, TakesEnd, TellsNews, news_place}
 pub use Rattle.mscp_port.specs.Packets.{connection_of, credits_by, credits_with, end_kind, packet_of}
 pub use Rattle.mscp_port.specs.Ports.{Drops, HasNothingToSay, IsAlive, IsAsNew, IsDue, IsInPacket, IsOfBlock, IsOutcomeOf, IsReadingText, IsWithin, Leaves, aside, block_is_due, in_hand, read_size}
 pub use Rattle.mscp_port.specs.Seen.{SeesHeader, SeesText, Sends, answered_to, bytes_read, changes_at, connection_in, header_fault, heard, heeded, length_in, stays}

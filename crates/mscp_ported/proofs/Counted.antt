@@ -1,5 +1,5 @@
 -- An end counts no more bytes than its command asks for.
-use Rattle.mscp_ported.proofs.Common.{Block, Bool, Drive, End, None, Order, Record, Shape, Some, arith, cond, end_given, false, goes_on, left_of, moved_body, none-some, outcome_at, outcome_body, same_Some, subst, true, ℕ, ◌≡◌, ◌≤◌}
+use Rattle.mscp_ported.proofs.Common.{Block, Drive, End, Order, Record, Shape, Some, arith, end_given, moved_body, none-some, outcome_body, same_Some, ℕ, ◌≡◌, ◌≤◌}
 use Rattle.mscp_packet.specs.declared.command.Order.TheVariants as orders
 use Rattle.mscp_ported.proofs.Numbered.{asked_by, counted_in}
 
@@ -9,18 +9,8 @@ moved_few order good n h = grind arith
 
 outcome_few : (shape : Shape) (status : ℕ) (order : Order) (good n : ℕ) → asked_by order ≤ n
     → counted_in (outcome_body shape status order good) ≤ n
-outcome_few shape status orders.Online good n h = grind arith
-outcome_few shape status orders.SetUnit good n h = grind arith
-outcome_few shape status order good n h = moved_few order good n h
+outcome_few shape status order good n h = grind (arith, moved_few)
 
 pub given_few : (k : Block) (d : Drive) (r : Record) (e : End) (n : ℕ) → end_given k d r ≡ Some e
     → asked_by r.command.order ≤ n → counted_in e.body ≤ n
-given_few k d r e n h few = by (goes_on d.online r.command.order k (left_of r)) h
-  where
-    own : End
-    own = outcome_at d.unit d.online r.command r.good k
-
-    by : (b : Bool) → cond b None (Some own) ≡ Some e → counted_in e.body ≤ n
-    by true h = absurd (none-some e h)
-    by false h = subst (λ (x : End). counted_in x.body ≤ n) (same_Some own e h)
-        (outcome_few d.unit _ r.command.order _ n few)
+given_few k d r e n h few = grind (arith, counted_in, none-some, same_Some, outcome_few)

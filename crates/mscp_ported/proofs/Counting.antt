@@ -1,5 +1,5 @@
 -- Slots that were given back, one behind the other, and what was told in them.
-use Rattle.mscp_ported.proofs.Common.{Bool, Commands, IfSome, List, None, Option, Packet, Responses, Rings, Said, Side, Slot, Some, StandInOrder, TellAll, Tells, [], address_in, ap, area_named, arith, base_named, cond, false, is_owned, left_after, length, mod-lt, mod-mod-pow, nat_lt, pow_pos, refl, rings_named, slot_in, slot_place, slots_in, slots_of, sym, true, word_of, word_place, ℕ, ◌%◌, ◌*◌, ◌++◌, ◌+◌, ◌-◌, ◌/◌, ◌^◌, ◌∙◌, ◌∷◌, ◌≡◌}
+use Rattle.mscp_ported.proofs.Common.{Commands, IfSome, List, None, Option, Packet, Responses, Rings, Said, Side, Slot, Some, StandInOrder, TellAll, Tells, [], address_in, ap, arith, is_owned, left_after, length, mod-lt, mod-mod-pow, nat_lt, pow_pos, refl, rings_named, slot_in, slot_place, slots_in, slots_of, sym, true, word_of, word_place, ℕ, ◌%◌, ◌*◌, ◌++◌, ◌+◌, ◌-◌, ◌^◌, ◌∙◌, ◌∷◌, ◌≡◌}
 use Rattle.mscp_ported.proofs.Look.{IsWide, left_all}
 
 -- ---- counts
@@ -36,12 +36,8 @@ pub one_more : (o : Option Rings) (side : Side) (n : ℕ) (xs : List Slot) (x : 
     → x.side ≡ side → x.address ≡ address_in o side (n + length xs) → is_owned x.word ≡ true
     → StandInOrder o side n (xs ++ x ∷ [])
 one_more o side n [] x h at place own = (at, place ∙ ap (address_in o side) (search arith), own, tt)
-one_more o side n (y ∷ ys) x h at place own = (
-  h.0,
-  h.1,
-  h.2,
-  one_more o side (n + 1) ys x h.3 at (place ∙ ap (address_in o side) (search arith)) own,
-)
+one_more o side n (y ∷ ys) x h at place own =
+    grind (arith, one_more o side (n + 1) ys x h.3 at (place ∙ ap (address_in o side) (search arith)) own)
 
 pub tell_more : (left : ℕ) (ps : List Packet) (xs : List Said) (p : Packet) (x : Said) → TellAll left ps xs
     → Tells (left_all left xs) p x → TellAll left (ps ++ p ∷ []) (xs ++ x ∷ [])
@@ -61,15 +57,4 @@ slots_log : (n : ℕ) → (j : ℕ) × (k : ℕ) × (j + k ≡ 8) × (2 ^ (n % 8
 slots_log n = (8 - n % 8, n % 8, search (arith, mod-lt n), refl)
 
 pub named_wide : (first second third : ℕ) → IfSome (rings_named first second third) IsWide
-named_wide first second third = by (nat_lt (base_named second third) 8) refl
-  where
-    by : (b : Bool) → nat_lt (base_named second third) 8 ≡ b
-        → IfSome (cond b None (Some (area_named first second third))) IsWide
-    by true e = tt
-    by false e = record {
-      responses = pow_pos (first / 0x0100 % 8);
-      commands = pow_pos (first / 0x0800 % 8);
-      response_log = slots_log (first / 0x0100);
-      command_log = slots_log (first / 0x0800);
-      room = search (arith, e);
-    }
+named_wide first second third = grind (arith, nat_lt, pow_pos, slots_log)

@@ -1,5 +1,5 @@
 -- What each call of a port deals with.
-use Rattle.mscp_ported.proofs.Common.{Action, AllByRecursion, Becomes, Bool, Call, Deals, Descriptor, End, Err, Hears, Holdings, IsEnding, IsOfKind, IsReadingText, IsSomeAnd, List, Next, None, Ok, Option, Outcome, Outgoing, Picking, Port, ReadIp, Result, SeesText, SendFault, Sent, Shape, Some, TakesEnd, Task, TellsOf, Volume, Wants, WasRead, Went, WriteIp, WriteSa, [], accepted_by, accepted_text, accepts, answered_to, ap, append-nil, arith, attention, begins, blocks, bytes_in, cond, drop, end_bytes, end_kind, ends_begun, eqb-true, every_kept, false, filter, has_number, heard, heeded, inl, inr, is_dead, is_none, is_ok, is_taken_text, looks_or_not, news_place, none-some, none_or_some, not, num, option_map, own_answer, own_end_of, refl, same_Some, since, slice_get, subst, sym, taken_by, told_end, true, volume_at, volume_named, without_ends, ℕ, ◌&&◌, ◌++◌, ◌<◌, ◌^◌, ◌∙◌, ◌∷◌, ◌≡◌, ◌≢◌, ◌≤◌, ◌⊎◌}
+use Rattle.mscp_ported.proofs.Common.{Action, AllByRecursion, Becomes, Bool, Call, Deals, Descriptor, End, Err, Hears, Holdings, IsEnding, IsOfKind, IsReadingText, IsSomeAnd, List, Next, None, Ok, Option, Outcome, Outgoing, Picking, Port, Result, SeesText, SendFault, Sent, Shape, Some, TakesEnd, Task, TellsOf, Volume, Wants, WasRead, Went, [], accepted_by, accepted_text, accepts, answered_to, ap, append-nil, arith, attention, begins, bytes_in, cond, drop, end_bytes, end_kind, ends_begun, eqb-true, every_kept, false, filter, has_number, inl, inr, is_dead, is_none, is_ok, is_taken_text, looks_or_not, news_place, none-some, none_or_some, not, num, option_map, own_end_of, refl, same_Some, since, slice_get, subst, sym, taken_by, told_end, true, volume_at, volume_named, without_ends, ℕ, ◌&&◌, ◌++◌, ◌<◌, ◌^◌, ◌∙◌, ◌∷◌, ◌≡◌, ◌≢◌, ◌≤◌, ◌⊎◌}
 use Rattle.mscp_ported.proofs.Minor.{minor, minor_out}
 use Rattle.mscp_port.specs.declared.port.OutgoingKind.TheVariants as kinds
 use Rattle.mscp_port.specs.declared.task.Task.TheVariants as tasks
@@ -16,52 +16,26 @@ use Rattle.mscp_ported.proofs.Whole.{told_counts, told_number, told_whole}
 -- ---- what goes out
 
 begins_same : (o q : Option Outgoing) → (q ≡ o) ⊎ (q ≡ None) → begins o q ≡ []
-begins_same None q (inl e) = ap (begins None) e
-begins_same None q (inr e) = ap (begins None) e
-begins_same (Some x) q either = refl
+begins_same o q h = grind arith
 
 passive_out : {K : Type 0} (picks : Picking K) (call : Call) (old new : Port K) → Becomes picks call old new
     → IsPassive call → (new.outgoing ≡ old.outgoing) ⊎ (new.outgoing ≡ None)
-passive_out {K} picks ReadIp old new r is = elim r.frame
-    [ inl e ↦ inl (ap (λ (p : Port K). p.outgoing) e) | inr dead ↦ inr dead.1.outgoing ]
-passive_out {K} picks (WriteSa word) old new r is = elim r.frame
-    [ inl e ↦ inl (ap (λ (p : Port K). p.outgoing) e) | inr dead ↦ inr dead.1.outgoing ]
-passive_out picks WriteIp old new r is = absurd is
-passive_out picks (Next blocks action bytes) old new r is = absurd is
-passive_out picks (WasRead bytes (Ok done)) old new r is = absurd is
-passive_out picks (Went outcome (Ok done)) old new r is = absurd is
-passive_out {K} picks call old new r is = minor_out (minor picks call old new r tt)
+passive_out {K} picks call old new r is = grind (arith, minor_out, minor)
 
 passive_accepted : {K : Type 0} (call : Call) (old : Port K) → IsPassive call → accepted_by call old ≡ []
-passive_accepted (WasRead bytes (Ok done)) old is = absurd is
-passive_accepted (WasRead bytes (Err unasked)) old is = refl
-passive_accepted call old is = refl
+passive_accepted call old is = grind arith
 
 pub passive_taken : {K : Type 0} (call : Call) (old : Port K) → IsPassive call → taken_by call old ≡ []
-passive_taken (WasRead bytes (Ok done)) old is = absurd is
-passive_taken (WasRead bytes (Err unasked)) old is = refl
-passive_taken call old is = refl
+passive_taken call old is = grind arith
 
 pub passive_deals : {K : Type 0} (picks : Picking K) (call : Call) (old new : Port K) (aw : List (List ℕ))
     → Becomes picks call old new → IsPassive call → Deals aw call old new
-passive_deals picks call old new aw r is = inl (record {
-  begun = begins_same old.outgoing new.outgoing (passive_out picks call old new r is);
-  accepted = passive_accepted call old is;
-  taken = passive_taken call old is;
-  ended = passive_said call old new is;
-})
+passive_deals picks call old new aw r is =
+    grind (arith, begins_same, passive_out, passive_accepted, passive_taken, passive_said)
 
 pub went_deals : {K : Type 0} (picks : Picking K) (outcome : Outcome) (done : Unit) (old new : Port K)
     (aw : List (List ℕ)) → Becomes picks (Went outcome (Ok done)) old new → Deals aw (Went outcome (Ok done)) old new
-went_deals picks outcome done old new aw r = inl (record {
-  begun = begins_same old.outgoing new.outgoing (elim r.out [
-    | inl e ↦ inl e
-    | inr more ↦ elim more [ inl x ↦ inr x.out | inr dead ↦ inr dead.1.outgoing ]
-  ]);
-  accepted = refl;
-  taken = refl;
-  ended = refl;
-})
+went_deals picks outcome done old new aw r = grind (arith, begins_same)
 
 -- ---- a message
 
@@ -76,14 +50,7 @@ module _ {K : Type 0} (bytes : List ℕ) (done : Unit) (old new : Port K) (aw : 
 
   not_text : (t : Task) → old.task ≡ t → accepted_text old t bytes ≡ [] → is_taken_text old bytes t ≡ false
       → (Rattle.mscp_port.specs.Ports.IsReadingText t → ⊥) → Said_so
-  not_text t at none_accepted none_taken never = quiet (elim r.out [
-    | inl e ↦ begins_same old.outgoing new.outgoing (inl e)
-    | inr more ↦ elim more [
-      | inl x ↦ absurd (never (subst (λ y. Rattle.mscp_port.specs.Ports.IsReadingText y) (sym x.3 ∙ at) tt))
-      | inr dead ↦ begins_same old.outgoing new.outgoing (inr dead.1.outgoing)
-    ]
-  ]) (ap (λ x. accepted_text old x bytes) at ∙ none_accepted)
-      (ap (λ x. cond (is_taken_text old bytes x) (bytes ∷ []) []) at ∙ ap (λ b. cond b (bytes ∷ []) []) none_taken)
+  not_text t at none_accepted none_taken never = grind (arith, quiet, begins_same)
 
   module _ (slot : Descriptor) (size : ℕ) (foreign : Bool) (at : old.task ≡ tasks.Text slot size foreign) where
     sees : SeesText slot foreign bytes old new
@@ -110,17 +77,7 @@ module _ {K : Type 0} (bytes : List ℕ) (done : Unit) (old new : Port K) (aw : 
             → Rattle.std.specs.Prelude.IsSomeAnd q (λ y. (y.bytes.items ≡ end_bytes e)
             × (y.kind ≡ Rattle.mscp_port.specs.Packets.end_kind foreign)) → Said_so
         outs None is h = absurd h
-        outs (Some o) is h = inr (inr (inr (inr (record {
-          message = bytes;
-          read = (done, refl);
-          out = o;
-          nothing = none;
-          begun = is;
-          accepted = accepted_is ∙ ap (λ x. cond (accepts x old.outgoing (answered_to old bytes)) (bytes ∷ []) []) own
-              ∙ ap (λ x. cond (accepts (Some e) x (answered_to old bytes)) (bytes ∷ []) []) none;
-          taken = own_taken e own;
-          ended = refl;
-        }))))
+        outs (Some o) is h = grind (arith, accepted_is, own_taken)
     own_deals e own (Some x) some =
         let is : own_end_of old foreign bytes ≢ None = λ n. none-some e (sym n ∙ own) in
         let same = sees.own_waits is (λ n. none-some x (sym n ∙ some)) in
@@ -130,30 +87,8 @@ module _ {K : Type 0} (bytes : List ℕ) (done : Unit) (old new : Port K) (aw : 
 
     handed_deals : own_end_of old foreign bytes ≡ None → (a : Result Sent SendFault) → answered_to old bytes ≡ a
         → Said_so
-    handed_deals none (Ok s) answer = inr (inr (inr (inl (record {
-      message = bytes;
-      read = (done, refl);
-      begun = begins_same old.outgoing new.outgoing (inl (ap (λ (q : Port K). q.outgoing)
-          (sees.sent s none answer).frame
-          ∙ heeded_out s));
-      accepted = accepted_is ∙ ap (λ x. cond (accepts x old.outgoing (answered_to old bytes)) (bytes ∷ []) []) none
-          ∙ ap (λ x. cond (accepts None old.outgoing x) (bytes ∷ []) []) answer;
-      taken = taken_is bytes done old new r slot size foreign at
-          ∙ ap (λ x. cond (is_none x && is_ok (answered_to old bytes)) (bytes ∷ []) [])
-          (none_so foreign (volume_named old bytes) bytes none) ∙ ap (λ x. cond (is_ok x) (bytes ∷ []) []) answer;
-      ended = refl;
-    }))))
-      where
-        heeded_out : (s : Sent) → (Rattle.mscp_port.specs.Seen.heeded s bytes
-            (Rattle.mscp_port.specs.Seen.heard old)).outgoing ≡ old.outgoing
-        heeded_out s = grind arith
-    handed_deals none (Err fault) answer = quiet
-        (begins_same old.outgoing new.outgoing (inl (ap (λ (q : Port K). q.outgoing) (sees.waits fault none answer))))
-        (accepted_is ∙ ap (λ x. cond (accepts x old.outgoing (answered_to old bytes)) (bytes ∷ []) []) none
-        ∙ ap (λ x. cond (accepts None old.outgoing x) (bytes ∷ []) []) answer)
-        (taken_is bytes done old new r slot size foreign at ∙ ap (λ x. cond x (bytes ∷ []) [])
-        (and_false (is_none (own_answer foreign (volume_named old bytes)
-        bytes)) (is_ok (answered_to old bytes)) (ap is_ok answer)))
+    handed_deals none (Ok s) answer = grind (arith, begins_same, sees, accepted_is, taken_is, none_so)
+    handed_deals none (Err fault) answer = grind (arith, quiet, begins_same, sees, accepted_is, taken_is, and_false)
 
     text_deals : Said_so
     text_deals = elim (none_or_some (own_end_of old foreign bytes)) [
@@ -173,14 +108,7 @@ module _ {K : Type 0} (bytes : List ℕ) (done : Unit) (old new : Port K) (aw : 
 pub one_of : {X : Type 0} (P : X → Type 0) (f : X → Bool) (xs : List X) (x : X) → AllByRecursion P xs
     → filter f xs ≡ x ∷ [] → P x × (f x ≡ true)
 one_of P f [] x all e = search (arith, e)
-one_of {X} P f (y ∷ ys) x all e = by (f y) refl e (λ h. one_of P f ys x all.1 h)
-  where
-    by : (c : Bool) → f y ≡ c → cond c (y ∷ filter f ys) (filter f ys) ≡ x ∷ []
-        → (filter f ys ≡ x ∷ [] → P x × (f x ≡ true)) → P x × (f x ≡ true)
-    by true is h rest =
-        let same : y ≡ x = (Rattle.mscp_ported.proofs.Numbered.first_of_one y x (filter f ys) h).0 in
-        (subst P same all.0, subst (λ z. f z ≡ true) same is)
-    by false is h rest = rest h
+one_of {X} P f (y ∷ ys) x all e = grind (arith, one_of P f ys x all.1, all.0)
 
 head_so : (es : List End) (e : End) → slice_get es 0 ≡ Some e → es ≡ e ∷ drop 1 es
 head_so [] e h = absurd (none-some e h)
@@ -214,9 +142,7 @@ module _ {K : Type 0} {old new : Port K} {aw : List (List ℕ)} (k : Kept old aw
   -- its message is awaited no more
   pub left_awaited : without_ends (ends_begun old.outgoing new.outgoing) aw ++ []
       ≡ filter (λ x. not (has_number e.reference x)) aw
-  left_awaited = ap (λ xs. without_ends xs aw ++ []) (begun_end old new t)
-      ∙ append-nil (filter (λ x. not (has_number (num (told_end old e) 0 4) x)) aw)
-      ∙ ap (λ n. filter (λ x. not (has_number n x)) aw) named
+  left_awaited = grind (arith, begun_end, append-nil, named)
 
 -- a call by which something is wanted: what there is then, and what it deals with
 module _ {K : Type 0} (blocks : Bool) (action : Action) (bytes : List ℕ) (old new : Port K) (aw : List (List ℕ))
@@ -265,12 +191,7 @@ module _ {K : Type 0} (blocks : Bool) (action : Action) (bytes : List ℕ) (old 
       }
 
   quiet_next : (new.outgoing ≡ old.outgoing) → Deals aw (Next blocks action bytes) old new
-  quiet_next same = inl (record {
-    begun = begins_same old.outgoing new.outgoing (inl same);
-    accepted = refl;
-    taken = refl;
-    ended = ap (ends_begun old.outgoing) same ∙ begun_same old.outgoing;
-  })
+  quiet_next same = grind (arith, begins_same, begun_same)
 
   news_so : (place : Option ℕ) (units : List Shape) (before after : List Volume) (q : Option Outgoing)
       → new.outgoing ≡ q → old.outgoing ≡ None → TellsOf units before place q after

@@ -1,7 +1,8 @@
 -- Each end goes out with what was decided of it as it came.
-use Rattle.mscp_ported.proofs.Common.{Answered, AnsweredCalls, Bool, Call, ControllersKeepThePromise, Dies, End, Err, First, Hardware, Holdings, IsAlive, IsMadeOf, IsValid, KeepsPromise, Leaving, List, Made, Next, None, Ok, Option, Outcome, Outgoing, Picking, Port, Settings, Shape, Some, Stage, Verdict, WasRead, Went, WriteIp, [], answer_left, ap, append-nil, arith, block_begun, blocks, came, came_by, come, cond, end_text, ends_begun, ends_said, ends_said_by, false, fresh, inl, inr, is_dead, length, map, of, refl, since, step_left, subst, sym, true, verdict_in, ℕ, ◌++◌, ◌∙◌, ◌∷◌, ◌≡◌, ◌≤◌}
+use Rattle.mscp_ported.proofs.Common.{Answered, AnsweredCalls, Bool, Call, ControllersKeepThePromise, Dies, End, First, Hardware, Holdings, IsMadeOf, IsValid, KeepsPromise, Leaving, List, Made, Next, None, Ok, Option, Outcome, Outgoing, Picking, Port, Settings, Shape, Some, Stage, Verdict, WasRead, Went, WriteIp, [], answer_left, ap, append-nil, arith, blocks, came, came_by, come, cond, end_text, ends_begun, ends_said, ends_said_by, false, fresh, inl, inr, is_dead, length, map, of, refl, since, step_left, sym, true, verdict_in, ℕ, ◌++◌, ◌∙◌, ◌∷◌, ◌≡◌, ◌≤◌}
 use Rattle.mscp_port.specs.declared.stage.Stage.TheVariants as stages
 use Rattle.mscp_ported.proofs.Coming.{ends_of, few_ends}
+use Rattle.mscp_ported.proofs.Deeds.{is_alive}
 use Rattle.mscp_ported.proofs.Ending.{Ends, Grows, grows, left_with, none_come, none_left, stays, zip_ends, zipped}
 use Rattle.mscp_ported.proofs.Leaving.{goes_out}
 use Rattle.mscp_ported.proofs.Reading.{answer_grows, heard_same, read_is}
@@ -21,22 +22,11 @@ passive_reset WriteIp is = absurd is
 passive_reset call is = record { came = λ s xs ys. refl; said = λ s xs ys. refl }
 
 passive_came : {K : Type 0} (call : Call) (old new : Port K) → IsPassive call → came_by call old new ≡ []
-passive_came (WasRead bytes (Ok done)) old new is = absurd is
-passive_came (WasRead bytes (Err unasked)) old new is = refl
-passive_came (Went outcome (Ok done)) old new is = absurd is
-passive_came (Went outcome (Err unasked)) old new is = refl
-passive_came call old new is = refl
+passive_came call old new is = grind arith
 
 pub passive_said : {K : Type 0} (call : Call) (old new : Port K) → IsPassive call → ends_said_by call old new ≡ []
 passive_said (Next blocks action bytes) old new is = absurd is
 passive_said call old new is = refl
-
-pub is_alive : {K : Type 0} (p : Port K) → IsAlive p → is_dead p.stage ≡ false
-is_alive p alive = by p.stage refl
-  where
-    by : (s : Stage) → p.stage ≡ s → is_dead p.stage ≡ false
-    by (stages.Dead code) e = absurd (alive code e)
-    by s e = ap is_dead e
 
 -- what is kept of the ends, and the hardware
 pub record Whole {K : Type 0} (h : Hardware) (units : List Shape) (p : Port K) (xs : List Leaving) (ys : List (List ℕ))
@@ -54,19 +44,10 @@ module _ {K : Type 0} (h : Hardware) (units : List Shape) (call : Call) (old new
       → since new.stage call ys (ends_said_by call old new) ≡ ys' → Ends h units new xs' ys'
       → new.hardware ≡ old.hardware
       → So
-  became xs' ys' e f x hardware = record {
-    ends = subst (λ z. Ends h units new z (since new.stage call ys (ends_said_by call old new))) (sym e)
-        (subst (λ z. Ends h units new xs' z) (sym f) x);
-    hardware = hardware ∙ k.hardware;
-  }
+  became xs' ys' e f x hardware = grind arith
 
   dies_so : Dies old new → So
-  dies_so d = became [] []
-      (calm.came new.stage xs (came_by call old new)
-      ∙ ap (λ b. cond b [] (xs ++ came_by call old new)) (ap is_dead d.1.stage))
-      (calm.said new.stage ys (ends_said_by call old new)
-      ∙ ap (λ b. cond b [] (ys ++ ends_said_by call old new)) (ap is_dead d.1.stage))
-      (none_left h units new (ap (λ c. ends_of c) d.1.controller) d.1.decided) d.1.hardware
+  dies_so d = grind (arith, became, none_left, ends_of)
 
   stays_so : came_by call old new ≡ [] → ends_said_by call old new ≡ [] → Stays old new → So
   stays_so no_came no_said either = elim either [
@@ -156,11 +137,7 @@ module _ {K : Type 0} (picks : Picking K) (c : Settings) (picker : K)
   -- while there is no fatal error
   still_alive : (old new : Port K) → ((code : ℕ) → old.stage ≡ stages.Dead code → ⊥)
       → (is_dead new.stage ≡ true → is_dead old.stage ≡ true) → is_dead new.stage ≡ false
-  still_alive old new alive dead = by (is_dead new.stage) dead
-    where
-      by : (b : Bool) → (b ≡ true → is_dead old.stage ≡ true) → b ≡ false
-      by true d = absurd (search (arith, d refl, is_alive old alive))
-      by false d = refl
+  still_alive old new alive dead = grind (arith, is_alive)
 
   read_kept : (p : Port K) (calls : List Call) (bytes : List ℕ) (done : Unit)
       (a : Answered picks start (WasRead bytes (Ok done) ∷ calls) p)
@@ -217,9 +194,7 @@ module _ {K : Type 0} (picks : Picking K) (c : Settings) (picker : K)
       calm = record { came = λ s xs ys. refl; said = λ s xs ys. refl }
 
       verdict_is : (verdict : Verdict) → IsHow a.0 outcome verdict → verdict_in a.0 outcome a.0.task ≡ verdict
-      verdict_is verdict (inl at) = ap (verdict_in a.0 outcome) at
-      verdict_is verdict (inr h) =
-          ap (verdict_in a.0 outcome) h.0 ∙ sym (verdict_so a.0 outcome (block_begun a.0)) ∙ sym h.1
+      verdict_is verdict h = grind (arith, verdict_so)
 
       grown : (verdict : Verdict) → verdict_in a.0 outcome a.0.task ≡ verdict
           → Grows a.0 p (decided_by verdict a.0 p) → (is_dead p.stage ≡ true → is_dead a.0.stage ≡ true)

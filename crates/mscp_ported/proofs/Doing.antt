@@ -1,12 +1,13 @@
--- By each action that is done fewer are left before what goes out is gone.
-use Rattle.mscp_ported.proofs.Common.{Becomes, Bool, Call, Choice, Commands, Descriptor, Err, GivesBack, Goes, GoesOnWithBlock, Hears, IsAlive, IsAsNew, IsForgotten, IsGiven, IsOutcomeOf, List, MatchOption, Next, None, Ok, Option, Outcome, Outgoing, Picking, Port, ReadIp, Responses, Result, Rings, SeesHeader, SeesText, SendFault, Sends, Sent, Side, Some, Stage, Task, WasRead, Went, WriteIp, WriteSa, WritesOut, [], acts, answered_to, ap, arith, aside, blocks, bound, bytes_read, cond, connection_in, counted, false, false≢true, given, header_fault, heard, hears_of, inl, inr, is_flagged, is_owned, length, length_in, looks_or_not, none-some, none_or_not, not, num, own_end_of, read_again, read_size, refl, slots_of, stays, step_at, subst, sym, taken_or_not, true, vector_in, ℕ, ◌+◌, ◌==◌, ◌∙◌, ◌∷◌, ◌≡◌, ◌≢◌, ◌≤◌, ◌⊎◌}
-use Rattle.mscp_ported.proofs.Minor.{GivesUp, Minor, Mounts, PutsAside, ReadsAgain, Still, minor}
+-- By each action that is done fewer are left before what goes out is gone, or before an end that waits begins to.
+use Rattle.mscp_ported.proofs.Common.{Becomes, Bool, Call, Choice, Commands, Descriptor, End, Goes, Hears, IsForgotten, IsGiven, IsSomeAnd, IsStepping, List, Next, None, Ok, Option, Outcome, Outgoing, Picking, Port, ReadIp, Responses, Rings, Side, Some, Task, WasRead, Went, WriteIp, WriteSa, [], acts, ap, arith, aside, block_told, cond, end_brought, end_bytes, end_kind, false, handed, hears_of, inl, inr, is_flagged, is_owned, length, length-append, none-some, none_or_some, not, num, own_end_of, read_again, refl, slots_of, step_at, subst, sym, taken_or_not, true, ℕ, ◌++◌, ◌+◌, ◌<◌, ◌==◌, ◌∙◌, ◌∷◌, ◌≡◌, ◌≢◌, ◌≤◌, ◌⊎◌}
 use Rattle.mscp_controller.specs.declared.entry.Sent.TheVariants as sents
-use Rattle.mscp_port.specs.declared.action.Outcome.TheVariants as outcomes
 use Rattle.mscp_port.specs.declared.stage.Stage.TheVariants as stages
 use Rattle.mscp_port.specs.declared.task.Task.TheVariants as tasks
-use Rattle.mscp_ported.proofs.Look.{IsClear}
-use Rattle.mscp_ported.proofs.Room.{room}
+use Rattle.mscp_ported.proofs.Coming.{brings, brought_for, ends_of, steps_bring}
+use Rattle.mscp_ported.proofs.Deeds.{Deed, Eases, Fails, GivesSlot, IsClear, IsEased, ServesStep, StepsOn, WritesPacket, deed, stepping}
+use Rattle.mscp_ported.proofs.Minor.{GivesUp, Minor, Mounts, PutsAside, ReadsAgain, Still, minor}
+use Rattle.mscp_ported.proofs.Sights.{IsAnswered, IsFault, IsSent, IsSlide, Seen, Slides, StaysInSlot, sight, task_read}
+use Rattle.mscp_ported.proofs.Turns.{IsNoNext}
 
 -- so many actions at most are done before what goes out is gone, with this in hand
 abbrev pub to_do : Task → ℕ
@@ -22,295 +23,264 @@ to_do (tasks.Header slot) = 9
 to_do (tasks.Slot Commands) = 10
 to_do task = 4
 
--- the rings are in use, this goes out, the ring of responses wasn't found full, and no step of the initialisation waits
-pub record IsSaying {K : Type 0} (p : Port K) (o : Outgoing) : Type 0 where
-  pub up : p.stage ≡ stages.Up
-  pub out : p.outgoing ≡ Some o
-  pub room : p.is_full ≡ false
-  pub heard : p.written ≡ None
+-- and so many before nothing is in hand
+abbrev pub rest : Task → ℕ
+rest tasks.Free = 0
+rest (tasks.Word side) = 2
+rest (tasks.Neighbour side) = 3
+rest (tasks.Return side slot) = 4
+rest (tasks.Packet slot) = 5
+rest (tasks.Text slot size foreign) = 5
+rest (tasks.Slot Responses) = 6
+rest (tasks.Header slot) = 6
+rest (tasks.Slot Commands) = 7
+rest task = 1
 
--- nothing goes out any more
-pub record IsFreed {K : Type 0} (p : Port K) : Type 0 where
+-- by so many actions fewer are left with this in hand, and the area isn't cleared now
+pub record IsFewer (n : ℕ) (before after : Task) : Type 0 where
+  pub to_do : n + to_do after ≤ to_do before
+  pub rest : n + rest after ≤ rest before
+  pub clear : IsClear after → ⊥
+
+-- ---- tasks
+
+again_fewer : (t : Task) → (IsClear t → ⊥) → IsFewer 0 t (read_again t)
+again_fewer (tasks.Slot Responses) clear = record { to_do = search arith; rest = search arith; clear = λ c. c }
+again_fewer (tasks.Slot Commands) clear = record { to_do = search arith; rest = search arith; clear = λ c. c }
+again_fewer t clear = record { to_do = search arith; rest = search arith; clear = clear }
+
+aside_fewer : (t : Task) → (IsClear t → ⊥) → IsFewer 0 t (aside t)
+aside_fewer tasks.Transfer clear = record { to_do = search arith; rest = search arith; clear = λ c. c }
+aside_fewer t clear = record { to_do = search arith; rest = search arith; clear = clear }
+
+step_fewer : (o : Option ℕ) (t : Task) → (IsClear t → ⊥) → IsFewer 0 t (step_at o t)
+step_fewer (Some place) (tasks.Step verdict) clear =
+    record { to_do = search arith; rest = search arith; clear = λ c. c }
+step_fewer (Some place) tasks.Transfer clear = record { to_do = search arith; rest = search arith; clear = λ c. c }
+step_fewer (Some place) t clear = record { to_do = search arith; rest = search arith; clear = clear }
+step_fewer None t clear = record { to_do = search arith; rest = search arith; clear = clear }
+
+read_fewer : (bytes : List ℕ) (done : Unit {0}) (t : Task) → IsSlide t → IsGiven t (WasRead bytes (Ok done))
+    → IsFewer 1 t (task_read bytes t)
+read_fewer bytes done (tasks.Slot Responses) of given =
+    subst (λ b. IsFewer 1 (tasks.Slot Responses) (cond b (tasks.Packet (record { word = num bytes 0 4 })) tasks.Free))
+    (sym given) (record { to_do = search arith; rest = search arith; clear = λ c. c })
+read_fewer bytes done (tasks.Slot Commands) of given = by (is_owned (num bytes 0 4))
+  where
+    by : (b : Bool)
+        → IsFewer 1 (tasks.Slot Commands) (cond b (tasks.Header (record { word = num bytes 0 4 })) tasks.Free)
+    by true = record { to_do = search arith; rest = search arith; clear = λ c. c }
+    by false = record { to_do = search arith; rest = search arith; clear = λ c. c }
+read_fewer bytes done (tasks.Neighbour side) of given = by (is_owned (num bytes 0 4))
+  where
+    by : (b : Bool) → IsFewer 1 (tasks.Neighbour side) (cond b (tasks.Word side) tasks.Free)
+    by true = record { to_do = search arith; rest = search arith; clear = λ c. c }
+    by false = record { to_do = search arith; rest = search arith; clear = λ c. c }
+read_fewer bytes done (tasks.Header slot) of given =
+    record { to_do = search arith; rest = search arith; clear = λ c. c }
+read_fewer bytes done t of given = absurd of
+
+eased_fewer : (before after : Task) → (IsClear before → ⊥) → IsEased before after → IsFewer 1 before after
+eased_fewer (tasks.Word side) after clear (inl e) =
+    subst (IsFewer 1 (tasks.Word side)) (sym e) (record { to_do = search arith; rest = search arith; clear = λ c. c })
+eased_fewer (tasks.Word side) after clear (inr e) =
+    subst (IsFewer 1 (tasks.Word side)) (sym e) (record { to_do = search arith; rest = search arith; clear = λ c. c })
+eased_fewer tasks.Settle after clear e =
+    subst (IsFewer 1 tasks.Settle) (sym e) (record { to_do = search arith; rest = search arith; clear = λ c. c })
+eased_fewer tasks.Interrupt after clear e =
+    subst (IsFewer 1 tasks.Interrupt) (sym e) (record { to_do = search arith; rest = search arith; clear = λ c. c })
+eased_fewer (tasks.Clear done) after clear e = absurd (clear tt)
+eased_fewer task after clear e = absurd e
+
+-- of one of the ring of responses the rest alone
+abbrev Given : Side → Task → Type 0
+Given Responses after = (1 + rest after ≤ 4) × (IsClear after → ⊥)
+Given Commands after = (1 + rest after ≤ 4) × (IsClear after → ⊥) × (1 + to_do after ≤ 7)
+
+given_so : (area : Rings) (side : Side) (slot : Descriptor) → Given side (hears_of area side slot)
+given_so area side slot = by side (not (is_flagged slot.word)) (slots_of area side == 1)
+  where
+    by : (at : Side) (b c : Bool) → Given at (cond b tasks.Free (cond c (tasks.Word side) (tasks.Neighbour side)))
+    by Responses true c = (search arith, λ x. x)
+    by Responses false true = (search arith, λ x. x)
+    by Responses false false = (search arith, λ x. x)
+    by Commands true c = (search arith, (λ x. x), search arith)
+    by Commands false true = (search arith, (λ x. x), search arith)
+    by Commands false false = (search arith, (λ x. x), search arith)
+
+-- ---- ports
+
+-- the rings are in use, the ring of responses wasn't found full, no step of the initialisation waits, and the area
+-- isn't being cleared
+pub record InUse {K : Type 0} (p : Port K) : Type 0 where
   pub up : p.stage ≡ stages.Up
-  pub out : p.outgoing ≡ None
   pub room : p.is_full ≡ false
   pub heard : p.written ≡ None
   pub clear : IsClear p.task → ⊥
 
--- by a call that did so many actions what goes out is gone, or so many are left
-pub record Goal {K : Type 0} (o : Outgoing) (old : Port K) (done bound : ℕ) (new : Port K) : Type 0 where
-  pub is : (IsSaying new o × (IsClear new.task → ⊥) × (done + to_do new.task ≤ bound))
-      ⊎ (IsForgotten old new ⊎ IsFreed new)
+-- an end waits
+abbrev pub HasEnd : {K : Type 0} → Port K → Type 0
+HasEnd p = 0 < length (ends_of p.controller)
 
--- ---- tasks
+-- by a call that did so many actions the rings stay in use, and what goes out stays so, is gone, or begins to
+pub record GoesOn {K : Type 0} (n : ℕ) (old new : Port K) : Type 0 where
+  pub used : InUse new
+  pub ends : HasEnd old → HasEnd new
+  pub left : n + rest new.task ≤ rest old.task
+  pub out : ((new.outgoing ≡ old.outgoing) × (n + to_do new.task ≤ to_do old.task)) ⊎ (new.outgoing ≡ None)
+      ⊎ ((old.outgoing ≡ None) × (new.outgoing ≢ None) × (n + to_do new.task ≤ 10 + rest old.task))
 
-pub again_clear : (t : Task) → (IsClear t → ⊥) → IsClear (read_again t) → ⊥
-again_clear (tasks.Slot side) h = λ c. c
-again_clear t h = h
+more_ends : (xs ys zs : List End) → zs ≡ xs ++ ys → 0 < length xs → 0 < length zs
+more_ends xs ys zs e h = subst (λ l. 0 < length l) (sym e) (search (arith, length-append xs ys, h))
 
-again_less : (t : Task) → to_do (read_again t) ≤ to_do t
-again_less (tasks.Slot Responses) = search arith
-again_less (tasks.Slot Commands) = search arith
-again_less t = search arith
+module _ {K : Type 0} (old new : Port K) (u : InUse old) where
+  abbrev So : ℕ → Type 0
+  So n = IsForgotten old new ⊎ GoesOn n old new
 
-pub aside_clear : (t : Task) → (IsClear t → ⊥) → IsClear (aside t) → ⊥
-aside_clear tasks.Transfer h = λ c. c
-aside_clear t h = h
-
-aside_less : (t : Task) → to_do (aside t) ≤ to_do t
-aside_less tasks.Transfer = search arith
-aside_less t = search arith
-
-pub step_clear : (o : Option ℕ) (t : Task) → (IsClear t → ⊥) → IsClear (step_at o t) → ⊥
-step_clear None t h = h
-step_clear (Some place) (tasks.Step verdict) h = λ c. c
-step_clear (Some place) tasks.Transfer h = λ c. c
-step_clear (Some place) t h = h
-
-step_less : (o : Option ℕ) (t : Task) → to_do (step_at o t) ≤ to_do t
-step_less None t = search arith
-step_less (Some place) (tasks.Step verdict) = search arith
-step_less (Some place) tasks.Transfer = search arith
-step_less (Some place) t = search arith
-
-pub free_or_not : (t : Task) → (t ≡ tasks.Free) ⊎ (t ≢ tasks.Free)
-free_or_not tasks.Free = inl refl
-free_or_not t = inr (λ e. false≢true (ap is_free e))
-  where
-    is_free : Task → Bool
-    is_free tasks.Free = true
-    is_free task = false
-
-pub done_or_not : (outcome : Outcome) → (outcome ≡ outcomes.Done) ⊎ (outcome ≢ outcomes.Done)
-done_or_not outcomes.Done = inl refl
-done_or_not outcome = inr (λ e. false≢true (ap is_done e))
-  where
-    is_done : Outcome → Bool
-    is_done outcomes.Done = true
-    is_done outcome = false
-
-pub up_alive : {K : Type 0} (p : Port K) → p.stage ≡ stages.Up → IsAlive p
-up_alive p up code e = false≢true (ap is_up (sym e ∙ up))
-  where
-    is_up : Stage → Bool
-    is_up stages.Up = true
-    is_up stage = false
-
-pub hears_clear : (r : Rings) (side : Side) (slot : Descriptor) → IsClear (hears_of r side slot) → ⊥
-hears_clear r side slot = by (not (is_flagged slot.word)) (slots_of r side == 1)
-  where
-    by : (b c : Bool) → IsClear (cond b tasks.Free (cond c (tasks.Word side) (tasks.Neighbour side))) → ⊥
-    by true c = λ x. x
-    by false true = λ x. x
-    by false false = λ x. x
-
-module _ {K : Type 0} (o : Outgoing) (old : Port K) (s : IsSaying old o) (clear : IsClear old.task → ⊥) where
-  on : (done bound : ℕ) (x : Port K) → x.stage ≡ old.stage → x.outgoing ≡ old.outgoing → x.is_full ≡ false
-      → x.written ≡ old.written → (IsClear x.task → ⊥) → done + to_do x.task ≤ bound → Goal o old done bound x
-  on done bound x stage out room heard free few = record {
-    is = inl (record { up = stage ∙ s.up; out = out ∙ s.out; room = room; heard = heard ∙ s.heard }, free, few);
+  use_on : (x : Port K) → new ≡ x → x.stage ≡ old.stage → x.is_full ≡ false → x.written ≡ old.written
+      → (IsClear new.task → ⊥) → InUse new
+  use_on x e stage room written clear = record {
+    up = ap (λ p. p.stage) e ∙ stage ∙ u.up;
+    room = ap (λ p. p.is_full) e ∙ room;
+    heard = ap (λ p. p.written) e ∙ written ∙ u.heard;
+    clear = clear;
   }
 
-  lost : (done bound : ℕ) (x : Port K) (stage : Stage) → IsAsNew stage old x → Goal o old done bound x
-  lost done bound x stage e = record { is = inr (inl (stage, e)) }
+  -- what goes out stays so
+  on : {n : ℕ} (x : Port K) → new ≡ x → x.stage ≡ old.stage → x.is_full ≡ false → x.written ≡ old.written
+      → x.outgoing ≡ old.outgoing → (HasEnd old → HasEnd new) → IsFewer n old.task x.task → So n
+  on {n} x e stage room written out ends fewer =
+      let less : IsFewer n old.task new.task = subst (λ p. IsFewer n old.task p.task) (sym e) fewer in
+      inr (record {
+        used = use_on x e stage room written less.clear;
+        ends = ends;
+        left = less.rest;
+        out = inl (ap (λ p. p.outgoing) e ∙ out, less.to_do);
+      })
 
-  kept : (new : Port K) → new ≡ old → Goal o old 0 (to_do old.task) new
-  kept new e = subst (Goal o old 0 (to_do old.task)) (sym e)
-      (on 0 (to_do old.task) old refl refl s.room refl clear (search arith))
+  -- nothing changes
+  stay : new ≡ old → So 0
+  stay e = on old e refl u.room refl refl (λ h. subst HasEnd (sym e) h)
+      (record { to_do = search arith; rest = search arith; clear = u.clear })
 
-  -- what was answered wasn't taken, or the call does nothing for what is in hand
-  by_other : (picks : Picking K) (new : Port K) (call : Call) → Becomes picks call old new → acts (call ∷ []) ≡ 0
-      → Goal o old 0 (to_do old.task) new
-  by_other picks new WriteIp r h = lost 0 (to_do old.task) new stages.First r
-  by_other picks new ReadIp r h = subst (Goal o old 0 (to_do old.task)) (sym (r.up s.up))
-      (on 0 (to_do old.task) (record old { is_polled = true; is_full = false; task = read_again old.task }) refl refl
-      refl refl (again_clear old.task clear) (search (arith, again_less old.task)))
-  by_other picks new (WriteSa word) r h = kept new (r.up s.up)
-  by_other picks new (Next blocks action bytes) r h =
-      let quiet : new.outgoing ≡ old.outgoing = elim (looks_or_not old) [
-        | inl looks ↦ absurd (none-some o (sym looks.outgoing ∙ s.out))
-        | inr never ↦ (r.0.says.keeps never).outgoing
-      ] in elim (free_or_not old.task) [
-        | inl free ↦
-            let due = r.0.due (up_alive old s.up) free in
-            let frame = r.0.frame in
-            let stage = ap (λ p. p.stage) frame in
-            let full = ap (λ p. p.is_full) frame in
-            let written = ap (λ p. p.written) frame in
-            let slot : new.task ≡ tasks.Slot Responses = due.goes_out (written ∙ s.heard) (stage ∙ s.up)
-            (λ e. none-some o (sym e ∙ (quiet ∙ s.out))) (full ∙ s.room) in
-            on 0 (to_do old.task) new stage quiet (full ∙ s.room) written (subst (λ t. IsClear t
-            → ⊥) (sym slot) (λ c. c))
-            (subst (λ t. 0 + to_do new.task ≤ to_do t) (sym free)
-            (subst (λ t. 0 + to_do t ≤ 3) (sym slot) (search arith)))
-        | inr busy ↦ kept new (r.0.goes_on busy)
-      ]
-  by_other picks new (WasRead bytes (Ok done)) r h = absurd (search arith)
-  by_other picks new (Went outcome (Ok done)) r h = absurd (search arith)
-  by_other picks new call r h = by (minor picks call old new r tt)
-    where
-      by : Minor old new → Goal o old 0 (to_do old.task) new
-      by (Still e) = kept new e
-      by (PutsAside e) = subst (Goal o old 0 (to_do old.task)) (sym e) (on 0 (to_do old.task) _ refl refl s.room refl
-          (aside_clear old.task clear) (search (arith, aside_less old.task)))
-      by (ReadsAgain left e) = subst (Goal o old 0 (to_do old.task)) (sym e) (on 0 (to_do old.task) _ refl refl refl
-          refl (again_clear old.task clear) (search (arith, again_less old.task)))
-      by (Mounts becomes place e) = subst (Goal o old 0 (to_do old.task)) (sym e) (on 0 (to_do old.task) _ refl refl
-          s.room refl (step_clear _ old.task clear) (search (arith, step_less)))
-      by (GivesUp d) = lost 0 (to_do old.task) new (stages.Dead 9) d
+  same_ends : new.controller ≡ old.controller → HasEnd old → HasEnd new
+  same_ends e h = subst (λ c. 0 < length (ends_of c)) (sym e) h
+
+  as_was : {x : Port K} → new ≡ x → x.controller ≡ old.controller → HasEnd old → HasEnd new
+  as_was e same = same_ends (ap (λ p. p.controller) e ∙ same)
 
   -- ---- what was read
 
-  -- what a text leaves in hand
-  stays_on : (bound : ℕ) (new : Port K) → 4 ≤ bound → stays old new → Goal o old 1 bound new
-  stays_on bound new few e = subst (Goal o old 1 bound) (sym e)
-      (on 1 bound (record (heard old) { controller = new.controller; task = tasks.Free; is_stalled = true }) refl refl
-      s.room refl (λ c. c) (search (arith, few)))
-
-  sends_on : (slot : Descriptor) (t : Sent) (bytes : List ℕ) (new : Port K) → Sends slot t bytes old new
-      → Goal o old 1 8 new
-  sends_on slot (sents.Queued reference) bytes new r = subst (Goal o old 1 8) (sym r.frame)
-      (on 1 8 _ refl refl s.room refl (λ c. c) (search arith))
-  sends_on slot (sents.Answered reference aborted) bytes new r = subst (Goal o old 1 8) (sym r.frame)
-      (on 1 8 _ refl refl s.room refl (λ c. c) (search arith))
-
-  text_on : (slot : Descriptor) (foreign : Bool) (bytes : List ℕ) (new : Port K) → SeesText slot foreign bytes old new
-      → Goal o old 1 8 new
-  text_on slot foreign bytes new r = elim (none_or_not (own_end_of old foreign bytes)) [
-    | inl none ↦ by none (answered_to old bytes) refl
-    | inr some ↦ stays_on 8 new (search arith) (r.own_waits some (λ e. none-some o (sym e ∙ s.out)))
+  -- a message brings ends, and takes none
+  read_ends : (bytes : List ℕ) (done : Unit) → Hears bytes old (Ok done) new → (slot : Descriptor) (size : ℕ)
+      (foreign : Bool) → old.task ≡ tasks.Text slot size foreign → HasEnd old → HasEnd new
+  read_ends bytes done r slot size foreign at h = elim (none_or_some (own_end_of old foreign bytes)) [
+    | inl none ↦
+        let b = brings old.controller (handed old.controller.settings.units bytes) in
+        more_ends (ends_of old.controller) b.ends (ends_of new.controller)
+        (ap (λ c. ends_of c) (r.handed slot size foreign at refl none) ∙ b.all) h
+    | inr own ↦ same_ends (r.own slot size foreign at (λ n. none-some own.0 (sym n ∙ own.1))) h
   ]
+
+  text_fewer : {slot : Descriptor} {size : ℕ} {foreign : Bool} (after : Task) → 1 + to_do after ≤ 8 → 1 + rest after ≤ 5
+      → (IsClear after → ⊥) → old.task ≡ tasks.Text slot size foreign → IsFewer 1 old.task after
+  text_fewer after few less clear at =
+      subst (λ t. IsFewer 1 t after) (sym at) (record { to_do = few; rest = less; clear = clear })
+
+  read : (bytes : List ℕ) (done : Unit) → Hears bytes old (Ok done) new → IsGiven old.task (WasRead bytes (Ok done))
+      → So 1
+  read bytes done r given = by (sight bytes done old new r)
     where
-      by : own_end_of old foreign bytes ≡ None → (x : Result Sent SendFault) → answered_to old bytes ≡ x
-          → Goal o old 1 8 new
-      by none (Ok t) e = sends_on slot t bytes new (r.sent t none e)
-      by none (Err fault) e = stays_on 8 new (search arith) (r.waits fault none e)
-
-  header_on : (slot : Descriptor) (h : ℕ) (new : Port K) → SeesHeader slot h old new → Goal o old 1 9 new
-  header_on slot h new r = by (header_fault h) r
-    where
-      by : (x : Option ℕ) → MatchOption x (new ≡ record old {
-        task = tasks.Text slot (bytes_read (length_in h)) (connection_in h == 2);
-      }) (λ code. IsAsNew (stages.Dead code) old new) → Goal o old 1 9 new
-      by None e = subst (Goal o old 1 9) (sym e) (on 1 9 _ refl refl s.room refl (λ c. c) (search arith))
-      by (Some code) dead = lost 1 9 new (stages.Dead code) dead
-
-  -- a slot of the ring of commands
-  command_on : (b : Bool) (word : ℕ) (new : Port K)
-      → new ≡ cond b (record old { task = tasks.Header (record { word = word }) })
-      (record old { is_polled = false; task = tasks.Free }) → Goal o old 1 10 new
-  command_on true word new e =
-      subst (Goal o old 1 10) (sym e) (on 1 10 _ refl refl s.room refl (λ c. c) (search arith))
-  command_on false word new e =
-      subst (Goal o old 1 10) (sym e) (on 1 10 _ refl refl s.room refl (λ c. c) (search arith))
-
-  -- one of the ring of responses that is the port's
-  response_on : (b : Bool) (word : ℕ) (new : Port K) → b ≡ true
-      → new ≡ cond b (record old { task = tasks.Packet (record { word = word }) })
-      (record old { is_full = true; task = tasks.Free }) → Goal o old 1 3 new
-  response_on true word new is e =
-      subst (Goal o old 1 3) (sym e) (on 1 3 _ refl refl s.room refl (λ c. c) (search arith))
-  response_on false word new is e = absurd (false≢true is)
-
-  neighbour_on : (b : Bool) (side : Side) (new : Port K)
-      → new ≡ record old { task = cond b (tasks.Word side) tasks.Free } → Goal o old 1 6 new
-  neighbour_on true side new e =
-      subst (Goal o old 1 6) (sym e) (on 1 6 _ refl refl s.room refl (λ c. c) (search arith))
-  neighbour_on false side new e =
-      subst (Goal o old 1 6) (sym e) (on 1 6 _ refl refl s.room refl (λ c. c) (search arith))
-
-  by_read : (bytes : List ℕ) (done : Unit) (new : Port K) → Hears bytes old (Ok done) new → (t : Task)
-      → old.task ≡ t → IsGiven t (WasRead bytes (Ok done)) → Goal o old 1 (to_do t) new
-  by_read bytes done new r (tasks.Slot Responses) e given =
-      response_on (is_owned (num bytes 0 4)) (num bytes 0 4) new given ((r.sees refl).slot Responses e)
-  by_read bytes done new r (tasks.Slot Commands) e given =
-      command_on (is_owned (num bytes 0 4)) (num bytes 0 4) new ((r.sees refl).slot Commands e)
-  by_read bytes done new r (tasks.Neighbour side) e given =
-      neighbour_on (is_owned (num bytes 0 4)) side new ((r.sees refl).neighbour side e)
-  by_read bytes done new r (tasks.Header slot) e given =
-      header_on slot (num bytes 0 4) new ((r.sees refl).header slot e)
-  by_read bytes done new r (tasks.Text slot size foreign) e given =
-      text_on slot foreign bytes new ((r.sees refl).text slot size foreign e)
-  by_read bytes done new r t e given =
-      absurd (none-some (length bytes) (ap read_size (sym e) ∙ r.only refl))
+      by : Seen bytes done old new → So 1
+      by (Slides full polled of kept e) =
+          on _ e refl (kept given ∙ u.room) refl refl (as_was e refl) (read_fewer bytes done old.task of given)
+      by (IsFault code of d) = inl (stages.Dead code, d)
+      by (IsAnswered slot size foreign end at own none e a) = inr (record {
+        used = use_on _ e refl u.room refl (subst (λ p. IsClear p.task → ⊥) (sym e) (λ c. c));
+        ends = read_ends bytes done r slot size foreign at;
+        left = subst (λ t. 1 + rest new.task ≤ rest t) (sym at)
+            (subst (λ p. 1 + rest p.task ≤ 5) (sym e) (search arith));
+        out = inr (inr (
+          none,
+          answers end (subst (λ q. IsSomeAnd q (λ x. IsSomeAnd new.outgoing (λ y. (y.bytes.items ≡ end_bytes x)
+              × (y.kind ≡ end_kind foreign)))) own a.out) new.outgoing refl,
+          subst (λ t. 1 + to_do new.task ≤ 10 + rest t) (sym at)
+              (subst (λ p. 1 + to_do p.task ≤ 15) (sym e) (search arith)),
+        ));
+      })
+        where
+          answers : (x : End) → IsSomeAnd new.outgoing (λ y. (y.bytes.items ≡ end_bytes x)
+              × (y.kind ≡ end_kind foreign)) → (o : Option Outgoing) → new.outgoing ≡ o → new.outgoing ≢ None
+          answers x h None is = absurd (subst (λ q. IsSomeAnd q (λ y. (y.bytes.items ≡ end_bytes x)
+              × (y.kind ≡ end_kind foreign))) is h)
+          answers x h (Some o) is = λ n. none-some o (sym n ∙ is)
+      by (StaysInSlot slot size foreign at why e) = on _ e refl u.room refl refl
+          (read_ends bytes done r slot size foreign at)
+          (text_fewer tasks.Free (search arith) (search arith) (λ c. c) at)
+      by (IsSent slot size foreign (sents.Queued reference) at own answer e) = on _ e.frame refl u.room refl refl
+          (read_ends bytes done r slot size foreign at)
+          (text_fewer (tasks.Return Commands slot) (search arith) (search arith) (λ c. c) at)
+      by (IsSent slot size foreign (sents.Answered reference aborted) at own answer e) = on _ e.frame refl u.room refl
+          refl (read_ends bytes done r slot size foreign at)
+          (text_fewer (tasks.Return Commands slot) (search arith) (search arith) (λ c. c) at)
 
   -- ---- how an action went
 
-  packet_on : (outcome : Outcome) (slot : Descriptor) (new : Port K) → WritesOut outcome slot old new
-      → Goal o old 1 2 new
-  packet_on outcome slot new w = elim (done_or_not outcome) [
-    | inl done ↦ subst (Goal o old 1 2) (sym (w.done done)) (on 1 2 _ refl refl s.room refl (λ c. c) (search arith))
-    | inr missing ↦ lost 1 2 new (stages.Dead 2) (w.missing missing)
-  ]
-
-  hears_less : (r : Rings) (slot : Descriptor) → to_do (hears_of r Commands slot) ≤ 6
-  hears_less r slot = by (not (is_flagged slot.word)) (slots_of r Commands == 1)
+  went : (picks : List Choice → ℕ → Type 0) (outcome : Outcome) (done : Unit) → Goes picks outcome old (Ok done) new
+      → So 1
+  went picks outcome done r = by (deed picks outcome done old new r)
     where
-      by : (b c : Bool) → to_do (cond b tasks.Free (cond c (tasks.Word Commands) (tasks.Neighbour Commands))) ≤ 6
-      by true c = search arith
-      by false true = search arith
-      by false false = search arith
+      step_free : (t : Task) → IsStepping t → IsFewer 1 t tasks.Free
+      step_free (tasks.Step verdict) of = record { to_do = search arith; rest = search arith; clear = λ c. c }
+      step_free tasks.Transfer of = record { to_do = search arith; rest = search arith; clear = λ c. c }
+      step_free t of = absurd of
 
-  gives_on : (outcome : Outcome) (side : Side) (slot : Descriptor) (new : Port K) → (r : Option Rings)
-      → MatchOption r (IsAsNew (stages.Dead 7) old new) (λ r. GivesBack outcome r side slot old new)
-      → Goal o old 1 (to_do (tasks.Return side slot)) new
-  gives_on outcome side slot new None dead = lost 1 (to_do (tasks.Return side slot)) new (stages.Dead 7) dead
-  gives_on outcome side slot new (Some r) g = elim (done_or_not outcome) [
-    | inl done ↦ by side (g.done done)
-    | inr missing ↦ lost 1 (to_do (tasks.Return side slot)) new (stages.Dead 7) (g.missing missing)
-  ]
+      by : Deed picks outcome old new → So 1
+      by (Fails code d) = inl (stages.Dead code, d)
+      by (Eases after eased calm e) =
+          on _ e refl u.room refl refl (as_was e refl) (eased_fewer old.task after u.clear eased)
+      by (StepsOn frame lives calm (inl word)) = absurd (word.0 u.heard)
+      by (StepsOn frame lives calm (inr c)) = absurd (u.clear c.0)
+      by (WritesPacket slot untold at e) = on _ e refl u.room refl refl (as_was e refl)
+          (subst (λ t. IsFewer 1 t (tasks.Return Responses slot)) (sym at)
+          (record { to_do = search arith; rest = search arith; clear = λ c. c }))
+      by (GivesSlot Responses slot area at e) =
+          let g = given_so area Responses slot in
+          inr (record {
+            used = use_on _ e refl u.room refl (subst (λ p. IsClear p.task → ⊥) (sym e) g.1);
+            ends = as_was e refl;
+            left = subst (λ t. 1 + rest new.task ≤ rest t) (sym at) (subst (λ p. 1 + rest p.task ≤ 4) (sym e) g.0);
+            out = inr (inl (ap (λ p. p.outgoing) e));
+          })
+      by (GivesSlot Commands slot area at e) =
+          let g = given_so area Commands slot in
+          on _ e refl u.room refl refl (as_was e refl)
+          (subst (λ t. IsFewer 1 t (hears_of area Commands slot)) (sym at)
+          (record { to_do = g.2; rest = g.0; clear = g.1 }))
+      by (ServesStep verdict how takes) = elim (taken_or_not picks old new (verdict, takes)) [
+        | inl e ↦ on _ e refl u.room refl refl (as_was e refl) (step_free old.task (stepping old outcome verdict how))
+        | inr t ↦ on _ t.2.finished.2.frame refl u.room refl refl
+            (more_ends (ends_of old.controller) (brought_for t.0.connection (end_brought t.2.finished.0))
+            (ends_of new.controller) (steps_bring picks t.0.connection t.0.reference (block_told t.1) old.controller
+            new.controller t.2.finished.0 t.2.finished.1)) (step_free old.task (stepping old outcome verdict how))
+      ]
+
+  -- ---- a call by which nothing is wanted
+
+  pub goes_on : (picks : Picking K) (call : Call) → IsNoNext call → Becomes picks call old new
+      → IsGiven old.task call → So (acts (call ∷ []))
+  goes_on picks WriteIp none r given = inl (stages.First, r)
+  goes_on picks ReadIp none r given =
+      on _ (r.up u.up) refl refl refl refl (as_was (r.up u.up) refl) (again_fewer old.task u.clear)
+  goes_on picks (WriteSa word) none r given = stay (r.up u.up)
+  goes_on picks (Next blocks action bytes) none r given = absurd none
+  goes_on picks (WasRead bytes (Ok done)) none r given = read bytes done r given
+  goes_on picks (Went outcome (Ok done)) none r given = went (picks old.controller.picker) outcome done r
+  goes_on picks call none r given = by (minor picks call old new r tt)
     where
-      by : (at : Side) → new ≡ record (counted at old) { task = hears_of r at slot }
-          → Goal o old 1 (to_do (tasks.Return at slot)) new
-      by Responses e = record {
-        is = inr (inr (subst IsFreed (sym e)
-            (record { up = s.up; out = refl; room = s.room; heard = s.heard; clear = hears_clear r Responses slot })));
-      }
-      by Commands e = subst (Goal o old 1 7) (sym e)
-          (on 1 7 _ refl refl s.room refl (hears_clear r Commands slot) (search (arith, hears_less r slot)))
-
-  word_on : (b : Bool) (new : Port K) → new ≡ record old { task = cond b tasks.Free tasks.Interrupt }
-      → Goal o old 1 5 new
-  word_on true new e = subst (Goal o old 1 5) (sym e) (on 1 5 _ refl refl s.room refl (λ c. c) (search arith))
-  word_on false new e = subst (Goal o old 1 5) (sym e) (on 1 5 _ refl refl s.room refl (λ c. c) (search arith))
-
-  free_on : (new : Port K) → new ≡ record old { task = tasks.Free } → Goal o old 1 4 new
-  free_on new e = subst (Goal o old 1 4) (sym e) (on 1 4 _ refl refl s.room refl (λ c. c) (search arith))
-
-  block_on : (picks : List Choice → ℕ → Type 0) (new : Port K) → GoesOnWithBlock picks old new → Goal o old 1 4 new
-  block_on picks new goes = elim (taken_or_not picks old new goes) [
-    | inl e ↦ free_on new e
-    | inr t ↦ subst (Goal o old 1 4) (sym t.2.finished.2.frame) (on 1 4 _ refl refl s.room refl (λ c. c) (search arith))
-  ]
-
-  by_going : (picks : List Choice → ℕ → Type 0) (outcome : Outcome) (done : Unit) (new : Port K)
-      → Goes picks outcome old (Ok done) new → (t : Task) → old.task ≡ t → Goal o old 1 (to_do t) new
-  by_going picks outcome done new r tasks.Free e = absurd (subst (λ t. IsOutcomeOf t outcome) e (r.only refl))
-  by_going picks outcome done new r (tasks.Slot Responses) e =
-      lost 1 3 new (stages.Dead 6) ((r.acts refl).slot Responses e)
-  by_going picks outcome done new r (tasks.Slot Commands) e = lost 1 10 new (stages.Dead 6)
-      ((r.acts refl).slot Commands e)
-  by_going picks outcome done new r (tasks.Neighbour side) e = lost 1 6 new (stages.Dead 6)
-      ((r.acts refl).neighbour side e)
-  by_going picks outcome done new r (tasks.Header slot) e = lost 1 9 new (stages.Dead 1) ((r.acts refl).header slot e)
-  by_going picks outcome done new r (tasks.Text slot size foreign) e =
-      lost 1 8 new (stages.Dead 1) ((r.acts refl).text slot size foreign e)
-  by_going picks outcome done new r (tasks.Clear n) e = absurd (clear (subst IsClear (sym e) tt))
-  by_going picks outcome done new r (tasks.Packet slot) e = packet_on outcome slot new ((r.acts refl).packet slot e)
-  by_going picks outcome done new r (tasks.Return side slot) e =
-      gives_on outcome side slot new old.rings ((r.acts refl).gives_back side slot e)
-  by_going picks outcome done new r (tasks.Word side) e =
-      word_on (vector_in old.words.first == 0) new ((r.acts refl).word side e)
-  by_going picks outcome done new r tasks.Interrupt e = free_on new ((r.acts refl).interrupt e)
-  by_going picks outcome done new r tasks.Settle e = free_on new ((r.acts refl).unanswered e s.heard)
-  by_going picks outcome done new r (tasks.Step verdict) e =
-      block_on picks new (verdict, (r.moves refl).step verdict e)
-  by_going picks outcome done new r tasks.Transfer e = block_on picks new (_, (r.moves refl).transfer e)
-
-  -- ---- a call
-
-  pub by_call : (picks : Picking K) (new : Port K) (call : Call) → Becomes picks call old new → IsGiven old.task call
-      → Goal o old (acts (call ∷ [])) (to_do old.task) new
-  by_call picks new (WasRead bytes (Ok done)) r given = by_read bytes done new r old.task refl given
-  by_call picks new (Went outcome (Ok done)) r given = by_going _ outcome done new r old.task refl
-  by_call picks new call r given = by_other picks new call r refl
+      by : Minor old new → So (acts (call ∷ []))
+      by (Still e) = stay e
+      by (PutsAside e) = on _ e refl u.room refl refl (as_was e refl) (aside_fewer old.task u.clear)
+      by (ReadsAgain left e) = on _ e refl refl refl refl (as_was e refl) (again_fewer old.task u.clear)
+      by (Mounts becomes place e) = on _ e refl u.room refl refl (as_was e refl) (step_fewer place old.task u.clear)
+      by (GivesUp d) = inl (stages.Dead 9, d)

@@ -1,7 +1,7 @@
 -- Each call of a port deals with one thing at most, over a whole list of calls.
 use Rattle.mscp_ported.proofs.Numbered.{At, ends_numbered}
-use Rattle.mscp_ported.proofs.Common.{All, All-drop, All-head, Answered, AnsweredCalls, Becomes, Bool, Call, ControllersKeepThePromise, Deals, End, Err, First, Hardware, Holdings, IsMadeOf, IsOfKind, IsValid, KeepsPromise, List, Made, Next, Ok, Picking, Port, ReadIp, ReadsBytes, Record, Settings, Some, Stage, WasRead, Went, WriteIp, WriteSa, [], ap, arith, awaited, blocks, ends, false, fresh, history, inl, is_dead, is_numbered, none-some, numbers, numbers_ended, of, outstanding_of, refl, same_Some, slice_get, slice_index, subst, sym, true, untaken, waiting_on, ℕ, ◌*◌, ◌++◌, ◌+◌, ◌<◌, ◌^◌, ◌∙◌, ◌∷◌, ◌≡◌, ◌≢◌}
-use Rattle.mscp_ported.proofs.Minor.{GivesUp, Minor, Mounts, PutsAside, ReadsAgain, Still, minor}
+use Rattle.mscp_ported.proofs.Common.{All, All-drop, All-head, Answered, AnsweredCalls, Becomes, Call, ControllersKeepThePromise, Deals, End, Err, First, Hardware, Holdings, IsMadeOf, IsOfKind, IsValid, KeepsPromise, List, Made, Next, Ok, Picking, Port, ReadsBytes, Record, Settings, Some, Stage, WasRead, Went, WriteIp, [], ap, arith, awaited, blocks, ends, false, fresh, history, is_dead, is_numbered, none-some, numbers, numbers_ended, of, outstanding_of, refl, same_Some, slice_get, slice_index, subst, sym, true, untaken, waiting_on, ℕ, ◌<◌, ◌^◌, ◌∙◌, ◌∷◌, ◌≡◌, ◌≢◌}
+use Rattle.mscp_ported.proofs.Minor.{minor}
 use Rattle.std.specs.Prelude.{filter}
 use Rattle.mscp_port.specs.declared.stage.Stage.TheVariants as stages
 use Rattle.mscp_ported.proofs.Awaiting.{IsNoReset, IsSmall, Kept, nothing_kept, stays_so}
@@ -10,6 +10,7 @@ use Rattle.mscp_ported.proofs.Coming.{ends_of}
 use Rattle.mscp_ported.proofs.Dealing.{next_deals, next_so, passive_deals, passive_taken, read_deals, went_deals}
 use Rattle.mscp_ported.proofs.Decided.{passive_said}
 use Rattle.mscp_ported.proofs.Promised.{knows}
+pub use Rattle.mscp_ported.proofs.Sole.{nothing_two}
 use Rattle.mscp_ported.proofs.Staying.{IsPassive, passive_stays}
 
 -- ---- a fatal error stays
@@ -27,39 +28,13 @@ module _ {K : Type 0} (picks : Picking K) (old new : Port K) where
 
   dead_on : (call : Call) → call ≢ WriteIp → Becomes picks call old new → is_dead old.stage ≡ true
       → is_dead new.stage ≡ true
-  dead_on WriteIp never r d = absurd (never refl)
-  dead_on ReadIp never r d =
-      let c = dead_code old.stage d in
-      stays_dead (r.elsewhere (λ e. search (arith, c.1, e)) (λ e. search (arith, c.1, e))) d
-  dead_on (WriteSa word) never r d = let c = dead_code old.stage d in stays_dead (r.dead c.0 c.1) d
-  dead_on (Next blocks action bytes) never r d =
-      let c = dead_code old.stage d in stays_dead (r.0.dead c.0 c.1).1 d
-  dead_on (WasRead bytes (Ok done)) never r d =
-      let c = dead_code old.stage d in absurd (search (arith, r.dead c.0 c.1))
-  dead_on (Went outcome (Ok done)) never r d =
-      let c = dead_code old.stage d in absurd (search (arith, r.dead c.0 c.1))
-  dead_on call never r d = by (minor picks call old new r tt)
-    where
-      by : Minor old new → is_dead new.stage ≡ true
-      by (Still e) = stays_dead e d
-      by (PutsAside e) = same_dead (ap (λ (q : Port K). q.stage) e) d
-      by (ReadsAgain left e) = same_dead (ap (λ (q : Port K). q.stage) e) d
-      by (Mounts becomes place e) = same_dead (ap (λ (q : Port K). q.stage) e) d
-      by (GivesUp n) = ap is_dead n.stage
+  dead_on call never r d = grind (arith, dead_code, stays_dead, minor, same_dead)
 
   pub lived : (call : Call) → call ≢ WriteIp → Becomes picks call old new → is_dead new.stage ≡ false
       → is_dead old.stage ≡ false
-  lived call never r lives = by (is_dead old.stage) refl
-    where
-      by : (b : Bool) → is_dead old.stage ≡ b → b ≡ false
-      by false e = refl
-      by true e = search (arith, dead_on call never r e, lives)
+  lived call never r lives = grind (arith, dead_on)
 
 -- ---- at the start
-
-pub nothing_two : {X : Type 0} (xs ys : List X) → xs ++ ys ≡ [] → (xs ≡ []) × (ys ≡ [])
-nothing_two [] ys e = (refl, e)
-nothing_two (x ∷ xs) ys e = absurd (search (arith, e))
 
 pub no_ends : (es : List End) → numbers_ended es ≡ [] → es ≡ []
 no_ends [] e = refl
@@ -70,11 +45,7 @@ none_waits [] n e = refl
 none_waits (r ∷ rs) n e = search (arith, none_waits rs n)
 
 pub bytes_small : (b : List ℕ) → ((i : ℕ) → slice_index b i < 2 ^ 8) → IsSmall b
-bytes_small b h = few (slice_index b 0) (slice_index b 1) (slice_index b 2) (slice_index b 3) (h 0) (h 1) (h 2) (h 3)
-  where
-    few : (x y z w : ℕ) → x < 2 ^ 8 → y < 2 ^ 8 → z < 2 ^ 8 → w < 2 ^ 8
-        → 0 + x * 1 + y * 256 + z * 65536 + w * 16777216 < 2 ^ 32
-    few x y z w a b c d = omega (arith, a, b, c, d)
+bytes_small b h = grind arith
 
 first_of_all : (P : End → Type 0) (es : List End) (e : End) → All P es → slice_get es 0 ≡ Some e → P e
 first_of_all P [] e all h = absurd (none-some e h)
@@ -132,11 +103,7 @@ module _ {K : Type 0} (picks : Picking K) (c : Settings) (picker : K)
       no_numbers (r ∷ rs) e = absurd (search (arith, e))
 
       start_at : (n : ℕ) → At [] controller.waiting (ends_of controller) n
-      start_at n = inl (
-        refl,
-        none_waits controller.waiting n (no_numbers (waiting_on First controller.waiting) parts.0),
-        ap (filter (ends_numbered n)) (no_ends (of First controller.untaken) parts.1),
-      )
+      start_at n = grind (arith, none_waits, no_numbers, parts, ends_numbered, no_ends)
   kept p (WriteIp ∷ calls) reads a =
       nothing_kept p (ap (λ (h : Holdings K). h.waiting) a.2.controller) (ap (λ h. ends_of h) a.2.controller)
   kept p (Next blocks action bytes ∷ calls) reads a =

@@ -1,5 +1,5 @@
 -- The ends that came go out with what was decided of them, call by call.
-use Rattle.mscp_ported.proofs.Common.{Bool, Call, Decided, End, Hardware, Leaving, List, Port, Shape, [], ap, append-nil, append_assoc, arith, came_by, come, cond, drop, drop-append_seam, end_text, ends_said_by, false, is_dead, length, length-append, length-map, map, refl, since, subst, sym, true, ℕ, ◌++◌, ◌∙◌, ◌∷◌, ◌≡◌}
+use Rattle.mscp_ported.proofs.Common.{Bool, Call, Decided, End, Hardware, Leaving, List, Port, Shape, [], ap, append-nil, append_assoc, arith, came_by, come, cond, drop-append_seam, end_text, ends_said_by, false, is_dead, length, length-append, length-map, map, refl, since, subst, sym, true, ℕ, ◌++◌, ◌∙◌, ◌∷◌, ◌≡◌}
 use Rattle.mscp_ported.proofs.Coming.{ends_of}
 use Rattle.mscp_ported.proofs.Tables.{fields_of}
 
@@ -43,13 +43,7 @@ pub record Ends {K : Type 0} (h : Hardware) (units : List Shape) (p : Port K) (c
 -- all was forgotten
 pub none_left : {K : Type 0} (h : Hardware) (units : List Shape) (p : Port K) → ends_of p.controller ≡ []
     → p.decided.items ≡ [] → Ends h units p [] []
-none_left h units p ends decided = record {
-  gone = [];
-  all = sym (ap (λ es. zipped es p.decided.items) ends);
-  long = ap length ends ∙ sym (ap length decided);
-  texts = refl;
-  dead = λ d. ends;
-}
+none_left h units p ends decided = grind arith
 
 no_more : (ds : List Decided) (es : List End) → es ≡ [] → length es ≡ length ds → ds ≡ []
 no_more [] es e long = refl
@@ -63,41 +57,14 @@ pub record Grows {K : Type 0} (old new : Port K) (f : End → Decided) : Type 0 
 
 pub none_come : {K : Type 0} (old new : Port K) (f : End → Decided) → ends_of new.controller ≡ ends_of old.controller
     → new.decided.items ≡ old.decided.items → Grows old new f
-none_come old new f ends decided = record {
-  brought = [];
-  ends = ends ∙ sym (append-nil (ends_of old.controller));
-  decided = decided ∙ sym (append-nil old.decided.items);
-}
+none_come old new f ends decided = grind (arith, append-nil, ends_of)
 
 module _ {K : Type 0} (h : Hardware) (units : List Shape) (old new : Port K) (came : List Leaving)
     (said : List (List ℕ)) (k : Ends h units old came said) where
   pub grows : (f : End → Decided) (g : End → Leaving) → Grows old new f → ((e : End) → left_with e (f e) ≡ g e)
       → is_dead new.stage ≡ false → Ends h units new (came ++ map g (come old new)) said
-  grows f g r same alive = record {
-    gone = k.gone;
-    all = ap (λ xs. xs ++ map g (come old new)) k.all
-        ∙ append_assoc k.gone (zipped (ends_of old.controller) old.decided.items) (map g (come old new))
-        ∙ ap (λ xs. k.gone ++ xs)
-        (ap (λ xs. zipped (ends_of old.controller) old.decided.items ++ map g xs) come_so
-        ∙ ap (λ xs. zipped (ends_of old.controller) old.decided.items ++ xs) (sym (zip_map f g r.brought same))
-        ∙ sym (zip_more (ends_of old.controller) r.brought old.decided.items (map f r.brought) k.long)
-        ∙ sym (ap (λ es. zipped es new.decided.items) r.ends
-        ∙ ap (zipped (ends_of old.controller ++ r.brought)) r.decided));
-    long = search (
-      arith,
-      ap length r.ends,
-      ap length r.decided,
-      length-append (ends_of old.controller) r.brought,
-      length-append old.decided.items (map f r.brought),
-      length-map r.brought f,
-      k.long,
-    );
-    texts = k.texts;
-    dead = λ d. search (arith, d, alive);
-  }
-    where
-      come_so : come old new ≡ r.brought
-      come_so = ap (drop (length (ends_of old.controller))) r.ends ∙ drop-append_seam (ends_of old.controller) r.brought
+  grows f g r same alive =
+      grind (arith, append_assoc, ends_of, zip_map, zip_more, length-append, length-map, drop-append_seam)
 
   -- nothing comes and nothing is said
   pub stays : (call : Call) → (is_dead new.stage ≡ true → is_dead old.stage ≡ true)
@@ -119,21 +86,5 @@ module _ {K : Type 0} (h : Hardware) (units : List Shape) (old new : Port K) (ca
 
       by : (b : Bool) → is_dead new.stage ≡ b → Ends h units new (since new.stage call came (came_by call old new))
           (since new.stage call said (ends_said_by call old new))
-      by true is =
-          let none = ends ∙ k.dead (dead is) in
-          both [] [] (none_left h units new none
-          (decided ∙ no_more old.decided.items (ends_of old.controller) (k.dead (dead is)) k.long))
-          (reset_came new.stage came _ ∙ ap (λ b. cond b [] (came ++ came_by call old new)) is)
-          (reset_said new.stage said _ ∙ ap (λ b. cond b [] (said ++ ends_said_by call old new)) is)
-      by false is = both came said (record {
-        gone = k.gone;
-        all = k.all ∙ ap (λ xs. k.gone ++ xs)
-            (sym (ap (λ es. zipped es new.decided.items) ends ∙ ap (zipped (ends_of old.controller)) decided));
-        long = ap length ends ∙ k.long ∙ sym (ap length decided);
-        texts = k.texts;
-        dead = λ d. search (arith, d, is);
-      })
-          (reset_came new.stage came _ ∙ ap (λ b. cond b [] (came ++ came_by call old new)) is
-          ∙ ap (λ xs. came ++ xs) no_came ∙ append-nil came)
-          (reset_said new.stage said _ ∙ ap (λ b. cond b [] (said ++ ends_said_by call old new)) is
-          ∙ ap (λ xs. said ++ xs) no_said ∙ append-nil said)
+      by true is = grind (arith, both, none_left, no_more, ends_of)
+      by false is = grind (arith, both, ends_of, append-nil)

@@ -1,11 +1,9 @@
 -- By each call of a port the figure of a command that waits falls or stays.
-use Rattle.mscp_ported.proofs.Common.{AllByRecursion, Answered, AnsweredCalls, AsksAlways, AtEach, Becomes, Block, Bool, Buffer, Call, Choice, ControllersKeepThePromise, Drive, EachWaiting, End, Err, Falling, Finish, First, Hardware, Holdings, IsFinish, IsForgotten, IsLegal, IsMadeOf, IsOfBlock, IsRight, IsStepping, IsValid, KeepsPromise, List, Lowers, Made, Makes, Moment, Name, Next, None, NotBegun, Ok, Option, Outcome, Outgoing, OutgoingKind, Picking, Plain, Port, Promise, Record, Report, Result, Settings, Shape, Some, Task, TellsStep, Trace, Volume, WasRead, Went, [], answered_to, ap, append-nil, arith, begin_made, begun_task, block_begun, cond, ends_in, every_append, every_kept, every_weaker, false, false≢true, figure, figure_of, figure_of_name, figure_on, filter, find, flat_map-append, fresh, handed, history, inl, inr, is_begun, is_same, is_step, is_waiting, length, length-append, moment, moment_last, moments_of, name, name_before, name_last, name_on, new_name, none-some, not, own_end_of, queued_name, queues, refl, same_Some, same_is, same_name, send_made, step_told, subst, sym, take, take_all, take_at, take_made, told_of, transfer_told, true, unless_own, upcoming_begun, waiting, waiting_more, waiting_waits, waits_below, waits_in, ℕ, ◌++◌, ◌+◌, ◌<◌, ◌∙◌, ◌∷◌, ◌≡◌, ◌≤◌, ◌⊎◌}
+use Rattle.mscp_ported.proofs.Common.{AllByRecursion, Answered, AnsweredCalls, AsksAlways, AtEach, Becomes, Block, Bool, Buffer, Call, Choice, ControllersKeepThePromise, Drive, EachWaiting, End, Err, Falling, Finish, First, Hardware, Holdings, IsFinish, IsForgotten, IsLegal, IsMadeOf, IsOfBlock, IsRight, IsStepping, IsValid, KeepsPromise, List, Lowers, Made, Makes, Moment, Name, None, NotBegun, Ok, Option, Outcome, Outgoing, Picking, Plain, Port, Promise, Record, Report, Result, Settings, Shape, Some, Task, TellsStep, Trace, Volume, Went, [], answered_to, ap, append-nil, arith, begin_made, begun_task, block_begun, cond, ends_in, every_append, every_kept, every_weaker, false, false≢true, figure, figure_of, figure_of_name, figure_on, filter, find, flat_map-append, fresh, handed, history, inl, inr, is_begun, is_same, is_step, is_waiting, length, length-append, moment_last, moments_of, name, name_before, name_last, name_on, new_name, none-some, not, own_end_of, queued_name, queues, refl, same_Some, same_is, send_made, step_told, subst, sym, take_all, take_at, take_made, told_of, transfer_told, true, unless_own, upcoming_begun, waiting, waiting_more, waiting_waits, waits_below, waits_in, ℕ, ◌++◌, ◌<◌, ◌∙◌, ◌∷◌, ◌≡◌, ◌≤◌, ◌⊎◌}
 use Rattle.std.specs.Prelude.{Contains}
 use Rattle.mscp_drive.specs.declared.event.Event.TheVariants as events
 use Rattle.mscp_controller.specs.declared.entry.Entry.TheVariants as entries
-use Rattle.mscp_port.specs.declared.port.OutgoingKind.TheVariants as kinds
 use Rattle.mscp_port.specs.declared.task.Task.TheVariants as tasks
-use Rattle.mscp_ported.specs.Making.{taken_as}
 use Rattle.mscp_ported.proofs.Made.{follows}
 use Rattle.mscp_ported.proofs.Making.{made_more}
 use Rattle.mscp_ported.proofs.Moving.{steps}
@@ -17,12 +15,7 @@ use Rattle.mscp_ported.proofs.Promised.{Knows, knows, pickers_kept}
 pub found_of : (P : ℕ → Type 0) (f : ℕ → Bool) (xs : List ℕ) (x : ℕ) → AllByRecursion P xs → find f xs ≡ Some x
     → P x × (f x ≡ true)
 found_of P f [] x all e = absurd (none-some x e)
-found_of P f (y ∷ ys) x all e = by (f y) refl e (λ h. found_of P f ys x all.1 h)
-  where
-    by : (b : Bool) → f y ≡ b → cond b (Some y) (find f ys) ≡ Some x
-        → (find f ys ≡ Some x → P x × (f x ≡ true)) → P x × (f x ≡ true)
-    by true is h rest = let same = same_Some y x h in (subst P same all.0, subst (λ z. f z ≡ true) same is)
-    by false is h rest = rest h
+found_of P f (y ∷ ys) x all e = grind (arith, found_of P f ys x all.1, all.0)
 
 module _ (c : Settings) (t : Trace) (m : Moment) (right : IsRight c t m.0 m.1) (f : Falling c t m)
     (own : (x : ℕ) → Contains (waiting t) x → figure_of c t (name t x) ≡ figure c t x) (n : Name)
@@ -47,15 +40,7 @@ module _ (c : Settings) (t : Trace) (m : Moment) (right : IsRight c t m.0 m.1) (
   -- none that waits has the name of one that comes
   not_new : queues m.1 ≡ true → n ≡ queued_name m → ⊥
   unfolding figure_of
-  not_new q e = by (find (λ x. same_name (name t x) n) (waiting t)) refl waits
-    where
-      by : (o : Option ℕ) → find (λ x. same_name (name t x) n) (waiting t) ≡ o
-          → 1 ≤ Rattle.mscp_controller.specs.Figures.figure_found c t o → ⊥
-      by None is low = search (arith, low)
-      by (Some x) is low =
-          let h = found_of (λ x. Rattle.std.specs.Prelude.◌≢◌ (name t x) (queued_name m))
-          (λ x. same_name (name t x) n) (waiting t) x (new_name c t m right q) is in
-          h.0 (same_is (name t x) n h.1 ∙ e)
+  not_new q e = grind (arith, found_of, queued_name, new_name, same_is)
 
   each_lower : AllByRecursion IsLower (waiting after)
   each_lower = subst (λ xs. AllByRecursion IsLower xs) (sym (waiting_more t m))
@@ -72,15 +57,7 @@ module _ (c : Settings) (t : Trace) (m : Moment) (right : IsRight c t m.0 m.1) (
   pub lower_then : (figure_of c after n ≤ figure_of c t n)
       × (is_step m.0 ≡ true → figure_of c after n < figure_of c t n)
   unfolding figure_of
-  lower_then = by (find (λ x. same_name (name after x) n) (waiting after)) refl
-    where
-      by : (o : Option ℕ) → find (λ x. same_name (name after x) n) (waiting after) ≡ o
-          → (Rattle.mscp_controller.specs.Figures.figure_found c after o ≤ figure_of c t n)
-          × (is_step m.0 ≡ true → Rattle.mscp_controller.specs.Figures.figure_found c after o < figure_of c t n)
-      by None is = (search arith, λ step. waits)
-      by (Some y) is =
-          let h = found_of IsLower (λ x. same_name (name after x) n) (waiting after) y each_lower is in
-          h.0 (same_is (name after y) n h.1)
+  lower_then = grind (arith, found_of, each_lower, same_is)
 
 -- ---- what one call of a port makes is one moment at most
 
@@ -88,18 +65,10 @@ abbrev IsOne : List Made → Type 0
 IsOne more = (history more ≡ []) ⊎ ((m : Moment) × (history more ≡ m ∷ []))
 
 begins_none : {K : Type 0} (p : Port K) (before after : Task) → history (begin_made p before after) ≡ []
-begins_none p tasks.Free (tasks.Step verdict) = refl
-begins_none p tasks.Free tasks.Transfer = refl
-begins_none p old new = refl
+begins_none p before after = grind arith
 
 takes_one : {K : Type 0} (p : Port K) (before after : Option Outgoing) → IsOne (take_made p before after)
-takes_one p None (Some o) = by o.kind
-  where
-    by : (kind : OutgoingKind) → IsOne (taken_as p kind)
-    by kinds.Attention = inl refl
-    by kinds.End = inr (_, refl)
-    by kinds.UtilitiesEnd = inl refl
-takes_one p old new = inl refl
+takes_one p before after = grind arith
 
 sends_one : {K : Type 0} (p : Port K) (bytes : List ℕ) (t : Task) → IsOne (send_made p bytes t)
 sends_one p bytes (tasks.Text slot size foreign) = by (own_end_of p foreign bytes)
@@ -112,31 +81,13 @@ sends_one p bytes (tasks.Text slot size foreign) = by (own_end_of p foreign byte
 sends_one p bytes t = inl refl
 
 finishes_one : (o : Option Block) (b : Option Name) (more : List Made) → IsFinish o b more → IsOne more
-finishes_one (Some block) (Some name) more h = by h.0 h.1
-  where
-    by : (result : Result Report NotBegun) → more ≡ Finish name.connection name.reference block result ∷ [] → IsOne more
-    by (Ok report) e = inr ((events.Step block, entries.Stepped report), ap history e)
-    by (Err not_begun) e = inl (ap history e)
-finishes_one (Some block) None more h = inl (ap history h)
-finishes_one None b more h = inl (ap history h)
+finishes_one o b more h = grind arith
 
 one_beside : (xs ys : List Made) → history ys ≡ [] → IsOne xs → IsOne (xs ++ ys)
-one_beside xs ys none one =
-    let whole : history (xs ++ ys) ≡ history xs =
-    flat_map-append moments_of xs ys ∙ ap (λ ms. history xs ++ ms) none ∙ append-nil (history xs) in
-    elim one [
-      | inl e ↦ inl (whole ∙ e)
-      | inr m ↦ inr (m.0, whole ∙ m.1)
-    ]
+one_beside xs ys none one = grind (arith, flat_map-append, append-nil)
 
 makes_one : {K : Type 0} (call : Call) (old new : Port K) (more : List Made) → Makes call old new more → IsOne more
-makes_one (Next blocks action bytes) old new more h =
-    subst (λ ms. IsOne ms) (sym h) (one_beside (take_made old old.outgoing new.outgoing)
-    (begin_made new old.task new.task) (begins_none new old.task new.task) (takes_one old old.outgoing new.outgoing))
-makes_one (WasRead bytes (Ok done)) old new more h = subst (λ ms. IsOne ms) (sym h) (sends_one old bytes old.task)
-makes_one (Went outcome (Ok done)) old new more h =
-    finishes_one (step_told old outcome old.task) old.controller.begun more h
-makes_one call old new more h = inl (ap history h)
+makes_one call old new more h = grind (arith, one_beside, begins_none, takes_one, sends_one, finishes_one)
 
 -- a step that is told is a moment that is one
 tells_step : {K : Type 0} (picks : List Choice → ℕ → Type 0) (old new : Holdings K) (o : Option Block)
@@ -160,12 +111,7 @@ tells_step picks old new (Some other) (Some found) block name more told begun is
 
 at_last : (t : Trace) (m : Moment) (R : Trace → Moment → Trace → Type 0) → AtEach (t ++ m ∷ []) R
     → R t m (t ++ m ∷ [])
-at_last t m R each =
-    let h = each (length t) (omega (arith, length-append t (m ∷ []))) in
-    subst (λ x. R x m (t ++ m ∷ [])) (take_at t (m ∷ []) (length t) refl)
-    (subst (λ x. R (take (length t) (t ++ m ∷ [])) x (t ++ m ∷ [])) (moment_last t m)
-    (subst (λ x. R (take (length t) (t ++ m ∷ [])) (moment (t ++ m ∷ []) (length t)) x)
-    (take_all (length t + 1) (t ++ m ∷ []) (omega (arith, length-append t (m ∷ [])))) h))
+at_last t m R each = grind (arith, length-append, take_at, moment_last, take_all)
 
 -- where a step is in hand the controller has begun it
 begun_some : (units : List Shape) (buffers : List Buffer) (volumes : List Volume) (ds : List Drive) (rs : List Record)
@@ -181,9 +127,7 @@ stepping_told old outcome tasks.Transfer is = (transfer_told old outcome (block_
 stepping_told old outcome t is = absurd is
 
 stepping_block : (t : Task) → IsStepping t → IsOfBlock t
-stepping_block (tasks.Step verdict) is = tt
-stepping_block tasks.Transfer is = tt
-stepping_block t is = absurd is
+stepping_block t is = grind arith
 
 module _ {K : Type 0} (picks : Picking K) (c : Settings) (picker : K)
     (keeps : ControllersKeepThePromise (picks picker) picker) (valid : IsValid c) (before : List Made)

@@ -1,5 +1,5 @@
 -- Each end that waits fits the message whose end it is, after each call of a port.
-use Rattle.mscp_ported.proofs.Common.{AllByRecursion, Bool, Buffer, Call, Decided, Dies, End, First, Holdings, Leaving, List, Port, Record, Settings, Verdict, [], ap, append-nil, arith, cond, ends_said_by, every_append, false, filter, inl, inr, is_dead, is_numbered, is_of, length, length-append, length-map, map, refl, since, subst, sym, taken_by, true, without_ends, ℕ, ◌++◌, ◌∙◌, ◌∷◌, ◌≡◌}
+use Rattle.mscp_ported.proofs.Common.{AllByRecursion, Bool, Buffer, Call, Decided, Dies, End, Leaving, List, Port, Record, Settings, Verdict, [], ap, append-nil, arith, cond, ends_said_by, every_append, false, is_dead, is_numbered, length, length-append, length-map, map, refl, since, subst, sym, taken_by, true, without_ends, ℕ, ◌++◌, ◌∙◌, ◌∷◌, ◌≡◌}
 use Rattle.mscp_ported.proofs.Awaiting.{IsNoReset}
 use Rattle.mscp_ported.proofs.Buffered.{IsKeptEach}
 use Rattle.mscp_ported.proofs.Coming.{ends_of}
@@ -22,15 +22,7 @@ pub record Fitting (c : Settings) (Told : Verdict → Record → Type 0) {K : Ty
 pub nothing_fits : {c : Settings} {Told : Verdict → Record → Type 0} {K : Type 0} (p : Port K) (aw : List (List ℕ))
     → p.controller.waiting ≡ []
     → ends_of p.controller ≡ [] → p.decided.items ≡ [] → p.buffers.items ≡ [] → Fitting c Told p aw
-nothing_fits {c} {Told} p aw none no_end nothing no_buffer = record {
-  long = ap length no_end ∙ sym (ap length nothing);
-  kept = λ n. record {
-    none = λ e. ap (filter (is_of First n)) no_buffer;
-    own = λ r t e f. absurd (some_none r [] (sym e ∙ ap (filter (is_numbered n)) none));
-  };
-  fits = subst (λ es. AllByRecursion (FitsIn c Told aw) (zipped es p.decided.items)) (sym no_end) tt;
-  followed = subst (λ es. AreFollowed Told aw es) (sym no_end) tt;
-}
+nothing_fits {c} {Told} p aw none no_end nothing no_buffer = grind (arith, some_none, is_numbered, zipped)
 
 -- no message is awaited any more
 forget_each : (aw : List (List ℕ)) (rs : List Record) (bs : List Buffer) → IsKeptEach aw rs bs → IsKeptEach [] rs bs
@@ -62,9 +54,7 @@ module _ {c : Settings} {Told : Verdict → Record → Type 0} {K : Type 0} (cal
       by false = subst (λ z. Fitting c Told new z) (sym e) x
 
   pub died : Dies old new → So
-  died d = subst (λ z. Fitting c Told new z) (sym (calm.texts new.stage _ _)) (nothing_fits new _
-      (ap (λ (h : Holdings K). h.waiting) d.1.controller) (ap (λ (h : Holdings K). ends_of h) d.1.controller)
-      d.1.decided d.1.buffers)
+  died d = grind (arith, nothing_fits, ends_of)
 
   -- nothing changes
   pub unchanged : ends_said_by call old new ≡ [] → taken_by call old ≡ []
@@ -81,11 +71,7 @@ module _ {c : Settings} {Told : Verdict → Record → Type 0} {K : Type 0} (cal
       })
 
   pub stays : ends_said_by call old new ≡ [] → taken_by call old ≡ [] → Stays old new → So
-  stays said taken either = elim either [
-    | inr d ↦ died d
-    | inl s ↦ unchanged said taken (ap (λ (h : Holdings K). h.waiting) s.0) (ap (λ (h : Holdings K). ends_of h) s.0)
-        (ap (λ d. d.items) s.1) (ap (λ b. b.items) s.4)
-  ]
+  stays said taken either = grind (arith, died, unchanged, ends_of)
 
 -- ---- ends come, with what is decided of each
 
@@ -93,15 +79,7 @@ module _ (c : Settings) (Told : Verdict → Record → Type 0) {K : Type 0} (old
     (g : Grows old new f)
     (long : length (ends_of old.controller) ≡ length old.decided.items) where
   pub grown_long : length (ends_of new.controller) ≡ length new.decided.items
-  grown_long = search (
-    arith,
-    ap length g.ends,
-    ap length g.decided,
-    length-append (ends_of old.controller) g.brought,
-    length-append old.decided.items (map f g.brought),
-    length-map g.brought f,
-    long,
-  )
+  grown_long = grind (arith, length-append, ends_of, length-map)
 
   pub grown_fits : (aw : List (List ℕ)) → AllByRecursion
       (FitsIn c Told aw) (zipped (ends_of old.controller) old.decided.items)

@@ -1,5 +1,5 @@
 -- Each end that waits fits the message whose end it is.
-use Rattle.mscp_ported.proofs.Common.{AllByRecursion, Block, Bool, Buffer, Decided, Drive, End, First, IsCodeFor, Leaving, List, None, Option, Order, Port, Record, Settings, Shape, Some, Verdict, Volume, [], aborted_record, ap, arith, code_told, cond, controller_decided, end_decided, end_given, endcode, ends_formality, eq-eqb, eqb-true, false, filter, find, find_cases, find_first, find_none, found_decided, goes_on, has_number, inl, inr, is_formality, is_of, kept_at, kept_of, left_of, length, moved_body, nat_eq, not, num, outcome_at, outcome_body, position_first, position_none, refl, refused_body, slice_get, status_told, subst, sym, true, unit_found, volume_found, ℕ, ◌++◌, ◌+◌, ◌<◌, ◌^◌, ◌∙◌, ◌∷◌, ◌≡◌, ◌≤◌}
+use Rattle.mscp_ported.proofs.Common.{AllByRecursion, Block, Bool, Buffer, Decided, Drive, End, First, IsCodeFor, Leaving, List, None, Order, Port, Record, Settings, Shape, Some, Verdict, Volume, [], aborted_record, ap, arith, code_told, cond, end_decided, end_given, endcode, ends_formality, eq-eqb, eqb-true, false, filter, find, find_cases, find_first, find_none, has_number, inl, inr, is_formality, is_of, kept_at, kept_of, length, moved_body, nat_eq, not, num, outcome_body, position_first, position_none, refl, refused_body, slice_get, status_told, subst, sym, true, volume_found, ℕ, ◌++◌, ◌+◌, ◌<◌, ◌^◌, ◌∙◌, ◌∷◌, ◌≡◌, ◌≤◌}
 use Rattle.std.specs.Prelude.{position}
 use Rattle.mscp_packet.specs.declared.command.Order.TheVariants as orders
 use Rattle.mscp_packet.specs.declared.end.EndBody.TheVariants as bodies
@@ -38,14 +38,7 @@ FitsIn c Told aw l = (t : List ℕ) → filter (has_number l.end.reference) aw �
 decided_both : (code status : ℕ) (e : End) (units : List Shape) (flags : ℕ) (v : Volume)
     → ((end_decided code status e units flags v).code ≡ code)
     × ((end_decided code status e units flags v).status ≡ status)
-decided_both code status e units flags v = by (nat_eq e.code 0x84) (unit_found units e.unit)
-  where
-    by : (c : Bool) (o : Option Shape)
-        → ((cond c (controller_decided code status flags) (found_decided code status o v)).code ≡ code)
-        × ((cond c (controller_decided code status flags) (found_decided code status o v)).status ≡ status)
-    by true o = (refl, refl)
-    by false None = (refl, refl)
-    by false (Some unit) = (refl, refl)
+decided_both code status e units flags v = grind arith
 
 pub decided_code : (code status : ℕ) (e : End) (units : List Shape) (flags : ℕ) (v : Volume)
     → (end_decided code status e units flags v).code ≡ code
@@ -88,14 +81,7 @@ at_place [] b back = refl
 at_place (x ∷ front) b back = at_place front b back
 
 kept_found : (f : Buffer → Bool) (bs : List Buffer) → kept_at (position f bs) bs ≡ find f bs
-kept_found f bs = elim (find_cases f bs) [
-  | inl none ↦ ap (λ o. kept_at o bs) (position_none f bs none) ∙ sym (find_none f bs none)
-  | inr some ↦
-      let x = some.3 in
-      ap (λ o. kept_at o bs) (ap (position f) x.is ∙ position_first f some.0 some.1 some.2 x.before x.passed)
-      ∙ ap (λ zs. slice_get zs (length some.0)) x.is ∙ at_place some.0 some.1 some.2
-      ∙ sym (find_first f some.0 some.1 some.2 x.before x.passed) ∙ ap (find f) (sym x.is)
-]
+kept_found f bs = grind (arith, find_cases, position_none, find_none, position_first, at_place, find_first)
 
 -- where one is kept of a number, and where none is
 pub kept_one : (n : ℕ) (bs : List Buffer) (b : Buffer) → filter (is_of First n) bs ≡ b ∷ []
@@ -114,11 +100,7 @@ module _ (bs : List Buffer) (e : End) (t : List ℕ) where
   Coded c = IsCodeFor (cond (ends_formality c) c e.code) t
 
   itself_coded : IsCodeFor e.code t → Coded e.code
-  itself_coded is = by (ends_formality e.code)
-    where
-      by : (c : Bool) → IsCodeFor (cond c e.code e.code) t
-      by true = is
-      by false = is
+  itself_coded is = grind arith
 
   -- the end of a command of which that is kept
   kept_coded : (r : Record) (b : Buffer) → filter (is_of First e.reference) bs ≡ b ∷ [] → FitsBuffer r b t
@@ -127,10 +109,7 @@ module _ (bs : List Buffer) (e : End) (t : List ℕ) where
       (by (is_formality b.opcode) refl)
     where
       by : (c : Bool) → is_formality b.opcode ≡ c → Coded (cond c (b.opcode + 0x80) e.code)
-      by true is = subst (λ c. IsCodeFor (cond c (b.opcode + 0x80) e.code) t) (sym (formal_code b.opcode is))
-          (inr (ap (λ n. n + 0x80) f.opcode))
-      by false is = itself_coded (subst (λ n. IsCodeFor n t) (sym same)
-          (f.code (ap is_formality (sym f.opcode) ∙ is)))
+      by c is = grind (arith, formal_code, itself_coded)
 
   pub bare_same : filter (is_of First e.reference) bs ≡ [] → told ≡ e.code
   bare_same none = ap (λ o. code_told o e.code) (kept_none e.reference bs none)
@@ -150,9 +129,7 @@ moved_no_about order good other never is = never other is
 outcome_no_about : (shape : Shape) (status : ℕ) (order : Order) (good other : ℕ)
     → ((other : ℕ) → about_in (refused_body (endcode order)) ≡ Some other → ⊥)
     → about_in (outcome_body shape status order good) ≡ Some other → ⊥
-outcome_no_about shape status orders.Online good other never is = grind (arith, is)
-outcome_no_about shape status orders.SetUnit good other never is = grind (arith, is)
-outcome_no_about shape status order good other never is = moved_no_about order good other never is
+outcome_no_about shape status order good other never is = grind (arith, moved_no_about)
 
 -- its code is that of its order, and it is about no other command
 pub record IsPlainEnd (r : Record) (e : End) : Type 0 where
@@ -163,27 +140,10 @@ pub record IsPlainEnd (r : Record) (e : End) : Type 0 where
       → (other : ℕ) → about_in e.body ≡ Some other → ⊥
 
 pub given_plain : (k : Block) (d : Drive) (r : Record) (e : End) → end_given k d r ≡ Some e → IsPlainEnd r e
-given_plain k d r e h = by (goes_on d.online r.command.order k (left_of r)) h
-  where
-    own : End
-    own = outcome_at d.unit d.online r.command r.good k
-
-    by : (b : Bool) → cond b None (Some own) ≡ Some e → IsPlainEnd r e
-    by true h = absurd (none-some e h)
-    by false h = subst (λ (x : End). IsPlainEnd r x) (same_Some own e h) (record {
-      number = refl;
-      unit = refl;
-      code = refl;
-      no_about = λ never other is. outcome_no_about d.unit _ r.command.order _ other never is;
-    })
+given_plain k d r e h = grind (arith, none-some, same_Some, outcome_no_about)
 
 pub aborted_plain : (r : Record) → IsPlainEnd r (aborted_record r)
-aborted_plain r = record {
-  number = refl;
-  unit = refl;
-  code = refl;
-  no_about = λ never other is. moved_no_about r.command.order r.good other never is;
-}
+aborted_plain r = grind (arith, moved_no_about)
 
 -- with what is decided of it, it fits
 pub plain_fits : {c : Settings} {Told : Verdict → Record → Type 0} (bs : List Buffer) (r : Record) (b : Buffer)

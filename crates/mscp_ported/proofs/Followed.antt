@@ -1,10 +1,10 @@
 -- Behind the end of a command that was aborted waits that of its ABORT, whose message came later.
-use Rattle.mscp_ported.proofs.Common.{Bool, Command, Drive, End, First, Holdings, List, None, Option, Order, Record, Settings, Some, Verdict, [], aborted_record, answered_end, ap, arith, block_told, command_of, cond, drive_of, end_given, eq-eqb, eqb-true, false, false≢true, figure_polled, filter, find, found_is, handed, has_number, inl, inr, is_numbered, is_queued, length, list_any, nat_eq, none-some, not, num, option_map, option_to_list, record_aborted, refl, subst, sym, true, ℕ, ◌++◌, ◌||◌, ◌∙◌, ◌∷◌, ◌≡◌, ◌⊎◌}
+use Rattle.mscp_ported.proofs.Common.{Bool, Command, Drive, End, First, Holdings, List, None, Option, Order, Record, Settings, Some, Verdict, [], aborted_record, answered_end, ap, arith, block_told, command_of, cond, end_given, eq-eqb, eqb-true, false, false≢true, filter, find, found_is, handed, has_number, inl, inr, is_numbered, is_queued, length, list_any, nat_eq, none-some, not, num, option_map, option_to_list, record_aborted, refl, subst, sym, true, ℕ, ◌++◌, ◌||◌, ◌∙◌, ◌∷◌, ◌≡◌, ◌⊎◌}
 use Rattle.std.specs.Prelude.{◌≤◌}
 use Rattle.mscp_packet.specs.declared.command.Order.TheVariants as orders
 use Rattle.mscp_controller.specs.Outcomes.{own_end}
 use Rattle.mscp_ported.proofs.Behind.{aborts_behind, aborts_come, aborts_left, aborts_more, any_more, any_none, handed_abort, is_abort, is_abort_of}
-use Rattle.mscp_ported.proofs.Numbered.{At, AtEach, ends_numbered, first_of_one, none_beside, none_found, other_number, some_none}
+use Rattle.mscp_ported.proofs.Numbered.{AtEach, ends_numbered, first_of_one, none_beside, none_found, other_number, some_none}
 use Rattle.mscp_ported.proofs.Owning.{number_of}
 use Rattle.mscp_ported.proofs.Sole.{sole_left}
 
@@ -47,55 +47,19 @@ module _ (Told : Verdict → Record → Type 0) (aw : List (List ℕ)) where
   followed_forgotten (e ∷ es) all = (one all.0, followed_forgotten es all.1)
     where
       one : IsFollowed Told aw e es → IsFollowed Told [] e es
-      one (inl x) = inl x
-      one (inr (inl x)) = inr (inl x)
-      one (inr (inr f)) = inr (inr (λ t none. absurd (some_none t [] (sym none))))
+      one h = grind (arith, some_none)
 
   pub followed_more : (es fs : List End) → AreFollowed Told aw es → AreFollowed Told aw fs
       → AreFollowed Told aw (es ++ fs)
   followed_more [] fs all behind = behind
-  followed_more (e ∷ es) fs all behind = (one all.0, followed_more es fs all.1 behind)
-    where
-      one : IsFollowed Told aw e es → IsFollowed Told aw e (es ++ fs)
-      one (inl x) = inl x
-      one (inr (inl x)) = inr (inl x)
-      one (inr (inr f)) = inr (inr (λ t only. let b = f t only in record {
-        number = b.number;
-        end = any_more (ends_numbered b.number) es fs b.end;
-        message = b.message;
-      }))
+  followed_more (e ∷ es) fs all behind = grind (arith, followed_more es fs all.1 behind, any_more, ends_numbered)
 
   -- a message comes
   pub followed_beside : (t : List ℕ) (es : List End) → filter (ends_numbered (num t 0 4)) es ≡ []
       → AreFollowed Told aw es → AreFollowed Told (aw ++ t ∷ []) es
   followed_beside t [] none all = tt
-  followed_beside t (e ∷ es) none all = by (nat_eq e.reference (num t 0 4)) refl none all.0
-      (λ h. followed_beside t es h all.1)
-    where
-      by : (b : Bool) → nat_eq e.reference (num t 0 4) ≡ b
-          → cond b (e ∷ filter (ends_numbered (num t 0 4)) es) (filter (ends_numbered (num t 0 4)) es) ≡ []
-          → IsFollowed Told aw e es
-          → (filter (ends_numbered (num t 0 4)) es ≡ [] → AreFollowed Told (aw ++ t ∷ []) es)
-          → AreFollowed Told (aw ++ t ∷ []) (e ∷ es)
-      by true is h x rest = absurd (some_none e (filter (ends_numbered (num t 0 4)) es) h)
-      by false is h x rest = (one x, rest h)
-        where
-          apart : (b : Bool) → nat_eq (num t 0 4) e.reference ≡ b → b ≡ false
-          apart true x =
-              search (arith, is, eq-eqb e.reference (num t 0 4) (sym (eqb-true (num t 0 4) e.reference x)))
-          apart false x = refl
-
-          one : IsFollowed Told aw e es → IsFollowed Told (aw ++ t ∷ []) e es
-          one (inl x) = inl x
-          one (inr (inl x)) = inr (inl x)
-          one (inr (inr f)) = inr (inr (λ u only.
-              let b = f u (sym (none_beside (has_number e.reference) aw t
-              (apart (nat_eq (num t 0 4) e.reference) refl)) ∙ only) in
-              record {
-                number = b.number;
-                end = b.end;
-                message = aborts_more e.reference b.number aw (t ∷ []) b.message;
-              }))
+  followed_beside t (e ∷ es) none all =
+      grind (arith, followed_beside t es, nat_eq, ends_numbered, some_none, eq-eqb, eqb-true, none_beside, aborts_more)
 
   -- the end of a number is taken, of which no other is
   pub followed_left : (k : ℕ) (es : List End) → filter (ends_numbered k) es ≡ [] → AreFollowed Told aw es
@@ -139,16 +103,7 @@ module _ (Told : Verdict → Record → Type 0) (aw : List (List ℕ)) where
 -- no other end has the number of one that waits
 pub none_else : (aw : List (List ℕ)) (rs : List Record) (e : End) (es : List End) → AtEach aw rs (e ∷ es)
     → filter (ends_numbered e.reference) es ≡ []
-none_else aw rs e es at = by (at e.reference)
-  where
-    here : filter (ends_numbered e.reference) (e ∷ es) ≡ e ∷ filter (ends_numbered e.reference) es
-    here = ap (λ b. cond b (e ∷ filter (ends_numbered e.reference) es) (filter (ends_numbered e.reference) es))
-        (eq-eqb e.reference e.reference refl)
-
-    by : At aw rs (e ∷ es) e.reference → filter (ends_numbered e.reference) es ≡ []
-    by (inl none) = absurd (some_none e (filter (ends_numbered e.reference) es) (sym here ∙ none.2))
-    by (inr (inl w)) = absurd (some_none e (filter (ends_numbered e.reference) es) (sym here ∙ w.no_end))
-    by (inr (inr x)) = (first_of_one e x.end (filter (ends_numbered e.reference) es) (sym here ∙ x.sole)).1
+none_else aw rs e es at = grind (arith, ends_numbered, eq-eqb, some_none, first_of_one)
 
 module _ (Told : Verdict → Record → Type 0) {K : Type 0} (h : Holdings K) (aw : List (List ℕ)) (bytes : List ℕ)
     (long : 12 ≤ length bytes) (immediate : is_queued h.settings (command_of (handed h.settings.units bytes)) ≡ false)
@@ -161,14 +116,7 @@ module _ (Told : Verdict → Record → Type 0) {K : Type 0} (h : Holdings K) (a
   own = answered_end First h command
 
   reply : IsFollowed Told (aw ++ bytes ∷ []) own []
-  reply = inl (record {
-    settings = h.settings;
-    online = (drive_of h.drives command.unit).online;
-    figure = figure_polled h.settings First h.waiting command.order;
-    text = handed h.settings.units bytes;
-    immediate = immediate;
-    is = refl;
-  })
+  reply = grind arith
 
   behind : (m : ℕ) (x : Record) → command.order ≡ orders.Abort m → find (is_numbered m) h.waiting ≡ Some x
       → IsFollowed Told (aw ++ bytes ∷ []) (aborted_record x) (own ∷ [])
@@ -186,13 +134,7 @@ module _ (Told : Verdict → Record → Type 0) {K : Type 0} (h : Holdings K) (a
       number = (number_of m x (found_is (is_numbered m) h.waiting x found)).1
 
       apart : nat_eq (num bytes 0 4) x.command.reference ≡ false
-      apart = by (nat_eq (num bytes 0 4) x.command.reference) refl
-        where
-          by : (b : Bool) → nat_eq (num bytes 0 4) x.command.reference ≡ b → b ≡ false
-          by false e = refl
-          by true e = absurd (none-some x (sym (none_found (is_numbered (num bytes 0 4)) h.waiting none)
-              ∙ subst (λ j. find (is_numbered j) h.waiting ≡ Some x)
-              (sym (eqb-true (num bytes 0 4) x.command.reference e ∙ number)) found))
+      apart = grind (arith, nat_eq, none-some, none_found, is_numbered, eqb-true, number)
 
   pub answers_follow : AreFollowed Told (aw ++ bytes ∷ [])
       (option_to_list (option_map aborted_record (record_aborted First h.waiting command.order)) ++ own ∷ [])

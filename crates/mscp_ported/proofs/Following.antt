@@ -1,10 +1,9 @@
 -- What follows each call of a port, and so a list of calls.
-use Rattle.mscp_ported.proofs.Common.{Action, Answered, AreAccepted, AsksAlways, Becomes, Bool, Call, Commands, Goes, Hardware, Holdings, Idle, IfSome, IsMadeOf, IsOfBlock, IsOwed, List, Message, Next, None, Ok, Opened, Option, Outcome, Picking, Port, Read, ReadIp, Said, Slot, Some, Talk, Task, Turn, WasRead, Went, Wish, WriteIp, WriteSa, [], accepted, accepted_by, accepted_text, ap, append-nil, arith, blocks, heard, inl, inr, map, message_text, option_to_list, refl, said, said_in, silence, subst, sym, talk_by, talk_of, wish, ℕ, ◌∙◌, ◌∷◌, ◌≡◌, ◌≢◌}
+use Rattle.mscp_ported.proofs.Common.{Action, Answered, AreAccepted, AsksAlways, Becomes, Bool, Call, Commands, Goes, Hardware, Holdings, IsMadeOf, IsOwed, List, Message, Next, None, Ok, Opened, Option, Outcome, Picking, Port, ReadIp, Said, Slot, Some, Talk, Task, Turn, WasRead, Went, Wish, WriteIp, WriteSa, [], accepted, accepted_by, accepted_text, ap, append-nil, arith, blocks, heard, refl, said, silence, talk_by, talk_of, wish, ℕ, ◌∷◌, ◌≡◌, ◌≢◌}
 use Rattle.mscp_ported.proofs.Minor.{GivesUp, Minor, Mounts, PutsAside, ReadsAgain, Still, minor}
-use Rattle.mscp_port.specs.declared.stage.Stage.TheVariants as stages
 use Rattle.mscp_port.specs.declared.task.Task.TheVariants as tasks
 use Rattle.mscp_ported.proofs.After.{After, IsNoReset, IsPlain}
-use Rattle.mscp_ported.proofs.Look.{Fits, HasLeft, Hears, InStep, IsClear, IsOfRings, IsWide, NeedsOut, has_area, in_hand, look, slot_at}
+use Rattle.mscp_ported.proofs.Look.{Fits, Hears, InStep, has_area, in_hand, look, slot_at}
 use Rattle.mscp_ported.proofs.Acting.{IsReported}
 use Rattle.mscp_ported.proofs.Going.{went}
 use Rattle.mscp_ported.proofs.Hearing.{was_read}
@@ -64,74 +63,19 @@ module _ {K : Type 0} (picks : Picking K) (old new : Port K) (t : Talk) (said : 
           (record { said = λ s xs ys. refl; texts = λ s xs ys. refl }) d
 
 pub asked_before : (call : Call) (earlier : List Call) → AsksAlways (call ∷ earlier) → AsksAlways earlier
-asked_before (WasRead bytes (Ok done)) earlier asks = asks.1
-asked_before (Went outcome (Ok done)) earlier asks = asks.1
-asked_before call earlier asks = asks
+asked_before call earlier asks = grind arith
 
 module _ {K : Type 0} (picks : Picking K) (hardware : Hardware) (credits : ℕ) (controller : Holdings K)
     (start : Port K) (made : IsMadeOf hardware credits controller start) where
   begins_so : (p : Port K) → p ≡ start → InStep (look p) silence None [] []
-  begins_so p e = record {
-    names = record {
-      first_so = sym (ap (λ (q : Port K). q.words.first) e ∙ ap (λ w. w.first) made.words);
-      second_so = sym (ap (λ (q : Port K). q.words.second) e ∙ ap (λ w. w.second) made.words);
-      answer_so = subst (λ o. IfSome o (λ w. 0 ≡ w)) (sym (ap (λ (q : Port K). q.written) e ∙ made.written)) tt;
-      named_so = sym none;
-      area = λ h. search (arith, h, ap has_area stage);
-      early = λ h. none;
-      wide = subst (λ o. IfSome o IsWide) (sym none) tt;
-    };
-    counts = record {
-      told_so = ap (λ (q : Port K). q.responses) e ∙ made.responses;
-      heard_so = ap (λ (q : Port K). q.commands) e ∙ made.commands;
-      packets = tt;
-      messages = tt;
-      none = λ h. (refl, refl);
-    };
-    hand = record {
-      fits = subst (λ x. Fits (look p) x Idle) (sym free) tt;
-      asked = tt;
-      up = λ h. absurd (subst (λ x. IsOfRings x) free h);
-      step = λ h. search (arith, free, h);
-      clear = λ h. absurd (subst (λ x. IsClear x) free h);
-      own = tt;
-      idle = λ h. tt;
-      wished = λ h is. subst (λ x. IsOfBlock x) free is;
-    };
-    speech = record {
-      out = λ h. absurd (h quiet);
-      has = λ h. absurd (subst (λ x. NeedsOut x) free h);
-      tells = (
-        [],
-        ap (λ o. map said_in (option_to_list o)) quiet,
-        tt,
-        subst (λ x. HasLeft x Idle p.outgoing p.untold p.more) (sym free)
-            (ap (λ (q : Port K). q.untold) e ∙ made.untold ∙ sym (ap (λ (q : Port K). q.more) e)),
-      );
-    };
-    hears = ap (λ x. in_hand x Idle) free;
-    ended = λ d. record { talk = refl; none_said = refl; none_accepted = refl };
-  }
-    where
-      stage : p.stage ≡ stages.First
-      stage = ap (λ (q : Port K). q.stage) e ∙ made.first
-
-      free : p.task ≡ tasks.Free
-      free = ap (λ (q : Port K). q.task) e ∙ made.free
-
-      none : p.rings ≡ None
-      none = ap (λ (q : Port K). q.rings) e ∙ made.rings
-
-      quiet : p.outgoing ≡ None
-      quiet = ap (λ (q : Port K). q.outgoing) e ∙ made.outgoing
+  begins_so p e = grind (arith, has_area, look, in_hand)
 
   pub in_step : (p : Port K) (calls : List Call) → AsksAlways calls → (a : Answered picks start calls p)
       → InStep (look p) (talk_of picks start p calls a) (wish calls) (said picks start p calls a)
       (accepted picks start p calls a)
   in_step p [] asks a = begins_so p a
   in_step p (call ∷ calls) asks a =
-      after_call picks a.0 p (talk_of picks start a.0 calls a.1) (said picks start a.0 calls a.1)
-      (accepted picks start a.0 calls a.1) call calls asks a.2 (in_step a.0 calls (asked_before call calls asks) a.1)
+      grind (arith, in_step a.0 calls (asked_before call calls asks) a.1, after_call, asked_before)
 
   pub owed_so : (p : Port K) (calls : List Call) (blocks : Bool) (action : Action) (bytes : List ℕ) → AsksAlways calls
       → (a : Answered picks start (Next blocks action bytes ∷ calls) p)
@@ -144,9 +88,7 @@ module _ {K : Type 0} (picks : Picking K) (hardware : Hardware) (credits : ℕ) 
 -- what was accepted, by the message in hand
 pub accepted_so : (task : Task) (turn : Turn) (heard : List Message) (texts : List (List ℕ))
     → Hears task turn heard texts → AreAccepted heard turn texts
-accepted_so (tasks.Return Commands slot) (Read at header text) heard texts h =
-    inr (at, header, text, refl, sym h)
-accepted_so task turn heard texts h = inl (sym h ∙ append-nil (map message_text heard))
+accepted_so task turn heard texts h = grind (arith, append-nil)
 
 -- where a text is accepted, its header was read
 opened_so : {K : Type 0} (old : Port K) (task : Task) (turn : Turn) (bytes text : List ℕ) (more : List (List ℕ))

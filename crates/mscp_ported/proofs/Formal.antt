@@ -1,16 +1,12 @@
 -- A command that asks nothing of a disk waits in the controller, if the port doesn't answer it itself.
-use Rattle.mscp_ported.proofs.Common.{Bool, IsValid, List, None, Option, Settings, Shape, Some, Volume, ap, arith, bare_end, command_of, cond, false, find_cases, find_first, handed, inl, inr, is_formality, is_none, is_queued, length, move_fault, nat_le, nat_lt, next_named, none-some, num, option_map, own_end, place_in, position_none, range_fault, refl, refused_end, slice_index, stand_in, subst, sym, true, unit_found, volume_refusal, ℕ, ◌+◌, ◌<◌, ◌∙◌, ◌∷◌, ◌≡◌, ◌≤◌}
+use Rattle.mscp_ported.proofs.Common.{Bool, IsValid, List, None, Option, Settings, Shape, Some, Volume, ap, arith, command_of, cond, find_cases, find_first, handed, is_formality, is_none, is_queued, length, move_fault, next_named, none-some, num, option_map, own_end, place_in, position_none, range_fault, refl, slice_index, stand_in, subst, sym, true, unit_found, ℕ, ◌<◌, ◌∙◌, ◌∷◌, ◌≡◌, ◌≤◌}
 use Rattle.std.specs.Prelude.{All}
 use Rattle.mscp_ported.proofs.Sole.{found_all}
 
 -- its unit is there
 unit_there : (foreign : Bool) (v : Option Volume) (b : List ℕ) → own_end foreign v b ≡ None
     → is_formality (slice_index b 8) ≡ true → (x : Volume) × (v ≡ Some x)
-unit_there true v b none formal = absurd (none-some (bare_end b 0x80 0x0801) (sym none))
-unit_there false (Some x) b none formal = (x, refl)
-unit_there false None b none formal = absurd (none-some (bare_end b (slice_index b 8 + 0x80) 0) (sym
-    (ap (λ c. cond c (Some (bare_end b (slice_index b 8 + 0x80) 0))
-    (option_map (refused_end b) (volume_refusal None b))) (sym formal) ∙ none)))
+unit_there foreign v b none formal = grind (arith, none-some)
 
 placed : {X : Type 0} (f : ℕ → X) (o : Option ℕ) (x : X) → option_map f o ≡ Some x → (place : ℕ) × (o ≡ Some place)
 placed f None x e = absurd (none-some x e)
@@ -18,38 +14,11 @@ placed f (Some place) x e = (place, refl)
 
 found_unit : (units : List Shape) (n place : ℕ) → place_in units n ≡ Some place
     → (u : Shape) × (unit_found units n ≡ Some u)
-found_unit units n place e = elim (find_cases (λ u. Rattle.std.specs.Prelude.nat_eq u.number n) units) [
-  | inl none ↦ absurd (none-some place
-      (sym (position_none (λ u. Rattle.std.specs.Prelude.nat_eq u.number n) units none) ∙ e))
-  | inr some ↦ (
-    some.1,
-    ap (λ us. unit_found us n) some.3.is
-        ∙ find_first (λ u. Rattle.std.specs.Prelude.nat_eq u.number n) some.0 some.1 some.2 some.3.before some.3.passed,
-  )
-]
+found_unit units n place e = grind (arith, find_cases, none-some, position_none, find_first)
 
 -- an access of no bytes isn't refused there
 no_fault : (longest : ℕ) (u : Shape) → 1 ≤ longest → 0 < u.size → range_fault longest 0 0 u ≡ None
-no_fault longest u some size = by (nat_le u.size 0) (nat_lt u.size 0) (nat_lt longest 1) (high u.size size) (low u.size)
-    (enough longest some)
-  where
-    high : (n : ℕ) → 0 < n → nat_le n 0 ≡ false
-    high n h = search (arith, h)
-
-    low : (n : ℕ) → nat_lt n 0 ≡ false
-    low n = search arith
-
-    enough : (n : ℕ) → 1 ≤ n → nat_lt n 1 ≡ false
-    enough n h = search (arith, h)
-
-    by : (a b c : Bool) → a ≡ false → b ≡ false → c ≡ false
-        → cond a (Some Rattle.mscp_drive.specs.Extent.invalid_block)
-        (cond b (Some Rattle.mscp_drive.specs.Extent.invalid_byte_count)
-        (cond c (Some Rattle.mscp_drive.specs.Extent.invalid_byte_count) None)) ≡ None
-    by false false false a b c = refl
-    by true b c a e f = search (arith, a)
-    by false true c a e f = search (arith, e)
-    by false false true a e f = search (arith, f)
+no_fault longest u some size = grind (arith, some, size)
 
 stands_in : (c : Settings) (b : List ℕ) → 12 ≤ length b → move_fault c 0 0 (unit_found c.units (num b 4 2)) ≡ None
     → is_queued c (command_of (stand_in b)) ≡ true

@@ -1,5 +1,5 @@
 -- A packet is written, and slots are given back.
-use Rattle.mscp_ported.proofs.Common.{Bool, Choice, Commands, Descriptor, GivesBack, Idle, IsAsNew, IsOfBlock, IsSomeAnd, List, Looks, Marks, MatchOption, Message, None, Ok, Option, Outcome, Outgoing, OutgoingKind, Packet, Port, Read, Responses, Rings, Said, Side, Slot, Some, StandInOrder, Taken, Talk, Tells, Turn, Went, Wish, Written, [], address_in, ap, append-nil, arith, begins, cond, connection_of, connection_told, credits_by, credits_in, credits_with, false, given_turn, hears_of, inl, inr, is_flagged, is_owned, left_after, length, length-append, length-map, map, map-append, message_slot, message_text, mod-add-mod, none-some, not, packet_of, packet_slot, packet_with, refl, said_in, slots_in, slots_of, subst, sym, text_of, true, written, ℕ, ◌%◌, ◌++◌, ◌+◌, ◌-◌, ◌==◌, ◌∙◌, ◌∷◌, ◌≡◌}
+use Rattle.mscp_ported.proofs.Common.{Choice, Commands, Descriptor, GivesBack, IsAsNew, IsOfBlock, IsSomeAnd, List, MatchOption, Message, None, Ok, Option, Outcome, Outgoing, OutgoingKind, Packet, Port, Read, Responses, Rings, Said, Side, Slot, Some, StandInOrder, Taken, Talk, Tells, Turn, Went, Wish, Written, [], address_in, ap, append-nil, arith, begins, connection_of, connection_told, credits_by, credits_in, credits_with, given_turn, hears_of, inl, inr, is_owned, left_after, length, length-append, length-map, map, map-append, message_slot, message_text, mod-add-mod, none-some, packet_of, packet_slot, refl, said_in, subst, sym, text_of, true, written, ℕ, ◌%◌, ◌++◌, ◌+◌, ◌-◌, ◌∙◌, ◌∷◌, ◌≡◌}
 use Rattle.mscp_port.specs.declared.action.Action.TheVariants as actions
 use Rattle.mscp_port.specs.declared.port.OutgoingKind.TheVariants as kinds
 use Rattle.mscp_port.specs.declared.stage.Stage.TheVariants as stages
@@ -7,9 +7,10 @@ use Rattle.mscp_port.specs.declared.task.Task.TheVariants as tasks
 use Rattle.mscp_ported.specs.Talk.{done_by}
 use Rattle.mscp_ported.proofs.After.{After, same_stage}
 use Rattle.mscp_ported.proofs.Look.{AreTold, Fits, HasLeft, IsAsked, IsClear, IsOfRings, IsOwned, IsPacketOut, IsTelling, Look, NeedsOut, in_hand, left_all, left_quiet, look, quiet_left, slot_at}
+use Rattle.mscp_ported.proofs.Deeds.{done_or_not}
 use Rattle.mscp_ported.proofs.Hearing.{up_step}
 use Rattle.mscp_ported.proofs.Counting.{slots_so, address_mod, left_more, one_more, tell_more}
-use Rattle.mscp_ported.proofs.Acting.{IsReported, alive, dead_so, goes_on, is_done, quiet_of, same_said, told_so, up_of, write_one}
+use Rattle.mscp_ported.proofs.Acting.{IsReported, alive, dead_so, goes_on, quiet_of, same_said, told_so, up_of, write_one}
 
 -- ---- packets
 
@@ -25,11 +26,7 @@ credits_so untold kind = refl
 packet_tells : (slot : Slot) (address untold : ℕ) (bytes : List ℕ) (o : Outgoing)
     → address ≡ text_of slot.word - 4 → bytes ≡ packet_of (credits_by untold o.kind) o.kind o.bytes.items
     → Tells untold (record { slot = slot; address = address; bytes = bytes }) (said_in o)
-packet_tells slot address untold bytes o place is = (
-  place,
-  is ∙ ap (λ c. packet_with (credits_by untold o.kind) c o.bytes.items) (connection_so o.kind)
-      ∙ ap (λ c. packet_with c (connection_told o.kind) o.bytes.items) (credits_so untold o.kind),
-)
+packet_tells slot address untold bytes o place is = grind (arith, connection_so, credits_so)
 
 -- and what isn't told then
 left_so : (untold : ℕ) (kind : OutgoingKind) → untold - (credits_by untold kind - 1) ≡ left_after untold kind
@@ -47,7 +44,7 @@ module _ {K : Type 0} {picks : List Choice → ℕ → Type 0} {old new : Port K
   -- ---- slots
 
   pub packet_so : (slot : Descriptor) → old.task ≡ tasks.Packet slot → So
-  packet_so slot at = elim (is_done going) [
+  packet_so slot at = elim (done_or_not outcome) [
     | inl is ↦ done_so (old.untold - (credits_with old.untold old.outgoing - 1)) refl
         (ap look (((r.acts refl).packet slot at).done is))
     | inr never ↦ dead_so going 2 (((r.acts refl).packet slot at).missing never)
@@ -74,19 +71,11 @@ module _ {K : Type 0} {picks : List Choice → ℕ → Type 0} {old new : Port K
           → IsSomeAnd o (λ x. Tells left (record { slot = s; address = address; bytes = w.bytes }) (said_in x)
           × (u ≡ left_after left x.kind))
       said_so None out is h left e = h
-      said_so {u} (Some x) out is h left e =
-          subst (λ n. Tells n (record { slot = s; address = address; bytes = w.bytes }) (said_in x)
-          × (u ≡ left_after n x.kind)) e
-          (packet_tells s address old.untold w.bytes x refl h, is ∙ left_so old.untold x.kind)
+      said_so {u} (Some x) out is h left e = grind (arith, s, address, packet_tells, left_so)
 
       tells_so : {u : ℕ} → u ≡ old.untold - (credits_with old.untold old.outgoing - 1)
           → AreTold old.more (tasks.Return Responses slot) (Written s address w.bytes) old.outgoing u t.told said
-      tells_so is =
-          let h = k.speech.tells in
-          let left = left_all old.more h.0 in
-          let same : old.untold ≡ left = left_quiet old.task t.turn old.outgoing old.untold left
-          (quiet_of going (tasks.Packet slot) at (λ x. x)) h.3 in
-          (h.0, h.1, h.2, (s, address, w.bytes, refl, said_so old.outgoing refl is asked.1 left same))
+      tells_so is = grind (arith, left_all, left_quiet, quiet_of, s, address, said_so, asked)
 
       done_so : (u : ℕ) → u ≡ old.untold - (credits_with old.untold old.outgoing - 1)
           → look new ≡ record (look old) { untold = u; task = tasks.Return Responses slot } → So
@@ -106,54 +95,18 @@ module _ {K : Type 0} {picks : List Choice → ℕ → Type 0} {old new : Port K
       hears_calm : (area : Rings) (side : Side) → (IsOfRings (hears_of area side slot) → Unit {0})
           × (NeedsOut (hears_of area side slot) → ⊥) × (IsClear (hears_of area side slot) → ⊥)
           × ((turn : Turn) → in_hand (hears_of area side slot) turn ≡ [])
-      hears_calm area side = cases (not (is_flagged slot.word)) (slots_of area side == 1)
-        where
-          cases : (b c : Bool)
-              → (IsOfRings (cond b tasks.Free (cond c (tasks.Word side) (tasks.Neighbour side))) → Unit {0})
-              × (NeedsOut (cond b tasks.Free (cond c (tasks.Word side) (tasks.Neighbour side))) → ⊥)
-              × (IsClear (cond b tasks.Free (cond c (tasks.Word side) (tasks.Neighbour side))) → ⊥)
-              × ((turn : Turn) → in_hand (cond b tasks.Free (cond c (tasks.Word side)
-              (tasks.Neighbour side))) turn ≡ [])
-          cases true c = (λ h. tt, λ h. h, λ h. h, λ turn. refl)
-          cases false true = (λ h. tt, λ h. h, λ h. h, λ turn. refl)
-          cases false false = (λ h. tt, λ h. h, λ h. h, λ turn. refl)
+      hears_calm area side = grind (arith, in_hand)
 
       hears_quiet : (area : Rings) (side : Side) → IsTelling (hears_of area side slot) → ⊥
-      hears_quiet area side = cases (not (is_flagged slot.word)) (slots_of area side == 1)
-        where
-          cases : (b c : Bool) → IsTelling (cond b tasks.Free (cond c (tasks.Word side) (tasks.Neighbour side))) → ⊥
-          cases true c h = h
-          cases false true h = h
-          cases false false h = h
+      hears_quiet area side = grind arith
 
       hears_block : (area : Rings) (side : Side) → IsOfBlock (hears_of area side slot) → ⊥
-      hears_block area side = cases (not (is_flagged slot.word)) (slots_of area side == 1)
-        where
-          cases : (b c : Bool) → IsOfBlock (cond b tasks.Free (cond c (tasks.Word side) (tasks.Neighbour side))) → ⊥
-          cases true c h = h
-          cases false true h = h
-          cases false false h = h
+      hears_block area side = grind arith
 
       -- what the host is to hear of it
       turn_so : (area : Rings) (s : Slot) → s.word ≡ slot.word → t.rings ≡ Some area → (l : Look)
           → Fits l (hears_of area s.side slot) (given_turn t.rings s) × IsOwned (given_turn t.rings s)
-      turn_so area s word named l =
-          subst (λ o. Fits l (hears_of area s.side slot) (given_turn o s) × IsOwned (given_turn o s)) (sym named)
-          (subst (λ n. Fits l (hears_of area s.side slot)
-          (cond (not (is_flagged n)) Idle (cond (slots_in area s.side == 1) (Marks s.side) (Looks s.side)))
-          × IsOwned (cond (not (is_flagged n)) Idle (cond (slots_in area s.side == 1) (Marks s.side) (Looks s.side))))
-          (sym word)
-          (subst (λ m. Fits l (hears_of area s.side slot)
-          (cond (not (is_flagged slot.word)) Idle (cond (m == 1) (Marks s.side) (Looks s.side)))
-          × IsOwned (cond (not (is_flagged slot.word)) Idle (cond (m == 1) (Marks s.side) (Looks s.side))))
-          (sym (slots_so area s.side)) (cases (not (is_flagged slot.word)) (slots_of area s.side == 1))))
-        where
-          cases : (b c : Bool) → Fits l (cond b tasks.Free (cond c (tasks.Word s.side) (tasks.Neighbour s.side)))
-              (cond b Idle (cond c (Marks s.side) (Looks s.side)))
-              × IsOwned (cond b Idle (cond c (Marks s.side) (Looks s.side)))
-          cases true c = (tt, tt)
-          cases false true = (refl, tt)
-          cases false false = (refl, tt)
+      turn_so area s word named l = grind (arith, slots_so)
 
       next_mod : (n m : ℕ) → n ≡ m % 256 → (n + 1) % 256 ≡ (m + 1) % 256
       next_mod n m e = ap (λ x. (x + 1) % 256) e ∙ mod-add-mod m 256 1
@@ -292,11 +245,11 @@ module _ {K : Type 0} {picks : List Choice → ℕ → Type 0} {old new : Port K
 
       with_area : (side : Side) (area : Rings) → old.task ≡ tasks.Return side slot → old.rings ≡ Some area
           → GivesBack outcome area side slot old new → So
-      with_area Responses area at some g = elim (is_done going) [
+      with_area Responses area at some g = elim (done_or_not outcome) [
         | inl is ↦ responses_so area some at (ap look (g.done is))
         | inr never ↦ dead_so going 7 (g.missing never)
       ]
-      with_area Commands area at some g = elim (is_done going) [
+      with_area Commands area at some g = elim (done_or_not outcome) [
         | inl is ↦ commands_so area some at (ap look (g.done is))
         | inr never ↦ dead_so going 7 (g.missing never)
       ]

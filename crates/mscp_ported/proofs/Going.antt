@@ -1,6 +1,5 @@
 -- What follows an action of the port's that went somehow.
-use Rattle.mscp_ported.proofs.Common.{Action, Bool, Choice, Due, Idle, IsOutcomeOf, List, Marks, Moves, None, Ok, Outcome, Port, Said, Side, Some, Talk, Task, Went, Wish, [], ap, arith, block_begun, block_served, cond, false, interrupted, interrupts, map, message_text, refl, subst, sym, true, ℕ, ◌%◌, ◌*◌, ◌++◌, ◌==◌, ◌∙◌, ◌≡◌}
-use Rattle.mscp_port.specs.declared.action.Action.TheVariants as actions
+use Rattle.mscp_ported.proofs.Common.{Action, Bool, Choice, Due, Idle, IsOutcomeOf, List, Marks, Moves, None, Ok, Outcome, Port, Said, Side, Some, Talk, Task, Went, Wish, [], ap, arith, block_begun, block_served, cond, false, interrupts, map, message_text, refl, subst, sym, true, ℕ, ◌%◌, ◌*◌, ◌++◌, ◌==◌, ◌∙◌, ◌≡◌}
 use Rattle.mscp_port.specs.declared.task.Task.TheVariants as tasks
 use Rattle.mscp_ported.specs.Talk.{done_by}
 use Rattle.mscp_ported.proofs.After.{After, same_stage}
@@ -8,6 +7,7 @@ use Rattle.mscp_ported.proofs.Look.{Fits, IsAsked, IsInterrupt, in_hand, look}
 use Rattle.mscp_ported.proofs.Hearing.{up_step}
 use Rattle.mscp_ported.proofs.Acting.{IsReported, alive, begun_so, dead_so, goes_on, quiet_of, same_said, told_so, up_of, write_one}
 use Rattle.mscp_ported.proofs.Giving.{packet_so, return_so}
+use Rattle.mscp_ported.proofs.Plain.{retask}
 use Rattle.mscp_ported.proofs.Settling.{clear_so, settle_so}
 
 module _ {K : Type 0} {picks : List Choice → ℕ → Type 0} {old new : Port K} {t : Talk} {w : Wish} {outcome : Outcome}
@@ -49,33 +49,13 @@ module _ {K : Type 0} {picks : List Choice → ℕ → Type 0} {old new : Port K
   interrupt_so : old.task ≡ tasks.Interrupt → So
   interrupt_so at =
       goes_on going (record (look old) { task = tasks.Free }) (record t { turn = Idle }) said
-      (ap look ((r.acts refl).interrupt at)) (alive going) (same_stage old.stage _ ∙ talk) (same_said going) (record {
-        names = k.names;
-        counts = k.counts;
-        hand = record {
-          fits = tt;
-          asked = tt;
-          up = λ h. absurd h;
-          step = λ e. search (arith, e);
-          clear = λ h. absurd h;
-          own = tt;
-          idle = λ h. tt;
-          wished = λ e h. h;
-        };
-        speech = record {
-          out = k.speech.out;
-          has = λ h. absurd h;
-          tells =
-              (told_so going) tasks.Free Idle (quiet_of going tasks.Interrupt at (λ h. h)) (λ h. h);
-        };
-        hears = ap (λ x. map message_text t.heard ++ in_hand x t.turn) (sym at) ∙ k.hears;
-        ended = λ d. absurd (search (arith, d, (alive going)));
-      })
+      (ap look ((r.acts refl).interrupt at)) (alive going) (same_stage old.stage _ ∙ talk) (same_said going)
+      (retask (look old) t (Some w) None said texts old.written tasks.Free Idle k k.names.answer_so tt tt (λ h. h)
+      (λ e. search (arith, e)) (λ h. absurd h) tt (λ h. tt) (quiet_of going tasks.Interrupt at (λ h. h))
+      (ap (λ x. in_hand x t.turn) at) (λ d. absurd (search (arith, d, alive going))))
     where
       by : (a : Action) → IsInterrupt a → done_by a w.bytes t ≡ record t { turn = Idle }
-      by (actions.Interrupt vector) is =
-          ap (λ x. record t { turn = interrupted x }) (subst (λ x. Fits (look old) x t.turn) at k.hand.fits)
-      by a is = absurd is
+      by a is = grind (arith, look)
 
       talk : done_by w.action w.bytes t ≡ record t { turn = Idle }
       talk = by w.action (subst (λ x. IsAsked (look old) x w) at k.hand.asked)

@@ -1,5 +1,5 @@
 -- What begins to go out by a call of a port, and which ends its controller has more then.
-use Rattle.mscp_ported.proofs.Common.{AllByRecursion, Call, Deals, End, List, None, Ok, Option, Outgoing, PassesOn, Pending, Port, Some, TakesPoll, WasRead, [], accepted_by, ap, append-nil, arith, begins, ends_said_by, figure_on, flat_map, inl, inr, map, map-append, num, pending_end, pending_held, pending_in, pending_said, said_in, sym, ℕ, ◌++◌, ◌∙◌, ◌∷◌, ◌≡◌, ◌≤◌, ◌⊎◌}
+use Rattle.mscp_ported.proofs.Common.{AllByRecursion, Call, Deals, End, List, None, Ok, Option, Outgoing, PassesOn, Pending, Port, Some, TakesPoll, WasRead, [], accepted_by, ap, append-nil, arith, begins, ends_said_by, figure_on, flat_map, map, map-append, num, pending_end, pending_in, said_in, ℕ, ◌++◌, ◌∙◌, ◌∷◌, ◌≡◌, ◌≤◌, ◌⊎◌}
 use Rattle.mscp_ported.proofs.Coming.{ends_of}
 
 -- ---- what begins to go out
@@ -11,13 +11,7 @@ begun_one old new o none some = ap (λ x. begins x new) none ∙ ap (begins None
 pub silent : {K : Type 0} (call : Call) (old new : Port K) (aw : List (List ℕ)) → Deals aw call old new
     → ends_said_by call old new ≡ [] → ((bytes : List ℕ) (done : Unit) → call ≡ WasRead bytes (Ok done) → ⊥)
     → flat_map pending_in (map said_in (begins old.outgoing new.outgoing)) ≡ []
-silent call old new aw (inl q) said never = ap (λ os. flat_map pending_in (map said_in os)) q.begun
-silent call old new aw (inr (inl q)) said never =
-    ap (λ os. flat_map pending_in (map said_in os)) (begun_one old.outgoing new.outgoing q.out q.nothing q.begun)
-    ∙ ap (λ kind. pending_said kind q.out.bytes.items ++ []) q.kind
-silent call old new aw (inr (inr (inl q))) said never = absurd (search (arith, sym said ∙ q.ended))
-silent call old new aw (inr (inr (inr (inl q)))) said never = absurd (never q.message q.read.0 q.read.1)
-silent call old new aw (inr (inr (inr (inr q)))) said never = absurd (never q.message q.read.0 q.read.1)
+silent call old new aw h said never = grind (arith, begun_one)
 
 -- ---- what comes of the controller
 
@@ -30,11 +24,7 @@ pub record Grown {K : Type 0} (call : Call) (old new : Port K) : Type 0 where
 
 pub grown_none : {K : Type 0} (call : Call) (old new : Port K) → ends_of new.controller ≡ ends_of old.controller
     → Grown call old new
-grown_none call old new same = record {
-  brought = [];
-  ends = same ∙ sym (append-nil (ends_of old.controller));
-  these = tt;
-}
+grown_none call old new same = grind (arith, append-nil, ends_of)
 
 pub pending_these : {K : Type 0} (call : Call) (old : Port K) (es : List End)
     → AllByRecursion (λ (e : End). ((text : List ℕ) × (accepted_by call old ≡ text ∷ [])
@@ -51,10 +41,4 @@ pub grown_passes : {K : Type 0} (call : Call) (old new : Port K) (g : Grown call
     → map pending_end g.brought
     ≡ record { number = num bytes 0 4; figure = figure_on old (num bytes 12 4) } ∷ [])
     → PassesOn call old new
-grown_passes call old new g none poll = record {
-  more = map pending_end g.brought;
-  behind = ap (λ xs. xs ++ pending_held new) none ∙ ap (map pending_end) g.ends
-      ∙ map-append pending_end (ends_of old.controller) g.brought;
-  of_these = pending_these call old g.brought g.these;
-  poll = poll;
-}
+grown_passes call old new g none poll = grind (arith, map-append, ends_of, pending_these)

@@ -1,11 +1,10 @@
 -- What follows when bytes of a host's memory were read.
-use Rattle.mscp_ported.proofs.Common.{Action, Bool, Commands, Descriptor, Err, Idle, IfSome, IsAsNew, IsOfBlock, IsSomeAnd, List, Looks, Marks, MatchOption, Message, None, Ok, Opened, Option, Outgoing, Packet, Port, Read, Reads, Responses, Result, Rings, Said, SeesText, Side, Slot, Some, Taken, Talk, Task, Turn, WasRead, Wish, [], accepted_by, accepted_text, accepts, address_in, answered_to, ap, append-nil, arith, begins, bytes_read, cond, connection_in, false, header_fault, inl, inr, is_dead, is_owned, length, length_in, map, message_text, mod-lt, none-some, num, own_end_of, read_by, read_size, read_turn, refl, said_in, side_at, slot_in, slot_read, stays, stepped, subst, sym, takes, true, ℕ, ◌++◌, ◌==◌, ◌∙◌, ◌∷◌, ◌≡◌, ◌≢◌, ◌≤◌, ◌⊎◌}
+use Rattle.mscp_ported.proofs.Common.{Bool, Commands, Descriptor, Err, Idle, IsAsNew, IsOfBlock, List, Looks, Marks, MatchOption, Message, None, Ok, Opened, Option, Outgoing, Packet, Port, Read, Reads, Responses, Result, Rings, Said, SeesText, Side, Slot, Some, Taken, Talk, Task, Turn, WasRead, Wish, [], accepted_by, accepted_text, accepts, answered_to, ap, append-nil, arith, begins, bytes_read, cond, connection_in, false, header_fault, inl, inr, is_owned, length, length_in, map, message_text, mod-lt, none-some, num, own_end_of, read_by, read_size, read_turn, refl, said_in, side_at, slot_in, stays, subst, sym, takes, true, ℕ, ◌++◌, ◌==◌, ◌∙◌, ◌∷◌, ◌≡◌, ◌≢◌, ◌≤◌, ◌⊎◌}
 use Rattle.mscp_controller.specs.declared.entry.Sent.TheVariants as sents
-use Rattle.mscp_port.specs.declared.action.Action.TheVariants as actions
 use Rattle.mscp_port.specs.declared.stage.Stage.TheVariants as stages
 use Rattle.mscp_port.specs.declared.task.Task.TheVariants as tasks
 use Rattle.mscp_ported.proofs.After.{After, IsNoReset, alters, none_said, say_on, same_stage}
-use Rattle.mscp_ported.proofs.Look.{AreTold, Counts, Fits, Hears, InStep, IsAsked, IsClear, IsOfRings, IsOpen, IsOwned, IsRead, IsWide, IsTelling, Look, NeedsOut, given_at, in_hand, is_loud, look, slot_at, told_on}
+use Rattle.mscp_ported.proofs.Look.{AreTold, Counts, Fits, Hears, InStep, IsAsked, IsClear, IsOfRings, IsOwned, IsRead, IsTelling, Look, NeedsOut, given_at, in_hand, is_loud, look, slot_at, told_on}
 use Rattle.mscp_ported.proofs.Counting.{place_so}
 use Rattle.mscp_ported.proofs.Plain.{dies}
 
@@ -33,24 +32,9 @@ pub up_step : (l : Look) (t : Talk) (w : Option Wish) (said said' : List Said) (
       outgoing = outgoing;
       untold = untold;
     }) (record t { turn = turn; told = told; heard = heard }) None said' texts'
-up_step l t w said said' texts texts' responses commands task outgoing untold turn told heard k up counts fits own has
-    clear no_block tells hears = record {
-      names = k.names;
-      counts = counts;
-      hand = record {
-        fits = fits;
-        asked = tt;
-        up = λ h. up;
-        step = λ h. ap is_loud up;
-        clear = λ h. absurd (clear h);
-        own = own;
-        idle = λ h. absurd (h up);
-        wished = λ e h. no_block h;
-      };
-      speech = record { out = λ h. up; has = has; tells = tells };
-      hears = hears;
-      ended = λ d. absurd (search (arith, d, ap is_dead up));
-    }
+up_step l t w said said' texts texts' responses commands task outgoing untold
+    turn told heard k up counts fits own has clear no_block tells hears =
+    grind (arith, is_loud)
 
 -- a slot's address lies in its ring
 side_of : (r : Rings) (side : Side) (n : ℕ) → 1 ≤ r.responses → side_at (Some r) (slot_in r side n) ≡ side
@@ -70,13 +54,7 @@ module _ {K : Type 0} (old new : Port K) (t : Talk) (w : Wish) (bytes : List ℕ
       → old.stage ≡ stages.Up → read_by w.action bytes t ≡ t'
       → said ++ map said_in (begins old.outgoing l.outgoing) ≡ said'
       → texts ++ accepted_by (WasRead bytes (Ok done)) old ≡ texts' → InStep l t' None said' texts' → So
-  read_on l t' said' texts' e stage up talk more_said more_texts x =
-      subst (λ y. After (WasRead bytes (Ok done)) old y t (Some w) None said texts) (sym e)
-      (alters (WasRead bytes (Ok done)) old l t t' (Some w) None said said' texts texts' no_reset
-      (ap is_dead (stage ∙ up))
-      (ap (λ s. stepped old.stage s (read_by w.action bytes t)) stage
-      ∙ same_stage old.stage _ ∙ talk)
-      more_said more_texts x)
+  read_on l t' said' texts' e stage up talk more_said more_texts x = grind (arith, alters, no_reset, same_stage)
 
   -- nothing but the task became another, and nothing is accepted
   task_on : (task task' : Task) (turn : Turn) → old.task ≡ task → IsOfRings task
@@ -86,47 +64,13 @@ module _ {K : Type 0} (old new : Port K) (t : Talk) (w : Wish) (bytes : List ℕ
       → (IsTelling task → ⊥)
       → (IsTelling task' → ⊥) → in_hand task t.turn ≡ [] → in_hand task' turn ≡ [] → So
   task_on task task' turn at ring e talk none fits own has clear no_block calm calm' before after =
-      let up : old.stage ≡ stages.Up = k.hand.up (subst (λ x. IsOfRings x) (sym at) ring) in
-      read_on (record (look old) { task = task' }) (record t { turn = turn }) said texts e refl up talk
-      (none_said old.outgoing old.outgoing said refl) (ap (λ ys. texts ++ ys) none ∙ append-nil texts)
-      (up_step (look old) t (Some w) said said texts texts old.responses old.commands task' old.outgoing old.untold turn
-      t.told t.heard k up k.counts fits own has clear no_block
-      (told_on old.more old.task task' t.turn turn old.outgoing old.untold t.told said
-      (subst (λ x. IsTelling x → ⊥) (sym at) calm) calm' k.speech.tells)
-      (ap (λ xs. map message_text t.heard ++ xs) (after ∙ sym (ap (λ x. in_hand x t.turn) at ∙ before)) ∙ k.hears))
+      grind (arith, read_on, look, none_said, append-nil, up_step, told_on, in_hand)
 
   -- ---- a slot
 
   slot_talk : (side : Side) → old.task ≡ tasks.Slot side
       → read_by w.action bytes t ≡ record t { turn = takes (slot_at (look old) side (num bytes 0 4)) }
-  slot_talk side at = with_rings old.rings refl (subst (λ x. IsAsked (look old) x w) at k.hand.asked)
-    where
-      open_read : (x : Turn) (o : Option Rings) (address : ℕ) → IsOpen x
-          → read_turn o address bytes x ≡ takes (slot_read o address bytes)
-      open_read Idle o address fit = refl
-      open_read (Read slot header text) o address fit = refl
-      open_read x o address fit = absurd fit
-
-      with_rings : (o : Option Rings) → old.rings ≡ o
-          → IsSomeAnd o (λ x. w.action ≡ actions.Read (slot_in x side (given_at (look old) side)) 4)
-          → read_by w.action bytes t ≡ record t { turn = takes (slot_at (look old) side (num bytes 0 4)) }
-      with_rings None e h = absurd h
-      with_rings (Some area) e h =
-          let wide : IsWide area = subst (λ o. IfSome o IsWide) e k.names.wide in
-          let n = given_at (look old) side in
-          let named : t.rings ≡ Some area = k.names.named_so ∙ e in
-          ap (λ a. read_by a bytes t) h
-          ∙ ap (λ x. record t { turn = x })
-          (open_read t.turn t.rings (slot_in area side n) (subst (λ x. Fits (look old) x t.turn) at k.hand.fits)
-          ∙ ap (λ o. takes (slot_read o (slot_in area side n) bytes)) named
-          ∙ ap (λ s. takes (record { side = s; address = slot_in area side n; word = num bytes 0 4 }))
-          (side_of area side n wide.responses)
-          ∙ ap (λ x. takes (record { side = side; address = x; word = num bytes 0 4 })) (sym (place_so area side n))
-          ∙ ap (λ o. takes (record {
-            side = side;
-            address = address_in o side n;
-            word = num bytes 0 4;
-          })) (sym e))
+  slot_talk side at = grind (arith, look, given_at, slot_at, side_of, place_so)
 
   slot_read_so : (side : Side) → old.task ≡ tasks.Slot side → So
   slot_read_so side at = by side at
@@ -171,13 +115,7 @@ module _ {K : Type 0} (old new : Port K) (t : Talk) (w : Wish) (bytes : List ℕ
 
   read_one : (x y : Turn) → t.turn ≡ x → IsRead w.action
       → ((address : ℕ) → read_turn t.rings address bytes x ≡ y) → read_by w.action bytes t ≡ record t { turn = y }
-  read_one x y e is h = by w.action is
-    where
-      by : (a : Action) → IsRead a → read_by a bytes t ≡ record t { turn = y }
-      by (actions.Read address count) is =
-          ap (λ u. record t { turn = read_turn t.rings address bytes u }) e
-          ∙ ap (λ u. record t { turn = u }) (h address)
-      by a is = absurd is
+  read_one x y e is h = grind arith
 
   neighbour_so : (side : Side) → old.task ≡ tasks.Neighbour side → So
   neighbour_so side at = by (is_owned (num bytes 0 4)) ((r.sees refl).neighbour side at)
@@ -289,9 +227,7 @@ module _ {K : Type 0} (old new : Port K) (t : Talk) (w : Wish) (bytes : List ℕ
           taken_so old.outgoing (ap (λ x. accepts x old.outgoing (answered_to old bytes)) none
           ∙ ap (accepts None old.outgoing) ok) (ap look (sees.sent (sents.Answered reference aborted) none ok).frame)
           (inl refl)
-      sent_or none (Err fault) err =
-          stays_so (ap (λ x. accepts x old.outgoing (answered_to old bytes)) none
-          ∙ ap (accepts None old.outgoing) err) (sees.waits fault none err)
+      sent_or none (Err fault) err = grind (arith, stays_so, none, sees)
 
       by : (o : Option _) → own_end_of old foreign bytes ≡ o → So
       by None none = sent_or none (answered_to old bytes) refl
@@ -301,11 +237,4 @@ module _ {K : Type 0} (old new : Port K) (t : Talk) (w : Wish) (bytes : List ℕ
   not_read task at none = absurd (none-some (length bytes) (sym none ∙ sym (ap read_size at) ∙ r.only refl))
 
   pub was_read : So
-  was_read = by old.task refl
-    where
-      by : (task : Task) → old.task ≡ task → So
-      by (tasks.Slot side) at = slot_read_so side at
-      by (tasks.Neighbour side) at = neighbour_so side at
-      by (tasks.Header slot) at = header_so slot at
-      by (tasks.Text slot size foreign) at = text_so slot size foreign at
-      by task at = not_read task at refl
+  was_read = grind (arith, slot_read_so, neighbour_so, header_so, text_so, not_read)

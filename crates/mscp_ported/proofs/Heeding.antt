@@ -1,5 +1,5 @@
 -- Behind a message that a port read each end that waits fits its message still.
-use Rattle.mscp_ported.proofs.Common.{All, AllByRecursion, Bool, Command, End, First, Hears, Holdings, IsCodeFor, IsValid, List, None, Ok, Option, Order, Port, Record, Settings, Some, Verdict, WasRead, [], aborted_record, answered_end, ap, arith, balance_of, buffer_in, changes_at, command_of, cond, credits_of, ends_formality, eq-eqb, eqb-true, every_append, false, fault_of, figure_in, figure_on, figure_polled, filter, find, found_is, fresh_record, handed, has_number, inl, inr, is_formality, is_numbered, is_of, is_queued, length, nat_eq, none-some, num, option_map, option_to_list, outstanding_of, own_end, place_in, record_aborted, refl, same_Some, since, slice_index, status_told, subst, sym, taken_by, true, unaborted, volume_at, waiting_on, ℕ, ◌++◌, ◌+◌, ◌-◌, ◌<◌, ◌^◌, ◌∙◌, ◌∷◌, ◌≡◌, ◌≤◌}
+use Rattle.mscp_ported.proofs.Common.{All, AllByRecursion, Bool, Command, End, First, Hears, Holdings, IsCodeFor, IsValid, List, None, Ok, Option, Order, Port, Record, Settings, Some, Verdict, WasRead, [], aborted_record, answered_end, ap, arith, balance_of, buffer_in, changes_at, command_of, cond, credits_of, ends_formality, eq-eqb, eqb-true, every_append, false, fault_of, figure_in, figure_on, figure_polled, filter, find, found_is, fresh_record, handed, has_number, inl, inr, is_formality, is_numbered, is_of, length, nat_eq, none-some, num, option_map, option_to_list, outstanding_of, place_in, record_aborted, refl, same_Some, since, slice_index, status_told, subst, sym, taken_by, unaborted, waiting_on, ℕ, ◌++◌, ◌+◌, ◌-◌, ◌<◌, ◌^◌, ◌∙◌, ◌∷◌, ◌≡◌, ◌≤◌}
 use Rattle.mscp_ported.proofs.Refusals.{num_small, own_figure, some_balance}
 use Rattle.mscp_packet.specs.declared.command.Order.TheVariants as orders
 use Rattle.mscp_ported.proofs.Awaiting.{IsNoReset, Kept}
@@ -165,15 +165,7 @@ module _ {c : Settings} {Told : Verdict → Record → Type 0} {K : Type 0} (byt
           plain = by (is_formality (slice_index bytes 8)) refl
             where
               by : (x : Bool) → is_formality (slice_index bytes 8) ≡ x → x ≡ false
-              by false e = refl
-              by true e = search (
-                arith,
-                a.immediate,
-                subst (λ s. is_queued s (command_of (handed s.units bytes)) ≡ true) (sym settings)
-                    (formal_queued c g.foreign (volume_at old.volumes) bytes valid sizes g.long
-                    (subst (λ s. own_end g.foreign (option_map (volume_at old.volumes)
-                    (place_in s.units (num bytes 4 2))) bytes ≡ None) settings g.none) e),
-              )
+              by x e = grind (arith, formal_queued)
 
           polled_low : (order : Order) → figure_polled h.settings First h.waiting order < 2 ^ 32
           polled_low (orders.Status other) = low other
@@ -211,9 +203,7 @@ module _ {c : Settings} {Told : Verdict → Record → Type 0} {K : Type 0} (byt
             where
               apart : (c : Bool) → nat_eq n x.command.reference ≡ c → (z : Record)
                   → filter (is_numbered x.command.reference) h.waiting ≡ z ∷ [] → c ≡ false
-              apart false d z sole = refl
-              apart true d z sole = absurd (some_none z [] (sym sole
-                  ∙ ap (λ j. filter (is_numbered j) h.waiting) (sym (eqb-true n x.command.reference d)) ∙ nothing.1))
+              apart c d z sole = grind (arith, some_none, is_numbered, eqb-true, nothing)
 
       aborted_fits : (order : Order) → AllByRecursion FitsNow
           (option_to_list (option_map aborted_record (record_aborted First h.waiting order)))

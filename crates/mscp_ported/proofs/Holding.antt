@@ -1,5 +1,5 @@
 -- A port holds the command or the end of each message that is awaited.
-use Rattle.mscp_ported.proofs.Common.{AllByRecursion, Answered, AnsweredCalls, Bool, Call, Choice, ControllersKeepThePromise, First, Hardware, Holdings, HoldsAwaited, IsMadeOf, IsValid, KeepsPromise, List, Made, Name, None, Option, Picking, Port, ReadsBytes, Record, Settings, Some, Trace, [], ap, arith, awaited, bound, cond, false, figure, figure_at_place, figure_found, figure_of, figure_of_name, figure_on, filter, find, fresh, has_name, history, inl, inr, is_numbered, length, map, name, name_of, name_on, none-some, option_map, outstanding_of, position_none, refl, same_name, subst, sym, take_all, true, waiting, waiting_waits, waits_in, ℕ, ◌<◌, ◌↔◌, ◌∙◌, ◌∷◌, ◌≡◌, ◌≤◌}
+use Rattle.mscp_ported.proofs.Common.{AllByRecursion, Answered, AnsweredCalls, Bool, Call, Choice, ControllersKeepThePromise, First, Hardware, Holdings, HoldsAwaited, IsMadeOf, IsValid, KeepsPromise, List, Made, Name, None, Option, Picking, Port, ReadsBytes, Record, Settings, Some, Trace, [], ap, arith, awaited, false, figure, figure_at_place, figure_found, figure_of, figure_of_name, filter, find, fresh, has_name, history, inl, inr, is_numbered, length, map, name, name_of, name_on, none-some, option_map, outstanding_of, position_none, refl, same_name, subst, sym, take_all, true, waiting, waiting_waits, waits_in, ℕ, ◌<◌, ◌↔◌, ◌∙◌, ◌∷◌, ◌≡◌, ◌≤◌}
 use Rattle.std.specs.Prelude.{◌^◌, Contains}
 use Rattle.mscp_ported.proofs.Coming.{ends_of}
 use Rattle.mscp_ported.proofs.Ended.{kept}
@@ -13,12 +13,7 @@ use Rattle.mscp_ported.proofs.Sole.{found_sole}
 found_mapped : {X Y : Type 0} (f : Y → Bool) (g : X → Y) (xs : List X)
     → find f (map g xs) ≡ option_map g (find (λ x. f (g x)) xs)
 found_mapped f g [] = refl
-found_mapped f g (x ∷ xs) = by (f (g x)) (found_mapped f g xs)
-  where
-    by : (b : Bool) → find f (map g xs) ≡ option_map g (find (λ x. f (g x)) xs)
-        → cond b (Some (g x)) (find f (map g xs)) ≡ option_map g (cond b (Some x) (find (λ x. f (g x)) xs))
-    by true rest = refl
-    by false rest = rest
+found_mapped f g (x ∷ xs) = grind (arith, found_mapped f g xs)
 
 mapped_some : {X Y : Type 0} (g : X → Y) (o : Option X) (y : Y) → option_map g o ≡ Some y → (x : X) × (o ≡ Some x)
 mapped_some g None y e = absurd (none-some y e)
@@ -26,13 +21,7 @@ mapped_some g (Some x) y e = (x, refl)
 
 each_fails : {X : Type 0} (f : X → Bool) (xs : List X) → filter f xs ≡ [] → AllByRecursion (λ x. f x ≡ false) xs
 each_fails f [] e = tt
-each_fails f (x ∷ xs) e = by (f x) refl e (λ h. each_fails f xs h)
-  where
-    by : (b : Bool) → f x ≡ b → cond b (x ∷ filter f xs) (filter f xs) ≡ []
-        → (filter f xs ≡ [] → AllByRecursion (λ x. f x ≡ false) xs)
-        → (f x ≡ false) × AllByRecursion (λ x. f x ≡ false) xs
-    by true is h rest = absurd (some_none x (filter f xs) h)
-    by false is h rest = (is, rest h)
+each_fails f (x ∷ xs) e = grind (arith, each_fails f xs)
 
 -- none waits, and so the figure is 0
 pub no_figure : (budget n : ℕ) (rs : List Record) → filter (is_numbered n) rs ≡ []
@@ -73,19 +62,7 @@ module _ {K : Type 0} (picks : List Choice → ℕ → Type 0) (c : Settings) (c
   -- and it is small
   pub small_figure : IsValid c → figure_of_name held.settings.budget held.waiting m < 2 ^ 32
   unfolding figure_of
-  small_figure valid = subst (λ x. x < 2 ^ 32) (sym shown)
-      (by (find (λ x. same_name (name t x) m) (waiting t)))
-    where
-      small : (x : ℕ) → figure c t x ≤ bound c
-      small = subst (λ z. (x : ℕ) → figure c z x ≤ bound c) (take_all (length t) t (search arith))
-          (q.promise.small (length t) (search arith))
-
-      less : (a b : ℕ) → a ≤ b → b < 2 ^ 32 → a < 2 ^ 32
-      less a b h k = omega (arith, h, k)
-
-      by : (o : Option ℕ) → figure_found c t o < 2 ^ 32
-      by None = omega arith
-      by (Some x) = less (figure c t x) (bound c) (small x) valid.small_bound
+  small_figure valid = grind (arith, shown, take_all)
 
 -- ---- the law
 
@@ -111,23 +88,11 @@ module _ {K : Type 0} (picks : Picking K) (c : Settings) (picker : K)
       none_low x e h = search (arith, e, h)
 
       by : At aw p.controller.waiting (ends_of p.controller) n → HoldsAwaited p aw n
-      by (inl x) = record {
-        there = λ some. absurd (some x.0);
-        waits = λ low. absurd (none_low (figure_on p n)
-            (no_figure p.controller.settings.budget n p.controller.waiting x.1) low);
-        ended = λ holds. absurd (holds x.2);
-        one = λ low holds. holds x.2;
-      }
+      by (inl x) = grind (arith, none_low, no_figure)
       by (inr (inl w)) = record {
         there = λ some. inl (some_figure (picks picker) c promised.0 p.controller promised.1 n w.own w.sole);
         waits = λ low e. some_none w.text [] (sym w.message ∙ e);
         ended = λ holds. absurd (holds w.no_end);
         one = λ low holds. holds w.no_end;
       }
-      by (inr (inr x)) = record {
-        there = λ some. inr (λ e. some_none x.end [] (sym x.sole ∙ e));
-        waits = λ low e. some_none x.text [] (sym x.message ∙ e);
-        ended = λ holds e. some_none x.text [] (sym x.message ∙ e);
-        one = λ low holds. none_low (figure_on p n)
-            (no_figure p.controller.settings.budget n p.controller.waiting x.none) low;
-      }
+      by (inr (inr x)) = grind (arith, some_none, none_low, no_figure)

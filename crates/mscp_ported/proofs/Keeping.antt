@@ -1,11 +1,10 @@
 -- What is kept of a command after each call: its blocks so far were moved at their places.
-use Rattle.mscp_ported.proofs.Common.{Action, Answered, AsksAlways, Block, Bool, Buffer, Call, Connection, Contains, Drive, End, Err, First, Hardware, Holdings, IsMadeOf, IsStepping, List, MoveKind, Name, Next, None, Ok, Option, Order, Outcome, Picking, Port, Record, Says, Some, Task, Verdict, WasRead, Went, WriteIp, [], advanced, ap, arith, asked, begun_step, block_told, buffer_in, comes, cond, done_by, end_given, false, filter, given, goes_on, inl, inr, is_done, is_first, is_moving, is_numbered, is_of, is_step_of, kept_after, left_of, looks_or_not, min, moved, name_of, name_on, none-some, not_of, num, order_weight, outcome_at, record_at, refl, same_Some, same_is, same_name, subst, suc, sym, transfers, true, upcoming_begun, wanted, wish, without_among, ℕ, ◌*◌, ◌++◌, ◌+◌, ◌-◌, ◌<◌, ◌∙◌, ◌∷◌, ◌≡◌, ◌≢◌, ◌≤◌}
+use Rattle.mscp_ported.proofs.Common.{Action, Answered, AsksAlways, Block, Bool, Buffer, Call, Connection, Contains, Drive, End, First, Hardware, Holdings, IsMadeOf, IsStepping, List, MoveKind, Name, Next, None, Ok, Option, Order, Outcome, Picking, Port, Record, Says, Some, Verdict, WasRead, Went, WriteIp, [], advanced, ap, arith, asked, begun_step, block_told, buffer_in, comes, done_by, end_given, false, filter, given, inl, inr, is_done, is_first, is_moving, is_numbered, is_of, is_step_of, kept_after, left_of, looks_or_not, min, moved, name_of, name_on, none-some, not_of, num, order_weight, record_at, refl, same_Some, same_is, same_name, subst, sym, true, wanted, wish, without_among, ℕ, ◌*◌, ◌++◌, ◌+◌, ◌-◌, ◌<◌, ◌∙◌, ◌∷◌, ◌≡◌, ◌≢◌, ◌≤◌}
 use Rattle.mscp_ported.proofs.Stepping.{IsHow, Serves, drive_in, went_is}
 use Rattle.mscp_ported.proofs.Staying.{IsPassive, passive_stays}
 use Rattle.mscp_packet.specs.declared.command.MoveKind.TheVariants as moves
 use Rattle.mscp_packet.specs.declared.command.Order.TheVariants as orders
 use Rattle.mscp_port.specs.declared.action.Action.TheVariants as actions
-use Rattle.mscp_port.specs.declared.task.Task.TheVariants as tasks
 use Rattle.mscp_ported.proofs.Transferring.{goes_on_so, moves_so, no_done, none_moving, other_step, told_so}
 use Rattle.mscp_ported.proofs.Moving.{Steps, steps}
 use Rattle.mscp_ported.proofs.Owning.{AreOwned, Own, Owned, carries, nothing_kept, number_of, parts_of, quiet, read_owned}
@@ -16,12 +15,7 @@ use Rattle.mscp_ported.proofs.Sole.{served_goes_on, served_itself, served_other}
 -- an end tells the number of its command
 pub end_number : (k : Block) (d : Drive) (r : Record) (e : End) → end_given k d r ≡ Some e
     → e.reference ≡ r.command.reference
-end_number k d r e h = by (goes_on d.online r.command.order k (left_of r)) h
-  where
-    by : (b : Bool) → cond b None (Some (outcome_at d.unit d.online r.command r.good k)) ≡ Some e
-        → e.reference ≡ r.command.reference
-    by true h = absurd (none-some e h)
-    by false h = sym (ap (λ (x : End). x.reference) (same_Some (outcome_at d.unit d.online r.command r.good k) e h))
+end_number k d r e h = grind (arith, none-some, same_Some)
 
 among_after : (via : Connection) (o : Option End) (bs : List Buffer) (b : Buffer) → Contains (kept_after via o bs) b
     → Contains bs b
@@ -40,13 +34,7 @@ more_parts : (kind : MoveKind) (unit address first count n : ℕ) (order : Order
     → (xs : List Action) → xs ≡ parts_of order unit address n
     → xs ++ actions.Transfer kind unit (first + n) (address + n * 512) (min (count - n * 512) 512) ∷ []
     ≡ parts_of order unit address (n + 1)
-more_parts kind unit address first count n order is xs e =
-    ap (λ ys. ys ++ actions.Transfer kind unit (first + n) (address + n * 512) (min (count - n * 512) 512) ∷ [])
-    (e ∙ ap (λ o. parts_of o unit address n) is)
-    ∙ ap (transfers kind unit first address count) (after_it n) ∙ sym (ap (λ o. parts_of o unit address (n + 1)) is)
-  where
-    after_it : (n : ℕ) → suc n ≡ n + 1
-    after_it n = search arith
+more_parts kind unit address first count n order is xs e = grind (arith, parts_of)
 
 -- there are so many blocks
 still_bytes : (count done : ℕ) → 1 < order_weight (orders.Move moves.Read count 0) - done → done * 512 < count
@@ -123,9 +111,7 @@ module _ {K : Type 0} (picks : Picking K) (start p : Port K) (calls : List Call)
 
           all_there : (kind : MoveKind) (count first : ℕ) → r0.command.order ≡ orders.Move kind count first
               → r0.weight ≡ order_weight r0.command.order → 1 < left_of r0 → count ≤ r0.done * 512 → ⊥
-          all_there kind count first is whole more low =
-              let lower = still_bytes count r0.done
-              (subst (λ w. 1 < w - r0.done) (whole ∙ ap order_weight is) more) in search (arith, lower, low)
+          all_there kind count first is whole more low = grind (arith, still_bytes, r0)
 
       by : (b : Buffer) → Contains (kept_after r0.connection (end_given (block_told verdict) d r0) a.0.buffers.items) b
           → (r : Record)
@@ -149,14 +135,7 @@ module _ {K : Type 0} (picks : Picking K) (start p : Port K) (calls : List Call)
   -- no step is taken
   none_done : (IsStepping a.0.task → a.0.controller.begun ≡ None) → (n : ℕ)
       → done_by n (Went outcome (Ok done)) (wish calls) a.0 ≡ []
-  none_done none n = by a.0.task refl
-    where
-      by : (t : Task) → a.0.task ≡ t → done_by n (Went outcome (Ok done)) (wish calls) a.0 ≡ []
-      by tasks.Transfer e = no_done (is_done outcome) (is_moving a.0.task) (is_step_of n (begun_step a.0.controller))
-          (wanted (wish calls)) (ap (λ o. is_step_of n (upcoming_begun a.0.controller.drives a.0.controller.waiting
-          o)) (none (subst (λ x. IsStepping x) (sym e) tt)))
-      by t e = none_moving (is_done outcome) (is_moving a.0.task) (is_step_of n (begun_step a.0.controller))
-          (wanted (wish calls)) (ap is_moving e)
+  none_done none n = grind (arith, no_done, none_moving)
 
   went_owned : After
   went_owned = elim (went_is (picks a.0.controller.picker) outcome done a.0 p a.2) [
@@ -175,35 +154,24 @@ still_waits : {K : Type 0} (old new : Port K) → Says old new → new.controlle
 still_waits old new says = search (arith, looks_or_not old)
 
 passive_comes : {K : Type 0} (call : Call) (old : Port K) → IsPassive call → (n : ℕ) → comes n call old ≡ false
-passive_comes (WasRead bytes (Ok done)) old is n = absurd is
-passive_comes (WasRead bytes (Err unasked)) old is n = refl
-passive_comes call old is n = refl
+passive_comes call old is n = grind arith
 
 passive_done : {K : Type 0} (call : Call) (w : Option _) (old : Port K) → IsPassive call → (n : ℕ)
     → done_by n call w old ≡ []
-passive_done (Went outcome (Ok done)) w old is n = absurd is
-passive_done (Went outcome (Err unasked)) w old is n = refl
-passive_done call w old is n = refl
+passive_done call w old is n = grind arith
 
 module _ {K : Type 0} (picks : Picking K) (hardware : Hardware) (credits : ℕ) (controller : Holdings K)
     (start : Port K) (made : IsMadeOf hardware credits controller start) where
   passive_owned : (p : Port K) (call : Call) (calls : List Call) (a : Answered picks start (call ∷ calls) p)
       → IsPassive call → AreOwned picks start a.0 calls a.1 → AreOwned picks start p (call ∷ calls) a
-  passive_owned p call calls a is owned = elim (passive_stays picks call a.0 p a.2 is) [
-    | inl s ↦ quiet picks start p call calls a (passive_comes call a.0 is) (passive_done call (wish calls) a.0 is)
-        (ap (λ (h : Holdings K). h.waiting) s.0)
-        (λ b there. subst (λ bs. Contains bs b) (ap (λ x. x.items) s.4) there) owned
-    | inr d ↦ nothing_kept picks start p (call ∷ calls) a d.1.buffers
-  ]
+  passive_owned p call calls a is owned = grind (arith, passive_stays, quiet, passive_comes, passive_done, nothing_kept)
 
   pub are_owned : (p : Port K) (calls : List Call) → AsksAlways calls → (a : Answered picks start calls p)
       → AreOwned picks start p calls a
   are_owned p [] asks a = nothing_kept picks start p [] a (ap (λ (q : Port K). q.buffers.items) a ∙ made.buffers)
   are_owned p (WriteIp ∷ calls) asks a = nothing_kept picks start p (WriteIp ∷ calls) a a.2.buffers
   are_owned p (Next asks_for action bytes ∷ calls) asks a =
-      quiet picks start p (Next asks_for action bytes) calls a (λ n. refl) (λ n. refl) (still_waits a.0 p a.2.0.says)
-      (λ b there. subst (λ bs. Contains bs b) (ap (λ (q : Port K). q.buffers.items) a.2.0.frame) there)
-      (are_owned a.0 calls asks a.1)
+      grind (arith, are_owned a.0 calls asks a.1, quiet, still_waits)
   are_owned p (WasRead bytes (Ok done) ∷ calls) asks a =
       read_owned picks start p calls bytes done a (are_owned a.0 calls asks.1 a.1)
   are_owned p (Went outcome (Ok done) ∷ calls) asks a =

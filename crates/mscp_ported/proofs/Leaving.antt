@@ -1,5 +1,5 @@
 -- Ends that come by a message or by a step, and go out as something is wanted.
-use Rattle.mscp_ported.proofs.Common.{Bool, Connection, Decided, End, First, Hardware, Leaving, List, MayBegin, None, Option, Port, Says, Second, Shape, Some, Verdict, [], ap, append-nil, append_assoc, arith, cond, decided_ended, drop, end_left, end_text, end_told, ends_begun, false, inl, inr, is_dead, length, length-append, map, map-append, nat_lt, none-some, refl, same_Some, slice_get, sym, told_end, true, unit_found, ℕ, ◌++◌, ◌+◌, ◌∙◌, ◌∷◌, ◌≡◌, ◌≤◌}
+use Rattle.mscp_ported.proofs.Common.{Connection, Decided, End, Hardware, Leaving, List, MayBegin, Option, Port, Says, Shape, Some, Verdict, [], ap, append-nil, append_assoc, arith, decided_ended, drop, end_text, ends_begun, false, inl, inr, is_dead, length, length-append, map, map-append, nat_lt, none-some, refl, same_Some, slice_get, sym, told_end, true, ℕ, ◌++◌, ◌+◌, ◌∙◌, ◌∷◌, ◌≡◌, ◌≤◌}
 use Rattle.mscp_ported.proofs.Coming.{brought_for, ends_of}
 use Rattle.mscp_ported.proofs.Ending.{Ends, Grows, left_with, zipped}
 use Rattle.mscp_ported.proofs.Tables.{decided_by, text_so}
@@ -14,18 +14,8 @@ pub step_decided : {K : Type 0} (verdict : Verdict) (old new : Port K)
     → length (ends_of old.controller) ≡ length old.decided.items → length (ends_of new.controller) ≤ 64
     → (via : Connection) (o : Option End) → ends_of new.controller ≡ ends_of old.controller ++ brought_for via o
     → decided_ended via verdict o old new ≡ old.decided.items ++ map (decided_by verdict old new) (brought_for via o)
-step_decided verdict old new long few First (Some e) ends = room (nat_lt (length old.decided.items) 64) refl
-  where
-    room : (c : Bool) → nat_lt (length old.decided.items) 64 ≡ c
-        → cond c (old.decided.items ++ decided_by verdict old new e ∷ []) old.decided.items
-        ≡ old.decided.items ++ decided_by verdict old new e ∷ []
-    room true is = refl
-    room false is = absurd (over (length old.decided.items) (length (ends_of old.controller))
-        (length (ends_of new.controller)) is long
-        (ap length ends ∙ length-append (ends_of old.controller) (e ∷ [])) few)
-step_decided verdict old new long few First None ends = sym (append-nil _)
-step_decided verdict old new long few Second None ends = sym (append-nil _)
-step_decided verdict old new long few Second (Some e) ends = sym (append-nil _)
+step_decided verdict old new long few via o ends =
+    grind (arith, nat_lt, decided_by, over, ends_of, length-append, append-nil)
 
 -- the end of the command that is served, if it comes
 abbrev pub ended_grows : {K : Type 0} (verdict : Verdict) (old new : Port K)
@@ -58,25 +48,12 @@ module _ {K : Type 0} (h : Hardware) (units : List Shape) (old new : Port K) (ca
 
   text_of : (e : End) (d : Decided) → slice_get old.decided.items 0 ≡ Some d
       → told_end old e ≡ end_text h units (left_with e d)
-  text_of e d some =
-      ap (λ o. end_left e o (unit_found old.controller.settings.units e.unit) old.hardware) some
-      ∙ ap (λ us. end_told e d (unit_found us e.unit) old.hardware) settings
-      ∙ ap (end_told e d (unit_found units e.unit)) hardware ∙ text_so e d (unit_found units e.unit) h
+  text_of e d some = grind (arith, text_so)
 
   -- no end is taken
   none_taken : ends_begun old.outgoing new.outgoing ≡ [] → MayBegin old.controller new.controller
       → new.decided ≡ old.decided → Ends h units new came (said ++ ends_begun old.outgoing new.outgoing)
-  none_taken none may decided = record {
-    gone = k.gone;
-    all = k.all ∙ ap (λ xs. k.gone ++ xs) (sym (ap (λ es. zipped es new.decided.items) ends
-        ∙ ap (λ d. zipped (ends_of old.controller) d.items) decided));
-    long = ap length ends ∙ k.long ∙ sym (ap (λ d. length d.items) decided);
-    texts = ap (λ xs. said ++ xs) none ∙ append-nil said ∙ k.texts;
-    dead = not_dead;
-  }
-    where
-      ends : ends_of new.controller ≡ ends_of old.controller
-      ends = ap (λ c. ends_of c) may
+  none_taken none may decided = grind (arith, zipped, ends_of, append-nil, not_dead)
 
   pub goes_out : Ends h units new came (said ++ ends_begun old.outgoing new.outgoing)
   goes_out = elim (says_is old new says) [

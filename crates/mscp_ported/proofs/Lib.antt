@@ -1,4 +1,7 @@
 mod Common
+pub mod Deeds
+pub mod Sights
+pub mod Touching
 pub mod Look
 pub mod After
 pub mod Plain
@@ -34,6 +37,7 @@ pub mod Starting
 pub mod Room
 pub mod Soon
 pub mod Telling
+pub mod Volumes
 pub mod Changing
 pub mod Mounting
 pub mod Volumed
@@ -42,9 +46,10 @@ pub mod Sole
 pub mod Owning
 pub mod Transferring
 pub mod Keeping
-pub mod Standing
 pub mod Tallying
+pub mod Standing
 pub mod Aborted
+pub mod Handed
 pub mod Numbered
 pub mod Counted
 pub mod Numbering
@@ -75,7 +80,6 @@ pub mod Holding
 pub mod Growing
 pub mod Passing
 pub mod Passed
-pub mod Turning
 pub mod Turns
 pub mod Serving
 pub mod Itself

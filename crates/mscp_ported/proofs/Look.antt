@@ -1,5 +1,6 @@
 -- What of a port is in step with what was done in its host's memory.
-use Rattle.mscp_ported.proofs.Common.{Action, Bool, Commands, Due, Idle, IfSome, IsOfBlock, IsSomeAnd, List, Looks, Marks, Message, None, Opened, Option, Outgoing, Packet, Port, Read, Responses, Rings, Said, Side, Slot, Stage, StandInOrder, Taken, Talk, Task, TellAll, Tells, Turn, Wish, Written, [], address_in, bytes_read, connection_in, credits_by, false, is_dead, is_owned, left_after, length, length_in, map, message_slot, message_text, option_to_list, packet_of, packet_slot, said_in, silence, slot_in, text_of, true, ℕ, ◌%◌, ◌++◌, ◌+◌, ◌-◌, ◌==◌, ◌^◌, ◌∷◌, ◌≡◌, ◌≢◌, ◌≤◌}
+use Rattle.mscp_ported.proofs.Common.{Action, Bool, Commands, Due, Idle, IfSome, IsOfBlock, IsSomeAnd, List, Looks, Marks, Message, None, Opened, Option, Outgoing, Packet, Port, Read, Responses, Rings, Said, Side, Slot, Stage, StandInOrder, Taken, Talk, Task, TellAll, Tells, Turn, Wish, Written, [], address_in, bytes_read, connection_in, credits_by, false, is_dead, is_owned, left_after, length, length_in, map, message_slot, message_text, option_to_list, packet_of, packet_slot, said_in, silence, slot_in, text_of, true, ℕ, ◌%◌, ◌++◌, ◌+◌, ◌-◌, ◌==◌, ◌^◌, ◌∷◌, ◌≡◌, ◌≢◌, ◌≤◌, arith}
+pub use Rattle.mscp_ported.proofs.Deeds.{IsClear}
 use Rattle.mscp_port.specs.declared.action.Action.TheVariants as actions
 use Rattle.mscp_port.specs.declared.stage.Stage.TheVariants as stages
 use Rattle.mscp_port.specs.declared.task.Task.TheVariants as tasks
@@ -159,13 +160,7 @@ IsOfRings tasks.Interrupt = ⊥
 IsOfRings task = Unit {0}
 
 pub block_rings : (task : Task) → IsOfBlock task → IsOfRings task
-block_rings (tasks.Step verdict) h = tt
-block_rings tasks.Transfer h = tt
-block_rings task h = absurd h
-
-abbrev pub IsClear : Task → Type 0
-IsClear (tasks.Clear done) = Unit {0}
-IsClear task = ⊥
+block_rings task h = grind arith
 
 -- in these stages a host may be interrupted
 abbrev pub is_loud : Stage → Bool

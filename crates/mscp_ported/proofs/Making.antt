@@ -1,5 +1,5 @@
 -- What a port's controller answers to the calls that the port makes of it, by one call of its own.
-use Rattle.mscp_ported.proofs.Common.{AnsweredCalls, Block, Bool, Call, Choice, End, Err, Finish, First, Goes, Hears, Holdings, IsFinish, IsForgotten, IsReadingText, List, Made, Makes, MatchOption, MoveKind, Name, None, Ok, Option, Outcome, Picking, Plain, Port, Result, Some, TakesBegun, TakesBlock, Task, Unasked, Upcoming, Verdict, WasRead, Went, [], answered_to, ap, block_begun, block_of, block_served, block_told, handed, inl, inr, none-some, own_end_of, part_now, part_served, refl, send_made, step_told, subst, sym, told_as, told_of, told_unless, transfer_told, unless_own, ℕ, ◌++◌, ◌∙◌, ◌∷◌, ◌≡◌, ◌⊎◌}
+use Rattle.mscp_ported.proofs.Common.{AnsweredCalls, Block, Bool, Call, Choice, End, Err, Finish, First, Goes, Hears, Holdings, IsFinish, IsForgotten, IsReadingText, List, Made, Makes, MatchOption, MoveKind, Name, None, Ok, Option, Outcome, Picking, Plain, Port, Result, Some, TakesBegun, TakesBlock, Task, Unasked, Upcoming, Verdict, WasRead, Went, [], answered_to, ap, block_begun, block_of, block_served, block_told, handed, inl, inr, none-some, own_end_of, part_now, part_served, refl, send_made, step_told, subst, sym, told_as, told_of, told_unless, transfer_told, unless_own, ℕ, ◌++◌, ◌∙◌, ◌∷◌, ◌≡◌, ◌⊎◌, arith}
 use Rattle.mscp_drive.specs.declared.event.Event.TheVariants as events
 use Rattle.mscp_controller.specs.declared.entry.Entry.TheVariants as entries
 use Rattle.mscp_port.specs.declared.action.Outcome.TheVariants as outcomes
@@ -61,24 +61,10 @@ went picks outcome (Ok done) old new r = by old.task refl
     step_so : (t : Task) (verdict : Verdict) (block : Block) → old.task ≡ t → step_told old outcome t ≡ Some block
         → block_told verdict ≡ block → TakesBegun (picks old.controller.picker) verdict old new
         → Follows picks (Went outcome (Ok done)) old new
-    step_so t verdict block at told same h =
-        let f = finished (picks old.controller.picker) verdict old new old.controller.begun h in
-        inr (
-          f.0,
-          subst (λ x. IsFinish x old.controller.begun f.0)
-              (ap Some same ∙ sym told ∙ sym (ap (step_told old outcome) at)) f.1,
-          f.2,
-        )
+    step_so t verdict block at told same h = grind (arith, finished)
 
     others : (t : Task) → old.task ≡ t → step_told old outcome t ≡ None → Follows picks (Went outcome (Ok done)) old new
-    others t at none = elim (went_stays (picks old.controller.picker) outcome old new t done at r none) [
-      | inl same ↦ inr (
-        [],
-        subst (λ x. IsFinish x old.controller.begun []) (sym (ap (step_told old outcome) at ∙ none)) refl,
-        same.0,
-      )
-      | inr f ↦ inl (stages.Dead f.0, f.1)
-    ]
+    others t at none = grind (arith, went_stays)
 
     by : (t : Task) → old.task ≡ t → Follows picks (Went outcome (Ok done)) old new
     by (tasks.Step verdict) at =

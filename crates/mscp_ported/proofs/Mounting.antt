@@ -1,8 +1,9 @@
 -- A unit that is online was brought online with the volume that is in it.
-use Rattle.mscp_ported.proofs.Common.{Answered, Bool, Buffer, Call, Connection, Contains, End, Err, First, Goes, Hardware, Holdings, IsAsNew, IsMadeOf, IsNews, IsOnline, List, LookAgain, Next, None, Ok, Option, Outcome, Outgoing, Picking, Port, Protect, PutAside, Says, Second, Shape, Some, Stage, Succeeds, Tick, Volume, VolumeCame, VolumeWent, Went, WriteIp, [], ap, append-nil, arith, brought_online, cases_eq, cases_lt, come, cond, end_brought, eq-eqb, eqb-true, false, false≢true, get_or-set_other, get_or-set_same, get_or_past, inl, inr, is_of, kept_found, kept_of, length, length-set, looks_or_not, news_place, no_volume, none-some, of_first, place_heeded, place_in, position, protected_by, refl, same_Some, set, settings_stay, subst, sym, taken_or_not, true, volume_at, volume_changed, volume_heeded, volume_protected, volume_put, volumes_after, volumes_heeded, volumes_with, ℕ, ◌%◌, ◌/◌, ◌<◌, ◌==◌, ◌∙◌, ◌∷◌, ◌≡◌, ◌≢◌, ◌⊎◌}
-use Rattle.mscp_port.specs.declared.stage.Stage.TheVariants as stages
-use Rattle.mscp_ported.proofs.Changing.{same_unit}
-use Rattle.mscp_ported.proofs.Coming.{brought_for, come_so, ends_of, steps_bring}
+use Rattle.mscp_ported.proofs.Common.{Answered, Bool, Buffer, Call, Connection, End, First, Hardware, Holdings, IsMadeOf, IsOnline, List, None, Option, Picking, Port, Shape, Some, Succeeds, Volume, WriteIp, [], ap, arith, cond, eq-eqb, eqb-true, false, false≢true, inl, inr, kept_found, kept_of, none-some, of_first, place_heeded, place_in, refl, same_Some, set, settings_stay, subst, sym, true, volume_at, volume_heeded, volumes_after, volumes_heeded, volumes_with, ℕ, ◌%◌, ◌<◌, ◌==◌, ◌∙◌, ◌∷◌, ◌≡◌, ◌≢◌, ◌⊎◌, changed_by}
+use Rattle.mscp_ported.proofs.Changing.{other_unit, same_unit}
+use Rattle.mscp_ported.proofs.Coming.{brought_for}
+pub use Rattle.mscp_ported.proofs.Volumes.{Ended}
+use Rattle.mscp_ported.proofs.Volumes.{Forgets, Heeds, Remounted, Rests, Switches, Tunes, none_ended, remounted, set_at}
 
 -- ---- a volume
 
@@ -18,55 +19,7 @@ set_one : (why because : Type 0) (place q : ℕ) (vs : List Volume) (x : Volume)
     → (place ≡ q → Mounted why (volume_at vs place) → Mounted because x)
     → (place ≢ q → Mounted why (volume_at vs place) → Mounted because (volume_at vs place))
     → Mounted why (volume_at vs place) → Mounted because (volume_at (set vs q x) place)
-set_one why because place q vs x here elsewhere m = elim (cases_eq place q) [
-  | inl same ↦ elim (cases_lt place (length vs)) [
-    | inl within ↦ subst (λ v. Mounted because v)
-        (sym (ap (λ i. volume_at (set vs i x) place) (sym same) ∙ get_or-set_same vs place x no_volume within))
-        (here same m)
-    | inr past ↦ not_mounted because (volume_at (set vs q x) place)
-        (ap (λ (v : Volume). v.is_mounted)
-        (get_or_past (set vs q x) place no_volume (search (arith, past, length-set vs q x))))
-  ]
-  | inr other ↦ subst (λ v. Mounted because v) (sym (get_or-set_other vs q place x no_volume other)) (elsewhere other m)
-]
-
--- ---- calls of which no end comes
-
-module _ (why because : Type 0) (on : why → because) (place : ℕ) where
-  still : (vs ws : List Volume) → ws ≡ vs → Mounted why (volume_at vs place) → Mounted because (volume_at ws place)
-  still vs ws e m = λ is. on (m (ap (λ xs. (volume_at xs place).is_mounted) (sym e) ∙ is))
-
-  alike : (q : ℕ) (vs : List Volume) (x : Volume) → x.is_mounted ≡ (volume_at vs q).is_mounted
-      → Mounted why (volume_at vs place) → Mounted because (volume_at (set vs q x) place)
-  alike q vs x same = set_one why because place q vs x
-      (λ e m is. on (m (ap (λ i. (volume_at vs i).is_mounted) e ∙ sym same ∙ is)))
-      (λ other m is. on (m is))
-
-  with_news : (units : List Shape) (vs ws : List Volume) (o : Option ℕ) (out : Option Outgoing)
-      → IsNews units vs o out ws → Mounted why (volume_at vs place) → Mounted because (volume_at ws place)
-  with_news units vs ws None out h m = still vs ws h.1 m
-  with_news units vs ws (Some q) out h m = subst (λ xs. Mounted because (volume_at xs place)) (sym h.1)
-      (alike q vs (record (volume_at vs q) { is_news = false }) refl m)
-
-  says_so : {K : Type 0} (old new : Port K) → Says old new → Mounted why (volume_at old.volumes place)
-      → Mounted because (volume_at new.volumes place)
-  says_so old new says = elim (looks_or_not old) [
-    | inl looks ↦ elim (says.looks looks) [
-      | inl t ↦ still old.volumes new.volumes t.volumes
-      | inr n ↦ with_news old.controller.settings.units old.volumes new.volumes (news_place old) new.outgoing n.out
-    ]
-    | inr never ↦ still old.volumes new.volumes (says.keeps never).volumes
-  ]
-
-  guards : (protected : Bool) (o : Option ℕ) (vs : List Volume) → Mounted why (volume_at vs place)
-      → Mounted because (volume_at (volumes_with (volume_protected protected) o vs) place)
-  guards protected None vs m = still vs vs refl m
-  guards protected (Some q) vs m = alike q vs (volume_protected protected (volume_at vs q)) refl m
-
-as_new : {K : Type 0} (because : Type 0) (place : ℕ) (s : Stage) (old new : Port K) → place < 16 → IsAsNew s old new
-    → Mounted because (volume_at new.volumes place)
-as_new because place s old new low n = not_mounted because (volume_at new.volumes place)
-    (ap (λ (v : Volume). v.is_mounted) (n.volumes place low))
+set_one why because place q vs x here elsewhere m = grind (arith, set_at, not_mounted)
 
 -- how often the volume changes by that
 abbrev counted : Bool → ℕ
@@ -78,51 +31,23 @@ other_volume : (why : Type 0) (because : Type 0) (becomes : Volume → Volume) (
     → ((v : Volume) → (becomes v).is_mounted ≡ false) → place_in units unit ≡ Some place → place_in units to ≡ o
     → Mounted why (volume_at vs place) → Mounted because (volume_at (volumes_with becomes o vs) place)
 other_volume why because becomes units unit to place None vs on off here none m =
-    λ is. on (ap counted (by (to == unit) refl)) (m is)
-  where
-    by : (b : Bool) → (to == unit) ≡ b → b ≡ false
-    by false e = refl
-    by true e = absurd (none-some place (sym none ∙ ap (place_in units) (eqb-true to unit e) ∙ here))
+    λ is. on (ap counted (other_unit units unit to place here (λ e. none-some place (sym none ∙ e)))) (m is)
 other_volume why because becomes units unit to place (Some q) vs on off here there m =
     set_one why because place q vs (becomes (volume_at vs q))
     (λ same was. not_mounted because (becomes (volume_at vs q)) (off (volume_at vs q)))
-    (λ other was is. on (ap counted (by (to == unit) refl other)) (was is)) m
-  where
-    by : (b : Bool) → (to == unit) ≡ b → place ≢ q → b ≡ false
-    by false e other = refl
-    by true e other = absurd (other (same_Some place q (sym here ∙ ap (place_in units) (sym (eqb-true to unit e))
-        ∙ there)))
+    (λ other was is. on (ap counted (other_unit units unit to place here (λ e. other (same_Some place q
+    (sym e ∙ there))))) (was is)) m
 
 -- ---- a step
-
--- an end by which the unit goes offline, of those that came
-abbrev pub Ended : ℕ → ℕ → List End → Type 0
-Ended code unit es = (e : End) × Contains es e × (e.code ≡ code) × (e.unit ≡ unit) × (e.status % 32 ≡ 0)
-
-none_ended : (code unit : ℕ) (es : List End) → es ≡ [] → Ended code unit es → ⊥
-none_ended code unit es none h = nothing h.0 (subst (λ xs. Contains xs h.0) none h.1)
-  where
-    nothing : (e : End) → Contains [] e → ⊥
-    nothing e there = search (arith, there)
 
 -- the one that came
 pub one_ended : (via : Connection) (code unit : ℕ) (e : End) → Ended code unit (brought_for via (Some e))
     → (e.code ≡ code) × (e.unit ≡ unit) × (e.status % 32 ≡ 0)
-one_ended First code unit e h = by h.0 h.1 h.2 h.3 h.4
-  where
-    by : (x : End) → Contains (e ∷ []) x → x.code ≡ code → x.unit ≡ unit → x.status % 32 ≡ 0
-        → (e.code ≡ code) × (e.unit ≡ unit) × (e.status % 32 ≡ 0)
-    by x there is of good = search (arith, there, is, of, good)
-one_ended Second code unit e h = absurd (none_ended code unit [] refl h)
+one_ended via code unit e h = grind (arith, none_ended)
 
 heeded_at : (units : List Shape) (e : End) (o : Option ℕ) → place_heeded units e ≡ o → (place : ℕ) → o ≡ Some place
     → (e.status % 32 ≡ 0) × (place_in units e.unit ≡ Some place)
-heeded_at units e o h place is = by (e.status % 32 == 0) refl (h ∙ is)
-  where
-    by : (b : Bool) → (e.status % 32 == 0) ≡ b → cond b (place_in units e.unit) None ≡ Some place
-        → (e.status % 32 ≡ 0) × (place_in units e.unit ≡ Some place)
-    by true t x = (eqb-true (e.status % 32) 0 t, x)
-    by false t x = absurd (none-some place x)
+heeded_at units e o h place is = grind (arith, eqb-true, none-some)
 
 success_at : (units : List Shape) (e : End) (place : ℕ) → e.status % 32 ≡ 0 → place_in units e.unit ≡ Some place
     → place_heeded units e ≡ Some place
@@ -135,41 +60,10 @@ Mounts code kept v = ((code ≡ 0x89) × (kept ≢ None)) ⊎ ((code ≢ 0x88) �
 
 heeded_mounted : (code : ℕ) (kept : Option Buffer) (v : Volume) → (volume_heeded code kept v).is_mounted ≡ true
     → Mounts code kept v
-heeded_mounted code None v is = by (code == 0x88) refl is
-  where
-    by : (b : Bool) → (code == 0x88) ≡ b
-        → (cond b (record v { is_mounted = false; is_protected_by_host = false }) v).is_mounted ≡ true
-        → Mounts code None v
-    by true e is = absurd (false≢true is)
-    by false e is = inr (λ same. false≢true (sym e ∙ eq-eqb code 0x88 same), is)
-heeded_mounted code (Some b) v is = by (code == 0x88) refl (code == 0x89) refl (code == 0x8A) is
-  where
-    mounted : Volume → Bool
-    mounted x = x.is_mounted
-
-    guarded : (t : Bool) (x : Volume)
-        → mounted (cond t (record x { is_protected_by_host = b.flags / 0x1000 % 2 == 1 }) x) ≡ x.is_mounted
-    guarded true x = refl
-    guarded false x = refl
-
-    by : (c : Bool) → (code == 0x88) ≡ c → (d : Bool) → (code == 0x89) ≡ d → (f : Bool)
-        → (cond c (record v { is_mounted = false; is_protected_by_host = false })
-        (cond d (protected_by b (brought_online v)) (cond f (protected_by b v) v))).is_mounted ≡ true
-        → Mounts code (Some b) v
-    by true e d h f is = absurd (false≢true is)
-    by false e true h f is = inl (eqb-true code 0x89 h, λ none. none-some b (sym none))
-    by false e false h true is = inr (
-      λ same. false≢true (sym e ∙ eq-eqb code 0x88 same),
-      sym (guarded (b.modifiers / 4 % 2 == 1) v) ∙ is,
-    )
-    by false e false h false is = inr (λ same. false≢true (sym e ∙ eq-eqb code 0x88 same), is)
+heeded_mounted code kept v is = grind (arith, eqb-true, eq-eqb, false≢true)
 
 first_kept : (via : Connection) (n : ℕ) (bs : List Buffer) → kept_of via n bs ≢ None → via ≡ First
-first_kept via n bs some = by (kept_of via n bs) refl
-  where
-    by : (o : Option Buffer) → kept_of via n bs ≡ o → via ≡ First
-    by None e = absurd (some e)
-    by (Some b) e = (of_first via n b (kept_found (is_of via n) bs b (position (is_of via n) bs) refl e).1).0
+first_kept via n bs some = grind (arith, of_first, kept_found)
 
 module _ (why because : Type 0) (units : List Shape) (unit place : ℕ) (here : place_in units unit ≡ Some place)
     (bs : List Buffer) (via : Connection) (vs : List Volume)
@@ -179,11 +73,7 @@ module _ (why because : Type 0) (units : List Shape) (unit place : ℕ) (here : 
       → (Ended 0x89 unit (brought_for via ended) → because)
       → ((Ended 0x88 unit (brought_for via ended) → ⊥) → why → because)
       → Mounted because (volume_at (volumes_after units bs via ended vs) place)
-  ended_so None brought on = λ is. on (λ h. nothing via h) (m is)
-    where
-      nothing : (c : Connection) → Ended 0x88 unit (brought_for c None) → ⊥
-      nothing First h = none_ended 0x88 unit [] refl h
-      nothing Second h = none_ended 0x88 unit [] refl h
+  ended_so None brought on = grind (arith, brought_for, none_ended)
   ended_so (Some e) brought on = by (place_heeded units e) refl
     where
       kept : Option Buffer
@@ -222,98 +112,43 @@ module _ (why because : Type 0) (units : List Shape) (unit place : ℕ) (here : 
 
 -- ---- calls
 
--- how an action went, by which an end may have come
-went_so : {K : Type 0} (picks : Picking K) (why because : Type 0) (unit place : ℕ) (outcome : Outcome) (done : Unit)
-    (old new : Port K) → Goes (picks old.controller.picker) outcome old (Ok done) new → place < 16
-    → place_in old.controller.settings.units unit ≡ Some place
-    → (Succeeds 0x89 unit (Went outcome (Ok done)) old new → because)
-    → ((Succeeds 0x88 unit (Went outcome (Ok done)) old new → ⊥) → why → because)
-    → Mounted why (volume_at old.volumes place) → Mounted because (volume_at new.volumes place)
-went_so picks why because unit place outcome done old new r low here brought on m = elim r.commands [
-  | inl e ↦ still why because (on (none_came (ap ends_of e.controller))) place old.volumes new.volumes e.volumes m
-  | inr more ↦ elim more [
-    | inl block ↦ elim (taken_or_not _ old new block.1) [
-      | inl e ↦ still why because (on (none_came (ap (λ p. ends_of p.controller) e))) place old.volumes new.volumes
-          (ap (λ p. p.volumes) e) m
-      | inr t ↦
-          let via = t.0.connection in
-          let f = t.2.finished in
-          let came = come_so old new (brought_for via (end_brought f.0))
-          (steps_bring _ via t.0.reference _ old.controller new.controller f.0 f.1) in
-          subst (λ p. Mounted because (volume_at p.volumes place)) (sym f.2.frame)
-          (ended_so why because old.controller.settings.units unit place here old.buffers.items via old.volumes m
-          (end_brought f.0)
-          (λ h. brought (subst (λ es. Ended 0x89 unit es) (sym came) h))
-          (λ never. on (λ h. never (subst (λ es. Ended 0x88 unit es) came h))))
-    ]
-    | inr dead ↦ as_new because place (stages.Dead dead.0) old new low dead.1
-  ]
-]
-  where
-    none_came : ends_of new.controller ≡ ends_of old.controller
-        → Succeeds 0x88 unit (Went outcome (Ok done)) old new → ⊥
-    none_came e = none_ended 0x88 unit (come old new)
-        (come_so old new [] (e ∙ sym (append-nil (ends_of old.controller))))
-
 module _ {K : Type 0} (picks : Picking K) (start : Port K) where
-  -- a call goes on where a unit was online for a reason, or brings it online
-  abbrev On : (call : Call) (p : Port K) (calls : List Call) → Answered picks start (call ∷ calls) p → ℕ → Type 0
-  On call p calls a unit = IsOnline picks unit start p (call ∷ calls) a
+  -- a unit is online still, or by this call
+  on_call : (call : Call) (p : Port K) (calls : List Call) (a : Answered picks start (call ∷ calls) p) (unit : ℕ)
+      → call ≢ WriteIp → Succeeds 0x89 unit call a.0 p ⊎ ((changed_by unit call ≡ 0)
+      × (Succeeds 0x88 unit call a.0 p → ⊥) × IsOnline picks unit start a.0 calls a.1)
+      → IsOnline picks unit start p (call ∷ calls) a
+  on_call WriteIp p calls a unit never h = absurd (never refl)
+  on_call call p calls a unit never h = h
 
-  abbrev Was : (call : Call) (p : Port K) (calls : List Call) → Answered picks start (call ∷ calls) p → ℕ → Type 0
-  Was call p calls a unit = IsOnline picks unit start a.0 calls a.1
+  module _ (call : Call) (p : Port K) (calls : List Call) (a : Answered picks start (call ∷ calls) p)
+      (unit place : ℕ) (low : place < 16) (here : place_in a.0.controller.settings.units unit ≡ Some place)
+      (before : Mounted (IsOnline picks unit start a.0 calls a.1) (volume_at a.0.volumes place)) where
+    abbrev Was : Type 0
+    Was = IsOnline picks unit start a.0 calls a.1
 
-  by_call : (call : Call) (p : Port K) (calls : List Call) (a : Answered picks start (call ∷ calls) p)
-      (unit place : ℕ) → place < 16 → place_in a.0.controller.settings.units unit ≡ Some place
-      → Mounted (Was call p calls a unit) (volume_at a.0.volumes place)
-      → Mounted (On call p calls a unit) (volume_at p.volumes place)
-  by_call WriteIp p calls a unit place low here before =
-      as_new _ place (stages.First) a.0 p low a.2
-  by_call (Next blocks action bytes) p calls a unit place low here before =
-      says_so _ _ (λ w. inr (refl, λ h. h, w)) place a.0 p a.2.0.says before
-  by_call PutAside p calls a unit place low here before =
-      still _ _ (λ w. inr (refl, λ h. h, w)) place a.0.volumes p.volumes (ap (λ q. q.volumes) a.2) before
-  by_call (Went outcome (Ok done)) p calls a unit place low here before =
-      went_so picks _ _ unit place outcome done a.0 p a.2 low here (λ s. inl s)
-      (λ never w. inr (refl, never, w)) before
-  by_call (Went outcome (Err unasked)) p calls a unit place low here before =
-      still _ _ (λ w. inr (refl, λ h. h, w)) place a.0.volumes p.volumes (ap (λ q. q.volumes) a.2.unasked) before
-  by_call LookAgain p calls a unit place low here before =
-      still _ _ (λ w. inr (refl, λ h. h, w)) place a.0.volumes p.volumes (ap (λ q. q.volumes) a.2) before
-  by_call Tick p calls a unit place low here before =
-      elim a.2.either [
-        | inl x ↦ still _ _ (λ w. inr (refl, λ h. h, w)) place a.0.volumes p.volumes (ap (λ q. q.volumes) x) before
-        | inr dead ↦ as_new _ place (stages.Dead 9) a.0 p low dead
-      ]
-  by_call (VolumeCame m to (Ok done)) p calls a unit place low here before =
-      let why = Was (VolumeCame m to (Ok done)) p calls a unit in
-      let because = On (VolumeCame m to (Ok done)) p calls a unit in
-      subst (λ vs. Mounted because (volume_at vs place)) (sym (ap (λ q. q.volumes) (a.2.came refl)))
-      (other_volume why because (volume_put m) a.0.controller.settings.units unit to place
-      (place_in a.0.controller.settings.units to) a.0.volumes (λ none w. inr (none, λ h. h, w)) (λ v. refl) here refl
-      before)
-  by_call (VolumeWent to (Ok done)) p calls a unit place low here before =
-      let why = Was (VolumeWent to (Ok done)) p calls a unit in
-      let because = On (VolumeWent to (Ok done)) p calls a unit in
-      subst (λ vs. Mounted because (volume_at vs place)) (sym (ap (λ q. q.volumes) (a.2.frame)))
-      (other_volume why because (volume_changed false) a.0.controller.settings.units unit to place
-      (place_in a.0.controller.settings.units to) a.0.volumes (λ none w. inr (none, λ h. h, w)) (λ v. refl) here refl
-      before)
-  by_call (VolumeCame m to (Err fault)) p calls a unit place low here before =
-      still _ _ (λ w. inr (refl, λ h. h, w)) place a.0.volumes p.volumes (ap (λ q. q.volumes) a.2.refused) before
-  by_call (VolumeWent to (Err fault)) p calls a unit place low here before =
-      still _ _ (λ w. inr (refl, λ h. h, w)) place a.0.volumes p.volumes (ap (λ q. q.volumes) a.2.frame
-      ∙ ap (λ o. volumes_with (volume_changed false) o a.0.volumes) (a.2.no_unit.0 refl)) before
-  by_call (Protect protected to result) p calls a unit place low here before =
-      let why = Was (Protect protected to result) p calls a unit in
-      let because = On (Protect protected to result) p calls a unit in
-      subst (λ vs. Mounted because (volume_at vs place)) (sym (ap (λ q. q.volumes) a.2.frame))
-      (guards why because (λ w. inr (refl, λ h. h, w)) place protected (place_in a.0.controller.settings.units to)
-      a.0.volumes before)
-  by_call call p calls a unit place low here before = elim a.2.frame [
-    | inl x ↦ still _ _ (λ w. inr (refl, λ h. h, w)) place a.0.volumes p.volumes (ap (λ q. q.volumes) x) before
-    | inr dead ↦ as_new _ place (stages.Dead dead.0) a.0 p low dead.1
-  ]
+    abbrev On : Type 0
+    On = IsOnline picks unit start p (call ∷ calls) a
+
+    by_call : call ≢ WriteIp → Remounted call a.0 p → Mounted On (volume_at p.volumes place)
+    by_call never (Forgets n) =
+        not_mounted On (volume_at p.volumes place) (ap (λ (v : Volume). v.is_mounted) (n.1.volumes place low))
+    by_call never (Rests calm e) = grind (arith, on_call)
+    by_call never (Tunes calm q x t e) = subst (λ vs. Mounted On (volume_at vs place)) (sym e)
+        (set_one Was On place q a.0.volumes x
+        (λ same was is. on (was (ap (λ i. (volume_at a.0.volumes i).is_mounted) same ∙ sym t.mounted ∙ is)))
+        (λ other was is. on (was is)) before)
+      where
+        on : Was → On
+        on w = on_call call p calls a unit never (inr (calm.changes unit, calm.ended 0x88 unit, w))
+    by_call never (Switches becomes s to changes none e) = subst (λ vs. Mounted On (volume_at vs place)) (sym e)
+        (other_volume Was On becomes a.0.controller.settings.units unit to place _ a.0.volumes
+        (λ other w. on_call call p calls a unit never (inr (changes unit ∙ other, none 0x88 unit, w))) s.offline here
+        refl before)
+    by_call never (Heeds via ended none from to e) = subst (λ vs. Mounted On (volume_at vs place)) (sym e)
+        (ended_so Was On a.0.controller.settings.units unit place here a.0.buffers.items via a.0.volumes before ended
+        (λ h. on_call call p calls a unit never (inl (to 0x89 unit h)))
+        (λ off w. on_call call p calls a unit never (inr (none unit, (λ h. off (from 0x88 unit h)), w))))
 
   -- a unit that is online was brought online
   pub online : (hardware : Hardware) (credits : ℕ) (controller : Holdings K)
@@ -321,11 +156,12 @@ module _ {K : Type 0} (picks : Picking K) (start : Port K) where
       (a : Answered picks start calls p) (unit place : ℕ) → place < 16
       → place_in p.controller.settings.units unit ≡ Some place
       → Mounted (IsOnline picks unit start p calls a) (volume_at p.volumes place)
-  online hardware credits controller made p [] a unit place low here = not_mounted ⊥ (volume_at p.volumes place)
-      (ap (λ (q : Port K). (volume_at q.volumes place).is_mounted) a
-      ∙ ap (λ (v : Volume). v.is_mounted) (made.volumes place low))
+  online hardware credits controller made p [] a unit place low here = grind (arith, not_mounted)
+  online hardware credits controller made p (WriteIp ∷ calls) a unit place low here =
+      not_mounted ⊥ (volume_at p.volumes place) (ap (λ (v : Volume). v.is_mounted) (a.2.volumes place low))
   online hardware credits controller made p (call ∷ calls) a unit place low here =
       let there : place_in a.0.controller.settings.units unit ≡ Some place =
       ap (λ s. place_in s.units unit) (sym (settings_stay picks call a.0 p a.2)) ∙ here in
       by_call call p calls a unit place low there
-      (online hardware credits controller made a.0 calls a.1 unit place low there)
+      (online hardware credits controller made a.0 calls a.1 unit place low there) (λ e. search (arith, e))
+      (remounted picks call a.0 p a.2)

@@ -1,5 +1,5 @@
 -- A block of which the controller is told that it went well was moved at its place.
-use Rattle.mscp_ported.proofs.Common.{All, Answered, AsksAlways, Block, Bool, Buffer, Call, Connection, Err, Finish, First, Hardware, Holdings, IfSome, IsEmpty, IsFinish, IsMadeOf, IsOfBlock, IsTo, Keeps, List, Made, Makes, MoveKind, Name, None, NotBegun, Ok, Option, Order, Outcome, Picking, Port, Record, Report, Result, Some, Task, Upcoming, Verdict, Volume, WasMoved, WasSaid, Went, Wish, [], ap, arith, asks_nothing, begun_step, begun_task, block_begun, block_moved, changed_verdict, cond, drive_of, eqb-true, false, find, has_changed, has_name, inl, inr, is_available, is_moving, is_of, is_same, kept_found, kept_of, kept_was_said, known_task, move_of, move_task, move_wanted, moved_by, moved_step, name_of, name_on, nat_eq, none-some, of_first, option_map, part_at, part_now, part_of, part_task, part_wanted, part_with, place_in, position, refl, same_Some, step_told, subst, sym, takes_any_volume, task_of, told_as, told_of, told_unless, transfer_told, true, upcoming_begun, upcoming_of, volume_at, wish, ℕ, ◌&&◌, ◌*◌, ◌+◌, ◌<◌, ◌∙◌, ◌∷◌, ◌≡◌, ◌≢◌, ◌≤◌, ◌⊎◌}
+use Rattle.mscp_ported.proofs.Common.{All, Answered, AsksAlways, Block, Bool, Buffer, Call, Connection, Err, Finish, First, Hardware, Holdings, IfSome, IsEmpty, IsFinish, IsMadeOf, IsOfBlock, IsTo, Keeps, List, Makes, MoveKind, Name, None, NotBegun, Ok, Option, Order, Outcome, Picking, Port, Record, Report, Result, Some, Task, Upcoming, Verdict, Volume, WasMoved, WasSaid, Went, Wish, [], ap, arith, asks_nothing, begun_step, begun_task, block_begun, block_moved, changed_verdict, cond, drive_of, eqb-true, false, find, has_changed, has_name, inl, inr, is_available, is_moving, is_of, is_same, kept_found, kept_of, kept_was_said, known_task, move_of, move_task, move_wanted, moved_by, moved_step, name_of, name_on, nat_eq, none-some, of_first, option_map, part_at, part_now, part_of, part_task, part_wanted, part_with, place_in, position, refl, same_Some, step_told, subst, sym, takes_any_volume, task_of, told_as, told_of, told_unless, transfer_told, true, upcoming_begun, upcoming_of, volume_at, wish, ℕ, ◌&&◌, ◌*◌, ◌+◌, ◌<◌, ◌∙◌, ◌∷◌, ◌≡◌, ◌≢◌, ◌≤◌, ◌⊎◌}
 use Rattle.mscp_drive.specs.declared.block.Block.TheVariants as blocks
 use Rattle.mscp_port.specs.declared.action.Action.TheVariants as actions
 use Rattle.mscp_port.specs.declared.action.Outcome.TheVariants as outcomes
@@ -14,18 +14,10 @@ use Rattle.mscp_ported.proofs.Sole.{found_all}
 pub good_told : (o : Option Block) (n : Option Name) (via : Connection) (reference : ℕ)
     (result : Result Report NotBegun) → IsFinish o n (Finish via reference blocks.Good result ∷ [])
     → o ≡ Some blocks.Good
-good_told (Some block) (Some name) via reference result h = ap (λ xs. block_in xs) (sym h.1)
-  where
-    block_in : List Made → Option Block
-    block_in (Finish v r k answer ∷ more) = Some k
-    block_in xs = None
-good_told (Some block) None via reference result h = search (arith, h)
-good_told None n via reference result h = search (arith, h)
+good_told o n via reference result h = grind arith
 
 good_verdict : (verdict : Verdict) → told_of verdict ≡ blocks.Good → verdict ≡ verdicts.Served blocks.Good
-good_verdict (verdicts.Served block) e = ap verdicts.Served e
-good_verdict verdicts.NoVolume e = search (arith, e)
-good_verdict verdicts.NotOnline e = search (arith, e)
+good_verdict verdict e = grind arith
 
 good_outcome : (outcome : Outcome) → told_as outcome ≡ blocks.Good → outcome ≡ outcomes.Done
 good_outcome outcomes.Done e = refl
@@ -33,7 +25,7 @@ good_outcome outcome e = search (arith, e)
 
 -- ---- the step that is begun
 
-moved_so : (order : Order) (lbn : Option ℕ) → moved_by order lbn ≡ block_moved order lbn
+pub moved_so : (order : Order) (lbn : Option ℕ) → moved_by order lbn ≡ block_moved order lbn
 moved_so order lbn = grind arith
 
 is_move : (order : Order) (lbn : Option ℕ) (x : MoveKind × ℕ) → block_moved order lbn ≡ Some x
@@ -53,24 +45,8 @@ module _ (u : Upcoming) (kind : MoveKind) (block : ℕ) (moves : block_moved u.c
     good_part : (at : MoveKind × ℕ) (b : Buffer) (v : Volume) (r : Result (ℕ × ℕ) Verdict)
         → part_with at.0 at.1 u.done b v ≡ r → part_task r ≡ tasks.Step (verdicts.Served blocks.Good)
         → Low b
-    good_part at b v (Ok part) e h = by (nat_eq part.1 0) refl h
-      where
-        by : (c : Bool) → nat_eq part.1 0 ≡ c
-            → cond c (tasks.Step (verdicts.Served blocks.Good)) tasks.Transfer ≡ tasks.Step
-            (verdicts.Served blocks.Good)
-            → Low b
-        by true is h =
-            let left = part_left at.0 at.1 u.done b v part e in (
-              none_left b.count (u.done * 512) (sym (part_is b u.done part left).1 ∙ eqb-true part.1 0 is),
-              has_data b u.done part left,
-            )
-        by false is h = search (arith, h)
-    good_part at b v (Err verdict) e h =
-        absurd (no_good_part at.0 at.1 u.done b v verdict e (ap (λ x. verdict_in x) h))
-      where
-        verdict_in : Task → Verdict
-        verdict_in (tasks.Step x) = x
-        verdict_in task = verdict
+    good_part at b v (Ok part) e h = grind (arith, nat_eq, part_left, none_left, part_is, eqb-true, has_data)
+    good_part at b v (Err verdict) e h = grind (arith, no_good_part)
 
     good_step : (b : Buffer) (v : Volume) → task_of u b v ≡ tasks.Step (verdicts.Served blocks.Good)
         → Low b
@@ -99,46 +75,19 @@ module _ (u : Upcoming) (kind : MoveKind) (block : ℕ) (moves : block_moved u.c
     begun_good : (o : Option ℕ) (k : Option Buffer) (volumes : List Volume)
         → known_task u o k volumes ≡ tasks.Step (verdicts.Served blocks.Good)
         → (b : Buffer) × (k ≡ Some b) × Low b
-    begun_good (Some place) (Some b) volumes e = (b, refl, good_step b (volume_at volumes place) e)
-    begun_good None k volumes e = search (arith, e)
-    begun_good (Some place) None volumes e = search (arith, e)
+    begun_good o k volumes e = grind (arith, good_step)
 
     -- and one with a block only where it has some
     some_part : (at : MoveKind × ℕ) (b : Buffer) (v : Volume) (r : Result (ℕ × ℕ) Verdict)
         → part_with at.0 at.1 u.done b v ≡ r → part_task r ≡ tasks.Transfer → u.done * 512 < b.count
-    some_part at b v (Ok part) e h = by (nat_eq part.1 0) refl h
-      where
-        by : (c : Bool) → nat_eq part.1 0 ≡ c
-            → cond c (tasks.Step (verdicts.Served blocks.Good)) tasks.Transfer ≡ tasks.Transfer → u.done * 512 < b.count
-        by true is h = search (arith, h)
-        by false is h = some_left b.count (u.done * 512) part.1
-            (part_is b u.done part (part_left at.0 at.1 u.done b v part e)).1 is
-    some_part at b v (Err verdict) e h = search (arith, h)
+    some_part at b v r e h = grind (arith, nat_eq, some_left, part_is, part_left)
 
     some_step : (b : Buffer) (v : Volume) → task_of u b v ≡ tasks.Transfer → u.done * 512 < b.count
-    some_step b v e =
-        let a = is_move u.command.order u.lbn (kind, block) moves in
-        by (is_available u.command.order) (v.is_there && takes_any_volume u.command.order) (has_changed b v) (move_of u)
-        move_so e
-      where
-        good : Task
-        good = tasks.Step (verdicts.Served blocks.Good)
-
-        by : (x y z : Bool) (q : Option (MoveKind × ℕ)) → q ≡ Some (kind, block)
-            → cond x good (cond y good (cond z (tasks.Step (changed_verdict v)) (move_task u q b v))) ≡ tasks.Transfer
-            → u.done * 512 < b.count
-        by true y z q is h = search (arith, h)
-        by false true z q is h = search (arith, h)
-        by false false true q is h = search (arith, h)
-        by false false false None is h = absurd (none-some (kind, block) is)
-        by false false false (Some at) is h = some_part at b v (part_with at.0 at.1 u.done b v) refl h
+    some_step b v e = grind (arith, is_move, move_so, none-some, some_part)
 
     begun_some : (o : Option ℕ) (k : Option Buffer) (volumes : List Volume) → known_task u o k volumes ≡ tasks.Transfer
         → (b : Buffer) → k ≡ Some b → u.done * 512 < b.count
-    begun_some (Some place) (Some x) volumes e b is =
-        subst (λ y. u.done * 512 < y.count) (same_Some x b is) (some_step x (volume_at volumes place) e)
-    begun_some None k volumes e b is = search (arith, e)
-    begun_some (Some place) None volumes e b is = search (arith, e)
+    begun_some o k volumes e b is = grind (arith, same_Some, some_step)
 
     -- a part is known only of a buffer that is kept
     part_of_kept : (o : Option ℕ) (k : Option Buffer) (volumes : List Volume) (part : ℕ × ℕ)
@@ -188,19 +137,7 @@ module _ (u : Upcoming) (kind : MoveKind) (block : ℕ) (moves : block_moved u.c
                 },
               ),
             )
-        by (Err verdict) e told (Some x) some wanted = absurd (bad verdict e (ap (told_unless outcome) (sym e) ∙ told))
-          where
-            bad : (verdict : Verdict) → part_now old u kind block ≡ Err verdict → told_of verdict ≡ blocks.Good → ⊥
-            bad verdict e h = no_good_now (place_in old.controller.settings.units u.command.unit)
-                (kept_of u.connection u.command.reference old.buffers.items) e (good_verdict verdict h)
-              where
-                no_good_now : (o : Option ℕ) (k : Option Buffer)
-                    → part_at o k kind block u.done old.volumes ≡ Err verdict
-                    → verdict ≡ verdicts.Served blocks.Good → ⊥
-                no_good_now (Some place) (Some b) e is =
-                    no_good_part kind block u.done b (volume_at old.volumes place) verdict e is
-                no_good_now None k e is = search (arith, e, is)
-                no_good_now (Some place) None e is = search (arith, e, is)
+        by (Err verdict) e told (Some x) some wanted = grind (arith, good_verdict, no_good_part)
 
 -- ---- who said it
 

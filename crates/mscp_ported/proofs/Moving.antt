@@ -1,6 +1,6 @@
 -- A block of which the controller is told that it went well was moved.
-use Rattle.mscp_ported.proofs.Common.{Action, Answered, AsksAlways, Becomes, Bool, Buffer, Call, Dies, Drops, Hardware, Holdings, IfSome, IsAlive, IsMadeOf, IsOfBlock, IsWanted, Leaves, List, MoveKind, Next, None, Ok, Option, Picking, Port, ReadIp, Shape, Some, Task, Upcoming, Verdict, Volume, WasRead, Went, Wish, WriteIp, WriteSa, [], ap, arith, aside, begun_step, begun_task, block_begun, blocks, inl, inr, kept_of, move_wanted, moved_step, part_at, part_wanted, place_in, read_again, refl, step_again, step_at, subst, sym, volumes_with, wish, ℕ, ◌∙◌, ◌∷◌, ◌≡◌, ◌⊎◌}
-use Rattle.mscp_ported.proofs.Minor.{GivesUp, Minor, Mounts, PutsAside, ReadsAgain, Still, minor}
+use Rattle.mscp_ported.proofs.Common.{Action, Answered, AsksAlways, Becomes, Bool, Call, Dies, Drops, Hardware, Holdings, IfSome, IsMadeOf, IsOfBlock, Leaves, List, Next, None, Ok, Option, Picking, Port, ReadIp, Some, Task, Verdict, Volume, WasRead, Went, Wish, WriteIp, WriteSa, [], ap, arith, aside, begun_step, begun_task, block_begun, blocks, inl, inr, move_wanted, read_again, refl, step_again, step_at, subst, volumes_with, wish, ℕ, ◌∷◌, ◌≡◌, ◌⊎◌}
+use Rattle.mscp_ported.proofs.Minor.{Minor, minor}
 use Rattle.mscp_port.specs.declared.action.Action.TheVariants as actions
 use Rattle.mscp_port.specs.declared.stage.Stage.TheVariants as stages
 use Rattle.mscp_port.specs.declared.task.Task.TheVariants as tasks
@@ -29,11 +29,7 @@ pub record Steps {K : Type 0} (p : Port K) (w : Option Wish) : Type 0 where
   pub paused : IsPaused p w
 
 no_steps : {K : Type 0} (p : Port K) (w : Option Wish) → (IsOfBlock p.task → ⊥) → Steps p w
-no_steps p w never = record {
-  begun = λ h. absurd (never h);
-  wanted = λ e. absurd (never (subst (λ x. IsOfBlock x) (sym e) tt));
-  paused = λ verdict e. absurd (never (subst (λ x. IsOfBlock x) (sym e) tt));
-}
+no_steps p w never = grind arith
 
 -- what a call leaves of the port where a step stays in hand
 pub record Keeps {K : Type 0} (old new : Port K) : Type 0 where
@@ -42,145 +38,50 @@ pub record Keeps {K : Type 0} (old new : Port K) : Type 0 where
   pub volumes : new.volumes ≡ old.volumes
   pub task : new.task ≡ old.task
 
--- what is wanted for a block hangs on no more
-move_by : List Shape → List Buffer → List Volume → Option (Upcoming × MoveKind × ℕ) → Action
-move_by units buffers volumes None = actions.Pause
-move_by units buffers volumes (Some m) = part_wanted m.0 m.1 m.2 (part_at (place_in units m.0.command.unit)
-    (kept_of m.0.connection m.0.command.reference buffers) m.1 m.2 m.0.done volumes)
-
-move_so : {K : Type 0} (p : Port K) (o : Option (Upcoming × MoveKind × ℕ))
-    → move_wanted p o ≡ move_by p.controller.settings.units p.buffers.items p.volumes o
-unfolding move_by
-move_so p None = refl
-move_so p (Some m) = refl
-
 keeps : {K : Type 0} (old new : Port K) (w : Option Wish) → Keeps old new → Steps old w → Steps new w
-keeps {K} old new w k s = record {
-  begun = λ h. k.task ∙ s.begun (subst (λ x. IsOfBlock x) k.task h) ∙ sym same;
-  wanted = λ e. subst (λ x. IfSome w (λ y. y.action ≡ x)) (sym wish_same) (s.wanted (sym k.task ∙ e));
-  paused = λ verdict e. s.paused verdict (sym k.task ∙ e);
-}
-  where
-    same : begun_task new.controller.settings.units new.buffers.items new.volumes (begun_step new.controller)
-        ≡ begun_task old.controller.settings.units old.buffers.items old.volumes (begun_step old.controller)
-    same = ap (λ (c : Holdings K). begun_task c.settings.units new.buffers.items new.volumes
-        (begun_step c)) k.controller
-        ∙ ap (λ b. begun_task old.controller.settings.units b.items new.volumes (begun_step old.controller)) k.buffers
-        ∙ ap (λ v. begun_task old.controller.settings.units old.buffers.items v (begun_step old.controller)) k.volumes
-
-    wish_same : move_wanted new (block_begun new) ≡ move_wanted old (block_begun old)
-    wish_same = move_so new (block_begun new)
-        ∙ ap (λ (c : Holdings K). move_by c.settings.units new.buffers.items new.volumes (moved_step (begun_step c)))
-        k.controller
-        ∙ ap (λ b. move_by old.controller.settings.units b.items new.volumes (block_begun old)) k.buffers
-        ∙ ap (λ v. move_by old.controller.settings.units old.buffers.items v (block_begun old)) k.volumes
-        ∙ sym (move_so old (block_begun old))
+keeps {K} old new w k s = grind arith
 
 -- a step stays in hand, or none is
 either : {K : Type 0} (old new : Port K) (w : Option Wish) → (IsOfBlock new.task → Keeps old new) → Steps old w
     → Steps new w
-either {K} old new w k s = by new.task refl
-  where
-    by : (task : Task) → new.task ≡ task → Steps new w
-    by (tasks.Step verdict) e = keeps old new w (k (subst (λ x. IsOfBlock x) (sym e) tt)) s
-    by tasks.Transfer e = keeps old new w (k (subst (λ x. IsOfBlock x) (sym e) tt)) s
-    by task e = no_steps new w (λ h. subst (λ x. IsOfBlock x) e h)
+either {K} old new w k s = grind (arith, keeps, no_steps)
 
 -- ---- calls
 
 free_again : (task : Task) → IsOfBlock (read_again task) → read_again task ≡ task
-free_again (tasks.Step verdict) h = refl
-free_again tasks.Transfer h = refl
-free_again (tasks.Slot side) h = absurd h
-free_again task h = absurd h
+free_again task h = grind arith
 
 free_aside : (task : Task) → IsOfBlock (aside task) → aside task ≡ task
-free_aside (tasks.Step verdict) h = refl
-free_aside tasks.Transfer h = absurd h
-free_aside task h = absurd h
+free_aside task h = grind arith
 
 free_step : (task : Task) → IsOfBlock (step_again task) → ⊥
-free_step (tasks.Step verdict) h = h
-free_step tasks.Transfer h = h
-free_step task h = h
+free_step task h = grind arith
 
 module _ {K : Type 0} (old new : Port K) (w : Option Wish) (s : Steps old w) where
   same_so : new ≡ old → Steps new w
-  same_so e = keeps old new w (record {
-    controller = ap (λ (p : Port K). p.controller) e;
-    buffers = ap (λ (p : Port K). p.buffers) e;
-    volumes = ap (λ (p : Port K). p.volumes) e;
-    task = ap (λ (p : Port K). p.task) e;
-  }) s
+  same_so e = grind (arith, keeps)
 
   -- what is in hand stays, or is dropped
   hand_so : (new.controller ≡ old.controller) → (new.volumes ≡ old.volumes) → Leaves old new ⊎ Drops old new
       → Steps new w
-  hand_so controller volumes hand = elim hand [
-    | inl l ↦ keeps old new w (record {
-      controller = controller;
-      buffers = l.buffers;
-      volumes = volumes;
-      task =
-          l.task;
-    }) s
-    | inr d ↦ no_steps new w (λ h. elim d.task [
-      | inl free ↦ subst (λ x. IsOfBlock x) free h
-      | inr clear ↦ subst (λ x. IsOfBlock x) clear h
-    ])
-  ]
+  hand_so controller volumes hand = grind (arith, keeps, no_steps)
 
   dead_so : Dies old new → Steps new w
   dead_so d = no_steps new w (λ h. subst (λ x. IsOfBlock x) d.1.task h)
 
   again_so : {b : Bool} {n : ℕ} → new ≡ record old { is_full = b; task = read_again old.task; left = n } → Steps new w
-  again_so e = either old new w (λ h. record {
-    controller = ap (λ (p : Port K). p.controller) e;
-    buffers = ap (λ (p : Port K). p.buffers) e;
-    volumes = ap (λ (p : Port K). p.volumes) e;
-    task = ap (λ (p : Port K). p.task) e
-        ∙ free_again old.task (subst (λ x. IsOfBlock x) (ap (λ (p : Port K). p.task) e) h);
-  }) s
+  again_so e = grind (arith, either, free_again)
 
   volume_so : (becomes : Volume → Volume) (o : Option ℕ)
       → new ≡ record old { volumes = volumes_with becomes o old.volumes; task = step_at o old.task } → Steps new w
-  volume_so becomes None e = keeps old new w (record {
-    controller = ap (λ (p : Port K). p.controller) e;
-    buffers = ap (λ (p : Port K). p.buffers) e;
-    volumes = ap (λ (p : Port K). p.volumes) e;
-    task = ap (λ (p : Port K). p.task) e;
-  }) s
-  volume_so becomes (Some place) e =
-      no_steps new w (λ h. free_step old.task (subst (λ x. IsOfBlock x) (ap (λ (p : Port K). p.task) e) h))
+  volume_so becomes o e = grind (arith, keeps, no_steps, free_step)
 
 -- something is wanted
 wants_so : {K : Type 0} (picks : Picking K) (blocks : Bool) (action : Action) (bytes : List ℕ) (old new : Port K)
     (w : Option Wish) → Becomes picks (Next blocks action bytes) old new → Steps old w
     → ((code : ℕ) → old.stage ≡ stages.Dead code → IsOfBlock old.task → ⊥)
     → Steps new (Some (record { action = action; bytes = bytes }))
-wants_so {K} picks blocks action bytes old new w r s calm = elim (alive_or_dead old old.stage refl) [
-  | inl alive ↦ record {
-    begun = begun_so alive;
-    wanted = λ e. wanted_so alive e;
-    paused = λ verdict e. subst (λ x. IsWanted new x action) e (r.0.wanted alive);
-  }
-  | inr d ↦ no_steps new (Some (record { action = action; bytes = bytes }))
-      (λ h. calm d.0 d.1 (subst (λ x. IsOfBlock x) (ap (λ (p : Port K). p.task) (r.0.dead d.0 d.1).1) h))
-]
-  where
-    begun_so : IsAlive old → IsBegunStep new
-    begun_so alive h = by old.task refl
-      where
-        by : (task : Task) → old.task ≡ task
-            → new.task ≡ begun_task new.controller.settings.units new.buffers.items new.volumes
-            (begun_step new.controller)
-        by tasks.Free at =
-            let b = (r.0.begins alive at h).begun in
-            b.4 ∙ ap (begun_task new.controller.settings.units new.buffers.items new.volumes) (sym b.5)
-        by task at = (same_so old new w s (r.0.goes_on (λ e. search (arith, at, e)))).begun h
-
-    wanted_so : IsAlive old → new.task ≡ tasks.Transfer → action ≡ move_wanted new (block_begun new)
-    wanted_so alive e = subst (λ x. IsWanted new x action) e (r.0.wanted alive)
+wants_so {K} picks blocks action bytes old new w r s calm = grind (arith, alive_or_dead, no_steps)
 
 module _ {K : Type 0} (picks : Picking K) (hardware : Hardware) (credits : ℕ) (controller : Holdings K)
     (start : Port K) (made : IsMadeOf hardware credits controller start) where
@@ -216,14 +117,4 @@ module _ {K : Type 0} (picks : Picking K) (hardware : Hardware) (credits : ℕ) 
   steps p (call ∷ calls) asks a = by (minor picks call a.0 p a.2 tt) (steps a.0 calls asks a.1)
     where
       by : Minor a.0 p → Steps a.0 (wish calls) → Steps p (wish calls)
-      by (Still e) s = same_so a.0 p (wish calls) s e
-      by (PutsAside e) s = either a.0 p (wish calls) (λ h. record {
-        controller = ap (λ (q : Port K). q.controller) e;
-        buffers = ap (λ (q : Port K). q.buffers) e;
-        volumes = ap (λ (q : Port K). q.volumes) e;
-        task = ap (λ (q : Port K). q.task) e
-            ∙ free_aside a.0.task (subst (λ x. IsOfBlock x) (ap (λ (q : Port K). q.task) e) h);
-      }) s
-      by (ReadsAgain left e) s = again_so a.0 p (wish calls) s e
-      by (Mounts becomes place e) s = volume_so a.0 p (wish calls) s becomes place e
-      by (GivesUp d) s = no_steps p (wish calls) (λ h. subst (λ x. IsOfBlock x) d.task h)
+      by h s = grind (arith, same_so, either, free_aside, again_so, volume_so, no_steps)

@@ -1,5 +1,5 @@
 -- What there is of each reference number: nothing; a message whose command waits; or one whose end waits.
-use Rattle.mscp_ported.proofs.Common.{Bool, End, EndBody, List, None, Order, Record, Some, [], ap, append-nil, arith, bytes_in, cond, eq-eqb, eqb-true, false, false≢true, filter, filter-append, find, has_number, inl, inr, is_numbered, nat_eq, not, num, refl, subst, sym, true, ℕ, ◌++◌, ◌∙◌, ◌∷◌, ◌≡◌, ◌≤◌, ◌⊎◌}
+use Rattle.mscp_ported.proofs.Common.{Bool, End, EndBody, List, None, Order, Record, [], ap, append-nil, arith, bytes_in, cond, eq-eqb, eqb-true, false, false≢true, filter, filter-append, find, has_number, inl, inr, is_numbered, nat_eq, not, num, refl, subst, sym, true, ℕ, ◌++◌, ◌∙◌, ◌∷◌, ◌≡◌, ◌≤◌, ◌⊎◌}
 use Rattle.mscp_packet.specs.declared.command.Order.TheVariants as orders
 use Rattle.mscp_packet.specs.declared.end.EndBody.TheVariants as bodies
 use Rattle.mscp_ported.proofs.Sole.{sole_left}
@@ -42,6 +42,12 @@ At aw rs es n = IsNothing aw rs es n ⊎ Waits aw rs es n ⊎ Ended aw rs es n
 abbrev pub AtEach : List (List ℕ) → List Record → List End → Type 0
 AtEach aw rs es = (n : ℕ) → At aw rs es n
 
+-- the same is there where what has the number is the same
+pub at_same : {aw aw' : List (List ℕ)} {rs rs' : List Record} {es es' : List End} (n : ℕ)
+    → filter (has_number n) aw' ≡ filter (has_number n) aw → filter (is_numbered n) rs' ≡ filter (is_numbered n) rs
+    → filter (ends_numbered n) es' ≡ filter (ends_numbered n) es → At aw rs es n → At aw' rs' es' n
+at_same n texts records ends h = grind arith
+
 -- ---- filters
 
 module _ {X : Type 0} where
@@ -51,33 +57,15 @@ module _ {X : Type 0} where
 
   pub none_stays : (f g : X → Bool) (xs : List X) → filter f xs ≡ [] → filter f (filter g xs) ≡ []
   none_stays f g [] e = refl
-  none_stays f g (x ∷ xs) e = by (g x) (f x) refl e (none_stays f g xs)
-    where
-      by : (c d : Bool) → f x ≡ d → cond d (x ∷ filter f xs) (filter f xs) ≡ []
-          → (filter f xs ≡ [] → filter f (filter g xs) ≡ [])
-          → filter f (cond c (x ∷ filter g xs) (filter g xs)) ≡ []
-      by c true is h rest = absurd (search (arith, h))
-      by true false is h rest = ap (λ b. cond b (x ∷ filter f (filter g xs)) (filter f (filter g xs))) is ∙ rest h
-      by false false is h rest = rest h
+  none_stays f g (x ∷ xs) e = grind (arith, none_stays f g xs)
 
   pub none_of_it : (f : X → Bool) (xs : List X) → filter f (filter (λ x. not (f x)) xs) ≡ []
   none_of_it f [] = refl
-  none_of_it f (x ∷ xs) = by (f x) refl (none_of_it f xs)
-    where
-      by : (c : Bool) → f x ≡ c → filter f (filter (λ x. not (f x)) xs) ≡ []
-          → filter f (cond (not c) (x ∷ filter (λ x. not (f x)) xs) (filter (λ x. not (f x)) xs)) ≡ []
-      by true is rest = rest
-      by false is rest = ap (λ b. cond b (x ∷ filter f (filter (λ x. not (f x)) xs))
-          (filter f (filter (λ x. not (f x)) xs))) is ∙ rest
+  none_of_it f (x ∷ xs) = grind (arith, none_of_it f xs)
 
   pub none_found : (f : X → Bool) (xs : List X) → filter f xs ≡ [] → find f xs ≡ None
   none_found f [] e = refl
-  none_found f (x ∷ xs) e = by (f x) e (none_found f xs)
-    where
-      by : (c : Bool) → cond c (x ∷ filter f xs) (filter f xs) ≡ [] → (filter f xs ≡ [] → find f xs ≡ None)
-          → cond c (Some x) (find f xs) ≡ None
-      by true h rest = absurd (search (arith, h))
-      by false h rest = rest h
+  none_found f (x ∷ xs) e = grind (arith, none_found f xs)
 
   pub first_of_one : (x y : X) (xs : List X) → x ∷ xs ≡ y ∷ [] → (x ≡ y) × (xs ≡ [])
   first_of_one x y xs e = search (arith, e)
@@ -86,11 +74,7 @@ module _ {X : Type 0} where
   some_none x xs e = search (arith, e)
 
 pub other_number : (n m : ℕ) → nat_eq m n ≡ false → (k : ℕ) → nat_eq k n ≡ true → not (nat_eq k m) ≡ true
-other_number n m d k e = by (nat_eq k m) refl
-  where
-    by : (c : Bool) → nat_eq k m ≡ c → not c ≡ true
-    by false h = refl
-    by true h = absurd (false≢true (sym d ∙ eq-eqb m n (sym (eqb-true k m h) ∙ eqb-true k n e)))
+other_number n m d k e = grind (arith, eqb-true, eq-eqb, false≢true)
 
 -- ---- an end is taken
 
@@ -116,28 +100,8 @@ takes_end aw rs e es at n = by (nat_eq e.reference n) refl (at n)
     by : (c : Bool) → nat_eq e.reference n ≡ c → At aw rs (e ∷ es) n → At left rs es n
     by true is (inl none) = absurd (some_none e (filter (ends_numbered n) es) (sym (here true is) ∙ none.2))
     by true is (inr (inl w)) = absurd (some_none e (filter (ends_numbered n) es) (sym (here true is) ∙ w.no_end))
-    by true is (inr (inr x)) = inl (
-      gone is,
-      x.none,
-      (first_of_one e x.end (filter (ends_numbered n) es) (sym (here true is) ∙ x.sole)).1,
-    )
-    by false is (inl none) = inl (same is ∙ none.0, none.1, sym (here false is) ∙ none.2)
-    by false is (inr (inl w)) = inr (inl (record {
-      text = w.text;
-      own = w.own;
-      message = same is ∙ w.message;
-      sole = w.sole;
-      no_end = sym (here false is) ∙ w.no_end;
-      fits = w.fits;
-    }))
-    by false is (inr (inr x)) = inr (inr (record {
-      text = x.text;
-      end = x.end;
-      message = same is ∙ x.message;
-      none = x.none;
-      sole = sym (here false is) ∙ x.sole;
-      fits = x.fits;
-    }))
+    by true is (inr (inr x)) = grind (arith, gone, first_of_one, here)
+    by false is x = at_same n (same is) refl (sym (here false is)) x
 
 -- and it is that of an awaited message
 pub end_awaited : (aw : List (List ℕ)) (rs : List Record) (e : End) (es : List End) → AtEach aw rs (e ∷ es)
@@ -150,11 +114,4 @@ end_awaited aw rs e es at = by (at e.reference)
 
     by : At aw rs (e ∷ es) e.reference
         → (text : List ℕ) × (filter (has_number e.reference) aw ≡ text ∷ []) × (counted_in e.body ≤ bytes_in text)
-    by (inl none) = absurd (some_none e (filter (ends_numbered e.reference) es) (sym here ∙ none.2))
-    by (inr (inl w)) = absurd (some_none e (filter (ends_numbered e.reference) es) (sym here ∙ w.no_end))
-    by (inr (inr x)) = (
-      x.text,
-      x.message,
-      subst (λ (y : End). counted_in y.body ≤ bytes_in x.text)
-          (sym (first_of_one e x.end (filter (ends_numbered e.reference) es) (sym here ∙ x.sole)).0) x.fits,
-    )
+    by h = grind (arith, some_none, here, first_of_one)

@@ -1,11 +1,11 @@
 -- What there is of each reference number after a step of a command, and after a message.
-use Rattle.mscp_ported.proofs.Common.{Block, Bool, Command, Connection, Drive, End, First, List, None, Option, Record, Second, Some, [], aborted_record, advanced, ap, append-nil, arith, bytes_in, cond, drop, drop_more, end_given, eq-eqb, eqb-true, false, false≢true, filter, filter-append, find, has_number, inl, inr, is_numbered, length, map, name_on, nat_eq, no_record, none-some, not, num, option_map, option_to_list, passed_by, record_at, refl, remains, same_Some, step_charge, subst, sym, take, take-append-drop, true, waiting_after, without, ℕ, ◌++◌, ◌+◌, ◌<◌, ◌∙◌, ◌∷◌, ◌≡◌, ◌≤◌}
+use Rattle.mscp_ported.proofs.Common.{Block, Bool, Command, Connection, Drive, End, First, List, None, Option, Record, Second, Some, [], aborted_record, advanced, ap, append-nil, arith, bytes_in, cond, drop, drop_more, end_given, eq-eqb, eqb-true, false, false≢true, filter, filter-append, find, has_number, inl, inr, is_numbered, length, map, name_on, nat_eq, no_record, none-some, not, num, option_map, option_to_list, passed_by, record_at, refl, remains, same_Some, subst, sym, take, take-append-drop, true, waiting_after, without, ℕ, ◌++◌, ◌+◌, ◌<◌, ◌∙◌, ◌∷◌, ◌≡◌, ◌≤◌, found_is}
 use Rattle.mscp_ported.proofs.Coming.{brought_for}
 use Rattle.mscp_ported.proofs.Counted.{given_few, moved_few}
 use Rattle.mscp_ported.proofs.Keeping.{end_number}
-use Rattle.mscp_ported.proofs.Numbered.{At, AtEach, IsNothing, Waits, asked_by, counted_in, ends_numbered, none_beside, none_found, none_of_it, none_stays, some_none}
+use Rattle.mscp_ported.proofs.Numbered.{At, AtEach, IsNothing, Waits, asked_by, at_same, counted_in, ends_numbered, none_beside, none_found, none_of_it, none_stays, some_none}
 use Rattle.mscp_ported.proofs.Owning.{apart_numbers, number_of}
-use Rattle.mscp_ported.proofs.Sole.{found_sole, served_goes_on, served_itself, served_other, sole_beside, sole_comes, sole_left, this_one}
+use Rattle.mscp_ported.proofs.Sole.{found_sole, nothing_two, served_goes_on, served_itself, served_other, sole_comes, sole_left, this_one}
 
 -- ---- a step
 
@@ -16,14 +16,7 @@ module _ (n : ℕ) (k : Block) (d : Drive) (rs : List Record) (place : ℕ) (ins
   passed_none : (t : ℕ) (xs : List Record) → filter (is_numbered n) xs ≡ []
       → filter (is_numbered n) (map (passed_by t) xs) ≡ []
   passed_none t [] e = refl
-  passed_none t (x ∷ xs) e = by (is_numbered n x) e (passed_none t xs)
-    where
-      by : (c : Bool) → cond c (x ∷ filter (is_numbered n) xs) (filter (is_numbered n) xs) ≡ []
-          → (filter (is_numbered n) xs ≡ [] → filter (is_numbered n) (map (passed_by t) xs) ≡ [])
-          → cond c (passed_by t x ∷ filter (is_numbered n) (map (passed_by t) xs))
-          (filter (is_numbered n) (map (passed_by t) xs)) ≡ []
-      by true h rest = absurd (some_none x _ h)
-      by false h rest = rest h
+  passed_none t (x ∷ xs) e = grind (arith, passed_none t xs)
 
   split : filter (is_numbered n) rs ≡ filter (is_numbered n) (take place rs)
       ++ filter (is_numbered n) (record_at rs place ∷ drop (place + 1) rs)
@@ -31,23 +24,11 @@ module _ (n : ℕ) (k : Block) (d : Drive) (rs : List Record) (place : ℕ) (ins
       ∙ ap (λ zs. take place rs ++ zs) (drop_more rs place no_record inside))
       ∙ filter-append (is_numbered n) (take place rs) (record_at rs place ∷ drop (place + 1) rs)
 
-  nothing_two : {X : Type 0} (xs ys : List X) → xs ++ ys ≡ [] → (xs ≡ []) × (ys ≡ [])
-  nothing_two [] ys e = (refl, e)
-  nothing_two (x ∷ xs) ys e = absurd (some_none x (xs ++ ys) e)
-
   -- behind the step there is none, where there is none of what is left
   after_none : (o : Option End) → end_given k d (record_at rs place) ≡ o
       → filter (is_numbered n) (take place rs) ≡ [] → filter (is_numbered n) (remains (record_at rs place) o) ≡ []
       → filter (is_numbered n) (drop (place + 1) rs) ≡ [] → filter (is_numbered n) (waiting_after k d rs place) ≡ []
-  after_none o given a b c =
-      ap (λ x. filter (is_numbered n) (map (passed_by (step_charge (record_at rs place))) (take place rs)
-      ++ (remains (record_at rs place) x ++ drop (place + 1) rs))) given
-      ∙ filter-append (is_numbered n) (map (passed_by (step_charge (record_at rs place))) (take place rs))
-      (remains (record_at rs place) o ++ drop (place + 1) rs)
-      ∙ ap (λ xs. xs ++ filter (is_numbered n) (remains (record_at rs place) o ++ drop (place + 1) rs))
-      (passed_none (step_charge (record_at rs place)) (take place rs) a)
-      ∙ filter-append (is_numbered n) (remains (record_at rs place) o) (drop (place + 1) rs)
-      ∙ ap (λ xs. xs ++ filter (is_numbered n) (drop (place + 1) rs)) b ∙ c
+  after_none o given a b c = grind (arith, is_numbered, filter-append, passed_none)
 
   remains_none : (o : Option End) → is_numbered n (record_at rs place) ≡ false
       → filter (is_numbered n) (remains (record_at rs place) o) ≡ []
@@ -87,27 +68,17 @@ module _ (n : ℕ) (k : Block) (d : Drive) (rs : List Record) (place : ℕ) (ins
 
   -- what is served waited
   pub served_waits : is_numbered n (record_at rs place) ≡ true → filter (is_numbered n) rs ≡ [] → ⊥
-  served_waits is none = some_none (record_at rs place) (filter (is_numbered n) (drop (place + 1) rs))
-      (sym (ap (λ c. cond c (record_at rs place ∷ filter (is_numbered n) (drop (place + 1) rs))
-      (filter (is_numbered n) (drop (place + 1) rs))) is)
-      ∙ (nothing_two (filter (is_numbered n) (take place rs))
-      (filter (is_numbered n) (record_at rs place ∷ drop (place + 1) rs)) (sym split ∙ none)).1)
+  served_waits is none = grind (arith, some_none, is_numbered, nothing_two, split)
 
 -- an end of another number changes nothing
 other_end : (n : ℕ) (via : Connection) (o : Option End) (es : List End)
     → ((e : End) → o ≡ Some e → via ≡ First → nat_eq e.reference n ≡ false)
     → filter (ends_numbered n) (es ++ brought_for via o) ≡ filter (ends_numbered n) es
-other_end n First (Some e) es other = none_beside (ends_numbered n) es e (other e refl refl)
-other_end n First None es other = ap (filter (ends_numbered n)) (append-nil es)
-other_end n Second o es other = ap (filter (ends_numbered n)) (append-nil es)
+other_end n via o es other = grind (arith, none_beside, ends_numbered, append-nil)
 
 pub not_numbered : (n : ℕ) (r : Record) → is_numbered n r ≡ false → r.connection ≡ First
     → nat_eq r.command.reference n ≡ false
-not_numbered n r e first = by (nat_eq r.command.reference n) refl
-  where
-    by : (c : Bool) → nat_eq r.command.reference n ≡ c → c ≡ false
-    by false h = refl
-    by true h = search (arith, e, first, h)
+not_numbered n r e first = grind (arith, e, first)
 
 pub step_serves : (k : Block) (d : Drive) (aw : List (List ℕ)) (rs : List Record) (es : List End) (place : ℕ)
     → place < length rs → AtEach aw rs es
@@ -194,44 +165,26 @@ aborts aw rs es m at n = by (nat_eq m n) refl (at n) (find (is_numbered m) rs) r
     left = filter (λ r. not (is_numbered m r)) rs
 
     found_number : (r : Record) → find (is_numbered m) rs ≡ Some r → r.command.reference ≡ m
-    found_number r e = (number_of m r (passes rs e)).1
-      where
-        passes : (xs : List Record) → find (is_numbered m) xs ≡ Some r → is_numbered m r ≡ true
-        passes [] e = absurd (none-some r e)
-        passes (x ∷ xs) e = cases (is_numbered m x) refl e (passes xs)
-          where
-            cases : (c : Bool) → is_numbered m x ≡ c → cond c (Some x) (find (is_numbered m) xs) ≡ Some r
-                → (find (is_numbered m) xs ≡ Some r → is_numbered m r ≡ true) → is_numbered m r ≡ true
-            cases true is h rest = subst (λ y. is_numbered m y ≡ true) (same_Some x r h) is
-            cases false is h rest = rest h
+    found_number r e = (number_of m r (found_is (is_numbered m) rs r e)).1
 
     apart : nat_eq m n ≡ false → (o : Option Record) → find (is_numbered m) rs ≡ o
         → filter (ends_numbered n) (es ++ option_to_list (option_map aborted_record o))
         ≡ filter (ends_numbered n) es
-    apart d None e = ap (filter (ends_numbered n)) (append-nil es)
-    apart d (Some r) e = none_beside (ends_numbered n) es (aborted_record r)
-        (ap (λ k. nat_eq k n) (found_number r e) ∙ d)
+    apart d o e = grind (arith, ends_numbered, append-nil, none_beside, nat_eq, found_number)
 
     others : nat_eq m n ≡ false → (r : Record) → is_numbered n r ≡ true → not (is_numbered m r) ≡ true
     others d r is = apart_numbers n m r (λ same. false≢true (sym d ∙ eq-eqb m n (sym same))) is
 
     by : (c : Bool) → nat_eq m n ≡ c → At aw rs es n → (o : Option Record) → find (is_numbered m) rs ≡ o
         → At aw left (es ++ option_to_list (option_map aborted_record o)) n
-    by c is (inl none) None e =
-        inl (
-          none.0,
-          none_stays (is_numbered n) (λ r. not (is_numbered m r)) rs none.1,
-          ap (filter (ends_numbered n)) (append-nil es) ∙ none.2,
-        )
+    by false is x o e = at_same n refl (sole_left (is_numbered n) (λ r. not (is_numbered m r)) rs (others is))
+        (apart is o e) x
+    by true is (inl none) None e = at_same {aw = aw} {rs = rs} {es = es} n refl
+        (none_stays (is_numbered n) (λ r. not (is_numbered m r)) rs none.1 ∙ sym none.1)
+        (ap (filter (ends_numbered n)) (append-nil es)) (inl none)
     by true is (inl none) (Some r) e = absurd (none-some r
         (sym (none_found (is_numbered m) rs (subst (λ k. filter (is_numbered k) rs ≡ [])
         (sym (eqb-true m n is)) none.1)) ∙ e))
-    by false is (inl none) (Some r) e =
-        inl (
-          none.0,
-          none_stays (is_numbered n) (λ r. not (is_numbered m r)) rs none.1,
-          apart is (Some r) e ∙ none.2,
-        )
     by true is (inr (inl w)) None e = absurd (none-some w.own
         (sym e ∙ found_sole (is_numbered m) rs w.own (subst (λ k. filter (is_numbered k) rs ≡ w.own ∷ [])
         (sym (eqb-true m n is)) w.sole)))
@@ -248,33 +201,12 @@ aborts aw rs es m at n = by (nat_eq m n) refl (at n) (find (is_numbered m) rs) r
           fits = moved_few r.command.order r.good (bytes_in w.text)
               (subst (λ (x : Record). asked_by x.command.order ≤ bytes_in w.text) same w.fits);
         }))
-    by false is (inr (inl w)) o e = inr (inl (record {
-      text = w.text;
-      own = w.own;
-      message = w.message;
-      sole = sole_left (is_numbered n) (λ r. not (is_numbered m r)) rs (others is) ∙ w.sole;
-      no_end = apart is o e ∙ w.no_end;
-      fits = w.fits;
-    }))
-    by c is (inr (inr x)) None e = inr (inr (record {
-      text = x.text;
-      end = x.end;
-      message = x.message;
-      none = none_stays (is_numbered n) (λ r. not (is_numbered m r)) rs x.none;
-      sole = ap (filter (ends_numbered n)) (append-nil es) ∙ x.sole;
-      fits = x.fits;
-    }))
+    by true is (inr (inr x)) None e = at_same {aw = aw} {rs = rs} {es = es} n refl
+        (none_stays (is_numbered n) (λ r. not (is_numbered m r)) rs x.none ∙ sym x.none)
+        (ap (filter (ends_numbered n)) (append-nil es)) (inr (inr x))
     by true is (inr (inr x)) (Some r) e = absurd (none-some r
         (sym (none_found (is_numbered m) rs (subst (λ k. filter (is_numbered k) rs ≡ [])
         (sym (eqb-true m n is)) x.none)) ∙ e))
-    by false is (inr (inr x)) (Some r) e = inr (inr (record {
-      text = x.text;
-      end = x.end;
-      message = x.message;
-      none = none_stays (is_numbered n) (λ r. not (is_numbered m r)) rs x.none;
-      sole = apart is (Some r) e ∙ x.sole;
-      fits = x.fits;
-    }))
 
 -- ---- a message comes, whose number is new
 
@@ -293,27 +225,7 @@ comes_waiting aw rs es t r new is others few at n = by (nat_eq (num t 0 4) n) re
       no_end = new.2;
       fits = few;
     })))
-    by false e (inl none) = inl (
-      none_beside (has_number n) aw t e ∙ none.0,
-      none_beside (is_numbered n) rs r (others n e) ∙ none.1,
-      none.2,
-    )
-    by false e (inr (inl w)) = inr (inl (record {
-      text = w.text;
-      own = w.own;
-      message = sole_beside (has_number n) aw t w.text w.message e;
-      sole = sole_beside (is_numbered n) rs r w.own w.sole (others n e);
-      no_end = w.no_end;
-      fits = w.fits;
-    }))
-    by false e (inr (inr x)) = inr (inr (record {
-      text = x.text;
-      end = x.end;
-      message = sole_beside (has_number n) aw t x.text x.message e;
-      none = none_beside (is_numbered n) rs r (others n e) ∙ x.none;
-      sole = x.sole;
-      fits = x.fits;
-    }))
+    by false e x = at_same n (none_beside (has_number n) aw t e) (none_beside (is_numbered n) rs r (others n e)) refl x
 
 pub comes_ended : (aw : List (List ℕ)) (rs : List Record) (es : List End) (t : List ℕ) (x : End)
     → IsNothing aw rs es (num t 0 4) → x.reference ≡ num t 0 4 → counted_in x.body ≤ bytes_in t
@@ -332,24 +244,4 @@ comes_ended aw rs es t x new own few at n = by (nat_eq (num t 0 4) n) refl (at n
       sole = sole_comes (ends_numbered (num t 0 4)) es x new.2 (eq-eqb x.reference (num t 0 4) own);
       fits = few;
     })))
-    by false e (inl none) = inl (
-      none_beside (has_number n) aw t e ∙ none.0,
-      none.1,
-      none_beside (ends_numbered n) es x (other e) ∙ none.2,
-    )
-    by false e (inr (inl w)) = inr (inl (record {
-      text = w.text;
-      own = w.own;
-      message = sole_beside (has_number n) aw t w.text w.message e;
-      sole = w.sole;
-      no_end = none_beside (ends_numbered n) es x (other e) ∙ w.no_end;
-      fits = w.fits;
-    }))
-    by false e (inr (inr y)) = inr (inr (record {
-      text = y.text;
-      end = y.end;
-      message = sole_beside (has_number n) aw t y.text y.message e;
-      none = y.none;
-      sole = sole_beside (ends_numbered n) es x y.end y.sole (other e);
-      fits = y.fits;
-    }))
+    by false e y = at_same n (none_beside (has_number n) aw t e) refl (none_beside (ends_numbered n) es x (other e)) y

@@ -11,7 +11,7 @@ use Rattle.mscp_ported.proofs.Ending.{left_with, zipped}
 use Rattle.mscp_ported.proofs.Fitted.{Fitting, became, died, grown_fits, grown_long, stays, unchanged}
 use Rattle.mscp_ported.proofs.Fitting.{FitsEnd, FitsIn, IsPlainEnd, decided_code, every_left, given_plain, plain_fits, step_told}
 use Rattle.mscp_ported.proofs.Followed.{AreFollowed, IsFollowed, followed_left, followed_more, none_else}
-use Rattle.mscp_ported.proofs.Saying.{told_about, told_code, told_success}
+use Rattle.mscp_ported.proofs.Saying.{told_about, told_code}
 use Rattle.mscp_ported.proofs.Numbered.{AtEach, first_of_one}
 use Rattle.mscp_ported.proofs.Origins.{IsOf}
 use Rattle.mscp_ported.proofs.Tables.{decided_by}
@@ -35,8 +35,8 @@ pub said_fits : {c : Settings} {Told : Verdict → Record → Type 0} {K : Type 
 said_fits old aw text message s = subst (λ x. Fits x message) s.is (record {
   unit = told_unit_is old s.end message s.fits.unit;
   code = subst (λ n. IsCodeFor n message) (sym (told_code old s.end s.decided s.first)) s.fits.code;
-  about = told_about old s.end s.decided s.first message s.shaped s.fits;
-  succeeds = told_success old s.end s.decided s.first message s.shaped s.fits;
+  about = λ is long. (told_about old s.end s.decided s.first message s.shaped s.fits is long).0;
+  succeeds = λ is long. (told_about old s.end s.decided s.first message s.shaped s.fits is long).1;
 })
 
 -- ---- an end is taken
@@ -190,12 +190,7 @@ module _ {c : Settings} {Told : Verdict → Record → Type 0} {K : Type 0} (pic
 
     stepped : (via : Connection) (o : Option End) → r0.connection ≡ via → end_given b d r0 ≡ o
         → AreFollowed Told aw (brought_for via o)
-    stepped First None via given = tt
-    stepped First (Some e) via given = (
-      inr (inl (record { own = r0; drive = d; verdict = verdict; told = is_told via; is = given })),
-      tt,
-    )
-    stepped Second o via given = tt
+    stepped h o via given = grind (arith, is_told, is)
 
     brought : (via : Connection) (o : Option End) → r0.connection ≡ via → end_given b d r0 ≡ o
         → AllByRecursion (λ e. FitsIn c Told aw (left_with e (decided_by verdict old new e))) (brought_for via o)

@@ -1,5 +1,5 @@
 -- How an end was made that waits: of which command, what its message was, and with which status it is told.
-use Rattle.mscp_ported.proofs.Common.{Bool, Buffer, Command, Drive, First, Holdings, Leaving, List, None, Option, Record, Settings, Some, Verdict, Volume, aborted_record, advanced, answered_end, ap, arith, block_told, code_told, command_of, cond, drive_of, end_given, ends_formality, false, figure_polled, fresh_record, handed, is_formality, is_queued, length, order_weight, refl, slice_index, status_told, subst, sym, true, ℕ, ◌+◌, ◌<◌, ◌^◌, ◌∙◌, ◌≡◌, ◌≤◌, ◌⊎◌}
+use Rattle.mscp_ported.proofs.Common.{Bool, Buffer, Drive, First, Holdings, Leaving, List, Option, Record, Settings, Some, Verdict, Volume, aborted_record, advanced, answered_end, ap, arith, block_told, code_told, command_of, end_given, ends_formality, false, figure_polled, fresh_record, handed, is_formality, is_queued, length, order_weight, refl, slice_index, status_told, true, ℕ, ◌+◌, ◌<◌, ◌^◌, ◌≡◌, ◌≤◌, ◌⊎◌}
 use Rattle.mscp_drive.specs.declared.block.Block.TheVariants as blocks
 use Rattle.mscp_controller.specs.Outcomes.{own_end}
 use Rattle.mscp_port.specs.declared.verdict.Verdict.TheVariants as verdicts
@@ -26,37 +26,19 @@ pub record IsLeft (r s : Record) : Type 0 where
   pub good : r.good ≡ r.done → s.good ≡ s.done
 
 pub left_alike : (r s : Record) → Alike r s → IsLeft r s
-left_alike r s alike = record {
-  command = alike.command;
-  weight = alike.weight;
-  good = λ g. alike.good ∙ g ∙ sym alike.done;
-}
+left_alike r s alike = grind arith
 
 pub left_advanced : (r : Record) → IsLeft r (advanced r)
 left_advanced r = record { command = refl; weight = refl; good = λ g. ap (λ n. n + 1) g }
 
 pub of_left : (r s : Record) (t : List ℕ) → IsLeft r s → IsOf r t → IsOf s t
-of_left r s t left of = record {
-  settings = of.settings;
-  message = of.message;
-  command = left.command ∙ of.command;
-  queued = ap (is_queued of.settings) left.command ∙ of.queued;
-  whole = left.weight ∙ of.whole ∙ ap (λ (c : Command). order_weight c.order) (sym left.command);
-  good = left.good of.good;
-}
+of_left r s t left of = grind arith
 
 -- so is one that was queued as its message came
 pub queued_of : (settings : Settings) (t : List ℕ) → IsText t
     → is_queued settings (command_of (handed settings.units t)) ≡ true
     → IsOf (fresh_record First (command_of (handed settings.units t))) t
-queued_of settings t message queued = record {
-  settings = settings;
-  message = message;
-  command = refl;
-  queued = queued;
-  whole = refl;
-  good = refl;
-}
+queued_of settings t message queued = grind arith
 
 -- ---- ends
 
@@ -100,15 +82,7 @@ pub answer_of : {K : Type 0} (h : Holdings K) (t : List ℕ) (c : Settings) → 
     → figure_polled h.settings First h.waiting (command_of (handed h.settings.units t)).order < 2 ^ 32 → (l : Leaving)
     → l.end ≡ answered_end First h (command_of (handed h.settings.units t))
     → IsToldSo (verdicts.Served blocks.Good) l → IsAnswer c l t
-answer_of {K} h t c set message immediate low l end told = subst (λ s. IsAnswer s l t) set (record {
-  online = (drive_of h.drives (command_of (handed h.settings.units t)).unit).online;
-  figure = figure_polled h.settings First h.waiting (command_of (handed h.settings.units t)).order;
-  low = low;
-  message = message;
-  immediate = immediate;
-  end = end;
-  told = told;
-})
+answer_of {K} h t c set message immediate low l end told = grind arith
 
 pub aborted_of : (r : Record) (t : List ℕ) → IsOf r t → (l : Leaving) → l.end ≡ aborted_record r
     → IsToldSo (verdicts.Served blocks.Good) l → IsAborted l t
@@ -119,10 +93,4 @@ formal_code n e = grind (arith, e)
 
 -- it is told with its own code, if that isn't a formality's
 pub told_same : (o : Option Buffer) (code : ℕ) → ends_formality (code_told o code) ≡ false → code_told o code ≡ code
-told_same None code e = refl
-told_same (Some b) code e = by (is_formality b.opcode) refl e
-  where
-    by : (x : Bool) → is_formality b.opcode ≡ x → ends_formality (cond x (b.opcode + 0x80) code) ≡ false
-        → cond x (b.opcode + 0x80) code ≡ code
-    by true is h = search (arith, sym (formal_code b.opcode is) ∙ h)
-    by false is h = refl
+told_same o code e = grind (arith, formal_code)

@@ -1,12 +1,12 @@
 -- What is wanted for what is in hand is what is due.
-use Rattle.mscp_ported.proofs.Common.{Action, Commands, Due, Err, Idle, IfSome, IsCalm, IsInArea, IsInPacket, IsLook, IsOwed, IsSomeAnd, IsWanted, IsWithin, List, Looks, Marks, MatchOption, None, Ok, Opened, Option, Outgoing, Port, Read, Responses, Result, Rings, Side, Some, Stage, Taken, Talk, Task, Turn, Written, address_in, ap, arith, block_begun, bytes_wanted, clear_count, clear_from, credits_by, credits_with, given, given_back, given_in, in_hand, inl, inr, length, little_bytes, mod-add-mod, move_wanted, packet_of, packet_out, part_now, part_wanted, refl, slot_in, slot_place, slots_of, subst, sym, text_of, word_of, word_place, zeros_out, ℕ, ◌%◌, ◌*◌, ◌+◌, ◌-◌, ◌^◌, ◌∙◌, ◌≡◌, ◌≢◌, ◌≤◌, ◌⊎◌}
+use Rattle.mscp_ported.proofs.Common.{Action, Commands, Due, Err, IfSome, IsCalm, IsOwed, IsSomeAnd, IsWanted, IsWithin, List, MatchOption, None, Ok, Option, Outgoing, Port, Responses, Result, Rings, Side, Some, Stage, Taken, Talk, Task, Turn, address_in, ap, arith, block_begun, bytes_wanted, credits_by, credits_with, given, given_back, given_in, little_bytes, mod-add-mod, move_wanted, packet_of, packet_out, part_now, part_wanted, refl, slot_in, slots_of, subst, sym, ℕ, ◌%◌, ◌*◌, ◌+◌, ◌-◌, ◌^◌, ◌∙◌, ◌≡◌, ◌≢◌, ◌≤◌}
 use Rattle.std.proofs.Common.{replicate}
 use Rattle.mscp_port.specs.declared.action.Action.TheVariants as actions
 use Rattle.mscp_port.specs.declared.stage.Stage.TheVariants as stages
 use Rattle.mscp_port.specs.declared.task.Task.TheVariants as tasks
 use Rattle.mscp_ported.specs.Owed.{GivesBack}
 use Rattle.mscp_ported.proofs.Counting.{address_mod, mod_power, place_so, slots_so, word_so}
-use Rattle.mscp_ported.proofs.Look.{Counts, Fits, IsAsked, IsClear, IsElse, IsOfRings, IsOpen, IsRead, IsWide, IsWrite, IsInterrupt, Names, NeedsOut, given_at, look, slot_at}
+use Rattle.mscp_ported.proofs.Look.{Counts, Fits, IsAsked, IsClear, IsElse, IsOfRings, IsOpen, IsWide, Names, NeedsOut, given_at, look, slot_at}
 
 -- ---- actions
 
@@ -19,10 +19,7 @@ move_else p (Some m) = by (part_now p m.0 m.1 m.2)
     by (Err status) = tt
 
 else_calm : (s : Stage) (t : Talk) (action : Action) (bytes : List ℕ) → IsElse action → IsCalm s t action bytes
-else_calm s t (actions.Read address count) bytes h = absurd h
-else_calm s t (actions.Write address count) bytes h = absurd h
-else_calm s t (actions.Interrupt vector) bytes h = absurd h
-else_calm s t action bytes h = tt
+else_calm s t action bytes h = grind arith
 
 given_same : {K : Type 0} (p : Port K) (side : Side) → given_in p side ≡ given_at (look p) side
 given_same p Responses = refl
@@ -51,47 +48,10 @@ module _ {K : Type 0} (p : Port K) (t : Talk) (action : Action) (bytes : List �
       → p.rings ≢ None)
       → (NeedsOut task → p.outgoing ≢ None)
       → IsAsked (look p) task (record { action = action; bytes = bytes })
-  asked_of tasks.Free h is some out = tt
-  asked_of tasks.Settle h is some out = subst (λ x. IsElse x) (sym h) tt
-  asked_of (tasks.Clear done) h is some out = tt
-  asked_of (tasks.Slot side) h is some out =
-      in_rings (λ r. action ≡ actions.Read (slot_in r side (given_in p side)) 4)
-      (IsSomeAnd p.rings (λ r. action ≡ actions.Read (slot_in r side (given_at
-      (look p) side)) 4)) p.rings refl (some tt) h
-      (λ r e x. subst (λ o. IsSomeAnd o (λ y. action ≡ actions.Read (slot_in y side (given_at
-      (look p) side)) 4)) (sym e)
-      (x ∙ ap (λ n. actions.Read (slot_in r side n) 4) (given_same p side)))
-  asked_of (tasks.Header slot) h is some out = subst (λ x. IsRead x) (sym h) tt
-  asked_of (tasks.Text slot size foreign) h is some out = subst (λ x. IsRead x) (sym h) tt
-  asked_of (tasks.Packet slot) h is some out = (
-    (length (packet_out p p.outgoing), h),
-    by p.outgoing refl (out_of p p.outgoing refl (out tt)),
-  )
-    where
-      by : (o : Option Outgoing) → p.outgoing ≡ o
-          → IsSomeAnd o (λ x. packet_out p o ≡ packet_of (credits_by p.untold x.kind) x.kind x.bytes.items)
-          → IsSomeAnd o (λ x. bytes ≡ packet_of (credits_by p.untold x.kind) x.kind x.bytes.items)
-      by None e h = h
-      by (Some x) e h = is ∙ ap (packet_out p) e ∙ h
-  asked_of (tasks.Return side slot) h is some out =
-      in_rings (λ r. action ≡ actions.Write (slot_in r side (given_in p side)) 4)
-      (IsWrite action) p.rings refl (some tt) h
-      (λ r e x. subst (λ y. IsWrite y) (sym x) tt)
-  asked_of (tasks.Neighbour side) h is some out =
-      in_rings (λ r. action ≡ actions.Read (slot_in r side (given_in p side + 2 * slots_of r side - 2)) 4)
-      (IsRead action)
-      p.rings refl (some tt) h (λ r e x. subst (λ y. IsRead y) (sym x) tt)
-  asked_of (tasks.Word side) h is some out =
-      in_rings (λ r. action ≡ actions.Write (word_of r side) 2) (IsWrite action) p.rings refl (some tt) h
-      (λ r e x. subst (λ y. IsWrite y) (sym x) tt)
-  asked_of tasks.Interrupt h is some out = subst (λ x. IsInterrupt x) (sym h) tt
-  asked_of (tasks.Step verdict) h is some out = subst (λ x. IsElse x) (sym h) tt
-  asked_of tasks.Transfer h is some out = subst (λ x. IsElse x) (sym h) (move_else p (block_begun p))
+  asked_of task h is some out = grind (arith, in_rings, given_at, look, given_same, out_of, move_else)
 
   owed_open : (turn : Turn) → IsOpen turn → IsCalm p.stage t action bytes → IsOwed p.stage t turn action bytes
-  owed_open Idle fit h = h
-  owed_open (Read slot header text) fit h = inr h
-  owed_open turn fit h = absurd fit
+  owed_open turn fit h = grind arith
 
   owed_at : (turn : Turn) (x : Turn) → turn ≡ x → IsOwed p.stage t x action bytes → IsOwed p.stage t turn action bytes
   owed_at turn x e h = subst (λ y. IsOwed p.stage t y action bytes) (sym e) h
@@ -140,64 +100,19 @@ module _ {K : Type 0} (p : Port K) (t : Talk) (action : Action) (bytes : List �
       → IsOwed p.stage t t.turn action bytes
   owed_of tasks.Transfer h is at within some up clear area fit = owed_open t.turn fit
       (else_calm p.stage t action bytes (subst (λ x. IsElse x) (sym h) (move_else p (block_begun p))))
-  owed_of (tasks.Clear done) h is at within some up clear area fit = owed_open t.turn fit
-      (in_rings (λ r. action ≡ actions.Write (clear_from p r done) (clear_count p r done))
-      (IsCalm p.stage t action bytes)
-      p.rings refl (area tt) h (λ r e x. subst (λ a. IsCalm p.stage t a bytes) (sym x)
-      (clear tt, zeros r e, inside r e x)))
-    where
-      zeros : (r : Rings) → p.rings ≡ Some r → bytes ≡ replicate (clear_count p r done) 0
-      zeros r e = is ∙ ap (zeros_out p done) e
-
-      inside : (r : Rings) → p.rings ≡ Some r → action ≡ actions.Write (clear_from p r done) (clear_count p r done)
-          → IsSomeAnd t.rings (λ r'. IsInArea r' (clear_from p r done) (clear_count p r done))
-      inside r e x = subst (λ o. IsSomeAnd o (λ r'. IsInArea r' (clear_from p r done) (clear_count p r done)))
-          (sym names.named_so) (by (subst (λ a. IsWithin p a) x within))
-        where
-          by : IsSomeAnd p.rings (λ r'. IsInArea r' (clear_from p r done) (clear_count p r done))
-              ⊎ IsSomeAnd (in_hand p.task)
-              (λ word. IsInPacket word (clear_from p r done) (clear_count p r done))
-              → IsSomeAnd p.rings (λ r'. IsInArea r' (clear_from p r done) (clear_count p r done))
-          by (inl h) = h
-          by (inr h) = absurd (subst (λ y. IsSomeAnd (in_hand y)
-              (λ word. IsInPacket word (clear_from p r done) (clear_count p r done))) at h)
-  owed_of (tasks.Slot side) h is at within some up clear area fit = owed_open t.turn fit
-      (in_rings (λ r. action ≡ actions.Read (slot_in r side (given_in p side)) 4)
-      (IsCalm p.stage t action bytes) p.rings
-      refl (some tt) h (λ r e x. subst (λ a. IsCalm p.stage t a bytes) (sym x) (
-        up tt,
-        refl,
-        (side, slot_count r side e),
-      )))
+  owed_of (tasks.Clear done) h is at within some up clear area fit = grind (arith, owed_open, in_rings, replicate)
+  owed_of (tasks.Slot side) h is at within some up clear area fit = grind (arith, owed_open, in_rings, slot_count)
   owed_of (tasks.Header slot) h is at within some up clear area fit =
       owed_at t.turn (Taken (slot_at (look p) Commands slot.word)) fit h
-  owed_of (tasks.Text slot size foreign) h is at within some up clear area fit =
-      owed_at t.turn (Opened (slot_at (look p) Commands slot.word) fit.0) fit.1
-      (h ∙ ap (λ n. actions.Read (text_of slot.word) n) fit.2)
-  owed_of (tasks.Packet slot) h is at within some up clear area fit =
-      owed_at t.turn (Taken (slot_at (look p) Responses slot.word)) fit
-      (h ∙ ap (λ b. actions.Write (text_of slot.word - 4) (length b)) (sym is))
+  owed_of (tasks.Text slot size foreign) h is at within some up clear area fit = grind (arith, owed_at, slot_at, look)
+  owed_of (tasks.Packet slot) h is at within some up clear area fit = grind (arith, owed_at, slot_at, look)
   owed_of (tasks.Return Responses slot) h is at within some up clear area fit =
-      owed_at t.turn (Written (slot_at (look p) Responses slot.word) fit.0 fit.1) fit.2
-      (back_so Responses slot.word (some tt) is h)
+      grind (arith, owed_at, slot_at, look, back_so)
   owed_of (tasks.Return Commands slot) h is at within some up clear area fit =
-      owed_at t.turn (Read (slot_at (look p) Commands slot.word) fit.0 fit.1) fit.2
-      (inl (back_so Commands slot.word (some tt) is h))
-  owed_of (tasks.Neighbour side) h is at within some up clear area fit = owed_at t.turn (Looks side) fit
-      (in_rings (λ r. action ≡ actions.Read (slot_in r side (given_in p side + 2 * slots_of r side - 2)) 4)
-      (IsLook t.rings t side action) p.rings refl (some tt) h
-      (λ r e x. subst (λ o. IsLook o t side action) (sym (names.named_so ∙ e))
-      (x ∙ ap (λ n. actions.Read (slot_in r side (n + 2 * slots_of r side - 2)) 4) (count_so side)
-      ∙ ap (λ n. actions.Read n 4) (look_count r side (given t side) (subst (λ o. IfSome o IsWide) e names.wide)
-      ∙ sym (place_so r side (given t side + 2 * slots_of r side - 2))
-      ∙ ap (λ m. slot_place r side (given t side + 2 * m - 2)) (sym (slots_so r side))))))
-  owed_of (tasks.Word side) h is at within some up clear area fit = owed_at t.turn (Marks side) fit (
-    in_rings (λ r. action ≡ actions.Write (word_of r side) 2)
-        (IsSomeAnd t.rings (λ r. action ≡ actions.Write (word_place r side) 2)) p.rings refl (some tt) h
-        (λ r e x. subst (λ o. IsSomeAnd o (λ r. action ≡ actions.Write (word_place r side) 2))
-        (sym (names.named_so ∙ e)) (x ∙ ap (λ n. actions.Write n 2) (sym (word_so r side)))),
-    is,
-  )
+      grind (arith, owed_at, slot_at, look, back_so)
+  owed_of (tasks.Neighbour side) h is at within some up clear area fit =
+      grind (arith, owed_at, in_rings, count_so, look_count, place_so, slots_so)
+  owed_of (tasks.Word side) h is at within some up clear area fit = grind (arith, owed_at, in_rings, word_so)
   owed_of tasks.Interrupt h is at within some up clear area fit = owed_at t.turn Due fit
       (h ∙ ap (λ n. actions.Interrupt (n % 0x80 * 4)) (sym names.first_so))
   owed_of task h is at within some up clear area fit = owed_open t.turn fit

@@ -1,7 +1,6 @@
 -- What is kept of a command was said by its own message, and its blocks so far were moved at their places.
-use Rattle.mscp_ported.proofs.Common.{Action, Answered, Bool, Buffer, Call, Command, Contains, Contains-push_cases, First, Holdings, IsLike, List, Name, None, Ok, Option, Order, Picking, Port, Record, Some, WasRead, [], ap, append-nil, arith, asked, asks_nothing, balance_of, buffer_in, changes_at, comes, command_of, cond, done_by, eq-eqb, eqb-true, false, filter, find, fresh_record, handed, handed_as_read, handed_like, inl, inr, is_first, is_formality, is_numbered, is_queued_text, length, moved, name_of, name_on, nat_eq, nat_lt, none-some, none_among, none_waits, not, not_of, num, option_map, order_weight, outstanding_of, place_in, reference_aborted, refl, same_Some, same_is, slice_index, subst, sym, taken_number, transfers, true, unaborted, waiting, wish, without_aborted, without_among, ℕ, ◌&&◌, ◌++◌, ◌<◌, ◌==◌, ◌∙◌, ◌∷◌, ◌≡◌, ◌≢◌, ◌≤◌, ◌⊎◌}
+use Rattle.mscp_ported.proofs.Common.{Action, Answered, Bool, Buffer, Call, Contains, Contains-push_cases, First, Holdings, IsLike, List, Name, None, Ok, Option, Order, Picking, Port, Record, Some, WasRead, [], ap, append-nil, arith, asked, asks_nothing, balance_of, buffer_in, changes_at, comes, command_of, cond, done_by, eq-eqb, eqb-true, false, filter, find, fresh_record, handed, handed_as_read, handed_like, inl, inr, is_first, is_formality, is_numbered, is_queued_text, length, moved, name_of, name_on, nat_eq, nat_lt, none-some, none_among, none_waits, not, not_of, num, option_map, order_weight, outstanding_of, place_in, reference_aborted, refl, same_Some, same_is, slice_index, subst, sym, taken_number, transfers, true, unaborted, waiting, wish, without_aborted, without_among, ℕ, ◌&&◌, ◌++◌, ◌<◌, ◌==◌, ◌∙◌, ◌∷◌, ◌≡◌, ◌≢◌, ◌≤◌, ◌⊎◌}
 use Rattle.mscp_packet.specs.declared.command.Order.TheVariants as orders
-use Rattle.mscp_ported.specs.Transfers.{text_of}
 use Rattle.mscp_ported.proofs.Reading.{Gets, Queues, and_false, answered_now, command_in, not_queued, queued_later, read_is}
 use Rattle.mscp_ported.proofs.Sole.{Alike, found_sole, itself, none_passes, sole_beside, sole_comes, sole_left, sole_passes}
 
@@ -42,22 +41,7 @@ module _ {K : Type 0} (picks : Picking K) (start : Port K) where
       (b : Buffer) (r s : Record) (bytes : List ℕ) → Own a.0 calls a.1 b r bytes
       → comes b.reference call a.0 ≡ false → done_by b.reference call (wish calls) a.0 ≡ []
       → filter (is_numbered b.reference) p.controller.waiting ≡ s ∷ [] → Alike r s → Own p (call ∷ calls) a b s bytes
-  carries p call calls a b r s bytes own other none sole alike = record {
-    sole = sole;
-    message = ap (λ c. cond c (Some (text_of call)) (asked picks b.reference start a.0 calls a.1)) other
-        ∙ own.message;
-    kept = own.kept;
-    command = alike.command ∙ own.command;
-    whole = alike.weight ∙ own.whole ∙ ap (λ (c : Command). order_weight c.order) (sym alike.command);
-    good = alike.good ∙ own.good ∙ sym alike.done;
-    low = subst (λ n. n < s.weight) (sym alike.done) (subst (λ n. r.done < n) (sym alike.weight) own.low);
-    parts = ap (λ c. cond c [] (moved picks b.reference start a.0 calls a.1
-        ++ done_by b.reference call (wish calls) a.0)) other
-        ∙ ap (λ zs. moved picks b.reference start a.0 calls a.1 ++ zs) none
-        ∙ append-nil (moved picks b.reference start a.0 calls a.1) ∙ own.parts
-        ∙ ap (λ (c : Command). parts_of c.order c.unit b.address r.done) (sym alike.command)
-        ∙ ap (parts_of s.command.order s.command.unit b.address) (sym alike.done);
-  }
+  carries p call calls a b r s bytes own other none sole alike = grind (arith, append-nil)
 
   pub quiet : (p : Port K) (call : Call) (calls : List Call) (a : Answered picks start (call ∷ calls) p)
       → ((n : ℕ) → comes n call a.0 ≡ false) → ((n : ℕ) → done_by n call (wish calls) a.0 ≡ [])
@@ -98,11 +82,7 @@ number_of n r is = let e = same_is (name_of r) (name_on First n) is in
     (ap (λ (x : Name). x.connection) e, ap (λ (x : Name). x.reference) e)
 
 pub apart_numbers : (n m : ℕ) (r : Record) → n ≢ m → is_numbered n r ≡ true → not (is_numbered m r) ≡ true
-apart_numbers n m r ne is = by (is_numbered m r) refl
-  where
-    by : (b : Bool) → is_numbered m r ≡ b → not b ≡ true
-    by false e = refl
-    by true e = absurd (ne (sym (number_of n r is).1 ∙ (number_of m r e).1))
+apart_numbers n m r ne is = grind (arith, number_of)
 
 no_shorter : (m n : ℕ) → m ≤ 12 → 12 ≤ n → nat_lt n m ≡ false
 no_shorter m n short long = search (arith, short, long)
@@ -213,20 +193,12 @@ module _ {K : Type 0} (picks : Picking K) (start : Port K) (p : Port K) (calls :
       opcode_kept : (b : Buffer) → buffer_in bytes (changes_at a.0.volumes
           (place_in a.0.controller.settings.units (num bytes 4 2))) ≡ b
           → asks_nothing b.opcode ≡ false → is_formality (slice_index bytes 8) ≡ false
-      opcode_kept b e asks =
-          sym (ap (λ t. is_formality (cond t 0 (slice_index bytes 8))) {x = nat_lt (length bytes) 9} {y = false}
-          (no_shorter 9 (length bytes) (omega arith) g.long))
-          ∙ ap (λ (x : Buffer). is_formality x.opcode) e ∙ asks
+      opcode_kept b e asks = grind (arith, nat_lt, no_shorter)
 
       other_number : (b : Buffer) (c : Bool) → nat_eq (num bytes 0 4) b.reference ≡ c → (r : Record)
           → filter (is_numbered b.reference) a.0.controller.waiting ≡ r ∷ []
           → filter (is_numbered (num bytes 0 4)) a.0.controller.waiting ≡ [] → c ≡ false
-      other_number b false e r sole new = refl
-      other_number b true e r sole new = search (
-        arith,
-        sym new ∙ subst (λ m. filter (is_numbered m) a.0.controller.waiting ≡ r ∷ [])
-            (sym (eqb-true (num bytes 0 4) b.reference e)) sole,
-      )
+      other_number b c e r sole new = grind (arith, is_numbered, eqb-true)
 
   pub read_owned : After
   read_owned = elim (read_is bytes done a.0 p a.2) [

@@ -1,9 +1,7 @@
 -- A part of what is kept of a command, where its block may be moved.
-use Rattle.mscp_ported.proofs.Common.{Bool, Buffer, Err, IfSome, MoveKind, None, Ok, Option, Some, Verdict, Volume, ap, arith, asks_nothing, changed_verdict, cond, false, fault_with, faulted, has_changed, is_formality, min, nat_eq, nat_lt, none-some, part_of, part_with, refl, refusal_of, same_Some, sym, true, unless_fault, ℕ, ◌*◌, ◌+◌, ◌-◌, ◌<◌, ◌≡◌, ◌≢◌, ◌≤◌}
-use Rattle.std.proofs.Common.{◌||◌}
+use Rattle.mscp_ported.proofs.Common.{Buffer, Err, IfSome, MoveKind, Ok, Some, Verdict, Volume, arith, asks_nothing, changed_verdict, false, fault_with, min, nat_eq, none-some, part_of, part_with, refusal_of, ℕ, ◌*◌, ◌+◌, ◌-◌, ◌<◌, ◌≡◌, ◌≢◌, ◌≤◌}
 use Rattle.mscp_drive.specs.declared.block.Block.TheVariants as blocks
 use Rattle.mscp_port.specs.declared.verdict.Verdict.TheVariants as verdicts
-use Rattle.mscp_port.specs.Buffers.{left_of}
 
 -- ---- parts of buffers
 
@@ -15,59 +13,27 @@ refused : (kind : MoveKind) (block : ℕ) (b : Buffer) (v : Volume) → IfSome (
 refused kind block b v = grind arith
 
 pub changed_bad : (v : Volume) → IsNoGood (changed_verdict v)
-changed_bad v = by v.is_mounted
-  where
-    by : (c : Bool) → IsNoGood (cond c (faulted 0x000B) verdicts.NoVolume)
-    by true e = search (arith, e)
-    by false e = search (arith, e)
+changed_bad v = grind arith
 
 faulty : (kind : MoveKind) (block : ℕ) (b : Buffer) (v : Volume) → IfSome (fault_with kind block b v) IsNoGood
-faulty kind block b v = by (has_changed b v) (refusal_of kind block b v) (refused kind block b v)
-  where
-    by : (c : Bool) (o : Option Verdict) → IfSome o IsNoGood → IfSome (cond c (Some (changed_verdict v)) o) IsNoGood
-    by true o h = changed_bad v
-    by false o h = h
+faulty kind block b v = grind (arith, changed_bad, refused)
 
 -- this part of a buffer is left, where a step may go on
 pub part_left : (kind : MoveKind) (block at : ℕ) (b : Buffer) (v : Volume) (part : ℕ × ℕ)
     → part_with kind block at b v ≡ Ok part → part_of b at ≡ Some part
-part_left kind block at b v part e = by (fault_with kind block b v) (part_of b at) e
-  where
-    by : (o : Option Verdict) (q : Option (ℕ × ℕ)) → unless_fault o q ≡ Ok part → q ≡ Some part
-    by (Some verdict) q e = search (arith, e)
-    by None None e = search (arith, e)
-    by None (Some x) e = search (arith, e)
+part_left kind block at b v part e = grind arith
 
 pub no_good_part : (kind : MoveKind) (block at : ℕ) (b : Buffer) (v : Volume) (verdict : Verdict)
     → part_with kind block at b v ≡ Err verdict → IsNoGood verdict
-no_good_part kind block at b v verdict e = by (fault_with kind block b v) (part_of b at) (faulty kind block b v) e
-  where
-    by : (o : Option Verdict) (q : Option (ℕ × ℕ)) → IfSome o IsNoGood → unless_fault o q ≡ Err verdict
-        → verdict ≢ verdicts.Served blocks.Good
-    by (Some x) q h e = search (arith, e, h)
-    by None None h e = search (arith, e)
-    by None (Some x) h e = search (arith, e)
+no_good_part kind block at b v verdict e = grind (arith, faulty)
 
 pub part_is : (b : Buffer) (at : ℕ) (part : ℕ × ℕ) → part_of b at ≡ Some part
     → (part.0 ≡ b.address + at * 512) × (part.1 ≡ min (b.count - at * 512) 512)
-part_is b at part e = by (is_formality b.opcode || nat_lt b.count (at * 512)
-    || nat_lt 0xFFFF_FFFF (b.address + at * 512 + left_of b at)) e
-  where
-    by : (c : Bool) → cond c None (Some (b.address + at * 512, left_of b at)) ≡ Some part
-        → (part.0 ≡ b.address + at * 512) × (part.1 ≡ min (b.count - at * 512) 512)
-    by true e = absurd (none-some part e)
-    by false e =
-        let same = same_Some (b.address + at * 512, left_of b at) part e in
-        (sym (ap (λ x. x.0) same), sym (ap (λ x. x.1) same))
+part_is b at part e = grind (arith, none-some)
 
 -- and its command asks something of the disk
 pub has_data : (b : Buffer) (at : ℕ) (part : ℕ × ℕ) → part_of b at ≡ Some part → asks_nothing b.opcode ≡ false
-has_data b at part e = by (is_formality b.opcode) (nat_lt b.count (at * 512))
-    (nat_lt 0xFFFF_FFFF (b.address + at * 512 + left_of b at)) e
-  where
-    by : (x y z : Bool) → cond (x || y || z) None (Some (b.address + at * 512, left_of b at)) ≡ Some part → x ≡ false
-    by true y z h = absurd (none-some part h)
-    by false y z h = refl
+has_data b at part e = grind (arith, none-some)
 
 pub some_left : (n m k : ℕ) → k ≡ min (n - m) 512 → nat_eq k 0 ≡ false → m < n
 some_left n m k e f = search (arith, e, f)

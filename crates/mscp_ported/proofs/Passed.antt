@@ -1,6 +1,5 @@
 -- Ends pass on to a host in order, over a whole list of calls.
-use Rattle.mscp_port.specs.declared.port.OutgoingKind.TheVariants as kinds
-use Rattle.mscp_ported.proofs.Common.{All, AllByRecursion, Answered, AnsweredCalls, AsksAlways, Call, ControllersKeepThePromise, Deals, Err, First, Hardware, Holdings, IsMadeOf, IsValid, List, Made, Next, Ok, OutgoingKind, PassesOn, Pending, Picking, Port, ReadsBytes, Record, Settings, TakesPoll, WasRead, Went, WriteIp, [], accepted_by, ap, append-nil, arith, awaited, begins, ends_said_by, every_append, false, figure_on, filter, flat_map, fresh, inl, inr, is_dead, is_numbered, map, num, outstanding_of, pending_end, pending_held, pending_in, pending_said, refl, said_in, subst, sym, taken_by, ℕ, ◌++◌, ◌<◌, ◌∙◌, ◌∷◌, ◌≡◌, ◌≢◌, ◌≤◌, ◌⊎◌}
+use Rattle.mscp_ported.proofs.Common.{All, AllByRecursion, Answered, AnsweredCalls, AsksAlways, Call, ControllersKeepThePromise, Deals, Err, First, Hardware, Holdings, IsMadeOf, IsValid, List, Made, Next, Ok, OutgoingKind, PassesOn, Pending, Picking, Port, ReadsBytes, Record, Settings, TakesPoll, WasRead, Went, WriteIp, [], accepted_by, ap, append-nil, arith, awaited, begins, ends_said_by, every_append, false, figure_on, filter, flat_map, fresh, inl, inr, is_dead, is_numbered, map, num, outstanding_of, pending_end, pending_held, pending_in, pending_said, refl, said_in, sym, taken_by, ℕ, ◌++◌, ◌<◌, ◌∙◌, ◌∷◌, ◌≡◌, ◌≢◌, ◌≤◌, ◌⊎◌}
 use Rattle.mscp_ported.proofs.Answering.{answers}
 use Rattle.mscp_ported.proofs.Awaiting.{Kept}
 use Rattle.mscp_ported.proofs.ByOpcode.{fitting}
@@ -41,10 +40,7 @@ module _ {K : Type 0} (picks : Picking K) (c : Settings) (picker : K)
 
   passive_grown : (p : Port K) (call : Call) (calls : List Call) (a : Answered picks start (call ∷ calls) p)
       → IsPassive call → is_dead p.stage ≡ false → Grown call a.0 p
-  passive_grown p call calls a is lives = elim (passive_stays picks call a.0 p a.2 is) [
-    | inl s ↦ grown_none call a.0 p (ap (λ (h : Holdings K). ends_of h) s.0)
-    | inr d ↦ absurd (search (arith, lives, ap is_dead d.1.stage))
-  ]
+  passive_grown p call calls a is lives = grind (arith, passive_stays, grown_none, ends_of)
 
   -- by a message
   read_passes : (p : Port K) (calls : List Call) (bytes : List ℕ) (done : Unit)
@@ -61,18 +57,12 @@ module _ {K : Type 0} (picks : Picking K) (c : Settings) (picker : K)
           (waits_so a.0 calls reads.1 a.1) lives
 
       same_bytes : (b : List ℕ) (u : Unit) → WasRead bytes (Ok done) ≡ WasRead b (Ok u) → bytes ≡ b
-      same_bytes b u e = ap bytes_read e
-        where
-          bytes_read : Call → List ℕ
-          bytes_read (WasRead z r) = z
-          bytes_read call = bytes
+      same_bytes b u e = grind arith
 
       poll : (b : List ℕ) (u : Unit) → WasRead bytes (Ok done) ≡ WasRead b (Ok u)
           → TakesPoll (num b 12 4) (WasRead bytes (Ok done)) a.0
           → map pending_end x.0.brought ≡ record { number = num b 0 4; figure = figure_on a.0 (num b 12 4) } ∷ []
-      poll b u e t = subst (λ z. TakesPoll (num z 12 4) (WasRead bytes (Ok done)) a.0
-          → map pending_end x.0.brought ≡ record { number = num z 0 4; figure = figure_on a.0 (num z 12 4) } ∷ [])
-          (same_bytes b u e) x.1 t
+      poll b u e t = grind (arith, x, same_bytes)
 
       none_begun : begins a.0.outgoing p.outgoing ≡ [] → PassesOn (WasRead bytes (Ok done)) a.0 p
       none_begun none = grown_passes (WasRead bytes (Ok done)) a.0 p x.0
@@ -115,9 +105,7 @@ module _ {K : Type 0} (picks : Picking K) (c : Settings) (picker : K)
               → AllByRecursion (λ (e : Pending). ((text : List ℕ)
               × (accepted_by (WasRead bytes (Ok done)) a.0 ≡ text ∷ []) × (num text 0 4 ≡ e.number))
               ⊎ (1 ≤ figure_on a.0 e.number)) (pending_said kind text)
-          own_these kinds.Attention text one named = tt
-          own_these kinds.UtilitiesEnd text one named = tt
-          own_these kinds.End text one named = (inl (bytes, one, sym named), tt)
+          own_these kind text one named = grind arith
 
   pub passes_on : (p : Port K) (call : Call) (calls : List Call) (a : Answered picks start (call ∷ calls) p)
       → AsksAlways (call ∷ calls) → ReadsBytes (call ∷ calls) → call ≢ WriteIp → is_dead p.stage ≡ false

@@ -1,5 +1,5 @@
 -- Ends pass on to a host in the order in which they came.
-use Rattle.mscp_ported.proofs.Common.{Action, AllByRecursion, Bool, Command, Connection, End, First, Goes, Hears, Holdings, IsOfKind, List, Next, None, Ok, Option, Order, Outcome, PassesOn, Port, Record, Second, Settings, Some, TakesEnd, TakesPoll, Verdict, Wants, WasRead, Went, [], aborted_record, accepted_by, answered_end, ap, append-nil, arith, block_told, command_of, cond, drop, every_append, false, figure_on, filter, find, flat_map, found_is, given, handed, inl, inr, is_dead, is_numbered, is_queued, length, map, nat_eq, none-some, num, option_map, option_to_list, pending_end, pending_held, pending_in, pending_said, record_aborted, record_at, refl, said_in, slice_get, slice_index, subst, sym, taken_by, told_end, true, ℕ, ◌++◌, ◌∙◌, ◌∷◌, ◌≡◌, ◌≤◌, ◌⊎◌}
+use Rattle.mscp_ported.proofs.Common.{Action, AllByRecursion, Bool, Command, Connection, End, First, Goes, Hears, Holdings, IsOfKind, List, Next, None, Ok, Option, Order, Outcome, PassesOn, Port, Record, Second, Settings, Some, TakesEnd, TakesPoll, Verdict, Wants, WasRead, Went, [], aborted_record, accepted_by, answered_end, ap, append-nil, arith, block_told, command_of, cond, drop, every_append, false, figure_on, filter, find, found_is, given, handed, inl, inr, is_dead, is_numbered, is_queued, length, map, nat_eq, none-some, num, option_map, option_to_list, pending_end, pending_said, record_aborted, record_at, refl, slice_get, slice_index, subst, sym, taken_by, told_end, true, ℕ, ◌++◌, ◌∙◌, ◌∷◌, ◌≡◌, ◌≤◌, ◌⊎◌}
 use Rattle.mscp_ported.proofs.Growing.{Grown, begun_one, silent, grown_none, grown_passes}
 use Rattle.mscp_port.specs.declared.port.OutgoingKind.TheVariants as kinds
 use Rattle.mscp_packet.specs.declared.command.Order.TheVariants as orders
@@ -59,17 +59,7 @@ module _ {c : Settings} {Told : Verdict → Record → Type 0} {K : Type 0} (blo
         (told_figure old e x.0 x.1 o.0 (shaped e t.out.1) (x.2 o.0 o.1))
 
     taken_passes : Passes
-    taken_passes = record {
-      more = [];
-      behind = ap (λ os. flat_map pending_in (map said_in os) ++ pending_held new)
-          (begun_one old.outgoing new.outgoing
-          (record { bytes = record { items = told_end old e }; kind = kinds.End }) t.nothing t.out.2)
-          ∙ ap (λ xs. (xs ++ []) ++ pending_held new) pending
-          ∙ ap (λ (h : Holdings K). pending_end e ∷ map pending_end (ends_of h)) t.controller
-          ∙ sym (ap (map pending_end) is) ∙ sym (append-nil (pending_held old));
-      of_these = tt;
-      poll = λ b done x. absurd (not_read b done x);
-    }
+    taken_passes = grind (arith, begun_one, pending, ends_of, is, append-nil, not_read)
 
   pub next_passes : Passes
   next_passes = elim (says_is old new r.says) [ inl x ↦ taken_passes x.0 | inr n ↦ still n ]
@@ -171,12 +161,7 @@ module _ {K : Type 0} (bytes : List ℕ) (done : Unit) (old new : Port K) (aw : 
         → (q ≡ false) × (map pending_end (option_to_list (option_map aborted_record
         (record_aborted First h.waiting command.order)) ++ answered_end First h command ∷ [])
         ≡ record { number = num bytes 0 4; figure = figure_on old (num bytes 12 4) } ∷ [])
-    polled_now poll long q e =
-        let same : command ≡ polled bytes = poll_sent old.controller.settings.units bytes poll long in (
-          sym e ∙ ap (is_queued h.settings) same,
-          ap (λ c. map pending_end (option_to_list (option_map aborted_record
-              (record_aborted First h.waiting c.order)) ++ answered_end First h c ∷ [])) same,
-        )
+    polled_now poll long q e = grind (arith, polled, poll_sent)
 
     taken_comes : Queues g.slot bytes old new ⊎ Answers g.slot bytes old new → Comes
     taken_comes (inl q) = (

@@ -1,9 +1,9 @@
 -- Calls that report no action: what is in step stays so.
-use Rattle.mscp_ported.proofs.Common.{Call, Idle, IfSome, IsAsNew, IsOfBlock, List, None, Option, Port, Said, Some, Stage, Talk, Task, Turn, Wish, WriteIp, [], ap, arith, aside, false, inl, inr, is_dead, map, message_text, option_to_list, read_again, refl, said_in, silence, step_at, stepped, subst, sym, talk_after, ℕ, ◌++◌, ◌∙◌, ◌≡◌, ◌⊎◌}
+use Rattle.mscp_ported.proofs.Common.{Call, IfSome, IsAsNew, List, None, Option, Port, Said, Some, Stage, Talk, Task, Turn, Wish, WriteIp, [], ap, arith, aside, false, inl, inr, is_dead, read_again, refl, silence, step_at, stepped, subst, sym, ℕ, ◌≡◌, ◌⊎◌, true, ◌≢◌}
 use Rattle.mscp_port.specs.declared.stage.Stage.TheVariants as stages
 use Rattle.mscp_port.specs.declared.task.Task.TheVariants as tasks
 use Rattle.mscp_ported.proofs.After.{After, IsNoReset, IsPlain, ends, unmoved}
-use Rattle.mscp_ported.proofs.Look.{Fits, HasLeft, InStep, IsAsked, IsClear, IsOfRings, IsOpen, IsTelling, IsWide, Look, NeedsOut, has_area, in_hand, look, told_on}
+use Rattle.mscp_ported.proofs.Look.{Fits, InStep, IsAsked, IsClear, IsEnd, IsOfRings, IsOpen, IsOwned, IsSimple, IsTelling, Look, NeedsOut, block_rings, has_area, in_hand, look, told_on}
 
 -- ---- all was forgotten
 
@@ -13,46 +13,7 @@ none_asked l (Some w) = tt
 
 pub anew : {K : Type 0} (s : Stage) (old new : Port K) (v : Option Wish) → IsAsNew s old new → has_area s ≡ false
     → InStep (look new) silence v [] []
-anew s old new v n no_area = record {
-  names = record {
-    first_so = sym (ap (λ w. w.first) n.words);
-    second_so = sym (ap (λ w. w.second) n.words);
-    answer_so = subst (λ o. IfSome o (λ w. 0 ≡ w)) (sym n.written) tt;
-    named_so = sym n.rings;
-    area = λ h. search (arith, h, no_area, ap has_area n.stage);
-    early = λ h. n.rings;
-    wide = subst (λ o. IfSome o IsWide) (sym n.rings) tt;
-  };
-  counts = record {
-    told_so = n.responses;
-    heard_so = n.commands;
-    packets = tt;
-    messages = tt;
-    none = λ e. (refl, refl);
-  };
-  hand = record {
-    fits = subst (λ t. Fits (look new) t Idle) (sym n.task) tt;
-    asked = subst (λ t. IfSome v (λ x. IsAsked (look new) t x)) (sym n.task) (none_asked (look new) v);
-    up = λ h. absurd (subst (λ t. IsOfRings t) n.task h);
-    step = λ e. search (arith, n.task, e);
-    clear = λ h. absurd (subst (λ t. IsClear t) n.task h);
-    own = tt;
-    idle = λ h. tt;
-    wished = λ e h. absurd (subst (λ t. IsOfBlock t) n.task h);
-  };
-  speech = record {
-    out = λ h. absurd (h n.outgoing);
-    has = λ h. absurd (subst (λ t. NeedsOut t) n.task h);
-    tells = (
-      [],
-      ap (λ o. map said_in (option_to_list o)) n.outgoing,
-      tt,
-      subst (λ x. HasLeft x Idle new.outgoing new.untold new.more) (sym n.task) (n.untold ∙ sym n.more),
-    );
-  };
-  hears = ap (λ t. in_hand t Idle) n.task;
-  ended = λ d. record { talk = refl; none_said = refl; none_accepted = refl };
-}
+anew s old new v n no_area = grind (arith, has_area, look, none_asked, in_hand)
 
 first_silent : (s : Stage) → stepped s stages.First silence ≡ silence
 first_silent s = grind arith
@@ -60,11 +21,7 @@ first_silent s = grind arith
 -- the host wrote IP
 pub writes_ip : {K : Type 0} (old new : Port K) (t : Talk) (w v : Option Wish) (said : List Said)
     (texts : List (List ℕ)) → IsAsNew stages.First old new → After WriteIp old (look new) t w v said texts
-writes_ip old new t w v said texts n =
-    subst (λ x. InStep (look new) x v [] []) (sym is_silent) (anew stages.First old new v n refl)
-  where
-    is_silent : talk_after old.stage new.stage w WriteIp t ≡ silence
-    is_silent = ap (λ s. talk_after old.stage s w WriteIp t) n.stage ∙ first_silent old.stage
+writes_ip old new t w v said texts n = grind (arith, look, anew, first_silent)
 
 -- or a fatal error came
 pub dies : {K : Type 0} (call : Call) (code : ℕ) (old new : Port K) (t : Talk) (w v : Option Wish) (said : List Said)
@@ -83,16 +40,10 @@ MayDrop tasks.Transfer = Unit {0}
 MayDrop task = ⊥
 
 drop_open : (l : Look) (task : Task) (turn : Turn) → MayDrop task → Fits l task turn → IsOpen turn
-drop_open l (tasks.Slot side) turn may fit = fit
-drop_open l (tasks.Step verdict) turn may fit = fit
-drop_open l tasks.Transfer turn may fit = fit
-drop_open l task turn may fit = absurd may
+drop_open l task turn may fit = grind arith
 
 drop_hand : (task : Task) (turn : Turn) → MayDrop task → in_hand task turn ≡ []
-drop_hand (tasks.Slot side) turn may = refl
-drop_hand (tasks.Step verdict) turn may = refl
-drop_hand tasks.Transfer turn may = refl
-drop_hand task turn may = absurd may
+drop_hand task turn may = grind arith
 
 drop_calm : (task : Task) → MayDrop task → IsTelling task → ⊥
 drop_calm (tasks.Return side slot) may h = may
@@ -101,33 +52,26 @@ drop_calm task may h = h
 abbrev pub StaysOrDrops : Task → Task → Type 0
 StaysOrDrops before after = (after ≡ before) ⊎ ((after ≡ tasks.Free) × MayDrop before)
 
+-- a task that is not of the rings tells nothing
+pub not_of_rings : (task : Task) → (IsOfRings task → ⊥)
+    → (NeedsOut task → ⊥) × (IsTelling task → ⊥) × ((turn : Turn) → in_hand task turn ≡ [])
+not_of_rings task never = grind arith
+
+-- such a task is in hand now, and nothing else changed but the turn and whether a word waits
+pub retask : (l : Look) (t : Talk) (w v : Option Wish) (said : List Said) (texts : List (List ℕ)) (word : Option ℕ)
+    (task : Task) (turn : Turn) → InStep l t w said texts → IfSome word (λ x. t.answer ≡ x)
+    → Fits (record l { word = word; task = task }) task turn
+    → IfSome v (λ x. IsAsked (record l { word = word; task = task }) task x) → (IsOfRings task → ⊥)
+    → (task ≡ tasks.Interrupt → ⊥) → (IsClear task → l.stage ≡ stages.Clearing) → IsOwned turn
+    → (l.stage ≢ stages.Up → IsSimple turn) → (IsTelling l.task → ⊥) → in_hand l.task t.turn ≡ []
+    → (is_dead l.stage ≡ true → IsEnd (record t { turn = turn }) said texts)
+    → InStep (record l { word = word; task = task }) (record t { turn = turn }) v said texts
+retask l t w v said texts word task turn k answer fits asked no_rings no_step clear own idle calm before ended =
+    grind (arith, not_of_rings, block_rings, told_on)
+
 pub dropped : (l : Look) (t : Talk) (w : Option Wish) (said : List Said) (texts : List (List ℕ)) (after : Task)
     → StaysOrDrops l.task after → InStep l t w said texts → InStep (record l { task = after }) t w said texts
-dropped l t w said texts after either k = elim either [
-  | inl same ↦ subst (λ x. InStep (record l { task = x }) t w said texts) (sym same) k
-  | inr d ↦ subst (λ x. InStep (record l { task = x }) t w said texts) (sym d.0) (record {
-    names = k.names;
-    counts = k.counts;
-    hand = record {
-      fits = drop_open l l.task t.turn d.1 k.hand.fits;
-      asked = none_asked (record l { task = tasks.Free }) w;
-      up = λ h. absurd h;
-      step = λ e. search (arith, e);
-      clear = λ h. absurd h;
-      own = k.hand.own;
-      idle = k.hand.idle;
-      wished = λ e h. h;
-    };
-    speech = record {
-      out = k.speech.out;
-      has = λ h. absurd h;
-      tells = told_on l.more l.task tasks.Free t.turn t.turn l.outgoing l.untold t.told said (drop_calm l.task d.1)
-          (λ h. h) k.speech.tells;
-    };
-    hears = ap (λ xs. map message_text t.heard ++ xs) (sym (drop_hand l.task t.turn d.1)) ∙ k.hears;
-    ended = k.ended;
-  })
-]
+dropped l t w said texts after either k = grind (arith, retask, drop_open, none_asked, drop_calm, drop_hand)
 
 pub again_so : (task : Task) → StaysOrDrops task (read_again task)
 again_so (tasks.Slot side) = inr (refl, tt)
@@ -138,10 +82,7 @@ aside_so tasks.Transfer = inr (refl, tt)
 aside_so task = inl refl
 
 pub step_so : (o : Option ℕ) (task : Task) → StaysOrDrops task (step_at o task)
-step_so None task = inl refl
-step_so (Some place) (tasks.Step verdict) = inr (refl, tt)
-step_so (Some place) tasks.Transfer = inr (refl, tt)
-step_so (Some place) task = inl refl
+step_so o task = grind arith
 
 module _ {K : Type 0} (call : Call) (old new : Port K) (t : Talk) (w : Option Wish) (said : List Said)
     (texts : List (List ℕ)) (plain : IsPlain call old) (k : InStep (look old) t w said texts) where

@@ -1,5 +1,5 @@
 -- What is promised of the controller in a port.
-use Rattle.mscp_ported.proofs.Common.{Answered, AnsweredCalls, AnswersCall, AreMade, Begin, Call, Choice, ControllersKeepThePromise, Err, Finish, Hardware, Holdings, IsMadeOf, IsValid, KeepsPromise, Line, List, Made, None, Ok, Picking, Plain, Port, Settings, Some, [], ap, fresh, inl, inr, owner_kept, refl, subst, sym, ℕ, ◌++◌, ◌∙◌, ◌∷◌, ◌≡◌}
+use Rattle.mscp_ported.proofs.Common.{Answered, AnsweredCalls, AnswersCall, AreMade, Begin, Call, Choice, ControllersKeepThePromise, Err, Finish, Hardware, Holdings, IsMadeOf, IsValid, KeepsPromise, Line, List, Made, None, Ok, Picking, Plain, Port, Settings, Some, [], ap, fresh, inl, inr, owner_kept, refl, subst, ℕ, ◌++◌, ◌∙◌, ◌∷◌, ◌≡◌, arith}
 use Rattle.mscp_drive.specs.declared.event.Event.TheVariants as events
 use Rattle.mscp_controller.specs.declared.entry.Entry.TheVariants as entries
 use Rattle.mscp_ported.proofs.Made.{follows}
@@ -35,12 +35,7 @@ module _ {K : Type 0} (picks : Picking K) (c : Settings) (picker : K)
     (made : IsMadeOf hardware credits controller start) where
   pub knows : (p : Port K) (calls : List Call) (a : Answered picks start calls p)
       → Knows picks c picker before start p calls a
-  knows p [] a = record {
-    made = before;
-    are = refl;
-    answered = subst (λ (h : Holdings K). AnsweredCalls (picks picker) (fresh c picker) before h)
-        (sym (ap (λ (q : Port K). q.controller) a ∙ made.over)) was;
-  }
+  knows p [] a = grind arith
   knows p (call ∷ calls) a =
       let k = knows a.0 calls a.1 in
       let same : a.0.controller.picker ≡ picker =

@@ -1,5 +1,5 @@
 -- What becomes of a message that a port reads.
-use Rattle.mscp_ported.proofs.Common.{Bool, Command, Descriptor, End, Err, First, Hears, Holdings, IsReadingText, List, None, Ok, Option, Port, Result, SeesText, SendFault, Sends, Some, Task, WasRead, [], aborted_record, aborting, accepted_by, accepted_text, accepts, answer_to_message, answered_end, answered_to, ap, append_assoc, arith, balance_of, command_of, cond, drop, drop-append_seam, false, handed, held_unless, inl, inr, is_none, is_ok, is_queued, is_queued_text, is_taken_text, length, map, none-some, none_or_some, option_map, option_to_list, outstanding_of, own_answer, own_end_of, queued, record_aborted, reference_aborted, refl, refusal, sent_unless, stays, subst, sym, taken_as, taken_by, true, volume_named, with_end, ℕ, ◌&&◌, ◌++◌, ◌∙◌, ◌∷◌, ◌≡◌, ◌≢◌, ◌≤◌, ◌⊎◌}
+use Rattle.mscp_ported.proofs.Common.{Bool, Command, Descriptor, End, First, Hears, Holdings, IsReadingText, List, None, Ok, Option, Port, Result, SeesText, SendFault, Sends, Some, Task, WasRead, [], aborted_record, aborting, accepted_by, answer_to_message, answered_end, answered_to, ap, append_assoc, arith, balance_of, command_of, cond, drop-append_seam, false, handed, held_unless, inl, inr, is_none, is_ok, is_queued, is_queued_text, is_taken_text, length, map, none-some, none_or_some, option_map, option_to_list, outstanding_of, own_answer, own_end_of, queued, record_aborted, reference_aborted, refl, refusal, sent_unless, stays, subst, sym, taken_as, taken_by, true, volume_named, with_end, ℕ, ◌&&◌, ◌++◌, ◌∙◌, ◌∷◌, ◌≡◌, ◌≢◌, ◌≤◌, ◌⊎◌}
 use Rattle.mscp_controller.specs.declared.entry.Sent.{Sent}
 use Rattle.mscp_controller.specs.declared.entry.Sent.TheVariants as sents
 use Rattle.mscp_port.specs.declared.task.Task.TheVariants as tasks
@@ -72,10 +72,7 @@ module _ {K : Type 0} (bytes : List ℕ) (done : Unit) (old new : Port K) (r : H
     pub taken_is : taken_by (WasRead bytes (Ok done)) old
         ≡ cond (is_none (own_answer foreign (volume_named old bytes) bytes) && is_ok (answered_to old bytes))
         (bytes ∷ []) []
-    taken_is = ap (λ t. cond (is_taken_text old bytes t) (bytes ∷ []) []) at
-        ∙ ap (λ b. cond (is_none (own_answer foreign (volume_named old bytes) bytes)
-        && is_ok (answer_to_message First old.controller b)) (bytes ∷ []) [])
-        (sym (handed_so old.controller.settings.units bytes))
+    taken_is = grind (arith, handed_so)
 
     rests : (is_none (own_answer foreign (volume_named old bytes) bytes) && is_ok (answered_to old bytes)) ≡ false
         → Stays old new → So
@@ -133,10 +130,7 @@ module _ {K : Type 0} (bytes : List ℕ) (done : Unit) (old new : Port K) (r : H
         holds : (q : Bool) → is_queued old.controller.settings (command_in old bytes) ≡ q → new.controller
             ≡ cond q (queued First old.controller (command_in old bytes))
             (with_end First (aborting First old.controller (command_in old bytes).order) (own_end_in old bytes))
-        holds q e = r.handed slot size foreign at refl none
-            ∙ ap (held_unless First old.controller (command_in old bytes)) is_new
-            ∙ ap (λ b. cond b (queued First old.controller (command_in old bytes))
-            (with_end First (aborting First old.controller (command_in old bytes).order) (own_end_in old bytes))) e
+        holds q e = grind arith
 
         by : (q : Bool) → is_queued old.controller.settings (command_in old bytes) ≡ q
             → Queues slot bytes old new ⊎ Answers slot bytes old new
@@ -177,24 +171,13 @@ module _ {K : Type 0} (bytes : List ℕ) (done : Unit) (old new : Port K) (r : H
 
 module _ {K : Type 0} {bytes : List ℕ} {done : Unit} {old new : Port K} (g : Gets bytes done old new) where
   pub accepted : accepted_by (WasRead bytes (Ok done)) old ≡ bytes ∷ []
-  accepted = ap (λ t. accepted_text old t bytes) g.at
-      ∙ ap (λ x. cond (accepts x old.outgoing (answered_to old bytes)) (bytes ∷ []) []) g.none
-      ∙ ap (λ x. cond (accepts None old.outgoing x) (bytes ∷ []) [])
-      (ap (sent_unless First old.controller (command_in old bytes)) g.is_new)
+  accepted = grind arith
 
   pub heard_same : (new.stage ≡ old.stage) × (new.hardware ≡ old.hardware)
-  heard_same = elim g.how [
-    | inl q ↦ (ap (λ (p : Port K). p.stage) q.sends.frame, ap (λ (p : Port K). p.hardware) q.sends.frame)
-    | inr a ↦ (ap (λ (p : Port K). p.stage) a.sends.frame, ap (λ (p : Port K). p.hardware) a.sends.frame)
-  ]
+  heard_same = grind arith
 
   queued_is : (b : Bool) → is_queued_so (answered_to old bytes) ≡ b → is_queued_text old bytes old.task ≡ b
-  queued_is b e = ap (is_queued_text old bytes) g.at
-      ∙ ap (λ x. is_none x && is_queued_so (answer_to_message First old.controller
-      (text_handed old.controller.settings.units bytes)))
-      (none_so g.foreign (volume_named old bytes) bytes g.none)
-      ∙ ap (λ x. is_queued_so (answer_to_message First old.controller x))
-      (sym (handed_so old.controller.settings.units bytes)) ∙ e
+  queued_is b e = grind (arith, none_so, handed_so)
 
   pub queued_later : Queues g.slot bytes old new → is_queued_text old bytes old.task ≡ true
   queued_later q = queued_is true (ap is_queued_so q.answer)
@@ -211,9 +194,7 @@ not_queued old bytes (tasks.Text slot size foreign) none =
   where
     by : (x : Bool) (a : Result Sent SendFault) → cond (x && is_ok a) (bytes ∷ []) [] ≡ []
         → (x && is_queued_so a) ≡ false
-    by false a e = refl
-    by true (Ok s) e = absurd (search (arith, e))
-    by true (Err fault) e = refl
+    by x a e = grind arith
 not_queued old bytes t none = refl
 
 -- its own end comes, behind that of the command that it aborts
@@ -227,10 +208,7 @@ module _ {K : Type 0} {slot : Descriptor} {bytes : List ℕ} {old new : Port K} 
 
   pub answer_decided : length (ends_of old.controller) ≡ length old.decided.items
       → new.decided.items ≡ old.decided.items ++ map (answer_by old new) (ends_answered old bytes)
-  answer_decided long = a.sends.decided ∙ ap (λ xs. old.decided.items ++ map (answer_by old new) xs)
-      (ap (λ n. drop n (ends_of new.controller)) (sym long)
-      ∙ ap (drop (length (ends_of old.controller))) answer_ends
-      ∙ drop-append_seam (ends_of old.controller) (ends_answered old bytes))
+  answer_decided long = grind (arith, answer_by, ends_of, answer_ends, drop-append_seam)
 
   abbrev pub answer_grows : length (ends_of old.controller) ≡ length old.decided.items
       → Grows old new (answer_by old new)

@@ -1,16 +1,10 @@
 -- Which messages find a credit, and that an end which is answered at once tells no greater figure.
-use Rattle.mscp_ported.proofs.Common.{BodyKind, Bool, Command, List, None, Option, Order, SendFault, Settings, Some, answer_body, arith, cond, endcode, false, figure_in, kind_of_code, length, nat_eq, nat_lt, none-some, num, own_end_with, refl, refusal, slice_index, true, zero_body, ℕ, ◌*◌, ◌+◌, ◌<◌, ◌^◌, ◌≡◌, ◌≤◌}
+use Rattle.mscp_ported.proofs.Common.{BodyKind, Bool, Command, List, None, Option, SendFault, Settings, Some, arith, cond, figure_in, none-some, num, own_end_with, refl, refusal, slice_index, true, zero_body, ℕ, ◌<◌, ◌^◌, ◌≡◌, ◌≤◌}
 use Rattle.mscp_packet.specs.declared.end.BodyKind.TheVariants as kinds_of
 use Rattle.mscp_controller.specs.declared.entry.SendFault.TheVariants as faults
-use Rattle.mscp_packet.specs.declared.command.Order.TheVariants as orders
 
 pub num_small : (b : List ℕ) → ((i : ℕ) → slice_index b i < 2 ^ 8) → num b 12 4 < 2 ^ 32
-num_small b h = few (slice_index b 12) (slice_index b 13) (slice_index b 14) (slice_index b 15) (h 12) (h 13) (h 14)
-    (h 15)
-  where
-    few : (x y z w : ℕ) → x < 2 ^ 8 → y < 2 ^ 8 → z < 2 ^ 8 → w < 2 ^ 8
-        → 0 + x * 1 + y * 256 + z * 65536 + w * 16777216 < 2 ^ 32
-    few x y z w a b c d = omega (arith, a, b, c, d)
+num_small b h = grind arith
 
 -- an end that is answered at once tells no greater figure
 zero_figure : (kind : Option BodyKind) → figure_in (zero_body kind) ≡ 0
@@ -22,18 +16,7 @@ zero_least y figure e = search (arith, e)
 
 pub own_figure : (s : Settings) (online : Bool) (figure : ℕ) (x : Command) (o : Option ℕ)
     → figure_in (own_end_with s online figure x o).body ≤ figure
-own_figure s online figure x (Some status) =
-    zero_least (figure_in (zero_body (kind_of_code (endcode x.order)))) figure
-    (zero_figure (kind_of_code (endcode x.order)))
-own_figure s online figure x None = by x.order
-  where
-    by : (order : Order) → figure_in (answer_body s figure x.unit order) ≤ figure
-    by (orders.Status other) = search arith
-    by (orders.Abort other) = search arith
-    by orders.UnitStatus = search arith
-    by (orders.SetController version) = search arith
-    by order = zero_least (figure_in (zero_body (kind_of_code (endcode order)))) figure
-        (zero_figure (kind_of_code (endcode order)))
+own_figure s online figure x o = grind (arith, zero_least, zero_figure)
 
 -- a message that isn't refused finds a credit
 none_refused : (short long none : Bool) (o : Option SendFault) → none ≡ true
@@ -41,8 +24,4 @@ none_refused : (short long none : Bool) (o : Option SendFault) → none ≡ true
 none_refused short long none o d e = grind (arith, none-some, d, e)
 
 pub some_balance : (balance : ℕ) (os b : List ℕ) → refusal balance os b ≡ None → 1 ≤ balance
-some_balance balance os b e = by (nat_eq balance 0) refl
-  where
-    by : (z : Bool) → nat_eq balance 0 ≡ z → 1 ≤ balance
-    by false d = search (arith, d)
-    by true d = absurd (none_refused (nat_lt (length b) 12) (nat_lt 64 (length b)) (nat_eq balance 0) _ d e)
+some_balance balance os b e = grind (arith, none-some, e)

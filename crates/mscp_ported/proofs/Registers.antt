@@ -1,9 +1,9 @@
 -- What follows when a host reads and writes registers.
-use Rattle.mscp_ported.proofs.Common.{Bool, IfSome, List, None, Option, Port, ReadIp, ReadsIp, Rings, Said, Some, Stage, Talk, Task, Turn, Wish, WriteSa, WritesSa, [], answered, ap, append-nil, arith, cond, false, inl, inr, is_dead, map, message_text, nat_lt, none-some, refl, stepped, subst, sym, true, ℕ, ◌%◌, ◌++◌, ◌==◌, ◌∙◌, ◌≡◌, ◌≢◌, ◌⊎◌}
+use Rattle.mscp_ported.proofs.Common.{Bool, List, None, Option, Port, ReadIp, ReadsIp, Rings, Said, Some, Stage, Talk, Task, Turn, Wish, WriteSa, WritesSa, [], answered, ap, append-nil, arith, cond, false, inl, inr, is_dead, nat_lt, none-some, refl, stepped, subst, sym, true, ℕ, ◌%◌, ◌==◌, ◌∙◌, ◌≡◌, ◌≢◌, ◌⊎◌}
 use Rattle.mscp_port.specs.declared.stage.Stage.TheVariants as stages
 use Rattle.mscp_port.specs.declared.task.Task.TheVariants as tasks
 use Rattle.mscp_ported.proofs.After.{After, IsNoReset, IsPlain, alters, none_said, same_stage}
-use Rattle.mscp_ported.proofs.Look.{Fits, Hand, InStep, IsAsked, IsClear, IsOfRings, IsOpen, IsTelling, Look, has_area, in_hand, is_early, is_loud, look, told_on}
+use Rattle.mscp_ported.proofs.Look.{Fits, Hand, InStep, IsOpen, IsTelling, Look, has_area, in_hand, is_early, is_loud, look, told_on}
 use Rattle.mscp_ported.proofs.Plain.{again_so, dies, lets_be, same_port}
 
 -- ---- the stage becomes another
@@ -16,99 +16,20 @@ pub record IsStill (s : Stage) : Type 0 where
 
 pub still_open : (l : Look) (turn : Turn) (w : Option Wish) (s : Stage) → Hand l turn w → l.stage ≡ s → IsStill s
     → IsOpen turn × (in_hand l.task turn ≡ []) × (IsTelling l.task → ⊥)
-still_open l turn w s h at q = by l.task refl
-  where
-    never : {P : Type 0} → IsOfRings l.task → P
-    never is = absurd (q.not_up (sym at ∙ h.up is))
-
-    by : (task : Task) → l.task ≡ task → IsOpen turn × (in_hand task turn ≡ []) × (IsTelling task → ⊥)
-    by tasks.Free e = (subst (λ x. Fits l x turn) e h.fits, refl, λ x. x)
-    by tasks.Settle e = (subst (λ x. Fits l x turn) e h.fits, refl, λ x. x)
-    by (tasks.Clear done) e = absurd (q.not_clearing (sym at ∙ h.clear (subst (λ x. IsClear x) (sym e) tt)))
-    by tasks.Interrupt e = absurd (search (arith, h.step e, q.silent, ap is_loud at))
-    by task e = never (subst (λ x. IsOfRings x) (sym e) tt)
+still_open l turn w s h at q = grind (arith, in_hand, is_loud)
 
 -- nothing else changes
 pub staged : (l : Look) (t : Talk) (w : Option Wish) (said : List Said) (texts : List (List ℕ)) (s s' : Stage)
     → l.stage ≡ s → s ≢ stages.Up → s ≢ stages.Clearing → (is_loud s ≡ true → is_loud s' ≡ true)
     → (has_area s' ≡ true → has_area s ≡ true) → (is_early s' ≡ true → is_early s ≡ true) → is_dead s' ≡ false
     → InStep l t w said texts → InStep (record l { stage = s' }) t w said texts
-staged l t w said texts s s' at not_up not_clearing loud area early alive k = record {
-  names = record {
-    first_so = k.names.first_so;
-    second_so = k.names.second_so;
-    answer_so = k.names.answer_so;
-    named_so = k.names.named_so;
-    area = λ h. k.names.area (ap has_area at ∙ area h);
-    early = λ h. k.names.early (ap is_early at ∙ early h);
-    wide = k.names.wide;
-  };
-  counts = k.counts;
-  hand = record {
-    fits = fits l.task k.hand.fits;
-    asked = all l.task w k.hand.asked;
-    up = λ h. absurd (not_up (sym at ∙ k.hand.up h));
-    step = λ e. loud (sym (ap is_loud at) ∙ k.hand.step e);
-    clear = λ h. absurd (not_clearing (sym at ∙ k.hand.clear h));
-    own = k.hand.own;
-    idle = λ h. k.hand.idle (λ u. not_up (sym at ∙ u));
-    wished = k.hand.wished;
-  };
-  speech = record {
-    out = λ h. absurd (not_up (sym at ∙ k.speech.out h));
-    has = k.speech.has;
-    tells = k.speech.tells;
-  };
-  hears = k.hears;
-  ended = λ d. absurd (search (arith, d, alive));
-}
-  where
-    fits : (task : Task) → Fits l task t.turn → Fits (record l { stage = s' }) task t.turn
-    fits task h = h
-
-    all : (task : Task) (o : Option Wish) → IfSome o (λ x. IsAsked l task x)
-        → IfSome o (λ x. IsAsked (record l { stage = s' }) task x)
-    all task o h = h
+staged l t w said texts s s' at not_up not_clearing loud area early alive k = grind (arith, has_area, is_early, is_loud)
 
 -- the communication area is to be cleared
 pub begins_to_clear : (l : Look) (t : Talk) (w : Option Wish) (said : List Said) (texts : List (List ℕ)) (s : Stage)
     → l.stage ≡ s → IsStill s → l.rings ≢ None → InStep l t w said texts
     → InStep (record l { stage = stages.Clearing; task = tasks.Clear 0 }) t w said texts
-begins_to_clear l t w said texts s at still some k =
-    let calm = still_open l t.turn w s k.hand at still in record {
-      names = record {
-        first_so = k.names.first_so;
-        second_so = k.names.second_so;
-        answer_so = k.names.answer_so;
-        named_so = k.names.named_so;
-        area = λ h. some;
-        early = λ h. search (arith, h);
-        wide = k.names.wide;
-      };
-      counts = k.counts;
-      hand = record {
-        fits = calm.0;
-        asked = any w;
-        up = λ h. absurd h;
-        step = λ e. search (arith, e);
-        clear = λ h. refl;
-        own = k.hand.own;
-        idle = λ h. k.hand.idle (λ u. still.not_up (sym at ∙ u));
-        wished = λ e h. h;
-      };
-      speech = record {
-        out = λ h. absurd (still.not_up (sym at ∙ k.speech.out h));
-        has = λ h. absurd h;
-        tells = told_on l.more l.task (tasks.Clear 0) t.turn t.turn l.outgoing l.untold t.told said calm.2 (λ h. h)
-            k.speech.tells;
-      };
-      hears = ap (λ xs. map message_text t.heard ++ xs) (sym calm.1) ∙ k.hears;
-      ended = λ d. absurd (search (arith, d));
-    }
-  where
-    any : (o : Option Wish) → IfSome o (λ x. Unit {0})
-    any None = tt
-    any (Some x) = tt
+begins_to_clear l t w said texts s at still some k = grind (arith, still_open, told_on)
 
 -- ---- IP
 
@@ -188,16 +109,7 @@ module _ {K : Type 0} (word : ℕ) (old new : Port K) (t : Talk) (w : Option Wis
       fits task h = h
 
       again : Hand (record (look old) { word = Some word }) t.turn w
-      again = record {
-        fits = fits old.task k.hand.fits;
-        asked = k.hand.asked;
-        up = k.hand.up;
-        step = k.hand.step;
-        clear = k.hand.clear;
-        own = k.hand.own;
-        idle = k.hand.idle;
-        wished = k.hand.wished;
-      }
+      again = grind (arith, fits)
 
   -- the stage becomes another
   moves_so : (s s' : Stage) → old.stage ≡ s → s ≢ stages.Up → s ≢ stages.Clearing
@@ -205,11 +117,7 @@ module _ {K : Type 0} (word : ℕ) (old new : Port K) (t : Talk) (w : Option Wis
       → (is_early s' ≡ true → is_early s ≡ true) → is_dead s' ≡ false → stepped s s' (answered s word t) ≡ t
       → new ≡ record old { stage = s' } → So
   moves_so s s' at not_up not_clearing loud area early alive same e =
-      subst (λ l. After (WriteSa word) old l t w w said texts) (sym (ap look e))
-      (alters (WriteSa word) old (record (look old) { stage = s' }) t t w w said said texts texts no_reset alive
-      (ap (λ y. stepped y s' (answered y word t)) at ∙ same) (none_said old.outgoing old.outgoing said refl)
-      (append-nil texts)
-      (staged (look old) t w said texts s s' at not_up not_clearing loud area early alive k))
+      grind (arith, look, alters, no_reset, none_said, append-nil, staged)
 
   first_so : (b : Bool) → nat_lt word 0x8000 ≡ b → old.stage ≡ stages.First
       → new ≡ cond b old (record old { written = Some word }) → So
@@ -218,9 +126,7 @@ module _ {K : Type 0} (word : ℕ) (old new : Port K) (t : Talk) (w : Option Wis
       answers_so stages.First at refl (ap (λ b. cond b t (record t { answer = word })) high) e
 
   last_so : (b : Bool) → old.stage ≡ stages.Last → new ≡ cond b (record old { stage = stages.Up }) old → So
-  last_so true at e = moves_so stages.Last stages.Up at (λ u. search (arith, u)) (λ u. search (arith, u)) (λ h. refl)
-      (λ h. refl) (λ h. search (arith, h)) refl refl e
-  last_so false at e = stays_so stages.Last at (λ x. refl) e
+  last_so b at e = grind (arith, moves_so, stays_so)
 
   is_zero : (n : ℕ) → (n ≡ 0) ⊎ (n ≢ 0)
   is_zero n = search arith

@@ -1,24 +1,16 @@
 -- The bytes with which an end leaves say what it says.
-use Rattle.mscp_ported.proofs.Common.{AllByRecursion, BodyKind, Bool, Decided, End, EndBody, IsOfKind, List, Option, Port, Record, Settings, Shape, Some, Verdict, [], ap, arith, cond, end_bytes, end_left, end_with_body, endcodes, ends_formality, eq-eqb, eqb-true, false, figure_in, find, four, head, inl, inr, kind_of_body, kind_of_code, length, nat_eq, num, option_map, refl, slice_get, slice_index, sym, told_end, true, unit_found, ℕ, ◌∙◌, ◌∷◌, ◌≡◌, ◌≤◌, ◌⊎◌}
+use Rattle.mscp_ported.proofs.Common.{BodyKind, Bool, Decided, End, EndBody, IsOfKind, List, Option, Port, Record, Settings, Shape, Some, Verdict, ap, arith, cond, end_bytes, end_left, end_with_body, ends_formality, eq-eqb, eqb-true, false, figure_in, four, head, inl, inr, kind_of_body, kind_of_code, length, nat_eq, num, refl, slice_get, slice_index, sym, told_end, true, unit_found, ℕ, ◌∙◌, ◌≡◌, ◌≤◌, ◌⊎◌, subst}
 use Rattle.mscp_packet.specs.declared.end.BodyKind.TheVariants as kinds_of
 use Rattle.mscp_packet.specs.declared.end.EndBody.TheVariants as bodies
-use Rattle.mscp_port.proofs.Common.{none-some, same_Some}
+use Rattle.mscp_port.proofs.Common.{same_Some}
 use Rattle.mscp_ported.proofs.Codes.{IsAboutCode, about_in}
 use Rattle.mscp_ported.proofs.Ending.{left_with}
-use Rattle.mscp_ported.proofs.Whole.{code_of}
+use Rattle.mscp_ported.proofs.Whole.{code_of, in_table, told_with}
 use Rattle.mscp_ported.proofs.Fitting.{FitsEnd}
 
 pub told_code : {K : Type 0} (p : Port K) (e : End) (d : Decided) → slice_get p.decided.items 0 ≡ Some d
     → slice_index (told_end p e) 8 ≡ cond (ends_formality d.code) d.code e.code
-told_code p e d some =
-    ap (λ o. slice_index (end_left e o (unit_found p.controller.settings.units e.unit) p.hardware) 8) some
-    ∙ by (ends_formality d.code)
-  where
-    by : (c : Bool) → slice_index (cond c (head e.reference e.unit d.code d.status)
-        (end_with_body e.body e d (unit_found p.controller.settings.units e.unit) p.hardware)) 8
-        ≡ cond c d.code e.code
-    by true = refl
-    by false = code_of e.body e d (unit_found p.controller.settings.units e.unit) p.hardware
+told_code p e d some = grind (arith, told_with, code_of)
 
 not_formal : (code : ℕ) → ends_formality code ≡ true → IsAboutCode code → ⊥
 not_formal code formal (inl x) = search (arith, sym formal ∙ ap ends_formality x)
@@ -29,87 +21,42 @@ about_kind : (code : ℕ) (kind : BodyKind) → kind_of_code code ≡ Some kind 
 about_kind code kind shaped (inl x) = inl (same_Some kind kinds_of.Abort (sym shaped ∙ ap kind_of_code x))
 about_kind code kind shaped (inr x) = inr (same_Some kind kinds_of.Status (sym shaped ∙ ap kind_of_code x))
 
+-- the end of an ABORT or of a poll is about the command that its message names, and succeeds
 pub told_about : {c : Settings} {Told : Verdict → Record → Type 0} {K : Type 0} (p : Port K) (e : End) (d : Decided)
     → slice_get p.decided.items 0 ≡ Some d
     → (t : List ℕ) → IsOfKind e → FitsEnd c Told (left_with e d) t
     → (slice_index (told_end p e) 8 ≡ 0x81) ⊎ (slice_index (told_end p e) 8 ≡ 0x82) → 16 ≤ length t
-    → num (told_end p e) 12 4 ≡ num t 12 4
+    → (num (told_end p e) 12 4 ≡ num t 12 4) × (num (told_end p e) 10 2 ≡ 0)
 told_about p e d some t shaped fits is long =
-    ap (λ o. num (end_left e o unit p.hardware) 12 4) some
-    ∙ by (ends_formality d.code) refl (elim is [
-      | inl x ↦ inl (sym (told_code p e d some) ∙ x)
-      | inr x ↦ inr (sym (told_code p e d some) ∙ x)
-    ])
+    told_with (λ xs. (num xs 12 4 ≡ num t 12 4) × (num xs 10 2 ≡ 0)) p e d some
+    (λ formal. absurd (not_formal d.code formal (subst (λ c. IsAboutCode (cond c d.code e.code)) formal code)))
+    (λ plain. by e.body refl shaped (subst (λ c. IsAboutCode (cond c d.code e.code)) plain code))
   where
-    unit : Option Shape
-    unit = unit_found p.controller.settings.units e.unit
+    code : IsAboutCode (cond (ends_formality d.code) d.code e.code)
+    code = subst IsAboutCode (told_code p e d some) is
 
-    plain : (body : EndBody) → e.body ≡ body → kind_of_code e.code ≡ Some (kind_of_body body) → IsAboutCode e.code
-        → num (end_with_body body e d unit p.hardware) 12 4 ≡ num t 12 4
-    plain (bodies.Status other figure) same shaped code =
-        let a = fits.about long other (ap about_in same) in
-        ap (λ b. num (end_bytes (record e { status = d.status; body = b })) 12 4) same ∙ four other a.1 ∙ a.0
-    plain (bodies.Abort other) same shaped code =
-        let a = fits.about long other (ap about_in same) in
-        ap (λ b. num (end_bytes (record e { status = d.status; body = b })) 12 4) same ∙ four other a.1 ∙ a.0
-    plain body same shaped code = absurd (elim (about_kind e.code (kind_of_body body) shaped code)
+    succeeds : (other : ℕ) → about_in e.body ≡ Some other → num (end_bytes (record e { status = d.status })) 10 2 ≡ 0
+    succeeds other same = ap (λ n. num (end_bytes (record e { status = n })) 10 2) (fits.about long other same).2
+
+    by : (body : EndBody) → e.body ≡ body → kind_of_code e.code ≡ Some (kind_of_body body) → IsAboutCode e.code
+        → (num (end_with_body body e d (unit_found p.controller.settings.units e.unit) p.hardware) 12 4 ≡ num t 12 4)
+        × (num (end_with_body body e d (unit_found p.controller.settings.units e.unit) p.hardware) 10 2 ≡ 0)
+    by (bodies.Status other figure) same shaped code =
+        let a = fits.about long other (ap about_in same) in (
+          ap (λ b. num (end_bytes (record e { status = d.status; body = b })) 12 4) same ∙ four other a.1 ∙ a.0,
+          succeeds other (ap about_in same),
+        )
+    by (bodies.Abort other) same shaped code =
+        let a = fits.about long other (ap about_in same) in (
+          ap (λ b. num (end_bytes (record e { status = d.status; body = b })) 12 4) same ∙ four other a.1 ∙ a.0,
+          succeeds other (ap about_in same),
+        )
+    by body same shaped code = absurd (elim (about_kind e.code (kind_of_body body) shaped code)
         [ inl k ↦ search (arith, k) | inr k ↦ search (arith, k) ])
-
-    by : (c : Bool) → ends_formality d.code ≡ c → IsAboutCode (cond c d.code e.code)
-        → num (cond c (head e.reference e.unit d.code d.status) (end_with_body e.body e d unit p.hardware)) 12 4
-        ≡ num t 12 4
-    by true formal code = absurd (not_formal d.code formal code)
-    by false formal code = plain e.body refl shaped code
-
--- and it succeeds
-pub told_success : {c : Settings} {Told : Verdict → Record → Type 0} {K : Type 0} (p : Port K) (e : End) (d : Decided)
-    → slice_get p.decided.items 0 ≡ Some d
-    → (t : List ℕ) → IsOfKind e → FitsEnd c Told (left_with e d) t
-    → (slice_index (told_end p e) 8 ≡ 0x81) ⊎ (slice_index (told_end p e) 8 ≡ 0x82) → 16 ≤ length t
-    → num (told_end p e) 10 2 ≡ 0
-told_success p e d some t shaped fits is long =
-    ap (λ o. num (end_left e o unit p.hardware) 10 2) some
-    ∙ by (ends_formality d.code) refl (elim is [
-      | inl x ↦ inl (sym (told_code p e d some) ∙ x)
-      | inr x ↦ inr (sym (told_code p e d some) ∙ x)
-    ])
-  where
-    unit : Option Shape
-    unit = unit_found p.controller.settings.units e.unit
-
-    plain : (body : EndBody) → e.body ≡ body → kind_of_code e.code ≡ Some (kind_of_body body) → IsAboutCode e.code
-        → num (end_with_body body e d unit p.hardware) 10 2 ≡ 0
-    plain (bodies.Status other figure) same shaped code =
-        ap (λ n. num (end_bytes (record e { status = n })) 10 2) (fits.about long other (ap about_in same)).2
-    plain (bodies.Abort other) same shaped code =
-        ap (λ n. num (end_bytes (record e { status = n })) 10 2) (fits.about long other (ap about_in same)).2
-    plain body same shaped code = absurd (elim (about_kind e.code (kind_of_body body) shaped code)
-        [ inl k ↦ search (arith, k) | inr k ↦ search (arith, k) ])
-
-    by : (c : Bool) → ends_formality d.code ≡ c → IsAboutCode (cond c d.code e.code)
-        → num (cond c (head e.reference e.unit d.code d.status) (end_with_body e.body e d unit p.hardware)) 10 2 ≡ 0
-    by true formal code = absurd (not_formal d.code formal code)
-    by false formal code = plain e.body refl shaped code
 
 -- the code of a poll's end
 status_code : (code : ℕ) → kind_of_code code ≡ Some kinds_of.Status → code ≡ 0x82
-status_code code e = found endcodes rows e
-  where
-    rows : AllByRecursion (λ x. x.1 ≡ kinds_of.Status → x.0 ≡ 0x82) endcodes
-    rows = grind arith
-
-    found : (xs : List (ℕ × BodyKind)) → AllByRecursion (λ x. x.1 ≡ kinds_of.Status → x.0 ≡ 0x82) xs
-        → option_map (λ x. x.1) (find (λ x. nat_eq x.0 code) xs) ≡ Some kinds_of.Status → code ≡ 0x82
-    found [] all h = absurd (none-some kinds_of.Status h)
-    found (x ∷ xs) all h = by (nat_eq x.0 code) refl h (λ y. found xs all.1 y)
-      where
-        by : (b : Bool) → nat_eq x.0 code ≡ b
-            → option_map (λ (y : ℕ × BodyKind). y.1) (cond b (Some x) (find (λ y. nat_eq y.0 code) xs))
-            ≡ Some kinds_of.Status
-            → (option_map (λ (y : ℕ × BodyKind). y.1) (find (λ y. nat_eq y.0 code) xs) ≡ Some kinds_of.Status
-            → code ≡ 0x82) → code ≡ 0x82
-        by true is h rest = sym (eqb-true x.0 code is) ∙ all.0 (same_Some x.1 kinds_of.Status h)
-        by false is h rest = rest h
+status_code code e = grind (arith, in_table)
 
 -- what is told of the figure
 pub told_figure : {c : Settings} {Told : Verdict → Record → Type 0} {K : Type 0} (p : Port K) (e : End) (d : Decided)
@@ -126,9 +73,7 @@ told_figure p e d some t shaped fits = by e.body refl
     not_poll body kind other = none (nat_eq (slice_index (told_end p e) 8) 0x82) refl
       where
         formal : (c : Bool) → ends_formality d.code ≡ c → cond c d.code e.code ≡ 0x82 → ⊥
-        formal true is poll = search (arith, sym is ∙ ap ends_formality poll)
-        formal false is poll = other (same_Some (kind_of_body body) kinds_of.Status
-            (sym kind ∙ ap kind_of_code poll))
+        formal c is poll = grind (arith, same_Some)
 
         none : (b : Bool) → nat_eq (slice_index (told_end p e) 8) 0x82 ≡ b → b ≡ false
         none false is = refl
@@ -137,10 +82,7 @@ told_figure p e d some t shaped fits = by e.body refl
 
     nothing : (body : EndBody) → e.body ≡ body → (kind_of_body body ≡ kinds_of.Status → ⊥) → figure_in body ≡ 0
         → cond (nat_eq (slice_index (told_end p e) 8) 0x82) (num (told_end p e) 16 4) 0 ≡ figure_in e.body
-    nothing body same other zero =
-        ap (λ b. cond b (num (told_end p e) 16 4) 0)
-        (not_poll body (shaped ∙ ap (λ x. Some (kind_of_body x)) same) other)
-        ∙ sym (ap figure_in same ∙ zero)
+    nothing body same other h = grind (arith, not_poll)
 
     by : (body : EndBody) → e.body ≡ body
         → cond (nat_eq (slice_index (told_end p e) 8) 0x82) (num (told_end p e) 16 4) 0 ≡ figure_in e.body

@@ -1,72 +1,20 @@
 -- Whoever always asks for blocks has a step told between two polls of a command that waits.
-use Rattle.mscp_ported.proofs.Common.{Action, Answered, AsksBehindPolls, AsksForBlocks, Becomes, Bool, Call, Commands, Descriptor, End, Err, First, Hardware, Hears, Holdings, IsAsNew, IsMadeOf, IsReadingText, IsServedSince, IsStepping, List, MatchOption, Next, None, Ok, Option, Outgoing, Picking, Port, ReadIp, Record, Responses, Result, SeesText, SendFault, Sends, Sent, ServesBetweenPolls, Side, Some, TakesPoll, Task, TellsStep, Wants, WasRead, Went, WriteIp, WriteSa, [], answered_to, ap, arith, blocks, bytes_read, cond, connection_in, eq-eqb, false, false≢true, figure_of_name, figure_on, header_fault, inl, inr, is_dead, is_owned, is_queued, length, length_in, name_on, none-some, num, own_end_of, read_size, refl, slice_index, subst, sym, takes, true, ℕ, ◌==◌, ◌∙◌, ◌∷◌, ◌≡◌, ◌≢◌, ◌≤◌, ◌⊎◌}
-use Rattle.mscp_ported.proofs.Minor.{GivesUp, Minor, Mounts, PutsAside, ReadsAgain, Still, minor}
+use Rattle.mscp_ported.proofs.Common.{Action, Answered, AsksBehindPolls, AsksForBlocks, Becomes, Bool, Call, Descriptor, Hardware, Hears, Holdings, IsAsNew, IsMadeOf, IsReadingText, IsServedSince, List, Next, Ok, Picking, Port, ReadIp, Sends, Sent, ServesBetweenPolls, TakesPoll, Task, TellsStep, Wants, WasRead, Went, WriteIp, WriteSa, [], ap, arith, blocks, eq-eqb, false, false≢true, inl, inr, is_dead, refl, subst, sym, takes, true, ℕ, ◌∙◌, ◌∷◌, ◌≡◌, ◌≢◌, ◌⊎◌}
+use Rattle.mscp_ported.proofs.Minor.{minor}
 use Rattle.mscp_port.specs.declared.stage.Stage.TheVariants as stages
 use Rattle.mscp_port.specs.declared.task.Task.TheVariants as tasks
 use Rattle.mscp_ported.proofs.Answering.{poll_sent}
 use Rattle.mscp_ported.proofs.Ended.{lived}
 use Rattle.mscp_ported.proofs.Reading.{Answers, Queues, read_is}
-use Rattle.mscp_ported.proofs.Decided.{is_alive}
-use Rattle.mscp_ported.proofs.Turning.{IsHearing, text_quiet}
-use Rattle.mscp_ported.proofs.Turns.{IsNoNext, reads_on, wants_hears}
+use Rattle.mscp_ported.proofs.Deeds.{is_alive}
+use Rattle.mscp_ported.proofs.Sights.{Seen, sight}
+use Rattle.mscp_ported.proofs.Turns.{IsHearing, IsNoNext, reads_on, text_quiet, wants_hears}
 
 -- ---- a block that is owed stays so until a step is told
 
 sent_owes : {K : Type 0} (slot : Descriptor) (s : Sent) (bytes : List ℕ) (old new : Port K)
     → Sends slot s bytes old new → old.owes_block ≡ true → new.owes_block ≡ true
 sent_owes slot s bytes old new sends owes = grind arith
-
-module _ {K : Type 0} (bytes : List ℕ) (done : Unit) (old new : Port K) (r : Hears bytes old (Ok done) new)
-    (lives : is_dead new.stage ≡ false) (owes : old.owes_block ≡ true) where
-  abbrev So : Type 0
-  So = new.owes_block ≡ true
-
-  same : (x : Port K) → new ≡ x → x.owes_block ≡ old.owes_block → So
-  same x e is = ap (λ (p : Port K). p.owes_block) e ∙ is ∙ owes
-
-  text_owes : (slot : Descriptor) (foreign : Bool) → SeesText slot foreign bytes old new → So
-  text_owes slot foreign sees = by_own (own_end_of old foreign bytes) refl old.outgoing refl
-    where
-      by_sent : (s : Result Sent SendFault) → answered_to old bytes ≡ s → own_end_of old foreign bytes ≡ None → So
-      by_sent (Ok s) e own = sent_owes slot s bytes old new (sees.sent s own e) owes
-      by_sent (Err fault) e own = same _ (sees.waits fault own e) refl
-
-      by_own : (o : Option End) → own_end_of old foreign bytes ≡ o → (out : Option Outgoing) → old.outgoing ≡ out → So
-      by_own None e out is = by_sent (answered_to old bytes) refl e
-      by_own (Some end) e None is = same _ (sees.own (λ n. none-some end (sym n ∙ e)) is).0 refl
-      by_own (Some end) e (Some out) is =
-          same _ (sees.own_waits (λ n. none-some end (sym n ∙ e)) (λ n. none-some out (sym n ∙ is))) refl
-
-  slot_owes : (side : Side) → old.task ≡ tasks.Slot side → So
-  slot_owes Responses at = by (is_owned (num bytes 0 4)) ((r.sees refl).slot Responses at)
-    where
-      by : (b : Bool) → new ≡ cond b (record old { task = tasks.Packet (record { word = num bytes 0 4 }) })
-          (record old { is_full = true; task = tasks.Free }) → So
-      by true e = same _ e refl
-      by false e = same _ e refl
-  slot_owes Commands at = by (is_owned (num bytes 0 4)) ((r.sees refl).slot Commands at)
-    where
-      by : (b : Bool) → new ≡ cond b (record old { task = tasks.Header (record { word = num bytes 0 4 }) })
-          (record old { is_polled = false; task = tasks.Free }) → So
-      by true e = same _ e refl
-      by false e = same _ e refl
-
-  header_owes : (slot : Descriptor) → old.task ≡ tasks.Header slot → So
-  header_owes slot at = by (header_fault (num bytes 0 4)) ((r.sees refl).header slot at)
-    where
-      by : (o : Option ℕ) → MatchOption o (new ≡ record old {
-        task = tasks.Text slot (bytes_read (length_in (num bytes 0 4))) (connection_in (num bytes 0 4) == 2);
-      })
-          (λ code. IsAsNew (stages.Dead code) old new) → So
-      by None e = same _ e refl
-      by (Some code) d = absurd (search (arith, lives, ap is_dead d.stage))
-
-  read_owes : (t : Task) → old.task ≡ t → So
-  read_owes (tasks.Slot side) at = slot_owes side at
-  read_owes (tasks.Neighbour side) at = same _ ((r.sees refl).neighbour side at) refl
-  read_owes (tasks.Header slot) at = header_owes slot at
-  read_owes (tasks.Text slot size foreign) at = text_owes slot foreign ((r.sees refl).text slot size foreign at)
-  read_owes t at = absurd (none-some (length bytes) (sym (ap read_size at) ∙ r.only refl))
 
 module _ {K : Type 0} (picks : Picking K) (old new : Port K) (lives : is_dead new.stage ≡ false)
     (owes : old.owes_block ≡ true) where
@@ -76,25 +24,18 @@ module _ {K : Type 0} (picks : Picking K) (old new : Port K) (lives : is_dead ne
   dies : (code : ℕ) → IsAsNew (stages.Dead code) old new → new.owes_block ≡ true
   dies code d = absurd (search (arith, lives, ap is_dead d.stage))
 
+  read_owes : {bytes : List ℕ} {done : Unit} → Seen bytes done old new → new.owes_block ≡ true
+  read_owes h = grind (arith, as_it_was, dies, sent_owes)
+
   owes_on : (call : Call) → call ≢ WriteIp → (TellsStep call old → ⊥) → Becomes picks call old new
       → new.owes_block ≡ true
   owes_on WriteIp never none r = absurd (never refl)
   owes_on ReadIp never none r = elim r.frame [ inl e ↦ as_it_was _ e refl | inr d ↦ dies d.0 d.1 ]
   owes_on (WriteSa word) never none r = elim r.frame [ inl e ↦ as_it_was _ e refl | inr d ↦ dies d.0 d.1 ]
   owes_on (Next blocks action bytes) never none r = as_it_was _ r.0.frame refl
-  owes_on (WasRead bytes (Ok done)) never none r = read_owes bytes done old new r lives owes old.task refl
-  owes_on (Went outcome (Ok done)) never none r = elim r.commands [
-    | inl k ↦ k.owes ∙ owes
-    | inr more ↦ elim more [ inl block ↦ absurd (none block.0) | inr d ↦ dies d.0 d.1 ]
-  ]
-  owes_on call never none r = by (minor picks call old new r tt)
-    where
-      by : Minor old new → new.owes_block ≡ true
-      by (Still e) = as_it_was _ e refl
-      by (PutsAside e) = as_it_was _ e refl
-      by (ReadsAgain left e) = as_it_was _ e refl
-      by (Mounts becomes place e) = as_it_was _ e refl
-      by (GivesUp d) = dies 9 d
+  owes_on (WasRead bytes (Ok done)) never none r = read_owes (sight bytes done old new r)
+  owes_on (Went outcome (Ok done)) never none r = grind (arith, dies)
+  owes_on call never none r = grind (arith, minor, as_it_was, dies)
 
 -- ---- a poll
 
@@ -108,13 +49,7 @@ module _ {K : Type 0} (bytes : List ℕ) (done : Unit) (old new : Port K) (r : H
   ]
     where
       by : (slot : Descriptor) → Queues slot bytes old new ⊎ Answers slot bytes old new → new.owes_block ≡ true
-      by slot (inl q) = absurd (search (
-        arith,
-        sym q.later ∙ ap (is_queued old.controller.settings)
-            (poll_sent old.controller.settings.units bytes takes.1 takes.2),
-      ))
-      by slot (inr x) = ap (λ (p : Port K). p.owes_block) x.sends.frame
-          ∙ ap (λ b. cond b true old.owes_block) (eq-eqb (slice_index bytes 8) 2 takes.1)
+      by slot h = grind (arith, poll_sent, eq-eqb)
 
   alive_read : is_dead old.stage ≡ false
   alive_read = is_alive old (λ code e. search (arith, r.dead code e))
@@ -133,7 +68,7 @@ polls_so picks (WasRead bytes (Ok done)) old new number takes r =
     record {
       owes = x.0;
       hears = hearing old.task x.1;
-      quiet = text_quiet bytes done old new r x.1;
+      quiet = text_quiet (sight bytes done old new r) x.1;
       lives = alive_read bytes done old new r;
     }
   where
@@ -145,13 +80,7 @@ polls_so picks call old new number takes r = absurd takes
 -- ---- a history
 
 tells_or_not : {K : Type 0} (call : Call) (old : Port K) → TellsStep call old ⊎ (TellsStep call old → ⊥)
-tells_or_not (Went outcome (Ok done)) old = by old.task
-  where
-    by : (t : Task) → IsStepping t ⊎ (IsStepping t → ⊥)
-    by (tasks.Step verdict) = inl tt
-    by tasks.Transfer = inl tt
-    by t = inr (λ h. h)
-tells_or_not call old = inr (λ h. h)
+tells_or_not call old = grind arith
 
 is_reset : (call : Call) → (call ≡ WriteIp) ⊎ (call ≢ WriteIp)
 is_reset WriteIp = inl refl
@@ -185,11 +114,7 @@ module _ {K : Type 0} (picks : Picking K) (start : Port K) where
   ]
     where
       not_before : call ≢ WriteIp → (TellsStep call a.0 → ⊥) → a.0.owes_block ≡ false
-      not_before never quiet = by a.0.owes_block refl
-        where
-          by : (b : Bool) → a.0.owes_block ≡ b → b ≡ false
-          by true e = absurd (false≢true (sym none ∙ owes_on picks a.0 p lives e call never quiet a.2))
-          by false e = refl
+      not_before never quiet = grind (arith, false≢true, owes_on)
 
   module _ (hardware : Hardware) (credits : ℕ) (controller : Holdings K)
       (made : IsMadeOf hardware credits controller start) where
@@ -248,19 +173,7 @@ module _ {K : Type 0} (picks : Picking K) (start : Port K) where
         → AsksBehindPolls picks start p calls a → ServesBetweenPolls picks start p calls a
     serves_behind p [] a asks = tt
     serves_behind p (call ∷ calls) a asks =
-        (here (asks_before p call calls a asks), serves_behind a.0 calls a.1 (asks_before p call calls a asks))
-      where
-        here : AsksBehindPolls picks start a.0 calls a.1 → (number : ℕ) → TakesPoll number call a.0
-            → 1 ≤ figure_on a.0 number → IsServedSince picks start a.0 calls a.1 number
-        here old number takes low =
-            elim (fair a.0 calls a.1 old (polls_so picks call a.0 p number takes a.2).hears) [
-              | inl none ↦ absurd (search (
-                arith,
-                subst (λ (rs : List Record). 1
-                    ≤ figure_of_name a.0.controller.settings.budget rs (name_on First number)) none low,
-              ))
-              | inr s ↦ s number
-            ]
+        grind (arith, serves_behind a.0 calls a.1 (asks_before p call calls a asks), asks_before, fair, polls_so)
 
     -- who always asks for blocks does so
     always_asks : (p : Port K) (calls : List Call) (a : Answered picks start calls p) → AsksForBlocks calls

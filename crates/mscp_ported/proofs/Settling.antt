@@ -1,12 +1,14 @@
 -- Steps of the initialisation that the host has answered, and the communication area.
-use Rattle.mscp_ported.proofs.Common.{Choice, Clears, Due, Idle, IfSome, IsAsNew, List, MatchOption, None, Ok, Option, Outcome, Port, Rings, Said, Some, Stage, TakesStep, Talk, Task, Went, Wish, [], ap, arith, at_step, end_of, false, inl, inr, is_dead, map, message_text, none-some, refl, rings_named, start_of, step_answered, step_task, stepped, subst, sym, true, ℕ, ◌%◌, ◌++◌, ◌+◌, ◌/◌, ◌<◌, ◌==◌, ◌∙◌, ◌≡◌, ◌≢◌, ◌≤◌, ◌⊎◌}
+use Rattle.mscp_ported.proofs.Common.{Choice, Clears, Due, Idle, IfSome, IsAsNew, List, MatchOption, None, Ok, Option, Outcome, Port, Rings, Said, Some, Stage, TakesStep, Talk, Task, Went, Wish, [], ap, arith, at_step, end_of, false, inl, inr, is_dead, none-some, refl, rings_named, start_of, step_answered, step_task, stepped, subst, sym, true, ℕ, ◌%◌, ◌+◌, ◌/◌, ◌<◌, ◌==◌, ◌∙◌, ◌≡◌, ◌≢◌, ◌≤◌, ◌⊎◌}
 use Rattle.mscp_port.specs.declared.stage.Stage.TheVariants as stages
 use Rattle.mscp_port.specs.declared.task.Task.TheVariants as tasks
 use Rattle.mscp_ported.specs.Talk.{done_by}
 use Rattle.mscp_ported.proofs.After.{After, same_stage}
-use Rattle.mscp_ported.proofs.Look.{Fits, InStep, IsAsked, IsClear, IsElse, IsOfRings, IsOpen, IsTelling, Names, NeedsOut, has_area, in_hand, is_early, is_loud, look}
+use Rattle.mscp_ported.proofs.Look.{Fits, InStep, IsClear, IsElse, IsOfRings, IsOpen, IsTelling, Names, has_area, in_hand, is_early, is_loud, look}
 use Rattle.mscp_ported.proofs.Counting.{named_wide}
-use Rattle.mscp_ported.proofs.Acting.{IsReported, alive, dead_so, early_counts, else_deed, freed, goes_on, idle_deed, idle_so, init_step, is_done, quiet_of, same_said, step_cases, told_so}
+use Rattle.mscp_ported.proofs.Deeds.{done_or_not}
+use Rattle.mscp_ported.proofs.Plain.{retask}
+use Rattle.mscp_ported.proofs.Acting.{IsReported, alive, dead_so, early_counts, else_deed, freed, goes_on, idle_deed, idle_so, init_step, quiet_of, same_said, step_cases}
 
 module _ {K : Type 0} {picks : List Choice → ℕ → Type 0} {old new : Port K} {t : Talk} {w : Wish} {outcome : Outcome}
     {done : Unit} {said : List Said} {texts : List (List ℕ)}
@@ -19,17 +21,16 @@ module _ {K : Type 0} {picks : List Choice → ℕ → Type 0} {old new : Port K
   -- ---- steps of the initialisation
 
   settle_talk : old.task ≡ tasks.Settle → (IsOpen t.turn) × (in_hand old.task t.turn ≡ []) × IsElse w.action
-  settle_talk at = (
-    subst (λ x. Fits (look old) x t.turn) at k.hand.fits,
-    ap (λ x. in_hand x t.turn) at,
-    subst (λ x. IsAsked (look old) x w) at k.hand.asked,
-  )
+  settle_talk at = grind (arith, look, in_hand)
 
   step_so : (word : ℕ) → old.task ≡ tasks.Settle → old.written ≡ Some word → TakesStep word old new → So
   step_so word at some step = by old.stage refl
     where
       calm : (IsOpen t.turn) × (in_hand old.task t.turn ≡ []) × IsElse w.action
       calm = settle_talk at
+
+      settling : IsOfRings old.task → ⊥
+      settling h = subst (λ x. IsOfRings x) at h
 
       answer : t.answer ≡ word
       answer = subst (λ o. IfSome o (λ x. t.answer ≡ x)) some k.names.answer_so
@@ -51,8 +52,7 @@ module _ {K : Type 0} {picks : List Choice → ℕ → Type 0} {old new : Port K
           goes_on going (record (look old) { stage = s; word = None; task = tasks.Free }) t said e lives
           (ap (stepped old.stage s) deed ∙ same) (same_said going)
           (init_step (look old) t (Some w) said texts s old.words.first old.words.second old.rings None
-          tasks.Free t.turn
-          t.rings t.first t.second k not_up calm.0 calm.1 (record {
+          tasks.Free t.turn t.rings t.first t.second k not_up settling (record {
             first_so = k.names.first_so;
             second_so = k.names.second_so;
             answer_so = tt;
@@ -60,8 +60,7 @@ module _ {K : Type 0} {picks : List Choice → ℕ → Type 0} {old new : Port K
             area = λ h. absurd (search (arith, h, no_area));
             early = early;
             wide = k.names.wide;
-          }) k.counts calm.0 (k.hand.idle not_up) k.hand.own (λ h. h) (λ h. h) (λ x. search (arith, x)) (λ h. absurd h)
-          (quiet_of going tasks.Settle at (λ h. h)) (λ h. h) refl lives)
+          }) k.counts calm.0 (k.hand.idle not_up) k.hand.own (λ h. h) (λ x. search (arith, x)) (λ h. absurd h) lives)
 
       -- the next step begins
       begins_step : (s : Stage) (first second : ℕ) (said_first said_second : ℕ) → old.stage ≢ stages.Up
@@ -93,12 +92,9 @@ module _ {K : Type 0} {picks : List Choice → ℕ → Type 0} {old new : Port K
             task = task;
           }) (record t { turn = turn; first = said_first; second = said_second }) None said texts)
           (init_step (look old) t (Some w) said texts s first second old.rings None tasks.Interrupt Due t.rings
-          said_first
-          said_second k not_up calm.0 calm.1 names k.counts refl tt tt (λ h. h) (λ h. h) (λ x. loud) (λ h. absurd h)
-          (quiet_of going tasks.Settle at (λ h. h)) (λ h. h) refl lives)
+          said_first said_second k not_up settling names k.counts refl tt tt (λ h. h) (λ x. loud) (λ h. absurd h) lives)
           (init_step (look old) t (Some w) said texts s first second old.rings None tasks.Free Idle t.rings said_first
-          said_second k not_up calm.0 calm.1 names k.counts tt tt tt (λ h. h) (λ h. h) (λ x. loud) (λ h. absurd h)
-          (quiet_of going tasks.Settle at (λ h. h)) (λ h. h) refl lives))
+          said_second k not_up settling names k.counts tt tt tt (λ h. h) (λ x. loud) (λ h. absurd h) lives))
         where
           names : Names s first second None old.rings said_first said_second t.answer t.rings
           names = record {
@@ -116,20 +112,20 @@ module _ {K : Type 0} {picks : List Choice → ℕ → Type 0} {old new : Port K
           → stepped stages.Third s t ≡ record t { rings = rings_named t.first t.second t.answer }
           → is_early s ≡ false
           → (has_area s ≡ true → rings_named old.words.first old.words.second word ≢ None) → (IsOfRings task → ⊥)
-          → (NeedsOut task → ⊥) → (IsClear task → s ≡ stages.Clearing) → (task ≡ tasks.Interrupt → ⊥)
-          → (IsTelling task → ⊥) → (IsOpen t.turn → Fits (record (look old) {
+          → (IsClear task → s ≡ stages.Clearing) → (task ≡ tasks.Interrupt → ⊥)
+          → (IsOpen t.turn → Fits (record (look old) {
             stage = s;
             word = None;
             rings = rings_named old.words.first old.words.second word;
             task = task;
-          }) task t.turn) → in_hand task t.turn ≡ []
+          }) task t.turn)
           → look new ≡ record (look old) {
             stage = s;
             word = None;
             rings = rings_named old.words.first old.words.second word;
             task = task;
           } → So
-      names_area s task third lives same late area no_rings no_out clear no_step no_tell fits after e =
+      names_area s task third lives same late area no_rings clear no_step fits e =
           let not_up : old.stage ≢ stages.Up = λ u. search (arith, u, third) in
           (goes_on going) (record (look old) {
             stage = s;
@@ -140,7 +136,7 @@ module _ {K : Type 0} {picks : List Choice → ℕ → Type 0} {old new : Port K
           (ap (λ x. stepped x s (done_by w.action w.bytes t)) third ∙ ap (stepped stages.Third s) deed
           ∙ same) (same_said going) (init_step (look old) t (Some w) said texts s old.words.first old.words.second
           (rings_named old.words.first old.words.second word) None task t.turn (rings_named t.first t.second t.answer)
-          t.first t.second k not_up calm.0 calm.1 (record {
+          t.first t.second k not_up settling (record {
             first_so = k.names.first_so;
             second_so = k.names.second_so;
             answer_so = tt;
@@ -152,9 +148,8 @@ module _ {K : Type 0} {picks : List Choice → ℕ → Type 0} {old new : Port K
             wide = named_wide old.words.first old.words.second word;
           })
           (early_counts (rings_named old.words.first old.words.second word) (look old) t (Some w) said texts k
-          (none (ap is_early third))) (fits calm.0) (k.hand.idle not_up) k.hand.own no_rings no_out
-          (λ x. absurd (no_step x)) clear
-          (quiet_of going tasks.Settle at (λ h. h)) no_tell after lives)
+          (none (ap is_early third))) (fits calm.0) (k.hand.idle not_up) k.hand.own no_rings
+          (λ x. absurd (no_step x)) clear lives)
 
       is_one : (n : ℕ) → (n ≡ 1) ⊎ (n ≢ 1)
       is_one n = search arith
@@ -167,8 +162,8 @@ module _ {K : Type 0} {picks : List Choice → ℕ → Type 0} {old new : Port K
       named_or None e third low = dead_so going 7 (step.nowhere third low e)
       named_or (Some area) e third low =
           let is : rings_named old.words.first old.words.second word ≢ None = λ n. none-some area (sym n ∙ e) in
-          names_area stages.Clearing (tasks.Clear 0) third refl refl refl (λ h. is) (λ h. h) (λ h. h) (λ h. refl)
-          (λ x. search (arith, x)) (λ h. h) (λ h. h) refl (ap look (step.clear third low is))
+          names_area stages.Clearing (tasks.Clear 0) third refl refl refl (λ h. is) (λ h. h) (λ h. refl)
+          (λ x. search (arith, x)) (λ h. h) (ap look (step.clear third low is))
 
       by : (s : Stage) → old.stage ≡ s → So
       by stages.First there = elim (is_one (word / 0x4000 % 2)) [
@@ -188,43 +183,16 @@ module _ {K : Type 0} {picks : List Choice → ℕ → Type 0} {old new : Port K
           ∙ ap (λ x. record t { turn = at_step x; second = t.answer }) k.names.first_so) k.names.first_so answer
           (ap look (step.second there))
       by stages.Third there = elim (is_low word) [
-        | inl high ↦ names_area stages.Purging tasks.Free there refl refl refl (λ h. search (arith, h))
-            (λ h. h) (λ h. h)
-            (λ h. absurd h) (λ x. search (arith, x)) (λ h. h) (λ h. h) refl (ap look (step.probe there high))
+        | inl high ↦ names_area stages.Purging tasks.Free there refl refl refl (λ h. search (arith, h)) (λ h. h)
+            (λ h. absurd h) (λ x. search (arith, x)) (λ h. h) (ap look (step.probe there high))
         | inr low ↦ named_or (rings_named old.words.first old.words.second word) refl there low
       ]
       by s there = goes_on going (record (look old) { word = None; task = tasks.Free }) t said
           (ap look (step.elsewhere (λ e. search (arith, there, e)) (λ e. search (arith, there, e))
-          (λ e. search (arith, there, e)))) (alive going) (same_stage old.stage _ ∙ deed) (same_said going) (record {
-            names = record {
-              first_so = k.names.first_so;
-              second_so = k.names.second_so;
-              answer_so = tt;
-              named_so = k.names.named_so;
-              area = k.names.area;
-              early = k.names.early;
-              wide = k.names.wide;
-            };
-            counts = k.counts;
-            hand = record {
-              fits = calm.0;
-              asked = tt;
-              up = λ h. absurd h;
-              step = λ e. search (arith, e);
-              clear = λ h. absurd h;
-              own = k.hand.own;
-              idle = k.hand.idle;
-              wished = λ e h. h;
-            };
-            speech = record {
-              out = k.speech.out;
-              has = λ h. absurd h;
-              tells =
-                  (told_so going) tasks.Free t.turn (quiet_of going tasks.Settle at (λ h. h)) (λ h. h);
-            };
-            hears = ap (λ xs. map message_text t.heard ++ xs) (sym calm.1) ∙ k.hears;
-            ended = λ d. absurd (search (arith, d, (alive going)));
-          })
+          (λ e. search (arith, there, e)))) (alive going) (same_stage old.stage _ ∙ deed) (same_said going)
+          (retask (look old) t (Some w) None said texts None tasks.Free t.turn k tt calm.0 tt (λ h. h)
+          (λ e. search (arith, e)) (λ h. absurd h) k.hand.own k.hand.idle (quiet_of going tasks.Settle at (λ h. h))
+          calm.1 (λ d. absurd (search (arith, d, alive going))))
 
   pub settle_so : (o : Option ℕ) → old.written ≡ o → old.task ≡ tasks.Settle → So
   settle_so None none at =
@@ -257,6 +225,9 @@ module _ {K : Type 0} {picks : List Choice → ℕ → Type 0} {old new : Port K
       quiet : IsTelling old.task → ⊥
       quiet = quiet_of going (tasks.Clear so_far) at (λ h. h)
 
+      clearing : IsOfRings old.task → ⊥
+      clearing h = subst (λ x. IsOfRings x) at h
+
       before : in_hand old.task t.turn ≡ []
       before = ap (λ x. in_hand x t.turn) at
 
@@ -277,28 +248,10 @@ module _ {K : Type 0} {picks : List Choice → ℕ → Type 0} {old new : Port K
 
       more_so : look new ≡ record (look old) { task = tasks.Clear (so_far + 64) } → So
       more_so e = goes_on going (record (look old) { task = tasks.Clear (so_far + 64) }) t said e (alive going)
-          (same_stage old.stage _ ∙ deed) (same_said going) (record {
-            names = k.names;
-            counts = k.counts;
-            hand = record {
-              fits = calm;
-              asked = tt;
-              up = λ h. absurd h;
-              step = λ e. search (arith, e);
-              clear = λ h. there;
-              own = k.hand.own;
-              idle = k.hand.idle;
-              wished = λ e h. h;
-            };
-            speech = record {
-              out = k.speech.out;
-              has = λ h. absurd h;
-              tells =
-                  (told_so going) (tasks.Clear (so_far + 64)) t.turn quiet (λ h. h);
-            };
-            hears = ap (λ xs. map message_text t.heard ++ xs) (sym before) ∙ k.hears;
-            ended = λ d. absurd (search (arith, d, (alive going)));
-          })
+          (same_stage old.stage _ ∙ deed) (same_said going)
+          (retask (look old) t (Some w) None said texts old.written (tasks.Clear (so_far + 64)) t.turn k
+          k.names.answer_so calm tt (λ h. h) (λ e. search (arith, e)) (λ h. there) k.hand.own k.hand.idle quiet before
+          (λ d. absurd (search (arith, d, alive going))))
 
       last_so : look new ≡ record (look old) { stage = stages.Last; task = step_task old.words.first tasks.Free } → So
       last_so e = goes_on going (record (look old) { stage = stages.Last; task = step_task old.words.first tasks.Free })
@@ -311,14 +264,14 @@ module _ {K : Type 0} {picks : List Choice → ℕ → Type 0} {old new : Port K
             task = task;
           }) (record t { turn = turn }) None said texts)
           (init_step (look old) t (Some w) said texts stages.Last old.words.first old.words.second old.rings old.written
-          tasks.Interrupt Due t.rings t.first t.second k not_up calm before (names stages.Last refl) k.counts refl tt tt
-          (λ h. h) (λ h. h) (λ x. refl) (λ h. absurd h) quiet (λ h. h) refl refl)
+          tasks.Interrupt Due t.rings t.first t.second k not_up clearing (names stages.Last refl) k.counts refl tt tt
+          (λ h. h) (λ x. refl) (λ h. absurd h) refl)
           (init_step (look old) t (Some w) said texts stages.Last old.words.first old.words.second old.rings old.written
-          tasks.Free Idle t.rings t.first t.second k not_up calm before (names stages.Last refl) k.counts tt tt tt
-          (λ h. h) (λ h. h) (λ x. refl) (λ h. absurd h) quiet (λ h. h) refl refl))
+          tasks.Free Idle t.rings t.first t.second k not_up clearing (names stages.Last refl) k.counts tt tt tt
+          (λ h. h) (λ x. refl) (λ h. absurd h) refl))
 
       with_area : (area : Rings) → Clears outcome area so_far old new → So
-      with_area area c = elim (is_done going) [
+      with_area area c = elim (done_or_not outcome) [
         | inl is ↦ elim (by_size (end_of area) (start_of area (old.words.second % 2 == 1) + (so_far + 64))) [
           | inl more ↦ more_so (ap look (c.on is more))
           | inr last ↦ last_so (ap look (c.last is last))

@@ -1,7 +1,6 @@
 -- The one command of a number that waits, by each step.
-use Rattle.mscp_ported.proofs.Common.{All, All-head, All-tail, Block, Bool, Drive, End, List, None, Option, Record, Some, [], advanced, ap, arith, cond, drop, drop_more, end_given, false, false≢true, filter, filter-append, find, inl, inr, is_numbered, length, list_any, map, no_record, passed_by, record_at, refl, remains, step_charge, subst, sym, take, take-append-drop, true, waiting_after, ℕ, ◌++◌, ◌+◌, ◌<◌, ◌∙◌, ◌∷◌, ◌≡◌, ◌⊎◌}
-use Rattle.std.proofs.Common.{◌||◌}
-use Rattle.mscp_port.proofs.Common.{none-some, same_Some}
+use Rattle.mscp_ported.proofs.Common.{All, All-head, All-tail, Block, Bool, Drive, End, List, None, Option, Record, Some, [], advanced, ap, arith, cond, drop, drop_more, end_given, false, false≢true, filter, filter-append, find, inl, inr, is_numbered, length, list_any, map, no_record, passed_by, record_at, refl, remains, step_charge, sym, take, take-append-drop, true, waiting_after, ℕ, ◌++◌, ◌+◌, ◌<◌, ◌∙◌, ◌∷◌, ◌≡◌, ◌⊎◌}
+use Rattle.mscp_port.proofs.Common.{none-some}
 
 module _ {X : Type 0} where
   abbrev first_in : X → List X → X
@@ -12,65 +11,37 @@ module _ {X : Type 0} where
   others_in [] = []
   others_in (x ∷ xs) = xs
 
-  nothing : (xs ys : List X) → xs ++ ys ≡ [] → (xs ≡ []) × (ys ≡ [])
-  nothing [] ys e = (refl, e)
-  nothing (x ∷ xs) ys e = search (arith, e)
+  pub nothing_two : (xs ys : List X) → xs ++ ys ≡ [] → (xs ≡ []) × (ys ≡ [])
+  nothing_two [] ys e = (refl, e)
+  nothing_two (x ∷ xs) ys e = search (arith, e)
 
   split : (xs ys : List X) (r : X) → xs ++ ys ≡ r ∷ []
       → ((xs ≡ r ∷ []) × (ys ≡ [])) ⊎ ((xs ≡ []) × (ys ≡ r ∷ []))
   split [] ys r e = inr (refl, e)
-  split (x ∷ xs) ys r e =
-      let n = nothing xs ys (ap others_in e) in
-      inl (ap (λ zs. x ∷ zs) n.0 ∙ ap (λ z. z ∷ []) (ap (first_in r) e), n.1)
+  split (x ∷ xs) ys r e = grind (arith, nothing_two)
 
   -- the one that passes is this, or another
   pub this_one : (f : X → Bool) (xs ys : List X) (y r : X) → filter f (xs ++ y ∷ ys) ≡ r ∷ [] → f y ≡ true
       → (filter f xs ≡ []) × (y ≡ r) × (filter f ys ≡ [])
-  this_one f xs ys y r e is = by (split (filter f xs) (filter f (y ∷ ys)) r (sym (filter-append f xs (y ∷ ys)) ∙ e))
-    where
-      here : filter f (y ∷ ys) ≡ y ∷ filter f ys
-      here = ap (λ c. cond c (y ∷ filter f ys) (filter f ys)) is
-
-      by : ((filter f xs ≡ r ∷ []) × (filter f (y ∷ ys) ≡ []))
-          ⊎ ((filter f xs ≡ []) × (filter f (y ∷ ys) ≡ r ∷ []))
-          → (filter f xs ≡ []) × (y ≡ r) × (filter f ys ≡ [])
-      by (inl h) = search (arith, sym here ∙ h.1)
-      by (inr h) = let t = sym here ∙ h.1 in (h.0, ap (first_in r) t, ap others_in t)
+  this_one f xs ys y r e is = grind (arith, split, filter-append)
 
   pub other_one : (f : X → Bool) (xs ys : List X) (y r : X) → filter f (xs ++ y ∷ ys) ≡ r ∷ [] → f y ≡ false
       → ((filter f xs ≡ r ∷ []) × (filter f ys ≡ [])) ⊎ ((filter f xs ≡ []) × (filter f ys ≡ r ∷ []))
-  other_one f xs ys y r e not_it = split (filter f xs) (filter f ys) r
-      (ap (λ zs. filter f xs ++ zs) (sym (ap (λ c. cond c (y ∷ filter f ys) (filter f ys)) not_it))
-      ∙ sym (filter-append f xs (y ∷ ys)) ∙ e)
+  other_one f xs ys y r e not_it = grind (arith, split, filter-append)
 
   -- it is found
   pub found_sole : (f : X → Bool) (xs : List X) (r : X) → filter f xs ≡ r ∷ [] → find f xs ≡ Some r
   found_sole f [] r e = search (arith, e)
-  found_sole f (x ∷ xs) r e = by (f x) (found_sole f xs r) e
-    where
-      by : (c : Bool) → (filter f xs ≡ r ∷ [] → find f xs ≡ Some r)
-          → cond c (x ∷ filter f xs) (filter f xs) ≡ r ∷ [] → cond c (Some x) (find f xs) ≡ Some r
-      by true rest h = ap Some (ap (first_in r) h)
-      by false rest h = rest h
+  found_sole f (x ∷ xs) r e = grind (arith, found_sole f xs r)
 
   pub sole_passes : (f : X → Bool) (xs : List X) (r : X) → filter f xs ≡ r ∷ [] → f r ≡ true
   sole_passes f [] r e = search (arith, e)
-  sole_passes f (x ∷ xs) r e = by (f x) refl (sole_passes f xs r) e
-    where
-      by : (c : Bool) → f x ≡ c → (filter f xs ≡ r ∷ [] → f r ≡ true)
-          → cond c (x ∷ filter f xs) (filter f xs) ≡ r ∷ [] → f r ≡ true
-      by true is rest h = ap f (sym (ap (first_in r) h)) ∙ is
-      by false is rest h = rest h
+  sole_passes f (x ∷ xs) r e = grind (arith, sole_passes f xs r)
 
   -- none passes
   pub none_passes : (f : X → Bool) (xs : List X) → list_any f xs ≡ false → filter f xs ≡ []
   none_passes f [] e = refl
-  none_passes f (x ∷ xs) e = by (f x) (none_passes f xs) e
-    where
-      by : (c : Bool) → (list_any f xs ≡ false → filter f xs ≡ []) → (c || list_any f xs) ≡ false
-          → cond c (x ∷ filter f xs) (filter f xs) ≡ []
-      by true rest h = absurd (false≢true (sym h))
-      by false rest h = rest h
+  none_passes f (x ∷ xs) e = grind (arith, none_passes f xs, false≢true)
 
   -- one more that doesn't pass, or does
   pub sole_beside : (f : X → Bool) (xs : List X) (y r : X) → filter f xs ≡ r ∷ [] → f y ≡ false
@@ -87,14 +58,7 @@ module _ {X : Type 0} where
   pub sole_left : (f g : X → Bool) (xs : List X) → ((x : X) → f x ≡ true → g x ≡ true)
       → filter f (filter g xs) ≡ filter f xs
   sole_left f g [] h = refl
-  sole_left f g (x ∷ xs) h = by (g x) refl (f x) refl (sole_left f g xs h)
-    where
-      by : (c : Bool) → g x ≡ c → (d : Bool) → f x ≡ d → filter f (filter g xs) ≡ filter f xs
-          → filter f (cond c (x ∷ filter g xs) (filter g xs)) ≡ cond d (x ∷ filter f xs) (filter f xs)
-      by true e d k rest = ap (λ b. cond b (x ∷ filter f (filter g xs)) (filter f (filter g xs))) k
-          ∙ ap (λ zs. cond d (x ∷ zs) zs) rest
-      by false e true k rest = absurd (false≢true (sym e ∙ h x k))
-      by false e false k rest = rest
+  sole_left f g (x ∷ xs) h = grind (arith, sole_left f g xs h, h x, false≢true)
 
 -- ---- a step
 
@@ -102,14 +66,7 @@ module _ {X : Type 0} where
 pub found_all : {A : Type 0} (P : A → Type 0) (f : A → Bool) (xs : List A) (x : A) → All P xs → find f xs ≡ Some x
     → P x × (f x ≡ true)
 found_all P f [] x all e = absurd (none-some x e)
-found_all P f (y ∷ ys) x all e = by (f y) refl e (λ h. found_all P f ys x (All-tail P y ys all) h)
-  where
-    by : (b : Bool) → f y ≡ b → cond b (Some y) (find f ys) ≡ Some x
-        → (find f ys ≡ Some x → P x × (f x ≡ true)) → P x × (f x ≡ true)
-    by true is h rest =
-        let same = same_Some y x h in
-        (subst P same (All-head P y ys all), subst (λ z. f z ≡ true) same is)
-    by false is h rest = rest h
+found_all P f (y ∷ ys) x all e = grind (arith, found_all P f ys x (All-tail P y ys all), All-head P y ys all)
 
 -- there is one alone
 pub one_of : (n : ℕ) (rs : List Record) (r s : Record) → filter (is_numbered n) rs ≡ r ∷ []
@@ -130,15 +87,7 @@ itself r = record { connection = refl; command = refl; weight = refl; done = ref
 passed_filter : (n t : ℕ) (rs : List Record)
     → filter (is_numbered n) (map (passed_by t) rs) ≡ map (passed_by t) (filter (is_numbered n) rs)
 passed_filter n t [] = refl
-passed_filter n t (r ∷ rs) = by (is_numbered n r) (passed_filter n t rs)
-  where
-    by : (c : Bool)
-        → filter (is_numbered n) (map (passed_by t) rs) ≡ map (passed_by t) (filter (is_numbered n) rs)
-        → cond c (passed_by t r ∷ filter (is_numbered n) (map (passed_by t) rs))
-        (filter (is_numbered n) (map (passed_by t) rs))
-        ≡ map (passed_by t) (cond c (r ∷ filter (is_numbered n) rs) (filter (is_numbered n) rs))
-    by true rest = ap (λ zs. passed_by t r ∷ zs) rest
-    by false rest = rest
+passed_filter n t (r ∷ rs) = grind (arith, passed_filter n t rs)
 
 module _ (n : ℕ) (k : Block) (d : Drive) (rs : List Record) (place : ℕ) (inside : place < length rs) (r : Record)
     (sole : filter (is_numbered n) rs ≡ r ∷ []) where
@@ -151,12 +100,7 @@ module _ (n : ℕ) (k : Block) (d : Drive) (rs : List Record) (place : ℕ) (ins
       ++ (remains (record_at rs place) o ++ drop (place + 1) rs))
       ≡ map (passed_by (step_charge (record_at rs place))) (filter (is_numbered n) (take place rs))
       ++ (filter (is_numbered n) (remains (record_at rs place) o) ++ filter (is_numbered n) (drop (place + 1) rs))
-  after o = filter-append (is_numbered n) (map (passed_by (step_charge (record_at rs place))) (take place rs))
-      (remains (record_at rs place) o ++ drop (place + 1) rs)
-      ∙ ap (λ zs. zs ++ filter (is_numbered n) (remains (record_at rs place) o ++ drop (place + 1) rs))
-      (passed_filter n (step_charge (record_at rs place)) (take place rs))
-      ∙ ap (λ zs. map (passed_by (step_charge (record_at rs place))) (filter (is_numbered n) (take place rs)) ++ zs)
-      (filter-append (is_numbered n) (remains (record_at rs place) o) (drop (place + 1) rs))
+  after o = grind (arith, filter-append, is_numbered, passed_filter)
 
   -- another one was served
   pub served_other : is_numbered n (record_at rs place) ≡ false
@@ -200,16 +144,4 @@ module _ (n : ℕ) (k : Block) (d : Drive) (rs : List Record) (place : ℕ) (ins
 
   pub served_goes_on : is_numbered n (record_at rs place) ≡ true → end_given k d (record_at rs place) ≡ None
       → filter (is_numbered n) (waiting_after k d rs place) ≡ advanced (record_at rs place) ∷ []
-  served_goes_on is none = ap (λ o. filter (is_numbered n)
-      (map (passed_by (step_charge (record_at rs place))) (take place rs)
-      ++ (remains (record_at rs place) o ++ drop (place + 1) rs))) none ∙ after None
-      ∙ ap (λ zs. map (passed_by (step_charge (record_at rs place))) zs
-      ++ (filter (is_numbered n) (remains (record_at rs place) None)
-      ++ filter (is_numbered n) (drop (place + 1) rs))) h.0
-      ∙ ap (λ c. cond c (advanced (record_at rs place) ∷ []) []
-      ++ filter (is_numbered n) (drop (place + 1) rs)) is
-      ∙ ap (λ zs. advanced (record_at rs place) ∷ zs) h.2
-    where
-      h : (filter (is_numbered n) (take place rs) ≡ []) × (record_at rs place ≡ r)
-          × (filter (is_numbered n) (drop (place + 1) rs) ≡ [])
-      h = this_one (is_numbered n) (take place rs) (drop (place + 1) rs) (record_at rs place) r parts is
+  served_goes_on is none = grind (arith, is_numbered, after, this_one, parts)

@@ -1,26 +1,21 @@
 -- What goes out is gone after ten actions.
-use Rattle.mscp_ported.proofs.Common.{Answered, AreGiven, AsksAlways, Call, Commands, Err, Hardware, HasRoom, Holdings, IsForgotten, IsMadeOf, List, None, Ok, Option, Outgoing, Picking, Port, Responses, Some, Task, WasRead, Went, [], acts, ap, arith, gone, inl, inr, leaves, refl, subst, sym, ℕ, ◌++◌, ◌+◌, ◌∙◌, ◌∷◌, ◌≡◌, ◌≤◌, ◌⊎◌}
+use Rattle.mscp_ported.proofs.Common.{Answered, AreGiven, AsksAlways, Call, Hardware, HasRoom, Holdings, IsForgotten, IsMadeOf, List, None, Option, Outgoing, Picking, Port, Some, Task, [], acts, ap, arith, gone, inl, inr, leaves, subst, sym, ℕ, ◌++◌, ◌+◌, ◌∙◌, ◌∷◌, ◌≡◌, ◌≤◌, ◌⊎◌}
 use Rattle.mscp_port.specs.declared.stage.Stage.TheVariants as stages
-use Rattle.mscp_port.specs.declared.task.Task.TheVariants as tasks
-use Rattle.mscp_ported.proofs.Look.{IsClear}
-use Rattle.mscp_ported.proofs.Doing.{IsFreed, IsSaying, by_call, to_do}
-use Rattle.mscp_ported.proofs.Room.{heard_so, is_late, room, uncleared}
+use Rattle.mscp_ported.proofs.Doing.{InUse, to_do}
+use Rattle.mscp_ported.proofs.Room.{heard_so, room, uncleared}
+use Rattle.mscp_ported.proofs.Starting.{IsFreed, IsSaying, says_on}
+use Rattle.mscp_ported.proofs.Touching.{is_late}
 
 -- ---- calls
 
 pub more_acts : (call : Call) (calls : List Call) → acts (call ∷ calls) ≡ acts (call ∷ []) + acts calls
-more_acts (WasRead bytes (Ok done)) calls = search arith
-more_acts (Went outcome (Ok done)) calls = search arith
-more_acts (WasRead bytes (Err unasked)) calls = search arith
-more_acts (Went outcome (Err unasked)) calls = search arith
-more_acts call calls = search arith
+more_acts call calls = grind arith
 
 -- it still goes out, or is the first that is gone
 abbrev Far : {K : Type 0} (picks : Picking K) (o : Outgoing) (p q : Port K) (calls : List Call)
     → Answered picks p calls q → Type 0
 Far picks o p q calls a =
-    ((gone picks p q calls a ≡ []) × IsSaying q o × (IsClear q.task → ⊥)
-    × (acts calls + to_do q.task ≤ to_do p.task))
+    ((gone picks p q calls a ≡ []) × IsSaying q o × (acts calls + to_do q.task ≤ to_do p.task))
     ⊎ ((more : List Outgoing) × (gone picks p q calls a ≡ o ∷ more))
 
 -- what was forgotten, or was gone
@@ -36,21 +31,15 @@ pub left_some : (o : Outgoing) (before after : Option Outgoing) → before ≡ S
 left_some o before after e h = ap (λ x. leaves x after) e ∙ ap (leaves (Some o)) h
 
 far : {K : Type 0} (picks : Picking K) (o : Outgoing) (p q : Port K) (calls : List Call) → IsSaying p o
-    → (IsClear p.task → ⊥) → (a : Answered picks p calls q) → AreGiven picks p q calls a → Far picks o p q calls a
-far picks o p q [] s clear e given = inl (
-  refl,
-  subst (λ x. IsSaying x o) (sym e) s,
-  subst (λ x. IsClear x.task → ⊥) (sym e) clear,
-  subst (λ x. 0 + to_do x.task ≤ to_do p.task) (sym e) (search arith),
-)
-far picks o p q (call ∷ calls) s clear a given = elim (far picks o p a.0 calls s clear a.1 given.1) [
-  | inl k ↦ elim (by_call o a.0 k.1 k.2 picks q call a.2 given.0).is [
+    → (a : Answered picks p calls q) → AreGiven picks p q calls a → Far picks o p q calls a
+far picks o p q [] s e given = grind (arith, to_do)
+far picks o p q (call ∷ calls) s a given = elim (far picks o p a.0 calls s a.1 given.1) [
+  | inl k ↦ elim (says_on picks call o a.0 q k.1 a.2 given.0) [
     | inl on ↦ inl (
       ap (λ xs. xs ++ leaves a.0.outgoing q.outgoing) k.0
           ∙ left_some o a.0.outgoing q.outgoing k.1.out on.0.out,
       on.0,
-      on.1,
-      subst (λ n. n + to_do q.task ≤ to_do p.task) (sym (more_acts call calls)) (search (arith, on.2, k.3)),
+      subst (λ n. n + to_do q.task ≤ to_do p.task) (sym (more_acts call calls)) (search (arith, on.1, k.2)),
     )
     | inr none ↦ inr (
       [],
@@ -65,18 +54,16 @@ far picks o p q (call ∷ calls) s clear a given = elim (far picks o p a.0 calls
 ]
 
 pub ten : (t : Task) → to_do t ≤ 10
-ten (tasks.Return Responses slot) = search arith
-ten (tasks.Return Commands slot) = search arith
-ten (tasks.Slot Responses) = search arith
-ten (tasks.Slot Commands) = search arith
-ten t = search arith
+ten t = grind arith
 
 pub one : (t : Task) → 1 ≤ to_do t
-one (tasks.Return Responses slot) = search arith
-one (tasks.Return Commands slot) = search arith
-one (tasks.Slot Responses) = search arith
-one (tasks.Slot Commands) = search arith
-one t = search arith
+one t = grind arith
+
+pub in_use_so : {K : Type 0} (picks : Picking K) (hardware : Hardware) (credits : ℕ) (controller : Holdings K)
+    (start p : Port K) (before : List Call) → IsMadeOf hardware credits controller start → AsksAlways before
+    → (b : Answered picks start before p) → HasRoom picks start p before b → p.stage ≡ stages.Up → InUse p
+in_use_so picks hardware credits controller start p before made asks b has up =
+    grind (arith, room, heard_so, is_late, uncleared)
 
 pub tells_soon : {K : Type 0} (picks : Picking K) (hardware : Hardware) (credits : ℕ) (controller : Holdings K)
     (start p q : Port K) (before calls : List Call) (o : Outgoing) → IsMadeOf hardware credits controller start
@@ -84,18 +71,10 @@ pub tells_soon : {K : Type 0} (picks : Picking K) (hardware : Hardware) (credits
     → p.outgoing ≡ Some o → (a : Answered picks p calls q) → AreGiven picks p q calls a → 10 ≤ acts calls
     → (more : List Outgoing) × (gone picks p q calls a ≡ o ∷ more)
 tells_soon picks hardware credits controller start p q before calls o made asks b has up out a given long =
-    elim (far picks o p q calls says free a given) [
-      | inl k ↦ absurd (search (arith, k.3, ten p.task, one q.task, long))
+    elim (far picks o p q calls (record { used = in_use; out = out }) a given) [
+      | inl k ↦ absurd (search (arith, k.2, ten p.task, one q.task, long))
       | inr over ↦ over
     ]
   where
-    says : IsSaying p o
-    says = record {
-      up = up;
-      out = out;
-      room = room picks hardware credits controller start made p before b has;
-      heard = heard_so picks hardware credits controller start made p before asks b (ap is_late up);
-    }
-
-    free : IsClear p.task → ⊥
-    free = uncleared picks hardware credits controller start made p before asks b up
+    in_use : InUse p
+    in_use = in_use_so picks hardware credits controller start p before made asks b has up

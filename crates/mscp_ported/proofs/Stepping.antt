@@ -1,18 +1,14 @@
 -- What becomes of a step that a port reports of.
-use Rattle.mscp_ported.proofs.Common.{Dies, Drive, End, Err, Finishes, First, Goes, HeedsStep, IsStepping, List, MatchOption, Name, None, NotBegun, Ok, Option, Outcome, Port, Report, Result, Some, TakesBegun, TakesBlock, Task, Verdict, ap, block_begun, block_served, block_told, drive_at, end_brought, end_given, false≢true, inl, inr, is_begun, is_numbered, is_same, length, name_of, name_on, none-some, record_at, refl, served_name, subst, sym, takes, true, waiting_after, ℕ, ◌++◌, ◌∙◌, ◌≡◌, ◌≤◌, ◌⊎◌}
+use Rattle.mscp_ported.proofs.Common.{Dies, Drive, End, Err, Finishes, First, Goes, HeedsStep, IsStepping, List, MatchOption, Name, None, NotBegun, Ok, Option, Outcome, Port, Report, Result, Some, TakesBegun, TakesBlock, Task, Verdict, ap, block_begun, block_served, block_told, drive_at, end_brought, end_given, false≢true, inl, inr, is_begun, is_numbered, is_same, length, name_of, name_on, none-some, record_at, refl, served_name, subst, sym, takes, true, waiting_after, ℕ, ◌++◌, ◌∙◌, ◌≡◌, ◌≤◌, ◌⊎◌, arith}
 use Rattle.mscp_queue.specs.Serving.{IsServable, drives_after}
 use Rattle.mscp_queue.specs.declared.report.Report.TheVariants as reports
 use Rattle.mscp_port.specs.declared.task.Task.TheVariants as tasks
 use Rattle.mscp_ported.proofs.Coming.{brought_for, ends_of, steps_bring}
+pub use Rattle.mscp_ported.proofs.Deeds.{IsHow}
 use Rattle.mscp_ported.proofs.Ending.{Grows}
 use Rattle.mscp_ported.proofs.Leaving.{ended_grows}
 use Rattle.mscp_ported.proofs.Staying.{IsSame, Stays, alike, went_stays}
 use Rattle.mscp_ported.proofs.Tables.{decided_by}
-
--- the step in hand went so
-abbrev pub IsHow : {K : Type 0} → Port K → Outcome → Verdict → Type 0
-IsHow old outcome verdict = (old.task ≡ tasks.Step verdict)
-    ⊎ ((old.task ≡ tasks.Transfer) × (verdict ≡ block_served old outcome (block_begun old)))
 
 abbrev pub drive_in : {K : Type 0} → Port K → ℕ → Drive
 drive_in p place = drive_at p.controller.drives p.controller.waiting place
@@ -98,14 +94,7 @@ went_is {K} picks outcome done old new r = by old.task refl
         [ inl s ↦ inl (verdict, how, s) | inr none ↦ inr (inl none) ]
 
     others : (t : Task) → old.task ≡ t → (IsStepping t → ⊥) → Stays old new → So
-    others t at never (inr d) = inr (inr d)
-    others t at never (inl same) = elim r.commands [
-      | inl x ↦ inr (inl (same, x.volumes, λ z. absurd (never (subst (λ y. IsStepping y) at z))))
-      | inr more ↦ elim more [
-        | inl block ↦ absurd (never (subst (λ x. IsStepping x) at block.0))
-        | inr d ↦ inr (inr d)
-      ]
-    ]
+    others t at never h = grind arith
 
     by : (t : Task) → old.task ≡ t → So
     by (tasks.Step verdict) at = stepped verdict (inl at) ((r.moves refl).step verdict at)
@@ -119,9 +108,7 @@ module _ {K : Type 0} {verdict : Verdict} {old new : Port K} (s : Serves verdict
   pub numbered : (record_at old.controller.waiting s.place).connection ≡ First
       → is_numbered (record_at old.controller.waiting s.place).command.reference
       (record_at old.controller.waiting s.place) ≡ true
-  numbered via = is_same (name_of (record_at old.controller.waiting s.place))
-      (name_on First (record_at old.controller.waiting s.place).command.reference)
-      (ap (λ y. name_on y (record_at old.controller.waiting s.place).command.reference) via)
+  numbered via = grind (arith, is_same)
 
   pub served_stage : new.stage ≡ old.stage
   served_stage = ap (λ (p : Port K). p.stage) s.heeds.frame

@@ -1,5 +1,5 @@
 -- As something is wanted the oldest end of the controller's begins to go out, or no end does.
-use Rattle.mscp_ported.proofs.Common.{IsNews, List, MayBegin, None, Option, Outgoing, Port, Says, Shape, Some, TakesEnd, Volume, [], ap, arith, ends_begun, inl, inr, looks_or_not, news_place, none-some, refl, told_end, ℕ, ◌∙◌, ◌∷◌, ◌≡◌, ◌⊎◌}
+use Rattle.mscp_ported.proofs.Common.{IsNews, List, MayBegin, None, Option, Outgoing, Port, Says, Shape, Some, TakesEnd, Volume, [], ap, arith, ends_begun, looks_or_not, none-some, refl, told_end, ℕ, ◌∙◌, ◌∷◌, ◌≡◌, ◌⊎◌}
 use Rattle.mscp_port.specs.declared.stage.Stage.TheVariants as stages
 
 pub record NoEnd {K : Type 0} (old new : Port K) : Type 0 where
@@ -21,21 +21,4 @@ begun_end old new t = ap (λ o. ends_begun o new.outgoing) t.nothing ∙ ap (end
 
 pub says_is : {K : Type 0} (old new : Port K) → Says old new
     → (TakesEnd old new × (old.stage ≡ stages.Up)) ⊎ NoEnd old new
-says_is old new says = elim (looks_or_not old) [
-  | inl looks ↦ elim (says.looks looks) [
-    | inl t ↦ inl (t, looks.up)
-    | inr n ↦ inr (record {
-      begun = ap (λ o. ends_begun o new.outgoing) n.nothing
-          ∙ news_none old.controller.settings.units old.volumes new.volumes (news_place old) new.outgoing n.out;
-      controller = n.controller;
-      decided = n.decided;
-    })
-  ]
-  | inr never ↦
-      let q = says.keeps never in
-      inr (record {
-        begun = ap (ends_begun old.outgoing) q.outgoing ∙ begun_same old.outgoing;
-        controller = q.controller;
-        decided = q.decided;
-      })
-]
+says_is old new says = grind (arith, looks_or_not, news_none, begun_same)

@@ -1,46 +1,28 @@
 -- While there is something to tell, one thing is gone for each seventeen actions.
-use Rattle.mscp_ported.proofs.Common.{Answered, AreGiven, AsksAlways, Becomes, Call, Commands, Err, Hardware, HasRoom, HasToTell, HaveToTell, Holdings, IsForgotten, IsGiven, IsMadeOf, List, None, Ok, Option, Outgoing, Picking, Port, Responses, Some, Task, WasRead, Went, [], acts, ap, arith, false, gone, inl, inr, leaves, length-append, refl, subst, sym, ℕ, ◌+◌, ◌∷◌, ◌≡◌, ◌≤◌, ◌⊎◌}
+use Rattle.mscp_ported.proofs.Common.{Answered, AreGiven, AsksAlways, Becomes, Call, Hardware, HasRoom, HasToTell, HaveToTell, Holdings, IsForgotten, IsGiven, IsMadeOf, List, None, Option, Outgoing, Picking, Port, Task, [], acts, ap, arith, gone, inl, inr, leaves, length-append, refl, subst, sym, ℕ, ◌+◌, ◌∷◌, ◌≡◌, ◌≤◌, ◌⊎◌}
 use Rattle.mscp_port.specs.declared.stage.Stage.TheVariants as stages
-use Rattle.mscp_port.specs.declared.task.Task.TheVariants as tasks
-use Rattle.mscp_ported.proofs.Look.{IsClear}
-use Rattle.mscp_ported.proofs.Doing.{IsFreed, IsSaying, by_call, to_do}
-use Rattle.mscp_ported.proofs.Room.{heard_so, is_late, room}
-use Rattle.std.specs.Prelude.{◌*◌, ◌<◌, length}
+use Rattle.std.specs.Prelude.{◌*◌, length}
 use Rattle.mscp_ported.proofs.Coming.{ends_of}
-use Rattle.mscp_ported.proofs.Starting as starting
-use Rattle.mscp_ported.proofs.Starting.{IsWaiting, rest}
-use Rattle.mscp_ported.proofs.Soon.{left_none, left_some, more_acts, one, ten}
-use Rattle.mscp_ported.proofs.Room.{uncleared}
+use Rattle.mscp_ported.proofs.Doing.{InUse, rest, to_do}
+use Rattle.mscp_ported.proofs.Starting.{IsFreed, IsSaying, IsWaiting, says_on, waits_on}
+use Rattle.mscp_ported.proofs.Soon.{in_use_so, left_none, left_some, more_acts, one, ten}
 
 -- so many actions were done, and so many things are gone, where this goes out or an end waits
-abbrev Pace : {K : Type 0} → Port K → ℕ → ℕ → Type 0
-Pace q n g =
-    ((o : Outgoing) × IsSaying q o × (IsClear q.task → ⊥) × (n + to_do q.task ≤ 17 * g + 17))
-    ⊎ (IsWaiting q × (IsClear q.task → ⊥) × (n + rest q.task + 10 ≤ 17 * g + 17))
+abbrev pub Pace : {K : Type 0} → Port K → ℕ → ℕ → Type 0
+Pace q n g = ((o : Outgoing) × IsSaying q o × (n + to_do q.task ≤ 17 * g + 17))
+    ⊎ (IsWaiting q × (n + rest q.task + 10 ≤ 17 * g + 17))
 
 seven : (t : Task) → rest t ≤ 7
-seven (tasks.Slot Responses) = search arith
-seven (tasks.Slot Commands) = search arith
-seven t = search arith
+seven t = grind arith
 
 at_most_one : (call : Call) → acts (call ∷ []) ≤ 1
-at_most_one (WasRead bytes (Ok done)) = search arith
-at_most_one (Went outcome (Ok done)) = search arith
-at_most_one (WasRead bytes (Err unasked)) = search arith
-at_most_one (Went outcome (Err unasked)) = search arith
-at_most_one call = search arith
+at_most_one call = grind arith
 
 left_quiet : (before after : Option Outgoing) → before ≡ None → leaves before after ≡ []
 left_quiet before after e = ap (λ x. leaves x after) e
 
 forgotten : {K : Type 0} (old new : Port K) → IsForgotten old new → HasToTell new → ⊥
-forgotten old new f busy = elim busy [
-  | inl some ↦ some f.1.outgoing
-  | inr ends ↦ none (subst (λ h. 0 < length (ends_of h)) f.1.controller ends)
-]
-  where
-    none : 0 < 0 → ⊥
-    none h = search (arith, h)
+forgotten old new f busy = grind (arith, ends_of)
 
 slower : (n t g : ℕ) (c : ℕ) (u : ℕ) → c + u ≤ t → n + t ≤ 17 * g + 17 → (c + n) + u ≤ 17 * (g + 0) + 17
 slower n t g c u step pace = omega (arith, step, pace)
@@ -57,41 +39,25 @@ begins_so n t g c u step pace = omega (arith, step, pace)
 pace_on : {K : Type 0} (picks : Picking K) (call : Call) (old new : Port K) (n g : ℕ) → Becomes picks call old new
     → IsGiven old.task call → HasToTell new → Pace old n g
     → Pace new (acts (call ∷ []) + n) (g + length (leaves old.outgoing new.outgoing))
-pace_on {K} picks call old new n g r given busy (inl k) = elim (by_call k.0 old k.1 k.2 picks new call r given).is [
+pace_on {K} picks call old new n g r given busy (inl k) = elim (says_on picks call k.0 old new k.1 r given) [
   | inl on ↦ subst (λ xs. Pace new (acts (call ∷ []) + n) (g + length xs))
       (sym (left_some k.0 old.outgoing new.outgoing k.1.out on.0.out))
-      (inl (k.0, on.0, on.1, slower n (to_do old.task) g (acts (call ∷ [])) (to_do new.task) on.2 k.3))
+      (inl (k.0, on.0, slower n (to_do old.task) g (acts (call ∷ [])) (to_do new.task) on.1 k.2))
   | inr over ↦ elim over [
     | inl f ↦ absurd (forgotten old new f busy)
     | inr freed ↦ subst (λ xs. Pace new (acts (call ∷ []) + n) (g + length xs))
         (sym (left_none k.0 old.outgoing new.outgoing k.1.out freed.out)) (inr (
           waits freed busy,
-          freed.clear,
           freed_so n (to_do old.task) g (acts (call ∷ [])) (rest new.task) (at_most_one call) (one old.task)
-              (seven new.task) k.3,
+              (seven new.task) k.2,
         ))
   ]
 ]
   where
     waits : IsFreed new → HasToTell new → IsWaiting new
-    waits f h = elim h [
-      | inl some ↦ absurd (some f.out)
-      | inr ends ↦ record { up = f.up; out = f.out; room = f.room; heard = f.heard; end = ends }
-    ]
+    waits f h = grind arith
 pace_on {K} picks call old new n g r given busy (inr k) =
-    subst (λ xs. Pace new (acts (call ∷ []) + n) (g + length xs)) (sym (left_quiet old.outgoing new.outgoing k.0.out))
-    (elim (starting.by_call old k.0 k.1 picks new call r given).is [
-      | inl on ↦ inr (on.0, on.1, waits_so n (rest old.task) g (acts (call ∷ [])) (rest new.task) on.2 k.2)
-      | inr over ↦ elim over [
-        | inl f ↦ absurd (forgotten old new f busy)
-        | inr b ↦ inl (
-          b.says.0,
-          b.says.1,
-          b.clear,
-          begins_so n (rest old.task) g (acts (call ∷ [])) (to_do new.task) b.few k.2,
-        )
-      ]
-    ])
+    grind (arith, left_quiet, waits_on, waits_so, rest, forgotten, begins_so, to_do)
 
 pace : {K : Type 0} (picks : Picking K) (p q : Port K) (calls : List Call) → Pace p 0 0
     → (a : Answered picks p calls q) → AreGiven picks p q calls a → HaveToTell picks p q calls a
@@ -118,31 +84,13 @@ pub keeps_telling : {K : Type 0} (picks : Picking K) (hardware : Hardware) (cred
 keeps_telling {K} picks hardware credits controller start p q before calls made asks b has up a given busy =
     bound (pace picks p q calls (begins p.outgoing refl (first_busy picks p q calls a busy)) a given busy)
   where
-    room_so : p.is_full ≡ false
-    room_so = room picks hardware credits controller start made p before b has
-
-    heard : p.written ≡ None
-    heard = heard_so picks hardware credits controller start made p before asks b (ap is_late up)
-
-    clear : IsClear p.task → ⊥
-    clear = uncleared picks hardware credits controller start made p before asks b up
+    u : InUse p
+    u = in_use_so picks hardware credits controller start p before made asks b has up
 
     begins : (o : Option Outgoing) → p.outgoing ≡ o → HasToTell p → Pace p 0 0
-    begins (Some o) e h = inl (
-      o,
-      record { up = up; out = e; room = room_so; heard = heard },
-      clear,
-      search (arith, ten p.task),
-    )
-    begins None e (inl some) = absurd (some e)
-    begins None e (inr ends) =
-        inr (
-          record { up = up; out = e; room = room_so; heard = heard; end = ends },
-          clear,
-          search (arith, seven p.task),
-        )
+    begins o e h = grind (arith, u, ten, seven)
 
     bound : Pace q (acts calls) (length (gone picks p q calls a))
         → acts calls ≤ 17 * (length (gone picks p q calls a) + 1)
-    bound (inl k) = omega (arith, k.3)
-    bound (inr k) = omega (arith, k.2)
+    bound (inl k) = omega (arith, k.2)
+    bound (inr k) = omega (arith, k.1)

@@ -1,5 +1,5 @@
 -- What a step of a transfer moves that goes well.
-use Rattle.mscp_ported.proofs.Common.{Action, Answered, Block, Bool, Buffer, Call, Command, Drive, First, Holdings, IsEmpty, List, MoveKind, Name, None, Ok, Opcode, Option, Order, Outcome, Picking, Port, Record, Some, Upcoming, Verdict, WasMoved, Went, Wish, [], ap, arith, begun_step, block_begun, block_moved, block_told, block_touched, buffer_in, command_of, cond, done_by, drive_of, end_given, false, false≢true, filter, find, found_is, has_name, inl, inr, invalid_length, is_done, is_good_block, is_moving, is_numbered, is_of, is_step_of, kept_found, least, left_of, length, min, name_of, name_on, nat_lt, none-some, num, of_first, opcode_of, option_map, order_with, outcome_at, parameters, position, refl, same_is, same_name, slice_index, step_told, subst, sym, touches, true, upcoming_begun, upcoming_of, wanted, wish, ℕ, ◌&&◌, ◌*◌, ◌+◌, ◌-◌, ◌<◌, ◌∙◌, ◌∷◌, ◌≡◌, ◌≢◌, ◌≤◌, ◌⊎◌}
+use Rattle.mscp_ported.proofs.Common.{Action, Answered, Block, Bool, Buffer, Call, Command, Drive, First, Holdings, IsEmpty, List, MoveKind, Name, None, Ok, Option, Order, Outcome, Picking, Port, Record, Some, Upcoming, Verdict, WasMoved, Went, Wish, [], ap, arith, begun_step, block_moved, block_told, block_touched, buffer_in, command_of, cond, done_by, drive_of, end_given, false, false≢true, filter, find, found_is, has_name, inl, inr, is_done, is_moving, is_numbered, is_of, is_step_of, kept_found, left_of, length, min, name_on, nat_lt, none-some, num, of_first, opcode_of, option_map, position, refl, same_is, same_name, slice_index, step_told, subst, sym, touches, true, upcoming_begun, upcoming_of, wanted, wish, ℕ, ◌&&◌, ◌*◌, ◌+◌, ◌-◌, ◌<◌, ◌∙◌, ◌∷◌, ◌≡◌, ◌≢◌, ◌≤◌, ◌⊎◌}
 use Rattle.mscp_ported.proofs.Stepping.{IsHow}
 use Rattle.mscp_packet.specs.declared.class.Opcode.TheVariants as codes
 use Rattle.mscp_packet.specs.declared.command.Order.TheVariants as orders
@@ -24,19 +24,7 @@ begun_record {K} h name r begun found = ap (upcoming_begun h.drives h.waiting) b
 -- and is of no other number
 pub other_step : {K : Type 0} (h : Holdings K) (n : ℕ) (name : Name) → h.begun ≡ Some name
     → same_name name (name_on First n) ≡ false → is_step_of n (begun_step h) ≡ false
-other_step {K} h n name begun other = by (find (has_name name) h.waiting) refl
-    (ap (upcoming_begun h.drives h.waiting) begun)
-  where
-    by : (o : Option Record) → find (has_name name) h.waiting ≡ o
-        → begun_step h ≡ upcoming_begun h.drives h.waiting (Some name) → is_step_of n (begun_step h) ≡ false
-    by None e is = ap (is_step_of n) (is ∙ ap (λ o. option_map (λ x. upcoming_of
-        (drive_of h.drives x.command.unit) x) o) e)
-    by (Some r) e is = ap (is_step_of n) (is ∙ ap (λ o. option_map (λ x. upcoming_of
-        (drive_of h.drives x.command.unit) x) o) e)
-        ∙ ap (λ (x : Name). same_name x (name_on First n)) (named r e) ∙ other
-      where
-        named : (r : Record) → find (has_name name) h.waiting ≡ Some r → name_of r ≡ name
-        named r e = same_is (name_of r) name (found_is (has_name name) h.waiting r e)
+other_step {K} h n name begun other = grind (arith, same_is, found_is)
 
 -- ---- blocks
 
@@ -47,24 +35,13 @@ pub record GoesOn (d : Drive) (r : Record) (k : Block) : Type 0 where
   pub more : 1 < left_of r
 
 pub goes_on_so : (d : Drive) (r : Record) (k : Block) → end_given k d r ≡ None → GoesOn d r k
-goes_on_so d r k e = by (touches d.online r.command.order) refl k refl (nat_lt 1 (left_of r)) refl e
-  where
-    by : (x : Bool) → touches d.online r.command.order ≡ x → (q : Block) → k ≡ q → (y : Bool)
-        → nat_lt 1 (left_of r) ≡ y
-        → cond (x && is_good_block q && y) None (Some (outcome_at d.unit d.online r.command r.good k)) ≡ None
-        → GoesOn d r k
-    by true f blocks.Good g true h e = record { online = f; good = g; more = search (arith, h) }
-    by true f blocks.Good g false h e = absurd (none-some _ (sym e))
-    by true f (blocks.Bad status) g y h e = absurd (none-some _ (sym e))
-    by false f q g y h e = absurd (none-some _ (sym e))
+goes_on_so d r k e = grind (arith, nat_lt, none-some)
 
 -- which block such a step moves
 pub block_so : (online : Bool) (order : Order) (done : ℕ) → touches online order ≡ true
     → (kind : MoveKind) × (count : ℕ) × (first : ℕ) × (order ≡ orders.Move kind count first)
     × (block_moved order (block_touched online order done) ≡ Some (kind, first + done))
-block_so true (orders.Move kind count first) done e = (kind, count, first, refl, refl)
-block_so false (orders.Move kind count first) done e = absurd (false≢true e)
-block_so online order done e = absurd (false≢true e)
+block_so online order done e = grind (arith, false≢true)
 
 pub is_step_sole : {K : Type 0} (h : Holdings K) (n : ℕ) (name : Name) (r : Record) → h.begun ≡ Some name
     → name ≡ name_on First n → filter (is_numbered n) h.waiting ≡ r ∷ []
@@ -75,9 +52,7 @@ is_step_sole h n name r begun named sole = begun_record h name r begun
 -- what is told of a step
 pub told_so : {K : Type 0} (old : Port K) (outcome : Outcome) (verdict : Verdict) → IsHow old outcome verdict
     → block_told verdict ≡ blocks.Good → step_told old outcome old.task ≡ Some blocks.Good
-told_so old outcome verdict (inl h) good = ap (step_told old outcome) h ∙ ap Some (sym (verdict_so verdict) ∙ good)
-told_so old outcome verdict (inr h) good = ap (step_told old outcome) h.0
-    ∙ ap Some (sym (transfer_so old outcome (block_begun old)) ∙ ap block_told (sym h.1) ∙ good)
+told_so old outcome verdict h good = grind (arith, verdict_so, transfer_so)
 
 -- ---- what a message of a transfer says
 
@@ -85,53 +60,14 @@ pub move_fields : (b : List ℕ) (kind : MoveKind) (count first : ℕ) → (comm
     → (count ≡ num b 12 4) × (first ≡ num b 28 4) × (32 ≤ length b)
     × (opcode_of (slice_index b 8) ≡ Some (codes.Move kind))
 unfolding command_of
-move_fields b kind count first e = by (opcode_of (slice_index b 8)) refl e
-  where
-    count_in : Order → ℕ
-    count_in (orders.Move k n f) = n
-    count_in order = count
-
-    first_in : Order → ℕ
-    first_in (orders.Move k n f) = f
-    first_in order = first
-
-    kind_in : Order → MoveKind
-    kind_in (orders.Move k n f) = k
-    kind_in order = kind
-
-    So : Option Opcode → Type 0
-    So o = (count ≡ num b 12 4) × (first ≡ num b 28 4) × (32 ≤ length b) × (o ≡ Some (codes.Move kind))
-
-    long : (o : Opcode) (c : Bool) → nat_lt (length b) (least o) ≡ c
-        → cond c (orders.Invalid (slice_index b 8) invalid_length) (parameters o b) ≡ orders.Move kind count first
-        → So (Some o)
-    long o true f h = search (arith, h)
-    long (codes.Move k) false f h = (
-      sym (ap count_in h),
-      sym (ap first_in h),
-      search (arith, f),
-      ap (λ x. Some (codes.Move x)) (ap kind_in h),
-    )
-    long o false f h = search (arith, h)
-
-    by : (o : Option Opcode) → opcode_of (slice_index b 8) ≡ o → order_with o b ≡ orders.Move kind count first → So o
-    by None f h = search (arith, h)
-    by (Some o) f h = long o (nat_lt (length b) (least o)) refl h
+move_fields b kind count first e = grind (arith, nat_lt)
 
 -- the buffer that it names
 buffer_count : (b : List ℕ) (changes : ℕ) → 32 ≤ length b → (buffer_in b changes).count ≡ num b 12 4
-buffer_count b changes h = by (nat_lt (length b) 16) (search (arith, h))
-  where
-    by : (c : Bool) → c ≡ false → cond c 0 (num b 12 4) ≡ num b 12 4
-    by false e = refl
-    by true e = absurd (false≢true (sym e))
+buffer_count b changes h = grind (arith, h)
 
 buffer_address : (b : List ℕ) (changes : ℕ) → 32 ≤ length b → (buffer_in b changes).address ≡ num b 16 4
-buffer_address b changes h = by (nat_lt (length b) 20) (search (arith, h))
-  where
-    by : (c : Bool) → c ≡ false → cond c 0 (num b 16 4) ≡ num b 16 4
-    by false e = refl
-    by true e = absurd (false≢true (sym e))
+buffer_address b changes h = grind (arith, h)
 
 kept_count : (b : Buffer) (bytes : List ℕ) → (changes : ℕ) × (b ≡ buffer_in bytes changes) → 32 ≤ length bytes
     → b.count ≡ num bytes 12 4
@@ -144,31 +80,20 @@ kept_address b bytes kept long = ap (λ (x : Buffer). x.address) kept.1 ∙ buff
 -- ---- a step that goes well
 
 pub no_done : (x y z : Bool) (ws : List Action) → z ≡ false → cond (x && y && z) ws [] ≡ []
-no_done false y z ws e = refl
-no_done true false z ws e = refl
-no_done true true false ws e = refl
-no_done true true true ws e = absurd (false≢true (sym e))
+no_done x y z ws e = grind arith
 
 all_done : (x y z : Bool) (ws : List Action) → x ≡ true → y ≡ true → z ≡ true → cond (x && y && z) ws [] ≡ ws
-all_done true true true ws e f g = refl
-all_done false y z ws e f g = absurd (false≢true e)
-all_done true false z ws e f g = absurd (false≢true f)
-all_done true true false ws e f g = absurd (false≢true g)
+all_done x y z ws e f g = grind arith
 
 pub none_moving : (x y z : Bool) (ws : List Action) → y ≡ false → cond (x && y && z) ws [] ≡ []
-none_moving false y z ws e = refl
-none_moving true false z ws e = refl
-none_moving true true z ws e = absurd (false≢true (sym e))
+none_moving x y z ws e = grind arith
 
 -- a block at the same place
 transfer_same : (kind : MoveKind) (unit n first other at place count all : ℕ) → first ≡ other → at ≡ place
     → count ≡ all
     → actions.Transfer kind unit (first + n) (at + n * 512) (min (count - n * 512) 512)
     ≡ actions.Transfer kind unit (other + n) (place + n * 512) (min (all - n * 512) 512)
-transfer_same kind unit n first other at place count all e f g =
-    ap (λ x. actions.Transfer kind unit (x + n) (at + n * 512) (min (count - n * 512) 512)) e
-    ∙ ap (λ x. actions.Transfer kind unit (other + n) (x + n * 512) (min (count - n * 512) 512)) f
-    ∙ ap (λ x. actions.Transfer kind unit (other + n) (place + n * 512) (min (x - n * 512) 512)) g
+transfer_same kind unit n first other at place count all e f g = grind arith
 
 module _ {K : Type 0} (picks : Picking K) (start : Port K) (old : Port K) (calls : List Call)
     (a : Answered picks start calls old) (owned : AreOwned picks start old calls a) (outcome : Outcome)

@@ -1,10 +1,75 @@
 -- Which calls look for a message of a port's host, or read one on.
-use Rattle.mscp_ported.proofs.Common.{Action, Becomes, Bool, Call, Commands, IfSome, IsDue, List, Next, Ok, Picking, Port, ReadIp, Record, Some, Stage, Task, Wants, WasRead, Went, WriteIp, WriteSa, [], ap, arith, aside, block_is_due, blocks, false, false≢true, in_hand, inl, inr, is_dead, length, nat_eq, none-some, none_or_not, not, read_again, refl, step_at, subst, sym, true, up_or_not, ℕ, ◌&&◌, ◌∙◌, ◌∷◌, ◌≡◌, ◌≢◌, ◌⊎◌}
-use Rattle.mscp_ported.proofs.Minor.{GivesUp, Minor, Mounts, PutsAside, ReadsAgain, Still, minor}
-use Rattle.mscp_port.specs.declared.stage.Stage.TheVariants as stages
-use Rattle.mscp_port.specs.declared.task.Task.TheVariants as tasks
-use Rattle.mscp_ported.proofs.Turning.{IsHearing, ReadsOn, again, anew, as_before, forgets, no_more, put, read_on, went_quiet}
+use Rattle.mscp_ported.proofs.Common.{Action, Becomes, Bool, Call, Choice, Commands, IsDue, IsReadingText, List, Next, Ok, Option, Outcome, Picking, Port, ReadIp, Record, Rings, Side, Descriptor, Task, Wants, WasRead, Went, WriteIp, WriteSa, [], arith, aside, block_is_due, false, false≢true, hears_of, inl, inr, is_dead, length, nat_eq, none-some, none_or_not, not, read_again, refl, step_at, subst, taken_or_not, true, up_or_not, ℕ, ◌&&◌, ◌∷◌, ◌≡◌, ◌⊎◌}
+use Rattle.mscp_ported.proofs.Deeds.{Deed, IsNewStep, deed}
+use Rattle.mscp_ported.proofs.Minor.{minor}
+use Rattle.mscp_ported.proofs.Sights.{IsSlide, Seen, sight, task_read}
+use Rattle.mscp_ported.proofs.Touching.{Touched, read_ip, wrote_sa}
 use Rattle.mscp_ported.proofs.Wanting.{alive_or_dead}
+use Rattle.mscp_port.specs.declared.task.Task.TheVariants as tasks
+
+-- a message is looked for, or read
+abbrev pub IsHearing : Task → Type 0
+IsHearing (tasks.Slot Commands) = Unit {0}
+IsHearing (tasks.Header slot) = Unit {0}
+IsHearing (tasks.Text slot size foreign) = Unit {0}
+IsHearing task = ⊥
+
+-- a message is read on, and nothing else came meanwhile
+pub record ReadsOn {K : Type 0} (old new : Port K) : Type 0 where
+  pub hears : IsHearing old.task
+  pub controller : new.controller ≡ old.controller
+  pub outgoing : new.outgoing ≡ old.outgoing
+  pub owes : new.owes_block ≡ old.owes_block
+
+-- ---- what is in hand
+
+again : (t : Task) → IsHearing (read_again t) → IsHearing t
+again (tasks.Slot side) h = absurd h
+again t h = h
+
+put : (t : Task) → IsHearing (aside t) → IsHearing t
+put tasks.Transfer h = absurd h
+put t h = h
+
+anew : (o : Option ℕ) (t : Task) → IsHearing (step_at o t) → IsHearing t
+anew o t h = grind arith
+
+step_quiet : (t : Task) → IsNewStep t → IsHearing t → ⊥
+step_quiet t calm h = grind arith
+
+hears_quiet : (area : Rings) (side : Side) (slot : Descriptor) → IsHearing (hears_of area side slot) → ⊥
+hears_quiet area side slot = grind arith
+
+-- what was read is a slot that a message may lie in, or its header
+slide_hears : (bytes : List ℕ) (t : Task) → IsHearing (task_read bytes t) → IsHearing t
+slide_hears bytes t = grind arith
+
+slide_text : (t : Task) → IsSlide t → IsReadingText t → ⊥
+slide_text (tasks.Text slot size foreign) of reading = of
+slide_text t of reading = reading
+
+never : {K : Type 0} {new : Port K} (x : Port K) → new ≡ x → (IsHearing x.task → ⊥) → IsHearing new.task → ⊥
+never {K} x e f h = f (subst (λ (p : Port K). IsHearing p.task) e h)
+
+forgets : (t : Task) → t ≡ tasks.Free → IsHearing t → ⊥
+forgets t e h = subst (λ x. IsHearing x) e h
+
+module _ {K : Type 0} {old new : Port K} where
+  on : (x : Port K) → new ≡ x → (IsHearing x.task → IsHearing old.task) → x.controller ≡ old.controller
+      → x.outgoing ≡ old.outgoing → x.owes_block ≡ old.owes_block → IsHearing new.task → ReadsOn old new
+  on x e back controller outgoing owes h = grind arith
+
+  -- behind a text no other is looked for at once
+  pub text_quiet : {bytes : List ℕ} {done : Unit} → Seen bytes done old new → IsReadingText old.task
+      → IsHearing new.task → ⊥
+  text_quiet k reading h = grind (arith, slide_text, forgets, never)
+
+  read_on : {bytes : List ℕ} {done : Unit} → Seen bytes done old new → IsHearing new.task → ReadsOn old new
+  read_on {bytes} k h = grind (arith, on, slide_hears, forgets, never)
+
+  went_quiet : {picks : List Choice → ℕ → Type 0} {outcome : Outcome} → Deed picks outcome old new
+      → IsHearing new.task → ⊥
+  went_quiet k h = grind (arith, forgets, never, step_quiet, hears_quiet, taken_or_not)
 
 -- ---- what is wanted
 
@@ -19,65 +84,23 @@ full_or_not false = inr refl
 
 block_due : {K : Type 0} (p : Port K) (task : Task) → IsDue true p task → task ≡ tasks.Slot Commands
     → block_is_due true p ≡ true → ⊥
-block_due p task due slot e = search (
-  arith,
-  up_or_not p.stage,
-  none_or_not p.written,
-  none_or_not p.outgoing,
-  full_or_not p.is_full,
-  due.first,
-  due.step,
-  due.still,
-  due.goes_out,
-)
+block_due p task due slot e = grind (arith, up_or_not, none_or_not, full_or_not)
 
 module _ {K : Type 0} (picks : List _ → ℕ → Type 0) (action : Action) (old new : Port K)
     (r : Wants picks true old action new) where
   -- a slot is taken where nothing was in hand: then a block isn't due
   slot_taken : IsDue true new new.task → new.task ≡ tasks.Slot Commands → new.owes_block ≡ true
       → new.controller.waiting ≡ []
-  slot_taken due slot owes = by (block_is_due true new) refl
-    where
-      by : (b : Bool) → block_is_due true new ≡ b → new.controller.waiting ≡ []
-      by true e = absurd (block_due new new.task due slot e)
-      by false e = nothing_waits new.owes_block new.controller.waiting owes e
+  slot_taken due slot owes = grind (arith, block_due, nothing_waits)
 
   from_free : old.task ≡ tasks.Free → IsDue true new new.task → IsHearing new.task → new.owes_block ≡ true
       → new.controller.waiting ≡ []
-  from_free free due hears owes = by new.task refl
-    where
-      none_in_hand : (word : ℕ) → in_hand old.task ≡ Some word → ⊥
-      none_in_hand word e = none-some word (sym (ap in_hand free) ∙ e)
-
-      holds : (t : Task) → new.task ≡ t → IfSome (in_hand t) (λ word. in_hand old.task ≡ Some word)
-      holds t e = subst (λ x. IfSome (in_hand x) (λ word. in_hand old.task ≡ Some word)) e r.packet
-
-      by : (t : Task) → new.task ≡ t → new.controller.waiting ≡ []
-      by (tasks.Slot Commands) e = slot_taken due e owes
-      by (tasks.Header slot) e = absurd (none_in_hand slot.word (holds (tasks.Header slot) e))
-      by (tasks.Text slot size foreign) e =
-          absurd (none_in_hand slot.word (holds (tasks.Text slot size foreign) e))
-      by t e = absurd (subst (λ x. IsHearing x) e hears)
+  from_free free due hears owes = grind (arith, none-some, slot_taken)
 
   -- a message is looked for as it was; or it is now, and where a block is owed nothing waits
   pub wants_hears : IsHearing new.task → (new ≡ old)
       ⊎ ((is_dead new.stage ≡ false) × (new.owes_block ≡ true → new.controller.waiting ≡ []))
-  wants_hears hears = by old.task refl
-    where
-      lives : (s : Stage) → new.stage ≡ s → ((code : ℕ) → s ≢ stages.Dead code) → is_dead new.stage ≡ false
-      lives (stages.Dead code) e alive = absurd (alive code refl)
-      lives s e alive = ap is_dead e
-
-      by : (t : Task) → old.task ≡ t → (new ≡ old)
-          ⊎ ((is_dead new.stage ≡ false) × (new.owes_block ≡ true → new.controller.waiting ≡ []))
-      by tasks.Free at = elim (alive_or_dead old old.stage refl) [
-        | inl alive ↦ inr (
-          lives new.stage refl (λ code e. alive code (sym (ap (λ (p : Port K). p.stage) r.frame) ∙ e)),
-          from_free at (r.due alive at) hears,
-        )
-        | inr d ↦ inl (r.dead d.0 d.1).1
-      ]
-      by t at = inl (r.goes_on (λ e. search (arith, at, e)))
+  wants_hears hears = grind (arith, alive_or_dead, from_free)
 
 -- ---- each call
 
@@ -87,46 +110,15 @@ IsNoNext (Next blocks action bytes) = ⊥
 IsNoNext call = Unit {0}
 
 module _ {K : Type 0} (picks : Picking K) (old new : Port K) where
-  volume_on : (task : Task) → new.controller ≡ old.controller → new.owes_block ≡ old.owes_block → new.task ≡ task
-      → (IsHearing task → IsHearing old.task) → IsHearing new.task → ReadsOn old new
-  volume_on task controller owes at f h = record {
-    hears = f (subst (λ x. IsHearing x) at h);
-    controller = controller;
-    owes = owes;
-  }
+  touched_on : Touched old new → IsHearing new.task → ReadsOn old new
+  touched_on h = grind (arith, on, again, forgets)
 
   pub reads_on : (call : Call) → IsNoNext call → Becomes picks call old new → IsHearing new.task → ReadsOn old new
-  reads_on WriteIp none r = (forgets old new stages.First r)
-  reads_on ReadIp none r = (elim r.hand [
-    | inl l ↦ elim r.frame [
-      | inl e ↦ volume_on old.task (ap (λ (p : Port K). p.controller) e) (ap (λ (p : Port K). p.owes_block) e)
-          l.task (λ h. h)
-      | inr d ↦ forgets old new (stages.Dead d.0) d.1
-    ]
-    | inr d ↦ elim d.task
-        [ inl e ↦ no_more old new tasks.Free e (λ h. h) | inr e ↦ no_more old new (tasks.Clear 0) e (λ h. h) ]
-  ])
-  reads_on (WriteSa word) none r = (elim r.hand [
-    | inl l ↦ elim r.frame [
-      | inl e ↦ volume_on old.task (ap (λ (p : Port K). p.controller) e) (ap (λ (p : Port K). p.owes_block) e)
-          l.task (λ h. h)
-      | inr d ↦ forgets old new (stages.Dead d.0) d.1
-    ]
-    | inr d ↦ elim d.task
-        [ inl e ↦ no_more old new tasks.Free e (λ h. h) | inr e ↦ no_more old new (tasks.Clear 0) e (λ h. h) ]
-  ])
+  reads_on WriteIp none r = λ h. absurd (forgets new.task r.task h)
+  reads_on ReadIp none r = touched_on (read_ip old new r)
+  reads_on (WriteSa word) none r = touched_on (wrote_sa word old new r)
   reads_on (Next blocks action bytes) none r = absurd none
-  reads_on (WasRead bytes (Ok done)) none r = (read_on bytes done old new r old.task refl)
+  reads_on (WasRead bytes (Ok done)) none r = read_on (sight bytes done old new r)
   reads_on (Went outcome (Ok done)) none r =
-      (went_quiet (picks old.controller.picker) outcome done old new r old.task refl)
-  reads_on call none r = by (minor picks call old new r tt)
-    where
-      by : Minor old new → IsHearing new.task → ReadsOn old new
-      by (Still e) = as_before old new e
-      by (PutsAside e) = volume_on (aside old.task) (ap (λ (p : Port K). p.controller) e)
-          (ap (λ (p : Port K). p.owes_block) e) (ap (λ (p : Port K). p.task) e) (put old.task)
-      by (ReadsAgain left e) = volume_on (read_again old.task) (ap (λ (p : Port K). p.controller) e)
-          (ap (λ (p : Port K). p.owes_block) e) (ap (λ (p : Port K). p.task) e) (again old.task)
-      by (Mounts becomes place e) = volume_on (step_at place old.task) (ap (λ (p : Port K). p.controller) e)
-          (ap (λ (p : Port K). p.owes_block) e) (ap (λ (p : Port K). p.task) e) (anew place old.task)
-      by (GivesUp d) = forgets old new (stages.Dead 9) d
+      λ h. absurd (went_quiet (deed (picks old.controller.picker) outcome done old new r) h)
+  reads_on call none r = grind (arith, minor, on, put, again, anew, forgets)

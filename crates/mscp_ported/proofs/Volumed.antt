@@ -1,6 +1,5 @@
 -- Blocks are moved on the volume that was there as their command came, and with which the unit is online.
-use Rattle.mscp_ported.proofs.Common.{Action, Answered, AsksAlways, Bool, Buffer, Call, Connection, Err, Finish, Hardware, Holdings, IfSome, InRings, IsMadeOf, IsOfItsVolume, IsOnItsVolume, IsOnline, IsUnitList, IsWanted, List, Makes, MatchOption, MoveKind, Next, None, NotBegun, Ok, Option, Outcome, Picking, Port, Report, Result, Rings, Shape, Some, Task, Upcoming, Verdict, Volume, Went, [], ap, arith, begun_step, block_begun, changed, changed_verdict, cond, eqb-true, false, false≢true, has_changed, inl, inr, kept_of, length, move_of, move_wanted, moved_step, nat_eq, none-some, not, one_block, option_map, part_at, part_of, part_wanted, part_with, place_in, position-Some, refl, refusal_of, same_Some, settings_still, step_told, subst, sym, true, unless_fault, volume_at, wish, ℕ, ◌<◌, ◌==◌, ◌∙◌, ◌∷◌, ◌≡◌, ◌≤◌}
-use Rattle.std.proofs.Common.{◌||◌}
+use Rattle.mscp_ported.proofs.Common.{Action, Answered, AsksAlways, Bool, Buffer, Call, Connection, Err, Finish, Hardware, Holdings, IfSome, IsMadeOf, IsOfItsVolume, IsOnItsVolume, IsOnline, IsUnitList, IsWanted, List, Makes, MoveKind, Next, None, NotBegun, Ok, Option, Outcome, Picking, Port, Report, Result, Shape, Some, Task, Upcoming, Verdict, Volume, Went, [], ap, arith, begun_step, block_begun, changed, eqb-true, false, false≢true, has_changed, inl, inr, kept_of, length, move_of, move_wanted, moved_step, nat_eq, none-some, one_block, option_map, part_at, part_wanted, part_with, place_in, position-Some, refl, same_Some, settings_still, step_told, subst, sym, true, volume_at, wish, ℕ, ◌<◌, ◌∙◌, ◌∷◌, ◌≡◌, ◌≤◌}
 use Rattle.mscp_drive.specs.declared.block.Block.TheVariants as blocks
 use Rattle.mscp_port.specs.declared.action.Action.TheVariants as actions
 use Rattle.mscp_port.specs.declared.task.Task.TheVariants as tasks
@@ -13,33 +12,13 @@ use Rattle.mscp_ported.proofs.Wanting.{alive_or_dead}
 -- ---- the block that is wanted
 
 changed_not : (b : Buffer) (v : Volume) → has_changed b v ≡ false → (v.is_there ≡ true) × (b.changes ≡ v.changes)
-changed_not b v e = by v.is_there refl (b.changes == v.changes) refl e
-  where
-    by : (x : Bool) → v.is_there ≡ x → (y : Bool) → (b.changes == v.changes) ≡ y → (not x || not y) ≡ false
-        → (v.is_there ≡ true) × (b.changes ≡ v.changes)
-    by true e true f h = (e, eqb-true b.changes v.changes f)
-    by true e false f h = absurd (false≢true (sym h))
-    by false e y f h = absurd (false≢true (sym h))
+changed_not b v e = grind (arith, eqb-true, false≢true)
 
 -- a part of a buffer is moved only on the volume that was there, with which the unit is online
 part_on : (kind : MoveKind) (block at : ℕ) (b : Buffer) (v : Volume) (part : ℕ × ℕ)
     → part_with kind block at b v ≡ Ok part
     → (v.is_there ≡ true) × (b.changes ≡ v.changes) × (v.is_mounted ≡ true)
-part_on kind block at b v part e = by (has_changed b v) refl (refusal_of kind block b v) refl e
-  where
-    mounted : (o : Option Verdict) → refusal_of kind block b v ≡ o → o ≡ None → v.is_mounted ≡ true
-    mounted o e none = is v.is_mounted refl (e ∙ none)
-      where
-        is : (x : Bool) → v.is_mounted ≡ x → refusal_of kind block b v ≡ None → v.is_mounted ≡ true
-        is true f h = f
-        is false f h = search (arith, f, h)
-
-    by : (c : Bool) → has_changed b v ≡ c → (o : Option Verdict) → refusal_of kind block b v ≡ o
-        → unless_fault (cond c (Some (changed_verdict v)) o) (part_of b at) ≡ Ok part
-        → (v.is_there ≡ true) × (b.changes ≡ v.changes) × (v.is_mounted ≡ true)
-    by true f o g h = search (arith, h)
-    by false f (Some verdict) g h = search (arith, h)
-    by false f None g h = let x = changed_not b v f in (x.0, x.1, mounted None g refl)
+part_on kind block at b v part e = grind (arith, changed_not)
 
 -- what a port is to know of a block that it wants
 record Wanted {K : Type 0} (p : Port K) (unit : ℕ) : Type 0 where
@@ -107,24 +86,7 @@ wanted {K} p kind unit block address count e = by (begun_step p.controller) refl
 transfer_wanted : {K : Type 0} (p : Port K) (action : Action) (kind : MoveKind) (unit block address count : ℕ)
     → IsWanted p p.task action → action ≡ actions.Transfer kind unit block address count
     → move_wanted p (block_begun p) ≡ actions.Transfer kind unit block address count
-transfer_wanted {K} p action kind unit block address count w e = by p.task w
-  where
-    ringed : (f : Rings → Type 0) → ((r : Rings) → f r → ⊥) → InRings p action f → ⊥
-    ringed f never h = in_rings p.rings h
-      where
-        in_rings : (o : Option Rings) → MatchOption o (action ≡ actions.Pause) f → ⊥
-        in_rings None h = search (arith, h, e)
-        in_rings (Some r) h = never r h
-
-    by : (task : Task) → IsWanted p task action
-        → move_wanted p (block_begun p) ≡ actions.Transfer kind unit block address count
-    by (tasks.Slot side) w = absurd (ringed _ (λ r h. search (arith, h, e)) w)
-    by (tasks.Return side slot) w = absurd (ringed _ (λ r h. search (arith, h, e)) w)
-    by (tasks.Neighbour side) w = absurd (ringed _ (λ r h. search (arith, h, e)) w)
-    by (tasks.Word side) w = absurd (ringed _ (λ r h. search (arith, h, e)) w)
-    by (tasks.Clear n) w = absurd (ringed _ (λ r h. search (arith, h, e)) w)
-    by tasks.Transfer w = sym w ∙ e
-    by task w = search (arith, w, e)
+transfer_wanted {K} p action kind unit block address count w e = grind arith
 
 -- ---- laws
 
@@ -190,10 +152,7 @@ module _ {K : Type 0} (picks : Picking K) (hardware : Hardware) (credits : ℕ) 
           × IsOnItsVolume picks u start a.0 calls a.1
 
       by : (task : Task) → a.0.task ≡ task → step_told a.0 outcome a.0.task ≡ Some blocks.Good → So
-      by (tasks.Step verdict) at told = search (
-        arith,
-        subst (λ o. IfSome o (λ x. x.action ≡ actions.Pause)) wished (s.paused verdict at),
-      )
+      by (tasks.Step verdict) at told = grind (arith, s)
       by tasks.Transfer at told =
           let w = wanted a.0 kind unit block address count
           (sym (subst (λ o. IfSome o (λ x. x.action ≡ move_wanted a.0 (block_begun a.0))) wished (s.wanted at))) in

@@ -1,5 +1,5 @@
 -- What follows when something is wanted of a holder.
-use Rattle.mscp_ported.proofs.Common.{Action, Bool, Choice, Commands, HasNothingToSay, IsAlive, IsDue, IsOfBlock, IsOwed, IsWanted, List, Next, None, Option, Outgoing, Port, Responses, Said, Some, Stage, Talk, Task, Wants, Wish, [], ap, append-nil, arith, begins, block_is_due, bytes_wanted, false, inl, inr, is_dead, looks_or_not, map, message_text, none-some, refl, said_in, silence, stepped, subst, sym, true, ℕ, ◌++◌, ◌∙◌, ◌≡◌, ◌≢◌, ◌⊎◌}
+use Rattle.mscp_ported.proofs.Common.{Action, Bool, Choice, Commands, IsAlive, IsDue, IsOfBlock, IsOwed, IsWanted, List, Next, None, Option, Port, Responses, Said, Some, Stage, Talk, Task, Wants, Wish, [], ap, append-nil, arith, begins, bytes_wanted, false, inl, inr, is_dead, looks_or_not, map, message_text, none-some, refl, said_in, stepped, subst, sym, true, ℕ, ◌++◌, ◌∙◌, ◌≡◌, ◌≢◌, ◌⊎◌}
 use Rattle.mscp_port.specs.declared.action.Action.TheVariants as actions
 use Rattle.mscp_port.specs.declared.stage.Stage.TheVariants as stages
 use Rattle.mscp_port.specs.declared.task.Task.TheVariants as tasks
@@ -16,34 +16,7 @@ IsChosen p task = (task ≡ tasks.Free) ⊎ (task ≡ tasks.Settle)
     ⊎ IsOfBlock task))
 
 pub chosen : {K : Type 0} (blocks : Bool) (p : Port K) (task : Task) → IsDue blocks p task → IsChosen p task
-chosen {K} blocks p task due = by p.written refl p.stage refl
-  where
-    of_block : p.written ≡ None → p.stage ≡ stages.Up → (task ≡ tasks.Free) ⊎ IsOfBlock task → IsChosen p task
-    of_block none up (inl free) = inl free
-    of_block none up (inr block) = inr (inr (up, inr (inr block)))
-
-    hear_or : p.written ≡ None → p.stage ≡ stages.Up → HasNothingToSay p → (b c d : Bool) → p.is_polled ≡ b
-        → p.is_stalled ≡ c → block_is_due blocks p ≡ d → IsChosen p task
-    hear_or none up say b c true polled stalled is = inr (inr (up, inr (inr (due.first none up say is))))
-    hear_or none up say false c false polled stalled is = of_block none up (due.block none up say (inl polled))
-    hear_or none up say true true false polled stalled is = of_block none up (due.block none up say (inr stalled))
-    hear_or none up say true false false polled stalled is =
-        inr (inr (up, inl (due.comes_in none up say polled stalled is)))
-
-    say_or : p.written ≡ None → p.stage ≡ stages.Up → (o : Option Outgoing) → p.outgoing ≡ o → (b : Bool)
-        → p.is_full ≡ b → IsChosen p task
-    say_or none up None nothing b full =
-        hear_or none up (inl nothing) p.is_polled p.is_stalled (block_is_due blocks p) refl refl refl
-    say_or none up (Some x) some true full =
-        hear_or none up (inr full) p.is_polled p.is_stalled (block_is_due blocks p) refl refl refl
-    say_or none up (Some x) some false full =
-        let out : p.outgoing ≢ None = λ e. none-some x (sym e ∙ some) in
-        inr (inr (up, inr (inl (due.goes_out none up out full, out))))
-
-    by : (o : Option ℕ) → p.written ≡ o → (s : Stage) → p.stage ≡ s → IsChosen p task
-    by (Some word) some s at = inr (inl (due.step (λ e. none-some word (sym e ∙ some))))
-    by None none stages.Up at = say_or none at p.outgoing refl p.is_full refl
-    by None none s at = inl (due.still none (λ e. search (arith, at, e)))
+chosen {K} blocks p task due = grind (arith, none-some)
 
 pub alive_or_dead : {K : Type 0} (p : Port K) (s : Stage) → p.stage ≡ s
     → IsAlive p ⊎ ((code : ℕ) × (p.stage ≡ stages.Dead code))
@@ -80,15 +53,7 @@ module _ {K : Type 0} (picks : List Choice → ℕ → Type 0) (blocks : Bool) (
   -- what goes out does so while the rings are in use
   outgoing_so : (new.outgoing ≢ None → new.stage ≡ stages.Up)
       × ((new.outgoing ≡ old.outgoing) ⊎ (old.outgoing ≡ None)) × (old.outgoing ≢ None → new.outgoing ≢ None)
-  outgoing_so = elim (looks_or_not old) [
-    | inl looks ↦ (λ h. stage_so ∙ looks.up, inr looks.outgoing, λ h. absurd (h looks.outgoing))
-    | inr never ↦
-        let same = (r.says.keeps never).outgoing in (
-          λ h. stage_so ∙ k.speech.out (λ e. h (same ∙ e)),
-          inl same,
-          λ h e. h (sym same ∙ e),
-        )
-  ]
+  outgoing_so = grind (arith, looks_or_not, stage_so)
 
   -- and what is in hand tells nothing
   told_now : (task : Task) → old.task ≡ tasks.Free → (IsTelling task → ⊥)
@@ -150,11 +115,7 @@ module _ {K : Type 0} (picks : List Choice → ℕ → Type 0) (blocks : Bool) (
       }
     where
       lives : IsAlive old → is_dead new.stage ≡ false
-      lives alive = by old.stage refl
-        where
-          by : (s : Stage) → old.stage ≡ s → is_dead new.stage ≡ false
-          by (stages.Dead code) e = absurd (alive code e)
-          by s e = ap is_dead (stage_so ∙ e)
+      lives alive = grind (arith, stage_so)
 
   of_free : IsAlive old → old.task ≡ tasks.Free → IsChosen new new.task → Follows
   of_free alive at c = by c
@@ -196,47 +157,7 @@ module _ {K : Type 0} (picks : List Choice → ℕ → Type 0) (blocks : Bool) (
       (sym (none_said old.outgoing old.outgoing said refl)) k.speech.tells))
 
   dead_so : (code : ℕ) → old.stage ≡ stages.Dead code → action ≡ actions.Rest → new ≡ old → Follows
-  dead_so code at rest e =
-      let same : look new ≡ look old = ap look e in
-      let silent : t ≡ silence = (k.ended (ap is_dead at)).talk in
-      record {
-        after = subst (λ l. After (Next blocks action bytes) old l t w (Some
-            (record { action = action; bytes = bytes }))
-            said texts) (sym same)
-            (unmoved (Next blocks action bytes) old (look old) t w (Some
-            (record { action = action; bytes = bytes })) said
-            texts refl refl (record { talk = λ w t. refl; no_reset = no_reset; accepts = refl }) (record {
-              names = k.names;
-              counts = k.counts;
-              hand = record {
-                fits = k.hand.fits;
-                asked = subst (λ a. IsAsked (look old) old.task (record { action = a; bytes = bytes })) (sym rest)
-                    (calm old.task refl);
-                up = k.hand.up;
-                step = k.hand.step;
-                clear = k.hand.clear;
-                own = k.hand.own;
-                idle = k.hand.idle;
-                wished = λ e h. none-some (record { action = action; bytes = bytes }) (sym e);
-              };
-              speech = k.speech;
-              hears = k.hears;
-              ended = k.ended;
-            }));
-        owed = subst (λ x. IsOwed new.stage x x.turn action bytes) (sym silent)
-            (subst (λ a. IsOwed new.stage silence silence.turn a bytes) (sym rest) tt);
-      }
-    where
-      not_up : {P : Type 0} → IsOfRings old.task → P
-      not_up h = absurd (search (arith, k.hand.up h, at))
-
-      calm : (task : Task) → old.task ≡ task
-          → IsAsked (look old) task (record { action = actions.Rest; bytes = bytes })
-      calm tasks.Free e = tt
-      calm tasks.Settle e = tt
-      calm (tasks.Clear done) e = tt
-      calm tasks.Interrupt e = absurd (search (arith, k.hand.step e, ap is_loud at))
-      calm task e = not_up (subst (λ x. IsOfRings x) (sym e) tt)
+  dead_so code at rest e = grind (arith, look, unmoved, no_reset, none-some, is_loud)
 
   pub follows : Follows
   follows = elim (alive_or_dead old old.stage refl) [

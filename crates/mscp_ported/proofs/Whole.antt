@@ -1,6 +1,5 @@
 -- The text of an end that goes out: its number, its bytes, and that it is whole.
-use Rattle.mscp_ported.proofs.Common.{AllByRecursion, BodyKind, Bool, Decided, End, EndBody, Hardware, IsOfKind, IsWhole, List, Moved, None, Option, Port, Shape, Some, [], ap, arith, cond, end_bytes, end_left, end_length, end_with_body, endcodes, ends_formality, false, find, four, head, kind_of_body, kind_of_code, length, nat_eq, none-some, num, option_map, refl, same_Some, slice_get, slice_index, subst, sym, told_end, true, unit_found, ℕ, ◌%◌, ◌*◌, ◌+◌, ◌/◌, ◌<◌, ◌^◌, ◌∙◌, ◌∷◌, ◌≡◌, ◌≤◌}
-use Rattle.mscp_packet.specs.declared.end.EndBody.TheVariants as bodies
+use Rattle.mscp_ported.proofs.Common.{AllByRecursion, BodyKind, Decided, End, EndBody, Hardware, IsOfKind, IsWhole, List, Moved, Option, Port, Shape, Some, arith, end_bytes, end_length, end_with_body, endcodes, ends_formality, false, four, head, kind_of_body, kind_of_code, length, nat_eq, none-some, num, refl, same_Some, slice_get, slice_index, subst, sym, told_end, true, unit_found, ℕ, ◌%◌, ◌*◌, ◌+◌, ◌/◌, ◌<◌, ◌^◌, ◌∙◌, ◌≡◌, ◌≤◌, none_or_some, eqb-true}
 use Rattle.mscp_ported.proofs.Numbered.{counted_in}
 
 -- ---- the text of an end
@@ -10,18 +9,23 @@ body_number : (body : EndBody) (e : End) (d : Decided) (o : Option Shape) (h : H
     → num (end_with_body body e d o h) 0 4 ≡ e.reference
 body_number body e d o h small = grind (arith, four e.reference small)
 
+-- it leaves with what was decided of it: as a formality's, or with its body; or as the controller gave it
+pub told_with : {K : Type 0} (P : List ℕ → Type 0) (p : Port K) (e : End) (d : Decided)
+    → slice_get p.decided.items 0 ≡ Some d
+    → (ends_formality d.code ≡ true → P (head e.reference e.unit d.code d.status))
+    → (ends_formality d.code ≡ false
+    → P (end_with_body e.body e d (unit_found p.controller.settings.units e.unit) p.hardware)) → P (told_end p e)
+told_with P p e d some formal plain = grind arith
+
+pub told_cases : {K : Type 0} (P : List ℕ → Type 0) (p : Port K) (e : End) → P (end_bytes e)
+    → ((d : Decided) → ends_formality d.code ≡ true → P (head e.reference e.unit d.code d.status))
+    → ((d : Decided) → ends_formality d.code ≡ false
+    → P (end_with_body e.body e d (unit_found p.controller.settings.units e.unit) p.hardware)) → P (told_end p e)
+told_cases P p e bare formal plain = grind (arith, none_or_some, told_with)
+
 pub told_number : {K : Type 0} (p : Port K) (e : End) → e.reference < 2 ^ 32 → num (told_end p e) 0 4 ≡ e.reference
-told_number p e small = by (slice_get p.decided.items 0)
-  where
-    by : (o : Option Decided)
-        → num (end_left e o (unit_found p.controller.settings.units e.unit) p.hardware) 0 4 ≡ e.reference
-    by None = four e.reference small
-    by (Some d) = cases (ends_formality d.code)
-      where
-        cases : (c : Bool) → num (cond c (head e.reference e.unit d.code d.status)
-            (end_with_body e.body e d (unit_found p.controller.settings.units e.unit) p.hardware)) 0 4 ≡ e.reference
-        cases true = four e.reference small
-        cases false = body_number e.body e d _ p.hardware small
+told_number p e small = told_cases (λ xs. num xs 0 4 ≡ e.reference) p e (four e.reference small)
+    (λ d formal. four e.reference small) (λ d plain. body_number e.body e d _ p.hardware small)
 
 -- and counts no more bytes than the end
 few_bytes : (x n : ℕ) → x ≤ n
@@ -34,9 +38,7 @@ formal_kind code e h = grind (arith, none-some, e, h)
 body_counts : (body : EndBody) (e : End) (d : Decided) (o : Option Shape) (h : Hardware) (n : ℕ)
     → kind_of_code e.code ≡ Some (kind_of_body body) → e.body ≡ body → counted_in body ≤ n
     → kind_of_code e.code ≡ Some Moved → num (end_with_body body e d o h) 12 4 ≤ n
-body_counts (bodies.Moved count) e d o h n shaped same few is =
-    subst (λ b. num (end_bytes (record e { status = d.status; body = b })) 12 4 ≤ n) (sym same) (few_bytes count n few)
-body_counts body e d o h n shaped same few is = absurd (search (arith, sym shaped ∙ is))
+body_counts body e d o h n shaped same few is = grind (arith, few_bytes)
 
 pub code_of : (body : EndBody) (e : End) (d : Decided) (o : Option Shape) (h : Hardware)
     → slice_index (end_with_body body e d o h) 8 ≡ e.code
@@ -44,50 +46,16 @@ code_of body e d o h = grind arith
 
 pub told_counts : {K : Type 0} (p : Port K) (e : End) (n : ℕ) → IsOfKind e → counted_in e.body ≤ n
     → kind_of_code (slice_index (told_end p e) 8) ≡ Some Moved → num (told_end p e) 12 4 ≤ n
-told_counts {K} p e n shaped few = by (slice_get p.decided.items 0)
-  where
-    unit : Option Shape
-    unit = unit_found p.controller.settings.units e.unit
-
-    plain : (body : EndBody) → e.body ≡ body → kind_of_code e.code ≡ Some (kind_of_body body)
-        → counted_in body ≤ n → kind_of_code e.code ≡ Some Moved
-        → num (end_bytes e) 12 4 ≤ n
-    plain (bodies.Moved count) same shaped few is =
-        subst (λ b. num (end_bytes (record e { body = b })) 12 4 ≤ n) (sym same) (few_bytes count n few)
-    plain body same shaped few is = absurd (search (arith, sym shaped ∙ is))
-
-    by : (o : Option Decided) → kind_of_code (slice_index (end_left e o unit p.hardware) 8) ≡ Some Moved
-        → num (end_left e o unit p.hardware) 12 4 ≤ n
-    by None is = plain e.body refl shaped few is
-    by (Some d) is = cases (ends_formality d.code) refl is
-      where
-        cases : (c : Bool) → ends_formality d.code ≡ c
-            → kind_of_code (slice_index (cond c (head e.reference e.unit d.code d.status)
-            (end_with_body e.body e d unit p.hardware)) 8) ≡ Some Moved
-            → num (cond c (head e.reference e.unit d.code d.status)
-            (end_with_body e.body e d unit p.hardware)) 12 4 ≤ n
-        cases true formal is = absurd (formal_kind d.code formal is)
-        cases false formal is = body_counts e.body e d unit p.hardware n shaped refl few
-            (sym (ap kind_of_code (code_of e.body e d unit p.hardware)) ∙ is)
+told_counts p e n shaped few = grind (arith, told_cases, formal_kind, body_counts, code_of, counted_in, few_bytes)
 
 -- it is a whole end
-code_top : (code : ℕ) (k : BodyKind) → kind_of_code code ≡ Some k → 0x80 ≤ code
-code_top code k e = found endcodes tops e
-  where
-    tops : AllByRecursion (λ x. 0x80 ≤ x.0) endcodes
-    tops = grind arith
+-- what is so of each row of the table of endcodes is so of a code's
+pub in_table : (P : ℕ × BodyKind → Type 0) → AllByRecursion P endcodes → (code : ℕ) (k : BodyKind)
+    → kind_of_code code ≡ Some k → P (code, k)
+in_table P rows code k e = grind (arith, nat_eq, none-some, eqb-true, same_Some)
 
-    found : (xs : List (ℕ × BodyKind)) → AllByRecursion (λ x. 0x80 ≤ x.0) xs
-        → option_map (λ x. x.1) (find (λ x. nat_eq x.0 code) xs) ≡ Some k → 0x80 ≤ code
-    found [] all h = absurd (none-some k h)
-    found (x ∷ xs) all h = by (nat_eq x.0 code) refl h (λ y. found xs all.1 y)
-      where
-        by : (b : Bool) → nat_eq x.0 code ≡ b
-            → option_map (λ (y : ℕ × BodyKind). y.1) (cond b (Some x) (find (λ y. nat_eq y.0 code) xs)) ≡ Some k
-            → (option_map (λ (y : ℕ × BodyKind). y.1) (find (λ y. nat_eq y.0 code) xs) ≡ Some k → 0x80 ≤ code)
-            → 0x80 ≤ code
-        by true is h rest = subst (λ m. 0x80 ≤ m) (Rattle.mscp_port.proofs.Common.eqb-true x.0 code is) all.0
-        by false is h rest = rest h
+code_top : (code : ℕ) (k : BodyKind) → kind_of_code code ≡ Some k → 0x80 ≤ code
+code_top code k e = grind (arith, in_table)
 
 body_long : (body : EndBody) (e : End) (d : Decided) (o : Option Shape) (h : Hardware) → e.body ≡ body
     → (end_length (kind_of_body body)
@@ -107,45 +75,21 @@ formal_none : (code : ℕ) (k : BodyKind) → ends_formality code ≡ true → k
 formal_none code k e h = grind (arith, none-some, e, h)
 
 pub told_whole : {K : Type 0} (p : Port K) (e : End) → IsOfKind e → IsWhole (told_end p e)
-told_whole {K} p e shaped = by (slice_get p.decided.items 0)
+told_whole p e shaped = told_cases IsWhole p e (whole (end_bytes e) refl (plain_long e.body e refl))
+    (λ d formal. record {
+      long = omega arith;
+      short = omega arith;
+      top = formal_top d.code formal;
+      body = λ k is. absurd (formal_none d.code k formal is);
+    })
+    (λ d plain. whole (end_with_body e.body e d _ p.hardware) (code_of e.body e d _ p.hardware)
+    (body_long e.body e d _ p.hardware refl))
   where
-    unit : Option Shape
-    unit = unit_found p.controller.settings.units e.unit
-
-    lengths : (n m : ℕ) (k : BodyKind) → kind_of_code e.code ≡ Some k
-        → end_length (kind_of_body e.body) ≤ n
+    lengths : (n : ℕ) (k : BodyKind) → kind_of_code e.code ≡ Some k → end_length (kind_of_body e.body) ≤ n
         → end_length k ≤ n
-    lengths n m k is h = subst (λ x. end_length x ≤ n)
-        (same_Some (kind_of_body e.body) k (sym shaped ∙ is)) h
+    lengths n k is h = subst (λ x. end_length x ≤ n) (same_Some (kind_of_body e.body) k (sym shaped ∙ is)) h
 
-    by : (o : Option Decided) → IsWhole (end_left e o unit p.hardware)
-    by None =
-        let l = plain_long e.body e refl in
-        record {
-          long = l.1;
-          short = l.2;
-          top = code_top e.code (kind_of_body e.body) shaped;
-          body = λ k is. lengths (length (end_bytes e)) 0 k is l.0;
-        }
-    by (Some d) = cases (ends_formality d.code) refl
-      where
-        cases : (c : Bool) → ends_formality d.code ≡ c
-            → IsWhole (cond c (head e.reference e.unit d.code d.status)
-            (end_with_body e.body e d unit p.hardware))
-        cases true formal = record {
-          long = omega arith;
-          short = omega arith;
-          top = formal_top d.code formal;
-          body = λ k is. absurd (formal_none d.code k formal is);
-        }
-        cases false formal =
-            let l = body_long e.body e d unit p.hardware refl in
-            let code = code_of e.body e d unit p.hardware in
-            record {
-              long = l.1;
-              short = l.2;
-              top = subst (λ x. 0x80 ≤ x) (sym code)
-                  (code_top e.code (kind_of_body e.body) shaped);
-              body = λ k is. lengths (length (end_with_body e.body e d unit p.hardware)) 0 k
-                  (sym (ap kind_of_code code) ∙ is) l.0;
-            }
+    -- a text of so many bytes with the end's code is
+    whole : (xs : List ℕ) → slice_index xs 8 ≡ e.code
+        → (end_length (kind_of_body e.body) ≤ length xs) × (12 ≤ length xs) × (length xs ≤ 64) → IsWhole xs
+    whole xs code l = grind (arith, code_top, lengths)
