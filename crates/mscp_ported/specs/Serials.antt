@@ -1,5 +1,5 @@
 -- What a disk that takes its time relies on: a block that it was given by its serial is that of no other step.
-use Rattle.std.specs.Prelude.{◌≡◌, ◌⊎◌, ◌+◌, ◌<◌, ◌^◌, ℕ, List, [], ◌∷◌, length, Result, Ok, Some, None}
+use Rattle.std.specs.Prelude.{◌≡◌, ◌⊎◌, ◌+◌, ◌<◌, ◌^◌, List, [], ◌∷◌, length, Ok, Some, None}
 use Rattle.mscp_queue.specs.declared.upcoming.Upcoming.{Upcoming}
 use Rattle.mscp_controller.specs.Holdings.{begun_step}
 use Rattle.mscp_port.specs.declared.action.Outcome.{Outcome}
