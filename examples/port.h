@@ -24,7 +24,8 @@ struct port_bus {
     bool (*read_run)(void *machine, uint16_t unit, uint32_t block, uint32_t count, uint8_t *bytes);
     bool (*write_run)(void *machine, uint16_t unit, uint32_t block, uint32_t count, const uint8_t *bytes);
     /* In place of those four, for a disk that takes its time: they begin with a block and return, and port_moved reports it by
-     * its serial when it is done. Blocks are done in the order in which they were begun. The bytes are the port's. */
+     * its serial when it is done. Do blocks in the order in which they were begun, also those that the port wants no more, and copy
+     * the bytes before you return. */
     void (*begin_read)(void *machine, uint16_t unit, uint32_t block, uint64_t serial);
     void (*begin_write)(void *machine, uint16_t unit, uint32_t block, const uint8_t *bytes, uint64_t serial);
     /* A command came from the host, or an end or an attention message is there for it: for logs, NULL where there is none. */
@@ -34,7 +35,8 @@ struct port_bus {
 /* A block that takes its time: none is begun, one is, or it was moved, or it couldn't be. */
 enum port_slow { PORT_IDLE, PORT_BEGUN, PORT_MOVED, PORT_FAILED };
 
-/* A port, with a controller. It holds no pointer but those of its bus: it may be copied, and saved as the bytes after `bus`. */
+/* A port, with a controller. It holds no pointer but those of its bus: it may be copied, and saved as the bytes after `bus`; but
+ * not while a block takes its time: use mscp_port_save and port_restore then. */
 struct port {
     struct port_bus bus;
     uint8_t lines; /* of the bus, an enum mscp_bus */
@@ -43,8 +45,8 @@ struct port {
     } ahead;                         /* blocks that were moved in this turn, and not reported yet */
     uint32_t left; /* actions in this turn */
     enum port_slow slow;
-    uint64_t step;   /* the serial that the port gave its step */
-    uint64_t serial; /* and that by which the disk knows the last block that was begun: these go on over a restore, too */
+    uint64_t step;   /* the port's serial of the step whose block was begun last */
+    uint64_t serial; /* the disk's own of that block: a count that goes on over a restore, too */
     struct {
         uint8_t bytes[MSCP_MESSAGE_MAX];
         uint8_t length; /* 0 if there is none */
@@ -62,8 +64,8 @@ int32_t port_open(struct port *port, const struct port_bus *bus, const struct ms
  * volume answer a status there. */
 struct mscp_port *port_itself(struct port *port);
 
-/* Makes the port that mscp_port_save saved, in place of the one that runs, whose machine, bus and serials stay. If this fails, that
- * one goes on. A status of mscp_port_restore, or MSCP_BAD_BUS if it is a port on another bus. */
+/* Makes the port that mscp_port_save saved, in place of the one that runs, whose machine, bus and count of the disk's serials stay.
+ * If this fails, that one goes on. A status of mscp_port_restore, or MSCP_BAD_BUS if it is a port on another bus. */
 int32_t port_restore(struct port *port, const uint8_t *bytes, size_t length);
 
 /* The host reads or writes a word at the port's first address (IP, with 0) or the second (SA, with 2). */
@@ -74,8 +76,8 @@ void port_write(struct port *port, unsigned offset, uint16_t word);
  * host has to go on a little. Whether more is to be done. */
 bool port_turn(struct port *port, unsigned most);
 
-/* The block of this serial was moved, with the bytes that were read, or it couldn't be. Whether the port still wants it: if not it
- * is dropped, as after an ABORT or a reset. Then it is time for a turn. To be called while no other call is under way. */
+/* The block of this serial was moved, with the bytes that were read, or it couldn't be. Whether it is the one that port.c waits for.
+ * If so it is time for a turn, which drops the block if an ABORT or a reset came. To be called while no other call is under way. */
 bool port_moved(struct port *port, uint64_t serial, bool went_well, const uint8_t *bytes);
 
 /* A second of the machine went by. */

@@ -141,7 +141,7 @@ enum mscp_status {
 
     MSCP_BAD_BUS = -33,          /* mscp_port_init: no enum mscp_bus */
     MSCP_BAD_HOST_CREDITS = -34, /* mscp_port_init: the host's are 0, or not below those of the first connection */
-    MSCP_BAD_OUTCOME = -35,      /* mscp_port_went: no enum mscp_outcome, or a block's status of low five bits 0 to 4 */
+    MSCP_BAD_OUTCOME = -35,      /* mscp_port_went, _went_by: no enum mscp_outcome, or a block's status of low five bits 0 to 4 */
     MSCP_UNASKED = -36,          /* the port didn't want what was reported */
     MSCP_UNKNOWN_UNIT = -37,     /* no unit has this number */
     MSCP_BAD_SIZE = -38,         /* mscp_port_volume_came: a volume without blocks, or with more than its unit has */
@@ -376,7 +376,7 @@ struct mscp_end {
 
 /* What the next step serves. */
 struct mscp_upcoming {
-    uint64_t serial;    /* of a port's step, as mscp_port_next tells it; 0 of a controller's */
+    uint64_t serial;    /* of a port's step, which mscp_port_next tells with a TRANSFER; 0 of a controller's */
     uint32_t reference; /* of the command */
     uint32_t bytes;     /* of a transfer in all, 0 of another command */
     uint32_t lbn;       /* the block that the step touches, if it touches one */
@@ -459,7 +459,7 @@ struct mscp_watch {
 
 /* What a port wants done. What its kind doesn't say is 0. */
 struct mscp_action {
-    uint64_t serial;   /* of TRANSFER: the next of a count for each block that is begun, and the same for one that is wanted anew */
+    uint64_t serial;   /* of TRANSFER: 1 or more, higher for each block that is begun, and the same for one that is wanted anew */
     uint32_t address;  /* in host memory, on the bus */
     uint32_t count;    /* how many bytes: at most 64 of READ and WRITE, and MSCP_BLOCK of TRANSFER */
     uint32_t block;    /* of TRANSFER */
@@ -981,14 +981,16 @@ int32_t mscp_port_write_sa(struct mscp_port *port, uint16_t word);
 
 /* What the port wants done next. MSCP_DONE, or MSCP_NOTHING until a register is touched, a volume comes or goes, the
  * clock ticks, or it is to look again. Until you report how its action went the port answers the same, unless a
- * register is touched, or a volume comes, goes, or is protected or no more. The processor may run meanwhile: if the port
- * no longer wants the action, a report of it is answered by MSCP_UNASKED: ask again. The same holds of a block if a volume
+ * register is touched, a volume comes, goes, or is protected or no more, the clock ticks, the port is to look again, or messages
+ * alone are asked for. The processor may run meanwhile: if the port no longer wants the action, a report of it is answered by
+ * MSCP_UNASKED: ask again. The same holds of a block if a volume
  * changed: the port wants the block once more, or its command ends. */
 MSCP_MUST_USE int32_t mscp_port_next(struct mscp_port *port, struct mscp_action *action);
 
 /* What the port wants done next while a block takes its time: polls are answered, messages come and go, and no block is
  * begun. A TRANSFER that was in hand is put aside, and mscp_port_next wants it anew. So an emulator that mscp_port_next asks for a
- * block may go on by this call until the block's time has come, and do it then. Otherwise it is like mscp_port_next. */
+ * block may go on by this call until the block's time has come. Then it asks mscp_port_next, and does the block if that wants it
+ * with the same serial. Otherwise this is like mscp_port_next. */
 MSCP_MUST_USE int32_t mscp_port_next_message(struct mscp_port *port, struct mscp_action *action);
 
 /* These bytes were read in host memory, as the port wanted: just as many. MSCP_DONE, or MSCP_UNASKED. */
@@ -1100,7 +1102,8 @@ MSCP_INLINE int32_t mscp_port_save(const struct mscp_port *port, uint8_t *bytes,
 /* Makes the port that was saved, as mscp_restore makes a controller: it goes on as it would have there. MSCP_DONE, or the
  * first fault of those of the memory (-12 to -15) and those of the bytes (-40 to -54 and MSCP_SAVED_SIZE), which may be those
  * of its controller's. Bytes of a stranger make a port with which every call is safe, and which moves only blocks that its units
- * have, or none. This takes up to 18 KiB of the stack, and mscp_port_save up to 36. */
+ * have, or none. Its serials go on behind the one that was saved, and may be those of blocks that a disk is still at. This takes up
+ * to 18 KiB of the stack, and mscp_port_save up to 36. */
 MSCP_MUST_USE
 MSCP_INLINE int32_t mscp_port_restore(struct mscp_port *port, const uint8_t *bytes, size_t length)
 {

@@ -1,6 +1,6 @@
 /* A disk on a thread (examples/threaded.c) behind examples/port.c, beside a model of what each block may have. The host sends READs,
  * WRITEs and ERASEs, aborts some and gives their numbers to the same commands with other bytes; volumes are exchanged, and the port
- * is begun anew, while blocks are under way. No READ gets bytes that its block can't have.
+ * is begun anew or restored, while blocks are under way. No READ gets bytes that its block can't have.
  *
  *     slow [BLOCKS [SEED]]
  *
@@ -241,6 +241,15 @@ static void begin_anew(void)
     online(2);
 }
 
+/* The port is restored in its own place: a block that is under way is begun once more, and what the disk says of it first is dropped. */
+static void restore(void)
+{
+    uint8_t bytes[MSCP_PORT_SAVED_MAX];
+    size_t length = 0;
+    is("it is saved", mscp_port_save(machine.port, bytes, sizeof bytes, &length), MSCP_DONE);
+    is("it is restored", port_restore(&port, bytes, length), MSCP_DONE);
+}
+
 /* The other volume comes into a unit. What is out ends. */
 static void exchange(uint16_t unit)
 {
@@ -274,6 +283,7 @@ int main(int words, char **word)
         switch (below(2000)) {
         case 0: begin_anew(); break;
         case 1: exchange((uint16_t)(2 * below(2))); break;
+        case 2: case 3: case 4: restore(); break;
         default:
             if (below(3) == 0)
                 send_one(below(SLOTS));

@@ -41,7 +41,7 @@ pub enum Action {
         count: usize,
         /// Which way.
         way: Way,
-        /// The next of a count for each block that is begun, and the same for one that is wanted anew: for
+        /// 1 or more, higher for each block that is begun, and the same for one that is wanted anew: for
         /// [`Port::went_by`](crate::Port::went_by).
         serial: u64,
     },

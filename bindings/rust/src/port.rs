@@ -155,8 +155,8 @@ impl Port {
     }
 
     /// What the port wants done next, or `None` until a register is touched, a volume comes or goes, the clock ticks, or it is
-    /// to look again. Until you report how it went the port answers the same, unless a register is touched, or the volume of
-    /// the action's unit comes or goes.
+    /// to look again. Until you report how it went the port answers the same, unless a register is touched, a volume comes, goes,
+    /// or is protected or no more, the clock ticks, the port is to look again, or messages alone are asked for.
     #[allow(clippy::should_implement_trait)] // it is no end if this answers None
     pub fn next(&mut self) -> Option<Action> {
         let mut action = raw::Action::ZERO;

@@ -15,8 +15,8 @@ IsBegunStill picks u one other [] a = begun_step other.controller ≡ Some u
 IsBegunStill picks u one other (call ∷ earlier) a =
     (begun_step other.controller ≡ Some u) × IsBegunStill picks u one a.0 earlier a.1
 
--- the law of serials: a step is begun, and whoever calls the port, fewer than 2^64 times: as long as the serial given
--- last is its own, it is begun still, or nothing is
+-- the law of serials: a step is begun, and whoever calls the port, while its serial and the calls are together below
+-- 2^64: as long as the serial given last is its own, it is begun still, or nothing is
 abbrev pub PortsGiveSerialsOnce : {K : Type 0} → Picking K → Type 0
 PortsGiveSerialsOnce {K} picks = (one other : Port K) (calls : List Call) (u : Upcoming)
     → one.serial + length calls < 2 ^ 64 → begun_step one.controller ≡ Some u → (a : Answered picks one calls other)

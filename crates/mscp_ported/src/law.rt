@@ -262,10 +262,11 @@ pub fn ports_serve_who_asks_behind_polls<K: Picker>(picker: &K)
     let _ = picker;
 }
 
-/// A port has begun a step, and tells it with its serial. Whoever calls it then, fewer than 2^64 times: as long as that serial is the
-/// last one, just that step is begun, without an end between, or nothing is. So two blocks that are told with one serial are one
-/// block of one command; and a block that is reported by its serial is the one that was told with it, however often its command's
-/// number was used again: no ABORT of it, no reset and no other report of it came meanwhile.
+/// A port has begun a step, and tells it with its serial. Whoever calls it then, while that serial and the calls since are together
+/// below 2^64: as long as that serial is the last one, just that step is begun, without an end between, or nothing is. So two
+/// blocks that are told with one serial are one block of one command. If the port hears of a block by its serial, that is the block
+/// that was told with it, however often its command's number was used again: no ABORT of it, no reset and no other report of it came
+/// meanwhile. Or the controller serves nothing by it, as after the restore of a stranger's bytes.
 pub fn ports_give_serials_once<K: Picker>(picker: &K)
     ensures serials { PortsGiveSerialsOnce K.picks }
     ensures blocks { PortsHearOfTheirBlocks K.picks }

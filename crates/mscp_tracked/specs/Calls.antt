@@ -106,7 +106,7 @@ pub record KeepsSerials {K : Type 0} (picks : List Choice → ℕ → Type 0)
   pub finishes : FinishesAreOwn calls
   pub failures : FailuresAreNothing picks first calls held
 
--- the law: every list of calls keeps that promise, while fewer than 2^64 beginnings were told
+-- the law: every list of calls keeps that promise, while the beginnings and the calls are together below 2^64
 abbrev pub SerialsAreKept : {K : Type 0} → (List Choice → ℕ → Type 0) → K → Type 0
 SerialsAreKept {K} picks picker = (first held : Tracking K) (calls : List Call)
     → first.beginnings + length calls < 2 ^ 64 → AnsweredCalls picks first calls held

@@ -5,8 +5,8 @@ ghost use Rattle.mscp_tracked.specs.Cookied.{CookiesAreKept};
 
 use mscp_controller::Picker;
 
-/// Whatever is called of a tracked controller over this picker, restores of what was just saved too, while fewer than 2^64
-/// beginnings were told: two begins that tell one serial tell the same step, and no step, no ABORT of its command and no reset
+/// Whatever is called of a tracked controller over this picker, restores of what was just saved too, while its count of
+/// beginnings and the calls are together below 2^64: two begins that tell one serial tell the same step, and no step, no ABORT of its command and no reset
 /// lies between them. A finish by a serial happens exactly if none of these came since a begin told it, and then serves the
 /// block that this begin told. One that fails is as if nobody had called it.
 pub fn serials_are_kept<K: Picker>(picker: &K)

@@ -41,8 +41,9 @@ impl<K: Picker> Port<K> {
         Some(self.volumes[place])
     }
 
-    /// The serial of the step that is begun, if one is, as of the block that `next` told last: the next of a count, which a
-    /// reset leaves. A block that was put aside, or whose unit's volume changed, keeps its serial as long as its step is begun.
+    /// The serial of the step that is begun, if one is: while `next` wants a block it is that block's. Each step that is begun
+    /// gets the next of a count, which a reset leaves. A block that was put aside, or whose unit's volume changed, keeps its
+    /// serial as long as its step is begun.
     pub fn serial(&self) -> Option<u64>
         ensures { result ≡ serial_begun self.now }
     {
