@@ -1,5 +1,5 @@
 -- What is done for a step that moves a block goes by its part alone.
-use Rattle.mscp_port.proofs.Common.{Bool, Buffer, Err, List, MoveKind, None, Ok, Option, Order, Port, Result, Some, Task, Upcoming, Verdict, Volume, ap, arith, begun_step, begun_task, changed_verdict, false, good_step, has_changed, if◌then◌else◌, is_available, kept_of, known_task, move_of, move_task, move_wanted, moved_by, part_at, part_now, part_of, part_task, part_wanted, part_with, place_in, refl, refusal_of, sym, takes_any_volume, task_of, true, unless_fault, volume_at, ℕ, ◌∙◌, ◌≡◌}
+use Rattle.mscp_port.proofs.Common.{Bool, Buffer, Err, List, MoveKind, None, Ok, Option, Order, Port, Result, Some, Task, Upcoming, Verdict, Volume, ap, arith, begun_task, changed_verdict, false, good_step, has_changed, if◌then◌else◌, is_available, kept_of, known_task, move_of, move_task, move_wanted, moved_by, part_at, part_now, part_of, part_task, part_wanted, part_with, place_in, refl, refusal_of, sym, takes_any_volume, task_of, true, unless_fault, volume_at, ℕ, ◌∙◌, ◌≡◌}
 use Rattle.std.specs.Prelude.{◌&&◌}
 use Rattle.mscp_port.specs.declared.action.Action.TheVariants as actions
 use Rattle.mscp_port.specs.declared.task.Task.TheVariants as tasks
