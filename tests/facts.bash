@@ -294,6 +294,8 @@ docs/USING.md|% to 64 on the first connection|crates/mscp_drive/specs/Settings.a
 docs/USING.md|none or 2 to % on the second|crates/mscp_drive/specs/Settings.antt:few_credits : c.credits \+ c.second ≤ [0-9]+|2
 docs/USING.md|none or % to|crates/mscp_drive/specs/Settings.antt:second_credits : \(c.second ≡ 0\) ⊎ \([0-9]+
 docs/USING.md|at most % on both|crates/mscp_drive/specs/Settings.antt:few_credits : c.credits \+ c.second ≤ [0-9]+
+examples/simh/rq_show.c|HEAD = % + 16|crates/mscp_port/specs/Saved.antt:head_size = [0-9]+
+examples/simh/rq_show.c|bytes[VERSION] == %;|crates/mscp_port/specs/Saved.antt:^version = [0-9]+
 examples/simh/rq_show.c|A_KEPT = %,|crates/mscp_port/specs/Saved.antt:buffer_size = [0-9]+
 examples/simh/rq_show.c|AN_END = %,|crates/mscp_port/specs/Saved.antt:decided_size = [0-9]+
 include/mscp.h|the first's credits aren't % to 64|crates/mscp_drive/specs/Settings.antt:some_credits : [0-9]+

@@ -4,7 +4,7 @@
 
 /* Where something stands in the bytes of a saved port, and how long the parts are: docs/SAVED.md has them. */
 enum {
-    VERSION = 4, HOST_WORD = 30, TEXT = 71, KEPT = 72, ENDS = 73, HEAD = 74 + 16 * 18, A_KEPT = 21, AN_END = 13,
+    VERSION = 4, HOST_WORD = 30, TEXT = 71, KEPT = 72, ENDS = 73, HEAD = 82 + 16 * 18, A_KEPT = 21, AN_END = 13,
     DRIVES = 31, CONTROLLER_HEAD = 48, A_DRIVE = 34, A_COMMAND = 41, UNIT = 4, OPCODE = 8, STEPS = 32
 };
 
@@ -24,7 +24,7 @@ static const uint8_t *commands_of (const uint8_t *saved)
 static int save (const struct mscp_port *port, uint8_t *bytes)
 {
     size_t length;
-    return mscp_port_save (port, bytes, MSCP_PORT_SAVED_MAX, &length) == MSCP_DONE && bytes[VERSION] == 2;
+    return mscp_port_save (port, bytes, MSCP_PORT_SAVED_MAX, &length) == MSCP_DONE && bytes[VERSION] == 3;
 }
 
 static const char *name_of (uint8_t opcode)

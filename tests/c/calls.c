@@ -174,7 +174,7 @@ static void a_read_that_is_polled(void)
     struct mscp *mscp = controller();
     struct mscp_sent sent;
     struct mscp_packet end;
-    struct mscp_upcoming next = {7, 7, 7, 7, 7, 7, 7, 7, 7};
+    struct mscp_upcoming next = {7, 7, 7, 7, 7, 7, 7, 7, 7, 7};
     struct mscp_report report = {7, 7, 7, 7, 7, 7, 7, 7, 7};
     struct mscp_waiting figures[2] = {{7, 7, 7}, {7, 7, 7}};
     bring_online(mscp);

@@ -53,7 +53,7 @@ static void look_into(void)
     struct mscp_hardware kind = {0, 0, 0, 0};
     struct mscp_state state = {0, 0, 0};
     struct mscp_volume volume;
-    struct mscp_upcoming begun = {0, 0, 0, 0, 0, 0, 0, 0, 0};
+    struct mscp_upcoming begun = {0, 0, 0, 0, 0, 0, 0, 0, 0, 0};
     struct mscp_waiting list[64];
     struct mscp_holder holders[64];
     size_t room = any(5) ? 64 : any(8);

@@ -84,7 +84,7 @@ static inline void takes_nothing(uint32_t connection)
 static inline void begins(uint32_t connection, uint32_t reference, uint8_t opcode, uint32_t bytes, int64_t block,
                           uint32_t done, uint32_t weight)
 {
-    struct mscp_upcoming next = {0, 0, 0, 0, 0, 0, 0, 0, 0};
+    struct mscp_upcoming next = {0, 0, 0, 0, 0, 0, 0, 0, 0, 0};
     is("begin", mscp_begin(mscp, &next), MSCP_DONE);
     is("whose", next.connection, connection);
     is("its number", next.reference, reference);

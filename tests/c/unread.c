@@ -51,6 +51,7 @@ void calls(struct mscp *mscp, struct mscp_host *host, const struct mscp_limits *
     mscp_port_next_message(port, action);
     mscp_port_was_read(port, bytes, 4);
     mscp_port_went(port, MSCP_OUTCOME_DONE, 0);
+    mscp_port_went_by(port, 1, MSCP_OUTCOME_DONE, 0);
     mscp_port_volume_came(port, 0, medium);
     mscp_port_volume_went(port, 0);
     mscp_port_protect(port, 0, 1);
