@@ -40,7 +40,7 @@ fn transfer<B: Bus + ?Sized>(
 /// A port between a host's bus and a controller of its own: two registers, rings, credits, and volumes.
 ///
 /// It does no input or output. [`Port::turn`] has a [`Bus`] do what it wants. Who gives a transfer its time asks by
-/// [`Port::next`] and [`Port::next_message`], and reports how it went by [`Port::went`].
+/// [`Port::next`] and [`Port::next_message`], and reports the block by [`Port::went_by`].
 pub struct Port {
     held: Held<{ raw::PORT_SIZE / 8 }>,
     bus: BusKind,
@@ -306,7 +306,7 @@ impl Port {
         Ok(volume.into())
     }
 
-    /// The step that is begun: if the port wants a block moved, its command and its block.
+    /// The step that is begun: if the port wants a block moved, its command and its block, with its serial.
     #[must_use]
     pub fn begun(&self) -> Option<Upcoming> {
         let mut upcoming = raw::Upcoming::ZERO;
