@@ -12,7 +12,7 @@ pub use Rattle.mscp_c.specs.Made.{config_fault}
 pub use Rattle.mscp_c.specs.PortGiven.{outcome_given}
 pub use Rattle.mscp_c.specs.PortHandleCalls.{Begun, Configured, Hardware, KeepsPortPromise, Look, LookAgain, Next, NextMessage, Protect, ReadIp, ReadSa, Resume, State, TellsOutcome, Tick, Volume, VolumeCame, VolumeWent, WasRead, Went, WentBy, Why, WriteIp, WriteSa}
 pub use Rattle.mscp_c.specs.PortMade.{port_init_answer, port_init_fault}
-pub use Rattle.mscp_c.specs.PortServed.{TellsHeard, TellsPut, TellsVolume, put_code, TellsWanted, TellsWent, TellsWentBy, told_code, volume_code}
+pub use Rattle.mscp_c.specs.PortServed.{TellsAnswer, TellsHeard, TellsPut, TellsVolume, put_code, TellsWanted, TellsWent, TellsWentBy, told_code, volume_code}
 pub use Rattle.mscp_c.specs.PortTold.{action_told, next_code, serial_told}
 pub use Rattle.mscp_c.specs.Restoring.{policy_named, policy_number, restored_by, saved_by}
 pub use Rattle.mscp_c.specs.Saving.{placed_or, restores_unless, room_after, save_code}
@@ -59,7 +59,8 @@ pub use Rattle.mscp_packet.specs.Commands.{IsCommand, command_of}
 pub use Rattle.mscp_packet.specs.declared.command.Command.{Command}
 pub use Rattle.mscp_packet.specs.declared.reading.PacketFault.{PacketFault}
 pub use Rattle.mscp_port.proofs.Comes.{number_told}
-pub use Rattle.mscp_port.specs.Calls.{Changes, Goes, GoesBy, Hears, PutsIn, Wants}
+pub use Rattle.mscp_port.specs.Calls.{Goes, GoesBy, Hears, Wants}
+pub use Rattle.mscp_port.specs.Watching.{Changes, PutsIn}
 pub use Rattle.mscp_port.specs.Histories.{Answered, Becomes}
 pub use Rattle.mscp_port.specs.Moved.{BeginsBlock, Moves}
 pub use Rattle.mscp_port.specs.Ports.{IsAlive, IsOfBlock}

@@ -37,7 +37,7 @@ went number block status None old new refused = (
 went number block status (Some outcome) old new t = (
   calls.Went outcome t.answer ∷ [],
   (t.answer, refl, t.code),
-  λ start told a. (old.held, a, t.goes),
+  λ start told a. (old.held, a, t.follows),
 )
 
 -- an answer that is none is told as not asked for
@@ -75,7 +75,7 @@ went_by serial number block status None old new refused = (
   λ start told a. subst (Answered PolicyPicks start told) (ap (λ h. h.held) (sym refused.1)) a,
 )
 went_by serial number block status (Some outcome) old new t =
-    went_with (is_of_serial serial old.held.task old.held.serial) outcome status old.held new.held t.answer t.goes
+    went_with (is_of_serial serial old.held.task old.held.serial) outcome status old.held new.held t.answer t.follows
     t.code
 
 call_is : (call : HandleCall) (old new : Handle) → AnswersHandle old call new → Is call old.held new.held
@@ -94,7 +94,7 @@ call_is (NextMessage before status after) old new r = record {
   becomes = λ start told a. (put_aside old.held, (old.held, a, refl), (r.wants, refl));
 }
 call_is (WasRead bytes status) old new r =
-    one (WasRead bytes status) (calls.WasRead bytes r.answer) old.held new.held (r.answer, refl, r.code) r.hears
+    one (WasRead bytes status) (calls.WasRead bytes r.answer) old.held new.held (r.answer, refl, r.code) r.follows
 call_is (Went number block status) old new r =
     let w = went number block status (outcome_given number block) old new r in
     record { next = w.0; tells = w.1; becomes = w.2 }
@@ -106,11 +106,11 @@ call_is (LookAgain status) old new r =
 call_is (Tick status) old new r = one (Tick status) calls.Tick old.held new.held (refl, r.1) r.0.leaves
 call_is (VolumeCame unit medium status) old new r =
     one (VolumeCame unit medium status) (calls.VolumeCame _ unit r.answer) old.held new.held (r.answer, refl, r.code)
-    r.puts
+    r.follows
 call_is (VolumeWent unit status) old new r =
-    one (VolumeWent unit status) (calls.VolumeWent unit r.answer) old.held new.held (r.answer, refl, r.code) r.changes
+    one (VolumeWent unit status) (calls.VolumeWent unit r.answer) old.held new.held (r.answer, refl, r.code) r.follows
 call_is (Protect unit flag status) old new r =
-    one (Protect unit flag status) (calls.Protect _ unit r.answer) old.held new.held (r.answer, refl, r.code) r.changes
+    one (Protect unit flag status) (calls.Protect _ unit r.answer) old.held new.held (r.answer, refl, r.code) r.follows
 call_is (Configured limits units answer limits' units') old new r =
     none (Configured limits units answer limits' units') old.held new.held (refl, r.0) (ap (λ h. h.held) r.1)
 call_is (Hardware before status after) old new r =

@@ -9,7 +9,7 @@ pub use Rattle.mscp_c.specs.PortGiven.{medium_given, outcome_given}
 pub use Rattle.mscp_c.specs.PortHandleCalls.{PortHandlesKeepThePromise}
 pub use Rattle.mscp_c.specs.PortMade.{port_init_answer, port_init_code, port_init_fault}
 pub use Rattle.mscp_c.specs.PortSeen.{bus_told, hardware_told, seen_code, state_told, volume_told}
-pub use Rattle.mscp_c.specs.PortServed.{Holds, MakesPort, TellsHeard, TellsPut, TellsVolume, TellsWanted, TellsWent, TellsWentBy, put_code, told_code, volume_code}
+pub use Rattle.mscp_c.specs.PortServed.{Holds, MakesPort, TellsAnswer, TellsHeard, TellsPut, TellsVolume, TellsWanted, TellsWent, TellsWentBy, put_code, told_code, volume_code}
 pub use Rattle.mscp_c.specs.PortTold.{action_told, next_code, of_kind, of_memory, of_transfer, serial_told, with_bytes}
 pub use Rattle.mscp_c.specs.Restoring.{policy_number}
 pub use Rattle.mscp_c.specs.Running.{HasText, IsLine, IsNoPacket, IsShort, TellsFault, cause_code, show_code}
@@ -28,7 +28,8 @@ pub use Rattle.mscp_packet.specs.Opcodes.{move_byte}
 pub use Rattle.mscp_port.specs.Messages.{volume_of}
 pub use Rattle.mscp_port.specs.Volumes.{volume_changed, volume_protected}
 pub use Rattle.mscp_port.specs.Wanted.{bytes_wanted}
-pub use Rattle.mscp_port.specs.Calls.{LooksAgain, ReadsIp, Ticks, WritesIp, WritesSa, sa_of}
+pub use Rattle.mscp_port.specs.Calls.{ReadsIp, WritesIp, WritesSa, sa_of}
+pub use Rattle.mscp_port.specs.Watching.{LooksAgain, Ticks}
 pub use Rattle.mscp_queue.specs.Drives.{is_online_in}
 pub use Rattle.mscp_reader.specs.Grammar.{IsFault}
 pub use Rattle.mscp_script.specs.Simulated.{IsReport}

@@ -6,6 +6,7 @@ use Rattle.mscp_port.specs.declared.action.Outcome.{Outcome}
 use Rattle.mscp_port.specs.declared.action.Unasked.{Unasked}
 use Rattle.mscp_port.specs.declared.port.watching.NoUnit.{NoUnit}
 use Rattle.mscp_port.specs.Calls as ports
+use Rattle.mscp_port.specs.Watching as watched
 use Rattle.mscp_memory.specs.Policies.{PolicyPicks}
 use Rattle.mscp_port.specs.Histories.{Answered, Becomes, Call}
 use Rattle.mscp_port.specs.Histories as calls
@@ -95,8 +96,8 @@ AnswersHandle old (Went number block status) new =
 AnswersHandle old (WentBy serial number block status) new =
     MatchOption (outcome_given number block) ((status ≡ BAD_OUTCOME) × (new ≡ old))
     (λ outcome. TellsWentBy serial outcome old status new)
-AnswersHandle old (LookAgain status) new = Holds ports.LooksAgain old new × (status ≡ DONE)
-AnswersHandle old (Tick status) new = Holds ports.Ticks old new × (status ≡ DONE)
+AnswersHandle old (LookAgain status) new = Holds watched.LooksAgain old new × (status ≡ DONE)
+AnswersHandle old (Tick status) new = Holds watched.Ticks old new × (status ≡ DONE)
 AnswersHandle old (VolumeCame unit medium status) new = TellsPut (medium_given medium) unit old status new
 AnswersHandle old (VolumeWent unit status) new = TellsVolume (volume_changed false) unit old status new
 AnswersHandle old (Protect unit flag status) new =

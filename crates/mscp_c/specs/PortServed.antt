@@ -11,6 +11,7 @@ use Rattle.mscp_port.specs.declared.volumes.Volume.{Volume}
 use Rattle.mscp_port.specs.declared.volumes.VolumeFault.{VolumeFault}
 use Rattle.mscp_port.specs.declared.volumes.VolumeFault.TheVariants as faults
 use Rattle.mscp_port.specs.Calls as ports
+use Rattle.mscp_port.specs.Watching as watched
 use Rattle.mscp_memory.specs.PortHandles.{Handle, Held, placed, with_held}
 use Rattle.mscp_memory.specs.declared.policy.Policy.TheVariants.{Oldest}
 use Rattle.mscp_memory.specs.Policies.{PolicyPicks}
@@ -57,26 +58,27 @@ abbrev pub told_code : Result (Unit {0}) Unasked → ℤ
 told_code (Ok done) = DONE
 told_code (Err unasked) = UNASKED
 
--- it tells what came of bytes that were read
-pub record TellsHeard (bytes : List ℕ) (old : Handle) (status : ℤ) (new : Handle) : Type 0 where
-  pub answer : Result (Unit {0}) Unasked
-  pub hears : ports.Hears bytes old.held answer new.held
+-- a call of what the handle holds was answered so, and its status tells the answer
+pub record TellsAnswer {Answer : Type 0} (code_of : Answer → ℤ) (Follows : Held → Answer → Held → Type 0) (old : Handle)
+    (status : ℤ) (new : Handle) : Type 0 where
+  pub answer : Answer
+  pub follows : Follows old.held answer new.held
   pub rest : new ≡ with_held old new.held
-  pub code : status ≡ told_code answer
+  pub code : status ≡ code_of answer
+
+-- it tells what came of bytes that were read
+abbrev pub TellsHeard : List ℕ → Handle → ℤ → Handle → Type 0
+TellsHeard bytes = TellsAnswer told_code (ports.Hears bytes)
 
 -- it tells what came of an action that went so. Of each action just what follows this outcome of it
-pub record TellsWent (outcome : Outcome) (old : Handle) (status : ℤ) (new : Handle) : Type 0 where
-  pub answer : Result (Unit {0}) Unasked
-  pub goes : ports.Goes (PolicyPicks old.held.controller.picker) outcome old.held answer new.held
-  pub rest : new ≡ with_held old new.held
-  pub code : status ≡ told_code answer
+abbrev pub TellsWent : Outcome → Handle → ℤ → Handle → Type 0
+TellsWent outcome =
+    TellsAnswer told_code (λ old. ports.Goes (PolicyPicks old.controller.picker) outcome old)
 
 -- of one that tells of a block by its serial
-pub record TellsWentBy (serial : ℕ) (outcome : Outcome) (old : Handle) (status : ℤ) (new : Handle) : Type 0 where
-  pub answer : Result (Unit {0}) Unasked
-  pub goes : ports.GoesBy (PolicyPicks old.held.controller.picker) serial outcome old.held answer new.held
-  pub rest : new ≡ with_held old new.held
-  pub code : status ≡ told_code answer
+abbrev pub TellsWentBy : ℕ → Outcome → Handle → ℤ → Handle → Type 0
+TellsWentBy serial outcome =
+    TellsAnswer told_code (λ old. ports.GoesBy (PolicyPicks old.controller.picker) serial outcome old)
 
 -- the status of a volume that went, or whose protection was switched: done, or there is no such unit
 abbrev pub volume_code : Result (Unit {0}) NoUnit → ℤ
@@ -84,11 +86,8 @@ volume_code (Ok done) = DONE
 volume_code (Err fault) = UNKNOWN_UNIT
 
 -- it tells what came of a volume of a unit that went, or whose protection was switched
-pub record TellsVolume (becomes : Volume → Volume) (unit : ℕ) (old : Handle) (status : ℤ) (new : Handle) : Type 0 where
-  pub answer : Result (Unit {0}) NoUnit
-  pub changes : ports.Changes becomes unit old.held answer new.held
-  pub rest : new ≡ with_held old new.held
-  pub code : status ≡ volume_code answer
+abbrev pub TellsVolume : (Volume → Volume) → ℕ → Handle → ℤ → Handle → Type 0
+TellsVolume becomes unit = TellsAnswer volume_code (watched.Changes becomes unit)
 
 -- the status of a volume that came
 abbrev pub put_code : Result (Unit {0}) VolumeFault → ℤ
@@ -97,8 +96,5 @@ put_code (Err faults.NoUnit) = UNKNOWN_UNIT
 put_code (Err faults.Size) = BAD_SIZE
 
 -- and of one that came
-pub record TellsPut (m : Medium) (unit : ℕ) (old : Handle) (status : ℤ) (new : Handle) : Type 0 where
-  pub answer : Result (Unit {0}) VolumeFault
-  pub puts : ports.PutsIn m unit old.held answer new.held
-  pub rest : new ≡ with_held old new.held
-  pub code : status ≡ put_code answer
+abbrev pub TellsPut : Medium → ℕ → Handle → ℤ → Handle → Type 0
+TellsPut m unit = TellsAnswer put_code (watched.PutsIn m unit)

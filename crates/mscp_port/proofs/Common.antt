@@ -40,7 +40,8 @@ pub use Rattle.mscp_port.specs.Acted.{WritesOut}
 pub use Rattle.mscp_port.specs.Areas.{AreRings, Rings, rings_named, slot_in}
 pub use Rattle.mscp_port.specs.Blocks.{block_told, changed_verdict, good_step, has_changed, is_available, kept_at, kept_of, move_of, move_task, moved_by, part_task, part_with, refusal_of, takes_any_volume, task_of, unless_fault, writes}
 pub use Rattle.mscp_port.specs.Buffers.{IsInBuffer, is_of, kept_beside, part_of, without_aborted}
-pub use Rattle.mscp_port.specs.Calls.{Changes, ChangesByActing, ChangesVolume, Dies, Goes, Hears, HoldsPacket, IsMadeOf, PutsIn, ReadsIp, StaysInStage, TakesStep, Ticks, Wants, WritesSa, read_again, step_again, step_answered, step_at}
+pub use Rattle.mscp_port.specs.Calls.{ChangesByActing, Dies, Goes, Hears, HoldsPacket, IsMadeOf, ReadsIp, StaysInStage, TakesStep, Wants, WritesSa, read_again, step_answered}
+pub use Rattle.mscp_port.specs.Watching.{Changes, ChangesVolume, PutsIn, Ticks, step_again, step_at}
 pub use Rattle.mscp_port.specs.Codes.{IsTask, bus_byte, bus_in, coded_task, has_size, number_or_none, optional, some_byte, stage_byte, stage_in, stage_word, task_in}
 pub use Rattle.mscp_port.specs.Decided.{answer_of, decided_answers, decided_in}
 pub use Rattle.mscp_port.specs.Departures.{IsDelivered, IsForgotten, IsWritten, Told, begins, begun, disk_credits, ends_in, gone, leaves}

@@ -11,7 +11,8 @@ pub use Rattle.mscp_port.specs.Acted.{Clears, GivesBack, WritesOut, counted, ste
 pub use Rattle.mscp_port.specs.Areas.{AreRings, IsInArea, end_of, rings_named, slot_in, slots_of}
 pub use Rattle.mscp_port.specs.Blocks.{kept_of, move_of, part_with, refusal_of, task_of}
 pub use Rattle.mscp_port.specs.Buffers.{IsInBuffer, is_of, kept_beside, part_of, without, without_aborted}
-pub use Rattle.mscp_port.specs.Calls.{Changes, ChangesByReading, ChangesBySaying, ChangesByService, ChangesByWord, Dies, Goes, GoesBy, Hears, IsMadeOf, IsQuiet, LooksAgain, PutsIn, ReadsIp, TakesStep, Ticks, Wants, WritesIp, WritesSa, sa_of, step_again}
+pub use Rattle.mscp_port.specs.Calls.{ChangesByReading, ChangesBySaying, ChangesByService, ChangesByWord, Dies, Goes, GoesBy, Hears, IsMadeOf, ReadsIp, TakesStep, Wants, WritesIp, WritesSa, sa_of}
+pub use Rattle.mscp_port.specs.Watching.{Changes, IsQuiet, LooksAgain, PutsIn, Ticks, step_again}
 pub use Rattle.mscp_port.specs.Codes.{number_or_none, optional, stage_in, stage_word}
 pub use Rattle.mscp_port.specs.Decided.{answer_decided, decided_after, decided_answers, decided_step}
 pub use Rattle.mscp_port.specs.Departures.{PortsFillTheirSlots, PortsSpeakInOrder, PortsTellTheirCredits}

@@ -18,7 +18,8 @@ use Rattle.mscp_port.specs.declared.volumes.VolumeFault.{VolumeFault}
 use Rattle.mscp_port.specs.Volumes.{volume_changed, volume_protected}
 use Rattle.mscp_port.specs.Areas.{Rings, IsInArea, rings_named}
 use Rattle.mscp_port.specs.Buffers.{buffer_in, IsInBuffer}
-use Rattle.mscp_port.specs.Calls.{Changes, Goes, Hears, IsMadeOf, LooksAgain, PutsIn, ReadsIp, Ticks, Wants, WritesIp, WritesSa}
+use Rattle.mscp_port.specs.Calls.{Goes, Hears, IsMadeOf, ReadsIp, Wants, WritesIp, WritesSa}
+use Rattle.mscp_port.specs.Watching.{Changes, LooksAgain, PutsIn, Ticks}
 use Rattle.mscp_port.specs.Ports.{IsInPacket, put_aside}
 use Rattle.mscp_port.specs.Slots.{is_owned}
 use Rattle.mscp_port.specs.Wanted.{bytes_wanted}

@@ -27,5 +27,6 @@ pub mod Serials
 pub mod Slots
 pub mod Volumes
 pub mod Wanted
+pub mod Watching
 pub mod Sizes
 pub mod Common

@@ -71,7 +71,8 @@ pub use Rattle.mscp_port.specs.Acted.{Clears, GivesBack, WritesOut, counted, hea
 pub use Rattle.mscp_port.specs.Areas.{IsInArea, Rings, area_named, base_named, end_of, rings_named, slot_in, slots_of, start_of, word_of}
 pub use Rattle.mscp_port.specs.Blocks.{block_of, block_told, changed_verdict, fault_with, faulted, good_step, has_changed, is_available, kept_at, kept_of, move_of, move_task, moved_by, part_task, part_with, refusal_of, takes_any_volume, task_of, unless_fault}
 pub use Rattle.mscp_port.specs.Buffers.{buffer_in, is_of, part_of, without as without_kept, without_aborted}
-pub use Rattle.mscp_port.specs.Calls.{ChangesByWord, Dies, Goes, Hears, Hears as Reads, IsMadeOf, ReadsIp, TakesStep, Wants, WritesSa, read_again, step_again, step_answered, step_at}
+pub use Rattle.mscp_port.specs.Calls.{ChangesByWord, Dies, Goes, Hears, Hears as Reads, IsMadeOf, ReadsIp, TakesStep, Wants, WritesSa, read_again, step_answered}
+pub use Rattle.mscp_port.specs.Watching.{step_again, step_at}
 pub use Rattle.mscp_port.specs.Decided.{answer_of, controller_decided, end_decided, found_decided, status_after, status_told}
 pub use Rattle.mscp_port.specs.Departures.{IsForgotten, begins, gone, leaves}
 pub use Rattle.mscp_port.specs.Fair.{TellsStep}

@@ -1,5 +1,5 @@
-use Rattle.mscp_c.proofs.Common.{rules, ◌≡◌, ◌∙◌, subst, sym, to_z, of_z, w32, Some, MatchOption, BAD_OUTCOME, with_held, outcome_given, TellsWentBy}
-use Rattle.mscp_c.proofs.PortLent.{went_by_told}
+use Rattle.mscp_c.proofs.Common.{rules, ◌≡◌, ◌∙◌, subst, sym, to_z, of_z, w32, Some, MatchOption, BAD_OUTCOME, with_held, outcome_given, GoesBy, Held, PolicyPicks, TellsWentBy, told_code}
+use Rattle.mscp_c.proofs.PortLent.{answer_told}
 use Rattle.mscp_c.proofs.port_turning.mscp_port_went_by.Goals as goal
 
 pub returns-clause-call : goal.returns-clause-call
@@ -10,6 +10,7 @@ returns-clause-call c made =
     sym c.outcome_of.ensures ∙ c.in-Some.is in
     subst (λ o. MatchOption o ((status ≡ BAD_OUTCOME) × (new ≡ c.args.handle.now))
     (λ outcome. TellsWentBy c.args.serial outcome c.args.handle.now status new)) (sym given)
-    (went_by_told c.is_made.new.handle c.args.handle.now c.lend.result.now c.went_by.new.self c.lend.ensures.value
-    c.is_made.ensures.same c.args.serial c.in-Some.outcome c.went_by.result status c.went_by.ensures
-    (search rules))
+    (answer_told c.is_made.new.handle c.args.handle.now c.lend.result.now c.went_by.new.self c.lend.ensures.value
+    c.is_made.ensures.same told_code
+    (λ (old : Held). GoesBy (PolicyPicks old.controller.picker) c.args.serial c.in-Some.outcome old) c.went_by.result
+    status c.went_by.ensures (search rules))
