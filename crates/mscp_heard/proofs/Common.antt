@@ -41,8 +41,8 @@ pub use Rattle.mscp_packet.specs.declared.end.End.{End}
 pub use Rattle.mscp_packet.specs.declared.end.EndBody.{EndBody}
 pub use Rattle.mscp_port.proofs.Common.{eq-eqb, eqb-true, false≢true}
 pub use Rattle.mscp_port.specs.Calls.{IsMadeOf}
-pub use Rattle.mscp_port.specs.Departures.{begins}
-pub use Rattle.mscp_port.specs.Fair.{TellsStep}
+pub use Rattle.mscp_ported.specs.Departures.{begins}
+pub use Rattle.mscp_ported.specs.Fair.{TellsStep}
 pub use Rattle.mscp_port.specs.Histories.{Answered, Call, Picking, WasRead, Went, WriteIp}
 pub use Rattle.mscp_port.specs.declared.hardware.Hardware.{Hardware}
 pub use Rattle.mscp_port.specs.declared.port.Outgoing.{Outgoing}

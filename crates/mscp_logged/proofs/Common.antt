@@ -39,15 +39,15 @@ pub use Rattle.mscp_packet.specs.declared.end.End.{End}
 pub use Rattle.mscp_packet.specs.declared.end.EndBody.{EndBody}
 pub use Rattle.mscp_port.proofs.Begun.{taken_or_not}
 pub use Rattle.mscp_port.proofs.Common.{and_parts, cases_eq, cases_lt, drop_more, eq-eqb, eqb-true, false≢true, get_or-set_other, get_or-set_same, get_or_past, length-set, or_left, or_parts, or_right, position-Some, take-append-drop}
-pub use Rattle.mscp_port.proofs.Kept.{is_numbered}
-pub use Rattle.mscp_port.proofs.Loads.{looks_or_not}
-pub use Rattle.mscp_port.proofs.Said.{none_or_some}
+pub use Rattle.mscp_ported.proofs.Kept.{is_numbered}
+pub use Rattle.mscp_ported.proofs.Loads.{looks_or_not}
+pub use Rattle.mscp_ported.proofs.Said.{none_or_some}
 pub use Rattle.mscp_port.specs.Blocks.{block_of, block_told, changed_verdict, fault_with, faulted, has_changed, has_host_bytes, is_available, kept_of, move_of, move_task, moved_by, part_task, part_with, refusal_of, takes_any_volume, task_of, unless_fault, writes}
 pub use Rattle.mscp_port.specs.Buffers.{is_of, part_of}
 pub use Rattle.mscp_port.specs.Calls.{Dies, Goes, Hears, IsMadeOf, Wants}
 pub use Rattle.mscp_port.specs.Decided.{controller_decided, end_decided, found_decided, status_after, status_told, unit_state}
-pub use Rattle.mscp_port.specs.Departures.{begins, leaves}
-pub use Rattle.mscp_port.specs.Fair.{TellsStep}
+pub use Rattle.mscp_ported.specs.Departures.{begins, leaves}
+pub use Rattle.mscp_ported.specs.Fair.{TellsStep}
 pub use Rattle.mscp_port.specs.Formalities.{code_told, ends_formality, formal_status, is_formality, stand_in}
 pub use Rattle.mscp_port.specs.Histories.{Answered, Becomes, Call, LookAgain, Next, Picking, Protect, PutAside, ReadIp, Tick, VolumeCame, VolumeWent, WasRead, Went, WriteIp, WriteSa}
 pub use Rattle.mscp_port.specs.Leaving.{controller_end, end_left, end_told, end_with_body, head, online_end, plain_end, tells_unit as tells_of_unit, told_end, unit_status_end}

@@ -6,7 +6,7 @@ use Rattle.mscp_port.specs.declared.port.Outgoing.{Outgoing}
 use Rattle.mscp_port.specs.declared.port.Port.{Port}
 use Rattle.mscp_port.specs.declared.task.Task.{Task}
 use Rattle.mscp_port.specs.declared.task.Task.TheVariants as tasks
-use Rattle.mscp_port.specs.Departures.{leaves}
+use Rattle.mscp_ported.specs.Departures.{leaves}
 use Rattle.mscp_port.specs.Histories.{Answered, Call, Picking}
 use Rattle.mscp_ported.specs.Ends.{end_said}
 use Rattle.mscp_ported.specs.Talk.{since}

@@ -44,18 +44,12 @@ pub use Rattle.mscp_port.specs.Calls.{ChangesByActing, Dies, Goes, Hears, HoldsP
 pub use Rattle.mscp_port.specs.Watching.{Changes, ChangesVolume, PutsIn, Ticks, step_again, step_at}
 pub use Rattle.mscp_port.specs.Codes.{IsTask, bus_byte, bus_in, coded_task, has_size, number_or_none, optional, some_byte, stage_byte, stage_in, stage_word, task_in}
 pub use Rattle.mscp_port.specs.Decided.{answer_of, decided_answers, decided_in}
-pub use Rattle.mscp_port.specs.Departures.{IsDelivered, IsForgotten, IsWritten, Told, begins, begun, disk_credits, ends_in, gone, leaves}
-pub use Rattle.mscp_port.specs.Fair.{HearsPoll, IsOwed, TellsStep}
 pub use Rattle.mscp_port.specs.Formalities.{is_formality, stand_in}
-pub use Rattle.mscp_port.specs.Histories.{Answered, Becomes, Call, HasCredit, HasInOrder, IsNamed, IsNamedForData, IsNamedForRings, LookAgain, NamesArea, NamesBuffer, NamesPacket, Next, Picking, Protect, PutAside, ReadIp, Tick, VolumeCame, VolumeWent, WasRead, Went, WriteIp, WriteSa, reads, words}
-pub use Rattle.mscp_port.specs.Kept.{IsSaidBy, WasSaid}
-pub use Rattle.mscp_port.specs.Loaded.{blocks_in, is_loaded, is_locked}
+pub use Rattle.mscp_port.specs.Histories.{Answered, Becomes, Call, LookAgain, Next, Picking, Protect, PutAside, ReadIp, Tick, VolumeCame, VolumeWent, WasRead, Went, WriteIp, WriteSa}
 pub use Rattle.mscp_port.specs.Messages.{handed, next_named, number_or_zero, own_end_of}
-pub use Rattle.mscp_port.specs.Mounted.{Ends, IsChangeAt, IsMounted, IsRemounted, Mount, flagged, mount_after, offline}
 pub use Rattle.mscp_port.specs.Moved.{BeginsBlock, GoesOnWithBlock, HeedsStep, TakesBegun, TakesBlock, begun_task, block_begun, end_brought, kept_after, known_task, move_wanted, part_at, part_now, part_wanted, place_heeded, volumes_after}
 pub use Rattle.mscp_port.specs.Outgoings.{IsNews, KeepsSaying, LooksForOut, Says, TakesEnd, TellsNews, news_place}
 pub use Rattle.mscp_port.specs.Packets.{credits_told}
-pub use Rattle.mscp_port.specs.Places.{AsksFirst, IsPut, IsPutForData, IsPutForRings, PutsBuffer, PutsPacket, asked, read_from, reads_at, with_read}
 pub use Rattle.mscp_port.specs.Ports.{Drops, IsAsNew, IsDue, IsInRingsOrPacket, IsInSomeBuffer, IsOfBlock, IsReadingSlot, IsReadingText, IsWithin, Leaves, asks_blocks, block_is_due, in_hand}
 pub use Rattle.mscp_port.specs.Restored.{IsFramed, all_decided_in, area_in, buffer_count, buffer_in, buffer_place, buffers_in, coded_in, controller_in, controller_place, decided_count, decided_place, frame_fault, front_in, held_in, is_framed, outgoing_in, over, port_in, restored, restored_unless, rings_if, text_count, text_in, told_front, unless, volume_in, volumes_in, whose}
 pub use Rattle.mscp_port.specs.Saved.{HasBufferRange, HasDecidedRange, HasRange, HasVolumeRange, buffer_bytes, coded_bytes, decided_bytes, frame_bytes, front_bytes, hand_bytes, hardware_bytes, length_before, length_of, outgoing_byte, outgoing_text, rings_bytes, rings_or_none, saved_bytes, stage_bytes, state_bytes, volume_bytes, words_bytes, written_bytes}

@@ -8,7 +8,6 @@ mod codes;
 mod decided;
 mod formality;
 mod hardware;
-mod law;
 mod leaving;
 mod message;
 mod port;
@@ -22,10 +21,6 @@ mod volumes;
 
 pub use crate::action::{Action, Ask, Outcome, Unasked};
 pub use crate::hardware::{Bus, Hardware};
-pub use crate::law::{
-    ports_have_credit, ports_serve_between_polls, ports_touch_what_is_named,
-    ports_touch_what_was_put,
-};
 pub use crate::port::{NoUnit, Port, PortFault, ROOM, RestoreFault, restore_fault, saved_settings};
 pub use crate::stage::Stage;
 pub use crate::volumes::{Medium, Volume, VolumeFault};

@@ -1,5 +1,7 @@
 -- The end of a transfer that is aborted counts just the blocks that were moved.
-use Rattle.mscp_ported.proofs.Common.{Answered, AsksAlways, Bool, Buffer, Call, Command, Contains, Contains-push_cases, Counts, End, First, Hardware, Holdings, IsMadeOf, List, MoveKind, None, Ok, Option, Order, Picking, Port, Record, Settings, Some, WasRead, [], aborted_record, ap, append-nil, arith, asked, asks_nothing, balance_of, come, command_of, cond, drop, ends, false, fault_of, figure, filter, find, found_is, handed, has_name, inl, inr, is_numbered, is_queued_text, length, min, moved, moved_body, name_on, none_waits, num, opcode_of, option_map, option_to_list, outstanding_of, own_end_with, record_aborted, refl, same_Some, slice_index, subst, sym, taken_number, transfers, ℕ, ◌&&◌, ◌*◌, ◌++◌, ◌==◌, ◌∙◌, ◌∷◌, ◌≡◌, ◌≤◌}
+use Rattle.mscp_ported.proofs.Common.{Answered, AsksAlways, Bool, Buffer, Call, Command, Contains, Contains-push_cases, Counts, End, First, Hardware, Holdings, IsMadeOf, List, MoveKind, None, Ok, Option, Order, Picking, Port, Record, Settings, Some, WasRead, [], aborted_record, ap, append-nil, arith, asked, asks_nothing, balance_of, come, command_of, cond, drop, ends, false, fault_of, figure, filter, find, found_is, handed, has_name, inl, inr, is_queued_text, length, min, moved, moved_body, name_on, num, opcode_of, option_map, option_to_list, outstanding_of, own_end_with, record_aborted, refl, same_Some, slice_index, subst, sym, transfers, ℕ, ◌&&◌, ◌*◌, ◌++◌, ◌==◌, ◌∙◌, ◌∷◌, ◌≡◌, ◌≤◌}
+use Rattle.mscp_ported.proofs.Come.{none_waits, taken_number}
+use Rattle.mscp_ported.proofs.Kept.{is_numbered}
 use Rattle.mscp_packet.specs.declared.class.Opcode.TheVariants as codes
 use Rattle.mscp_packet.specs.declared.command.Order.TheVariants as orders
 use Rattle.mscp_packet.specs.declared.end.EndBody.TheVariants as bodies

@@ -1,5 +1,6 @@
 -- Each end that goes out is that of a message that is awaited.
-use Rattle.mscp_ported.proofs.Common.{First, Goes, Hears, Holdings, List, Ok, Outcome, Port, Record, Some, Verdict, WasRead, Went, [], ap, append-nil, arith, block_told, command_of, every_append, false, fault_of, filter, find, fresh_record, handed, has_name, inl, inr, is_dead, is_numbered, name_on, nat_eq, num, record_at, refl, since, subst, sym, taken_by, true, waiting_after, ℕ, ◌++◌, ◌∙◌, ◌∷◌, ◌≡◌, ◌⊎◌}
+use Rattle.mscp_ported.proofs.Common.{First, Goes, Hears, Holdings, List, Ok, Outcome, Port, Record, Some, Verdict, WasRead, Went, [], ap, append-nil, arith, block_told, command_of, every_append, false, fault_of, filter, find, fresh_record, handed, has_name, inl, inr, is_dead, name_on, nat_eq, num, record_at, refl, since, subst, sym, taken_by, true, waiting_after, ℕ, ◌++◌, ◌∙◌, ◌∷◌, ◌≡◌, ◌⊎◌}
+use Rattle.mscp_ported.proofs.Kept.{is_numbered}
 use Rattle.mscp_ported.proofs.Awaiting.{IsLikeIt, IsNoReset, IsSmall, Kept, answered_so, dies_so, handed_like, is_it, lives_so, nothing_there, others, own_bytes, own_number, queued_so, stays_so}
 use Rattle.mscp_ported.proofs.Coming.{ends_of}
 use Rattle.mscp_ported.proofs.Deeds.{is_alive}

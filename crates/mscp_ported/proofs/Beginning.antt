@@ -1,5 +1,6 @@
 -- What a port makes of its controller as something is wanted: a take, and a begin.
-use Rattle.mscp_ported.proofs.Common.{Action, AnsweredCalls, Begin, BeginsBlock, Bool, Choice, First, Foretells, Holdings, IsNews, IsOfBlock, List, MayBegin, Next, None, Option, Outgoing, Picking, Plain, Port, Says, Some, TakesEnd, Task, Upcoming, Wants, [], after_take, ap, arith, begin_made, begun_step, end_taken, inl, inr, looks_or_not, news_place, none-some, refl, subst, sym, take_made, ℕ, ◌++◌, ◌∙◌, ◌∷◌, ◌≡◌, ◌≢◌, ◌⊎◌}
+use Rattle.mscp_ported.proofs.Common.{Action, AnsweredCalls, Begin, BeginsBlock, Bool, Choice, First, Foretells, Holdings, IsNews, IsOfBlock, List, MayBegin, Next, None, Option, Outgoing, Picking, Plain, Port, Says, Some, TakesEnd, Task, Upcoming, Wants, [], after_take, ap, arith, begin_made, begun_step, end_taken, inl, inr, news_place, none-some, refl, subst, sym, take_made, ℕ, ◌++◌, ◌∙◌, ◌∷◌, ◌≡◌, ◌≢◌, ◌⊎◌}
+use Rattle.mscp_ported.proofs.Loads.{looks_or_not}
 use Rattle.mscp_drive.specs.declared.event.Event.TheVariants as events
 use Rattle.mscp_controller.specs.declared.entry.Entry.TheVariants as entries
 use Rattle.mscp_port.specs.declared.task.Task.TheVariants as tasks

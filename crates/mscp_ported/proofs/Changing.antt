@@ -1,5 +1,9 @@
 -- How often the volume of a unit changed, and what is kept of a command of which it is known how often since.
-use Rattle.mscp_ported.proofs.Common.{Answered, Becomes, Buffer, Call, Connection, End, Hardware, Holdings, IsForgotten, IsMadeOf, IsOfItsVolume, IsSaidBy, Keeps, List, More, None, Option, Picking, Port, Shape, Some, Volume, WasRead, [], ap, arith, changed, changed_by, cond, eq-eqb, eqb-true, false, false≢true, get_or_past, inl, inr, keeps_after, keeps_none, length, length-set, mod-add-mod, nat_eq, none-some, one_block, place_in, position-Some, refl, same_Some, set, settings_stay, subst, sym, true, volume_at, volume_heeded, volumes_after, volumes_heeded, volumes_with, weaker_for, ℕ, ◌%◌, ◌+◌, ◌<◌, ◌==◌, ◌∙◌, ◌∷◌, ◌≡◌, ◌≢◌, ◌≤◌, ◌⊎◌}
+use Rattle.mscp_ported.proofs.Common.{Answered, Becomes, Buffer, Call, Connection, End, Hardware, Holdings, IsForgotten, IsMadeOf, IsOfItsVolume, IsSaidBy, List, None, Option, Picking, Port, Shape, Some, Volume, WasRead, [], ap, arith, changed, changed_by, cond, eq-eqb, eqb-true, false, false≢true, get_or_past, inl, inr, length, length-set, mod-add-mod, nat_eq, none-some, one_block, place_in, position-Some, refl, same_Some, set, subst, sym, true, volume_at, volume_heeded, volumes_after, volumes_heeded, volumes_with, ℕ, ◌%◌, ◌+◌, ◌<◌, ◌==◌, ◌∙◌, ◌∷◌, ◌≡◌, ◌≢◌, ◌≤◌, ◌⊎◌}
+use Rattle.mscp_ported.proofs.Credits.{settings_stay}
+use Rattle.mscp_ported.proofs.Heeded.{keeps_after}
+use Rattle.mscp_ported.proofs.Kept.{weaker_for}
+use Rattle.mscp_ported.proofs.Said.{Keeps, More, keeps_none}
 use Rattle.mscp_ported.proofs.Volumes.{Forgets, Heeds, Remounted, Rests, Switches, Tunes, remounted, set_at}
 
 -- ---- units

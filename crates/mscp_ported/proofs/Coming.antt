@@ -1,5 +1,6 @@
 -- The ends that come for a host by a message or by a step.
-use Rattle.mscp_ported.proofs.Common.{Block, Choice, Command, Connection, End, Err, Finishes, First, Holdings, IsValid, KeepsPromise, List, Made, NotBegun, Ok, Option, Port, Report, Result, Second, SendFault, Sent, Settings, [], after_message, answer_to_message, ap, append-nil, append_assoc, arith, balance_of, come, command_of, credits_of, drop, drop-append_seam, end_brought, held_unless, history, length, name_on, of, option_to_list, outstanding_of, refusal, sent_unless, served_name, subst, take-length, untaken, waiting_by, ℕ, ◌++◌, ◌+◌, ◌∙◌, ◌≡◌, ◌≤◌}
+use Rattle.mscp_ported.proofs.Common.{Block, Choice, Command, Connection, End, Err, Finishes, First, Holdings, IsValid, KeepsPromise, List, Made, NotBegun, Ok, Option, Port, Report, Result, Second, SendFault, Sent, Settings, [], after_message, answer_to_message, ap, append-nil, append_assoc, arith, balance_of, come, command_of, credits_of, drop, drop-append_seam, end_brought, held_unless, history, length, name_on, of, option_to_list, outstanding_of, refusal, sent_unless, subst, take-length, untaken, waiting_by, ℕ, ◌++◌, ◌+◌, ◌∙◌, ◌≡◌, ◌≤◌}
+use Rattle.mscp_ported.proofs.Said.{served_name}
 use Rattle.mscp_controller.specs.declared.entry.Sent.TheVariants as sents
 
 -- the ends of the host's connection

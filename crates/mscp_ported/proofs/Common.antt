@@ -1,15 +1,15 @@
 -- What the lemmas of this crate take from elsewhere.
-pub use Rattle.std.proofs.Common.{All, Bool, Contains, IfSome, IsSomeAnd, List, MatchOption, None, Option, Some, [], ap, append_assoc, arith, cond, drop, false, filter, inl, inr, length, map, min, mod-lt, nat_eq, nat_le, nat_lt, not, pow_pos, refl, set, subst, suc, sym, take, true, zero, ℕ, ◌%◌, ◌&&◌, ◌*◌, ◌++◌, ◌+◌, ◌-◌, ◌/◌, ◌<◌, ◌^◌, ◌∙◌, ◌∷◌, ◌≡◌, ◌≢◌, ◌≤◌, ◌⊎◌}
-pub use Rattle.std.proofs.Math.Nat.{mod-add-mod}
+pub use Rattle.std.proofs.Common.{All, Bool, Contains, IfSome, IsSomeAnd, List, MatchOption, None, Option, Some, [], ap, append_assoc, arith, cond, drop, false, filter, get_or, inl, inr, length, map, min, mod-lt, nat_eq, nat_le, nat_lt, not, pow_pos, refl, set, subst, suc, sym, take, true, zero, ℕ, ◌%◌, ◌&&◌, ◌*◌, ◌++◌, ◌+◌, ◌-◌, ◌/◌, ◌<◌, ◌^◌, ◌∙◌, ◌∷◌, ◌≡◌, ◌≢◌, ◌≤◌, ◌⊎◌}
+pub use Rattle.std.proofs.Math.Nat.{min-le_left, mod-add-mod}
 pub use Rattle.std.proofs.Math.Pow.{mod-mod-pow}
 pub use Rattle.std.proofs.Math.Seq.{drop-append_seam, take-length}
 pub use Rattle.std.proofs.lemmas.Grind.{flat_map-append}
 pub use Rattle.std.proofs.lemmas.List.{append-nil, length-append, length-map, map-append, take_all, take_at}
-pub use Rattle.std.proofs.lemmas.List.Elements.{All-drop, All-head, All-tail, filter-append}
+pub use Rattle.std.proofs.lemmas.List.Elements.{All-append, All-cons, All-contains, All-drop, All-filter, All-get_or, All-head, All-map, All-nil, All-push, All-tail, All-take, Contains-append_left, Contains-append_right, Contains-push, filter-append, filter_passes}
 pub use Rattle.std.proofs.lemmas.List.Folds.{list_any-append}
-pub use Rattle.std.proofs.lemmas.Option.{none-some, same_Some}
+pub use Rattle.std.proofs.lemmas.Option.{get_or_from_slice_get, none-some, same_Some}
 pub use Rattle.std.specs.List.{AllByRecursion, list_any, position}
-pub use Rattle.std.specs.Prelude.{Err, Ok, Result, bit_or, find, flat_map, if◌then◌else◌, is_none, is_ok, option_map, option_to_list, replicate, slice_get, slice_index, ◌==◌, ◌||◌, ◌↔◌}
+pub use Rattle.std.specs.Prelude.{Err, IsOk, Ok, Result, bit_or, find, flat_map, if◌then◌else◌, is_none, is_ok, option_map, option_to_list, replicate, slice_get, slice_index, ◌==◌, ◌||◌, ◌↔◌}
 pub use Rattle.byteorder.specs.Endian.{little_bytes}
 pub use Rattle.mscp_controller.proofs.Bridge.Basics.{owner_kept}
 pub use Rattle.mscp_controller.proofs.Promise.Apart.{name_last, new_name, queued_name}
@@ -47,7 +47,7 @@ pub use Rattle.mscp_packet.specs.Commands.{order_with, parameters}
 unfoldable pub use Rattle.mscp_packet.specs.Commands.{command_of}
 pub use Rattle.mscp_packet.specs.Ends.{IsOfKind, end_bytes, end_length, endcodes, kind_of_body, kind_of_code, refused_body, zero_body}
 pub use Rattle.mscp_packet.specs.Number.{num}
-pub use Rattle.mscp_packet.specs.Opcodes.{least, move_byte, opcode_of, opcodes, row_of}
+pub use Rattle.mscp_packet.specs.Opcodes.{class, is_immediate_class, least, move_byte, opcode_of, opcodes, row_of}
 pub use Rattle.mscp_packet.specs.Statuses.{invalid_length}
 pub use Rattle.mscp_packet.specs.declared.class.Opcode.{Opcode}
 pub use Rattle.mscp_packet.specs.declared.command.Command.{Command}
@@ -59,35 +59,28 @@ pub use Rattle.mscp_packet.specs.declared.end.End.{End}
 pub use Rattle.mscp_packet.specs.declared.end.EndBody.{EndBody}
 pub use Rattle.mscp_port.proofs.Among.{none_among}
 pub use Rattle.mscp_port.proofs.Begun.{taken_or_not}
-pub use Rattle.mscp_port.proofs.Come.{IsLike, handed_as_read, handed_like, none_waits, taken_number}
 pub use Rattle.mscp_port.proofs.Common.{Contains-push_cases, and_parts, cases_eq, cases_lt, drop_more, eq-eqb, eqb-true, false≢true, get_or-set_other, get_or-set_same, get_or_past, length-set, or_parts, position-Some, take-append-drop}
-pub use Rattle.mscp_port.proofs.Credited.{all_but_one}
-pub use Rattle.mscp_port.proofs.Credits.{settings_stay, settings_still}
-pub use Rattle.mscp_port.proofs.Kept.{IsTo, is_numbered, weaker_for}
-pub use Rattle.mscp_port.proofs.Loads.{looks_or_not, none_or_not, up_or_not}
-pub use Rattle.mscp_port.proofs.Said.{Keeps, More, is_first, keeps_none, kept_found, none_or_some, not_of, of_first, served_name, without_among}
-pub use Rattle.mscp_port.proofs.Telling.{keeps_after, kept_was_said}
 pub use Rattle.mscp_port.specs.Acted.{Clears, GivesBack, WritesOut, counted, hears_of, step_task, vector_in}
 pub use Rattle.mscp_port.specs.Areas.{IsInArea, Rings, area_named, base_named, end_of, rings_named, slot_in, slots_of, start_of, word_of}
-pub use Rattle.mscp_port.specs.Blocks.{block_of, block_told, changed_verdict, fault_with, faulted, good_step, has_changed, is_available, kept_at, kept_of, move_of, move_task, moved_by, part_task, part_with, refusal_of, takes_any_volume, task_of, unless_fault}
-pub use Rattle.mscp_port.specs.Buffers.{buffer_in, is_of, part_of, without as without_kept, without_aborted}
-pub use Rattle.mscp_port.specs.Calls.{ChangesByWord, Dies, Goes, Hears, Hears as Reads, IsMadeOf, ReadsIp, TakesStep, Wants, WritesSa, read_again, step_answered}
-pub use Rattle.mscp_port.specs.Watching.{step_again, step_at}
+pub use Rattle.mscp_port.specs.Blocks.{block_of, block_told, changed_verdict, fault_with, faulted, good_step, has_changed, is_available, kept_at, kept_of, move_of, move_task, moved_by, part_task, part_with, refusal_of, takes_any_volume, task_of, unless_fault, writes}
+pub use Rattle.mscp_port.specs.Buffers.{buffer_in, is_of, kept_beside, part_of, without as without_kept, without_aborted}
+pub use Rattle.mscp_port.specs.Calls.{ChangesByWord, Dies, Goes, Hears, Hears as Reads, HoldsPacket, IsMadeOf, ReadsIp, StaysInStage, TakesStep, Wants, WritesSa, read_again, step_answered}
+pub use Rattle.mscp_port.specs.Watching.{Changes, ChangesVolume, PutsIn, Ticks, step_again, step_at}
 pub use Rattle.mscp_port.specs.Decided.{answer_of, controller_decided, end_decided, found_decided, status_after, status_told}
-pub use Rattle.mscp_port.specs.Departures.{IsForgotten, begins, gone, leaves}
-pub use Rattle.mscp_port.specs.Fair.{TellsStep}
+pub use Rattle.mscp_ported.specs.Departures.{IsDelivered, IsForgotten, IsWritten, Told, begins, begun, disk_credits, gone, leaves}
+pub use Rattle.mscp_ported.specs.Fair.{HearsPoll, TellsStep}
 pub use Rattle.mscp_port.specs.Formalities.{code_told, ends_formality, formal_status, is_formality, stand_in}
 pub use Rattle.mscp_port.specs.Histories.{Answered, Becomes, Call, LookAgain, Next, Picking, Protect, PutAside, ReadIp, Tick, VolumeCame, VolumeWent, WasRead, Went, WriteIp, WriteSa}
-pub use Rattle.mscp_port.specs.Kept.{IsSaidBy, WasSaid}
+pub use Rattle.mscp_ported.specs.Kept.{IsSaidBy, WasSaid}
 pub use Rattle.mscp_port.specs.Leaving.{attention, end_left, end_told, end_with_body, head, told_end}
 pub use Rattle.mscp_port.specs.Messages.{asks_for_next, bare_end, handed, next_named, next_unit, number_or_zero, own_end, own_end_of, refused_end, volume_refusal}
 pub use Rattle.mscp_port.specs.Moved.{BeginsBlock, GoesOnWithBlock, HeedsStep, IsStepping, Moves, TakesBegun, TakesBlock, begun_task, block_begun, block_served, decided_ended, end_brought, kept_after, known_task, move_wanted, moved_step, part_at, part_now, part_served, part_wanted, place_heeded, volumes_after}
 pub use Rattle.mscp_port.specs.Outgoings.{AnswersItself, IsNews, IsNews as TellsOf, LooksForOut, MayBegin, Says, TakesEnd, TellsNews, news_place}
 pub use Rattle.mscp_port.specs.Packets.{connection_of, credits_by, credits_with, end_kind, packet_of}
-pub use Rattle.mscp_port.specs.Ports.{Drops, HasNothingToSay, IsAlive, IsAsNew, IsDue, IsInPacket, IsOfBlock, IsOutcomeOf, IsReadingText, IsWithin, Leaves, aside, block_is_due, in_hand, read_size}
-pub use Rattle.mscp_port.specs.Seen.{SeesHeader, SeesText, Sends, answered_to, bytes_read, changes_at, connection_in, header_fault, heard, heeded, length_in, stays}
+pub use Rattle.mscp_port.specs.Ports.{Drops, HasNothingToSay, IsAlive, IsAsNew, IsDue, IsInPacket, IsInRingsOrPacket, IsInSomeBuffer, IsOfBlock, IsOutcomeOf, IsReadingSlot, IsReadingText, IsWithin, Leaves, aside, block_is_due, in_hand, read_size}
+pub use Rattle.mscp_port.specs.Seen.{SeesHeader, SeesText, Sends, answered_to, bytes_read, changes_at, connection_in, header_fault, heard, heeded, is_poll, kept_of_sent, length_in, slot_seen, stays}
 pub use Rattle.mscp_port.specs.Slots.{given_back, is_flagged, is_owned, text_of}
-pub use Rattle.mscp_port.specs.Volumes.{brought_online, no_volume, place_in, protected_by, volume_at, volume_changed, volume_found, volume_heeded, volume_protected, volume_put, volume_reset, volumes_heeded, volumes_with}
+pub use Rattle.mscp_port.specs.Volumes.{MayMove, brought_online, no_volume, place_in, protected_by, volume_at, volume_changed, volume_found, volume_heeded, volume_protected, volume_put, volume_reset, volumes_heeded, volumes_with}
 pub use Rattle.mscp_port.specs.Wanted.{InRings, IsWanted, bytes_wanted, clear_count, clear_from, given_in, packet_out, zeros_out}
 pub use Rattle.mscp_port.specs.declared.action.Action.{Action}
 pub use Rattle.mscp_port.specs.declared.action.Outcome.{Outcome}
@@ -139,3 +132,15 @@ pub use Rattle.mscp_queue.specs.declared.name.Name.{Name}
 pub use Rattle.mscp_queue.specs.declared.report.Report.{Report}
 pub use Rattle.mscp_queue.specs.declared.upcoming.Upcoming.{Upcoming}
 pub use Rattle.mscp_queue.specs.declared.view.Choice.{Choice}
+pub use Rattle.mscp_ported.specs.Named.{HasCredit, HasInOrder, IsNamed, IsNamedForData, IsNamedForRings, NamesArea, NamesBuffer, NamesPacket, reads, words}
+pub use Rattle.std.proofs.lemmas.Bool.{eqb-false, le-ltb, ltb-false, ltb-true, or_left, or_right}
+pub use Rattle.std.proofs.lemmas.Map.Views.{any-filter_same}
+pub use Rattle.mscp_queue.specs.declared.report.Report.TheVariants.{Served}
+pub use Rattle.mscp_ported.specs.Mounted.{Ends, IsChangeAt, IsMounted, IsRemounted, Mount, flagged, mount_after, offline}
+pub use Rattle.mscp_port.specs.declared.volumes.Medium.{Medium}
+pub use Rattle.mscp_port.specs.declared.port.watching.NoUnit.{NoUnit}
+pub use Rattle.mscp_port.specs.declared.volumes.VolumeFault.{VolumeFault}
+pub use Rattle.mscp_queue.proofs.Masked.{eq_false, eq_true}
+pub use Rattle.mscp_ported.specs.Loaded.{is_loaded, is_locked}
+pub use Rattle.mscp_port.specs.declared.port.Words.{Words}
+pub use Rattle.mscp_ported.specs.Places.{AsksFirst, IsPut, IsPutForData, IsPutForRings, PutsBuffer, PutsPacket, read_from, reads_at, with_read}

@@ -1,5 +1,7 @@
 -- What each call of a port deals with.
-use Rattle.mscp_ported.proofs.Common.{Action, AllByRecursion, Becomes, Bool, Call, Deals, Descriptor, End, Err, Hears, Holdings, IsEnding, IsOfKind, IsReadingText, IsSomeAnd, List, Next, None, Ok, Option, Outcome, Outgoing, Picking, Port, Result, SeesText, SendFault, Sent, Shape, Some, TakesEnd, Task, TellsOf, Volume, Wants, WasRead, Went, [], accepted_by, accepted_text, accepts, answered_to, ap, append-nil, arith, attention, begins, bytes_in, cond, drop, end_bytes, end_kind, ends_begun, eqb-true, every_kept, false, filter, has_number, inl, inr, is_dead, is_none, is_ok, is_taken_text, looks_or_not, news_place, none-some, none_or_some, not, num, option_map, own_end_of, refl, same_Some, since, slice_get, subst, sym, taken_by, told_end, true, volume_at, volume_named, without_ends, ℕ, ◌&&◌, ◌++◌, ◌<◌, ◌^◌, ◌∙◌, ◌∷◌, ◌≡◌, ◌≢◌, ◌≤◌, ◌⊎◌}
+use Rattle.mscp_ported.proofs.Common.{Action, AllByRecursion, Becomes, Bool, Call, Deals, Descriptor, End, Err, Hears, Holdings, IsEnding, IsOfKind, IsReadingText, IsSomeAnd, List, Next, None, Ok, Option, Outcome, Outgoing, Picking, Port, Result, SeesText, SendFault, Sent, Shape, Some, TakesEnd, Task, TellsOf, Volume, Wants, WasRead, Went, [], accepted_by, accepted_text, accepts, answered_to, ap, append-nil, arith, attention, begins, bytes_in, cond, drop, end_bytes, end_kind, ends_begun, eqb-true, every_kept, false, filter, has_number, inl, inr, is_dead, is_none, is_ok, is_taken_text, news_place, none-some, not, num, option_map, own_end_of, refl, same_Some, since, slice_get, subst, sym, taken_by, told_end, true, volume_at, volume_named, without_ends, ℕ, ◌&&◌, ◌++◌, ◌<◌, ◌^◌, ◌∙◌, ◌∷◌, ◌≡◌, ◌≢◌, ◌≤◌, ◌⊎◌}
+use Rattle.mscp_ported.proofs.Loads.{looks_or_not}
+use Rattle.mscp_ported.proofs.Said.{none_or_some}
 use Rattle.mscp_ported.proofs.Minor.{minor, minor_out}
 use Rattle.mscp_port.specs.declared.port.OutgoingKind.TheVariants as kinds
 use Rattle.mscp_port.specs.declared.task.Task.TheVariants as tasks

@@ -1,5 +1,6 @@
 -- By each action that is done fewer are left before what goes out is gone, or before an end that waits begins to.
-use Rattle.mscp_ported.proofs.Common.{Becomes, Bool, Call, Choice, Commands, Descriptor, End, Goes, Hears, IsForgotten, IsGiven, IsSomeAnd, IsStepping, List, Next, None, Ok, Option, Outcome, Outgoing, Picking, Port, ReadIp, Responses, Rings, Side, Some, Task, WasRead, Went, WriteIp, WriteSa, [], acts, ap, arith, aside, block_told, cond, end_brought, end_bytes, end_kind, false, handed, hears_of, inl, inr, is_flagged, is_owned, length, length-append, none-some, none_or_some, not, num, own_end_of, read_again, refl, slots_of, step_at, subst, sym, taken_or_not, true, ℕ, ◌++◌, ◌+◌, ◌<◌, ◌==◌, ◌∙◌, ◌∷◌, ◌≡◌, ◌≢◌, ◌≤◌, ◌⊎◌}
+use Rattle.mscp_ported.proofs.Common.{Becomes, Bool, Call, Choice, Commands, Descriptor, End, Goes, Hears, IsForgotten, IsGiven, IsSomeAnd, IsStepping, List, Next, None, Ok, Option, Outcome, Outgoing, Picking, Port, ReadIp, Responses, Rings, Side, Some, Task, WasRead, Went, WriteIp, WriteSa, [], acts, ap, arith, aside, block_told, cond, end_brought, end_bytes, end_kind, false, handed, hears_of, inl, inr, is_flagged, is_owned, length, length-append, none-some, not, num, own_end_of, read_again, refl, slots_of, step_at, subst, sym, taken_or_not, true, ℕ, ◌++◌, ◌+◌, ◌<◌, ◌==◌, ◌∙◌, ◌∷◌, ◌≡◌, ◌≢◌, ◌≤◌, ◌⊎◌}
+use Rattle.mscp_ported.proofs.Said.{none_or_some}
 use Rattle.mscp_controller.specs.declared.entry.Sent.TheVariants as sents
 use Rattle.mscp_port.specs.declared.stage.Stage.TheVariants as stages
 use Rattle.mscp_port.specs.declared.task.Task.TheVariants as tasks

@@ -1,6 +1,7 @@
 -- Each call of a port deals with one thing at most, over a whole list of calls.
 use Rattle.mscp_ported.proofs.Numbered.{At, ends_numbered}
-use Rattle.mscp_ported.proofs.Common.{All, All-drop, All-head, Answered, AnsweredCalls, Becomes, Call, ControllersKeepThePromise, Deals, End, Err, First, Hardware, Holdings, IsMadeOf, IsOfKind, IsValid, KeepsPromise, List, Made, Next, Ok, Picking, Port, ReadsBytes, Record, Settings, Some, Stage, WasRead, Went, WriteIp, [], ap, arith, awaited, blocks, ends, false, fresh, history, is_dead, is_numbered, none-some, numbers, numbers_ended, of, outstanding_of, refl, same_Some, slice_get, slice_index, subst, sym, true, untaken, waiting_on, ℕ, ◌<◌, ◌^◌, ◌∙◌, ◌∷◌, ◌≡◌, ◌≢◌}
+use Rattle.mscp_ported.proofs.Common.{All, All-drop, All-head, Answered, AnsweredCalls, Becomes, Call, ControllersKeepThePromise, Deals, End, Err, First, Hardware, Holdings, IsMadeOf, IsOfKind, IsValid, KeepsPromise, List, Made, Next, Ok, Picking, Port, ReadsBytes, Record, Settings, Some, Stage, WasRead, Went, WriteIp, [], ap, arith, awaited, blocks, ends, false, fresh, history, is_dead, none-some, numbers, numbers_ended, of, outstanding_of, refl, same_Some, slice_get, slice_index, subst, sym, true, untaken, waiting_on, ℕ, ◌<◌, ◌^◌, ◌∙◌, ◌∷◌, ◌≡◌, ◌≢◌}
+use Rattle.mscp_ported.proofs.Kept.{is_numbered}
 use Rattle.mscp_ported.proofs.Minor.{minor}
 use Rattle.std.specs.Prelude.{filter}
 use Rattle.mscp_port.specs.declared.stage.Stage.TheVariants as stages

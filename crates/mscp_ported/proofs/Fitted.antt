@@ -1,5 +1,6 @@
 -- Each end that waits fits the message whose end it is, after each call of a port.
-use Rattle.mscp_ported.proofs.Common.{AllByRecursion, Bool, Buffer, Call, Decided, Dies, End, Leaving, List, Port, Record, Settings, Verdict, [], ap, append-nil, arith, cond, ends_said_by, every_append, false, is_dead, is_numbered, length, length-append, length-map, map, refl, since, subst, sym, taken_by, true, without_ends, ℕ, ◌++◌, ◌∙◌, ◌∷◌, ◌≡◌}
+use Rattle.mscp_ported.proofs.Common.{AllByRecursion, Bool, Buffer, Call, Decided, Dies, End, Leaving, List, Port, Record, Settings, Verdict, [], ap, append-nil, arith, cond, ends_said_by, every_append, false, is_dead, length, length-append, length-map, map, refl, since, subst, sym, taken_by, true, without_ends, ℕ, ◌++◌, ◌∙◌, ◌∷◌, ◌≡◌}
+use Rattle.mscp_ported.proofs.Kept.{is_numbered}
 use Rattle.mscp_ported.proofs.Awaiting.{IsNoReset}
 use Rattle.mscp_ported.proofs.Buffered.{IsKeptEach}
 use Rattle.mscp_ported.proofs.Coming.{ends_of}

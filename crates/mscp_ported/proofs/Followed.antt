@@ -1,5 +1,6 @@
 -- Behind the end of a command that was aborted waits that of its ABORT, whose message came later.
-use Rattle.mscp_ported.proofs.Common.{Bool, Command, Drive, End, First, Holdings, List, None, Option, Order, Record, Settings, Some, Verdict, [], aborted_record, answered_end, ap, arith, block_told, command_of, cond, end_given, eq-eqb, eqb-true, false, false≢true, filter, find, found_is, handed, has_number, inl, inr, is_numbered, is_queued, length, list_any, nat_eq, none-some, not, num, option_map, option_to_list, record_aborted, refl, subst, sym, true, ℕ, ◌++◌, ◌||◌, ◌∙◌, ◌∷◌, ◌≡◌, ◌⊎◌}
+use Rattle.mscp_ported.proofs.Common.{Bool, Command, Drive, End, First, Holdings, List, None, Option, Order, Record, Settings, Some, Verdict, [], aborted_record, answered_end, ap, arith, block_told, command_of, cond, end_given, eq-eqb, eqb-true, false, false≢true, filter, find, found_is, handed, has_number, inl, inr, is_queued, length, list_any, nat_eq, none-some, not, num, option_map, option_to_list, record_aborted, refl, subst, sym, true, ℕ, ◌++◌, ◌||◌, ◌∙◌, ◌∷◌, ◌≡◌, ◌⊎◌}
+use Rattle.mscp_ported.proofs.Kept.{is_numbered}
 use Rattle.std.specs.Prelude.{◌≤◌}
 use Rattle.mscp_packet.specs.declared.command.Order.TheVariants as orders
 use Rattle.mscp_controller.specs.Outcomes.{own_end}

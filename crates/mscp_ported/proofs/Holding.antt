@@ -1,5 +1,6 @@
 -- A port holds the command or the end of each message that is awaited.
-use Rattle.mscp_ported.proofs.Common.{AllByRecursion, Answered, AnsweredCalls, Bool, Call, Choice, ControllersKeepThePromise, First, Hardware, Holdings, HoldsAwaited, IsMadeOf, IsValid, KeepsPromise, List, Made, Name, None, Option, Picking, Port, ReadsBytes, Record, Settings, Some, Trace, [], ap, arith, awaited, false, figure, figure_at_place, figure_found, figure_of, figure_of_name, filter, find, fresh, has_name, history, inl, inr, is_numbered, length, map, name, name_of, name_on, none-some, option_map, outstanding_of, position_none, refl, same_name, subst, sym, take_all, true, waiting, waiting_waits, waits_in, ℕ, ◌<◌, ◌↔◌, ◌∙◌, ◌∷◌, ◌≡◌, ◌≤◌}
+use Rattle.mscp_ported.proofs.Common.{AllByRecursion, Answered, AnsweredCalls, Bool, Call, Choice, ControllersKeepThePromise, First, Hardware, Holdings, HoldsAwaited, IsMadeOf, IsValid, KeepsPromise, List, Made, Name, None, Option, Picking, Port, ReadsBytes, Record, Settings, Some, Trace, [], ap, arith, awaited, false, figure, figure_at_place, figure_found, figure_of, figure_of_name, filter, find, fresh, has_name, history, inl, inr, length, map, name, name_of, name_on, none-some, option_map, outstanding_of, position_none, refl, same_name, subst, sym, take_all, true, waiting, waiting_waits, waits_in, ℕ, ◌<◌, ◌↔◌, ◌∙◌, ◌∷◌, ◌≡◌, ◌≤◌}
+use Rattle.mscp_ported.proofs.Kept.{is_numbered}
 use Rattle.std.specs.Prelude.{◌^◌, Contains}
 use Rattle.mscp_ported.proofs.Coming.{ends_of}
 use Rattle.mscp_ported.proofs.Ended.{kept}

@@ -1,5 +1,8 @@
 -- What is kept of a command after each call: its blocks so far were moved at their places.
-use Rattle.mscp_ported.proofs.Common.{Action, Answered, AsksAlways, Block, Bool, Buffer, Call, Connection, Contains, Drive, End, First, Hardware, Holdings, IsMadeOf, IsStepping, List, MoveKind, Name, Next, None, Ok, Option, Order, Outcome, Picking, Port, Record, Says, Some, Verdict, WasRead, Went, WriteIp, [], advanced, ap, arith, asked, begun_step, block_told, buffer_in, comes, done_by, end_given, false, filter, given, inl, inr, is_done, is_first, is_moving, is_numbered, is_of, is_step_of, kept_after, left_of, looks_or_not, min, moved, name_of, name_on, none-some, not_of, num, order_weight, record_at, refl, same_Some, same_is, same_name, subst, sym, true, wanted, wish, without_among, ℕ, ◌*◌, ◌++◌, ◌+◌, ◌-◌, ◌<◌, ◌∙◌, ◌∷◌, ◌≡◌, ◌≢◌, ◌≤◌}
+use Rattle.mscp_ported.proofs.Common.{Action, Answered, AsksAlways, Block, Bool, Buffer, Call, Connection, Contains, Drive, End, First, Hardware, Holdings, IsMadeOf, IsStepping, List, MoveKind, Name, Next, None, Ok, Option, Order, Outcome, Picking, Port, Record, Says, Some, Verdict, WasRead, Went, WriteIp, [], advanced, ap, arith, asked, begun_step, block_told, buffer_in, comes, done_by, end_given, false, filter, given, inl, inr, is_done, is_moving, is_of, is_step_of, kept_after, left_of, min, moved, name_of, name_on, none-some, num, order_weight, record_at, refl, same_Some, same_is, same_name, subst, sym, true, wanted, wish, ℕ, ◌*◌, ◌++◌, ◌+◌, ◌-◌, ◌<◌, ◌∙◌, ◌∷◌, ◌≡◌, ◌≢◌, ◌≤◌}
+use Rattle.mscp_ported.proofs.Kept.{is_numbered}
+use Rattle.mscp_ported.proofs.Loads.{looks_or_not}
+use Rattle.mscp_ported.proofs.Said.{is_first, not_of, without_among}
 use Rattle.mscp_ported.proofs.Stepping.{IsHow, Serves, drive_in, went_is}
 use Rattle.mscp_ported.proofs.Staying.{IsPassive, passive_stays}
 use Rattle.mscp_packet.specs.declared.command.MoveKind.TheVariants as moves

@@ -1,4 +1,4 @@
-mod Common
+pub mod Common
 pub mod Deeds
 pub mod Sights
 pub mod Touching
@@ -83,3 +83,15 @@ pub mod Passed
 pub mod Turns
 pub mod Serving
 pub mod Itself
+pub mod Come
+pub mod Credited
+pub mod Credits
+pub mod Departing
+pub mod Fair
+pub mod Kept
+pub mod Loads
+pub mod Mounts
+pub mod Naming
+pub mod Said
+pub mod Heeded
+pub mod Texts

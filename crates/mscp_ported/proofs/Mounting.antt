@@ -1,5 +1,7 @@
 -- A unit that is online was brought online with the volume that is in it.
-use Rattle.mscp_ported.proofs.Common.{Answered, Bool, Buffer, Call, Connection, End, First, Hardware, Holdings, IsMadeOf, IsOnline, List, None, Option, Picking, Port, Shape, Some, Succeeds, Volume, WriteIp, [], ap, arith, cond, eq-eqb, eqb-true, false, false≢true, inl, inr, kept_found, kept_of, none-some, of_first, place_heeded, place_in, refl, same_Some, set, settings_stay, subst, sym, true, volume_at, volume_heeded, volumes_after, volumes_heeded, volumes_with, ℕ, ◌%◌, ◌<◌, ◌==◌, ◌∙◌, ◌∷◌, ◌≡◌, ◌≢◌, ◌⊎◌, changed_by}
+use Rattle.mscp_ported.proofs.Common.{Answered, Bool, Buffer, Call, Connection, End, First, Hardware, Holdings, IsMadeOf, IsOnline, List, None, Option, Picking, Port, Shape, Some, Succeeds, Volume, WriteIp, [], ap, arith, cond, eq-eqb, eqb-true, false, false≢true, inl, inr, kept_of, none-some, place_heeded, place_in, refl, same_Some, set, subst, sym, true, volume_at, volume_heeded, volumes_after, volumes_heeded, volumes_with, ℕ, ◌%◌, ◌<◌, ◌==◌, ◌∙◌, ◌∷◌, ◌≡◌, ◌≢◌, ◌⊎◌, changed_by}
+use Rattle.mscp_ported.proofs.Credits.{settings_stay}
+use Rattle.mscp_ported.proofs.Said.{kept_found, of_first}
 use Rattle.mscp_ported.proofs.Changing.{other_unit, same_unit}
 use Rattle.mscp_ported.proofs.Coming.{brought_for}
 pub use Rattle.mscp_ported.proofs.Volumes.{Ended}

@@ -1,5 +1,8 @@
 -- A block of which the controller is told that it went well was moved at its place.
-use Rattle.mscp_ported.proofs.Common.{All, Answered, AsksAlways, Block, Bool, Buffer, Call, Connection, Err, Finish, First, Hardware, Holdings, IfSome, IsEmpty, IsFinish, IsMadeOf, IsOfBlock, IsTo, Keeps, List, Makes, MoveKind, Name, None, NotBegun, Ok, Option, Order, Outcome, Picking, Port, Record, Report, Result, Some, Task, Upcoming, Verdict, Volume, WasMoved, WasSaid, Went, Wish, [], ap, arith, asks_nothing, begun_step, begun_task, block_begun, block_moved, changed_verdict, cond, drive_of, eqb-true, false, find, has_changed, has_name, inl, inr, is_available, is_moving, is_of, is_same, kept_found, kept_of, kept_was_said, known_task, move_of, move_task, move_wanted, moved_by, moved_step, name_of, name_on, nat_eq, none-some, of_first, option_map, part_at, part_now, part_of, part_task, part_wanted, part_with, place_in, position, refl, same_Some, step_told, subst, sym, takes_any_volume, task_of, told_as, told_of, told_unless, transfer_told, true, upcoming_begun, upcoming_of, volume_at, wish, ℕ, ◌&&◌, ◌*◌, ◌+◌, ◌<◌, ◌∙◌, ◌∷◌, ◌≡◌, ◌≢◌, ◌≤◌, ◌⊎◌}
+use Rattle.mscp_ported.proofs.Common.{All, Answered, AsksAlways, Block, Bool, Buffer, Call, Connection, Err, Finish, First, Hardware, Holdings, IfSome, IsEmpty, IsFinish, IsMadeOf, IsOfBlock, List, Makes, MoveKind, Name, None, NotBegun, Ok, Option, Order, Outcome, Picking, Port, Record, Report, Result, Some, Task, Upcoming, Verdict, Volume, WasMoved, WasSaid, Went, Wish, [], ap, arith, asks_nothing, begun_step, begun_task, block_begun, block_moved, changed_verdict, cond, drive_of, eqb-true, false, find, has_changed, has_name, inl, inr, is_available, is_moving, is_of, is_same, kept_of, known_task, move_of, move_task, move_wanted, moved_by, moved_step, name_of, name_on, nat_eq, none-some, option_map, part_at, part_now, part_of, part_task, part_wanted, part_with, place_in, position, refl, same_Some, step_told, subst, sym, takes_any_volume, task_of, told_as, told_of, told_unless, transfer_told, true, upcoming_begun, upcoming_of, volume_at, wish, ℕ, ◌&&◌, ◌*◌, ◌+◌, ◌<◌, ◌∙◌, ◌∷◌, ◌≡◌, ◌≢◌, ◌≤◌, ◌⊎◌}
+use Rattle.mscp_ported.proofs.Heeded.{kept_was_said}
+use Rattle.mscp_ported.proofs.Kept.{IsTo}
+use Rattle.mscp_ported.proofs.Said.{Keeps, kept_found, of_first}
 use Rattle.mscp_drive.specs.declared.block.Block.TheVariants as blocks
 use Rattle.mscp_port.specs.declared.action.Action.TheVariants as actions
 use Rattle.mscp_port.specs.declared.action.Outcome.TheVariants as outcomes

@@ -1,5 +1,7 @@
 -- A port has no news of a unit that is online, or that has no volume.
-use Rattle.mscp_ported.proofs.Common.{Answered, Becomes, Bool, Buffer, Call, Connection, End, Hardware, Holdings, IsAvailable, IsMadeOf, IsNews, IsSomeAnd, IsUnitList, List, None, Option, Outgoing, OutgoingKind, Picking, Port, Says, Shape, Some, TellsNews, Volume, [], ap, arith, attention, cond, end_bytes, end_kind, eqb-true, false, false≢true, length, looks_or_not, news_place, none-some, option_map, protected_by, refl, same_Some, set, settings_still, slice_get, subst, suc, sym, true, volume_at, volume_heeded, volumes_after, volumes_heeded, volumes_with, zero, ℕ, ◌<◌, ◌==◌, ◌∙◌, ◌∷◌, ◌≡◌, ◌≤◌}
+use Rattle.mscp_ported.proofs.Common.{Answered, Becomes, Bool, Buffer, Call, Connection, End, Hardware, Holdings, IsAvailable, IsMadeOf, IsNews, IsSomeAnd, IsUnitList, List, None, Option, Outgoing, OutgoingKind, Picking, Port, Says, Shape, Some, TellsNews, Volume, [], ap, arith, attention, cond, end_bytes, end_kind, eqb-true, false, false≢true, length, news_place, none-some, option_map, protected_by, refl, same_Some, set, slice_get, subst, suc, sym, true, volume_at, volume_heeded, volumes_after, volumes_heeded, volumes_with, zero, ℕ, ◌<◌, ◌==◌, ◌∙◌, ◌∷◌, ◌≡◌, ◌≤◌}
+use Rattle.mscp_ported.proofs.Credits.{settings_still}
+use Rattle.mscp_ported.proofs.Loads.{looks_or_not}
 use Rattle.mscp_ported.proofs.Minor.{minor, minor_out}
 use Rattle.mscp_ported.proofs.Volumes.{Remounted, remounted, set_at}
 use Rattle.std.specs.Prelude.{◌/◌, ◌%◌}

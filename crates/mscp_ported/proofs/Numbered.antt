@@ -1,5 +1,6 @@
 -- What there is of each reference number: nothing; a message whose command waits; or one whose end waits.
-use Rattle.mscp_ported.proofs.Common.{Bool, End, EndBody, List, None, Order, Record, [], ap, append-nil, arith, bytes_in, cond, eq-eqb, eqb-true, false, false≢true, filter, filter-append, find, has_number, inl, inr, is_numbered, nat_eq, not, num, refl, subst, sym, true, ℕ, ◌++◌, ◌∙◌, ◌∷◌, ◌≡◌, ◌≤◌, ◌⊎◌}
+use Rattle.mscp_ported.proofs.Common.{Bool, End, EndBody, List, None, Order, Record, [], ap, append-nil, arith, bytes_in, cond, eq-eqb, eqb-true, false, false≢true, filter, filter-append, find, has_number, inl, inr, nat_eq, not, num, refl, subst, sym, true, ℕ, ◌++◌, ◌∙◌, ◌∷◌, ◌≡◌, ◌≤◌, ◌⊎◌}
+use Rattle.mscp_ported.proofs.Kept.{is_numbered}
 use Rattle.mscp_packet.specs.declared.command.Order.TheVariants as orders
 use Rattle.mscp_packet.specs.declared.end.EndBody.TheVariants as bodies
 use Rattle.mscp_ported.proofs.Sole.{sole_left}

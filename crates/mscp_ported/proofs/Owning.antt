@@ -1,5 +1,8 @@
 -- What is kept of a command was said by its own message, and its blocks so far were moved at their places.
-use Rattle.mscp_ported.proofs.Common.{Action, Answered, Bool, Buffer, Call, Contains, Contains-push_cases, First, Holdings, IsLike, List, Name, None, Ok, Option, Order, Picking, Port, Record, Some, WasRead, [], ap, append-nil, arith, asked, asks_nothing, balance_of, buffer_in, changes_at, comes, command_of, cond, done_by, eq-eqb, eqb-true, false, filter, find, fresh_record, handed, handed_as_read, handed_like, inl, inr, is_first, is_formality, is_numbered, is_queued_text, length, moved, name_of, name_on, nat_eq, nat_lt, none-some, none_among, none_waits, not, not_of, num, option_map, order_weight, outstanding_of, place_in, reference_aborted, refl, same_Some, same_is, slice_index, subst, sym, taken_number, transfers, true, unaborted, waiting, wish, without_aborted, without_among, ℕ, ◌&&◌, ◌++◌, ◌<◌, ◌==◌, ◌∙◌, ◌∷◌, ◌≡◌, ◌≢◌, ◌≤◌, ◌⊎◌}
+use Rattle.mscp_ported.proofs.Common.{Action, Answered, Bool, Buffer, Call, Contains, Contains-push_cases, First, Holdings, List, Name, None, Ok, Option, Order, Picking, Port, Record, Some, WasRead, [], ap, append-nil, arith, asked, asks_nothing, balance_of, buffer_in, changes_at, comes, command_of, cond, done_by, eq-eqb, eqb-true, false, filter, find, fresh_record, handed, inl, inr, is_formality, is_queued_text, length, moved, name_of, name_on, nat_eq, nat_lt, none-some, none_among, not, num, option_map, order_weight, outstanding_of, place_in, reference_aborted, refl, same_Some, same_is, slice_index, subst, sym, transfers, true, unaborted, waiting, wish, without_aborted, ℕ, ◌&&◌, ◌++◌, ◌<◌, ◌==◌, ◌∙◌, ◌∷◌, ◌≡◌, ◌≢◌, ◌≤◌, ◌⊎◌}
+use Rattle.mscp_ported.proofs.Come.{IsLike, handed_as_read, handed_like, none_waits, taken_number}
+use Rattle.mscp_ported.proofs.Kept.{is_numbered}
+use Rattle.mscp_ported.proofs.Said.{is_first, not_of, without_among}
 use Rattle.mscp_packet.specs.declared.command.Order.TheVariants as orders
 use Rattle.mscp_ported.proofs.Reading.{Gets, Queues, and_false, answered_now, command_in, not_queued, queued_later, read_is}
 use Rattle.mscp_ported.proofs.Sole.{Alike, found_sole, itself, none_passes, sole_beside, sole_comes, sole_left, sole_passes}

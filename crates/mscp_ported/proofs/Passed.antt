@@ -1,5 +1,6 @@
 -- Ends pass on to a host in order, over a whole list of calls.
-use Rattle.mscp_ported.proofs.Common.{All, AllByRecursion, Answered, AnsweredCalls, AsksAlways, Call, ControllersKeepThePromise, Deals, Err, First, Hardware, Holdings, IsMadeOf, IsValid, List, Made, Next, Ok, OutgoingKind, PassesOn, Pending, Picking, Port, ReadsBytes, Record, Settings, TakesPoll, WasRead, Went, WriteIp, [], accepted_by, ap, append-nil, arith, awaited, begins, ends_said_by, every_append, false, figure_on, filter, flat_map, fresh, inl, inr, is_dead, is_numbered, map, num, outstanding_of, pending_end, pending_held, pending_in, pending_said, refl, said_in, sym, taken_by, ℕ, ◌++◌, ◌<◌, ◌∙◌, ◌∷◌, ◌≡◌, ◌≢◌, ◌≤◌, ◌⊎◌}
+use Rattle.mscp_ported.proofs.Common.{All, AllByRecursion, Answered, AnsweredCalls, AsksAlways, Call, ControllersKeepThePromise, Deals, Err, First, Hardware, Holdings, IsMadeOf, IsValid, List, Made, Next, Ok, OutgoingKind, PassesOn, Pending, Picking, Port, ReadsBytes, Record, Settings, TakesPoll, WasRead, Went, WriteIp, [], accepted_by, ap, append-nil, arith, awaited, begins, ends_said_by, every_append, false, figure_on, filter, flat_map, fresh, inl, inr, is_dead, map, num, outstanding_of, pending_end, pending_held, pending_in, pending_said, refl, said_in, sym, taken_by, ℕ, ◌++◌, ◌<◌, ◌∙◌, ◌∷◌, ◌≡◌, ◌≢◌, ◌≤◌, ◌⊎◌}
+use Rattle.mscp_ported.proofs.Kept.{is_numbered}
 use Rattle.mscp_ported.proofs.Answering.{answers}
 use Rattle.mscp_ported.proofs.Awaiting.{Kept}
 use Rattle.mscp_ported.proofs.ByOpcode.{fitting}

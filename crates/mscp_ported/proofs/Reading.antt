@@ -1,5 +1,6 @@
 -- What becomes of a message that a port reads.
-use Rattle.mscp_ported.proofs.Common.{Bool, Command, Descriptor, End, First, Hears, Holdings, IsReadingText, List, None, Ok, Option, Port, Result, SeesText, SendFault, Sends, Some, Task, WasRead, [], aborted_record, aborting, accepted_by, answer_to_message, answered_end, answered_to, ap, append_assoc, arith, balance_of, command_of, cond, drop-append_seam, false, handed, held_unless, inl, inr, is_none, is_ok, is_queued, is_queued_text, is_taken_text, length, map, none-some, none_or_some, option_map, option_to_list, outstanding_of, own_answer, own_end_of, queued, record_aborted, reference_aborted, refl, refusal, sent_unless, stays, subst, sym, taken_as, taken_by, true, volume_named, with_end, ℕ, ◌&&◌, ◌++◌, ◌∙◌, ◌∷◌, ◌≡◌, ◌≢◌, ◌≤◌, ◌⊎◌}
+use Rattle.mscp_ported.proofs.Common.{Bool, Command, Descriptor, End, First, Hears, Holdings, IsReadingText, List, None, Ok, Option, Port, Result, SeesText, SendFault, Sends, Some, Task, WasRead, [], aborted_record, aborting, accepted_by, answer_to_message, answered_end, answered_to, ap, append_assoc, arith, balance_of, command_of, cond, drop-append_seam, false, handed, held_unless, inl, inr, is_none, is_ok, is_queued, is_queued_text, is_taken_text, length, map, none-some, option_map, option_to_list, outstanding_of, own_answer, own_end_of, queued, record_aborted, reference_aborted, refl, refusal, sent_unless, stays, subst, sym, taken_as, taken_by, true, volume_named, with_end, ℕ, ◌&&◌, ◌++◌, ◌∙◌, ◌∷◌, ◌≡◌, ◌≢◌, ◌≤◌, ◌⊎◌}
+use Rattle.mscp_ported.proofs.Said.{none_or_some}
 use Rattle.mscp_controller.specs.declared.entry.Sent.{Sent}
 use Rattle.mscp_controller.specs.declared.entry.Sent.TheVariants as sents
 use Rattle.mscp_port.specs.declared.task.Task.TheVariants as tasks

@@ -1,6 +1,7 @@
 -- A serial is given once: each call leaves what is begun, or lets it go, or gives the next serial where nothing was
 -- begun.
-use Rattle.mscp_ported.proofs.Common.{Answered, Becomes, Bool, Call, Choice, End, Err, Finishes, First, Foretells, Goes, Hears, Holdings, IsAlive, IsAsNew, IsOfBlock, List, MatchOption, Name, Next, None, NotBegun, Ok, Option, Outcome, Picking, Port, ReadIp, Report, Result, Says, Some, Stage, TakesBegun, TakesBlock, Task, Upcoming, Verdict, WasRead, Wants, Went, WriteIp, WriteSa, [], after_message, ap, arith, begun_step, block_begun, block_served, block_told, eqb-true, false, false≢true, handed, inl, inr, length, looks_or_not, name_of, name_on, nat_eq, none-some, own_end_of, record_at, refl, same_is, subst, sym, true, upcoming_begun, ℕ, ◌+◌, ◌<◌, ◌^◌, ◌∙◌, ◌∷◌, ◌≡◌, ◌≤◌, ◌⊎◌}
+use Rattle.mscp_ported.proofs.Common.{Answered, Becomes, Bool, Call, Choice, End, Err, Finishes, First, Foretells, Goes, Hears, Holdings, IsAlive, IsAsNew, IsOfBlock, List, MatchOption, Name, Next, None, NotBegun, Ok, Option, Outcome, Picking, Port, ReadIp, Report, Result, Says, Some, Stage, TakesBegun, TakesBlock, Task, Upcoming, Verdict, WasRead, Wants, Went, WriteIp, WriteSa, [], after_message, ap, arith, begun_step, block_begun, block_served, block_told, eqb-true, false, false≢true, handed, inl, inr, length, name_of, name_on, nat_eq, none-some, own_end_of, record_at, refl, same_is, subst, sym, true, upcoming_begun, ℕ, ◌+◌, ◌<◌, ◌^◌, ◌∙◌, ◌∷◌, ◌≡◌, ◌≤◌, ◌⊎◌}
+use Rattle.mscp_ported.proofs.Loads.{looks_or_not}
 use Rattle.std.specs.Prelude.{MatchBool}
 use Rattle.mscp_port.specs.Calls.{GoesBy}
 use Rattle.mscp_port.specs.Serials.{is_of_serial, next_serial, serial_after}

@@ -1,5 +1,6 @@
 -- While a message is read and nothing goes out, no end waits for the host.
-use Rattle.mscp_ported.proofs.Common.{Action, Answered, Becomes, Bool, Call, Choice, Descriptor, End, Hardware, Holdings, IsMadeOf, List, Next, None, Picking, Port, Task, Wants, [], ap, arith, inl, inr, looks_or_not, none-some, refl, slice_get, subst, sym, ℕ, ◌∙◌, ◌∷◌, ◌≡◌, ◌≢◌, ◌⊎◌}
+use Rattle.mscp_ported.proofs.Common.{Action, Answered, Becomes, Bool, Call, Choice, Descriptor, End, Hardware, Holdings, IsMadeOf, List, Next, None, Picking, Port, Task, Wants, [], ap, arith, inl, inr, none-some, refl, slice_get, subst, sym, ℕ, ◌∙◌, ◌∷◌, ◌≡◌, ◌≢◌, ◌⊎◌}
+use Rattle.mscp_ported.proofs.Loads.{looks_or_not}
 use Rattle.mscp_port.specs.declared.task.Task.TheVariants as tasks
 use Rattle.mscp_ported.proofs.Coming.{ends_of}
 use Rattle.mscp_ported.proofs.Turns.{IsHearing, reads_on}

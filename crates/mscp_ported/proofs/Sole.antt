@@ -1,5 +1,6 @@
 -- The one command of a number that waits, by each step.
-use Rattle.mscp_ported.proofs.Common.{All, All-head, All-tail, Block, Bool, Drive, End, List, None, Option, Record, Some, [], advanced, ap, arith, cond, drop, drop_more, end_given, false, false≢true, filter, filter-append, find, inl, inr, is_numbered, length, list_any, map, no_record, passed_by, record_at, refl, remains, step_charge, sym, take, take-append-drop, true, waiting_after, ℕ, ◌++◌, ◌+◌, ◌<◌, ◌∙◌, ◌∷◌, ◌≡◌, ◌⊎◌}
+use Rattle.mscp_ported.proofs.Common.{All, All-head, All-tail, Block, Bool, Drive, End, List, None, Option, Record, Some, [], advanced, ap, arith, cond, drop, drop_more, end_given, false, false≢true, filter, filter-append, find, inl, inr, length, list_any, map, no_record, passed_by, record_at, refl, remains, step_charge, sym, take, take-append-drop, true, waiting_after, ℕ, ◌++◌, ◌+◌, ◌<◌, ◌∙◌, ◌∷◌, ◌≡◌, ◌⊎◌}
+use Rattle.mscp_ported.proofs.Kept.{is_numbered}
 use Rattle.mscp_port.proofs.Common.{none-some}
 
 module _ {X : Type 0} where

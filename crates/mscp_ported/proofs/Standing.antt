@@ -1,5 +1,6 @@
 -- The end of a transfer that says Success stands for blocks that were moved, each at its place.
-use Rattle.mscp_ported.proofs.Common.{Answered, AsksAlways, Bool, Call, Command, Contains, End, Hardware, Holdings, IsMadeOf, List, MoveKind, Ok, Option, Order, Outcome, Picking, Port, Some, StandsFor, Upcoming, Verdict, Went, ap, arith, begun_step, block_moved, block_told, block_touched, blocks, blocks_in, come, command_of, drive_of, eqb-true, false, false≢true, found_is, goes_on, good_status, inl, inr, is_of, kept_found, left_of, min, move_byte, nat_eq, nat_lt, none-some, num, of_first, opcode_of, opcodes, order_weight, outcome_at, outcome_status, position, refl, row_of, same_Some, slice_index, step_told, subst, suc, sym, touches, transfers, true, wish, ℕ, ◌&&◌, ◌*◌, ◌-◌, ◌<◌, ◌∙◌, ◌∷◌, ◌≡◌, ◌≤◌, is_good_block}
+use Rattle.mscp_ported.proofs.Common.{Answered, AsksAlways, Bool, Call, Command, Contains, End, Hardware, Holdings, IsMadeOf, List, MoveKind, Ok, Option, Order, Outcome, Picking, Port, Some, StandsFor, Upcoming, Verdict, Went, ap, arith, begun_step, block_moved, block_told, block_touched, blocks, blocks_in, come, command_of, drive_of, eqb-true, false, false≢true, found_is, goes_on, good_status, inl, inr, is_of, left_of, min, move_byte, nat_eq, nat_lt, none-some, num, opcode_of, opcodes, order_weight, outcome_at, outcome_status, position, refl, row_of, same_Some, slice_index, step_told, subst, suc, sym, touches, transfers, true, wish, ℕ, ◌&&◌, ◌*◌, ◌-◌, ◌<◌, ◌∙◌, ◌∷◌, ◌≡◌, ◌≤◌, is_good_block}
+use Rattle.mscp_ported.proofs.Said.{kept_found, of_first}
 use Rattle.mscp_packet.specs.declared.class.Opcode.TheVariants as codes
 use Rattle.mscp_packet.specs.declared.command.MoveKind.TheVariants as kinds
 use Rattle.mscp_packet.specs.declared.command.Order.TheVariants as orders

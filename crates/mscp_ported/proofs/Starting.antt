@@ -1,5 +1,6 @@
 -- What each call of a port leaves of what goes out, or of an end that waits.
-use Rattle.mscp_ported.proofs.Common.{Action, Becomes, Bool, Call, Choice, IsForgotten, IsGiven, List, Next, None, Option, Outgoing, Picking, Port, Some, Wants, [], acts, ap, arith, inl, inr, looks_or_not, none-some, refl, slice_get, subst, sym, ℕ, ◌+◌, ◌<◌, ◌∙◌, ◌∷◌, ◌≡◌, ◌≢◌, ◌≤◌, ◌⊎◌, Responses, false}
+use Rattle.mscp_ported.proofs.Common.{Action, Becomes, Bool, Call, Choice, IsForgotten, IsGiven, List, Next, None, Option, Outgoing, Picking, Port, Some, Wants, [], acts, ap, arith, inl, inr, none-some, refl, slice_get, subst, sym, ℕ, ◌+◌, ◌<◌, ◌∙◌, ◌∷◌, ◌≡◌, ◌≢◌, ◌≤◌, ◌⊎◌, Responses, false}
+use Rattle.mscp_ported.proofs.Loads.{looks_or_not}
 use Rattle.std.specs.Prelude.{length}
 use Rattle.mscp_port.specs.declared.stage.Stage.TheVariants as stages
 use Rattle.mscp_port.specs.declared.task.Task.TheVariants as tasks

@@ -1,5 +1,7 @@
 -- What becomes of a step that a port reports of.
-use Rattle.mscp_ported.proofs.Common.{Dies, Drive, End, Err, Finishes, First, Goes, HeedsStep, IsStepping, List, MatchOption, Name, None, NotBegun, Ok, Option, Outcome, Port, Report, Result, Some, TakesBegun, TakesBlock, Task, Verdict, ap, block_begun, block_served, block_told, drive_at, end_brought, end_given, false≢true, inl, inr, is_begun, is_numbered, is_same, length, name_of, name_on, none-some, record_at, refl, served_name, subst, sym, takes, true, waiting_after, ℕ, ◌++◌, ◌∙◌, ◌≡◌, ◌≤◌, ◌⊎◌, arith}
+use Rattle.mscp_ported.proofs.Common.{Dies, Drive, End, Err, Finishes, First, Goes, HeedsStep, IsStepping, List, MatchOption, Name, None, NotBegun, Ok, Option, Outcome, Port, Report, Result, Some, TakesBegun, TakesBlock, Task, Verdict, ap, block_begun, block_served, block_told, drive_at, end_brought, end_given, false≢true, inl, inr, is_begun, is_same, length, name_of, name_on, none-some, record_at, refl, subst, sym, takes, true, waiting_after, ℕ, ◌++◌, ◌∙◌, ◌≡◌, ◌≤◌, ◌⊎◌, arith}
+use Rattle.mscp_ported.proofs.Kept.{is_numbered}
+use Rattle.mscp_ported.proofs.Said.{served_name}
 use Rattle.mscp_queue.specs.Serving.{IsServable, drives_after}
 use Rattle.mscp_queue.specs.declared.report.Report.TheVariants as reports
 use Rattle.mscp_port.specs.declared.task.Task.TheVariants as tasks

@@ -1,5 +1,6 @@
 -- As something is wanted the oldest end of the controller's begins to go out, or no end does.
-use Rattle.mscp_ported.proofs.Common.{IsNews, List, MayBegin, None, Option, Outgoing, Port, Says, Shape, Some, TakesEnd, Volume, [], ap, arith, ends_begun, looks_or_not, none-some, refl, told_end, ℕ, ◌∙◌, ◌∷◌, ◌≡◌, ◌⊎◌}
+use Rattle.mscp_ported.proofs.Common.{IsNews, List, MayBegin, None, Option, Outgoing, Port, Says, Shape, Some, TakesEnd, Volume, [], ap, arith, ends_begun, none-some, refl, told_end, ℕ, ◌∙◌, ◌∷◌, ◌≡◌, ◌⊎◌}
+use Rattle.mscp_ported.proofs.Loads.{looks_or_not}
 use Rattle.mscp_port.specs.declared.stage.Stage.TheVariants as stages
 
 pub record NoEnd {K : Type 0} (old new : Port K) : Type 0 where

@@ -1,5 +1,6 @@
 -- Which calls look for a message of a port's host, or read one on.
-use Rattle.mscp_ported.proofs.Common.{Action, Becomes, Bool, Call, Choice, Commands, IsDue, IsReadingText, List, Next, Ok, Option, Outcome, Picking, Port, ReadIp, Record, Rings, Side, Descriptor, Task, Wants, WasRead, Went, WriteIp, WriteSa, [], arith, aside, block_is_due, false, false≢true, hears_of, inl, inr, is_dead, length, nat_eq, none-some, none_or_not, not, read_again, refl, step_at, subst, taken_or_not, true, up_or_not, ℕ, ◌&&◌, ◌∷◌, ◌≡◌, ◌⊎◌}
+use Rattle.mscp_ported.proofs.Common.{Action, Becomes, Bool, Call, Choice, Commands, IsDue, IsReadingText, List, Next, Ok, Option, Outcome, Picking, Port, ReadIp, Record, Rings, Side, Descriptor, Task, Wants, WasRead, Went, WriteIp, WriteSa, [], arith, aside, block_is_due, false, false≢true, hears_of, inl, inr, is_dead, length, nat_eq, none-some, not, read_again, refl, step_at, subst, taken_or_not, true, ℕ, ◌&&◌, ◌∷◌, ◌≡◌, ◌⊎◌}
+use Rattle.mscp_ported.proofs.Loads.{none_or_not, up_or_not}
 use Rattle.mscp_ported.proofs.Deeds.{Deed, IsNewStep, deed}
 use Rattle.mscp_ported.proofs.Minor.{minor}
 use Rattle.mscp_ported.proofs.Sights.{IsSlide, Seen, sight, task_read}

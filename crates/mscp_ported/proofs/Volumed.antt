@@ -1,5 +1,6 @@
 -- Blocks are moved on the volume that was there as their command came, and with which the unit is online.
-use Rattle.mscp_ported.proofs.Common.{Action, Answered, AsksAlways, Bool, Buffer, Call, Connection, Err, Finish, Hardware, Holdings, IfSome, IsMadeOf, IsOfItsVolume, IsOnItsVolume, IsOnline, IsUnitList, IsWanted, List, Makes, MoveKind, Next, None, NotBegun, Ok, Option, Outcome, Picking, Port, Report, Result, Shape, Some, Task, Upcoming, Verdict, Volume, Went, [], ap, arith, begun_step, block_begun, changed, eqb-true, false, false≢true, has_changed, inl, inr, kept_of, length, move_of, move_wanted, moved_step, nat_eq, none-some, one_block, option_map, part_at, part_wanted, part_with, place_in, position-Some, refl, same_Some, settings_still, step_told, subst, sym, true, volume_at, wish, ℕ, ◌<◌, ◌∙◌, ◌∷◌, ◌≡◌, ◌≤◌}
+use Rattle.mscp_ported.proofs.Common.{Action, Answered, AsksAlways, Bool, Buffer, Call, Connection, Err, Finish, Hardware, Holdings, IfSome, IsMadeOf, IsOfItsVolume, IsOnItsVolume, IsOnline, IsUnitList, IsWanted, List, Makes, MoveKind, Next, None, NotBegun, Ok, Option, Outcome, Picking, Port, Report, Result, Shape, Some, Task, Upcoming, Verdict, Volume, Went, [], ap, arith, begun_step, block_begun, changed, eqb-true, false, false≢true, has_changed, inl, inr, kept_of, length, move_of, move_wanted, moved_step, nat_eq, none-some, one_block, option_map, part_at, part_wanted, part_with, place_in, position-Some, refl, same_Some, step_told, subst, sym, true, volume_at, wish, ℕ, ◌<◌, ◌∙◌, ◌∷◌, ◌≡◌, ◌≤◌}
+use Rattle.mscp_ported.proofs.Credits.{settings_still}
 use Rattle.mscp_drive.specs.declared.block.Block.TheVariants as blocks
 use Rattle.mscp_port.specs.declared.action.Action.TheVariants as actions
 use Rattle.mscp_port.specs.declared.task.Task.TheVariants as tasks

@@ -1,5 +1,6 @@
 -- What becomes of the volumes of a port by a call, case by case.
-use Rattle.mscp_ported.proofs.Common.{Becomes, Bool, Call, Choice, Connection, Contains, End, Err, Goes, IsForgotten, IsNews, List, LookAgain, Next, None, Ok, Option, Outgoing, Picking, Port, Protect, PutAside, Says, Shape, Some, Succeeds, Tick, Volume, VolumeCame, VolumeWent, Went, WriteIp, [], ap, append-nil, arith, cases_eq, cases_lt, changed_by, come, cond, end_brought, false, false≢true, get_or-set_other, get_or-set_same, get_or_past, inl, inr, length, length-set, looks_or_not, news_place, no_volume, place_in, refl, set, subst, sym, taken_or_not, true, volume_at, volume_changed, volume_protected, volume_put, volumes_after, volumes_with, ℕ, ◌%◌, ◌+◌, ◌==◌, ◌∙◌, ◌≡◌, ◌≢◌, ◌≤◌}
+use Rattle.mscp_ported.proofs.Common.{Becomes, Bool, Call, Choice, Connection, Contains, End, Err, Goes, IsForgotten, IsNews, List, LookAgain, Next, None, Ok, Option, Outgoing, Picking, Port, Protect, PutAside, Says, Shape, Some, Succeeds, Tick, Volume, VolumeCame, VolumeWent, Went, WriteIp, [], ap, append-nil, arith, cases_eq, cases_lt, changed_by, come, cond, end_brought, false, false≢true, get_or-set_other, get_or-set_same, get_or_past, inl, inr, length, length-set, news_place, no_volume, place_in, refl, set, subst, sym, taken_or_not, true, volume_at, volume_changed, volume_protected, volume_put, volumes_after, volumes_with, ℕ, ◌%◌, ◌+◌, ◌==◌, ◌∙◌, ◌≡◌, ◌≢◌, ◌≤◌}
+use Rattle.mscp_ported.proofs.Loads.{looks_or_not}
 use Rattle.mscp_port.specs.declared.stage.Stage.TheVariants as stages
 use Rattle.mscp_ported.proofs.Coming.{brought_for, come_so, ends_of, steps_bring}
 

@@ -1,5 +1,6 @@
 -- What follows when something is wanted of a holder.
-use Rattle.mscp_ported.proofs.Common.{Action, Bool, Choice, Commands, IsAlive, IsDue, IsOfBlock, IsOwed, IsWanted, List, Next, None, Option, Port, Responses, Said, Some, Stage, Talk, Task, Wants, Wish, [], ap, append-nil, arith, begins, bytes_wanted, false, inl, inr, is_dead, looks_or_not, map, message_text, none-some, refl, said_in, stepped, subst, sym, true, ℕ, ◌++◌, ◌∙◌, ◌≡◌, ◌≢◌, ◌⊎◌}
+use Rattle.mscp_ported.proofs.Common.{Action, Bool, Choice, Commands, IsAlive, IsDue, IsOfBlock, IsOwed, IsWanted, List, Next, None, Option, Port, Responses, Said, Some, Stage, Talk, Task, Wants, Wish, [], ap, append-nil, arith, begins, bytes_wanted, false, inl, inr, is_dead, map, message_text, none-some, refl, said_in, stepped, subst, sym, true, ℕ, ◌++◌, ◌∙◌, ◌≡◌, ◌≢◌, ◌⊎◌}
+use Rattle.mscp_ported.proofs.Loads.{looks_or_not}
 use Rattle.mscp_port.specs.declared.action.Action.TheVariants as actions
 use Rattle.mscp_port.specs.declared.stage.Stage.TheVariants as stages
 use Rattle.mscp_port.specs.declared.task.Task.TheVariants as tasks

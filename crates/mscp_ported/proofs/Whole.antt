@@ -1,5 +1,6 @@
 -- The text of an end that goes out: its number, its bytes, and that it is whole.
-use Rattle.mscp_ported.proofs.Common.{AllByRecursion, BodyKind, Decided, End, EndBody, Hardware, IsOfKind, IsWhole, List, Moved, Option, Port, Shape, Some, arith, end_bytes, end_length, end_with_body, endcodes, ends_formality, false, four, head, kind_of_body, kind_of_code, length, nat_eq, none-some, num, refl, same_Some, slice_get, slice_index, subst, sym, told_end, true, unit_found, ℕ, ◌%◌, ◌*◌, ◌+◌, ◌/◌, ◌<◌, ◌^◌, ◌∙◌, ◌≡◌, ◌≤◌, none_or_some, eqb-true}
+use Rattle.mscp_ported.proofs.Common.{AllByRecursion, BodyKind, Decided, End, EndBody, Hardware, IsOfKind, IsWhole, List, Moved, Option, Port, Shape, Some, arith, end_bytes, end_length, end_with_body, endcodes, ends_formality, false, four, head, kind_of_body, kind_of_code, length, nat_eq, none-some, num, refl, same_Some, slice_get, slice_index, subst, sym, told_end, true, unit_found, ℕ, ◌%◌, ◌*◌, ◌+◌, ◌/◌, ◌<◌, ◌^◌, ◌∙◌, ◌≡◌, ◌≤◌, eqb-true}
+use Rattle.mscp_ported.proofs.Said.{none_or_some}
 use Rattle.mscp_ported.proofs.Numbered.{counted_in}
 
 -- ---- the text of an end

@@ -10,7 +10,7 @@ use Rattle.mscp_controller.specs.Holdings.{Holdings, fresh}
 use Rattle.mscp_port.specs.declared.hardware.Hardware.{Hardware}
 use Rattle.mscp_port.specs.declared.port.Port.{Port}
 use Rattle.mscp_port.specs.Calls.{IsMadeOf}
-use Rattle.mscp_port.specs.Fair.{TellsStep}
+use Rattle.mscp_ported.specs.Fair.{TellsStep}
 use Rattle.mscp_port.specs.Histories.{Answered, Call, Picking}
 use Rattle.mscp_ported.specs.Talk.{AsksAlways}
 

@@ -18,3 +18,10 @@ pub mod Figures
 pub mod Fitting
 pub mod Passing
 pub mod Asking
+pub mod Named
+pub mod Departures
+pub mod Fair
+pub mod Kept
+pub mod Loaded
+pub mod Mounted
+pub mod Places

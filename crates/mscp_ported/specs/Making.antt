@@ -27,7 +27,7 @@ use Rattle.mscp_port.specs.declared.task.Task.TheVariants as tasks
 use Rattle.mscp_port.specs.declared.verdict.Verdict.{Verdict}
 use Rattle.mscp_port.specs.declared.verdict.Verdict.TheVariants as verdicts
 use Rattle.mscp_port.specs.Calls.{IsMadeOf}
-use Rattle.mscp_port.specs.Departures.{IsForgotten}
+use Rattle.mscp_ported.specs.Departures.{IsForgotten}
 use Rattle.mscp_port.specs.Histories.{Answered, Call, Next, Picking, WasRead, Went}
 use Rattle.mscp_port.specs.Messages.{handed, own_end_of}
 use Rattle.mscp_port.specs.Moved.{block_begun, part_now}

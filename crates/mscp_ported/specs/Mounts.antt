@@ -18,7 +18,7 @@ use Rattle.mscp_port.specs.declared.hardware.Hardware.{Hardware}
 use Rattle.mscp_port.specs.declared.port.Port.{Port}
 use Rattle.mscp_port.specs.Calls.{IsMadeOf}
 use Rattle.mscp_port.specs.Histories.{Answered, Call, Next, Picking, VolumeCame, VolumeWent, Went, WriteIp}
-use Rattle.mscp_port.specs.Kept.{IsSaidBy}
+use Rattle.mscp_ported.specs.Kept.{IsSaidBy}
 use Rattle.mscp_ported.specs.Ends.{come}
 use Rattle.mscp_ported.specs.Making.{Makes}
 use Rattle.mscp_ported.specs.Talk.{AsksAlways, wish}

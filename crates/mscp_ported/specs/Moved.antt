@@ -20,7 +20,7 @@ use Rattle.mscp_port.specs.declared.hardware.Hardware.{Hardware}
 use Rattle.mscp_port.specs.declared.port.Port.{Port}
 use Rattle.mscp_port.specs.Calls.{IsMadeOf}
 use Rattle.mscp_port.specs.Histories.{Answered, Call, Picking, Went}
-use Rattle.mscp_port.specs.Kept.{WasSaid}
+use Rattle.mscp_ported.specs.Kept.{WasSaid}
 use Rattle.mscp_ported.specs.Making.{Makes}
 use Rattle.mscp_ported.specs.Talk.{AsksAlways, Wish, wish}
 

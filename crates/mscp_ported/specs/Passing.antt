@@ -16,8 +16,8 @@ use Rattle.mscp_port.specs.declared.port.OutgoingKind.{OutgoingKind}
 use Rattle.mscp_port.specs.declared.port.OutgoingKind.TheVariants as kinds
 use Rattle.mscp_port.specs.declared.port.Port.{Port}
 use Rattle.mscp_port.specs.Calls.{IsMadeOf}
-use Rattle.mscp_port.specs.Departures.{begins}
-use Rattle.mscp_port.specs.Fair.{TellsStep}
+use Rattle.mscp_ported.specs.Departures.{begins}
+use Rattle.mscp_ported.specs.Fair.{TellsStep}
 use Rattle.mscp_port.specs.Histories.{Answered, Call, Picking, WasRead, WriteIp}
 use Rattle.mscp_ported.specs.Awaited.{ReadsBytes, awaited, has_number, taken_by}
 use Rattle.mscp_ported.specs.Figures.{figure_on}

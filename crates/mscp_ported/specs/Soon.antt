@@ -12,7 +12,7 @@ use Rattle.mscp_port.specs.declared.stage.Stage.TheVariants as stages
 use Rattle.mscp_port.specs.declared.task.Task.{Task}
 use Rattle.mscp_port.specs.declared.task.Task.TheVariants as tasks
 use Rattle.mscp_port.specs.Calls.{IsMadeOf}
-use Rattle.mscp_port.specs.Departures.{gone}
+use Rattle.mscp_ported.specs.Departures.{gone}
 use Rattle.mscp_port.specs.Histories.{Answered, Call, LookAgain, Picking, ReadIp, Tick, WasRead, Went, WriteIp}
 use Rattle.mscp_ported.specs.Rings.{is_ports}
 use Rattle.mscp_ported.specs.Talk.{AsksAlways}

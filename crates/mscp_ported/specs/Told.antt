@@ -17,7 +17,7 @@ use Rattle.mscp_port.specs.declared.task.Task.{Task}
 use Rattle.mscp_port.specs.declared.task.Task.TheVariants as tasks
 use Rattle.mscp_port.specs.Areas.{Rings}
 use Rattle.mscp_port.specs.Calls.{IsMadeOf}
-use Rattle.mscp_port.specs.Departures.{begins}
+use Rattle.mscp_ported.specs.Departures.{begins}
 use Rattle.mscp_port.specs.Histories.{Answered, Call, Picking, WasRead}
 use Rattle.mscp_port.specs.Messages.{own_end_of}
 use Rattle.mscp_port.specs.Seen.{answered_to}

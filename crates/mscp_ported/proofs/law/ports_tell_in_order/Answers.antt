@@ -1,4 +1,5 @@
-use Rattle.mscp_ported.proofs.Common.{Responses, StandInOrder, TellAll, all_but_one, arith, map, packet_slot, subst, sym, talk_of, ℕ, ◌+◌, ◌-◌, ◌≡◌}
+use Rattle.mscp_ported.proofs.Common.{Responses, StandInOrder, TellAll, arith, map, packet_slot, subst, sym, talk_of, ℕ, ◌+◌, ◌-◌, ◌≡◌}
+use Rattle.mscp_ported.proofs.Credited.{all_but_one}
 use Rattle.mscp_ported.proofs.Following.{in_step}
 use Rattle.mscp_ported.proofs.law.ports_tell_in_order.Goals as goal
 
