@@ -1,8 +1,8 @@
 // The calls that change nothing.
 #![tactic(auto, using(crate::proofs::Lent::lent_back))]
 
-ghost use Rattle.std.specs.Prelude.{◌≡◌, true, false, pos, length, IfSome, None};
-ghost use Rattle.mscp_c.specs.Common.{is_online_in, of, balance_of, waiting_on, connection_given, AnswersHandle, figure_in, figures_in, figures_told, flag, holders_in, holders_told, limits_told, units_told};
+ghost use Rattle.std.specs.Prelude.{◌≡◌, true, false};
+ghost use Rattle.mscp_c.specs.Common.{AnswersHandle};
 ghost use Rattle.mscp_memory.specs.ControllerHandles.{is_made};
 ghost use Rattle.mscp_c.specs.HandleCalls as calls;
 
@@ -15,8 +15,6 @@ use mscp_memory::controller::{Handle, is_made, lend};
 /// The figures of the waiting commands, oldest first, as many as there is room for: how many wait.
 #[unsafe(no_mangle)]
 pub extern "C" fn mscp_look_at(handle: &mut Handle, out: &mut [FigureOut]) -> i32
-    ensures count { is_made handle.old ≡ true → result ≡ pos (length (figures_in handle.old.held)) }
-    ensures told { is_made handle.old ≡ true → out.new ≡ figures_told (figures_in handle.old.held) out.old }
     ensures same { handle.new ≡ handle.old }
     ensures call { is_made handle.old ≡ true → AnswersHandle handle.old (calls.Look out.old result out.new) handle.new }
     ensures unmade { is_made handle.old ≡ false → (result ≡ NOT_MADE) × (out.new ≡ out.old) }
@@ -36,9 +34,6 @@ pub extern "C" fn mscp_settings_at(
     limits: &mut Limits,
     units: &mut [UnitIn],
 ) -> i32
-    ensures count { is_made handle.old ≡ true → result ≡ pos (length handle.old.held.settings.units) }
-    ensures limits { is_made handle.old ≡ true → limits.new ≡ limits_told handle.old.held.settings }
-    ensures told { is_made handle.old ≡ true → units.new ≡ units_told handle.old.held.settings.units units.old }
     ensures same { handle.new ≡ handle.old }
     ensures call { is_made handle.old ≡ true → AnswersHandle handle.old
         (calls.Configured limits.old units.old result limits.new units.new) handle.new }
@@ -54,9 +49,6 @@ pub extern "C" fn mscp_settings_at(
 /// The figure of a waiting command of the connection, 0 where none waits of that reference number.
 #[unsafe(no_mangle)]
 pub extern "C" fn mscp_figure(handle: &mut Handle, connection: u32, reference: u32) -> i64
-    ensures value { is_made handle.old ≡ true → IfSome (connection_given connection) (λ via.
-        result ≡ pos (figure_in handle.old.held via reference)) }
-    ensures no_connection { is_made handle.old ≡ true → connection_given connection ≡ None → result ≡ BAD_CONNECTION }
     ensures same { handle.new ≡ handle.old }
     ensures call { is_made handle.old ≡ true
         → AnswersHandle handle.old (calls.Figure connection reference result) handle.new }
@@ -79,12 +71,6 @@ pub extern "C" fn mscp_why_at(
     reference: u32,
     out: &mut [HolderOut],
 ) -> i32
-    ensures count { is_made handle.old ≡ true → IfSome (connection_given connection) (λ via.
-        result ≡ pos (length (holders_in handle.old.held via reference))) }
-    ensures told { is_made handle.old ≡ true → IfSome (connection_given connection) (λ via.
-        out.new ≡ holders_told (holders_in handle.old.held via reference) out.old) }
-    ensures no_connection { is_made handle.old ≡ true → connection_given connection ≡ None
-        → (result ≡ BAD_CONNECTION) × (out.new ≡ out.old) }
     ensures same { handle.new ≡ handle.old }
     ensures call { is_made handle.old ≡ true
         → AnswersHandle handle.old (calls.Why connection reference out.old result out.new) handle.new }
@@ -104,9 +90,6 @@ pub extern "C" fn mscp_why_at(
 /// How many commands of the connection wait.
 #[unsafe(no_mangle)]
 pub extern "C" fn mscp_waiting(handle: &mut Handle, connection: u32) -> i64
-    ensures value { is_made handle.old ≡ true → IfSome (connection_given connection) (λ via.
-        result ≡ pos (length (waiting_on via handle.old.held.waiting))) }
-    ensures no_connection { is_made handle.old ≡ true → connection_given connection ≡ None → result ≡ BAD_CONNECTION }
     ensures same { handle.new ≡ handle.old }
     ensures call { is_made handle.old ≡ true → AnswersHandle handle.old (calls.Waiting connection result) handle.new }
     ensures unmade { is_made handle.old ≡ false → result ≡ NOT_MADE }
@@ -123,9 +106,6 @@ pub extern "C" fn mscp_waiting(handle: &mut Handle, connection: u32) -> i64
 /// How many ends of the connection weren't taken.
 #[unsafe(no_mangle)]
 pub extern "C" fn mscp_untaken(handle: &mut Handle, connection: u32) -> i64
-    ensures value { is_made handle.old ≡ true → IfSome (connection_given connection) (λ via.
-        result ≡ pos (length (of via handle.old.held.untaken))) }
-    ensures no_connection { is_made handle.old ≡ true → connection_given connection ≡ None → result ≡ BAD_CONNECTION }
     ensures same { handle.new ≡ handle.old }
     ensures call { is_made handle.old ≡ true → AnswersHandle handle.old (calls.Untaken connection result) handle.new }
     ensures unmade { is_made handle.old ≡ false → result ≡ NOT_MADE }
@@ -142,7 +122,6 @@ pub extern "C" fn mscp_untaken(handle: &mut Handle, connection: u32) -> i64
 /// Whether the unit of this number is online: not where it isn't configured.
 #[unsafe(no_mangle)]
 pub extern "C" fn mscp_is_online(handle: &mut Handle, unit: u16) -> i32
-    ensures value { is_made handle.old ≡ true → result ≡ pos (flag (is_online_in handle.old.held.drives unit)) }
     ensures same { handle.new ≡ handle.old }
     ensures call { is_made handle.old ≡ true → AnswersHandle handle.old (calls.Online unit result) handle.new }
     ensures unmade { is_made handle.old ≡ false → result ≡ NOT_MADE }
@@ -156,9 +135,6 @@ pub extern "C" fn mscp_is_online(handle: &mut Handle, unit: u16) -> i32
 /// How many credits of the connection are free.
 #[unsafe(no_mangle)]
 pub extern "C" fn mscp_balance(handle: &mut Handle, connection: u32) -> i64
-    ensures value { is_made handle.old ≡ true → IfSome (connection_given connection) (λ via.
-        result ≡ pos (balance_of via handle.old.held)) }
-    ensures no_connection { is_made handle.old ≡ true → connection_given connection ≡ None → result ≡ BAD_CONNECTION }
     ensures same { handle.new ≡ handle.old }
     ensures call { is_made handle.old ≡ true → AnswersHandle handle.old (calls.Balance connection result) handle.new }
     ensures unmade { is_made handle.old ≡ false → result ≡ NOT_MADE }

@@ -1,8 +1,8 @@
 // Messages in, ends out.
 
-ghost use Rattle.std.specs.Prelude.{◌≡◌, true, false, IfSome, None};
-ghost use Rattle.mscp_c.specs.Common.{after_message, after_take, answer_to_message, end_taken, connection_given, AnswersHandle, TakeTold, send_code, sent_told, take_code};
-ghost use Rattle.mscp_memory.specs.ControllerHandles.{is_made, with_held};
+ghost use Rattle.std.specs.Prelude.{◌≡◌, true, false};
+ghost use Rattle.mscp_c.specs.Common.{AnswersHandle};
+ghost use Rattle.mscp_memory.specs.ControllerHandles.{is_made};
 ghost use Rattle.mscp_c.specs.HandleCalls as calls;
 
 use crate::outs::{PacketOut, SentOut};
@@ -19,14 +19,6 @@ pub extern "C" fn mscp_send_at(
     message: &[u8],
     out: &mut SentOut,
 ) -> i32
-    ensures after { is_made handle.old ≡ true → IfSome (connection_given connection) (λ via.
-        handle.new ≡ with_held handle.old (after_message via handle.old.held message.now)) }
-    ensures code { is_made handle.old ≡ true → IfSome (connection_given connection) (λ via.
-        result ≡ send_code (answer_to_message via handle.old.held message.now)) }
-    ensures told { is_made handle.old ≡ true → IfSome (connection_given connection) (λ via.
-        out.new ≡ sent_told (answer_to_message via handle.old.held message.now) out.old) }
-    ensures no_connection { is_made handle.old ≡ true → connection_given connection ≡ None
-        → (result ≡ BAD_CONNECTION) × (handle.new ≡ handle.old) × (out.new ≡ out.old) }
     ensures call { is_made handle.old ≡ true
         → AnswersHandle handle.old (calls.Send connection message.now out.old result out.new) handle.new }
     ensures unmade { is_made handle.old ≡ false
@@ -45,14 +37,6 @@ pub extern "C" fn mscp_send_at(
 /// Takes the oldest end of the connection that wasn't taken.
 #[unsafe(no_mangle)]
 pub extern "C" fn mscp_take(handle: &mut Handle, connection: u32, out: &mut PacketOut) -> i32
-    ensures after { is_made handle.old ≡ true → IfSome (connection_given connection) (λ via.
-        handle.new ≡ with_held handle.old (after_take via handle.old.held)) }
-    ensures code { is_made handle.old ≡ true → IfSome (connection_given connection) (λ via.
-        result ≡ take_code (end_taken via handle.old.held)) }
-    ensures told { is_made handle.old ≡ true → IfSome (connection_given connection) (λ via.
-        TakeTold (end_taken via handle.old.held) out.old out.new) }
-    ensures no_connection { is_made handle.old ≡ true → connection_given connection ≡ None
-        → (result ≡ BAD_CONNECTION) × (handle.new ≡ handle.old) × (out.new ≡ out.old) }
     ensures call { is_made handle.old ≡ true
         → AnswersHandle handle.old (calls.Take connection out.old result out.new) handle.new }
     ensures unmade { is_made handle.old ≡ false

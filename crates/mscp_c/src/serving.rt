@@ -1,7 +1,7 @@
 // The drive's work: what comes next, and how it went.
 
-ghost use Rattle.std.specs.Prelude.{◌≡◌, true, false, IfSome, None};
-ghost use Rattle.mscp_c.specs.Common.{connection_given, AnswersHandle, block_told, TellsBegin, TellsFinish, TellsStep};
+ghost use Rattle.std.specs.Prelude.{◌≡◌, true, false};
+ghost use Rattle.mscp_c.specs.Common.{AnswersHandle};
 ghost use Rattle.mscp_memory.specs.ControllerHandles.{is_made};
 ghost use Rattle.mscp_c.specs.HandleCalls as calls;
 
@@ -14,7 +14,6 @@ use mscp_memory::controller::{Handle, is_made, lend};
 /// What the next step serves.
 #[unsafe(no_mangle)]
 pub extern "C" fn mscp_begin(handle: &mut Handle, out: &mut UpcomingOut) -> i32
-    ensures begin { is_made handle.old ≡ true → TellsBegin handle.old out.old result handle.new out.new }
     ensures call { is_made handle.old ≡ true → AnswersHandle handle.old (calls.Begin out.old result out.new) handle.new }
     ensures unmade { is_made handle.old ≡ false
         → (result ≡ NOT_MADE) × (handle.new ≡ handle.old) × (out.new ≡ out.old) }
@@ -35,13 +34,6 @@ pub extern "C" fn mscp_finish(
     status: u16,
     out: &mut ReportOut,
 ) -> i32
-    ensures finish { is_made handle.old ≡ true → IfSome (connection_given connection) (λ via.
-        IfSome (block_told status) (λ k.
-        TellsFinish via reference k handle.old out.old result handle.new out.new)) }
-    ensures no_connection { is_made handle.old ≡ true → connection_given connection ≡ None
-        → (result ≡ BAD_CONNECTION) × (handle.new ≡ handle.old) × (out.new ≡ out.old) }
-    ensures refused { is_made handle.old ≡ true → IfSome (connection_given connection) (λ via.
-        block_told status ≡ None → (result ≡ BAD_STATUS) × (handle.new ≡ handle.old) × (out.new ≡ out.old)) }
     ensures call { is_made handle.old ≡ true
         → AnswersHandle handle.old (calls.Finish connection reference status out.old result out.new) handle.new }
     ensures unmade { is_made handle.old ≡ false
@@ -65,10 +57,6 @@ pub extern "C" fn mscp_finish(
 /// Serves one block, which had this status.
 #[unsafe(no_mangle)]
 pub extern "C" fn mscp_step(handle: &mut Handle, status: u16, out: &mut ReportOut) -> i32
-    ensures step { is_made handle.old ≡ true → IfSome (block_told status) (λ k.
-        TellsStep k handle.old out.old result handle.new out.new) }
-    ensures refused { is_made handle.old ≡ true → block_told status ≡ None
-        → (result ≡ BAD_STATUS) × (handle.new ≡ handle.old) × (out.new ≡ out.old) }
     ensures call { is_made handle.old ≡ true
         → AnswersHandle handle.old (calls.Step status out.old result out.new) handle.new }
     ensures unmade { is_made handle.old ≡ false

@@ -24,7 +24,7 @@ pub use Rattle.mscp_port.specs.Ports.{HasNothingToHear, HasNothingToSay, block_i
 pub use Rattle.mscp_port.specs.Restored.{IsFramed, IsSaved, area_in, buffers_in, coded_in, controller_in, controller_place, frame_fault, front_in, hardware_in, held_in, is_framed, kind_in, outgoing_in, port_in, restored, rings_if, text_in, told_front, unless, volume_in, volumes_in, words_in}
 pub use Rattle.mscp_port.specs.Saved.{HasBufferRange, HasCodedRange, HasDecidedRange, HasHandRange, HasStateRange, HasVolumeRange, area_bytes, buffer_bytes, coded_bytes, counts_bytes, decided_bytes, frame_bytes, hand_bytes, hardware_bytes, kind_byte, outgoing_byte, outgoing_text, rings_bytes, saved_bytes, stage_bytes, state_bytes, volume_bytes, words_bytes, written_bytes}
 pub use Rattle.mscp_port.specs.Seen.{SeesHeader, SeesText, answered_to, changes_at, heeded, neighbour_seen, settings_heeded, slot_seen}
-pub use Rattle.mscp_port.specs.Serials.{is_of_serial, next_serial, serial_after, serial_begun}
+pub use Rattle.mscp_port.specs.Serials.{next_serial, serial_after, serial_begun}
 pub use Rattle.mscp_port.specs.Slots.{given_back, is_owned, text_of}
 pub use Rattle.mscp_port.specs.Volumes.{IsOnVolume, MayMove, medium_answer, place_in, volume_at, volume_changed, volume_found, volume_heeded, volume_in_place, volume_protected, volume_put, volume_reset}
 pub use Rattle.mscp_port.specs.Wanted.{IsMovedFor, IsWanted, bytes_wanted, clear_count, clear_from, given_in, packet_out, vector_of}
