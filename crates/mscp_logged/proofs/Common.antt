@@ -1,24 +1,24 @@
 -- What the lemmas of this crate take from elsewhere.
-pub use Rattle.std.proofs.Common.{All, Bool, IsSomeAnd, List, None, Option, Some, [], ap, append_assoc, arith, cond, drop, false, filter, inl, inr, length, map, nat_eq, not, refl, set, subst, suc, sym, take, true, zero, ℕ, ⊎_elim, ◌*◌, ◌++◌, ◌+◌, ◌-◌, ◌<◌, ◌^◌, ◌∙◌, ◌∷◌, ◌≡◌, ◌≢◌, ◌≤◌, ◌⊎◌}
-pub use Rattle.std.proofs.lemmas.Bool.{and_from, le-leb}
+pub use Rattle.std.proofs.Common.{All, Bool, IsSomeAnd, List, None, Option, Some, [], ap, append_assoc, arith, cond, drop, false, filter, inl, inr, length, map, nat_eq, not, refl, set, subst, suc, sym, take, true, zero, ℕ, ⊎_elim, ◌++◌, ◌+◌, ◌-◌, ◌<◌, ◌^◌, ◌∙◌, ◌∷◌, ◌≡◌, ◌≢◌, ◌≤◌, ◌⊎◌}
+pub use Rattle.std.proofs.lemmas.Bool.{le-leb}
 pub use Rattle.std.proofs.lemmas.List.{append-nil, get_or_append_left, length-append, take-append-le}
 pub use Rattle.std.proofs.lemmas.List.Elements.{All-from_recursion, filter-append}
 pub use Rattle.std.proofs.lemmas.List.Sums.{fold_push}
 pub use Rattle.std.proofs.lemmas.Option.{none-some, same_Some}
 pub use Rattle.std.specs.List.{AllByRecursion, list_all, list_any, position}
-pub use Rattle.std.specs.Prelude.{Err, Ok, Result, find, flat_map, fold, if◌then◌else◌, is_none, is_ok, is_some, nat_le, nat_lt, option_map, option_to_list, replicate, slice_get, slice_index, slice_index_or, unwrap_or, ◌%◌, ◌&&◌, ◌/◌, ◌==◌, ◌||◌}
+pub use Rattle.std.specs.Prelude.{Err, Ok, Result, find, flat_map, fold, if◌then◌else◌, is_some, nat_le, nat_lt, option_map, option_to_list, replicate, slice_get, slice_index, slice_index_or, unwrap_or, ◌%◌, ◌&&◌, ◌/◌, ◌==◌, ◌||◌}
 pub use Rattle.arrayvec.specs.ArrayVec.{ArrayVec}
 pub use Rattle.byteorder.specs.Endian.{little_bytes}
 pub use Rattle.mscp_controller.proofs.Basics.{queued_open}
-pub use Rattle.mscp_controller.specs.Arrival.{fault_of, is_immediate, is_queued, move_fault, order_fault, refusal, unit_fault}
+pub use Rattle.mscp_controller.specs.Arrival.{fault_of, is_immediate, is_queued, order_fault, refusal}
 pub use Rattle.mscp_controller.specs.Calls.{AnsweredCalls, Call as Made, history}
 pub use Rattle.mscp_controller.specs.Controllers.{ControllersKeepThePromise, KeepsPromise, drive_now}
-pub use Rattle.mscp_controller.specs.Holdings.{Holdings, aborting, after_message, answer_to_message, answered_end, balance_of, begun_step, figure_polled, fresh, held_unless, numbers, numbers_ended, outstanding_of, queued, record_aborted, unaborted, waiting_on, with_end}
-pub use Rattle.mscp_controller.specs.Outcomes.{answer_status, own_end, own_end_with, unit_status}
+pub use Rattle.mscp_controller.specs.Holdings.{Holdings, after_message, answered_end, balance_of, begun_step, figure_polled, fresh, held_unless, numbers, numbers_ended, outstanding_of, record_aborted, unaborted, waiting_on}
+pub use Rattle.mscp_controller.specs.Outcomes.{answer_status, own_end, own_end_with}
 pub use Rattle.mscp_controller.specs.declared.entry.SendFault.{SendFault}
 pub use Rattle.mscp_drive.specs.Both.{of}
 pub use Rattle.mscp_drive.specs.Extent.{blocks}
-pub use Rattle.mscp_drive.specs.Settings.{IsValid, Settings, unit_shape}
+pub use Rattle.mscp_drive.specs.Settings.{IsValid, Settings}
 pub use Rattle.mscp_drive.specs.Shape.{Shape, one_block}
 pub use Rattle.mscp_drive.specs.UnitList.{unit_found}
 pub use Rattle.mscp_drive.specs.declared.block.Block.{Block}
@@ -26,37 +26,36 @@ pub use Rattle.mscp_drive.specs.declared.connection.Connection.{Connection}
 pub use Rattle.mscp_drive.specs.declared.connection.Connection.TheVariants.{First, Second}
 pub use Rattle.mscp_logged.specs.Logged.{end_of, ends_in, is_foreign, logged, message_of, messages_by, seen_by}
 pub use Rattle.mscp_logged.specs.Rules.{HostIsRight, IsFaultTold, Keeps, TellsFaults, is_message, is_of_drives, is_of_polls}
-pub use Rattle.mscp_packet.proofs.Numbers.{four, two}
+pub use Rattle.mscp_packet.proofs.Numbers.{two}
 unfoldable pub use Rattle.mscp_packet.specs.Commands.{command_of}
-pub use Rattle.mscp_packet.specs.Ends.{IsOfKind, end_bytes, end_length, endcodes, kind_of_body, kind_of_code}
+pub use Rattle.mscp_packet.specs.Ends.{IsOfKind, end_bytes, end_length, kind_of_body, kind_of_code}
 pub use Rattle.mscp_packet.specs.Number.{num}
-pub use Rattle.mscp_packet.specs.Opcodes.{move_byte, opcode_of}
+pub use Rattle.mscp_packet.specs.Opcodes.{opcode_of}
 pub use Rattle.mscp_packet.specs.declared.command.Command.{Command}
 pub use Rattle.mscp_packet.specs.declared.command.MoveKind.{MoveKind}
 pub use Rattle.mscp_packet.specs.declared.command.Order.{Order}
 pub use Rattle.mscp_packet.specs.declared.end.BodyKind.{BodyKind}
 pub use Rattle.mscp_packet.specs.declared.end.End.{End}
 pub use Rattle.mscp_packet.specs.declared.end.EndBody.{EndBody}
-pub use Rattle.mscp_port.proofs.Begun.{taken_or_not}
-pub use Rattle.mscp_port.proofs.Common.{and_parts, cases_eq, cases_lt, drop_more, eq-eqb, eqb-true, false≢true, get_or-set_other, get_or-set_same, get_or_past, length-set, or_left, or_parts, or_right, position-Some, take-append-drop}
+pub use Rattle.mscp_port.proofs.Common.{and_parts, cases_eq, cases_lt, drop_more, eq-eqb, eqb-true, false≢true, get_or-set_other, get_or-set_same, get_or_past, length-set, or_left, or_parts, or_right, take-append-drop}
 pub use Rattle.mscp_ported.proofs.Kept.{is_numbered}
 pub use Rattle.mscp_ported.proofs.Loads.{looks_or_not}
 pub use Rattle.mscp_ported.proofs.Said.{none_or_some}
-pub use Rattle.mscp_port.specs.Blocks.{block_of, block_told, changed_verdict, fault_with, faulted, has_changed, has_host_bytes, is_available, kept_of, move_of, move_task, moved_by, part_task, part_with, refusal_of, takes_any_volume, task_of, unless_fault, writes}
-pub use Rattle.mscp_port.specs.Buffers.{is_of, part_of}
+pub use Rattle.mscp_port.specs.Blocks.{block_told, faulted, kept_of, move_of, move_task, moved_by, part_task, part_with}
+pub use Rattle.mscp_port.specs.Buffers.{is_of}
 pub use Rattle.mscp_port.specs.Calls.{Dies, Goes, Hears, IsMadeOf, Wants}
-pub use Rattle.mscp_port.specs.Decided.{controller_decided, end_decided, found_decided, status_after, status_told, unit_state}
+pub use Rattle.mscp_port.specs.Decided.{end_decided, found_decided, status_after, status_told, unit_state}
 pub use Rattle.mscp_ported.specs.Departures.{begins, leaves}
 pub use Rattle.mscp_ported.specs.Fair.{TellsStep}
-pub use Rattle.mscp_port.specs.Formalities.{code_told, ends_formality, formal_status, is_formality, stand_in}
+pub use Rattle.mscp_port.specs.Formalities.{code_told, ends_formality, formal_status, is_formality}
 pub use Rattle.mscp_port.specs.Histories.{Answered, Becomes, Call, LookAgain, Next, Picking, Protect, PutAside, ReadIp, Tick, VolumeCame, VolumeWent, WasRead, Went, WriteIp, WriteSa}
-pub use Rattle.mscp_port.specs.Leaving.{controller_end, end_left, end_told, end_with_body, head, online_end, plain_end, tells_unit as tells_of_unit, told_end, unit_status_end}
+pub use Rattle.mscp_port.specs.Leaving.{end_told, end_with_body, head, told_end}
 pub use Rattle.mscp_port.specs.Messages.{asks_for_next, handed, next_unit, own_end_of}
-pub use Rattle.mscp_port.specs.Moved.{GoesOnWithBlock, begun_task, block_begun, block_served, known_task, moved_step, part_at, part_served, place_heeded, volumes_after}
+pub use Rattle.mscp_port.specs.Moved.{block_begun, block_served, known_task, part_at, part_served, volumes_after}
 pub use Rattle.mscp_port.specs.Outgoings.{AnswersItself, IsNews, TakesEnd, news_place}
 pub use Rattle.mscp_port.specs.Packets.{end_kind}
-pub use Rattle.mscp_port.specs.Ports.{IsAsNew, IsOfBlock, IsReadingText}
-pub use Rattle.mscp_port.specs.Volumes.{brought_online, no_volume, place_in, volume_at, volume_changed, volume_found, volume_heeded, volume_in_place, volume_protected, volume_put, volumes_heeded, volumes_with}
+pub use Rattle.mscp_port.specs.Ports.{IsAsNew}
+pub use Rattle.mscp_port.specs.Volumes.{no_volume, place_in, volume_at, volume_found, volume_heeded, volume_in_place, volumes_with}
 pub use Rattle.mscp_port.specs.declared.action.Action.{Action}
 pub use Rattle.mscp_port.specs.declared.action.Outcome.{Outcome}
 pub use Rattle.mscp_port.specs.declared.buffers.Buffer.{Buffer}
@@ -96,7 +95,7 @@ pub use Rattle.mscp_ported.proofs.Numbered.{At, IsNothing, ends_numbered, first_
 pub use Rattle.mscp_ported.proofs.Numbering.{ended_none, served_waits, still_none}
 pub use Rattle.mscp_ported.proofs.Opcodes.{IsSaid, said_fits}
 pub use Rattle.mscp_ported.proofs.Origins.{IsAborted, IsAnswer, IsMade, IsOf, IsServed, IsText, IsToldSo, told_same}
-pub use Rattle.mscp_ported.proofs.Owning.{apart_numbers, number_of}
+pub use Rattle.mscp_ported.proofs.Owning.{apart_numbers}
 pub use Rattle.mscp_ported.proofs.Promised.{knows}
 pub use Rattle.mscp_ported.proofs.Reading.{Answers, Gets, Queues, and_false, answer_decided, answer_ends, read_is}
 pub use Rattle.mscp_ported.proofs.Silent.{none_waits}
@@ -106,10 +105,10 @@ pub use Rattle.mscp_ported.proofs.Stepping.{IsHow, Serves, drive_in, end_served,
 pub use Rattle.mscp_ported.proofs.Tables.{decided_by}
 pub use Rattle.mscp_ported.proofs.Taking.{begun_end, says_is}
 pub use Rattle.mscp_ported.proofs.Transferring.{begun_record}
-pub use Rattle.mscp_ported.proofs.Units.{IsUnitIn, body_unit, small_unit, stand_unit}
+pub use Rattle.mscp_ported.proofs.Units.{IsUnitIn, small_unit}
 pub use Rattle.mscp_ported.proofs.Whole.{code_of}
-pub use Rattle.mscp_ported.specs.Answers.{Own, asks_next, asks_nothing, moves_data, own_answer, own_refusal, own_text, text_handed, volume_named}
-pub use Rattle.mscp_ported.specs.Awaited.{Deals, IsAnswering, IsEnding, IsTaking, IsWhole, PortsEndWhatTheyTook, ReadsBytes, awaited, has_number, is_taken_text, taken_by, without_ends}
+pub use Rattle.mscp_ported.specs.Answers.{Own, asks_next, own_answer, own_text, volume_named}
+pub use Rattle.mscp_ported.specs.Awaited.{Deals, IsAnswering, IsEnding, IsTaking, IsWhole, PortsEndWhatTheyTook, ReadsBytes, awaited, has_number, taken_by, without_ends}
 pub use Rattle.mscp_ported.specs.Ends.{Leaving, came, end_said, ends_begun, ends_said, ends_said_by}
 pub use Rattle.mscp_ported.specs.Figures.{PortsLowerFigures, figure_on}
 pub use Rattle.mscp_ported.specs.Fitting.{Fits, IsCodeFor, IsUnitFor}
@@ -122,9 +121,9 @@ pub use Rattle.mscp_queue.proofs.Placed.{Found, each_push, find_cases, find_firs
 pub use Rattle.mscp_queue.specs.Drives.{drive_of, fresh_drive, replaced}
 pub use Rattle.mscp_queue.specs.Names.{name_on}
 pub use Rattle.mscp_queue.specs.Orders.{endcode, is_move, order_weight}
-pub use Rattle.mscp_queue.specs.Outcomes.{bad_status, block_touched, goes_on, is_good_block, is_success, online_body, outcome_at, outcome_body, outcome_status, state_after, touches}
-pub use Rattle.mscp_queue.specs.Records.{Record, aborted_record, advanced, fresh_record, has_name, is_in_service, left_of, name_of, no_record, passed_by, record_at, remains, step_charge}
-pub use Rattle.mscp_queue.specs.Serving.{IsServable, drive_after, end_given, state_left, touched, upcoming_begun, upcoming_of, waiting_after}
+pub use Rattle.mscp_queue.specs.Outcomes.{bad_status, block_touched, goes_on, is_good_block, is_success, online_body, outcome_at, outcome_body, outcome_status, touches}
+pub use Rattle.mscp_queue.specs.Records.{Record, aborted_record, advanced, fresh_record, has_name, is_in_service, left_of, name_of, passed_by, record_at, remains, step_charge}
+pub use Rattle.mscp_queue.specs.Serving.{IsServable, drive_after, end_given, state_left, touched, upcoming_of, waiting_after}
 pub use Rattle.mscp_queue.specs.Views.{fences, is_affordable}
 pub use Rattle.mscp_queue.specs.declared.drive.Drive.{Drive}
 pub use Rattle.mscp_queue.specs.declared.name.Name.{Name}
@@ -137,7 +136,7 @@ pub use Rattle.mscp_shown.proofs.Saying.{IsLong, Says, Says as AsksFor, sent_lon
 pub use Rattle.mscp_shown.proofs.Suited.{IsFine, Suits}
 pub use Rattle.mscp_shown.proofs.Suiting.{Ends, IsFault, aborted_ends, outcome_fine, outcome_suits, own_ends, refused_apart, valid_order}
 pub use Rattle.mscp_shown.specs.Keeping.{AreBytes}
-pub use Rattle.mscp_wire.specs.Wire.{History, IsRight, aborts, after, after_end, after_other, after_own, agrees, answer_by, asked_about, asked_by, asking, asks_oldest, brings, broken, broken_at, broken_by, broken_end, broken_message, command_at, controller, controller_after, controller_in, count_of, count_on, describes, fits, four_in, has_abort, has_code, has_count, has_endcode, has_figure, has_status, hears, identity_in, is_about, is_about_another, is_apart, is_it, is_known, is_known_unit, is_late, is_long, is_moved, is_named, is_new, is_of_unit, is_plain, is_polled, is_refused, is_required, is_same_unit, is_settled_at, is_single, is_turning, is_unsure, keeps_back, later_of, learns, least_length, left, may_ask, may_be, may_have, may_tell, moment_at, names_unit, other_of, outstanding, passes_none, place_of, points_into, polled_by, polls, same_connection, says_away, says_online, seen_of, sent_by, settles, standing_after, standing_first, status_code, succeeds, suits_state, tells, tells_unit, timed, timeout, told, told_after, told_after_end, told_after_message, told_nothing, turned, unit_before, unless, was_online, went}
+pub use Rattle.mscp_wire.specs.Wire.{History, IsRight, aborts, after, after_end, after_other, after_own, agrees, answer_by, asked_about, asked_by, asking, asks_oldest, brings, broken, broken_at, broken_by, broken_end, command_at, controller, controller_after, controller_in, count_of, count_on, describes, fits, four_in, has_abort, has_code, has_count, has_endcode, has_figure, has_status, hears, is_about, is_about_another, is_apart, is_it, is_known, is_known_unit, is_late, is_long, is_moved, is_named, is_new, is_of_unit, is_plain, is_polled, is_refused, is_required, is_same_unit, is_settled_at, is_single, is_turning, is_unsure, keeps_back, learns, least_length, left, may_ask, may_be, may_tell, moment_at, names_unit, other_of, outstanding, passes_none, place_of, points_into, polled_by, polls, same_connection, says_away, says_online, seen_of, sent_by, settles, standing_after, standing_first, status_code, succeeds, suits_state, tells, tells_unit, timed, timeout, told, told_after, told_after_end, told_after_message, told_nothing, turned, unit_before, unless, was_online, went}
 pub use Rattle.mscp_wire.specs.declared.answer.Answer.{Answer}
 pub use Rattle.mscp_wire.specs.declared.identity.Identity.{Identity}
 pub use Rattle.mscp_wire.specs.declared.moment.Moment.{Moment}
