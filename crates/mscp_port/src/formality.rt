@@ -2,15 +2,12 @@
 // compare. They ask nothing of a disk, but no command may pass one in front of it that is sequential. So the controller gets an
 // ACCESS of no bytes in the place of such a command: it waits for its turn, has a figure, and can be aborted.
 
-ghost use Rattle.std.specs.Prelude.{◌≡◌, ◌≤◌, length};
-ghost use Rattle.mscp_port.specs.Formalities.{code_told, ends_formality, formal_status, is_formality, stand_in};
+ghost use Rattle.std.specs.Prelude.{◌≡◌};
+ghost use Rattle.mscp_port.specs.Formalities.{code_told, ends_formality, formal_status, is_formality};
 
 use crate::buffers::Buffer;
-use arrayvec::ArrayVec;
-use mscp_packet::fields::put;
 use mscp_packet::status::{ABORTED, SUCCESS};
-
-const ACCESS: u8 = 16;
+use mscp_packet::{Command, MoveKind, Order};
 
 /// Whether it is the opcode of DETERMINE ACCESS PATHS, COMPARE CONTROLLER DATA, or FLUSH.
 pub(crate) fn is_formality(opcode: u8) -> bool
@@ -27,15 +24,13 @@ pub(crate) fn ends_formality(code: u8) -> bool
 }
 
 /// What the controller gets in its place: an ACCESS of no bytes, of the same number and unit.
-pub(crate) fn stand_in(message: &[u8]) -> ArrayVec<u8, 64>
-    requires { 12 ≤ length message.now }
-    ensures { result.items ≡ stand_in message.now }
+pub(crate) fn stand_in(command: Command) -> Command
+    ensures { result ≡ record command { order = Order.Move MoveKind.Access 0 0 } }
 {
-    let mut bytes = ArrayVec::new();
-    put(&mut bytes, &message[..8]);
-    bytes.push(ACCESS);
-    put(&mut bytes, &[0; 23]);
-    bytes
+    Command {
+        order: Order::Move(MoveKind::Access, 0, 0),
+        ..command
+    }
 }
 
 /// The endcode that is told of an end with this code: that of the command that was read, of which this is kept.

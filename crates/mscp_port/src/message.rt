@@ -1,16 +1,16 @@
 // What a host's message asks for, as the port sees it.
 
-ghost use Rattle.std.specs.Prelude.{◌≡◌, ◌≤◌, true, find, length, nat_le, IfSome, MatchOption};
+ghost use Rattle.std.specs.Prelude.{◌≡◌, ◌≤◌, true, find, length, nat_le, IfSome};
+ghost use Rattle.mscp_packet.specs.Commands.{IsCommand};
 ghost use Rattle.mscp_port.specs.Common.{option_copied, bare_end, handed, next_unit};
 ghost use Rattle.mscp_port.specs.Messages.{own_end as end_of_own, is_transfer, past_volume, refused_end, volume_refusal};
 
 use crate::formality::{is_formality, stand_in};
 use crate::volumes::Volume;
-use arrayvec::ArrayVec;
 use mscp_drive::{INVALID_BLOCK, INVALID_BYTE_COUNT, Unit, Units};
-use mscp_packet::fields::{four_at, put, put_two, two_at};
+use mscp_packet::fields::{four_at, two_at};
 use mscp_packet::status::{INVALID_OPCODE, SUCCESS};
-use mscp_packet::{End, EndBody};
+use mscp_packet::{Command, End, EndBody, read_command};
 
 /// The bytes of a block.
 const BLOCK_BYTES: u32 = 512;
@@ -117,23 +117,34 @@ fn next_unit(units: &Units, number: u16) -> u16
     }
 }
 
-/// The message that the controller gets in place of this one, if it gets another: a formality has its stand-in, and a GET UNIT
-/// STATUS which asks for the next unit gets its number.
-pub(crate) fn message_for_controller(message: &[u8], units: &Units) -> Option<ArrayVec<u8, 64>>
+/// The command that a message is.
+fn command_in(message: &[u8]) -> Command
     requires short { 12 ≤ length message.now }
     requires long { length message.now ≤ 64 }
-    ensures { MatchOption result (handed units.now message.now ≡ message.now)
-        (λ bytes. bytes.items ≡ handed units.now message.now) }
+    ensures { IsCommand message.now result }
 {
+    match read_command(message) {
+        Ok(command) => command,
+        Err(_) => unreachable!(),
+    }
+}
+
+/// The command that the controller gets for a message: a formality has its stand-in, and a GET UNIT STATUS which asks for
+/// the next unit is to that one.
+pub(crate) fn command_for_controller(message: &[u8], units: &Units) -> Command
+    requires short { 12 ≤ length message.now }
+    requires long { length message.now ≤ 64 }
+    ensures { IsCommand (handed units.now message.now) result }
+{
+    let command = command_in(message);
     if is_formality(message[8]) {
-        return Some(stand_in(message));
+        return stand_in(command);
     }
     if message[8] != GET_UNIT_STATUS || two_at(message, 10) % 2 != NEXT_UNIT {
-        return None;
+        return command;
     }
-    let mut bytes = ArrayVec::new();
-    put(&mut bytes, &message[..4]);
-    put_two(&mut bytes, next_unit(units, two_at(message, 4)));
-    put(&mut bytes, &message[6..]);
-    Some(bytes)
+    Command {
+        unit: next_unit(units, command.unit),
+        ..command
+    }
 }

@@ -12,7 +12,7 @@ ghost use Rattle.mscp_port.specs.Messages.{own_end_of};
 
 use crate::action::Unasked;
 use crate::buffers::{Buffer, forget_aborted, keep};
-use crate::message::{GET_COMMAND_STATUS, SET_CONTROLLER, message_for_controller, own_end};
+use crate::message::{GET_COMMAND_STATUS, SET_CONTROLLER, command_for_controller, own_end};
 use crate::port::{Outgoing, OutgoingKind, Port};
 use crate::rings::Side;
 use crate::sizes::{LONGEST_TEXT, TextSize};
@@ -242,10 +242,8 @@ impl<K: Picker> Port<K> {
             ≡ after_message First self.old.controller (handed self.old.controller.settings.units message.now) }
         ensures settings { self.new.controller.settings ≡ self.old.controller.settings }
     {
-        match message_for_controller(message, self.controller.config().units()) {
-            Some(other) => self.controller.send(Connection::First, &other),
-            None => self.controller.send(Connection::First, message),
-        }
+        let command = command_for_controller(message, self.controller.config().units());
+        self.controller.send_command(Connection::First, command)
     }
 
     /// Keeps what a message says that the controller doesn't read.

@@ -1,13 +1,11 @@
 use Rattle.mscp_port.proofs.Common.{◌∙◌, First, Holdings, ap}
+use Rattle.mscp_port.specs.Messages.{handed}
 use Rattle.mscp_port.proofs.Settings.{settings_after}
 use Rattle.mscp_port.proofs.port.Port.hand_over.Goals as goal
 
-pub returns-in-Some-clause-settings : goal.returns-in-Some-clause-settings
-returns-in-Some-clause-settings g c =
-    ap (λ (h : Holdings g.row.K.Denot). h.settings) c.send.ensures.after
-    ∙ settings_after First c.args.self.now.controller c.deref.result.now
-
-pub returns-in-None-clause-settings : goal.returns-in-None-clause-settings
-returns-in-None-clause-settings g c =
-    ap (λ (h : Holdings g.row.K.Denot). h.settings) c.send-in-None.ensures.after
-    ∙ settings_after First c.args.self.now.controller c.args.message.now
+pub returns-clause-settings : goal.returns-clause-settings
+returns-clause-settings g c =
+    let sent = handed c.units.result.now c.args.message.now in
+    ap (λ (h : Holdings g.row.K.Denot). h.settings)
+    (c.send_command.ensures.after sent c.command_for_controller-command.ensures)
+    ∙ settings_after First c.args.self.now.controller sent
