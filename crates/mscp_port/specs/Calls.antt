@@ -204,12 +204,6 @@ pub record Hears {K : Type 0} (bytes : List ℕ) (old : Port K) (result : Result
   -- what goes out stays so; where nothing did, it may be the port's own end
   pub out : (new.outgoing ≡ old.outgoing) ⊎ ((slot : Descriptor) × (size : ℕ) × (foreign : Bool)
       × (old.task ≡ tasks.Text slot size foreign) × AnswersItself foreign bytes old new) ⊎ Dies old new
-  -- a packet is written only into a slot of the ring of responses that was read, and was the port's
-  pub packet : (slot : Descriptor) → IsOk result → new.task ≡ tasks.Packet slot
-      → (old.task ≡ tasks.Slot Responses) × (is_owned slot.word ≡ true) × (slot.word ≡ num bytes 0 4)
-  -- and the slot of a command is given back only once its text was read
-  pub returned : (side : Side) → (slot : Descriptor) → IsOk result → new.task ≡ tasks.Return side slot
-      → (side ≡ Commands) × IsReadingText old.task
 
 -- ---- how an action went
 
@@ -338,8 +332,6 @@ pub record Goes {K : Type 0} (picks : List Choice → ℕ → Type 0) (outcome :
   pub packet : IfSome (in_hand new.task) (λ word. in_hand old.task ≡ Some word)
   -- what goes out stays so until its slot was given back, which comes only after its packet was written
   pub out : (new.outgoing ≡ old.outgoing) ⊎ HasSaid outcome old new ⊎ Dies old new
-  pub returned : (side : Side) → (slot : Descriptor) → IsOk result → new.task ≡ tasks.Return side slot
-      → (side ≡ Responses) × (old.task ≡ tasks.Packet slot) × (outcome ≡ outcomes.Done)
 
 -- the block of this serial went so, by `Goes` if it is in hand: else nothing is taken
 abbrev pub GoesBy : {K : Type 0} → (List Choice → ℕ → Type 0) → ℕ → Outcome → Port K → Result Unit Unasked → Port K

@@ -1,7 +1,7 @@
 // What the port reads in host memory.
 
-ghost use Rattle.std.specs.Prelude.{◌≡◌, ◌≢◌, ◌≤◌, ◌⊎◌, ℕ, true, length, Bool, Contains, IfSome, Option, None, Ok, Err};
-ghost use Rattle.mscp_port.specs.Common.{First, after_message, num, Responses, Commands, kept_beside, without_aborted, handed, ChangesByReading, Dies, Hears, AnswersItself, end_kind, in_hand, SeesHeader, SeesText, answered_to, changes_at, decided_after, heeded, neighbour_seen, settings_heeded, slot_seen, is_owned, place_in};
+ghost use Rattle.std.specs.Prelude.{◌≡◌, ◌≢◌, ◌≤◌, ◌⊎◌, ℕ, true, length, Contains, IfSome, Option, None, Ok, Err};
+ghost use Rattle.mscp_port.specs.Common.{First, after_message, num, kept_beside, without_aborted, handed, ChangesByReading, Dies, Hears, AnswersItself, end_kind, in_hand, SeesHeader, SeesText, answered_to, changes_at, decided_after, heeded, neighbour_seen, settings_heeded, slot_seen, is_owned, place_in};
 ghost use Rattle.mscp_controller.specs.declared.entry.SendFault.{SendFault as Refused};
 ghost use Rattle.mscp_controller.specs.declared.entry.Sent.{Sent as Told};
 ghost use Rattle.mscp_controller.specs.declared.entry.Sent.TheVariants as sents;
@@ -77,8 +77,6 @@ impl<K: Picker> Port<K> {
           is_polled = self.new.is_polled;
         } }
         ensures packet { IfSome (in_hand self.new.task) (λ word. (word ≡ slot.word) × (is_owned word ≡ true)) }
-        ensures task { (self.new.task ≡ tasks.Free) ⊎ ((side ≡ Responses) × (self.new.task ≡ tasks.Packet slot))
-            ⊎ ((side ≡ Commands) × (self.new.task ≡ tasks.Header slot)) }
     {
         match side {
             Side::Responses if slot.is_owned() => self.task = Task::Packet(slot),
@@ -113,8 +111,6 @@ impl<K: Picker> Port<K> {
     fn see_header(&mut self, slot: Descriptor, header: u32)
         ensures value { SeesHeader slot header self.old self.new }
         ensures frame { (self.new ≡ record self.old { task = self.new.task }) ⊎ Dies self.old self.new }
-        ensures task { (self.new.task ≡ tasks.Free)
-            ⊎ ((size : ℕ) × (foreign : Bool) × (self.new.task ≡ tasks.Text slot size foreign)) }
         ensures packet { IfSome (in_hand self.new.task) (λ word. word ≡ slot.word) }
     {
         let connection = header / 0x100_0000;
@@ -141,7 +137,6 @@ impl<K: Picker> Port<K> {
         ensures sees { SeesText slot is_foreign message.now self.old self.new }
         // What goes out stays so; where nothing did, it may be the port's own end.
         ensures out { (self.new.outgoing ≡ self.old.outgoing) ⊎ AnswersItself is_foreign message.now self.old self.new }
-        ensures task { (self.new.task ≡ tasks.Free) ⊎ (self.new.task ≡ tasks.Return Commands slot) }
         ensures settings { self.new.controller.settings ≡ self.old.controller.settings }
         ensures own { own_end_of self.old is_foreign message.now ≢ None → self.new.controller ≡ self.old.controller }
         ensures handed { own_end_of self.old is_foreign message.now ≡ None → self.new.controller

@@ -31,8 +31,6 @@ returns-in-Text g c = record {
     | inl same ↦ inl same
     | inr own ↦ inr (inl (c.in-Text.slot, c.in-Text.length, c.in-Text.is_foreign, c.in-Text.is, own))
   ];
-  packet = search rules;
-  returned = search rules;
 }
 
 pub returns-in-Slot : goal.returns-in-Slot
