@@ -156,6 +156,28 @@ fn may_all_pass(backlog: &Backlog, longest: u32) -> bool
     longest <= unspent || backlog.are_light(unspent)
 }
 
+/// Finds the best start on the drive at a place, which is known from then on. It isn't built into its caller, whose loop over
+/// the drives then keeps all that it wants in registers.
+#[inline(never)]
+fn seek_favorite(
+    backlog: &Backlog,
+    drives: &[Drive],
+    at: usize,
+    favorites: &mut Favorites,
+) -> Start
+    requires waiting { CanBeShown drives.now backlog.now.waiting backlog.now.targets }
+    requires units { IsUnitList (units_of drives.now) }
+    requires drive { at < length drives.now }
+    requires favored { AreFavored drives.now (commands backlog.now.waiting) favorites.old }
+    ensures best { IsBest (IsClearOn (commands backlog.now.waiting) (drive_in drives.now at).unit.number)
+        (cost_at (drive_in drives.now at) (commands backlog.now.waiting)) result }
+    ensures favored { AreFavored drives.now (commands backlog.now.waiting) favorites.new }
+{
+    let start = backlog.favorite(&drives[at], at);
+    favorites.learn(at, start);
+    start
+}
+
 /// The best start on the drive at a place. If it isn't known it is found now, and known from then on.
 #[inline(always)]
 fn favorite_on(backlog: &Backlog, drives: &[Drive], at: usize, favorites: &mut Favorites) -> Start
@@ -171,9 +193,7 @@ fn favorite_on(backlog: &Backlog, drives: &[Drive], at: usize, favorites: &mut F
     if kept.is_known() {
         return kept;
     }
-    let start = backlog.favorite(&drives[at], at);
-    favorites.learn(at, start);
-    start
+    seek_favorite(backlog, drives, at, favorites)
 }
 
 /// The command that came last may have the best start on its drive. If that drive's isn't known it is sought when it is wanted.

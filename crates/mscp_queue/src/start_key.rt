@@ -70,7 +70,8 @@ impl Start {
     pub fn is_known(self) -> bool
         ensures { result ≡ not (nat_eq self.place 255) }
     {
-        self.place() != UNKNOWN_PLACE
+        // No other number has all bits set: whose place isn't known costs more than any start.
+        self.key != u64::MAX
     }
 
     /// The place of its command, 64 if it is that of none, and 255 if it isn't known.

@@ -1,5 +1,4 @@
 use Rattle.mscp_queue.proofs.Common.{ap, not, nat_eq, sym, ◌∙◌, subst, IsBest, IsClearOn, commands, cost_at, drive_in}
-use Rattle.mscp_queue.proofs.Favored.{all_on_drive, favored, favored_more}
 use Rattle.mscp_queue.specs.Starts.{Start}
 use Rattle.mscp_queue.proofs.start.favorite_on.Goals as goal
 
@@ -10,15 +9,3 @@ returns-then-is_known-clause-best c =
     (c.requires.favored.each c.args.at c.requires.drive
     (ap (λ (s : Start). not (nat_eq s.place 255)) (sym c.start-kept.ensures)
     ∙ (sym c.is_known.ensures ∙ c.if-is_known.true)))
-
-pub favorite-start-requires-clause-to : goal.favorite-start-requires-clause-to
-favorite-start-requires-clause-to c = all_on_drive c.requires.waiting c.requires.units
-    c.args.at c.index-drives-at.result c.requires.drive c.index-drives-at.is
-
-pub returns-clause-best : goal.returns-clause-best
-returns-clause-best c = favored c.requires.waiting c.requires.units
-    c.args.at c.index-drives-at.result c.requires.drive c.index-drives-at.is c.favorite-start.ensures
-
-pub returns-clause-favored : goal.returns-clause-favored
-returns-clause-favored c =
-    favored_more c.args.at c.favorite-start.result c.requires.favored (returns-clause-best c) c.learn.ensures
