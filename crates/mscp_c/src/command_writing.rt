@@ -70,7 +70,8 @@ fn command_of(given: CommandIn) -> Command
 /// Writes bytes over those from a place on.
 fn set_at(message: &mut ArrayVec<u8, 48>, at: usize, part: &[u8])
     requires { at + length part.now ≤ array_vec_len message.old }
-    ensures items { message.new.items ≡ take at message.old.items ++ part.now ++ drop (at + length part.now) message.old.items }
+    ensures items { message.new.items
+        ≡ take at message.old.items ++ part.now ++ drop (at + length part.now) message.old.items }
     ensures len { array_vec_len message.new ≡ array_vec_len message.old }
 {
     message.as_mut_slice()[at..at + part.len()].copy_from_slice(part);

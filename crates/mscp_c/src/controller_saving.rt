@@ -1,4 +1,7 @@
 // A controller as bytes, and back.
+//
+// A restore takes a handle on which something is made, as an emulator has just that memory. It looks at all bytes
+// before it writes, so a fault leaves what runs. An init refuses such a handle: a reset would do what it does.
 
 ghost use Rattle.std.specs.Prelude.{◌≡◌, true, false, None, Ok};
 ghost use Rattle.mscp_c.specs.Common.{fresh, Handle, AnswersHandle, policy_number, length_told, room_after, save_code};
@@ -73,8 +76,9 @@ fn make_new(handle: &mut Handle, settings: Config, policy: Policy)
     replace(handle, Controller::new(settings, policy));
 }
 
-/// The controller that bytes say is in the memory of the handle, in place of the one that was made there, if one was: on a fault
-/// that one goes on. A new one is put there, and resumed where it lies, so that the stack has no room for a whole one.
+/// The controller that bytes say is in the memory of the handle, in place of the one that was made there, if one was:
+/// on a fault that one goes on. A new one is put there, and resumed where it lies, so that the stack has no room for a
+/// whole one.
 #[unsafe(no_mangle)]
 pub extern "C" fn mscp_restore_at(handle: &mut Handle, bytes: &[u8]) -> i32
     ensures value { (result, handle.new) ≡ restores handle.old bytes.now }

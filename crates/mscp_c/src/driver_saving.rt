@@ -45,8 +45,8 @@ pub extern "C" fn mscp_driver_save_at(
     tell_saved(room, length, bytes.as_slice())
 }
 
-/// The account that bytes say is in the memory of the handle, in place of the one that was made there, if one was: on a fault that
-/// one goes on.
+/// The account that bytes say is in the memory of the handle, in place of the one that was made there, if one was: on a
+/// fault that one goes on.
 #[unsafe(no_mangle)]
 pub extern "C" fn mscp_driver_restore_at(handle: &mut Handle, bytes: &[u8]) -> i32
     ensures { (result, handle.new) ≡ driver_restores handle.old bytes.now }

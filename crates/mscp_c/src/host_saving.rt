@@ -37,8 +37,8 @@ pub extern "C" fn mscp_host_save_at(handle: &mut Handle, room: &mut [u8], length
     tell_saved(room, length, bytes.as_slice())
 }
 
-/// The host that bytes say is in the memory of the handle, in place of the one that was made there, if one was: on a fault that one
-/// goes on.
+/// The host that bytes say is in the memory of the handle, in place of the one that was made there, if one was: on a
+/// fault that one goes on.
 #[unsafe(no_mangle)]
 pub extern "C" fn mscp_host_restore_at(handle: &mut Handle, bytes: &[u8]) -> i32
     ensures { (result, handle.new) ≡ restores handle.old bytes.now }

@@ -20,35 +20,36 @@ pub fn made_handles_are_valid(handle: &mut Handle)
     let _ = lend(handle).config().credits();
 }
 
-/// Calls on a handle, one after the other from an init or a reset on, are calls of a controller, with all that is promised
-/// of one that somebody holds: the messages, takes, looks, begins, finishes and steps are those calls, in their order, and
-/// statuses and out-structs tell what the controller answers. Figures, and of each connection the balance, how many
-/// commands wait and how many ends weren't taken, who keeps a command back, and who is online, are those of the history so
-/// far.
+/// Calls on a handle, one after the other from an init or a reset on, are calls of a controller, with all that is
+/// promised of one that somebody holds: the messages, takes, looks, begins, finishes and steps are those calls, in
+/// their order, and statuses and out-structs tell what the controller answers. Figures, and of each connection the
+/// balance, how many commands wait and how many ends weren't taken, who keeps a command back, and who is online, are
+/// those of the history so far.
 pub fn handles_keep_the_promise(policy: Policy)
     ensures { HandlesKeepThePromise policy }
 {
     controllers_keep_the_promise(&policy);
 }
 
-/// Calls on a port's handle, one after the other, each answered as the relation of such calls says, are calls of a port, also
-/// where it was saved and restored in between: each law of ports is about them. Statuses and out-structs tell what the port
-/// answers, and what looks tell is so of the port to which the calls before led.
+/// Calls on a port's handle, one after the other, each answered as the relation of such calls says, are calls of a
+/// port, also where it was saved and restored in between: each law of ports is about them. Statuses and out-structs
+/// tell what the port answers, and what looks tell is so of the port to which the calls before led.
 pub fn port_handles_keep_the_promise()
     ensures { PortHandlesKeepThePromise }
 {}
 
-/// Calls on a host's handle, one after the other from an init on, are the history of a host, with all that is promised of
-/// that, also where it was saved and restored in between: each submission, poll and end that was received is the next moment
-/// of it, and statuses and out-structs tell what the host answers. Bytes that are no message change nothing.
+/// Calls on a host's handle, one after the other from an init on, are the history of a host, with all that is promised
+/// of that, also where it was saved and restored in between: each submission, poll and end that was received is the
+/// next moment of it, and statuses and out-structs tell what the host answers. Bytes that are no message change
+/// nothing.
 pub fn host_handles_keep_their_history()
     ensures { HostHandlesKeepTheirHistory }
 {
     hosts_keep_their_history();
 }
 
-/// The same of calls on a driver's handle, which are the history of a host of a port. What looks and ticks tell is so of what
-/// the host keeps then.
+/// The same of calls on a driver's handle, which are the history of a host of a port. What looks and ticks tell is so
+/// of what the host keeps then.
 pub fn driver_handles_keep_their_history()
     ensures { DriverHandlesKeepTheirHistory }
 {

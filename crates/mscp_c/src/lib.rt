@@ -1,5 +1,5 @@
-//! The calls of the C library: a controller, a host, a port, and a driver's account of one, in memory that a program in C owns,
-//! and messages by their fields.
+//! The calls of the C library: a controller, a host, a port, and a driver's account of one, in memory that a program in
+//! C owns, and messages by their fields.
 #![tactic(auto)]
 
 mod command_writing;

@@ -1,5 +1,8 @@
-// What a call tells a program in C, as plain numbers. A flag is 1 where it holds, and else 0: a number of which every value
-// is one, since C may hand in a struct that it has never written.
+// What a call tells a program in C, as plain numbers.
+//
+// A refusal, and an answer of `MSCP_NOTHING`, leave the struct as it was: so nobody reads half an answer. A flag is a
+// byte which is 1 where it holds, and else 0: C may hand in a struct that it has never written, and not every byte is
+// a `bool`.
 
 /// What became of a message: its reference number, and that of the command which it aborted, if it did.
 #[repr(C)]
@@ -132,8 +135,8 @@ pub struct ActionOut {
     pub bytes: [u8; 64],
 }
 
-/// How far a port has come: the number of its stage, the word of a stage that has one, and whether something is to go out to a
-/// ring that was full.
+/// How far a port has come: the number of its stage, the word of a stage that has one, and whether something is to go
+/// out to a ring that was full.
 #[repr(C)]
 #[derive(Clone, Copy)]
 pub struct StateOut {

@@ -83,8 +83,9 @@ fn make_unresumed(handle: &mut Handle, settings: Config, policy: Policy)
     }
 }
 
-/// The port that bytes say is in the memory of the handle, in place of the one that was made there, if one was: on a fault that
-/// one goes on. A new one is put there, and resumed where it lies, so that the stack has no room for a whole one.
+/// The port that bytes say is in the memory of the handle, in place of the one that was made there, if one was: on a
+/// fault that one goes on. A new one is put there, and resumed where it lies, so that the stack has no room for a whole
+/// one.
 #[unsafe(no_mangle)]
 pub extern "C" fn mscp_port_restore_at(handle: &mut Handle, bytes: &[u8]) -> i32
     ensures { (result, handle.new) ≡ restores handle.old bytes.now }

@@ -1,5 +1,5 @@
-// What a restore answers: why bytes are no saved controller, host or port. They stand apart from the other statuses, as three
-// crates have a fault of their own for them.
+// What a restore answers: why bytes are no saved controller, host or port. They stand apart from the other statuses, as
+// three crates have a fault of their own for them.
 
 ghost use Rattle.std.specs.Prelude.{◌≡◌};
 ghost use Rattle.mscp_c.specs.Common.{host_restore_code, port_restore_code, restore_code};

@@ -1,5 +1,5 @@
-// A whole script and a packet's line, in memory that a program in C lends. Each is written behind the front of the room, and
-// then moved there: so the room has twice its bytes.
+// A whole script and a packet's line, in memory that a program in C lends. Each is written behind the front of the
+// room, and then moved there: so the room has twice its bytes.
 
 ghost use Rattle.std.specs.Prelude.{◌≡◌, ◌≢◌, ◌⊎◌, ◌*◌, ◌-◌, ◌/◌, ◌<◌, ◌≤◌, length, take, Err, IfNone, IfOk, IfSome};
 ghost use Rattle.mscp_c.specs.Common.{shown, HasText, IsFault, IsLine, IsNoPacket, IsReport, IsShort, TellsFault};
@@ -36,8 +36,8 @@ fn run<R: Room>(script: &[u8], room: &mut [u8]) -> Result<usize, ReadFault>
     put_front(front, text).ok_or(ReadFault::OutOfMemory)
 }
 
-/// Runs a script of so many bytes, as `mscpq` does, and writes its report to the front of the room, which needs room for twice
-/// as many bytes.
+/// Runs a script of so many bytes, as `mscpq` does, and writes its report to the front of the room, which needs room
+/// for twice as many bytes.
 #[unsafe(no_mangle)]
 pub extern "C" fn mscp_run_script_at(
     script: &[u8],
@@ -71,7 +71,8 @@ fn show<R: Room>(word: &[u8], room: &mut [u8]) -> Result<usize, ShowFault>
     ensures length { length room.new ≡ length room.old }
     ensures line { IfOk result (HasText (IsLine word.now) room.new) }
     ensures short { result ≡ Err ShowFault.OutOfMemory → IsShort (IsLine word.now) room.old }
-    ensures fault { (fault : ShowFault) → result ≡ Err fault → fault ≢ ShowFault.OutOfMemory → shown word.now ≡ Err fault }
+    ensures fault { (fault : ShowFault) → result ≡ Err fault → fault ≢ ShowFault.OutOfMemory
+        → shown word.now ≡ Err fault }
 {
     let half = room.len() / 2;
     let (front, back) = room.split_at_mut(half);
@@ -80,8 +81,8 @@ fn show<R: Room>(word: &[u8], room: &mut [u8]) -> Result<usize, ShowFault>
     put_front(front, text).ok_or(ShowFault::OutOfMemory)
 }
 
-/// Writes the line of the packet that a word is the hexadecimal digits of to the front of the room, as `mscpq packet` does. The
-/// room needs room for twice as many bytes.
+/// Writes the line of the packet that a word is the hexadecimal digits of to the front of the room, as `mscpq packet`
+/// does. The room needs room for twice as many bytes.
 #[unsafe(no_mangle)]
 pub extern "C" fn mscp_show_packet_at(word: &[u8], room: &mut [u8], count: &mut usize) -> i32
     ensures done { result ≡ DONE → HasText (IsLine word.now) room.new count.new }

@@ -14,7 +14,8 @@ use mscp_memory::controller::{Handle, is_made, lend};
 /// What the next step serves.
 #[unsafe(no_mangle)]
 pub extern "C" fn mscp_begin(handle: &mut Handle, out: &mut UpcomingOut) -> i32
-    ensures call { is_made handle.old ≡ true → AnswersHandle handle.old (calls.Begin out.old result out.new) handle.new }
+    ensures call { is_made handle.old ≡ true
+        → AnswersHandle handle.old (calls.Begin out.old result out.new) handle.new }
     ensures unmade { is_made handle.old ≡ false
         → (result ≡ NOT_MADE) × (handle.new ≡ handle.old) × (out.new ≡ out.old) }
 {

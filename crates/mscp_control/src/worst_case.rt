@@ -1,4 +1,6 @@
 // A run in which a command waits as long as the bound, written out.
+//
+// It asks no controller. So its trace is a second reading of the rules, and a test compares the two.
 
 ghost use Rattle.std.specs.Prelude.{◌≡◌, ◌+◌, ◌-◌, ◌*◌, ◌^◌, ◌<◌, ◌≤◌, ◌∷◌, ◌++◌, [], is_some, vec_capacity, vec_len, IfOk, IfSome};
 ghost use Rattle.mscp_control.specs.Common.{command_bytes, bound, room, IsLegal, WaitsTheBound, is_shown, block_before, come_on, handing, long_read, online_command, online_end, opened, pass_on, queueing, read_report, rest_on, runs_on, short_read, steps_on, worst_of};
@@ -359,10 +361,10 @@ pub fn worst_in<A: Allocator>(
     }
 }
 
-/// A legal run in which a command of this unit waits as long as the bound: it ends at the bound-th step after it, which is
-/// the last event. So the bound of these limits is the least that is true. There is none if only one command may wait, for
-/// nothing can pass it then, or if the unit isn't configured or has fewer blocks than the longest transfer; and none is
-/// given of a bound over 100,000, which would be too long.
+/// A legal run in which a command of this unit waits as long as the bound: it ends at the bound-th step after it, which
+/// is the last event. So the bound of these limits is the least that is true. There is none if only one command may
+/// wait, for nothing can pass it then, or if the unit isn't configured or has fewer blocks than the longest transfer;
+/// and none is given of a bound over 100,000, which would be too long.
 pub fn worst(
     alloc: Global,
     config: &Config,

@@ -1,4 +1,8 @@
 // A controller: its queue, and the account of each connection's host.
+//
+// What waits and what is served next is the queue's affair, and who has how many credits and ends is the accounts'.
+// The controller never looks at a record. Neither takes memory: their lists have a fixed room, which the credits
+// bound, so nothing can be refused for want of memory after a controller is made.
 
 ghost use Rattle.std.specs.Prelude.{◌≡◌, ◌+◌, ◌≤◌, ◌^◌, ℕ, List, true, false, slice_get, IfErr, IfSome, None, Some};
 ghost use Rattle.mscp_controller.specs.Common.{IsCommand, IsEnd, IsOfKind, first_block, order_weight, name_on, IsCoded, credit_fault, fault_of, holds, is_queued, CanEnd, reported, of, IsValid, Answers, Finishes, Foretells, IsBalanced, Steps, aborting, after_message, after_take, answer_to_message, answered_end, arrives, balance_of, begun_step, end_taken, with_end, outstanding_of, queued, reference_aborted, taken_as};
@@ -62,8 +66,8 @@ impl<K> Model for Controller<K> {
 }
 
 impl<K: Picker> Controller<K> {
-    /// A controller to which nothing came so far. It is built into its caller: each call on the way would have room for a
-    /// controller of its own on the stack.
+    /// A controller to which nothing came so far. It is built into its caller: each call on the way would have room for
+    /// a controller of its own on the stack.
     #[inline(always)]
     pub fn new(config: Config, picker: K) -> Controller<K>
         ensures fresh { result ≡ fresh config picker }
@@ -84,8 +88,8 @@ impl<K: Picker> Controller<K> {
         }
     }
 
-    /// Forgets all that came to it, as a reset of its port makes it: it is as new, with the same settings and picker. Ends
-    /// that weren't taken are gone.
+    /// Forgets all that came to it, as a reset of its port makes it: it is as new, with the same settings and picker.
+    /// Ends that weren't taken are gone.
     pub fn reset(&mut self)
         ensures fresh { self.new ≡ fresh self.old.settings self.old.picker }
         ensures account { IsBalanced self.new }
@@ -209,8 +213,8 @@ impl<K: Picker> Controller<K> {
         Some(end.reference)
     }
 
-    /// Answers a command of the connection at once that isn't refused: the end of one that it aborts stands before its own.
-    /// Tells the reference number of that one.
+    /// Answers a command of the connection at once that isn't refused: the end of one that it aborts stands before its
+    /// own. Tells the reference number of that one.
     fn answer_now(&mut self, connection: Connection, command: &Command) -> Option<u32>
         requires sound { fault_of self.old.settings command.now ≡ None }
         requires free { 1 ≤ balance_of connection self.old }
@@ -253,8 +257,12 @@ impl<K: Picker> Controller<K> {
         }
     }
 
-    /// Takes a message of the connection's host in, or says why not: the first of the faults that holds. A refusal changes
-    /// nothing. Where there is no second connection, each of its messages that is neither too short nor too long has no credit.
+    /// Takes a message of the connection's host in. If there is no second connection, each of its messages that is
+    /// neither too short nor too long has no credit.
+    ///
+    /// # Errors
+    ///
+    /// The first that holds of `Short`, `Long`, `NoCredit`, `LastCredit` and `Doubled`; then nothing changes.
     pub fn send(&mut self, connection: Connection, b: &[u8]) -> Result<Sent, SendFault>
         ensures answer { result ≡ answer_to_message connection self.old b.now }
         ensures after { self.new ≡ after_message connection self.old b.now }
@@ -267,8 +275,12 @@ impl<K: Picker> Controller<K> {
         self.send_command(connection, command)
     }
 
-    /// Takes a command of the connection's host in, as `send` takes each message that is this command: who has the command
-    /// needs no bytes of it. A refusal changes nothing.
+    /// Takes a command of the connection's host in, as `send` takes each message that is this command: who has the
+    /// command needs no bytes of it.
+    ///
+    /// # Errors
+    ///
+    /// The first that holds of `NoCredit`, `LastCredit` and `Doubled`; then nothing changes.
     #[inline(always)]
     pub fn send_command(
         &mut self,
@@ -287,7 +299,8 @@ impl<K: Picker> Controller<K> {
         }
     }
 
-    /// Takes the oldest end of the connection that wasn't taken, as bytes, if there is one. They are a message of that end.
+    /// Takes the oldest end of the connection that wasn't taken, as bytes, if there is one. They are a message of that
+    /// end.
     pub fn take(&mut self, connection: Connection) -> Option<ArrayVec<u8, 48>>
         ensures answer { result ≡ end_taken connection self.old }
         ensures reads_back { (end : End) → slice_get (of connection self.old.untaken) 0 ≡ Some end
@@ -299,10 +312,11 @@ impl<K: Picker> Controller<K> {
         Some(write_end(&end))
     }
 
-    /// What the next step serves, if a command waits: the command, the block that it touches, how many steps it had, and
-    /// how many it takes in all. Where nothing is in service and nothing was begun the picker picks it, and its choice is
-    /// kept. Until a step, a reset, or an ABORT of that command, this answers the same; and it changes nothing that `look`,
-    /// `figure`, `balance`, `config`, `send` and `take` tell. It is built into its caller, which reads it where it is made.
+    /// What the next step serves, if a command waits: the command, the block that it touches, how many steps it had,
+    /// and how many it takes in all. Where nothing is in service and nothing was begun the picker picks it, and its
+    /// choice is kept. Until a step, a reset, or an ABORT of that command, this answers the same; and it changes
+    /// nothing that `look`, `figure`, `balance`, `config`, `send` and `take` tell. It is built into its caller, which
+    /// reads it where it is made.
     #[inline(always)]
     pub fn begin(&mut self) -> Option<Upcoming>
         ensures begin { Foretells (K.picks self.old.picker) self.old result self.new }
@@ -326,7 +340,8 @@ impl<K: Picker> Controller<K> {
         reference: u32,
         block: Block,
     ) -> Result<Report, NotBegun>
-        ensures finish { Finishes (K.picks self.old.picker) (name_on connection reference) block self.old result self.new }
+        ensures finish { Finishes (K.picks self.old.picker)
+            (name_on connection reference) block self.old result self.new }
         ensures account { IsBalanced self.new }
     {
         if self.queue.is_begun(connection, reference) {
@@ -336,9 +351,9 @@ impl<K: Picker> Controller<K> {
         }
     }
 
-    /// Serves one block, with this outcome, if a command waits: to the command that was begun, or else to that in service,
-    /// or to one that the picker picks of those that may start. It is built into its caller, which reads the report where it is
-    /// made.
+    /// Serves one block, with this outcome, if a command waits: to the command that was begun, or else to that in
+    /// service, or to one that the picker picks of those that may start. It is built into its caller, which reads the
+    /// report where it is made.
     #[inline(always)]
     pub fn step(&mut self, block: Block) -> Report
         ensures step { Steps (K.picks self.old.picker) block self.old result self.new }

@@ -17,7 +17,8 @@ fn answer_each<K: Picker, A: Allocator>(
 )
     requires empty { entries.old.items ≡ [] }
     requires room { length events.now ≤ vec_capacity entries.old }
-    ensures answered { Answered (K.picks controller.old.picker) controller.old events.now entries.new.items controller.new }
+    ensures answered { Answered (K.picks controller.old.picker) controller.old events.now entries.new.items
+        controller.new }
     ensures same_room { vec_capacity entries.new ≡ vec_capacity entries.old }
 {
     for event in events {
@@ -65,8 +66,12 @@ pub fn run_in<K: Picker + Drop, A: Allocator>(
     Ok(entries)
 }
 
-/// What `run_into` gives, in a list of its own, whose room is for just these entries. Memory is asked for before the first
-/// event, and nothing is answered if it is refused.
+/// What `run_into` gives, in a list of its own, whose room is for just these entries. Memory is asked for before the
+/// first event.
+///
+/// # Errors
+///
+/// `OutOfMemory` if it is refused: then nothing was answered.
 pub fn run<K: Picker + Drop>(
     alloc: Global,
     config: Config,

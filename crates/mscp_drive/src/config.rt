@@ -70,10 +70,14 @@ fn room_for(credits: u32) -> u32
 impl Config {
     ghost use Rattle.mscp_drive.specs.Settings.{configured, credits_of, limit_fault, room, IsValid, Settings};
 
-    /// The limits, if a controller can keep them: `credits` commands and untaken ends of the first connection at most, and
-    /// `second` of the second, each waiting command passed by at most `budget` blocks, transfers of at most `longest`
-    /// blocks, and a controller timeout in seconds and a controller identifier, which hosts are told. If `second` is 0
-    /// there is no second connection. A limit of so many passes is a budget of `passes * longest`.
+    /// The limits, if a controller can keep them: `credits` commands and untaken ends of the first connection at most,
+    /// and `second` of the second, each waiting command passed by at most `budget` blocks, transfers of at most
+    /// `longest` blocks, and a controller timeout in seconds and a controller identifier, which hosts are told. If
+    /// `second` is 0 there is no second connection. A limit of so many passes is a budget of `passes * longest`.
+    ///
+    /// # Errors
+    ///
+    /// The first that holds of `Credits`, `Longest`, `Timeout` and `Figure`.
     pub fn new(
         credits: u32,
         second: u32,
@@ -141,7 +145,8 @@ impl Config {
         None
     }
 
-    /// These limits and units, which a controller can keep. The units become its own where they lie: no others are made.
+    /// These limits and units, which a controller can keep. The units become its own where they lie: no others are
+    /// made.
     #[inline(always)]
     pub fn of(
         credits: u32,

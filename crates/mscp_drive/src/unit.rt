@@ -95,7 +95,11 @@ pub enum UnitFault {
 impl Unit {
     /// A unit of this number, with a track of `track` blocks, a group of `group` tracks, a cylinder of
     /// `cylinder` groups and `size` blocks in all. The identifiers of the unit, of its media and of its
-    /// volume are told to the host. An error where a size is zero.
+    /// volume are told to the host.
+    ///
+    /// # Errors
+    ///
+    /// The first that is 0: `ZeroTrack`, `ZeroGroup`, `ZeroCylinder`, `ZeroSize`.
     pub fn new(
         number: u16,
         track: u16,
@@ -219,9 +223,12 @@ impl Unit {
     }
 
     /// How many steps a transfer of so many bytes from block `lbn` on takes, at most `longest`: one for each
-    /// block of 512 bytes, and at least one (profile). The error is the status that refuses it: `INVALID_BLOCK`
-    /// where the unit has no such block, else `INVALID_BYTE_COUNT` where the transfer reaches past the unit or
-    /// takes more steps.
+    /// block of 512 bytes, and at least one (profile).
+    ///
+    /// # Errors
+    ///
+    /// The status that refuses it: `INVALID_BLOCK` if the unit has no such block, else `INVALID_BYTE_COUNT` if the
+    /// transfer reaches past the unit or takes more steps.
     pub fn check(&self, lbn: u32, bytes: u32, longest: u32) -> Result<u32, u16>
         ensures weight { result ≡ weighed (range_fault longest bytes lbn self.now) (weight bytes) }
         ensures small { IfOk result (λ weight. lbn + weight ≤ 2 ^ 32) }

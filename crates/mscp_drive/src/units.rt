@@ -39,8 +39,12 @@ pub enum UnitsFault {
 }
 
 impl Units {
-    /// The units of a list. An error where there are more than 16, where their numbers don't rise, or where
-    /// there is none. It isn't made part of its caller, in which each number of each unit would be moved by itself.
+    /// The units of a list. It isn't made part of its caller, in which each number of each unit would be moved by
+    /// itself.
+    ///
+    /// # Errors
+    ///
+    /// `TooMany` over 16, else `NotAscending` if their numbers don't rise; `Empty` if there is none.
     #[inline(never)]
     pub fn new(units: &[Unit]) -> Result<Units, UnitsFault>
         ensures many { (result ≡ Err UnitsFault.TooMany) ↔ (16 < length units.now) }

@@ -10,12 +10,12 @@ use mscp_ported::{
 };
 use mscp_queue::Picker;
 
-/// A host and a port, whose controller had nothing of the host's as the port was made. Whoever calls the port tells of actions
-/// only after they were wanted; the port reads the messages that the host sent, in order, and the host hears the packets that
-/// the port told, in order; and if IP is written the host is a new one. Then each end that the host hears has the number of a
-/// command that it sent, and whose end it hasn't heard; and no end counts more bytes than its command asked for: the host never
-/// says `MovedTooMuch`. What it refuses is such an end, as `Unknown`: no message is cut, unreadable, or of another connection or
-/// type.
+/// A host and a port, whose controller had nothing of the host's as the port was made. Whoever calls the port tells of
+/// actions only after they were wanted; the port reads the messages that the host sent, in order, and the host hears
+/// the packets that the port told, in order; and if IP is written the host is a new one. Then each end that the host
+/// hears has the number of a command that it sent, and whose end it hasn't heard; and no end counts more bytes than its
+/// command asked for: the host never says `MovedTooMuch`. What it refuses is such an end, as `Unknown`: no message is
+/// cut, unreadable, or of another connection or type.
 pub fn hosts_hear_their_own_ends<K: Picker>(picker: &K)
     ensures { HostsHearTheirOwnEnds K.picks picker.now }
 {
@@ -27,8 +27,8 @@ pub fn hosts_hear_their_own_ends<K: Picker>(picker: &K)
     port_hosts_keep_their_history();
 }
 
-/// Such a host and port, whose units have blocks. If each text that the port reads is of its message by number, opcode and first
-/// parameter, and has all its bytes, the host refuses nothing that it hears.
+/// Such a host and port, whose units have blocks. If each text that the port reads is of its message by number, opcode
+/// and first parameter, and has all its bytes, the host refuses nothing that it hears.
 pub fn hosts_refuse_nothing<K: Picker>(picker: &K)
     ensures { HostsRefuseNothing K.picks picker.now }
 {
@@ -41,9 +41,10 @@ pub fn hosts_refuse_nothing<K: Picker>(picker: &K)
     port_hosts_keep_their_history();
 }
 
-/// Such a host and port. If between any two polls about one command, as the port's controller took them, a step was told, or the
-/// command waits no more, the host says neither `Reset`, of a figure that isn't less than the one before, nor `Lost`, of a figure
-/// of 0. A controller that serves nothing between two polls has no lower figure to tell: that a host takes for a reset.
+/// Such a host and port. If between any two polls about one command, as the port's controller took them, a step was
+/// told, or the command waits no more, the host says neither `Reset`, of a figure that isn't less than the one before,
+/// nor `Lost`, of a figure of 0. A controller that serves nothing between two polls has no lower figure to tell: that a
+/// host takes for a reset.
 pub fn hosts_hear_no_reset<K: Picker>(picker: &K)
     ensures { HostsHearNoReset K.picks picker.now }
 {
@@ -59,8 +60,8 @@ pub fn hosts_hear_no_reset<K: Picker>(picker: &K)
     port_hosts_keep_their_history();
 }
 
-/// Such a host and port. If whoever calls the port asks for blocks each time that it asks what is wanted, the host says neither
-/// `Reset` nor `Lost`, whenever it polls and whatever comes of the actions.
+/// Such a host and port. If whoever calls the port asks for blocks each time that it asks what is wanted, the host says
+/// neither `Reset` nor `Lost`, whenever it polls and whatever comes of the actions.
 pub fn served_hosts_hear_no_reset<K: Picker>(picker: &K)
     ensures { ServedHostsHearNoReset K.picks picker.now }
 {

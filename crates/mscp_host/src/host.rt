@@ -1,4 +1,8 @@
 // A host: what it sent and hasn't heard of.
+//
+// It has one poll in flight at most, about the oldest command that isn't answered when it arrives. It knows those by
+// the raw opcode byte, as the controller does. A poll that comes back with endcode 0x80 was refused, so it is an end
+// as any other. A figure that doesn't fall means `Reset`, which is said before `Lost`.
 
 ghost use Rattle.std.specs.Prelude.{◌≡◌, ◌↔◌, ◌≤◌, true, false, find, IsOk, IfErr, IfOk};
 ghost use Rattle.mscp_host.specs.Common.{list_any, command_bytes, opcode_byte, answered, balance, end_in, fresh, has_reference, heard, news_with, oldest, or_unreadable, outstanding_with, polls_oldest, received, refusal, submits, submitted};
@@ -12,8 +16,8 @@ use arrayvec::ArrayVec;
 use mscp_packet::{Command, End, Order, read_end, write_command};
 use std::marker::Model;
 
-/// The host's end of a controller: its credits, the commands whose ends it hasn't received, and the poll in flight. It takes
-/// no memory beside its own.
+/// The host's end of a controller: its credits, the commands whose ends it hasn't received, and the poll in flight. It
+/// takes no memory beside its own.
 #[derive(Drop)]
 pub struct Host {
     pub(crate) credits: u32,
@@ -35,6 +39,10 @@ impl Model for Host {
 
 impl Host {
     /// A host that sent nothing so far, with so many credits: 2 to 64.
+    ///
+    /// # Errors
+    ///
+    /// `Credits` for any other number.
     pub fn new(credits: u32) -> Result<Host, HostFault>
         ensures taken { IsOk result ↔ ((2 ≤ credits) × (credits ≤ 64)) }
         ensures fault { IfErr result (λ fault. fault ≡ HostFault.Credits) }
@@ -85,8 +93,11 @@ impl Host {
         }
     }
 
-    /// The message of a command, which is outstanding from now on; or why it may not be sent, and then nothing changes:
-    /// the first that holds of `NoCredit`, `LastCredit` and `Doubled`.
+    /// The message of a command, which is outstanding from now on.
+    ///
+    /// # Errors
+    ///
+    /// The first that holds of `NoCredit`, `LastCredit` and `Doubled`; then it may not be sent, and nothing changes.
     pub fn submit(&mut self, command: &Command) -> Result<ArrayVec<u8, 48>, HostFault>
         ensures { (result, self.new) ≡ submits self.old command.now }
     {
@@ -116,9 +127,12 @@ impl Host {
     }
 
     /// What there is to do to poll the oldest command that isn't answered when it arrives, under this reference number:
-    /// nothing while the end of a poll is still to come, or where there is no such command. Else a GET COMMAND STATUS is
-    /// outstanding from now on; or it may not be sent, and then nothing changes: the first that holds of `NoCredit` and
-    /// `Doubled`.
+    /// nothing while the end of a poll is still to come, or if there is no such command. Else a GET COMMAND STATUS is
+    /// outstanding from now on.
+    ///
+    /// # Errors
+    ///
+    /// The first that holds of `NoCredit` and `Doubled`; then it may not be sent, and nothing changes.
     pub fn poll(&mut self, reference: u32) -> Result<Poll, HostFault>
         ensures { (result, self.new) ≡ polls_oldest self.old reference }
     {
@@ -142,10 +156,13 @@ impl Host {
         Ok(Poll::Ask(message))
     }
 
-    /// What an end says that was received; its command's credit is free again. Or why it is refused, and then nothing
-    /// changes: `Unreadable` where the bytes are no end, and else `Unknown` where no outstanding command has the reference
-    /// number, the endcode is neither 0x80 nor that of its opcode, or it is the answer to the poll in flight and tells of
-    /// another command.
+    /// What an end says that was received; its command's credit is free again.
+    ///
+    /// # Errors
+    ///
+    /// `Unreadable` if the bytes are no end, and else `Unknown` if no outstanding command has the reference number, the
+    /// endcode is neither 0x80 nor that of its opcode, or it is the answer to the poll in flight and tells of another
+    /// command. Then nothing changes.
     pub fn receive(&mut self, b: &[u8]) -> Result<News, HostFault>
         ensures { (result, self.new) ≡ heard self.old b.now }
     {

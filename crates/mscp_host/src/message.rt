@@ -82,7 +82,11 @@ fn sequential_in(t: &[u8]) -> Result<Message, HearFault>
     }
 }
 
-/// The message of an envelope and the bytes behind it, or why it is none.
+/// The message of an envelope and the bytes behind it.
+///
+/// # Errors
+///
+/// The first that holds of `Cut`, `Connection`, `Kind` and `Unreadable`.
 pub fn message_in(envelope: &Envelope, b: &[u8]) -> Result<Message, HearFault>
     ensures { result ≡ message_in envelope.now b.now }
 {

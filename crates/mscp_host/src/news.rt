@@ -72,8 +72,8 @@ pub fn news_of_figure(last: Option<u32>, figure: u32) -> News
     }
 }
 
-/// Whether the endcode is that of an unknown opcode, or that of this opcode byte. A byte of 0x80 or more has no endcode of
-/// its own.
+/// Whether the endcode is that of an unknown opcode, or that of this opcode byte. A byte of 0x80 or more has no endcode
+/// of its own.
 pub fn is_code_of(code: u8, opcode: u8) -> bool
     ensures { result ≡ is_code_of code opcode }
 {

@@ -1,4 +1,7 @@
 // A host of a port: its credits come in envelopes.
+//
+// It has a host of 64 credits in it, beside the credits that envelopes grant. So what is proved of the one holds of
+// the other, and what a port adds is said once. It is saved as what it has beside that host, and then the host.
 
 ghost use Rattle.std.specs.Prelude.{◌≡◌, ◌≤◌, find, length, true};
 ghost use Rattle.mscp_host.specs.Common.{answered, is_about_polled};
@@ -29,8 +32,8 @@ pub struct PortHost {
     pub(crate) is_over: bool,
 }
 
-// A clause sees what a host of 64 credits keeps, what is outstanding in the order of sending, the credits that are free,
-// and whether more were told than are kept.
+// A clause sees what a host of 64 credits keeps, what is outstanding in the order of sending, the credits that are
+// free, and whether more were told than are kept.
 impl Model for PortHost {
     ghost use Rattle.mscp_host.specs.PortAccounts.{PortAccount};
     ghost use Rattle.mscp_host.specs.Ported.{IsPorted};
@@ -119,8 +122,11 @@ impl PortHost {
             .any(|asked| is_immediate(asked.opcode))
     }
 
-    /// The message of a command, which is outstanding from now on; or why it may not be sent, and then nothing changes:
-    /// the first that holds of `NoCredit`, `LastCredit` and `Doubled`. It takes a credit.
+    /// The message of a command, which is outstanding from now on, and takes a credit.
+    ///
+    /// # Errors
+    ///
+    /// The first that holds of `NoCredit`, `LastCredit` and `Doubled`; then it may not be sent, and nothing changes.
     pub fn submit(&mut self, command: &Command) -> Result<ArrayVec<u8, 48>, HostFault>
         ensures { (result, self.new) ≡ port_submits self.old command.now }
     {
@@ -137,9 +143,12 @@ impl PortHost {
     }
 
     /// What there is to do to poll the oldest command that isn't answered when it arrives, under this reference number:
-    /// nothing while the end of a poll is still to come, or where there is no such command. Else a GET COMMAND STATUS is
-    /// outstanding from now on, and takes a credit; or it may not be sent, and then nothing changes: the first that holds
-    /// of `NoCredit` and `Doubled`.
+    /// nothing while the end of a poll is still to come, or if there is no such command. Else a GET COMMAND STATUS is
+    /// outstanding from now on, and takes a credit.
+    ///
+    /// # Errors
+    ///
+    /// The first that holds of `NoCredit` and `Doubled`; then it may not be sent, and nothing changes.
     pub fn poll(&mut self, reference: u32) -> Result<Poll, HostFault>
         ensures { (result, self.new) ≡ port_polls self.old reference }
     {
@@ -160,8 +169,11 @@ impl PortHost {
         Ok(poll)
     }
 
-    /// What a message from the port says: its envelope, and the bytes behind that. The credits that it tells are free. Or
-    /// why it is refused, and then nothing changes.
+    /// What a message from the port says: its envelope, and the bytes behind that. The credits that it tells are free.
+    ///
+    /// # Errors
+    ///
+    /// The first that holds of `Cut`, `Connection`, `Kind`, `Unreadable` and `Unknown`; then nothing changes.
     pub fn hear(&mut self, envelope: &Envelope, b: &[u8]) -> Result<Heard, HearFault>
         ensures { (result, self.new) ≡ hears self.old envelope.now b.now }
     {
@@ -187,7 +199,8 @@ impl PortHost {
 
     /// What an end says that tells these credits, or that it is none of ours.
     fn hear_end(&mut self, end: &End, credits: u8) -> Result<Heard, HearFault>
-        ensures { (result, self.new) ≡ ends_of self.old credits end.now (find (is_of end.now.reference) self.old.asked) }
+        ensures { (result, self.new)
+            ≡ ends_of self.old credits end.now (find (is_of end.now.reference) self.old.asked) }
     {
         let Some(asked) = find_asked(self.asked.as_slice(), end.reference).copied() else {
             return Err(HearFault::Unknown);

@@ -89,9 +89,13 @@ fn port_host_in(b: &[u8], host: Host) -> PortHost
 }
 
 impl PortHost {
-    /// The host that bytes say, if they are the bytes that it is saved as, or why they aren't: the first that holds of what
-    /// is wrong with the head, and what is wrong with the host in it, which has 64 credits. What it heard before is nobody's
-    /// to say but theirs who saved it; it is a host whatever the bytes were.
+    /// The host that bytes say, if they are the bytes that it is saved as. What it heard before is nobody's to say but
+    /// theirs who saved it; it is a host whatever the bytes were.
+    ///
+    /// # Errors
+    ///
+    /// The first that holds of what is wrong with the head, and what is wrong with the host in it, which has 64
+    /// credits.
     pub fn restore(b: &[u8]) -> Result<PortHost, RestoreFault>
         ensures value { result ≡ port_restored b.now }
         ensures only { IfOk result (λ host. port_saved_bytes host ≡ b.now) }

@@ -54,8 +54,8 @@ fn put_sizes(out: &mut ArrayVec<u8, PORT_HOST_ROOM>, commands: &[Asked])
 }
 
 impl PortHost {
-    /// All that it keeps, as bytes, at most `PORT_HOST_ROOM`, of which `PortHost::restore` makes it again. What is the same
-    /// host has the same bytes. A `Watch` isn't part of it: its three numbers are the driver's.
+    /// All that it keeps, as bytes, at most `PORT_HOST_ROOM`, of which `PortHost::restore` makes it again. What is the
+    /// same host has the same bytes. A `Watch` isn't part of it: its three numbers are the driver's.
     pub fn save(&self) -> ArrayVec<u8, PORT_HOST_ROOM>
         ensures bytes { result.items ≡ port_saved_bytes self.now }
         ensures range { HasPortRange self.now }

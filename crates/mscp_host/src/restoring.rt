@@ -34,9 +34,9 @@ pub enum RestoreFault {
     /// Two outstanding submissions of one reference number.
     #[error("doubled")]
     Doubled,
-    /// A poll in flight whose own GET COMMAND STATUS isn't outstanding, or isn't to the unit of the polled command; or that is
-    /// about nobody: about a command that is said to be outstanding, and isn't the oldest that isn't answered when it arrives, or
-    /// about itself. Or a figure that was told of another command than the oldest.
+    /// A poll in flight whose own GET COMMAND STATUS isn't outstanding, or isn't to the unit of the polled command; or
+    /// that is about nobody: about a command that is said to be outstanding, and isn't the oldest that isn't answered
+    /// when it arrives, or about itself. Or a figure that was told of another command than the oldest.
     #[error("poll")]
     Poll,
     /// The bytes say a host, and aren't those that it is saved as.
@@ -178,8 +178,12 @@ fn host_in(b: &[u8], outstanding: ArrayVec<Submission, 64>, watch: Option<Watch>
 }
 
 impl Host {
-    /// The host that bytes say, if they are the bytes that it is saved as, or why they aren't. What it heard before is
-    /// nobody's to say but theirs who saved it; it is a host whatever the bytes were.
+    /// The host that bytes say, if they are the bytes that it is saved as. What it heard before is nobody's to say but
+    /// theirs who saved it; it is a host whatever the bytes were.
+    ///
+    /// # Errors
+    ///
+    /// The first fault, in the order of `RestoreFault`, if they aren't.
     #[inline(always)]
     pub fn restore(b: &[u8]) -> Result<Host, RestoreFault>
         ensures value { result ≡ restored b.now }

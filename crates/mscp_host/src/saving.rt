@@ -96,8 +96,8 @@ fn put_submissions(out: &mut ArrayVec<u8, ROOM>, submissions: &[Submission])
 }
 
 impl Host {
-    /// All that it keeps, as bytes, at most `ROOM`, of which `Host::restore` makes it again. What is the same host has the
-    /// same bytes.
+    /// All that it keeps, as bytes, at most `ROOM`, of which `Host::restore` makes it again. What is the same host has
+    /// the same bytes.
     pub fn save(&self) -> ArrayVec<u8, ROOM>
         ensures bytes { result.items ≡ saved_bytes self.now }
         ensures range { HasRange self.now }

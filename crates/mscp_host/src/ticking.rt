@@ -18,8 +18,8 @@ pub enum Advice {
     Reset,
 }
 
-/// Counts the ticks of a driver's timer between polls, and those for which an answer is owed. It lies in memory as C has
-/// it.
+/// Counts the ticks of a driver's timer between polls, and those for which an answer is owed. It lies in memory as C
+/// has it.
 #[repr(C)]
 #[derive(Clone, Copy)]
 pub struct Watch {

@@ -89,8 +89,8 @@ fn is_polled(submissions: &[Submission], reference: u32) -> bool
     }
 }
 
-/// Whether a poll is about the oldest command, and to its unit; or about one that is outstanding no more, and that isn't the
-/// poll itself.
+/// Whether a poll is about the oldest command, and to its unit; or about one that is outstanding no more, and that
+/// isn't the poll itself.
 fn is_about_somebody(submissions: &[Submission], watch: &Watch) -> bool
     ensures { result ≡ is_about_somebody submissions.now watch.now }
 {

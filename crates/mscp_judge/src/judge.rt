@@ -1,4 +1,7 @@
 // A controller that answers what a log says, and what of its answers wasn't told yet.
+//
+// The judge is a controller with a picker of its own, which picks the command that the log names. A step is answered
+// when the line of its answer is read, since that line names the command that starts.
 
 ghost use Rattle.std.specs.Prelude.{◌≡◌, ◌+◌, ◌-◌, ◌<◌, ◌^◌, [], codes, length, true, false, OnOk, IfOk, None};
 ghost use Rattle.mscp_judge.specs.Common.{IsValid, Settings, events_of, AreAnswers, Log, nothing, telling, Came, HasShortLine, IsSettled, Stands, due, totals_of};

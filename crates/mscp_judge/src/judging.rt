@@ -1,4 +1,8 @@
 // A log, judged line by line.
+//
+// Which rule a line breaks is known only before the step that it answers, and a legal log doesn't need it. So a log is
+// judged without it, and once more only if some line is wrong. Lines that are due are compared with the log in one
+// piece; if a byte differs, they are judged one by one, so that rules and faults stay the same.
 
 ghost use Rattle.std.specs.Prelude.{◌≡◌, ◌+◌, ◌<◌, ◌≤◌, ◌++◌, [], codes, true, false, IfOk, IfSome, IfNone, OnOk, Ok, Some, drop, length};
 ghost use Rattle.mscp_judge.specs.Common.{IsValid, Settings, asked_next, events_of, MOST_EVENTS, Breaks, Finds, Judges, Passed, AreAnswers, Log, nothing, IsNamedAhead, Stands, due};
@@ -41,7 +45,8 @@ pub fn judge_lines<A: Allocator>(
     if let Some(verdict) = find(&mut judge, lines, false)? {
         return Ok(verdict);
     }
-    // Some line is wrong, or isn't written as a report has it. The lines are judged once more, since its rule is known only before a step.
+    // Some line is wrong, or isn't written as a report has it. The lines are judged once more, since its rule is known
+    // only before a step.
     *lines = Lines { rest, number };
     judge.restart();
     match find(&mut judge, lines, true)? {
@@ -83,8 +88,8 @@ fn find<A: Allocator>(
     }
 }
 
-/// Passes over the next lines, as far as they are found to be right by their bytes alone. Told is false where one is found
-/// not to be, which is done only if its rule isn't wanted: then nothing more is said.
+/// Passes over the next lines, as far as they are found to be right by their bytes alone. Told is false where one is
+/// found not to be, which is done only if its rule isn't wanted: then nothing more is said.
 fn pass_lines<A: Allocator>(
     judge: &mut Judge<A>,
     lines: &mut Lines<'_>,
@@ -107,9 +112,9 @@ fn pass_lines<A: Allocator>(
     Ok(true)
 }
 
-/// Passes over the lines of the steps that are to be answered, as far as each says in the words of a report which command
-/// was served. Told is false where one isn't what that step answers: then nothing more is said. Where its rule is wanted none
-/// is passed over.
+/// Passes over the lines of the steps that are to be answered, as far as each says in the words of a report which
+/// command was served. Told is false where one isn't what that step answers: then nothing more is said. Where its rule
+/// is wanted none is passed over.
 fn pass_steps<A: Allocator>(
     judge: &mut Judge<A>,
     lines: &mut Lines<'_>,
@@ -178,8 +183,8 @@ fn behind_idle(bytes: &[u8]) -> Option<&[u8]>
     }
 }
 
-/// Where all is answered, passes over the next line, if that asks for events, and over its answers, as far as they are known
-/// and stand there. Any other line stays. Told is whether a line was passed over.
+/// Where all is answered, passes over the next line, if that asks for events, and over its answers, as far as they are
+/// known and stand there. Any other line stays. Told is whether a line was passed over.
 fn pass_request<A: Allocator>(
     judge: &mut Judge<A>,
     lines: &mut Lines<'_>,
@@ -225,7 +230,8 @@ fn cut_request<'a>(lines: &mut Lines<'a>, count: usize) -> Option<Request<'a>>
     }
 }
 
-/// Cuts off what is due, which is so many lines, and tells it, if the next lines are just that. Told is whether they are.
+/// Cuts off what is due, which is so many lines, and tells it, if the next lines are just that. Told is whether they
+/// are.
 fn cut_due<A: Allocator>(judge: &mut Judge<A>, lines: &mut Lines<'_>, count: u32) -> bool
     requires { AreAnswers (due judge.old) count }
     ensures cut { result ≡ true → lines.old.rest.now ≡ due judge.old ++ lines.new.rest.now }

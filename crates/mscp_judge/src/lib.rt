@@ -1,5 +1,5 @@
-//! The judge: whether what another controller answered is legal. A log is a script in which each event's line is followed
-//! by the lines that were answered. And what hosts would have heard in it.
+//! The judge: whether what another controller answered is legal. A log is a script in which each event's line is
+//! followed by the lines that were answered. And what hosts would have heard in it.
 #![tactic(auto)]
 
 mod answers;

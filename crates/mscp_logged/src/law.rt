@@ -9,9 +9,9 @@ use mscp_ported::{
 };
 use mscp_queue::Picker;
 
-/// A port was made over a controller that had nothing of its host's. Whoever calls the port tells of actions only after they were
-/// wanted, and what it reads are bytes. Then each end of the disk's that goes over the wire is as long as its endcode asks:
-/// none breaks the rule `Length` of `mscp_wire`.
+/// A port was made over a controller that had nothing of its host's. Whoever calls the port tells of actions only after
+/// they were wanted, and what it reads are bytes. Then each end of the disk's that goes over the wire is as long as its
+/// endcode asks: none breaks the rule `Length` of `mscp_wire`.
 pub fn ports_send_long_ends<K: Picker>(picker: &K)
     ensures { PortsSendLongEnds K.picks picker.now }
 {
@@ -19,8 +19,8 @@ pub fn ports_send_long_ends<K: Picker>(picker: &K)
     ports_tell_in_order(picker);
 }
 
-/// Of such a port: while its host's messages are right, each end answers a command that is outstanding: none breaks the rule
-/// `Outstanding`.
+/// Of such a port: while its host's messages are right, each end answers a command that is outstanding: none breaks the
+/// rule `Outstanding`.
 pub fn ports_answer_what_is_outstanding<K: Picker>(picker: &K)
     ensures { PortsAnswerWhatIsOutstanding K.picks picker.now }
 {
@@ -29,9 +29,10 @@ pub fn ports_answer_what_is_outstanding<K: Picker>(picker: &K)
 }
 
 /// Of such a port, whose units have blocks: while its host's messages are right, no moment of the log breaks a rule of
-/// `mscp_wire`. `Status`, `Aborted`, `Count` and `State` are kept if what the port is told of blocks that failed has a code from 5 to
-/// 11, as what a drive or a medium has; and `Figure` if a step is told between any two polls of one command, as the controller takes
-/// them, or if whoever calls the port asks for blocks each time that it asks what is wanted.
+/// `mscp_wire`. `Status`, `Aborted`, `Count` and `State` are kept if what the port is told of blocks that failed has a
+/// code from 5 to 11, as what a drive or a medium has; and `Figure` if a step is told between any two polls of one
+/// command, as the controller takes them, or if whoever calls the port asks for blocks each time that it asks what is
+/// wanted.
 pub fn ports_are_right<K: Picker>(picker: &K)
     ensures { PortsAreRight K.picks picker.now }
 {

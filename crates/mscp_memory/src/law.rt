@@ -17,8 +17,12 @@ pub fn marks_differ()
     ensures room_of_a_host { (hosts.ROOM ≢ controllers.MADE) × (hosts.ROOM ≢ ports.MADE) }
     ensures room_of_a_port { (ports.ROOM ≢ controllers.MADE) × (ports.ROOM ≢ hosts.MADE) }
     ensures driver { drivers.ROOM ≢ drivers.MADE }
-    ensures rooms_beside_a_driver { (drivers.ROOM ≢ controllers.ROOM) × (drivers.ROOM ≢ hosts.ROOM) × (drivers.ROOM ≢ ports.ROOM) }
-    ensures made_beside_a_driver { (drivers.MADE ≢ controllers.MADE) × (drivers.MADE ≢ hosts.MADE) × (drivers.MADE ≢ ports.MADE) }
-    ensures room_of_a_driver { (drivers.ROOM ≢ controllers.MADE) × (drivers.ROOM ≢ hosts.MADE) × (drivers.ROOM ≢ ports.MADE) }
-    ensures rooms_of_others { (controllers.ROOM ≢ drivers.MADE) × (hosts.ROOM ≢ drivers.MADE) × (ports.ROOM ≢ drivers.MADE) }
+    ensures rooms_beside_a_driver { (drivers.ROOM ≢ controllers.ROOM) × (drivers.ROOM ≢ hosts.ROOM)
+        × (drivers.ROOM ≢ ports.ROOM) }
+    ensures made_beside_a_driver { (drivers.MADE ≢ controllers.MADE) × (drivers.MADE ≢ hosts.MADE)
+        × (drivers.MADE ≢ ports.MADE) }
+    ensures room_of_a_driver { (drivers.ROOM ≢ controllers.MADE) × (drivers.ROOM ≢ hosts.MADE)
+        × (drivers.ROOM ≢ ports.MADE) }
+    ensures rooms_of_others { (controllers.ROOM ≢ drivers.MADE) × (hosts.ROOM ≢ drivers.MADE)
+        × (ports.ROOM ≢ drivers.MADE) }
 {}

@@ -1,4 +1,7 @@
 // Which picker serves.
+//
+// In C a picker is chosen by a number, and that chooses one of those that are proved. A picker that is written in C
+// would have to be believed.
 
 use mscp_controller::{Oldest, Picker, Sweep, View};
 

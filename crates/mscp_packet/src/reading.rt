@@ -60,6 +60,10 @@ fn order_in(b: &[u8]) -> Order
 /// that is no valid command gives an `Order::Invalid` with the status of its end: `INVALID_OPCODE`, or `INVALID_LENGTH`
 /// where it is shorter than the least of its opcode. Reserved bytes, modifiers, and bytes past the known fields are
 /// ignored (profile).
+///
+/// # Errors
+///
+/// `Short` under 12 bytes, `Long` over 64.
 pub fn read_command(b: &[u8]) -> Result<Command, PacketFault>
     ensures short { (result ≡ Err PacketFault.Short) ↔ (length b.now < 12) }
     ensures long { (result ≡ Err PacketFault.Long) ↔ (64 < length b.now) }
@@ -140,6 +144,10 @@ fn body_in(kind: BodyKind, b: &[u8]) -> EndBody
 /// The end in a message of 12 to 64 bytes (manual, "End Messages"; the limits are the profile's). The body is of the
 /// shape that follows the endcode. Flags, reserved bytes, and bytes past the length of the endcode are ignored
 /// (profile).
+///
+/// # Errors
+///
+/// `Length` under 12 or over 64 bytes, or under the length of its endcode; else `Code` if byte 8 is no endcode.
 pub fn read_end(b: &[u8]) -> Result<End, EndFault>
     ensures end { IfOk result (λ e. IsEnd b.now e) }
     ensures only { (e : End) → IsEnd b.now e → result ≡ Ok e }

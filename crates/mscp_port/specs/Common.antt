@@ -14,14 +14,14 @@ pub use Rattle.mscp_port.specs.Buffers.{IsInBuffer, is_of, kept_beside, part_of,
 pub use Rattle.mscp_port.specs.Calls.{ChangesByReading, ChangesBySaying, ChangesByService, ChangesByWord, Dies, Goes, GoesBy, Hears, IsMadeOf, ReadsIp, TakesStep, Wants, WritesIp, WritesSa, sa_of}
 pub use Rattle.mscp_port.specs.Watching.{Changes, IsQuiet, LooksAgain, PutsIn, Ticks, step_again}
 pub use Rattle.mscp_port.specs.Codes.{number_or_none, optional, stage_in, stage_word}
-pub use Rattle.mscp_port.specs.Decided.{answer_decided, decided_after, decided_answers, decided_step}
+pub use Rattle.mscp_port.specs.Decided.{answer_decided, decided_after, decided_answers, decided_step, decided_in}
 pub use Rattle.mscp_port.specs.Leaving.{news_at, told_end}
 pub use Rattle.mscp_port.specs.Messages.{bare_end, handed, next_unit, volume_of}
 pub use Rattle.mscp_port.specs.Moved.{BeginsBlock, GoesOnWithBlock, MayMoveOn, MayMoveUnit, TakesBegun, TakesBlock, begun_task, block_begun, block_served, move_wanted, part_now, volumes_after}
 pub use Rattle.mscp_port.specs.Outgoings.{AnswersItself, IsNews, KeepsSaying, MayBegin, Says, TakesEnd, TellsNews, news_place}
 pub use Rattle.mscp_port.specs.Packets.{connection_of, credits_told, end_kind, packet_of}
 pub use Rattle.mscp_port.specs.Ports.{HasNothingToHear, HasNothingToSay, block_is_due, IsAlive, IsAsNew, IsDue, IsIdleUp, IsInSomeBuffer, IsOfBlock, IsOutcomeOf, IsWithin, asked, asks_blocks, in_hand, seconds}
-pub use Rattle.mscp_port.specs.Restored.{IsFramed, IsSaved, area_in, buffers_in, coded_in, controller_in, controller_place, frame_fault, front_in, hardware_in, held_in, is_framed, kind_in, outgoing_in, port_in, restored, rings_if, text_in, told_front, unless, volume_in, volumes_in, words_in}
+pub use Rattle.mscp_port.specs.Restored.{IsFramed, IsSaved, all_decided_in, area_in, buffer_in, buffers_in, coded_in, controller_in, controller_place, frame_fault, front_in, hardware_in, held_in, is_framed, kind_in, outgoing_in, port_in, restored, rings_if, text_in, told_front, unless, volume_in, volumes_in, words_in}
 pub use Rattle.mscp_port.specs.Saved.{HasBufferRange, HasCodedRange, HasDecidedRange, HasHandRange, HasStateRange, HasVolumeRange, area_bytes, buffer_bytes, coded_bytes, counts_bytes, decided_bytes, frame_bytes, hand_bytes, hardware_bytes, kind_byte, outgoing_byte, outgoing_text, rings_bytes, saved_bytes, stage_bytes, state_bytes, volume_bytes, words_bytes, written_bytes}
 pub use Rattle.mscp_port.specs.Seen.{SeesHeader, SeesText, answered_to, changes_at, heeded, neighbour_seen, settings_heeded, slot_seen}
 pub use Rattle.mscp_port.specs.Serials.{next_serial, serial_after, serial_begun}

@@ -23,9 +23,9 @@ pub enum Action {
     },
     /// The host is to be interrupted by this vector.
     Interrupt(u16),
-    /// A block of a unit is to be moved, and so many bytes of host memory from an address on. READ writes the first bytes of the
-    /// block there; WRITE writes the bytes, with zeros behind them, to the block; COMPARE HOST DATA compares them with its
-    /// first. ACCESS reads the block, and ERASE writes zeros to it: these touch no memory.
+    /// A block of a unit is to be moved, and so many bytes of host memory from an address on. READ writes the first
+    /// bytes of the block there; WRITE writes the bytes, with zeros behind them, to the block; COMPARE HOST DATA
+    /// compares them with its first. ACCESS reads the block, and ERASE writes zeros to it: these touch no memory.
     Transfer {
         kind: MoveKind,
         unit: u16,
@@ -40,8 +40,8 @@ pub enum Action {
 pub enum Ask {
     /// All that it wants.
     All,
-    /// Messages alone, while a block takes its time: no block is begun, and one that is in hand is wanted anew once all is asked
-    /// for.
+    /// Messages alone, while a block takes its time: no block is begun, and one that is in hand is wanted anew once all
+    /// is asked for.
     Messages,
 }
 

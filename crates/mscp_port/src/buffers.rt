@@ -84,8 +84,8 @@ impl Buffer {
         }
     }
 
-    /// Where the data of the step that comes after so many others are in host memory, and how many bytes they have. None
-    /// past the end of the buffer, or where they reach the end of 32 bits. A formality has no data.
+    /// Where the data of the step that comes after so many others are in host memory, and how many bytes they have.
+    /// None past the end of the buffer, or where they reach the end of 32 bits. A formality has no data.
     pub fn part(&self, done: u32) -> Option<(u32, u32)>
         ensures value { result ≡ part_of self.now done }
         ensures inside { IfSome result (λ part. IsInBuffer self.now part.0 part.1) }

@@ -1,5 +1,5 @@
-// What an end says that only its port knows. That is decided as its command ends: the end may leave much later, when another
-// volume is in the unit.
+// What an end says that only its port knows. That is decided as its command ends: the end may leave much later, when
+// another volume is in the unit.
 
 ghost use Rattle.std.specs.Prelude.{◌≡◌, length};
 ghost use Rattle.mscp_port.specs.Decided.{controller_decided, decided_in, end_decided, status_told as told, unit_decided, unit_flags as flags_of};
@@ -38,8 +38,8 @@ pub(crate) struct Decided {
     pub size: u32,
 }
 
-/// The status of an end that is told with this endcode, which the controller gave this status, whose step went so, if it had
-/// one, and whose unit had this volume then.
+/// The status of an end that is told with this endcode, which the controller gave this status, whose step went so, if
+/// it had one, and whose unit had this volume then.
 pub(crate) fn status_told(verdict: Verdict, code: u8, status: u16, volume: &Volume) -> u16
     ensures { result ≡ told verdict code status volume.now }
 {
@@ -104,8 +104,8 @@ impl Decided {
         }
     }
 
-    /// Of an end which is told with this endcode and status, where the host has set these flags of its controller, and the end's
-    /// unit has this volume.
+    /// Of an end which is told with this endcode and status, where the host has set these flags of its controller, and
+    /// the end's unit has this volume.
     pub fn of_end(
         code: u8,
         status: u16,

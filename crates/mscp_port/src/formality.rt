@@ -1,6 +1,9 @@
 // Commands that are a formality for a controller which has one path to each unit, no cache, and no data of its own to
-// compare. They ask nothing of a disk, but no command may pass one in front of it that is sequential. So the controller gets an
-// ACCESS of no bytes in the place of such a command: it waits for its turn, has a figure, and can be aborted.
+// compare: DETERMINE ACCESS PATHS, COMPARE CONTROLLER DATA and FLUSH.
+//
+// They ask nothing of a disk, but no command may pass one in front of it that is sequential. If the port held one back
+// in its slot, the polls after it would wait, too. So the controller gets an ACCESS of no bytes in the place of such a
+// command: it waits for its turn, has a figure, and can be aborted. The port writes its own endcode into the end.
 
 ghost use Rattle.std.specs.Prelude.{◌≡◌};
 ghost use Rattle.mscp_port.specs.Formalities.{code_told, ends_formality, formal_status, is_formality};

@@ -53,8 +53,8 @@ impl Hardware {
         version: 1,
     };
 
-    /// What register SA shows in the first step: mapping is served, odd addresses aren't, and on the Q-bus addresses of 22 bits
-    /// are.
+    /// What register SA shows in the first step: mapping is served, odd addresses aren't, and on the Q-bus addresses of
+    /// 22 bits are.
     pub(crate) fn first_step(&self) -> u16
         ensures { result ≡ first_step self.now }
     {

@@ -1,4 +1,5 @@
-// What leaves for the host: ends, each with what was decided of it, and attention messages. Each is written whole, once.
+// What leaves for the host: ends, each with what was decided of it, and attention messages. Each is written whole,
+// once.
 
 ghost use Rattle.std.specs.Prelude.{◌≡◌, ◌+◌, ◌≤◌, ◌++◌};
 ghost use Rattle.mscp_port.specs.Common.{array_vec_len, option_copied};
@@ -29,8 +30,8 @@ fn head(reference: u32, unit: u16, code: u8, status: u16) -> ArrayVec<u8, 48>
     bytes
 }
 
-/// Appends what a message tells of a unit: its number as that of its multi-unit, its flags, its identifier, and the type of
-/// its media.
+/// Appends what a message tells of a unit: its number as that of its multi-unit, its flags, its identifier, and the
+/// type of its media.
 fn put_unit(out: &mut ArrayVec<u8, 48>, unit: &Unit, flags: u16, media: u32)
     requires { array_vec_len out.old ≤ 12 }
     ensures items { out.new.items ≡ out.old.items ++ unit_part unit.now flags media }
@@ -78,7 +79,8 @@ fn unit_status_end(end: &End, told: &Decided, unit: &Unit) -> ArrayVec<u8, 48>
     bytes
 }
 
-/// The end of a SET CONTROLLER CHARACTERISTICS, with the host's flags and the versions of software and hardware. It has 32 bytes.
+/// The end of a SET CONTROLLER CHARACTERISTICS, with the host's flags and the versions of software and hardware. It has
+/// 32 bytes.
 fn controller_end(
     end: &End,
     told: &Decided,

@@ -25,8 +25,8 @@ pub(crate) const SET_CONTROLLER: u8 = 4;
 /// The modifier of GET UNIT STATUS that asks for the next unit.
 const NEXT_UNIT: u16 = 0x0001;
 
-/// The end of a message to a unit with this volume that the port answers itself, if it does: one for a connection that isn't
-/// there, a formality of a unit that isn't there, or a transfer past the end of the volume.
+/// The end of a message to a unit with this volume that the port answers itself, if it does: one for a connection that
+/// isn't there, a formality of a unit that isn't there, or a transfer past the end of the volume.
 pub(crate) fn own_end(message: &[u8], is_foreign: bool, volume: Option<Volume>) -> Option<End>
     requires { 12 ≤ length message.now }
     ensures { result ≡ end_of_own is_foreign volume message.now }
@@ -129,8 +129,8 @@ fn command_in(message: &[u8]) -> Command
     }
 }
 
-/// The command that the controller gets for a message: a formality has its stand-in, and a GET UNIT STATUS which asks for
-/// the next unit is to that one.
+/// The command that the controller gets for a message: a formality has its stand-in, and a GET UNIT STATUS which asks
+/// for the next unit is to that one.
 pub(crate) fn command_for_controller(message: &[u8], units: &Units) -> Command
     requires short { 12 ≤ length message.now }
     requires long { length message.now ≤ 64 }

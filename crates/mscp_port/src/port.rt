@@ -1,4 +1,9 @@
 // A port: its registers, and what it knows.
+//
+// It does no input or output, and answers what it wants done. So it needs no callbacks, and a machine may do an action
+// at once, later, or on another thread. It has one action at a time, over all units: between two blocks it looks at
+// the rings, so a poll or an ABORT waits for one block at most. One action moves a block between its volume and the
+// host's memory: so no buffer is kept between two actions, and what is saved of a port is all of it.
 
 ghost use Rattle.std.specs.Prelude.{◌≡◌, ◌≢◌, ◌⊎◌, ◌↔◌, ◌≤◌, ◌<◌, ◌%◌, ◌==◌, ℕ, true, Contains, IfErr, IfOk, IfSome, IsOk, None};
 ghost use Rattle.mscp_port.specs.Common.{ChangesByWord, First, balance_of, step_task, rings_named, Dies, IsMadeOf, ReadsIp, TakesStep, WritesIp, WritesSa, sa_of, IsAsNew, in_hand, place_in, vector_of};
@@ -98,8 +103,8 @@ pub struct Port<K> {
     // What the controller's ends say that weren't taken, oldest first.
     decided: ArrayVec<Decided, 64>,
     volumes: [Volume; 16],
-    // The controller flags and the timeout in seconds that the host has set, and the seconds that are left. Before its first
-    // command the host has no limit: the timeout is 0, and those that it has from then on are left.
+    // The controller flags and the timeout in seconds that the host has set, and the seconds that are left. Before its
+    // first command the host has no limit: the timeout is 0, and those that it has from then on are left.
     flags: u16,
     timeout: u16,
     left: u16,
@@ -119,6 +124,10 @@ const PROBE: u16 = 0x8000;
 impl<K: Picker> Port<K> {
     /// A port over a controller to which nothing came so far by its first connection, which lets a host have so many
     /// commands outstanding. Its units have no volumes.
+    ///
+    /// # Errors
+    ///
+    /// `Credits` if these aren't 1 to 63, or the controller's first connection has no credit more.
     pub fn new(
         hardware: Hardware,
         credits: u8,
@@ -201,16 +210,16 @@ impl<K: Picker> Port<K> {
         matches!(self.stage, Stage::Dead(_))
     }
 
-    /// The host wrote IP, or its bus was reset: the port is as new, in the first step of its initialisation. The volumes
-    /// stay where they are.
+    /// The host wrote IP, or its bus was reset: the port is as new, in the first step of its initialisation. The
+    /// volumes stay where they are.
     pub fn write_ip(&mut self)
         ensures { WritesIp self.old self.new }
     {
         self.forget_all(Stage::First);
     }
 
-    /// The host read IP, which shows 0: the port is to look at the ring of commands. A slot that is being read is read again,
-    /// since the host may have given it to the port after its word was fetched.
+    /// The host read IP, which shows 0: the port is to look at the ring of commands. A slot that is being read is read
+    /// again, since the host may have given it to the port after its word was fetched.
     pub fn read_ip(&mut self)
         ensures { ReadsIp self.old self.new }
     {

@@ -14,8 +14,8 @@ pub(crate) enum Side {
     Commands,
 }
 
-/// The area that the host has named: the ring of responses at its base, that of commands behind it, four bytes a slot, and
-/// two words for interrupts in front.
+/// The area that the host has named: the ring of responses at its base, that of commands behind it, four bytes a slot,
+/// and two words for interrupts in front.
 #[derive(Clone, Copy)]
 pub(crate) struct Rings {
     base: u32,

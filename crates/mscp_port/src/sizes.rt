@@ -52,8 +52,8 @@ impl TextSize {
 /// The bytes that one action clears, at most.
 pub(crate) const CLEARED: u32 = 64;
 
-/// How many bytes of a communication area are clear while others are to be cleared: whole parts of 64, and fewer than the
-/// 1,032 that the longest area has.
+/// How many bytes of a communication area are clear while others are to be cleared: whole parts of 64, and fewer than
+/// the 1,032 that the longest area has.
 #[derive(Clone, Copy)]
 pub(crate) struct ClearSize {
     bytes: u32,

@@ -9,8 +9,8 @@ use crate::sizes::{ClearSize, TextSize};
 use crate::slot::Descriptor;
 use crate::verdict::Verdict;
 
-/// What the port has in hand: the next action, with what is known for it. Of a step of a command that is what the controller
-/// doesn't know: which step is begun, its block and its command are read there.
+/// What the port has in hand: the next action, with what is known for it. Of a step of a command that is what the
+/// controller doesn't know: which step is begun, its block and its command are read there.
 #[derive(Clone, Copy)]
 pub(crate) enum Task {
     /// Nothing.
@@ -48,7 +48,8 @@ pub(crate) enum Task {
 impl Task {
     /// How many bytes the text has that is read, if one is: at most 64.
     pub fn text_size(self) -> u32
-        ensures value { (slot : Slot) (size : ℕ) (foreign : Bool) → self ≡ tasks.Text slot size foreign → result ≡ size }
+        ensures value { (slot : Slot) (size : ℕ) (foreign : Bool) → self ≡ tasks.Text slot size foreign
+            → result ≡ size }
         ensures few { result ≤ 64 }
     {
         match self {

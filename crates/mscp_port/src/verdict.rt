@@ -6,8 +6,8 @@ ghost use Rattle.mscp_port.specs.Blocks.{block_of as block_after, block_told};
 use crate::action::Outcome;
 use mscp_queue::{Block, FaultStatus};
 
-/// Host Buffer Access Error: an odd address, an odd count, memory that isn't there, a parity error, an address that isn't
-/// mapped.
+/// Host Buffer Access Error: an odd address, an odd count, memory that isn't there, a parity error, an address that
+/// isn't mapped.
 pub(crate) const ODD_ADDRESS: u16 = 0x0029;
 
 pub(crate) const ODD_COUNT: u16 = 0x0049;

@@ -1,4 +1,10 @@
 // The volumes that lie in the units, and how they change.
+//
+// The port alone knows whether a unit is online with its volume: to the controller it is online since its first
+// ONLINE. If a volume changes, a block in hand is taken in hand again, and a report of it that comes before that
+// counts for nothing. A transfer that waits while its volume is exchanged moves nothing more. It ends Unit-Offline, or
+// with a drive's error if an ONLINE before it brought the unit online with the new volume: a host isn't told that such
+// a unit is offline.
 
 ghost use Rattle.std.specs.Prelude.{◌≡◌, EachIndex};
 ghost use Rattle.mscp_port.specs.Common.{volume_at, volume_changed, volume_put, volume_reset};
@@ -25,8 +31,8 @@ pub enum VolumeFault {
     Size,
 }
 
-/// A unit's volume, and what its host has made of it. The port alone knows whether a unit is online with its volume: to the
-/// controller it is online since its first ONLINE.
+/// A unit's volume, and what its host has made of it. The port alone knows whether a unit is online with its volume: to
+/// the controller it is online since its first ONLINE.
 #[derive(Clone, Copy, Default)]
 pub struct Volume {
     pub is_there: bool,
@@ -83,7 +89,8 @@ impl Volume {
 
 /// What a reset of the port leaves of the volumes.
 pub(crate) fn reset_all(volumes: &mut [Volume])
-    ensures { EachIndex volumes.old (λ place. volume_at volumes.new place ≡ volume_reset (volume_at volumes.old place)) }
+    ensures { EachIndex volumes.old (λ place. volume_at volumes.new place
+        ≡ volume_reset (volume_at volumes.old place)) }
 {
     for volume in volumes.iter_mut() {
         volume.reset();

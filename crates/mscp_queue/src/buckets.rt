@@ -1,4 +1,8 @@
-// A small hash of reference numbers, by which a waiting command is looked up: a search goes over the few that may be it.
+// A small hash of reference numbers, by which a waiting command is looked up.
+//
+// Drivers number their commands by addresses or by counting, so that numbers differ in few bits, and not always in the
+// low ones. Each six bits of a number count, therefore, and a search goes over the few commands that may be it. A list
+// of names had to be searched from its front, and its names moved at each end.
 
 ghost use Rattle.std.specs.Prelude.{◌≡◌, ℕ, ◌<◌, true, false, slice_index_or};
 ghost use Rattle.mscp_queue.specs.Common.{IsPut, bucket_of};

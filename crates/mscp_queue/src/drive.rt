@@ -49,8 +49,8 @@ impl Drive {
         }
     }
 
-    /// Has the step of a command of this order, as it is planned: the head goes over, and an end may change the state. The
-    /// unit isn't written anew.
+    /// Has the step of a command of this order, as it is planned: the head goes over, and an end may change the state.
+    /// The unit isn't written anew.
     #[inline(always)]
     pub(crate) fn follow(&mut self, order: &Order, plan: &Plan)
         ensures { self.new ≡ record {

@@ -28,8 +28,8 @@ fn lower_part(part: &mut [u64], bits: u64, by: u64)
     lower_eight(lanes, bits, by).copy_to_slice(part);
 }
 
-/// Lowers the numbers whose bits are set by `by`, which is no more than any of them, and leaves the others. It looks at no
-/// number behind the last of these but for those of its eight.
+/// Lowers the numbers whose bits are set by `by`, which is no more than any of them, and leaves the others. It looks at
+/// no number behind the last of these but for those of its eight.
 pub fn lower(dues: &mut [u64; 64], mask: u64, by: u64)
     requires { (k : ℕ) → k < 64 → bit_at mask k ≡ 1 → by ≤ slice_index dues.old k }
     ensures { (k : ℕ) → k < 64 → slice_index dues.new k ≡ lowered mask by k (slice_index dues.old k) }

@@ -1,4 +1,7 @@
 // Dues, lowered where the bits of a mask are set: one by one where few are, and else eight lanes at a time.
+//
+// Only an end or an abort that leaves blocks unserved lowers dues, of those that counted what was left of it. Mostly
+// that is nobody, so few bits are the case to be fast in.
 
 ghost use Rattle.std.specs.Prelude.{◌≡◌, ◌<◌, ◌≤◌, ℕ, slice_index};
 ghost use Rattle.mscp_queue.specs.Common.{bit_at, lowered};

@@ -1,4 +1,8 @@
 // Masks of slots. Bit k of a mask stands for slot k.
+//
+// Who came before a command, who is of its unit, and who is sequential are words of 64 bits. So who may start of a
+// unit is a few operations on words: those before its oldest sequential command, or that command alone if none is. A
+// look at each record, one after the other, took over a third of all instructions of a long script.
 
 ghost use Rattle.std.specs.Prelude.{◌≡◌, ◌≢◌, ◌<◌, ◌≤◌, ◌^◌, ◌-◌, ◌&&◌, ◌||◌, ℕ, count_ones, min, true, false, length, nat_eq, nat_lt, slice_index_or, IfNone, IfSome};
 ghost use Rattle.mscp_queue.specs.Common.{bit_at, HasCome, HasLeft, IsBehind, IsFront, IsLowestFree, IsNarrowed, IsSet};
@@ -45,11 +49,12 @@ fn without(mask: u64, other: u64) -> u64
     mask & !other
 }
 
-/// Clears the bit of a slot in the masks of all slots that are taken, sixteen at a time up to the last of them: few commands
-/// have the first slots. What the masks of the other slots are then doesn't matter.
+/// Clears the bit of a slot in the masks of all slots that are taken, sixteen at a time up to the last of them: few
+/// commands have the first slots. What the masks of the other slots are then doesn't matter.
 fn clear_in_taken(masks: &mut [u64; 64], slot: usize, taken: u64)
     requires { slot < 64 }
-    ensures { (k : ℕ) → bit_at taken k ≡ 1 → IsSet false slot (slice_index_or masks.old k 0) (slice_index_or masks.new k 0) }
+    ensures { (k : ℕ) → bit_at taken k ≡ 1
+        → IsSet false slot (slice_index_or masks.old k 0) (slice_index_or masks.new k 0) }
 {
     for part in 0..4 {
         if taken >> (16 * part) == 0 {
@@ -115,8 +120,9 @@ impl Masks {
         self.earlier[slot].count_ones() as usize
     }
 
-    /// Whether no command that came earlier keeps that of the slot back, whose unit's drive stands at this place, and which
-    /// is sequential or not: of its unit none is in front of a sequential one, and no sequential one in front of a transfer.
+    /// Whether no command that came earlier keeps that of the slot back, whose unit's drive stands at this place, and
+    /// which is sequential or not: of its unit none is in front of a sequential one, and no sequential one in front of
+    /// a transfer.
     pub fn is_free(&self, slot: usize, drive: usize, sequential: bool) -> bool
         requires slot { slot < 64 }
         requires drive { drive < 16 }
@@ -146,8 +152,8 @@ impl Masks {
         narrowed
     }
 
-    /// Of the slots of a drive's unit those whose commands no command that came earlier keeps back: the transfers in front of
-    /// its oldest sequential one, or that one alone if there is none.
+    /// Of the slots of a drive's unit those whose commands no command that came earlier keeps back: the transfers in
+    /// front of its oldest sequential one, or that one alone if there is none.
     pub fn front(&self, drive: usize) -> u64
         requires { drive < 16 }
         ensures { IsFront drive self.now result }
@@ -157,8 +163,8 @@ impl Masks {
         if transfers == 0 { narrowed } else { transfers }
     }
 
-    /// Whether the start of a slot's command, at this cost, costs less than that of the other, or as much, where the other came
-    /// later.
+    /// Whether the start of a slot's command, at this cost, costs less than that of the other, or as much, where the
+    /// other came later.
     #[inline(always)]
     pub fn starts_before(&self, slot: usize, cost: u64, other: usize, least: u64) -> bool
         requires slot { slot < 64 }
@@ -174,7 +180,8 @@ impl Masks {
         requires slot { slot < 64 }
         requires drive { drive < 16 }
         ensures { result ≡ true → (k : ℕ) → k < 64 → bit_at self.now.waiting k ≡ 1
-            → bit_at (slice_index_or self.now.earlier slot 0) k ≡ 0 → k ≢ slot → bit_at (slice_index_or self.now.units drive 0) k ≡ 1 }
+            → bit_at (slice_index_or self.now.earlier slot 0) k ≡ 0 → k ≢ slot
+            → bit_at (slice_index_or self.now.units drive 0) k ≡ 1 }
     {
         let later = without(self.waiting, self.earlier[slot]);
         with_bit(without(later, self.units[drive]), slot, false) == 0
@@ -189,8 +196,8 @@ impl Masks {
         with_bit(later, slot, false)
     }
 
-    /// The command of a slot leaves it, whose unit's drive stands at this place. In `earlier` the masks of free slots may stay as
-    /// they are: `come` writes a slot's mask there, and nobody reads the mask before.
+    /// The command of a slot leaves it, whose unit's drive stands at this place. In `earlier` the masks of free slots
+    /// may stay as they are: `come` writes a slot's mask there, and nobody reads the mask before.
     pub fn leave(&mut self, slot: usize, drive: usize)
         requires slot { slot < 64 }
         requires drive { drive < 16 }

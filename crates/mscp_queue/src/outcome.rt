@@ -125,8 +125,8 @@ fn outcome_status(online: bool, order: &Order, block: &Block) -> u16
     }
 }
 
-/// The end of a command to this unit that a step with this block ends, when so many of its blocks were good before. It is
-/// built into the step, which makes no room for an end where there is none.
+/// The end of a command to this unit that a step with this block ends, when so many of its blocks were good before. It
+/// is built into the step, which makes no room for an end where there is none.
 #[inline(always)]
 pub(crate) fn outcome(unit: &Unit, online: bool, command: &Command, good: u32, block: &Block) -> End
     requires { good + 1 < 2 ^ 32 }

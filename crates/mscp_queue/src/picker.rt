@@ -1,4 +1,13 @@
 // Who picks the command that starts.
+//
+// A picker sees what may start, and nothing else. So it can break neither a fence nor the budget, and has one law: it
+// answers a place that its relation `picks` allows. The relation may leave a choice, so what a step leaves is a
+// relation, too. A picker may say that it could take the first of few choices (`takes_first`), as `Oldest` always may,
+// or the first of the cheapest (`takes_cheapest`), as `Sweep` may. Then a queue finds that place itself, and makes no
+// view.
+//
+// `Sweep::pick` itself, for whoever shows it a view, finds the least cost by lanes from nine choices on, in a row that
+// it fills from the view.
 
 ghost use Rattle.std.specs.Prelude.{◌≡◌, ◌<◌, ◌≤◌, ◌-◌, ◌^◌, [], length};
 ghost use Rattle.mscp_queue.specs.Pickers.{IsRow, IsSweep};
@@ -23,8 +32,8 @@ pub trait Picker {
         ensures place { 0 < length view.now → result < length view.now }
         ensures allowed { 0 < length view.now → picks self.now view.now result };
 
-    /// Whether it may pick the first place of each view that has at most so many choices. If so, a queue takes that place and
-    /// makes no view.
+    /// Whether it may pick the first place of each view that has at most so many choices. If so, a queue takes that
+    /// place and makes no view.
     fn takes_first(&self, _most: usize) -> bool
         ensures { result ≡ true
             → (view : List Choice) → 0 < length view → length view ≤ _most → picks self.now view 0 }
@@ -32,8 +41,8 @@ pub trait Picker {
         false
     }
 
-    /// Whether it may pick the first of the cheapest choices of each view. If so, a queue that shows all that wait finds that
-    /// place itself.
+    /// Whether it may pick the first of the cheapest choices of each view. If so, a queue that shows all that wait
+    /// finds that place itself.
     fn takes_cheapest(&self) -> bool
         ensures { result ≡ true → (view : List Choice) → (place : ℕ) → IsSweep view place → picks self.now view place }
     {

@@ -1,4 +1,8 @@
 // What a step of a waiting command does on its drive.
+//
+// A step is planned in one place, before anything is written: the block that it touches, the way of the head, and
+// whether its command ends, and how. So the report, the drive and the record can't disagree, and what a step is to
+// serve can be told before it is served.
 
 ghost use Rattle.std.specs.Prelude.{◌≡◌, ◌+◌, ◌<◌, ◌^◌, Some};
 ghost use Rattle.mscp_queue.specs.Common.{distance, Served, first_block, goes_on, head_after, is_unstarted, left_of, end_given, plan_of, touched};
@@ -58,8 +62,8 @@ fn head_on(head: &Head, to: u32, starts: bool) -> (u32, Head)
     (head.distance(to), then)
 }
 
-/// What a step does: the block that it touches, how many cylinders its unit's head goes, the head then, and the end of its
-/// command, if that ends with it.
+/// What a step does: the block that it touches, how many cylinders its unit's head goes, the head then, and the end of
+/// its command, if that ends with it.
 #[derive(Clone, Copy)]
 pub(crate) struct Plan {
     pub lbn: Option<u32>,
@@ -94,8 +98,8 @@ impl Plan {
     /// What is reported of the step of this command.
     #[inline(always)]
     pub fn report(&self, served: &Record) -> Report
-        ensures { result ≡ Served served.now.connection served.now.command.reference served.now.command.unit self.now.lbn
-            (is_unstarted served.now) self.now.seek self.now.ended }
+        ensures { result ≡ Served served.now.connection served.now.command.reference served.now.command.unit
+            self.now.lbn (is_unstarted served.now) self.now.seek self.now.ended }
     {
         let command = served.command();
         Report::Served {

@@ -51,8 +51,8 @@ pub struct Queue<K> {
     picker: K,
     serving: Option<usize>,
     favorites: Favorites,
-    // What the picker saw last, where some may not start. It is kept for its room alone, since a new one would have to be
-    // cleared at each start.
+    // What the picker saw last, where some may not start. It is kept for its room alone, since a new one would have to
+    // be cleared at each start.
     view: View,
 }
 
@@ -91,8 +91,8 @@ fn without_place(known: Option<usize>, gone: usize) -> Option<usize>
 
 impl<K: Picker> Queue<K> {
     /// A queue to which nothing came so far: `room` commands may wait, each may be passed by `budget` blocks, and no
-    /// transfer is longer than `longest` blocks. It is built into its caller: each call on the way would have room for a
-    /// queue of its own on the stack.
+    /// transfer is longer than `longest` blocks. It is built into its caller: each call on the way would have room for
+    /// a queue of its own on the stack.
     #[inline(always)]
     pub fn new(units: &Units, room: u32, budget: u32, longest: u32, picker: K) -> Queue<K>
         requires some_room { 1 ≤ room }
@@ -154,8 +154,8 @@ impl<K: Picker> Queue<K> {
         self.backlog.place_of(name).is_some()
     }
 
-    /// The place of the waiting command of the connection with the reference number, in order of arrival, if it waits. No
-    /// other has its name.
+    /// The place of the waiting command of the connection with the reference number, in order of arrival, if it waits.
+    /// No other has its name.
     pub fn place_of(&self, connection: Connection, reference: u32) -> Option<usize>
         ensures place { result ≡ position (has_name (name_on connection reference)) self.now.waiting }
         ensures others { IfSome result (λ place.
@@ -196,8 +196,8 @@ impl<K: Picker> Queue<K> {
         favor_last(&self.backlog, self.drives.as_slice(), &mut self.favorites);
     }
 
-    /// The figure of the waiting command of the connection with the reference number, 0 if there is none: how many steps it
-    /// may still wait, at most.
+    /// The figure of the waiting command of the connection with the reference number, 0 if there is none: how many
+    /// steps it may still wait, at most.
     pub fn figure(&self, connection: Connection, reference: u32) -> u32
         ensures { result ≡ figure_of_name self.now.budget self.now.waiting (name_on connection reference) }
     {
@@ -258,8 +258,8 @@ impl<K: Picker> Queue<K> {
         self.backlog.passed(0)
     }
 
-    /// Ends the waiting command of the connection with the reference number, in service or not, and gives its end, whose
-    /// body is that of its endcode. What its start cost the commands that it passed isn't given back to them.
+    /// Ends the waiting command of the connection with the reference number, in service or not, and gives its end,
+    /// whose body is that of its endcode. What its start cost the commands that it passed isn't given back to them.
     pub fn abort(&mut self, connection: Connection, reference: u32) -> Option<End>
         ensures end { result
             ≡ option_map aborted_record (find (has_name (name_on connection reference)) self.old.waiting) }
@@ -293,8 +293,8 @@ impl<K: Picker> Queue<K> {
         aborted_end(&record.command(), record.done())
     }
 
-    /// Whether the command of the connection with the reference number was begun, and neither served nor aborted since, nor
-    /// the queue reset.
+    /// Whether the command of the connection with the reference number was begun, and neither served nor aborted since,
+    /// nor the queue reset.
     pub fn is_begun(&self, connection: Connection, reference: u32) -> bool
         ensures { result ≡ is_begun (name_on connection reference) self.now.begun }
     {

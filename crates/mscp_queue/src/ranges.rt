@@ -1,5 +1,8 @@
-// Where first blocks lie. Each unit has 64 ranges of cylinders, and of each range it is known which slots' commands begin there:
-// so a search for the nearest looks at a range at a time, and not at each command.
+// Where first blocks lie.
+//
+// Each unit has 64 ranges of cylinders, and of each range it is known which slots' commands begin there. So a search
+// for the nearest one looks at a range at a time, and at few commands. An exact order by cylinder would move bytes
+// each time that a command comes or leaves; a range is one bit.
 
 ghost use Rattle.std.specs.Prelude.{◌≡◌, ◌≢◌, ℕ, ◌<◌, ◌^◌, ◌-◌, true, false, cond, length, nat_eq, slice_index_or, slice_set};
 ghost use Rattle.mscp_queue.specs.Common.{bit_at, range_of, IsAbove, IsBelow, IsNearest};
@@ -107,8 +110,8 @@ impl Ranges {
         0
     }
 
-    /// Of these slots those to which a head in a range, which goes up, comes first: those in its range and in the next above in
-    /// which some are, or else those in the last below.
+    /// Of these slots those to which a head in a range, which goes up, comes first: those in its range and in the next
+    /// above in which some are, or else those in the last below.
     fn nearest_up(&self, mask: u64, range: usize) -> u64
         requires range { range < 64 }
         ensures { IsNearest true self.now mask range result }

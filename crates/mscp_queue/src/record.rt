@@ -8,8 +8,8 @@ use mscp_drive::Connection;
 use mscp_packet::{Class, Command, Order};
 use std::marker::Model;
 
-/// A waiting command: the connection that it came by, what it asks for, how many steps it takes, how many it had, and by
-/// how many blocks it was passed.
+/// A waiting command: the connection that it came by, what it asks for, how many steps it takes, how many it had, and
+/// by how many blocks it was passed.
 #[derive(Clone, Copy)]
 pub struct Record {
     // The parts of the command stand beside the connection, in this order, since a record takes 32 bytes so.
@@ -170,8 +170,8 @@ impl Record {
     }
 }
 
-/// A record of nothing, which fills the places of a list that isn't full. All its bytes are 0, so 64 of them are cleared
-/// where they lie, and the stack has none.
+/// A record of nothing, which fills the places of a list that isn't full. All its bytes are 0, so 64 of them are
+/// cleared where they lie, and the stack has none.
 impl Default for Record {
     fn default() -> Record
         ensures { result ≡ no_record }

@@ -1,5 +1,8 @@
-// The slots of the waiting commands. A command keeps its slot as long as it waits, and masks of slots tell at once who
-// keeps whom back.
+// The slots of the waiting commands.
+//
+// A command keeps its slot as long as it waits. So its bit of a mask stays its bit if others leave, and nothing of it
+// moves but its place in the order of arrival. Records, targets and dues are arrays, with an entry for every slot from
+// the start. A list without gaps, in which what stands behind a command moves up, took twice the instructions.
 
 ghost use Rattle.std.specs.Prelude.{◌≡◌, ◌+◌, ◌<◌, ◌≤◌, ◌^◌, ◌++◌, ◌∷◌, true, false, [], List, length, map, take, drop, slice_set, All, IfNone, IfSome};
 ghost use Rattle.mscp_queue.specs.Common.{list_any, is_sequential, advanced, has_name, IsOnUnit, AreOnDrive, IsBest, IsLowestUntaken, IsNearOf, IsOpenOn, cost_there, kinds, targets, dues, filled, is_unfenced, items, lowered_by, shown, slot_at, with_item};
@@ -202,14 +205,15 @@ impl Slots {
         self.dues[usize::from(self.order[place])]
     }
 
-    /// The best start on the drive at a place: of the commands to its unit that nobody in front keeps back, the first of the
-    /// cheapest.
+    /// The best start on the drive at a place: of the commands to its unit that nobody in front keeps back, the first
+    /// of the cheapest.
     pub fn favorite(&self, drive: &Drive, at: usize) -> Start
         requires few { length self.now ≤ 64 }
         requires drive { at < 16 }
         requires head { IsOnUnit drive.now }
         requires to { AreOnDrive at drive.now (targets self.now) }
-        ensures { IsBest (IsOpenOn (kinds self.now) at) (cost_there drive.now (kinds self.now) (targets self.now)) result }
+        ensures { IsBest (IsOpenOn (kinds self.now) at) (cost_there drive.now (kinds self.now)
+            (targets self.now)) result }
     {
         let drive = *drive;
         let near = near_of(&self.masks, &self.ranges, self.masks.front(at), &drive);

@@ -1,4 +1,9 @@
 // Which command starts, where nothing is in service.
+//
+// What a picker may be shown is the same whoever picks: those that no fence and no budget keeps back. To show it takes
+// a view of up to 64 choices, which most picks don't need. If the budget keeps nobody back, and the picker may take
+// the first of the cheapest, then the best starts of the drives are compared in its place. The contract is the same:
+// the place is one that the picker may pick from the view that would have been shown.
 
 ghost use Rattle.std.specs.Prelude.{◌≡◌, ◌++◌, ◌||◌, ◌+◌, ◌∷◌, ◌<◌, ◌≤◌, ◌-◌, ◌^◌, [], true, cond, length, take, All};
 ghost use Rattle.mscp_queue.specs.Common.{IsUnitList, IsTargeted, bare, ArePassedInOrder, AreFavored, CanBeShown, IsBest, IsClearOn, IsFirstOf, IsShut, MayAllPass, order_cost, commands, cost_at, drive_in, units_of, is_move, is_sequential, drive_at, record_at, IsPick, choice_of, is_open_at, open_places, view_of};
@@ -70,8 +75,8 @@ fn may_start(backlog: &Backlog, drives: &[Drive], place: usize, unspent: u32) ->
     backlog.is_free(place) && (place == 0 || backlog.record(place).weight() <= unspent)
 }
 
-/// Whether nobody behind a place may start: the oldest has nothing left of the budget, or all of them are of the unit of a
-/// sequential command, which stands there.
+/// Whether nobody behind a place may start: the oldest has nothing left of the budget, or all of them are of the unit
+/// of a sequential command, which stands there.
 fn is_shut(backlog: &Backlog, place: usize, unspent: u32) -> bool
     requires place { place < length backlog.now.waiting }
     ensures { result ≡ true → IsShut backlog.now.waiting backlog.now.targets place unspent }
@@ -142,8 +147,8 @@ fn show_oldest(view: &mut View, backlog: &Backlog, drives: &[Drive])
     view.push(choice_of(record, drive, cylinder));
 }
 
-/// Whether each that waits may still be passed by each: by the longest that may come, or else by the longest of them. Who came
-/// earlier was passed by at least as many blocks, so that the oldest tells it for all.
+/// Whether each that waits may still be passed by each: by the longest that may come, or else by the longest of them.
+/// Who came earlier was passed by at least as many blocks, so that the oldest tells it for all.
 fn may_all_pass(backlog: &Backlog, longest: u32) -> bool
     requires some { 0 < length backlog.now.waiting }
     requires idle { All (λ r. r.done ≡ 0) backlog.now.waiting }
@@ -156,8 +161,8 @@ fn may_all_pass(backlog: &Backlog, longest: u32) -> bool
     longest <= unspent || backlog.are_light(unspent)
 }
 
-/// Finds the best start on the drive at a place, which is known from then on. It isn't built into its caller, whose loop over
-/// the drives then keeps all that it wants in registers.
+/// Finds the best start on the drive at a place, which is known from then on. It isn't built into its caller, whose
+/// loop over the drives then keeps all that it wants in registers.
 #[inline(never)]
 fn seek_favorite(
     backlog: &Backlog,
@@ -196,7 +201,8 @@ fn favorite_on(backlog: &Backlog, drives: &[Drive], at: usize, favorites: &mut F
     seek_favorite(backlog, drives, at, favorites)
 }
 
-/// The command that came last may have the best start on its drive. If that drive's isn't known it is sought when it is wanted.
+/// The command that came last may have the best start on its drive. If that drive's isn't known it is sought when it is
+/// wanted.
 pub(crate) fn favor_last(backlog: &Backlog, drives: &[Drive], favorites: &mut Favorites)
     requires some { 0 < length backlog.now.waiting }
     requires waiting { CanBeShown drives.now backlog.now.waiting backlog.now.targets }
@@ -229,8 +235,9 @@ fn best_place(backlog: &Backlog, drives: &[Drive], favorites: &mut Favorites) ->
     usize::from(first.place())
 }
 
-/// The place of the record that the picker picks, of those that may start. If the budget keeps nobody back, and the picker may
-/// take the first of the cheapest, that is found of the best starts. Else a view is made that shows all that may start.
+/// The place of the record that the picker picks, of those that may start. If the budget keeps nobody back, and the
+/// picker may take the first of the cheapest, that is found of the best starts. Else a view is made that shows all that
+/// may start.
 #[inline(never)]
 pub(crate) fn picked_place<K: Picker>(
     backlog: &Backlog,

@@ -1,5 +1,6 @@
-// What the start of a command costs, and where its command stands, as one number: of two starts the one that comes first
-// is the lesser, and one that is no command's is greater. So a pick among sixteen drives looks at one number of each.
+// What the start of a command costs, and where its command stands, as one number: of two starts the one that comes
+// first is the lesser, and one that is no command's is greater. So a pick among sixteen drives looks at one number of
+// each.
 
 ghost use Rattle.std.specs.Prelude.{◌≡◌, ◌<◌, cond, nat_eq, not};
 ghost use Rattle.mscp_queue.specs.Common.{closed, comes_before, cost_end};
@@ -81,8 +82,8 @@ impl Start {
         (self.key & 255) as u8
     }
 
-    /// This one, if it is a command's and the other isn't, or costs more, or as much where its command came later. Or else the
-    /// other; but of two that are no command's the one whose place is less.
+    /// This one, if it is a command's and the other isn't, or costs more, or as much where its command came later. Or
+    /// else the other; but of two that are no command's the one whose place is less.
     pub fn or_earlier(self, other: Start) -> Start
         ensures { result ≡ cond (comes_before self other) self other }
     {

@@ -7,8 +7,8 @@ use crate::drive::Drive;
 use crate::ranges::range_of;
 use mscp_packet::{Command, Order};
 
-/// The place of the drive of a command's unit, and the cylinder of its first block, 0 where it has none, with its range. They
-/// stay while the command waits, and each start asks for them.
+/// The place of the drive of a command's unit, and the cylinder of its first block, 0 where it has none, with its
+/// range. They stay while the command waits, and each start asks for them.
 #[derive(Clone, Copy, Default)]
 pub(crate) struct Target {
     pub drive: u8,

@@ -10,8 +10,8 @@ use mscp_drive::Connection;
 use mscp_packet::Command;
 
 /// What the next step serves: the command and the connection that it came by, the block that the step touches, how many
-/// steps the command had, and how many it takes in all. `lbn` is none for a sequential command, and for a transfer whose
-/// unit is available.
+/// steps the command had, and how many it takes in all. `lbn` is none for a sequential command, and for a transfer
+/// whose unit is available.
 #[derive(Clone, Copy)]
 pub struct Upcoming {
     pub connection: Connection,

@@ -14,7 +14,8 @@ pub struct Choice {
     pub reference: u32,
     /// The number of its unit.
     pub unit: u16,
-    /// The connection that it came by. It stands here, since a choice takes 16 bytes so, and each is written at a start.
+    /// The connection that it came by. It stands here, since a choice takes 16 bytes so, and each is written at a
+    /// start.
     pub connection: Connection,
     /// Sequential, or Free for a transfer.
     pub class: Class,
@@ -23,8 +24,8 @@ pub struct Choice {
     pub cost: u64,
 }
 
-/// A choice of nothing, which fills the places of a list that isn't full. All its bytes are 0, so 64 of them are cleared
-/// where they lie, and the stack has none.
+/// A choice of nothing, which fills the places of a list that isn't full. All its bytes are 0, so 64 of them are
+/// cleared where they lie, and the stack has none.
 impl Default for Choice {
     ghost use Rattle.mscp_queue.specs.Common.{Immediate, First};
 

@@ -1,4 +1,7 @@
 // Why a command may not start.
+//
+// Each earlier command that keeps one back is told, with both ways in which it may: by a fence, or by its budget. A
+// later command in service isn't among them: it keeps all others waiting, whoever they are.
 
 ghost use Rattle.std.specs.Prelude.{◌≡◌, ◌<◌, ◌≤◌, ◌||◌, ◌++◌, ◌∷◌, [], cond, length};
 ghost use Rattle.mscp_queue.specs.Common.{is_open_at, holder_of, holders_at, is_nobody, is_overdrawn};

@@ -74,8 +74,8 @@ pub fn request_after(line: Line<'_>, count: usize) -> Result<Request<'_>, Script
     }
 }
 
-/// What the line of these words asks for. It isn't made part of its caller, where a request would be moved piece by piece
-/// from each way in which a line is read.
+/// What the line of these words asks for. It isn't made part of its caller, where a request would be moved piece by
+/// piece from each way in which a line is read.
 #[inline(never)]
 #[tactic(auto, using(crate::proofs::PlainLines::is_valid), unfolding(crate::specs::Requests::request))]
 fn read_request(mut words: Words<'_>) -> Result<Request<'_>, Cause>
@@ -226,7 +226,8 @@ fn read_transfer(
     kind: MoveKind,
     words: Words<'_>,
 ) -> Result<Request<'_>, Cause>
-    ensures { Gives events_of result (requests.asked connection (Form.Transfer kind) (lexical.words words.entry.rest.now)) }
+    ensures { Gives events_of result (requests.asked connection (Form.Transfer kind)
+        (lexical.words words.entry.rest.now)) }
 {
     let (reference, unit, count, block) = words.four()?;
     let command = ValidCommand::new(
@@ -241,7 +242,8 @@ fn read_transfer(
 #[tactic(auto, unfolding(crate::specs::Requests::asked))]
 fn read_plain(connection: Connection, order: Order, words: Words<'_>) -> Result<Request<'_>, Cause>
     requires { requests.IsValidForm (Form.Plain order) }
-    ensures { Gives events_of result (requests.asked connection (Form.Plain order) (lexical.words words.entry.rest.now)) }
+    ensures { Gives events_of result (requests.asked connection (Form.Plain order)
+        (lexical.words words.entry.rest.now)) }
 {
     let (reference, unit) = words.two()?;
     let command = ValidCommand::new(wide(reference)?, narrow(unit)?, order);
@@ -251,7 +253,8 @@ fn read_plain(connection: Connection, order: Order, words: Words<'_>) -> Result<
 /// A SET CONTROLLER CHARACTERISTICS: its reference number.
 #[tactic(auto, unfolding(crate::specs::Requests::asked))]
 fn read_controller(connection: Connection, words: Words<'_>) -> Result<Request<'_>, Cause>
-    ensures { Gives events_of result (requests.asked connection Form.SetController (lexical.words words.entry.rest.now)) }
+    ensures { Gives events_of result (requests.asked connection Form.SetController
+        (lexical.words words.entry.rest.now)) }
 {
     let reference = words.one()?;
     let command = ValidCommand::new(wide(reference)?, 0, Order::SetController(0));

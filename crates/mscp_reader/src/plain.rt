@@ -12,8 +12,8 @@ use crate::request::{Request, ValidCommand};
 use mscp_drive::{Block, Connection};
 use mscp_packet::{MoveKind, Order};
 
-/// What the first line of these bytes asks for, and what stands behind it, if that line is found to be plain. Nothing is
-/// said of any other: the reader of all lines reads those.
+/// What the first line of these bytes asks for, and what stands behind it, if that line is found to be plain. Nothing
+/// is said of any other: the reader of all lines reads those.
 #[tactic(auto, using(crate::proofs::PlainLines::is_valid))]
 pub fn read_plain(bytes: &[u8]) -> Option<(Request<'_>, &[u8])>
     ensures plain { IfSome result (λ read. IsPlain bytes.now (events_of read.0) read.1.now) }

@@ -29,8 +29,8 @@ impl ValidCommand {
     }
 }
 
-/// What a line asks for. The digits of a message are borrowed from the script: room for its bytes would be cleared and moved
-/// for each line.
+/// What a line asks for. The digits of a message are borrowed from the script: room for its bytes would be cleared and
+/// moved for each line.
 #[derive(Clone, Copy)]
 pub enum Request<'a> {
     /// The connection's host sends this command.

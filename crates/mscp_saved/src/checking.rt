@@ -43,8 +43,8 @@ fn is_covered(config: &Config, waiting: &[Record], connection: Connection, ends:
     count + ends.len() <= credits && count <= credits.saturating_sub(1)
 }
 
-/// Whether a command that comes would wait: it is sequential or a transfer, to one of the units, which has its blocks, and
-/// no longer than the longest.
+/// Whether a command that comes would wait: it is sequential or a transfer, to one of the units, which has its blocks,
+/// and no longer than the longest.
 fn is_queued(config: &Config, command: &Command) -> bool
     ensures value { result ≡ is_queued config.now command.now }
     ensures waitable { result ≡ true → IsWaitable config.now.longest config.now.units command.now }
@@ -223,8 +223,8 @@ fn may_be_begun(budget: u32, waiting: &[Record], begun: Option<Name>) -> bool
     }
 }
 
-/// Why a controller with these settings can't hold these drives, waiting commands and ends, and have begun this: the first
-/// fault, if there is one.
+/// Why a controller with these settings can't hold these drives, waiting commands and ends, and have begun this: the
+/// first fault, if there is one.
 pub(crate) fn parts_fault(
     config: &Config,
     drives: &[Drive],

@@ -3,8 +3,8 @@
 /// Why bytes are no saved controller: the first that holds, in this order.
 #[derive(Clone, Copy)]
 pub enum RestoreFault {
-    /// Fewer bytes than a head has, or not as many as the head tells, or not as many as its parts take; or more parts than
-    /// any controller has: 16 drives, and 64 waiting commands and untaken ends.
+    /// Fewer bytes than a head has, or not as many as the head tells, or not as many as its parts take; or more parts
+    /// than any controller has: 16 drives, and 64 waiting commands and untaken ends.
     Length,
     /// They don't begin with "MSCQ".
     Magic,
@@ -16,11 +16,11 @@ pub enum RestoreFault {
     Limits,
     /// A head that isn't on a cylinder of its unit.
     Heads,
-    /// More waiting commands and untaken ends than the credits of their connection cover, or no credit kept for commands
-    /// that are answered when they come.
+    /// More waiting commands and untaken ends than the credits of their connection cover, or no credit kept for
+    /// commands that are answered when they come.
     Credits,
-    /// A waiting command that would not wait: no sequential command or transfer, one to no unit, one that reaches past its
-    /// unit, or one of more blocks than the longest transfer.
+    /// A waiting command that would not wait: no sequential command or transfer, one to no unit, one that reaches past
+    /// its unit, or one of more blocks than the longest transfer.
     Command,
     /// Two waiting commands of one connection and reference number.
     Doubled,
@@ -34,7 +34,7 @@ pub enum RestoreFault {
     Begun,
     /// The number of another picker.
     Picker,
-    /// What the bytes say can be, but is saved as other bytes: what is neither 0 nor 1 stands for whether something is so,
-    /// a size of a unit is zero, or something is written where nothing is.
+    /// What the bytes say can be, but is saved as other bytes: what is neither 0 nor 1 stands for whether something is
+    /// so, a size of a unit is zero, or something is written where nothing is.
     Form,
 }

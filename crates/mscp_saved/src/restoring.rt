@@ -76,8 +76,8 @@ fn form_fault(number: u8, b: &[u8], saved: &[u8]) -> Option<RestoreFault>
     None
 }
 
-/// Why a controller with these settings can't hold these drives, waiting commands and ends, or isn't saved as these bytes,
-/// with a picker of this number: the first fault, if there is one.
+/// Why a controller with these settings can't hold these drives, waiting commands and ends, or isn't saved as these
+/// bytes, with a picker of this number: the first fault, if there is one.
 fn parts_or_form_fault(
     number: u8,
     b: &[u8],
@@ -92,7 +92,8 @@ fn parts_or_form_fault(
     requires parts { length waiting.now + length first.now + length second.now ≤ 64 }
     ensures fault { result
         ≡ first_of (parts_fault config.now drives.now waiting.now first.now second.now (begun_in b.now))
-        (form_fault number b.now (made_of config.now waiting.now first.now second.now drives.now (begun_in b.now) (tt {0}))) }
+        (form_fault number b.now (made_of config.now waiting.now first.now second.now drives.now (begun_in b.now)
+        (tt {0}))) }
     ensures valid { IsValid config.now }
     ensures waitable { IfNone result
         (All (λ r. IsWaitable config.now.longest config.now.units r.command) waiting.now) }
@@ -172,12 +173,16 @@ pub fn resume<K: Picker>(controller: &mut Controller<K>, bytes: &[u8])
     controller.restore(waiting.as_slice(), first, second, drives, begun_in(bytes));
 }
 
-/// The controller that was saved as these bytes, with this picker, whose number has to be that which it was saved with; or
-/// why they are no saved controller. So whatever bytes come: what is restored keeps each promise of a controller, and is
-/// saved as these bytes. What history it has only who saved it knows.
+/// The controller that was saved as these bytes, with this picker, whose number has to be that which it was saved with.
+/// So whatever bytes come: what is restored keeps each promise of a controller, and is saved as these bytes. What
+/// history it has only who saved it knows.
 ///
-/// Where the stack is small: `restore_fault` says why not, `resume` makes of a new controller with the `saved_settings` the one
-/// that was saved, and neither has room for a controller of its own.
+/// Where the stack is small: `restore_fault` says why not, `resume` makes of a new controller with the `saved_settings`
+/// the one that was saved, and neither has room for a controller of its own.
+///
+/// # Errors
+///
+/// The first fault, in the order of `RestoreFault`, if they are no saved controller.
 pub fn restore<K: Picker + Drop>(
     bytes: &[u8],
     number: u8,

@@ -1,4 +1,7 @@
 // A controller to bytes.
+//
+// What is saved is what callers see, and nothing of slots and dues: so a change inside leaves the bytes alone. There
+// is no checksum: it would show no forgery.
 
 ghost use Rattle.std.specs.Prelude.{◌≡◌, ◌+◌, ◌*◌, ◌≤◌, ◌<◌, ◌^◌, ◌++◌, [], flat_map, length, All, IfSome, slice_index_or, Ok};
 ghost use Rattle.mscp_saved.specs.Common.{array_vec_len, HasEndRange, IsSound, made_of, HasDriveRange, HasIdentifiersRange, HasLimitRange, HasSizesRange, HasWaitingRange, restored, begun_bytes, connection_byte, counts_bytes, counts_of, drive_bytes, end_cell, flag_byte, frame_bytes, head_with, identifiers_bytes, limits_bytes, saved_bytes, settings_bytes, sizes_bytes, waiting_bytes};
@@ -306,8 +309,8 @@ pub(crate) fn save_parts(
     put_ends(out, second);
 }
 
-/// All that callers see of a controller, as bytes, at most `ROOM`. The picker is told by a number, which is the caller's.
-/// What is the same to callers has the same bytes, and `restore` makes the same of them again.
+/// All that callers see of a controller, as bytes, at most `ROOM`. The picker is told by a number, which is the
+/// caller's. What is the same to callers has the same bytes, and `restore` makes the same of them again.
 pub fn save<K: Picker>(controller: &Controller<K>, picker: u8) -> ArrayVec<u8, ROOM>
     ensures bytes { result.items ≡ saved_bytes picker controller.now }
     ensures back { restored picker controller.now.picker result.items ≡ Ok controller.now }

@@ -1,5 +1,5 @@
-//! What the program does: scripts are run and reported, packets shown. What scripts mean is passed on from `mscp_reader`,
-//! the line of a packet from `mscp_text`.
+//! What the program does: scripts are run and reported, packets shown. What scripts mean is passed on from
+//! `mscp_reader`, the line of a packet from `mscp_text`.
 #![tactic(auto)]
 
 mod choosing;

@@ -9,8 +9,8 @@ use mscp_queue::Sweep;
 use mscp_reader::{Lines, ReadFault, ScriptFault, lines_of, read_header};
 use mscp_text::Out;
 
-/// Writes the report of the script that these bytes are to what has nothing in it, or tells its first fault. It takes memory
-/// for the report alone.
+/// Writes the report of the script that these bytes are to what has nothing in it, or tells its first fault. It takes
+/// memory for the report alone.
 #[tactic(auto, using(mscp_reader::proofs::Sound::is_fault))]
 pub fn report_script<O: Out>(out: O, bytes: &[u8]) -> Result<O, ReadFault>
     requires { O.text out ≡ [] }
@@ -35,7 +35,8 @@ fn report_lines<O: Out>(out: O, lines: &mut Lines<'_>) -> Result<O, ReadFault>
     Ok(reporter.finish()?)
 }
 
-/// Has a run meet the events of all lines that are left. It isn't made part of its caller, where it has fewer registers.
+/// Has a run meet the events of all lines that are left. It isn't made part of its caller, where it has fewer
+/// registers.
 #[inline(never)]
 fn run_events<O: Out>(lines: &mut Lines<'_>, run: &mut Run<O>) -> Result<(), ReadFault>
     requires { run.old.reporter.count ≡ 0 }

@@ -44,8 +44,8 @@ impl<O: Out> Run<O> {
         self.reporter.count()
     }
 
-    /// The connection's host sends this message. Few lines have bytes: it isn't made part of the loop over all, which would
-    /// clear room for them at each.
+    /// The connection's host sends this message. Few lines have bytes: it isn't made part of the loop over all, which
+    /// would clear room for them at each.
     #[inline(never)]
     fn send(&mut self, connection: Connection, message: &[u8]) -> Result<(), OutOfMemory>
         requires { self.old.reporter.count + 1 < 2 ^ 64 }
@@ -82,8 +82,8 @@ impl<O: Out> Run<O> {
         self.reporter.sent(connection, &sent)
     }
 
-    /// The connection's host takes an end. Neither this nor what steps do is made part of the loop over all lines, which
-    /// has fewer registers then.
+    /// The connection's host takes an end. Neither this nor what steps do is made part of the loop over all lines,
+    /// which has fewer registers then.
     #[inline(never)]
     fn take(&mut self, connection: Connection) -> Result<(), OutOfMemory>
         requires { self.old.reporter.count + 1 < 2 ^ 64 }

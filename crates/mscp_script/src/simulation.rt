@@ -80,8 +80,8 @@ pub fn simulate_in<A: Allocator + Copy, R: Source, W: Sink>(
     Ok(())
 }
 
-/// Reads a script until a read gives no byte or it has 16,777,217 bytes, runs it through a new controller, and
-/// writes the report of the run in one write. A fault of the script is its first. Except where it says `Write`, nothing was
+/// Reads a script until a read gives no byte or it has 16,777,217 bytes, runs it through a new controller, and writes
+/// the report of the run in one write. A fault of the script is its first. Except where it says `Write`, nothing was
 /// written on a fault.
 pub fn simulate<R: Source, W: Sink>(
     alloc: Global,

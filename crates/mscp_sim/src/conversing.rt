@@ -206,7 +206,8 @@ fn hear_each<K: Picker, A: Allocator>(
 )
     requires both { Match hosts.old controller.old }
     requires room { HasRoom talk.old (length turns.now) }
-    ensures { GoesOn (K.picks controller.old.picker) hosts.old controller.old turns.now (talk.old.heard.items, talk.old.trace.items)
+    ensures { GoesOn (K.picks controller.old.picker) hosts.old controller.old turns.now
+        (talk.old.heard.items, talk.old.trace.items)
         (talk.new.heard.items, talk.new.trace.items) hosts.new controller.new }
 {
     for turn in turns {
@@ -241,8 +242,8 @@ pub fn converse_in<K: Picker + Drop, A: Allocator + Copy>(
 /// New hosts talk with a new controller, one on each connection, with as many credits as the connection has: one thing
 /// is heard in each turn. Where there is no second connection its host has no credit: it refuses each command, has
 /// nothing to poll, and hears of no end. Each message of a host comes to the controller at once, and a take hands the
-/// oldest end that the controller has for a connection to its host. Whatever the picker picks, the controller refuses no
-/// message, and no host an end; a host says Reset exactly where the answer of a poll stands, never where a step lies
+/// oldest end that the controller has for a connection to its host. Whatever the picker picks, the controller refuses
+/// no message, and no host an end; a host says Reset exactly where the answer of a poll stands, never where a step lies
 /// between any two polls about one command, and it never says Lost. Memory is asked for before the first turn, and
 /// nothing is heard where it is refused.
 pub fn converse<K: Picker + Drop>(

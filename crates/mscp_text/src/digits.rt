@@ -15,8 +15,8 @@ fn digit(number: u8) -> u8
     }
 }
 
-/// Writes each byte as two lower case digits. `hex` looks each digit up in a table: without one a compiler takes many bytes
-/// at once, where its machine can.
+/// Writes each byte as two lower case digits. `hex` looks each digit up in a table: without one a compiler takes many
+/// bytes at once, where its machine can.
 #[inline]
 pub fn write_hex(bytes: &[u8], digits: &mut [u8])
     requires { length digits.old ≡ 2 * length bytes.now }

@@ -1,4 +1,8 @@
 // Text at the front of bytes that somebody lends.
+//
+// A script runs in lent memory without a heap, and its report grows in the back half of the room, which has twice the
+// bytes of the report. A contract can't follow a reference through a type parameter, so nothing could be said of a
+// report that grew at the front. If there is no room the script runs on and is counted, so that its fault is told.
 
 ghost use Rattle.std.specs.Prelude.{◌≡◌, ◌≤◌, ◌<◌, ◌++◌, ℕ, List, [], length, IfNone, IfSome};
 ghost use Rattle.std.specs.Option.{ForSome};
@@ -9,8 +13,8 @@ use crate::past::Past;
 use std::alloc::AllocError;
 use std::marker::{Brand, PhantomData};
 
-/// How many bytes are lent. What calls a function with `Brand` in this place picks the number in its proof, so a contract
-/// knows it from what was lent to what is handed back.
+/// How many bytes are lent. What calls a function with `Brand` in this place picks the number in its proof, so a
+/// contract knows it from what was lent to what is handed back.
 pub trait Room {
     ghost use Rattle.std.specs.Prelude.{ℕ};
 

@@ -15,8 +15,8 @@ pub(crate) struct CookieLists {
     second: ArrayVec<u64, 64>,
 }
 
-// A clause sees the cookies of the waiting commands in order of arrival, and those of each connection's ends that weren't
-// taken, oldest first.
+// A clause sees the cookies of the waiting commands in order of arrival, and those of each connection's ends that
+// weren't taken, oldest first.
 impl Model for CookieLists {
     ghost use Rattle.mscp_tracked.specs.Cookies.{Cookies};
 
@@ -123,7 +123,8 @@ impl CookieLists {
         self.end(connection, cookie);
     }
 
-    /// A message of the connection with this cookie became this: the command that it aborted, if it did, was at the place.
+    /// A message of the connection with this cookie became this: the command that it aborted, if it did, was at the
+    /// place.
     pub(crate) fn send(
         &mut self,
         connection: Connection,

@@ -1,5 +1,5 @@
-//! A disk controller that tells, beside what it tells, whose each command is, by 64 bits that its holder gave, and which
-//! beginning of a block each finish is of.
+//! A disk controller that tells, beside what it tells, whose each command is, by 64 bits that its holder gave, and
+//! which beginning of a block each finish is of.
 #![tactic(auto)]
 
 mod cookies;

@@ -114,9 +114,13 @@ fn resume<K: Picker + Drop>(controller: Controller<K>, b: &[u8]) -> Result<Track
     ))
 }
 
-/// The tracked controller that was saved as these bytes, with this picker, whose number has to be that which it was saved
-/// with; or why they are none: what is wrong with the bytes of its controller, or that as many bytes as its cookies and its
-/// count take don't stand behind them. Its serials go on behind the one given last.
+/// The tracked controller that was saved as these bytes, with this picker, whose number has to be that which it was
+/// saved with. Its serials go on behind the one given last.
+///
+/// # Errors
+///
+/// What is wrong with the bytes of its controller, or that as many bytes as its cookies and its count take don't stand
+/// behind them.
 pub fn restore<K: Picker + Drop>(
     bytes: &[u8],
     number: u8,

@@ -11,8 +11,8 @@ use mscp_controller::{
 use mscp_packet::{Command, End, Order, read_command};
 use std::marker::Model;
 
-/// A step that is begun: what it serves, its serial, and the cookie of its command. No two beginnings of a controller have
-/// one serial, while they are fewer than 2^64.
+/// A step that is begun: what it serves, its serial, and the cookie of its command. No two beginnings of a controller
+/// have one serial, while they are fewer than 2^64.
 #[derive(Clone, Copy)]
 pub struct Beginning {
     pub upcoming: Upcoming,
@@ -89,8 +89,8 @@ fn number_in(order: &Order) -> Option<u32>
 }
 
 impl<K: Picker> Tracked<K> {
-    /// One to which nothing came so far. It is built into its caller: each call on the way would have room for a controller of
-    /// its own on the stack.
+    /// One to which nothing came so far. It is built into its caller: each call on the way would have room for a
+    /// controller of its own on the stack.
     #[inline(always)]
     pub fn new(config: Config, picker: K) -> Tracked<K>
         ensures { result ≡ new_after 0 config picker }
@@ -102,8 +102,8 @@ impl<K: Picker> Tracked<K> {
         }
     }
 
-    /// This controller with these cookies: of its waiting commands in order of arrival, and of each connection's ends that
-    /// weren't taken, oldest first. The serial given last is this.
+    /// This controller with these cookies: of its waiting commands in order of arrival, and of each connection's ends
+    /// that weren't taken, oldest first. The serial given last is this.
     #[inline(always)]
     pub fn resumed(
         controller: Controller<K>,
@@ -134,8 +134,8 @@ impl<K: Picker> Tracked<K> {
         }
     }
 
-    /// Forgets all that came to it, as a reset of its port makes it: it is as new, with the same settings and picker. Its
-    /// serials go on.
+    /// Forgets all that came to it, as a reset of its port makes it: it is as new, with the same settings and picker.
+    /// Its serials go on.
     pub fn reset(&mut self)
         ensures { self.new ≡ new_after self.old.beginnings self.old.controller.settings self.old.controller.picker }
     {
@@ -192,8 +192,11 @@ impl<K: Picker> Tracked<K> {
         self.controller.place_of(connection, number_aborted(b)?)
     }
 
-    /// Takes a message of the connection's host in, whose command has this cookie, or says why not, as a controller does. A
-    /// refusal changes nothing.
+    /// Takes a message of the connection's host in, whose command has this cookie.
+    ///
+    /// # Errors
+    ///
+    /// Those of `Controller::send`; then nothing changes.
     pub fn send_with(
         &mut self,
         connection: Connection,
@@ -211,6 +214,10 @@ impl<K: Picker> Tracked<K> {
     }
 
     /// Takes a message in whose command has cookie 0.
+    ///
+    /// # Errors
+    ///
+    /// Those of `Controller::send`; then nothing changes.
     pub fn send(&mut self, connection: Connection, b: &[u8]) -> Result<Sent, SendFault>
         ensures answer { result ≡ answer_to_message connection self.old.controller b.now }
         ensures after { self.new ≡ after_message_with connection self.old b.now 0 }
@@ -260,8 +267,9 @@ impl<K: Picker> Tracked<K> {
         Some(self.beginning_of(upcoming))
     }
 
-    /// What the next step serves, if a command waits, with the serial of this beginning. Where something is begun it tells
-    /// that again, and changes nothing. Else something is begun, as a controller does it, and gets the next serial.
+    /// What the next step serves, if a command waits, with the serial of this beginning. Where something is begun it
+    /// tells that again, and changes nothing. Else something is begun, as a controller does it, and gets the next
+    /// serial.
     pub fn begin(&mut self) -> Option<Beginning>
         ensures { Begins (K.picks self.old.controller.picker) self.old result self.new }
     {
@@ -295,8 +303,8 @@ impl<K: Picker> Tracked<K> {
         Finished { report, cookie }
     }
 
-    /// The step of the beginning of this serial, if that is begun still: its block had this outcome. If it isn't, since it was
-    /// served, aborted or reset, nothing changes, and the block counts for nothing.
+    /// The step of the beginning of this serial, if that is begun still: its block had this outcome. If it isn't, since
+    /// it was served, aborted or reset, nothing changes, and the block counts for nothing.
     ///
     /// # Errors
     ///
@@ -321,8 +329,8 @@ impl<K: Picker> Tracked<K> {
         }
     }
 
-    /// The step of the connection's command with this reference number, if it is begun, as `Controller::finish`: for who
-    /// does one thing at a time. Whose finishes may come late finishes by serial.
+    /// The step of the connection's command with this reference number, if it is begun, as `Controller::finish`: for
+    /// who does one thing at a time. Whose finishes may come late finishes by serial.
     ///
     /// # Errors
     ///
@@ -342,8 +350,8 @@ impl<K: Picker> Tracked<K> {
         }
     }
 
-    /// Serves one block, with this outcome, if a command waits: to what is begun, or else to what a begin would begin. No
-    /// serial is given.
+    /// Serves one block, with this outcome, if a command waits: to what is begun, or else to what a begin would begin.
+    /// No serial is given.
     pub fn step(&mut self, block: Block) -> Finished
         ensures { Serves (K.picks self.old.controller.picker) block self.old result self.new }
     {

@@ -1,5 +1,5 @@
-// Memory that is refused once. What is counted stands in a cell, and no clause can say what a cell holds: the trials show
-// it.
+// Memory that is refused once. What is counted stands in a cell, and no clause can say what a cell holds: the trials
+// show it.
 
 ghost use Rattle.std.specs.Prelude.{◌≤◌};
 

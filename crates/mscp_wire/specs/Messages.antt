@@ -200,3 +200,15 @@ status_code e = e.status % 32
 -- the endcode is that of an opcode which the controller knows: 0x80 alone is that of any other (profile)
 abbrev pub is_known : Answer → Bool
 is_known e = not (nat_eq e.code 0x80)
+
+-- a command of this opcode may have a status of this code (manual, "Status and Event Codes"): Success (0) or Invalid
+-- Command (1), and any other of 2 to 11 where it isn't an ABORT, a GET COMMAND STATUS or a SET CONTROLLER
+-- CHARACTERISTICS. A GET UNIT STATUS isn't aborted (2), and has no code of a medium, of data or of a buffer (5 to 9);
+-- no AVAILABLE or ONLINE is told that its unit is available (4)
+abbrev pub may_have : ℕ → ℕ → Bool
+may_have opcode code =
+    nat_le code 1
+    || (nat_le code 11
+    && not (nat_eq opcode 1 || nat_eq opcode 2 || nat_eq opcode 4)
+    && not (nat_eq opcode 3 && (nat_eq code 2 || (nat_le 5 code && nat_le code 9)))
+    && not ((nat_eq opcode 8 || nat_eq opcode 9) && nat_eq code 4))

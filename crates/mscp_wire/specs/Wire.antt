@@ -37,7 +37,7 @@ use Rattle.std.specs.Prelude.{◌≡◌, ℕ, ◌+◌, ◌/◌, ◌<◌, Bool, t
 use Rattle.std.specs.List.{filter, list_any}
 use Rattle.mscp_drive.specs.declared.connection.Connection.{Connection}
 use Rattle.mscp_drive.specs.declared.connection.Connection.TheVariants.{First}
-pub use Rattle.mscp_wire.specs.Messages.{History, answer_by, asks_for_next, controller_in, is_compared, protected_in, table_in, four_in, identity_in, is_about_another, is_immediate, is_known, is_named, is_ordered, is_required, is_sequential, is_short, is_modified, is_sequential_class, is_transfer, is_transfer_class, is_unknown, is_unknown_class, least_length, least_message, same_connection, sent_by, status_code, timeout_in}
+pub use Rattle.mscp_wire.specs.Messages.{History, answer_by, asks_for_next, controller_in, is_compared, protected_in, table_in, four_in, identity_in, is_about_another, is_immediate, is_known, is_named, is_ordered, is_required, is_sequential, is_short, is_modified, is_sequential_class, is_transfer, is_transfer_class, is_unknown, is_unknown_class, least_length, least_message, may_have, same_connection, sent_by, status_code, timeout_in}
 pub use Rattle.mscp_wire.specs.Polls.{asked_about, asked_by, asking, asks_oldest, has_figure, has_number, hears, is_below, is_hasty, is_it, is_oldest, is_polled, is_refused, left, may_ask, may_be, may_tell, polled_by, polls, tells, turns, turns_beside, waits_on}
 pub use Rattle.mscp_wire.specs.Units.{Puts, after_other, after_own, agrees, brings, called, called_after, called_after_end, called_in, controller, controller_after, describes, fits, identifier_of, kept_called, noted_nothing, noted_other, noted_own, size_of, is_known_unit, is_moved, is_of_unit, is_same_unit, is_single, is_unsure, learns, kept, key, later_of, leaves, other_side, says_away, says_online, shares, suits_state, tells_unit, timeout_after, told_after_end, told_after_message, told_nothing, told_reset, told_to, turned, was_online}
 use Rattle.mscp_wire.specs.declared.answer.Answer.{Answer}
@@ -97,18 +97,6 @@ names_unit y e = y.next || nat_eq e.unit y.unit
 -- that opcode out
 abbrev pub has_endcode : Sent → Answer → Bool
 has_endcode y e = if is_known e then nat_eq e.code (y.opcode + 0x80) else not (is_required y.opcode)
-
--- a command of this opcode may have a status of this code (manual, "Status and Event Codes"): Success (0) or Invalid
--- Command (1), and any other of 2 to 11 where it isn't an ABORT, a GET COMMAND STATUS or a SET CONTROLLER
--- CHARACTERISTICS. A GET UNIT STATUS isn't aborted (2), and has no code of a medium, of data or of a buffer (5 to 9);
--- no AVAILABLE or ONLINE is told that its unit is available (4)
-abbrev pub may_have : ℕ → ℕ → Bool
-may_have opcode code =
-    nat_le code 1
-    || (nat_le code 11
-    && not (nat_eq opcode 1 || nat_eq opcode 2 || nat_eq opcode 4)
-    && not (nat_eq opcode 3 && (nat_eq code 2 || (nat_le 5 code && nat_le code 9)))
-    && not ((nat_eq opcode 8 || nat_eq opcode 9) && nat_eq code 4))
 
 -- its status has a code that its command may have: any if no row of the table of opcodes has that, and Invalid Command
 -- where the controller doesn't know it

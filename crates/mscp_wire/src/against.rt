@@ -1,5 +1,5 @@
-// What a moment that breaks a rule contradicts, beside its command. It is asked once a log, of a judge that is as it was
-// before that moment: so no line that is right pays for it.
+// What a moment that breaks a rule contradicts, beside its command. It is asked once a log, of a judge that is as it
+// was before that moment: so no line that is right pays for it.
 
 ghost use Rattle.std.specs.Prelude.{◌≡◌, if◌then◌else◌, None};
 ghost use Rattle.mscp_wire.specs.Wire as wire;
@@ -72,7 +72,8 @@ impl<A: Allocator + Copy> Judge<A> {
 
     /// The same of a moment's end.
     pub fn seen(&self, moment: &Moment) -> Seen
-        ensures { result ≡ wire.seen_before (sents self.now.commands) (wire.kept self.now.units) self.now.controller moment.now }
+        ensures { result ≡ wire.seen_before (sents self.now.commands)
+            (wire.kept self.now.units) self.now.controller moment.now }
     {
         match moment {
             Moment::End(connection, message) => self.seen_in(*connection, message.as_slice()),

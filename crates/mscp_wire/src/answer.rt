@@ -27,8 +27,8 @@ pub struct Answer {
     pub parameter: Option<u32>,
     /// The number in bytes 16 to 19, if the message has them: the figure of a GET COMMAND STATUS.
     pub figure: Option<u32>,
-    /// What it says of its unit, if it has 44 bytes at least: only an end of GET UNIT STATUS, ONLINE or SET UNIT CHARACTERISTICS
-    /// does.
+    /// What it says of its unit, if it has 44 bytes at least: only an end of GET UNIT STATUS, ONLINE or SET UNIT
+    /// CHARACTERISTICS does.
     pub identity: Option<Identity>,
     /// Whether it says that its unit is protected from writing.
     pub protected: bool,

@@ -1,6 +1,9 @@
-// Beside which commands a GET UNIT STATUS is answered. It may be answered at any moment between its message and its end.
-// So if an AVAILABLE or an ONLINE of its unit is outstanding at any time between, its end may tell what was before that
-// one or after it, and proves nothing.
+// Beside which commands a GET UNIT STATUS is answered.
+//
+// It may be answered at any moment between its message and its end. So if an AVAILABLE or an ONLINE of its unit is
+// outstanding at any time between, its end may tell what was so before it or after. One that asks for the next unit is
+// beside one that is outstanding of the unit that its end names, and beside any that ended meanwhile, as it isn't
+// known before which unit that is.
 
 ghost use Rattle.std.specs.Prelude.{◌≡◌};
 ghost use Rattle.mscp_wire.specs.Wire as wire;

@@ -1,8 +1,8 @@
 // The cells in which commands that are outstanding stand, oldest first. A cell whose command left is empty, so that no
 // other moves.
 //
-// Whoever seeks a command may have to look at a thousand others, and each of those is some lines of memory. So beside each
-// cell stands a tag, a number made of what commands are sought by: one with another tag isn't looked at.
+// Whoever seeks a command may have to look at a thousand others, and each of those is some lines of memory. So beside
+// each cell stands a tag, a number made of what commands are sought by: one with another tag isn't looked at.
 
 ghost use Rattle.std.specs.Prelude.{◌≡◌, ◌++◌, ◌∷◌, ◌<◌, ◌≤◌, ◌^◌, [], is_some, length, position, set, take, IfSome, IsSome, OnErr, OnOk, Some, false, true};
 ghost use Rattle.std.specs.List.{filter};
@@ -150,7 +150,8 @@ impl<A: Allocator + Copy> Cells<A> {
     /// The cell in which the first stands that is sought, of so many, if one does.
     pub fn first(&self, len: usize, sought: &Sought) -> Option<usize>
         requires { len ≤ length self.now }
-        ensures place { place_if (take len self.now) result ≡ position (is_sought sought.now) (sents (take len self.now)) }
+        ensures place { place_if (take len self.now) result
+            ≡ position (is_sought sought.now) (sents (take len self.now)) }
         ensures there { IfSome result (λ i. IsSome (cell (take len self.now) i)) }
     {
         self.next(0, len, sought)

@@ -1,7 +1,7 @@
 // The commands that are outstanding, oldest first, and what is kept beside them so that each is found soon.
 //
-// Each stands in a cell. A command that leaves moves no other: its cell stays, empty, until a fifth of them are. Then the
-// others move together. So each end moves a few commands, whichever it is of.
+// Each stands in a cell. A command that leaves moves no other: its cell stays, empty, until a fifth of them are. Then
+// the others move together. So each end moves a few commands, whichever it is of.
 
 ghost use Rattle.std.specs.Prelude.{◌≡◌, ◌+◌, ◌-◌, ◌<◌, ◌^◌, ◌++◌, ◌∷◌, [], find, length, map, take, drop, position, set, false, true, Some, None, OnOk, IfOk, IfSome, IsSome};
 ghost use Rattle.std.specs.List.{list_any, remove};

@@ -1,6 +1,8 @@
-// All that is wrong in a log, line by line. A moment that isn't right counts as told if it can, so that what comes behind
-// it is judged, too. The judge of a log that is right knows nothing of this: it stops at the first moment that isn't, and
-// what is said of that is found here, on a second way through the log.
+// All that is wrong in a log, line by line.
+//
+// A moment that isn't right counts as told if it can, so that what comes behind it is judged, too. The judge of a log
+// that is right knows nothing of this: it stops at the first moment that isn't. Only then the log is gone over once
+// more, for all that is wrong, and for the lines in which that was told. So a log that is right pays nothing for it.
 
 ghost use Rattle.std.specs.Prelude.{◌≡◌, ◌≤◌, ℕ, false, true, OnOk, IfOk, Some};
 ghost use Rattle.mscp_drive.specs.declared.connection.Connection as connections;
@@ -246,8 +248,8 @@ fn places_of<A: Allocator + Copy>(alloc: A, lines: &mut Lines<'_>) -> Result<Pla
     Ok(Places::nowhere())
 }
 
-/// In which lines of a log is told what its first moment that isn't right is compared with: nowhere, if there is none, or if
-/// a line before it is at fault.
+/// In which lines of a log is told what its first moment that isn't right is compared with: nowhere, if there is none,
+/// or if a line before it is at fault.
 pub fn places_in<A: Allocator + Copy>(alloc: A, bytes: &[u8]) -> Result<Places, OutOfMemory>
     ensures { IfOk result (λ places. places ≡ course.places_in bytes.now) }
 {

@@ -1,4 +1,8 @@
 // What is doubtful of a log that is right: of each kind the first moment, and how many there are.
+//
+// That a SET UNIT CHARACTERISTICS tells another identity than was told before is a doubt, and no fault: it succeeds of
+// an available unit, too, and if a unit became available by itself and has another volume, no end says so. Which unit
+// had an identifier last is kept by identifiers, since comparing all units takes quadratic time.
 
 ghost use Rattle.std.specs.Prelude.{◌≡◌, ◌+◌, ◌-◌, ◌<◌, ◌^◌, [], None};
 ghost use Rattle.mscp_wire.specs.Doubts as doubt;
@@ -118,7 +122,8 @@ impl Doubts {
     /// A moment more came, in the line of this number.
     pub fn add(&mut self, number: u32, doubtful: &Doubtful, command: Option<Sent>)
         requires { doubt.AreFewDoubts self.old number }
-        ensures doubts { self.new ≡ doubt.doubts_with self.old doubtful.now (record { line = number; command = command }) }
+        ensures doubts { self.new
+            ≡ doubt.doubts_with self.old doubtful.now (record { line = number; command = command }) }
         ensures few { doubt.AreFewDoubts self.new (number + 1) }
     {
         let found = Found {

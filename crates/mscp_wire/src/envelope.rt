@@ -11,8 +11,8 @@ use mscp_reader::{Cause, bytes_in};
 /// How many digits an envelope has.
 const DIGITS: usize = 8;
 
-/// Whether an envelope is of a message, or an end, of the disk's connection: both its type and its connection are 0. The low
-/// four bits beside the type are credits.
+/// Whether an envelope is of a message, or an end, of the disk's connection: both its type and its connection are 0.
+/// The low four bits beside the type are credits.
 fn is_disks(envelope: &[u8]) -> bool
     ensures { result ≡ log.is_disks envelope.now }
 {

@@ -1,4 +1,7 @@
 // What is outstanding after the moments so far, and which rule the next one breaks.
+//
+// The rules of the wire have a crate of their own, without a definition of this project's controller. So they judge
+// any, and that ours keeps them is a law of another crate. What a legal trace may do is no rule, but a doubt.
 
 ghost use Rattle.std.specs.Prelude.{◌≡◌, ℕ, ◌+◌, ◌++◌, ◌∷◌, [], drop, if◌then◌else◌, OnOk, IfOk, IfSome, IsSome, Some, None};
 ghost use Rattle.mscp_packet.specs.Number.{num};
@@ -219,7 +222,8 @@ impl<A: Allocator + Copy> Judge<A> {
     }
 
     /// What comes of a host's message. If it breaks no rule its command is outstanding. It isn't made part of the loop
-    /// over all lines, nor is what is called for an end: of one large body each line would move all that any line makes.
+    /// over all lines, nor is what is called for an end: of one large body each line would move all that any line
+    /// makes.
     #[inline(never)]
     fn message(
         &mut self,
@@ -359,7 +363,8 @@ impl<A: Allocator + Copy> Judge<A> {
             moment.now) }
         ensures command { IfOk result (λ o. o.command ≡ wire.command_of (sents self.old.commands) moment.now) }
         ensures fall { IfOk result (λ o. o.fall ≡ total.fall_after (sents self.old.commands) moment.now) }
-        ensures doubtful { IfOk result (λ o. o.doubtful ≡ doubt.doubtful (sents self.old.commands) (wire.kept self.old.units)
+        ensures doubtful { IfOk result (λ o. o.doubtful
+            ≡ doubt.doubtful (sents self.old.commands) (wire.kept self.old.units)
             (wire.kept_called self.old.units) moment.now) }
         ensures after { IfOk result (λ o. o.rule ≡ None → sents self.new.commands
             ≡ wire.after self.old.timeout (sents self.old.commands) moment.now) }

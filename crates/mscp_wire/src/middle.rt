@@ -1,6 +1,9 @@
-// A log that begins in the middle: what it shows up to the first reset, and which rules aren't asked till then. Hosts had
-// sent commands before it, so an end may answer what the log never sent, and units may have another state than it tells.
-// Nothing of this is kept of any other log.
+// A log that begins in the middle: what it shows up to the first reset, and which rules aren't asked till then.
+//
+// Hosts had sent commands before it, so an end may answer what the log never sent, and units may have another state
+// than one that is new. The end of such a command tells nothing, not even of its unit, since it may be told late. So a
+// unit's state isn't judged till a command that the log shows has turned it, which passes none of before. That a
+// figure of the oldest command doesn't fall is a doubt, and not passed over: mostly that command is the oldest.
 
 ghost use Rattle.std.specs.Prelude.{◌≡◌, ◌≤◌, ◌||◌, ◌&&◌, ◌++◌, ◌∷◌, ℕ, [], length, nat_eq, if◌then◌else◌, OnOk, Some, true, false};
 ghost use Rattle.arrayvec.specs.ArrayVec.{ArrayVec};
@@ -79,7 +82,8 @@ impl<A: Allocator + Copy> Middle<A> {
 
     /// Whether all that the host of an end had sent to its unit before has ended.
     fn is_sure(&self, answer: &Answer) -> bool
-        ensures { (h strangers : History) → middles.Shows h strangers self.now → result ≡ begun.is_sure h strangers answer.now }
+        ensures { (h strangers : History) → middles.Shows h strangers self.now
+            → result ≡ begun.is_sure h strangers answer.now }
     {
         self.units
             .contains_key(&key(answer.connection, u32::from(answer.unit)))

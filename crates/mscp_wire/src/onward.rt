@@ -36,7 +36,8 @@ impl<A: Allocator + Copy> Judge<A> {
     /// Whether a command may be outstanding, too: its number is new, and its host has fewer than any controller gives
     /// credits.
     fn has_place(&self, sent: &Sent) -> bool
-        ensures { result ≡ (wire.is_new (sents self.now.commands) sent.now && has_room (sents self.now.commands) sent.now) }
+        ensures { result ≡ (wire.is_new (sents self.now.commands) sent.now
+            && has_room (sents self.now.commands) sent.now) }
     {
         !self.commands.has_named(sent.connection, sent.reference)
             && self.commands.count_on(sent.connection) < MOST_CREDITS as usize
@@ -58,7 +59,8 @@ impl<A: Allocator + Copy> Judge<A> {
     /// Nothing is outstanding or known, as the controller was initialised.
     pub fn reset(&mut self)
         ensures commands { sents self.new.commands ≡ [] }
-        ensures units { (via : connections.Connection) (unit : ℕ) → wire.kept self.new.units via unit ≡ wire.told_reset }
+        ensures units { (via : connections.Connection) (unit : ℕ)
+            → wire.kept self.new.units via unit ≡ wire.told_reset }
         ensures called { (identifier : ℕ) → wire.kept_called self.new.units identifier ≡ None }
         ensures controller { self.new.controller ≡ None }
         ensures timeout { self.new.timeout ≡ None }
@@ -73,7 +75,8 @@ impl<A: Allocator + Copy> Judge<A> {
     /// None of a connection's commands is outstanding, and nothing is known of units, as it closed.
     pub fn close(&mut self, connection: Connection)
         ensures commands { sents self.new.commands ≡ wire.others_of connection (sents self.old.commands) }
-        ensures units { (via : connections.Connection) (unit : ℕ) → wire.kept self.new.units via unit ≡ wire.told_nothing }
+        ensures units { (via : connections.Connection) (unit : ℕ)
+            → wire.kept self.new.units via unit ≡ wire.told_nothing }
         ensures called { (identifier : ℕ) → wire.kept_called self.new.units identifier ≡ None }
         ensures controller { self.new.controller ≡ self.old.controller }
         ensures timeout { self.new.timeout ≡ self.old.timeout }

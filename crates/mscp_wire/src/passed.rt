@@ -32,7 +32,8 @@ impl<A: Allocator + Copy> Commands<A> {
         }
     }
 
-    /// Whether an AVAILABLE or an ONLINE of its unit was outstanding beside the one in a cell, if that is a GET UNIT STATUS.
+    /// Whether an AVAILABLE or an ONLINE of its unit was outstanding beside the one in a cell, if that is a GET UNIT
+    /// STATUS.
     fn is_late(&self, at: usize, answer: &Answer) -> bool
         requires { IsSome (cell self.now at) }
         ensures { result ≡ wire.is_late (sents self.now)
@@ -42,8 +43,8 @@ impl<A: Allocator + Copy> Commands<A> {
             && (self.at(at).beside || self.has_turning(answer.connection, answer.unit))
     }
 
-    /// Whether the end of the one in a cell proves how its unit is, if there is one: that of a GET UNIT STATUS isn't late, and
-    /// one by which the unit went away passes nothing.
+    /// Whether the end of the one in a cell proves how its unit is, if there is one: that of a GET UNIT STATUS isn't
+    /// late, and one by which the unit went away passes nothing.
     pub fn settles(&self, at: Option<usize>, answer: &Answer) -> bool
         requires { IfSome at (λ i. IsSome (cell self.now i)) }
         ensures { result ≡ wire.is_settled_at (sents self.now) answer.now (place_if self.now at) }

@@ -1,5 +1,5 @@
-// What is kept of a unit, in two parts: a row of a few bytes, which most ends ask for and change, and numbers, which stand
-// apart. So the ends of many units touch little memory.
+// What is kept of a unit, in two parts: a row of a few bytes, which most ends ask for and change, and numbers, which
+// stand apart. So the ends of many units touch little memory.
 
 ghost use Rattle.std.specs.Prelude.{◌≡◌};
 ghost use Rattle.mscp_wire.specs.Rows as rows;

@@ -1,6 +1,7 @@
 // The rules that a moment may break.
 
-/// A rule of the manual, in the order in which they are asked. The first three are a host's, the others the controller's.
+/// A rule of the manual, in the order in which they are asked. The first three are a host's, the others the
+/// controller's.
 #[derive(Clone, Copy)]
 pub enum Rule {
     /// A message has 12 bytes at least.

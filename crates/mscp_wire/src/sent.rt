@@ -33,8 +33,8 @@ pub struct Sent {
     pub modified: bool,
     /// Whether it has the modifier Compare.
     pub compares: bool,
-    /// The number in bytes 12 to 15, if the message has them: of an ABORT and a GET COMMAND STATUS the reference number of the
-    /// command that they are about, of a transfer how many bytes are to be moved.
+    /// The number in bytes 12 to 15, if the message has them: of an ABORT and a GET COMMAND STATUS the reference number
+    /// of the command that they are about, of a transfer how many bytes are to be moved.
     pub parameter: Option<u32>,
     /// The number in bytes 28 to 31, if the message has them: the first block of a transfer.
     pub block: Option<u32>,

@@ -2,9 +2,9 @@
 //
 // Of each number it is kept where in a list its row may stand. That counts only if the row there has the number. So a
 // list that is cleared is all that a reset writes: a place that was kept before leads to no row then, or to that of
-// another number. Numbers that stand beside a row count only if the row says so, and stay where they are if not. What both
-// hosts were told of a unit stands together, since an end asks for both. A map of all units would be searched five times
-// for each end.
+// another number. Numbers that stand beside a row count only if the row says so, and stay where they are if not. What
+// both hosts were told of a unit stands together, since an end asks for both. A map of all units would be searched five
+// times for each end.
 
 ghost use Rattle.std.specs.Prelude.{◌≡◌, ℕ, ◌≤◌, ◌<◌, ◌^◌, false, get_or, length, if◌then◌else◌, nat_eq, OnOk, Some, None};
 ghost use Rattle.mscp_wire.specs.Rows.{counted, found, no_pair, pair_of, row_of};

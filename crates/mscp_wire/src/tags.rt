@@ -14,8 +14,8 @@ use std::alloc::Allocator;
 /// The tag of no command.
 const NONE: u16 = u16::MAX;
 
-/// The tag for a number of a connection, of commands that are answered when they arrive or of others. It has 16 bits, of
-/// which a machine looks at many at once.
+/// The tag for a number of a connection, of commands that are answered when they arrive or of others. It has 16 bits,
+/// of which a machine looks at many at once.
 #[inline(always)]
 fn tag(connection: Connection, number: u64, immediate: bool) -> u16
     requires { number < 2 ^ 40 }

@@ -189,8 +189,8 @@ impl<A: Allocator + Copy> Tallies<A> {
         self.second = one_less(self.second, is_on(Connection::Second, command));
     }
 
-    /// Whether it is soon seen that no GET UNIT STATUS is outstanding of this unit or of whichever is next, whose unit had
-    /// one state so far.
+    /// Whether it is soon seen that no GET UNIT STATUS is outstanding of this unit or of whichever is next, whose unit
+    /// had one state so far.
     pub fn has_no_status(&self, connection: Connection, unit: u16) -> bool
         ensures { result ≡ kept.has_none connection unit self.now }
     {
@@ -210,7 +210,8 @@ impl<A: Allocator + Copy> Tallies<A> {
     /// A poll asks something else, or nothing.
     pub fn leave(&mut self, poll: &Sent)
         ensures { (xs : List sents.Sent) (i : ℕ) → i < length xs → poll.now ≡ command_at xs i
-            → kept.IsKept xs self.old → kept.IsKept (set xs i (record poll.now { asked = left poll.now.asked })) self.new }
+            → kept.IsKept xs self.old
+            → kept.IsKept (set xs i (record poll.now { asked = left poll.now.asked })) self.new }
     {
         if !asks(left(poll.asked)) {
             self.asked.subtract(by_asked(poll));

@@ -215,7 +215,8 @@ impl Told {
 
     /// And once one of its own did, which is settled or not.
     pub fn after_end(&self, answer: &Answer, settled: bool) -> Told
-        ensures { result ≡ (if settled then wire.after_own self.now answer.now else wire.after_other self.now answer.now) }
+        ensures { result
+            ≡ (if settled then wire.after_own self.now answer.now else wire.after_other self.now answer.now) }
     {
         if settled {
             self.after_own(answer)

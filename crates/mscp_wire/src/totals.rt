@@ -158,7 +158,8 @@ impl Totals {
     /// A moment more came, in the line of this number. So many commands are outstanding then, and a figure fell so far.
     pub fn add(&mut self, number: u32, moment: &Moment, queue: usize, fall: u32)
         requires few { total.IsFew self.old number }
-        ensures totals { (h : History) → self.old ≡ total.totals_of h → queue ≡ length (outstanding (h ++ moment.now ∷ []))
+        ensures totals { (h : History) → self.old ≡ total.totals_of h
+            → queue ≡ length (outstanding (h ++ moment.now ∷ []))
             → fall ≡ total.fall_after (outstanding h) moment.now → self.new ≡ total.totals_of (h ++ moment.now ∷ []) }
         ensures few { total.IsFew self.new (number + 1) }
     {

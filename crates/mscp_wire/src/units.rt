@@ -172,7 +172,8 @@ impl<A: Allocator + Copy> Units<A> {
     pub fn hear_command(&mut self, sent: &Sent) -> Result<(), OutOfMemory>
         ensures told { OnOk result ((via : connections.Connection) (unit : ℕ) → wire.kept self.new via unit
             ≡ wire.told_after_message via unit (wire.kept self.old via unit) sent.now) }
-        ensures called { (identifier : ℕ) → wire.kept_called self.new identifier ≡ wire.kept_called self.old identifier }
+        ensures called { (identifier : ℕ)
+            → wire.kept_called self.new identifier ≡ wire.kept_called self.old identifier }
     {
         if sent.opcode != 9 {
             return Ok(());

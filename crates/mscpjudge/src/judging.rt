@@ -29,8 +29,8 @@ fn outcome_of(verdict: &Verdict) -> Outcome
     }
 }
 
-/// Appends the rest of the line of the totals: the largest figure, the bound, and the most blocks by which a command was
-/// passed.
+/// Appends the rest of the line of the totals: the largest figure, the bound, and the most blocks by which a command
+/// was passed.
 fn put_peaks<A: Allocator>(text: &mut Vec<u8, A>, totals: &Totals) -> Result<(), AllocError>
     ensures { OnOk result (text.new.items ≡ text.old.items ++ peaks_text totals.now) }
 {

@@ -1,5 +1,5 @@
-//! Judges a log: whether what another controller answered is legal, what hosts would have heard of it, and whether what went
-//! over the wire keeps the manual's rules. Shows a log of the wire in words.
+//! Judges a log: whether what another controller answered is legal, what hosts would have heard of it, and whether what
+//! went over the wire keeps the manual's rules. Shows a log of the wire in words.
 #![tactic(auto)]
 
 mod choosing;

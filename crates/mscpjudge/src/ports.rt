@@ -1,6 +1,8 @@
-// The ports of a machine in a log of the wire. A line `port N` says that the lines behind it went over the wire of that
-// port. Each port is judged by a log of its own lines alone, and they are told by the numbers that they have among all:
-// so eight ports cost no more than one. Without such a line nothing of this is made.
+// The ports of a machine in a log of the wire. A line `port N` says that the lines behind it went over the wire of
+// that port.
+//
+// A log of several ports is as many logs, each with its own lines alone: so no state is shared, and each line is read
+// once. Where lines are told they have their numbers among all.
 
 ghost use Rattle.std.specs.Prelude.{◌≡◌, ◌≤◌, ◌<◌, ◌++◌, ◌∷◌, ℕ, codes, length, None, IfOk, OnOk};
 ghost use Rattle.mscp_reader.specs.Lexical as lexical;

@@ -1,5 +1,5 @@
-// What is said of a moment that breaks a rule: what it tells, and what that is compared with. Numbers that people know in
-// hexadecimal are told so.
+// What is said of a moment that breaks a rule: what it tells, and what that is compared with. Numbers that people know
+// in hexadecimal are told so.
 
 ghost use Rattle.std.specs.Prelude.{◌≡◌, ◌≤◌, ◌++◌, length, slice_index, OnOk};
 ghost use Rattle.hex.specs.Hex.{encode_lower};

@@ -35,7 +35,8 @@ impl Account {
 }
 
 impl Accounts {
-    /// These commands wait from now on, and these ends of each connection weren't taken. What was there before is forgotten.
+    /// These commands wait from now on, and these ends of each connection weren't taken. What was there before is
+    /// forgotten.
     #[inline(never)]
     pub(crate) fn restore(&mut self, waiting: &[Record], first: &[End], second: &[End])
         requires waiting { length waiting.now ≤ 64 }

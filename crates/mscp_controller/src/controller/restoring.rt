@@ -10,9 +10,10 @@ use mscp_packet::End;
 use mscp_queue::{Drive, Name, Picker, Record};
 
 impl<K: Picker> Controller<K> {
-    /// These commands wait from now on, and these ends of each connection weren't taken, all oldest first; the drives are
-    /// these, and the command of this name is begun, if one is named. What was there before is forgotten, but for the settings
-    /// and the picker. What history it has then is nobody's to say: that of one of which all this was kept.
+    /// These commands wait from now on, and these ends of each connection weren't taken, all oldest first; the drives
+    /// are these, and the command of this name is begun, if one is named. What was there before is forgotten, but for
+    /// the settings and the picker. What history it has then is nobody's to say: that of one of which all this was
+    /// kept.
     pub fn restore(
         &mut self,
         waiting: &[Record],
@@ -54,8 +55,8 @@ impl<K: Picker> Controller<K> {
         self.accounts.ends(connection)
     }
 
-    /// The drives, in the order of their units. With what else is seen of the controller they are what one can be made of
-    /// again.
+    /// The drives, in the order of their units. With what else is seen of the controller they are what one can be made
+    /// of again.
     pub fn drives(&self) -> &[Drive]
         ensures value { result.now ≡ self.now.drives }
         ensures sound { IsSound self.now }

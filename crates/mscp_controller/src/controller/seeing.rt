@@ -9,8 +9,8 @@ use mscp_drive::Connection;
 use mscp_queue::{Holder, Picker, Upcoming};
 
 impl<K: Picker> Controller<K> {
-    /// How many credits of the connection are free: each of its waiting commands and of its untaken ends holds one (manual,
-    /// "Flow Control").
+    /// How many credits of the connection are free: each of its waiting commands and of its untaken ends holds one
+    /// (manual, "Flow Control").
     pub fn balance(&self, connection: Connection) -> u32
         ensures value { result ≡ balance_of connection self.now }
         ensures account { result + length (waiting_on connection self.now.waiting)
@@ -45,8 +45,8 @@ impl<K: Picker> Controller<K> {
         self.queue.is_online(unit)
     }
 
-    /// The figure of the waiting command of the connection with the reference number, 0 if there is none: how many steps it
-    /// may still wait, at most.
+    /// The figure of the waiting command of the connection with the reference number, 0 if there is none: how many
+    /// steps it may still wait, at most.
     pub fn figure(&self, connection: Connection, reference: u32) -> u32
         ensures value { result
             ≡ figure_of_name self.now.settings.budget self.now.waiting (name_on connection reference) }
@@ -55,8 +55,8 @@ impl<K: Picker> Controller<K> {
         self.queue.figure(connection, reference)
     }
 
-    /// The place of the waiting command of the connection with the reference number, in order of arrival, if it waits. No
-    /// other has its name.
+    /// The place of the waiting command of the connection with the reference number, in order of arrival, if it waits.
+    /// No other has its name.
     pub fn place_of(&self, connection: Connection, reference: u32) -> Option<usize>
         ensures place { result ≡ position (has_name (name_on connection reference)) self.now.waiting }
         ensures others { IfSome result (λ place.
@@ -86,8 +86,9 @@ impl<K: Picker> Controller<K> {
         self.queue.serving()
     }
 
-    /// What the last `begin` told, if what it began is begun still: no step, no reset and no ABORT of that command came since.
-    /// Its unit is one of the settings, and the block that the step touches, if it touches one, is a block of that.
+    /// What the last `begin` told, if what it began is begun still: no step, no reset and no ABORT of that command came
+    /// since. Its unit is one of the settings, and the block that the step touches, if it touches one, is a block of
+    /// that.
     pub fn upcoming(&self) -> Option<Upcoming>
         ensures value { result ≡ begun_step self.now }
         ensures unit { IfSome result (λ u. IsOfUnit self.now.settings.units u) }

@@ -49,8 +49,8 @@ fn first_line(bytes: &[u8]) -> Right
 }
 
 impl<A: Allocator> Judge<A> {
-    /// What would be right next: the first line of what is due. If a step is missing, it is answered first, and the oldest
-    /// command starts that may. It is empty where no answer is right.
+    /// What would be right next: the first line of what is due. If a step is missing, it is answered first, and the
+    /// oldest command starts that may. It is empty where no answer is right.
     pub fn right(&mut self) -> Result<Right, OutOfMemory>
         requires { self.old.reporter.count + 1 < 2 ^ 64 }
         ensures { IfOk result (λ right. (c : Settings) (log : Log) (wanted : Option named.Named)
@@ -117,7 +117,8 @@ impl<A: Allocator> Judge<A> {
     /// Keeps what may start, if the line of the next step breaks this rule and names a command that may not.
     fn keep_starts(&mut self, rule: &Rule)
         ensures kept { self.new ≡ record self.old { starts = self.new.starts } }
-        ensures starts { rule.now ≢ Rule.Service → rule.now ≢ Rule.Idle → (c : Settings) (t : Trace) (begun : Wanted) → IsValid c
+        ensures starts { rule.now ≢ Rule.Service → rule.now ≢ Rule.Idle
+            → (c : Settings) (t : Trace) (begun : Wanted) → IsValid c
             → Led (fresh c begun) t self.old.controller → self.new.starts.items ≡ starts_in c t }
         ensures count { self.new.reporter.count ≡ self.old.reporter.count }
         ensures owed { self.new.owed ≡ self.old.owed }
@@ -138,8 +139,8 @@ impl<A: Allocator> Judge<A> {
         replace(&mut self.starts, Starts::new())
     }
 
-    /// The rule that the line of these words breaks, if it isn't what the next step answers, and what may start is kept. If
-    /// the rule isn't wanted it is any, which is quicker.
+    /// The rule that the line of these words breaks, if it isn't what the next step answers, and what may start is
+    /// kept. If the rule isn't wanted it is any, which is quicker.
     fn rule_ahead(&mut self, words: Words<'_>, wanted: Option<Named>, is_rule_wanted: bool) -> Rule
         requires { wanted ≡ naming.name_in (lexical.words words.rest.now) }
         ensures idle { is_rule_wanted ≡ true → is_service (lexical.words words.entry.rest.now) ≡ false
@@ -177,7 +178,8 @@ impl<A: Allocator> Judge<A> {
         requires answer { is_answer (lexical.words line.now) ≡ true }
         requires printed { list_all lexical.is_printed line.now ≡ true }
         ensures tells { IfOk result (λ broken. (c : Settings) (log : Log) → Stands c log self.old
-            → Tells c log (telling log (line.now ++ 10 ∷ [])) (naming.name_in (lexical.words line.now)) self.new broken) }
+            → Tells c log (telling log (line.now
+            ++ 10 ∷ [])) (naming.name_in (lexical.words line.now)) self.new broken) }
         ensures breaks { is_rule_wanted ≡ true
             → IfOk result (λ broken. Breaks self.old line.now broken self.new.starts.items) }
         ensures count { OnOk result (self.new.reporter.count + self.new.owed
@@ -192,8 +194,8 @@ impl<A: Allocator> Judge<A> {
         Ok(Some(rule))
     }
 
-    /// A line tells an answer: the rule that it breaks, or any if that isn't wanted; or that a legal log goes on so. The
-    /// words are those of the line.
+    /// A line tells an answer: the rule that it breaks, or any if that isn't wanted; or that a legal log goes on so.
+    /// The words are those of the line.
     pub fn hear(
         &mut self,
         line: &[u8],
@@ -205,7 +207,8 @@ impl<A: Allocator> Judge<A> {
         requires answer { is_answer (lexical.words line.now) ≡ true }
         requires printed { list_all lexical.is_printed line.now ≡ true }
         ensures tells { IfOk result (λ broken. (c : Settings) (log : Log) → Stands c log self.old
-            → Tells c log (telling log (line.now ++ 10 ∷ [])) (naming.name_in (lexical.words line.now)) self.new broken) }
+            → Tells c log (telling log (line.now
+            ++ 10 ∷ [])) (naming.name_in (lexical.words line.now)) self.new broken) }
         ensures breaks { is_rule_wanted ≡ true
             → IfOk result (λ broken. Breaks self.old line.now broken self.new.starts.items) }
         ensures count { OnOk result (self.new.reporter.count + self.new.owed

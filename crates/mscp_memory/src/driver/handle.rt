@@ -4,8 +4,8 @@ ghost use Rattle.mscp_memory.specs.DriverHandles.{Held};
 
 use std::marker::Model;
 
-/// Memory of the caller, and what is in it: by its mark a driver's account, or room for one. A handle of another mark, or on
-/// memory that doesn't fit, owns nothing.
+/// Memory of the caller, and what is in it: by its mark a driver's account, or room for one. A handle of another mark,
+/// or on memory that doesn't fit, owns nothing.
 #[repr(C)]
 pub struct Handle {
     pub(crate) at: *mut u8,

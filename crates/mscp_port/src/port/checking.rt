@@ -12,8 +12,8 @@ use crate::volumes::Volume;
 use mscp_packet::MoveKind;
 use mscp_queue::{Picker, Upcoming};
 
-/// The part of its command's buffer that a step is about which moves this block so, behind so many others, or how it goes that
-/// may not go on. This is kept of its command, and its unit has this volume now.
+/// The part of its command's buffer that a step is about which moves this block so, behind so many others, or how it
+/// goes that may not go on. This is kept of its command, and its unit has this volume now.
 pub(crate) fn part_with(
     kind: MoveKind,
     block: u32,
@@ -37,8 +37,8 @@ pub(crate) fn part_with(
 }
 
 impl<K: Picker> Port<K> {
-    /// The step that the controller has begun, with how it moves a block, and which, if it moves one. The block is one of its
-    /// unit's.
+    /// The step that the controller has begun, with how it moves a block, and which, if it moves one. The block is one
+    /// of its unit's.
     pub(crate) fn block_begun(&self) -> Option<(Upcoming, MoveKind, u32)>
         ensures value { result ≡ block_begun self.now }
         ensures block { IfSome result (λ m.
@@ -49,7 +49,8 @@ impl<K: Picker> Port<K> {
         Some((upcoming, kind, block))
     }
 
-    /// The part of its command's buffer that a step is about which moves this block so, or how it goes that may not go on.
+    /// The part of its command's buffer that a step is about which moves this block so, or how it goes that may not go
+    /// on.
     pub(crate) fn part(
         &self,
         upcoming: &Upcoming,

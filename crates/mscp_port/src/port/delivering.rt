@@ -105,8 +105,8 @@ impl<K: Picker> Port<K> {
         })
     }
 
-    /// How many credits what goes out gives the host: the one that an end gives back, and with an end of the disk's those
-    /// that it wasn't told yet.
+    /// How many credits what goes out gives the host: the one that an end gives back, and with an end of the disk's
+    /// those that it wasn't told yet.
     pub(crate) fn credits_told(&self) -> u8
         ensures value { result ≡ credits_told self.now }
         ensures few { result ≤ 15 }

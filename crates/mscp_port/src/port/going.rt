@@ -1,4 +1,10 @@
 // How what the port wanted done went.
+//
+// A report by serial counts only while the block is in hand. If that was put aside something else may be wanted
+// meanwhile, whose report comes first: so its holder asks `next` again once the disk is done. A serial is that of the
+// step which the controller has begun, and stays while that is begun, also if its block is put aside, or its volume is
+// protected for a while: so a disk that is at the block needn't begin anew. A reset leaves the count, and a save has
+// it.
 
 ghost use Rattle.std.specs.Prelude.{◌≡◌, ◌⊎◌, ◌↔◌, ◌+◌, ◌%◌, if◌then◌else◌, ◌==◌, Contains, IfSome, IsOk, IsTrue, MatchOption, None};
 ghost use Rattle.mscp_port.specs.Common.{ChangesByWord, Responses, Clears, GivesBack, counted, vector_in, Dies, Goes, GoesBy, TakesStep, IsAsNew, IsOutcomeOf, in_hand};
@@ -17,8 +23,11 @@ use crate::task::Task;
 use mscp_queue::Picker;
 
 impl<K: Picker> Port<K> {
-    /// An action that isn't a read went so; or a read failed so. An error where nothing was wanted, or where a read is told
-    /// to be done without its bytes.
+    /// An action that isn't a read went so; or a read failed so.
+    ///
+    /// # Errors
+    ///
+    /// `Unasked`, and nothing changes, if nothing was wanted, or if a read is told to be done without its bytes.
     #[inline(always)]
     pub fn went(&mut self, outcome: Outcome) -> Result<(), Unasked>
         ensures { Goes (K.picks self.old.controller.picker) outcome self.old result self.new }
@@ -44,9 +53,13 @@ impl<K: Picker> Port<K> {
         Ok(())
     }
 
-    /// The block of this serial went so, which `next` told: for a disk that takes its time. An error, and nothing changes, if the
-    /// port doesn't want that block now: its command was aborted, say, and another one has its number. One that was put aside
-    /// is in hand again once `next` has told it.
+    /// The block of this serial went so, which `next` told: for a disk that takes its time. One that was put aside is
+    /// in hand again once `next` has told it.
+    ///
+    /// # Errors
+    ///
+    /// `Unasked`, and nothing changes, if the port doesn't want that block now: its command was aborted, say, and
+    /// another one has its number.
     pub fn went_by(&mut self, serial: u64, outcome: Outcome) -> Result<(), Unasked>
         ensures { GoesBy (K.picks self.old.controller.picker) serial outcome self.old result self.new }
     {

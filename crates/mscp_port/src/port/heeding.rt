@@ -21,9 +21,9 @@ use mscp_queue::{Block, Connection, Picker};
 /// The modifier by which a host sets or clears its write protection.
 const SETS_PROTECTION: u16 = 0x0004;
 
-/// What the Success of a command to a unit means for its volume: ONLINE brings the unit online with it, and its host needs no
-/// news of it then; AVAILABLE takes it offline; ONLINE and SET UNIT CHARACTERISTICS set its write protection, if their modifier
-/// says so.
+/// What the Success of a command to a unit means for its volume: ONLINE brings the unit online with it, and its host
+/// needs no news of it then; AVAILABLE takes it offline; ONLINE and SET UNIT CHARACTERISTICS set its write protection,
+/// if their modifier says so.
 fn heed_unit(volume: &mut Volume, code: u8, buffer: Option<Buffer>)
     ensures { volume.new ≡ volume_heeded code buffer volume.old }
 {
@@ -45,8 +45,8 @@ fn heed_unit(volume: &mut Volume, code: u8, buffer: Option<Buffer>)
     }
 }
 
-/// What an end says that was made as a message came and is told with this endcode, where its unit, if there is such a unit, has
-/// this volume.
+/// What an end says that was made as a message came and is told with this endcode, where its unit, if there is such a
+/// unit, has this volume.
 fn answer_decided(code: u8, end: &End, units: &Units, flags: u16, volume: &Volume) -> Decided
     ensures { result ≡ answer_decided code units.now flags volume.now end.now }
 {
@@ -95,8 +95,8 @@ impl<K: Picker> Port<K> {
         }
     }
 
-    /// Decides what the end of a step says that went so, which is told with this endcode, and to whose unit, at this place, this
-    /// volume belonged before it was heeded.
+    /// Decides what the end of a step says that went so, which is told with this endcode, and to whose unit, at this
+    /// place, this volume belonged before it was heeded.
     fn decide_step(
         &mut self,
         connection: Connection,
@@ -121,8 +121,8 @@ impl<K: Picker> Port<K> {
         }
     }
 
-    /// A step brought the end of a command, and went so: what is kept of it is heeded if it had Success, and forgotten, and what
-    /// the end says is decided.
+    /// A step brought the end of a command, and went so: what is kept of it is heeded if it had Success, and forgotten,
+    /// and what the end says is decided.
     pub(crate) fn command_ended(&mut self, connection: Connection, end: &End, verdict: &Verdict)
         ensures frame { self.new ≡ record self.old {
           buffers = self.new.buffers;

@@ -1,9 +1,7 @@
 // Bytes to a port.
 
 ghost use Rattle.std.specs.Prelude.{◌≡◌, ◌*◌, ◌≤◌, ◌<◌, true, nat_eq, length, take, drop, slice_index, IfNone, IfOk, None};
-ghost use Rattle.mscp_port.specs.Common.{bytes_eq, num, IsSound, parts_in, optional, stage_in, IsFramed, IsSaved, area_in, buffers_in, coded_in, controller_in, controller_place, frame_fault, held_in, hardware_in, is_framed, outgoing_in, port_in, restored, rings_if, text_in, told_front, unless, volume_in, volumes_in, words_in, saved_bytes};
-ghost use Rattle.mscp_port.specs.Decided.{decided_in};
-ghost use Rattle.mscp_port.specs.Restored.{all_decided_in, buffer_in};
+ghost use Rattle.mscp_port.specs.Common.{bytes_eq, num, IsSound, parts_in, optional, stage_in, IsFramed, IsSaved, area_in, buffers_in, coded_in, controller_in, controller_place, frame_fault, held_in, hardware_in, is_framed, outgoing_in, port_in, restored, rings_if, text_in, told_front, unless, volume_in, volumes_in, words_in, saved_bytes, all_decided_in, buffer_in, decided_in};
 
 mod front;
 
@@ -26,8 +24,8 @@ use mscp_saved::{part, resume};
 /// Why bytes are no saved port: the first that holds, in this order.
 #[derive(Clone, Copy)]
 pub enum RestoreFault {
-    /// Fewer bytes than a head and volumes have, or not as many as the head tells, or too few for its parts; or more parts than
-    /// any port has: a text of 48 bytes, 64 commands of which something is kept, and 64 ends that wait.
+    /// Fewer bytes than a head and volumes have, not as many as the head tells, too few for its parts, or more parts
+    /// than any port has: a text of 48 bytes, 64 commands of which something is kept, and 64 ends that wait.
     Length,
     /// They don't begin with "MSCP".
     Magic,
@@ -214,8 +212,7 @@ fn all_decided_in(b: &[u8], count: usize) -> ArrayVec<Decided, 64>
     all
 }
 
-/// Whether there is a head with volumes, and as many bytes as it tells, which are not too few for its parts; and no more of
-/// each part than a port has.
+/// Whether there is a head with volumes, as many bytes as it tells, enough for its parts, and of none too many.
 fn is_framed(b: &[u8]) -> bool
     ensures value { result ≡ is_framed b.now }
     ensures framed { result ≡ true → IsFramed b.now }
@@ -223,8 +220,7 @@ fn is_framed(b: &[u8]) -> bool
     if b.len() < 370 {
         return false;
     }
-    let (text, buffers) = (usize::from(b[71]), usize::from(b[72]));
-    let decided = usize::from(b[73]);
+    let (text, buffers, decided) = (usize::from(b[71]), usize::from(b[72]), usize::from(b[73]));
     four_at(b, 8) as usize == b.len()
         && text <= 48
         && buffers <= 64
@@ -377,9 +373,12 @@ impl<K: Picker> Port<K> {
         resume(&mut self.controller, controller_bytes(bytes));
     }
 
-    /// The port that bytes say, with this picker, whose number has to be that which it was saved with, if they are the bytes
-    /// that the port is saved as; or why they aren't. So whatever bytes come: what is restored is a port over a controller
-    /// that keeps each promise of one. What it heard before only who saved it knows.
+    /// The port that was saved as these bytes, with this picker, whose number has to be that which it was saved with.
+    /// It is a port whatever bytes come; what it heard before only who saved it knows.
+    ///
+    /// # Errors
+    ///
+    /// The first fault, in the order of `RestoreFault`, if they aren't.
     pub fn restore(bytes: &[u8], number: u8, picker: K) -> Result<Port<K>, RestoreFault>
     where
         K: Drop,

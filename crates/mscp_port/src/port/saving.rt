@@ -309,8 +309,8 @@ impl<K: Picker> Port<K> {
         self.controller.picker()
     }
 
-    /// All of it but the picker, as bytes, at most `ROOM`. The picker is told by a number, which is the caller's. What is the
-    /// same port has the same bytes, and `restore` makes the same port of them again.
+    /// All of it but the picker, as bytes, at most `ROOM`. The picker is told by a number, which is the caller's. What
+    /// is the same port has the same bytes, and `restore` makes the same port of them again.
     pub fn save(&self, number: u8) -> ArrayVec<u8, ROOM>
         ensures bytes { result.items ≡ saved_bytes number self.now }
         ensures back { restored number self.now.controller.picker result.items ≡ Ok self.now }

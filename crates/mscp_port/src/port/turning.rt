@@ -42,8 +42,8 @@ fn number_before(rings: &Rings, side: Side, number: u32) -> u32
 }
 
 impl<K: Picker> Port<K> {
-    /// What the port wants done next. Until it is told how that went it answers the same, unless a register is touched. If
-    /// messages alone are asked for, a block that is in hand is put aside.
+    /// What the port wants done next. Until it is told how that went it answers the same, unless a register is touched.
+    /// If messages alone are asked for, a block that is in hand is put aside.
     pub fn next(&mut self, ask: Ask) -> Action
         ensures { Wants (K.picks (asked ask self.old).controller.picker) (asks_blocks ask) (asked ask self.old) result
             self.new }
@@ -156,8 +156,8 @@ impl<K: Picker> Port<K> {
         self.choose_block()
     }
 
-    /// Whether a block comes before the next message: a poll was heard and no block was told since, one may be served, and blocks
-    /// are asked for. So a host that polls at once again can't keep its own commands back.
+    /// Whether a block comes before the next message: a poll was heard and no block was told since, one may be served,
+    /// and blocks are asked for. So a host that polls at once again can't keep its own commands back.
     fn block_is_due(&self, ask: Ask) -> bool
         ensures { result ≡ block_is_due (asks_blocks ask) self.now }
     {

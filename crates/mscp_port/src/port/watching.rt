@@ -15,6 +15,10 @@ pub struct NoUnit;
 
 impl<K: Picker> Port<K> {
     /// A volume came into a unit. One that was there before is gone.
+    ///
+    /// # Errors
+    ///
+    /// `NoUnit` if no unit has this number, else `Size` if the volume has no blocks, or more than the unit.
     pub fn volume_came(&mut self, unit: u16, medium: Medium) -> Result<(), VolumeFault>
         ensures { PutsIn medium unit self.old result self.new }
     {
@@ -37,8 +41,8 @@ impl<K: Picker> Port<K> {
         }
     }
 
-    /// A step in hand was decided with the volumes that were there: it is taken in hand anew. So what is told of a block counts
-    /// only if it was wanted with the volume as it is now.
+    /// A step in hand was decided with the volumes that were there: it is taken in hand anew. So what is told of a
+    /// block counts only if it was wanted with the volume as it is now.
     fn take_anew(&mut self)
         ensures { self.new ≡ record self.old { task = step_again self.old.task } }
     {
@@ -48,6 +52,10 @@ impl<K: Picker> Port<K> {
     }
 
     /// The volume of a unit went.
+    ///
+    /// # Errors
+    ///
+    /// `NoUnit` if no unit has this number.
     pub fn volume_went(&mut self, unit: u16) -> Result<(), NoUnit>
         ensures { Changes (volume_changed false) unit self.old result self.new }
     {
@@ -59,8 +67,12 @@ impl<K: Picker> Port<K> {
         Ok(())
     }
 
-    /// Nothing may be written on the volume of a unit from now on, or something may again. It stays the same volume to its host.
-    /// Of a unit without a volume nothing is kept.
+    /// Nothing may be written on the volume of a unit from now on, or something may again. It stays the same volume to
+    /// its host. Of a unit without a volume nothing is kept.
+    ///
+    /// # Errors
+    ///
+    /// `NoUnit` if no unit has this number.
     pub fn protect(&mut self, unit: u16, is_protected: bool) -> Result<(), NoUnit>
         ensures { Changes (volume_protected is_protected) unit self.old result self.new }
     {
@@ -84,9 +96,9 @@ impl<K: Picker> Port<K> {
             && self.controller.untaken(Connection::First) == 0
     }
 
-    /// The host may have given a slot of the ring of responses to the port, of which nothing tells: the port looks at it again,
-    /// if something is to go out. A slot that is being read is read again. Where the machine has time for the disk it is called
-    /// before `next`.
+    /// The host may have given a slot of the ring of responses to the port, of which nothing tells: the port looks at
+    /// it again, if something is to go out. A slot that is being read is read again. Where the machine has time for the
+    /// disk it is called before `next`.
     pub fn look_again(&mut self)
         ensures { LooksAgain self.old self.new }
     {
@@ -107,9 +119,9 @@ impl<K: Picker> Port<K> {
         }
     }
 
-    /// A second went by: the port looks at the ring of responses again, and a host that was silent for longer than its timeout
-    /// is taken for dead. A part of a second that had gone by when it last was heard isn't held against it, and nothing is
-    /// before its first command.
+    /// A second went by: the port looks at the ring of responses again, and a host that was silent for longer than its
+    /// timeout is taken for dead. A part of a second that had gone by when it last was heard isn't held against it, and
+    /// nothing is before its first command.
     pub fn tick(&mut self)
         ensures { Ticks self.old self.new }
     {

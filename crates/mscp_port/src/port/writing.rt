@@ -52,8 +52,8 @@ fn connection_of(kind: OutgoingKind) -> u8
 }
 
 impl<K: Picker> Port<K> {
-    /// The bytes that are to be written to host memory, if the action that `next` told last is to write some: as many as it
-    /// says.
+    /// The bytes that are to be written to host memory, if the action that `next` told last is to write some: as many
+    /// as it says.
     pub fn bytes(&self) -> ArrayVec<u8, 64>
         ensures { result.items ≡ bytes_wanted self.now self.now.task }
     {

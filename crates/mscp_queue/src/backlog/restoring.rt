@@ -23,8 +23,8 @@ fn left_in_service(records: &[Record]) -> u64
     left
 }
 
-/// The due of the record at the clock 0, where so many steps are left of those before it, and so many of one in service behind
-/// it.
+/// The due of the record at the clock 0, where so many steps are left of those before it, and so many of one in service
+/// behind it.
 fn due_of(budget: u32, before: u64, behind: u64, record: &Record) -> u64
     requires before { before ≤ 64 * 2 ^ 32 }
     requires behind { behind ≤ 64 * 2 ^ 32 }
@@ -33,8 +33,8 @@ fn due_of(budget: u32, before: u64, behind: u64, record: &Record) -> u64
     before + behind + u64::from(budget.saturating_sub(record.passed())) + u64::from(record.left())
 }
 
-/// The commands of these records wait from now on, each as it stands there, in slots none of which was taken, where each
-/// may be passed by `budget` blocks and the clock stands at 0. How many steps are left of all.
+/// The commands of these records wait from now on, each as it stands there, in slots none of which was taken, where
+/// each may be passed by `budget` blocks and the clock stands at 0. How many steps are left of all.
 fn fill(slots: &mut Slots, budget: u32, records: &[Record], drives: &[Drive]) -> u64
     requires free { slots.old ≡ [] }
     requires few { length records.now ≤ 64 }
@@ -62,8 +62,8 @@ fn fill(slots: &mut Slots, budget: u32, records: &[Record], drives: &[Drive]) ->
 }
 
 impl Backlog {
-    /// The commands of these records wait from now on, each as it stands there, in the slots where they lie: no others are
-    /// made.
+    /// The commands of these records wait from now on, each as it stands there, in the slots where they lie: no others
+    /// are made.
     pub fn restore(&mut self, records: &[Record], drives: &[Drive])
         requires few { length records.now ≤ 64 }
         requires drives { length drives.now ≤ 16 }

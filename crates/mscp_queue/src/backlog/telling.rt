@@ -1,5 +1,5 @@
-// What is told of each waiting command: by how many blocks it was passed, and how long it may still wait. Its due, the clock
-// and what it waits for tell both.
+// What is told of each waiting command: by how many blocks it was passed, and how long it may still wait. Its due, the
+// clock and what it waits for tell both.
 
 ghost use Rattle.std.specs.Prelude.{◌≡◌, ◌+◌, ◌-◌, ◌*◌, ◌<◌, ◌≤◌, ◌^◌, true, length, map, take, drop, sum_by, All};
 ghost use Rattle.mscp_queue.specs.Common.{figure_at, figures, left_if_serving, left_of, record_at};
@@ -87,8 +87,8 @@ impl Backlog {
         }
     }
 
-    /// What the oldest command has left of the budget, where none is in service: by so many blocks may it still be passed.
-    /// Who came earlier was passed at least as often, so that this tells it for all.
+    /// What the oldest command has left of the budget, where none is in service: by so many blocks may it still be
+    /// passed. Who came earlier was passed at least as often, so that this tells it for all.
     pub fn unspent(&self) -> u32
         requires some { 0 < length self.now.waiting }
         requires idle { All (λ r. r.done ≡ 0) self.now.waiting }
@@ -97,8 +97,8 @@ impl Backlog {
         (self.slots.due(0) - self.clock - u64::from(self.slots.item(0).left())) as u32
     }
 
-    /// Connection, reference number and figure of each command, in order of arrival. It isn't made part of its caller, since
-    /// the caller's caller would then have room for a list more than once on its stack.
+    /// Connection, reference number and figure of each command, in order of arrival. It isn't made part of its caller,
+    /// since the caller's caller would then have room for a list more than once on its stack.
     #[inline(never)]
     pub fn look(&self) -> ArrayVec<(Connection, u32, u32), 64>
         requires few { length self.now.waiting ≤ 64 }

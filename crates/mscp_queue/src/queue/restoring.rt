@@ -28,8 +28,8 @@ fn place_begun(backlog: &Backlog, begun: Option<Name>) -> Option<usize>
 }
 
 impl<K: Picker> Queue<K> {
-    /// These commands wait from now on, on these drives, and the one of this name is begun, if one is named. What was there
-    /// before is forgotten, but for the limits and the picker.
+    /// These commands wait from now on, on these drives, and the one of this name is begun, if one is named. What was
+    /// there before is forgotten, but for the limits and the picker.
     #[inline(never)]
     pub fn restore(&mut self, records: &[Record], drives: ArrayVec<Drive, 16>, begun: Option<Name>)
         requires held { IsHeld self.old.room self.old.budget self.old.longest records.now drives.items begun true }
@@ -55,7 +55,8 @@ impl<K: Picker> Queue<K> {
         self.backlog.told(place)
     }
 
-    /// The drives, in the order of their units. With what else is seen of the queue they are what one can be made of again.
+    /// The drives, in the order of their units. With what else is seen of the queue they are what one can be made of
+    /// again.
     pub fn drives(&self) -> &[Drive]
         ensures value { result.now ≡ self.now.drives }
         ensures held { IsHeld self.now.room self.now.budget self.now.longest self.now.waiting self.now.drives

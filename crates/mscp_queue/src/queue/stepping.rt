@@ -1,4 +1,9 @@
 // What a queue serves next, and its steps.
+//
+// `begin` marks the command that it names, and that choice is kept until a step is served, or the command leaves: a
+// picker that is asked twice may answer twice. So `finish` fails without a `begin` before it, and `step` serves what
+// was begun. A finish names the command and not the block. Who may finish late, as a disk on a thread, has to know by
+// something else which begin it was of: that is the serial of a port, and of `mscp_tracked`.
 
 ghost use Rattle.std.specs.Prelude.{◌≡◌, ◌<◌, [], cond, false, length, nat_lt, IfNone, IfSome, None, Some};
 ghost use Rattle.mscp_queue.specs.Common.{IsOfKind, IsOfUnit, place_served, units_of, Begins, BeginsAt, Serves, ServesAt, drive_at, record_at, IsNext, end_in, upcoming_begun, upcoming_of};
@@ -73,7 +78,8 @@ impl<K: Picker> Queue<K> {
 
     /// Begins the record at the place.
     fn begin_at(&mut self, place: usize) -> Upcoming
-        requires { IsNext (K.picks self.old.picker) self.old.budget self.old.drives self.old.waiting self.old.begun place }
+        requires { IsNext (K.picks self.old.picker) self.old.budget self.old.drives self.old.waiting
+            self.old.begun place }
         ensures begins { BeginsAt (K.picks self.old.picker) self.old result self.new place }
         ensures again { upcoming_begun self.new.drives self.new.waiting self.new.begun ≡ Some result }
     {
@@ -82,8 +88,8 @@ impl<K: Picker> Queue<K> {
         upcoming
     }
 
-    /// What the next step serves, if a command waits. Where nothing is in service and nothing was begun the picker picks
-    /// it, and its choice is kept: until a step, a reset, or an abort of that command, this answers the same.
+    /// What the next step serves, if a command waits. Where nothing is in service and nothing was begun the picker
+    /// picks it, and its choice is kept: until a step, a reset, or an abort of that command, this answers the same.
     #[inline(always)]
     pub fn begin(&mut self) -> Option<Upcoming>
         ensures begins { Begins (K.picks self.old.picker) self.old result self.new }
@@ -93,7 +99,8 @@ impl<K: Picker> Queue<K> {
         Some(self.begin_at(place))
     }
 
-    /// What the last begin told, if what it began is begun still: neither served nor aborted since, nor the queue reset.
+    /// What the last begin told, if what it began is begun still: neither served nor aborted since, nor the queue
+    /// reset.
     pub fn upcoming(&self) -> Option<Upcoming>
         ensures value { result ≡ upcoming_begun self.now.drives self.now.waiting self.now.begun }
         ensures unit { IfSome result (λ u. IsOfUnit (units_of self.now.drives) u) }
@@ -105,7 +112,8 @@ impl<K: Picker> Queue<K> {
     /// Serves a block, with this outcome, to the record at the place: what the plan says is written, and reported.
     #[inline(always)]
     fn serve_at(&mut self, place: usize, block: &Block) -> Report
-        requires { IsNext (K.picks self.old.picker) self.old.budget self.old.drives self.old.waiting self.old.begun place }
+        requires { IsNext (K.picks self.old.picker) self.old.budget self.old.drives self.old.waiting
+            self.old.begun place }
         ensures served { ServesAt (K.picks self.old.picker) block.now self.old result self.new place }
         ensures shaped { IfSome (end_in result) IsOfKind }
         ensures units { units_of self.new.drives ≡ units_of self.old.drives }
@@ -124,8 +132,8 @@ impl<K: Picker> Queue<K> {
         plan.report(&record)
     }
 
-    /// Serves one block, with this outcome, if a command waits: to what was begun, or else to the command in service, or
-    /// to one that the picker picks of those that may start. The end that it brings has the body of its endcode.
+    /// Serves one block, with this outcome, if a command waits: to what was begun, or else to the command in service,
+    /// or to one that the picker picks of those that may start. The end that it brings has the body of its endcode.
     #[inline(always)]
     pub fn serve(&mut self, block: Block) -> Report
         ensures served { Serves (K.picks self.old.picker) block self.old result self.new }

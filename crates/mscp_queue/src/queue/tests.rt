@@ -10,8 +10,8 @@ use mscp_drive::{Block, Unit};
 use mscp_packet::MoveKind;
 use std::process::Abort;
 
-/// A queue by the sweep, of unit 0, which is online and has 1000 blocks, 20 blocks a cylinder, whose clock stands so. Each
-/// command may be passed by one block.
+/// A queue by the sweep, of unit 0, which is online and has 1000 blocks, 20 blocks a cylinder, whose clock stands so.
+/// Each command may be passed by one block.
 fn queue(rt: &impl Abort, clock: u64) -> Queue<Sweep>
     requires { clock < clock_end }
     ensures room { result.room ≡ 4 }

@@ -27,7 +27,8 @@ fn content(reference: u32) -> Content
     }
 }
 
-// Slots count from 0. The command that comes last takes slot 1, which the second left; that of the third stays where it is.
+// Slots count from 0. The command that comes last takes slot 1, which the second left; that of the third stays where it
+// is.
 #[test]
 fn a_command_takes_the_lowest_free_slot(rt: HostRuntime) {
     let mut slots = Slots::new();

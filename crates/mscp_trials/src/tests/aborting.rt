@@ -45,7 +45,8 @@ fn no_abort_raises_a_figure(rt: HostRuntime) {
     }
 }
 
-/// This command of the first connection is in service, or none of it, and the most blocks by which a command was passed are so many.
+/// This command of the first connection is in service, or none of it, and the most blocks by which a command was passed
+/// are so many.
 fn is_serving(rt: &impl Abort, trial: &Trial<Sweep>, serving: Option<u32>, passed: u32) {
     let told = match trial.controller.serving() {
         Some((Connection::First, reference)) => Some(reference),

@@ -1,5 +1,5 @@
-// What a test asserts. Each assertion stands here once: it costs the prover a second or two wherever it stands, and a call of
-// these next to nothing.
+// What a test asserts. Each assertion stands here once: it costs the prover a second or two wherever it stands, and a
+// call of these next to nothing.
 
 ghost use Rattle.std.specs.Prelude.{IsTrue};
 

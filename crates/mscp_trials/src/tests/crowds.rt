@@ -22,8 +22,8 @@ pub fn one_of_many(reference: u32) -> Command {
     }
 }
 
-/// A controller of four units that are online, to which commands 1 to 63 came. Each may be passed by three of the longest
-/// transfers.
+/// A controller of four units that are online, to which commands 1 to 63 came. Each may be passed by three of the
+/// longest transfers.
 pub fn full<K: Picker>(rt: &impl Abort, picker: K) -> Trial<K> {
     let four = [unit(rt, 0), unit(rt, 1), unit(rt, 2), unit(rt, 3)];
     let mut trial = Trial::new(limits(rt, (64, 0), 24, &four), picker);

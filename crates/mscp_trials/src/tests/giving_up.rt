@@ -1,5 +1,5 @@
-// No call says that memory is wanted where there is some: not where there is nothing to do, not for any opcode or length,
-// and not at any count of events or turns.
+// No call says that memory is wanted where there is some: not where there is nothing to do, not for any opcode or
+// length, and not at any count of events or turns.
 
 use super::HEADER;
 use super::messages::{TABLE, message};

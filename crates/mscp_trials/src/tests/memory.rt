@@ -1,5 +1,6 @@
-// Memory that is refused: at the first request of a call, at the second, and so on, until a run asks less often than that.
-// Each refusal is told, and nothing is kept of what was handed out before it. The last run gives what the call promises.
+// Memory that is refused: at the first request of a call, at the second, and so on, until a run asks less often than
+// that. Each refusal is told, and nothing is kept of what was handed out before it. The last run gives what the call
+// promises.
 
 use super::first::{REPORT, SCRIPT};
 use super::moments::event_of;

@@ -66,9 +66,9 @@ fn serves(rt: &impl Abort, budget: u32, order: [u32; 4])
     same(rt, served(&mut queue), None);
 }
 
-// Where each may be passed by one block, the start of 4 passes 1, 2 and 3, and then none of them may be passed any more.
-// So from then on the oldest alone may start: 1, and then 2, since 3 would pass it by a second block. The unit is available,
-// and each transfer ends in its first step.
+// Where each may be passed by one block, the start of 4 passes 1, 2 and 3, and then none of them may be passed any
+// more. So from then on the oldest alone may start: 1, and then 2, since 3 would pass it by a second block. The unit is
+// available, and each transfer ends in its first step.
 #[test]
 fn a_start_passes_every_earlier_command(rt: HostRuntime) {
     let rt = &rt;

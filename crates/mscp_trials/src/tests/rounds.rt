@@ -60,8 +60,8 @@ impl Trial<Newest> {
         }
     }
 
-    /// Empties them, with the head here, and answers where it is then. The figure of the first is its own blocks and the
-    /// budget less the blocks of those that passed it. An end of each is taken.
+    /// Empties them, with the head here, and answers where it is then. The figure of the first is its own blocks and
+    /// the budget less the blocks of those that passed it. An end of each is taken.
     fn empty(&mut self, rt: &impl Abort, from: u32) -> u32 {
         let mut head = from;
         for passed in 0..PLACES {

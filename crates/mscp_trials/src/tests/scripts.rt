@@ -1,5 +1,5 @@
-// Scripts at their limits, and scripts that mean no good: what is said of each is the same whether its events are listed or
-// run as they are read.
+// Scripts at their limits, and scripts that mean no good: what is said of each is the same whether its events are
+// listed or run as they are read.
 
 use super::HEADER;
 use super::first::{REPORT, SCRIPT};

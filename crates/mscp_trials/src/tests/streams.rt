@@ -124,8 +124,8 @@ pub(super) fn is_told(rt: &(impl Abort + AllocGlobal), script: &[u8], wanted: &[
     holds(rt, text.as_slice() == wanted);
 }
 
-/// By a reader and a writer of so many bytes a call, which fail at these calls, the first script has a fault of this text,
-/// or none, and this is written.
+/// By a reader and a writer of so many bytes a call, which fail at these calls, the first script has a fault of this
+/// text, or none, and this is written.
 fn comes_to(
     rt: &(impl Abort + AllocGlobal),
     read: (usize, usize),

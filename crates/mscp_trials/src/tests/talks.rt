@@ -12,8 +12,8 @@ use mscp_packet::{Command, End, Order};
 use mscp_sim::{Heard, Talk, Turn, converse};
 use std::process::Abort;
 
-/// The talk of these turns with a controller of 4 credits on the first connection and so many on the second, of units 0 and
-/// 300, in which a command may be passed by 16 blocks.
+/// The talk of these turns with a controller of 4 credits on the first connection and so many on the second, of units 0
+/// and 300, in which a command may be passed by 16 blocks.
 fn talk_of(rt: &(impl Abort + AllocGlobal), second: u32, turns: &[Turn]) -> Talk {
     let config = limits(rt, (4, second), 16, &[unit(rt, 0), unit(rt, 300)]);
     converse(rt.alloc(), config, Sweep, turns)

@@ -7,8 +7,8 @@ use mscp_host::News;
 use mscp_packet::write_end;
 use mscp_sim::Heard;
 
-/// A step: whether its command is the second connection's, its number, unit and block, whether it is the first, how many
-/// cylinders the head crosses, and the end that it brings.
+/// A step: whether its command is the second connection's, its number, unit and block, whether it is the first, how
+/// many cylinders the head crosses, and the end that it brings.
 pub type Step = (
     bool,
     u32,

@@ -1,5 +1,5 @@
-// A connection that closes takes its commands away. They are sought from the youngest on, and only while there are some: so
-// what stands behind them is passed, and came later than they did.
+// A connection that closes takes its commands away. They are sought from the youngest on, and only while there are
+// some: so what stands behind them is passed, and came later than they did.
 
 ghost use Rattle.std.specs.Prelude.{◌≡◌, ◌≢◌, ◌<◌, ℕ, false, length};
 ghost use Rattle.mscp_wire.specs.Kept.{cell, is_on, sents, stands};

@@ -1,5 +1,5 @@
-// Each poll of a command hears twice at most that it ended: then it asks nothing more, and isn't counted. So of those that
-// are outstanding none is looked at that asks nothing.
+// Each poll of a command hears twice at most that it ended: then it asks nothing more, and isn't counted. So of those
+// that are outstanding none is looked at that asks nothing.
 
 ghost use Rattle.std.specs.Prelude.{◌≡◌, ◌<◌, length, map, option_map, set};
 ghost use Rattle.mscp_wire.specs.Kept as kept;

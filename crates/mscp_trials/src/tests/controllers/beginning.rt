@@ -46,7 +46,8 @@ fn reported(rt: &impl Abort, report: &Report) -> Step {
     (command, unit, lbn, started, ended.is_some())
 }
 
-/// A step of the first, which is begun, reports what its begin told, twice. The same step of the other reports the same.
+/// A step of the first, which is begun, reports what its begin told, twice. The same step of the other reports the
+/// same.
 fn step_is_told<K: Picker>(rt: &impl Abort, begun: &mut Trial<K>, other: &mut Trial<K>) {
     let upcoming = begun.controller.begin().expect(rt, "a command waits");
     let again = begun.controller.begin().expect(rt, "it is begun");

@@ -122,8 +122,8 @@ fn comes_behind(rt: &impl Abort, moments: &mut Moments) {
     ends(rt, moments, (0, 1023), 1, false, 1);
 }
 
-// Three credits, transfers of at most 2 blocks, and a budget of one such pass, 2 blocks: command 1, which is sent last of
-// the two that may wait, ends at the sixth step after it.
+// Three credits, transfers of at most 2 blocks, and a budget of one such pass, 2 blocks: command 1, which is sent last
+// of the two that may wait, ends at the sixth step after it.
 #[test]
 fn worst_finds_memory(rt: HostRuntime) {
     let rt = &rt;
