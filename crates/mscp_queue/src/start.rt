@@ -164,12 +164,7 @@ fn may_all_pass(backlog: &Backlog, longest: u32) -> bool
 /// Finds the best start on the drive at a place, which is known from then on. It isn't built into its caller, whose
 /// loop over the drives then keeps all that it wants in registers.
 #[inline(never)]
-fn seek_favorite(
-    backlog: &Backlog,
-    drives: &[Drive],
-    at: usize,
-    favorites: &mut Favorites,
-) -> Start
+fn seek_favorite(backlog: &Backlog, drives: &[Drive], at: usize, favorites: &mut Favorites) -> Start
     requires waiting { CanBeShown drives.now backlog.now.waiting backlog.now.targets }
     requires units { IsUnitList (units_of drives.now) }
     requires drive { at < length drives.now }
