@@ -6,9 +6,6 @@ first : (t : Bool) (fault : RestoreFault) (rest : Option RestoreFault)
     → (if not t then Some fault else rest) ≡ None → (t ≡ true) × (rest ≡ None)
 first t fault rest h1 = search (arith, true≢false)
 
-last : (t : Bool) (fault : RestoreFault) → (if t then Some fault else None) ≡ None → t ≡ false
-last t fault h1 = search (arith, true≢false)
-
 -- the same of what no host has
 pub record IsAccount (a : Account) : Type 0 where
   pub spare : length (waiting a.outstanding) < a.credits
@@ -27,4 +24,4 @@ pub record IsHead (b : List ℕ) : Type 0 where
   pub covered : count_in b ≤ num b 12 4
 
 pub head_tells : (b : List ℕ) → head_fault b ≡ None → IsHead b
-head_tells b e = search (arith, first, last, and_parts, leb-true, eqb-true, ltb-false)
+head_tells b e = grind (arith, first, and_parts, leb-true, eqb-true, ltb-false, true≢false)

@@ -8,12 +8,6 @@ use Rattle.mscp_host.proofs.Lists.{filter_all, find_map, find_none}
 abbrev pub NoEnd : History → ℕ → Type 0
 NoEnd h j = end_heard (moment h j) ≡ None
 
-pub none_handed : (h : History) (j : ℕ) → NoEnd h j → handed_over h j ≡ None
-none_handed h j n = find_none _ (outstanding h j) (out_all _ h j (λ x e. ap (λ o. is_end_of (reference h x) o) n))
-
-none_told : (h : History) (j i : ℕ) → NoEnd h j → last_told h (j + 1) i ≡ last_told h j i
-none_told h j i n = search (arith, last_then, none_handed)
-
 pub all_stay : (h : History) (j : ℕ) → NoEnd h j
     → filter (λ i. not (ends_now h j i)) (outstanding h j) ≡ outstanding h j
 all_stay h j n = filter_all _ (outstanding h j) (out_all _ h j (λ x e. ap (λ o. not (is_end_of (reference h x) o)) n))
@@ -36,8 +30,7 @@ stands_then h j p l = stands_of h j (asked_for h p)
 -- what is kept of the commands and of a poll stays
 subs_same : (h : History) (j : ℕ) (xs : List ℕ) → NoEnd h j
     → map (submission_at h (j + 1)) xs ≡ map (submission_at h j) xs
-subs_same h j [] n = refl
-subs_same h j (x ∷ xs) n = search (arith, subs_same h j xs n, none_told)
+subs_same h j o n = grind (arith, last_then, find_none, out_all)
 
 watches_same : (h : History) (j : ℕ) (o : Option ℕ) → NoEnd h j → ((p : ℕ) → o ≡ Some p → p < j)
     → option_map (watch_at h (j + 1)) o ≡ option_map (watch_at h j) o

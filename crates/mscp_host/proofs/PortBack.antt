@@ -14,12 +14,7 @@ names_behind [] = []
 names_behind (x ∷ xs) = xs
 
 with_name : (x : Asked) (y : Submission) → name_of_asked x ≡ name_of_submission y → asked_with y x.bytes ≡ x
-with_name x y e = λ i. record {
-  reference = (sym e i).reference;
-  unit = (sym e i).unit;
-  opcode = (sym e i).opcode;
-  bytes = x.bytes;
-}
+with_name x y e = grind arith
 
 pub names_long : (xs : List Asked) (ys : List Submission) → map name_of_asked xs ≡ map name_of_submission ys
     → length xs ≡ length ys
@@ -55,18 +50,9 @@ sizes_rest (x ∷ xs) t =
 
 -- ---- its head
 
-pub port_saved_long : (p : PortAccount) → length p.asked ≡ length p.account.outstanding
-    → length (port_saved_bytes p) ≡ 42 + 16 * length p.asked
-port_saved_long p same =
-    let sizes = sizes_long p.asked in
-    let host = saved_long p.account in
-    search (arith, sizes, host, same, length-append)
-
 port_head_back : (p : PortAccount) → length p.asked ≡ length p.account.outstanding → length p.asked ≤ 64
     → port_head_fault (port_saved_bytes p) ≡ None
-port_head_back p same few =
-    let long = port_saved_long p same in
-    search (arith, long, four, le-leb, eq-eqb)
+port_head_back p same few = grind (arith, four, le-leb, eq-eqb, sizes_long, saved_long, length-append)
 
 -- ---- what is behind it
 
@@ -80,10 +66,7 @@ host_back p =
 
 pub port_account_back : (p : PortAccount) → map name_of_asked p.asked ≡ map name_of_submission p.account.outstanding
     → HasPortRange p → port_account_in (port_saved_bytes p) p.account ≡ p
-port_account_back p same range =
-    let asked = ap (λ b. asked_in b p.account.outstanding) (head_rest p)
-    ∙ asked_back p.asked p.account.outstanding (saved_bytes p.account) same range.asked in
-    search (arith, asked, two)
+port_account_back p same range = grind (arith, head_rest, asked_back, two)
 
 same_bytes : (b : List ℕ) → bytes_eq b b ≡ true
 same_bytes b = (bytes_eq-Decides b b).1 refl

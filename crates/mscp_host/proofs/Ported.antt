@@ -22,20 +22,10 @@ outstanding_named : (a : Account) (told : Option (ℕ × ℕ))
     → map name_of_submission (outstanding_with a told) ≡ map name_of_submission a.outstanding
 outstanding_named a told = search (arith, told_named)
 
-same_without : (a : Account) (told : Option (ℕ × ℕ)) (r : ℕ) (xs : List Asked)
-    → map name_of_asked xs ≡ map name_of_submission a.outstanding
-    → map name_of_asked (without_by (is_of r) xs) ≡ map name_of_submission (without r (outstanding_with a told))
-same_without a told r xs same =
-    asked_without r xs ∙ (ap (without_by (is_named r)) (same ∙ sym (outstanding_named a told))
-    ∙ sym (submissions_without r (outstanding_with a told)))
-
 pub read_reference : (e : End) → (as_read e).reference ≡ e.reference
 read_reference e = search arith
 
 pub same_ended : (a : Account) (e : End) (xs : List Asked) → map name_of_asked xs ≡ map name_of_submission a.outstanding
     → map name_of_asked (without_by (is_of e.reference) xs)
     ≡ map name_of_submission (received a (as_read e)).outstanding
-same_ended a e xs same =
-    let told = answered a.watch (as_read e) in
-    same_without a told e.reference xs same
-    ∙ ap (λ (r : ℕ). map name_of_submission (without r (outstanding_with a told))) (sym (read_reference e))
+same_ended a e xs same = grind (arith, read_reference, asked_without, outstanding_named, submissions_without)

@@ -57,12 +57,7 @@ told_without r xs apart e =
     (all_without (may xs) r xs e) (none_left r xs apart)
   where
     still : (x : Submission) → may xs x ≡ true → not (has_reference r x) ≡ true → may (without r xs) x ≡ true
-    still x h other = by (is_none x.told) h
-      where
-        by : (b : Bool) → (b || is_oldest x.reference xs) ≡ true → (b || is_oldest x.reference (without r xs)) ≡ true
-        by true h = refl
-        by false h = ap (is_numbered x.reference)
-            (oldest_without r x.reference xs (not-true (has_reference r x) other) h) ∙ h
+    still x h other = grind (arith, oldest_without, not-true)
 
     all_both : (p q t : Submission → Bool) → ((s : Submission) → p s ≡ true → q s ≡ true → t s ≡ true)
         → (ys : List Submission) → list_all p ys ≡ true → list_all q ys ≡ true → list_all t ys ≡ true
