@@ -19,18 +19,7 @@ quiet : {K : Type 0} (c : Settings) (picks : PicksThen) (calls : List Call)
     → IsLegal c (history calls) → service_in entry ≡ None → is_step event ≡ false → IsLeft h h' (history calls) entry
     → (h.begun ≡ None → h'.begun ≡ None) → Holds c picks calls h.begun → Turned c picks calls (Plain event entry) h'
 unfolding block_of
-quiet c picks calls event entry h h' turn legal e s left none holds = search (
-  arith,
-  history_more,
-  waits_below,
-  legal_more,
-  holds_on,
-  command_before,
-  done_kept,
-  connection_before,
-  is_waiting_before,
-  is_online_kept,
-)
+quiet c picks calls event entry h h' turn legal e s left none holds = grind (arith, history_more, waits_below, legal_more, holds_on, command_before, done_kept, connection_before, is_waiting_before, is_online_kept)
 
 -- what is begun after a message
 begun_unless : {K : Type 0} (via : Connection) (h : Holdings K)
@@ -59,8 +48,7 @@ module _ {K : Type 0} (c : Settings) (picks : PicksThen) (calls : List Call) (k 
       } in
       let own = b.1.3 in
       let some = turn.sends.right in
-      let same : some.0 ≡ b.1.1 = one_waits t some.0 b.1.1 a.follows.known.steady.apart some.1.waits own.is.waits
-      (sym (λ i. name_on (some.1.connection i) (some.1.reference i)) ∙ (turn.same n b.0 ∙ sym (name_begun own))) in
+      let same : some.0 ≡ b.1.1 = grind (arith, one_waits, name_begun, t, own, some) in
       let v : IsServed c t k s b.1.1 = subst (IsServed c t k s) same some.1 in
       let told : IsAsTold b.1.0 s = search arith in
       subst (λ u. IsAsTold u s) (sym (own.only up y j is).1) told
@@ -81,10 +69,7 @@ module _ {K : Type 0} (c : Settings) (picks : PicksThen) (calls : List Call) (k 
   unbegun_after : (report : Report) (h h' : Holdings K) (o : Option Name) → Held c picks calls h o
       → Turns c (picks calls) (history calls) (Event.Step k, Entry.Stepped report) h.begun h'
       → Steps (picks calls) k h report h' → h'.begun ≡ None
-  unbegun_after Report.Idle h h' None b turn s = ap (λ (l : Line K). l.begun) s.serves.2 ∙ b.0
-  unbegun_after Report.Idle h h' (Some n) b turn s =
-      absurd (none_waits (history calls) b.1.1 turn.sends.right b.1.3.is.waits)
-  unbegun_after (Report.Served via' reference' unit' lbn b' seek e') h h' o b turn s = search arith
+  unbegun_after w h h' o b turn s = grind (arith, none_waits)
 
   stepped : (report : Report) (h h' : Holdings K) (o : Option Name) → Agrees c (history calls) h → IsLegal c
       (history calls) → Held c picks calls h o
@@ -179,9 +164,7 @@ module _ {K : Type 0} (picks : PicksThen) where
         begun = λ up y j is. differ_is (upcoming_name up)
             (name_on via number) (only_begun c picks calls via number h.begun false r.0 b up y j is);
         picked = tt;
-        holds = holds_on c picks calls call h.begun h'.begun refl refl (λ y w. ap (λ u. foretold u y) same)
-            (λ n y e w own. held ∙ (e ∙ ap (λ b. if b then Some n else None) (sym (ap (λ u. is_waiting u y) same ∙ w))))
-            (λ n. held ∙ n) b;
+        holds = grind (arith, holds_on, c, call, same, held);
       }
 
   -- ---- every call
@@ -189,9 +172,7 @@ module _ {K : Type 0} (picks : PicksThen) where
       → IsValid h.settings → Agrees h.settings (history calls) h → IsLegal h.settings (history calls)
       → Holds h.settings picks calls h.begun → AnswersCall (picks calls) h call h'
       → Turned h.settings picks calls call h'
-  turned calls (Plain event entry) h h' v a legal b r = plain picks calls event entry h h' v a legal b r
-  turned calls (Begin upcoming) h h' v a legal b r = begin picks calls upcoming h h' a legal b r
-  turned calls (Finish via number k answer) h h' v a legal b r = finish calls via number k answer h h' v a legal b r
+  turned calls o h h' v a legal b r = grind (arith, plain, begin, finish)
 
 module _ {K : Type 0} (picks : List Choice → ℕ → Type 0) (h h' : Holdings K) (call : Call) where
   settings_kept : AnswersCall picks h call h' → h'.settings ≡ h.settings

@@ -43,13 +43,9 @@ count_stepped {K} via picks k old (Report.Served connection reference unit lbn s
 -- ---- a command comes
 -- ---- a command is aborted
 -- the others keep their commands
-apart_and : (here there n : Bool) → (there ≡ true → here ≡ false) → (not (here && n) && there) ≡ there
-apart_and here there n h3 = grind (arith, true≢false, and-false, not)
-
 pub other_count : (via other : Connection) (n : ℕ) (ws : List Record) → same_connection via other ≡ false
     → length (waiting_on other (without (name_on via n) ws)) ≡ length (waiting_on other ws)
-other_count via other n ws d =
-    search (arith, other_side via other d, not, filter_filter, filter_on, every_from, apart_and, one_side)
+other_count via other n ws d = grind (arith, other_side, filter_filter, filter_on, every_from, one_side, true≢false, and-false)
 
 -- and its own connection one less
 pub own_count : (via : Connection) (n : ℕ) (ws : List Record) → length (without (name_on via n) ws) + 1 ≡ length ws

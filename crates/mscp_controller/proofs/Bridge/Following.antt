@@ -18,13 +18,9 @@ abbrev taking : Connection → Option End → Moment
 taking via end = (Event.Take via, Entry.Taken via (option_map (λ e. record { items = end_bytes e }) end))
 
 -- the ends that are then held, where these are the connection's
-rest_held : {K : Type 0} (via : Connection) (h : Holdings K) (t : Trace) (u : End) → Agrees h.settings t h → takes via
-    (taking via (Some u)).1 ≡ true → drop 1 (of via h.untaken) ≡ untaken h.settings via (t ++ taking via (Some u) ∷ [])
-rest_held via h t u a n = search (arith, untaken_taken h.settings via t (taking via (Some u)) n refl)
-
 all_held : {K : Type 0} (via : Connection) (h : Holdings K) (t : Trace) (u : End) → Agrees h.settings t h
     → IsUntaken h t (taking via (Some u)) (after_take via h)
-all_held via h t u h4 h5 = grind (arith, rest_held, ends_stay)
+all_held via h t u h4 h5 = grind (arith, ends_stay, untaken_taken)
 
 put_same : (via : Connection) (us : Both (List End)) → of via us ≡ [] → put via (drop 1 (of via us)) us ≡ us
 put_same via us h2 = grind arith

@@ -77,12 +77,8 @@ answers_by c t [] ys = []
 answers_by c t (m ∷ ms) ys =
     answer_by c t m.0 (slice_index_or ys 0 0) ∷ answers_by c (t ++ m ∷ []) ms (still_served t m.0 ys)
 
-right_step : (c : Settings) (t : Trace) (k : Block) (y : ℕ) (a : Entry) (ws : List ℕ) → waiting t ≡ ws
-    → step_by c t k y ws ≡ Some a → IsRight c t (Event.Step k) a
-right_step c t k y a ws h6 h7 = grind (arith, and_parts, by_serving, false≢true)
-
 right_by : (c : Settings) (t : Trace) (e : Event) (y : ℕ) (a : Entry) → answer_by c t e y ≡ Some a → IsRight c t e a
-right_by c t e y a h5 = grind (arith, right_step)
+right_by c t e y a h5 = grind (arith, and_parts, by_serving, false≢true)
 
 right_from : (c : Settings) (t ms : Trace) (ys : List ℕ) → answers_by c t ms ys ≡ map (λ m. Some m.1) ms
     → RightFrom c t ms

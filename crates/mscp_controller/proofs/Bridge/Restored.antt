@@ -4,11 +4,7 @@ use Rattle.mscp_queue.specs.Kept as queue
 
 covered_of : {c : Settings} {rs : List Record} {via : Connection} {own : Account}
     → IsAccount c rs via own → IsCovered c rs via own.untaken.items
-covered_of {c} {rs} {via} {own} h = record {
-  covered = omega (arith, h.counted, h.covered);
-  fits = omega (arith, h.counted, h.fits);
-  shaped = All-from_recursion IsOfKind own.untaken.items h.shaped;
-}
+covered_of {c} {rs} {via} {own} h = grind (arith, All-from_recursion)
 
 -- what a controller shows is sound
 pub sound_seen : {K : Type 0} {c : Settings} {line : Line K} {accounts : Accounts} → IsHeld c line accounts

@@ -4,8 +4,7 @@ use Rattle.mscp_controller.proofs.Bridge.Servable.{all_of}
 
 -- no other goes before what costs less, or as much and came earlier
 not_before : (c : Settings) (t : Trace) (x y : ℕ) → cost c t y ≤ cost c t x → y ≤ x → goes_before c t x y ≡ false
-not_before c t x y l o =
-    search (arith, le-ltb (cost c t x) (cost c t y) l, le-ltb x y o, and-false (nat_eq (cost c t x) (cost c t y)))
+not_before c t x y l o = grind (arith, le-ltb, and-false)
 
 -- nor before what costs less
 not_cheaper : (c : Settings) (t : Trace) (x y : ℕ) → cost c t y < cost c t x → goes_before c t x y ≡ false

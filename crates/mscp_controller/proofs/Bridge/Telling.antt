@@ -62,8 +62,7 @@ begin_at {K} picks calls up h h' place a legal b s u =
     let inside = both.0.inside in
     let read = reads c t h.drives h.waiting place a.driven a.follows.waits inside in
     let own : up ≡ foretold t y = s.told ∙ ((λ i. upcoming_of (read.at i) (read.own i)) ∙ told_held c t y) in
-    let kept : h'.begun ≡ Some (name t y) = ap (λ (l : Line K). l.begun) s.left
-    ∙ ap (λ (r : Record). Some (name_of r)) read.own in
+    let kept : h'.begun ≡ Some (name t y) = grind (arith, read) in
     let tells : Tells c picks calls up h h' y = search (arith, waits_at t place inside) in
     let same = begin_same calls (Some up) in
     let chosen : (q : Bool) → nat_eq up.done 0 ≡ q

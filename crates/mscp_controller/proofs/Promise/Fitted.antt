@@ -21,10 +21,8 @@ fit_of c t m s k y front back st steady =
           front (y ∷ back) (subst (AllByRecursion (λ x. done t x < weight t x)) w steady.unfinished)).1.0;
       idle_front = idle.0;
       idle_back = idle.1;
-      affordable = λ b. subst (AllByRecursion (λ x. passed t x + charge t y ≤ c.budget)) (earlier_is t
-          y front back st.serves.among.at) (startable_parts c t y (startable_of c t k s y st.served b)).affordable;
+      affordable = grind (arith, earlier_is, startable_parts, startable_of);
     }
 
 pub leaves_of : (t : Trace) (m : Moment) → service_in m.1 ≡ None → Leaves t m
-leaves_of t m e =
-    search (arith, waiting_below t, every_weaker, record_of, made_is, weight_before, done_kept, none_starts)
+leaves_of t m e = grind (arith, waiting_below, every_weaker, made_is, weight_before, done_kept, none_starts)

@@ -14,13 +14,9 @@ record IsForeign (c : Settings) (via : Connection) (t : Trace) (m : Moment) : Ty
   kept : (n : Name) → same_connection n.connection via ≡ true → ends_in n m.1 ≡ false
 
 -- a command of the other connection isn't aborted
-unaborted : (own via : Connection) (n : Name) (other : ℕ) → same_connection own via ≡ false
-    → same_connection n.connection via ≡ true → (same_connection own n.connection && nat_eq other n.reference) ≡ false
-unaborted own via n other e h = search (arith, one_side n.connection via h)
-
 foreign_sent : (c : Settings) (own via : Connection) (t : Trace) (event : Event) (entry : Entry) → comes_by event
     ≡ Some own → same_connection own via ≡ false → IsRight c t event entry → IsForeign c via t (event, entry)
-foreign_sent c own via t event entry h6 h7 h8 = grind (arith, some_same, unaborted, true≢false)
+foreign_sent c own via t event entry h6 h7 h8 = grind (arith, some_same, true≢false, one_side)
 
 module _ (c : Settings) (via : Connection) (t : Trace) (m : Moment) where
   same_waits : IsForeign c via t m → waiting_by via (t ++ m ∷ []) ≡ waiting_by via t

@@ -116,16 +116,7 @@ stepped c t m s k y front back r h st =
     let idle = idle_others c t y front back w h.single st.served.next in
     let own : (b : Bool) → is_some s.ended ≡ b
     → Unfinished t' (cond b [] (y ∷ [])) = search (arith, weight_before t m y below.1.0, more_left) in
-    record {
-      apart = apart_more c t m r h.apart;
-      unfinished = subst (Unfinished t') (sym ch.waits) (every_append (λ x. done t' x < weight t' x)
-          front (cond (is_some s.ended) [] (y ∷ []) ++ back) (unfinished_same t m front below.0 ch.front_done parts.0)
-          (every_append (λ x. done t' x < weight t' x) (cond (is_some s.ended) [] (y ∷ []))
-          back (own (is_some s.ended) refl) (unfinished_same t m back below.1.1 ch.back_done parts.1.1)));
-      single = subst (Single t') (sym ch.waits)
-          (single_of t' front (cond (is_some s.ended) [] (y ∷ []) ++ back) (idle_same t t' front ch.front_done idle.0)
-          (single_own t' y back (idle_same t t' back ch.back_done idle.1) (is_some s.ended)));
-    }
+    grind (arith, apart_more, every_append, unfinished_same, single_of, idle_same, single_own, t, ch, below, parts, idle, own)
 
 -- Each right moment keeps it.
 pub steady_more : (c : Settings) (t : Trace) (m : Moment) → IsRight c t m.0 m.1 → Steady c t → Steady c (t ++ m ∷ [])

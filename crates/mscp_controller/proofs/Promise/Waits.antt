@@ -37,8 +37,7 @@ earlier_is t x A B k =
     search (arith, le-ltb x x (omega arith), append-nil A, filter-append, filter_all, every_weaker, lt-ltb, filter_none)
 
 pub later_is : (t : Trace) (x : ℕ) (A B : List ℕ) → Cut t x A B → later t x ≡ B
-later_is t x A B k =
-    search (arith, le-ltb x x (omega arith), filter-append, filter_none, every_weaker, filter_all, lt-ltb)
+later_is t x o w k = grind (arith, le-ltb, filter-append, filter_none, every_weaker, filter_all, lt-ltb)
 
 range_cut : (a n k : ℕ) → k < n → range_with_len a n ≡ range_with_len a k ++ (a + k)
     ∷ range_with_len (a + k + 1) (n - (k + 1))
@@ -58,12 +57,9 @@ cut t y l w =
       front,
       back,
       record {
-        is = ap (filter (is_waiting t)) r ∙ (filter-append (is_waiting t)
-            (range_with_len 0 y) (y ∷ range_with_len (y + 1) n) ∙ ap (λ b. front ++ cond b (y ∷ back) back) w);
-        before = every_kept (λ x. x < y) (is_waiting t) (range_with_len 0 y) (every_weaker (λ x. (0 ≤ x) × (x < 0 + y))
-            (λ x. x < y) (λ x h. omega arith) (range_with_len 0 y) (range_below 0 y));
-        behind = every_kept (λ x. y < x) (is_waiting t) (range_with_len (y + 1) n) (every_weaker (λ x. (y + 1 ≤ x)
-            × (x < y + 1 + n)) (λ x. y < x) (λ x h. omega arith) (range_with_len (y + 1) n) (range_below (y + 1) n));
+        is = grind (arith, filter-append, n, r, front, back);
+        before = grind (arith, every_kept, every_weaker, range_below);
+        behind = grind (arith, every_kept, every_weaker, range_below, n);
       },
     )
 
