@@ -220,7 +220,6 @@ module _ (c : Settings) (via : Connection) (talk : Talk) (known : AllKnown c tal
       let poll : q ≡ st.poll = ap (λ o. unwrap_or o q) (sym f ∙ st.is_told.handed) in
       let at = (and_parts (is_poll (moment h q)) _ a).1 in
       let at' = (and_parts (is_poll (moment h st.poll)) _ st.is_told.about).1 in
-      let command : i ≡ st.command = ap (λ o. unwrap_or o i) (sym (it_is i (asked_for h q) at)
-      ∙ (ap (asked_for h) poll ∙ it_is st.command (asked_for h st.poll) at')) in
+      let command : i ≡ st.command = grind (arith, it_is, poll, at, at) in
       never_reset j l st (subst (λ k. StepsSincePolls via talk k st.poll) command
       (subst (StepsSincePolls via talk i) poll steps))

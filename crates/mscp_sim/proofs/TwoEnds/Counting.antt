@@ -13,10 +13,6 @@ pub any_times : (r : ℕ) (xs : List ℕ) → list_any (λ x. nat_eq x r) xs ≡
 any_times r [] = refl
 any_times r (x ∷ xs) = search (arith, any_times r xs, nat_tests)
 
-pub any_alike : (r : ℕ) (xs ys : List ℕ) → times r xs ≡ times r ys
-    → list_any (λ x. nat_eq x r) xs ≡ list_any (λ x. nat_eq x r) ys
-any_alike r xs ys e = any_times r xs ∙ (ap (nat_lt 0) e ∙ sym (any_times r ys))
-
 pub has_any : (r : ℕ) (xs : List Submission) → list_any (has_reference r) xs
     ≡ list_any (λ x. nat_eq x r) (references xs)
 has_any r [] = refl

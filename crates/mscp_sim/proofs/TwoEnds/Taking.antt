@@ -12,14 +12,6 @@ end_of o = option_map (λ e. record { items = end_bytes e }) o
 none_of : (o : Option End) → end_of o ≡ None → o ≡ None
 none_of o h1 = grind (arith, true≢false)
 
-none_when : {K : Type 0} (via : Connection) (a : Account) (h : Holdings K) (told : Flight) (us : List End)
-    → of via h.untaken ≡ us → end_taken via h ≡ None → Matches via a h told → Matches via a (after_take via h) told
-none_when via a h told us h1 h2 h3 = search (arith, put_own, none_of, true≢false)
-
-pub taken_none : {K : Type 0} (via : Connection) (a : Account) (h : Holdings K) (told : Flight) → end_taken via h ≡ None
-    → Matches via a h told → Matches via a (after_take via h) told
-taken_none via a h told e m = none_when via a h told (of via h.untaken) refl e m
-
 -- the end that was handed over
 pub record Handed {K : Type 0} (via : Connection) (a : Account) (h : Holdings K) (told : Flight)
     (b : List ℕ) : Type 0 where

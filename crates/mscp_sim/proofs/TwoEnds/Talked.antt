@@ -166,8 +166,7 @@ two_ends {K} c picks picker old new ts v runs law n g =
       picked = subst (IsPicked c picks) whole run.picked;
       swept = λ w. subst (IsSweeping c) whole (run.swept w);
       says = λ j l. (known j l).tells.says;
-      figures = λ via j i p l h about. ap (λ m. figure_in (end_heard m)) (moment_is via talk j l)
-          ∙ (((known j l).tells.on via).figures i p h about).0;
+      figures = grind (arith, moment_is, talk, h, known);
       resets = λ j l. (known j l).tells.resets;
       no_lost = λ j l. (known j l).tells.no_lost;
       falls = λ via j i q l h a b e.

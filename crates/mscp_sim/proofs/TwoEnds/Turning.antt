@@ -134,9 +134,7 @@ answer_is {K} {c} {via} {talk} {j} {a} {h} s e rest u i p f named about =
     let w = watch_at (history via talk) j p in
     let es = e ∷ rest in
     let m = subst (λ (x : Account). Matches via x h s.told) s.account s.match in
-    let flight : IsFlight es w s.told = subst (λ w. HasFlight es w s.told)
-    (ap (option_map (watch_at (history via talk) j)) f)
-    (subst (λ xs. HasFlight xs (account_at c via talk j).watch s.told) u m.flight) in
+    let flight : IsFlight es w s.told = grind (arith, w, es, m) in
     let first = first_is e rest w s.told flight (alone via (account_at c via talk j) h s.told e rest m u).1 named in
     let told = s.flight p f in
     let code = ap (λ (x : End). x.code) (sym first.1) ∙ flight.code in
@@ -168,8 +166,7 @@ module _ {K : Type 0} {c : Settings} {picks : List Choice → ℕ → Type 0} {p
       let tells = λ (via : Connection). (on via).tells in
       record {
         tells = record {
-          says = subst (λ a. IsHeard a (said talk j).turn (said talk j) (accounts_at c talk (j + 1))) old
-              (subst (IsHeard x.hosts (said talk j).turn (said talk j)) new x.says.0);
+          says = grind (arith, old, new);
           resets = resets_of c talk j x.hosts a' x.inside x.says.0 tells;
           no_lost = never_lost c talk j x.hosts a' x.inside x.says.0 tells;
           on = tells;
