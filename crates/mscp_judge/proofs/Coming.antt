@@ -87,12 +87,7 @@ asked_one {A} (Ok x) old new name event o q came w =
     let counted : Counted c marks new.controller (entry_lines came.entry) [] [] totals =
     event_counted c (marked log) old.controller new.controller name event came.entry (totals_of c old) totals o
     (settled c log old s q) came.answers (came.adds c) in
-    record {
-      counted = subst (λ bs. Counted c marks new.controller bs (owed new) [] totals) (sym came.due)
-          (subst (λ es. Counted c marks new.controller (entry_lines came.entry) es [] totals)
-          (ap (λ k. replicate k (events.Step new.block)) (sym none)) counted);
-      count = omega (arith, length-append log.events (event ∷ []), s.count, came.count, w, q.answered);
-    }
+    grind (arith, length-append, marks, none, totals, counted)
 asked_one (Err x) old new name event o q came w = tt
 
 -- what tells the same has the same totals

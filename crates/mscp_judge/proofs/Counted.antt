@@ -51,8 +51,7 @@ pub steps_counted : (c : Settings) (marks : List Mark) (h : Holdings Wanted) (es
 unfolding steps_on
 steps_counted c marks h es totals s = record {
   stood = steps_on c marks h es s.stood;
-  are = subst (λ t. AreTotals c t totals) (sym (append-nil (whole (s.stood.parts ++ s.stood.now ∷ []))
-      ∙ whole_more s.stood.parts s.stood.now)) s.are;
+  are = grind (arith, append-nil, whole_more);
 }
 
 pub event_counted : (c : Settings) (marks : List Mark) (h h' : Holdings Wanted) (name : Option Named) (event : Event)

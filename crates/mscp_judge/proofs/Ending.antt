@@ -59,8 +59,7 @@ goes_from c marks h due k n s =
     let f = follow c s.begun T h s.valid s.led in
     let u = steps_exist c s.valid k n T f.legal in
     let others = s.parts ++ (s.now ++ u.0) ∷ [] in
-    let same : whole others ≡ T ++ u.0 = whole_append s.parts ((s.now ++ u.0) ∷ [])
-    ∙ (ap (λ t. whole s.parts ++ t) (append-nil (s.now ++ u.0)) ∙ sym (append_assoc (whole s.parts) s.now u.0)) in
+    let same : whole others ≡ T ++ u.0 = grind (arith, whole_append, append-nil, append_assoc, u) in
     search (arith, known_marks c marks h due owed s u.0 [] u.1)
 
 pub opens : (c : Settings) (marks : List Mark) (h : Holdings Wanted) (due : List ℕ) (k : Block) (n : ℕ)

@@ -9,12 +9,9 @@ abbrev Grown : Log → Result Log Cause → Type 0
 Grown log (Ok next) = (more : List Mark) × (next.marks ≡ log.marks ++ more)
 Grown log (Err cause) = Unit {0}
 
-grown_said : (log : Log) (bytes : List ℕ) (r : Result (List (List ℕ)) Cause) → Grown log (r >>= after_words log bytes)
-grown_said log bytes r = grind (arith, append-nil)
-
 grown_line : (n : ℕ) (log : Log) (bytes : List ℕ) → Grown log (after_line n log bytes)
 unfolding after_line
-grown_line n log bytes = grown_said log bytes (said_at n bytes)
+grown_line n log bytes = grind (arith, append-nil)
 
 grown_on : (log : Log) (n : ℕ) (rest : List (List ℕ)) (r : Result Log Cause) → Grown log r
     → ((next : Log) → Grown next (after_lines n next rest)) → Grown log (r >>= λ next. after_lines n next rest)

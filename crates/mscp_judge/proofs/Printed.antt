@@ -101,9 +101,5 @@ encoded_length (b ∷ bytes) = omega (arith, encoded_length bytes)
 
 -- ---- a status
 
-high_bytes : (k n : ℕ) → AllBytes (bytes_high_first k n)
-high_bytes zero n = tt
-high_bytes (suc k) n = (low_byte k n, high_bytes k n)
-
 pub status_printed : (status : ℕ) → AllPrinted (status_text status)
-status_printed status = encoded_printed (to_be_bytes w16 status) (high_bytes 2 status)
+status_printed status = grind (arith, encoded_printed, low_byte)

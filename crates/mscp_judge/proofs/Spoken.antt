@@ -5,12 +5,9 @@ use Rattle.mscp_judge.proofs.Unique.{Says}
 
 -- ---- a number
 
-digit_byte : (b : ℕ) → digit_value b < 10 → is_digit b ≡ true
-digit_byte b h = search (arith, digit_from_value b h, nat_tests)
-
 digit_bytes : (ds : List ℕ) → AllDigits 10 ds → list_all is_digit ds ≡ true
 digit_bytes [] h = refl
-digit_bytes (d ∷ ds) h = and_from _ _ (digit_byte d h.0) (digit_bytes ds h.1)
+digit_bytes (d ∷ ds) h = grind (arith, digit_bytes ds h.1, and_from, digit_from_value, nat_tests)
 
 pub digits_fed : (ds : List ℕ) → list_all is_digit ds ≡ true → NoFeed ds
 digits_fed [] h = tt
