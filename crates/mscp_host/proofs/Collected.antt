@@ -94,13 +94,10 @@ pub found_before : (h : History) (j x : ℕ) (p : ℕ → Bool) → find p (outs
 found_before h j x p e = out_below h j x (found_out h j x p e).0
 
 -- nothing is told of a command before it was sent
-pub untold_at : (h : History) (j k : ℕ) → k ≤ j → told_at h j k ≡ None
-untold_at h j k l = grind (arith, found_before, and-false, nat_tests)
-
 untold_in : (h : History) (j : ℕ) (ks : List ℕ) → AllByRecursion (λ k. k < j + 1) ks
     → flat_map (λ k. option_to_list (told_at h j k)) ks ≡ []
 untold_in h j [] e = refl
-untold_in h j (k ∷ ks) e = search (arith, untold_in h j ks e.1, untold_at)
+untold_in h j (k ∷ ks) e = grind (arith, untold_in h j ks e.1, found_before, and-false, nat_tests)
 
 pub untold : (h : History) (j : ℕ) → last_told h (j + 1) j ≡ None
 untold h j = ap (last_or None) (untold_in h j (before (j + 1)) (before_below (j + 1)))

@@ -63,10 +63,6 @@ submit_counts old command answer new None f e =
     (some_credit old.credits (opcode_byte command.order) f) e
 
 -- a poll is sent only where one is to be sent
-abbrev is_ask : Result Poll HostFault → Bool
-is_ask (Ok (polls.Ask m)) = true
-is_ask answer = false
-
 sent_poll : (a new : Account) (r : ℕ) (m : ArrayVec ℕ) (o : Option Watch) → a.watch ≡ o
     → (if is_some o then (Ok polls.Busy, a) else asks a r (oldest a)) ≡ (Ok (polls.Ask m), new)
     → (is_none o ≡ true) × (is_some (oldest a) ≡ true)
@@ -93,9 +89,7 @@ poll_with old n answer new (Ok (polls.Ask m)) a is free e =
   where
     positive : (k : ℕ) → nat_eq k 0 ≡ false → 1 ≤ k
     positive k e = search (arith, nat_tests)
-poll_with old n answer new (Ok polls.Nothing) a is free e = grind (arith, quiet)
-poll_with old n answer new (Ok polls.Busy) a is free e = grind (arith, quiet)
-poll_with old n answer new (Err fault) a is free e = grind (arith, quiet)
+poll_with old n answer new o a is free e = grind (arith, quiet)
 
 -- ---- a message is heard
 
@@ -131,11 +125,8 @@ ends_counts old v b answer new x (Some asked) f e = end_counts old v b answer ne
 
 hear_counts : (old : PortAccount) (v : Envelope) (b : List ℕ) (answer : Result Heard HearFault) (new : PortAccount)
     (r : Result Message HearFault) → heard_of old v.credits r ≡ (answer, new) → Counts old (Hear v b answer) new
-hear_counts old v b answer new (Err fault) e = refused old v b answer new fault e
 hear_counts old v b answer new (Ok (messages.End x)) e = ends_counts old v b answer new x _ refl e
-hear_counts old v b answer new (Ok (messages.Attention code unit)) e = grind (arith, heard_none)
-hear_counts old v b answer new (Ok messages.Datagram) e = heard_none old v b answer new heards.Logged refl e
-hear_counts old v b answer new (Ok messages.Credits) e = grind (arith, heard_none)
+hear_counts old v b answer new o e = grind (arith, refused, heard_none)
 
 counts : (old : PortAccount) (m : PortMoment) (new : PortAccount) → PortAnswers old m new → Counts old m new
 counts old (Submit command answer) new e = submit_counts old command answer new _ refl e

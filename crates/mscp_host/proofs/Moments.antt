@@ -68,19 +68,6 @@ submit_kind old command answer new o e = grind (arith, same, submit_with)
 
 -- ---- a poll
 
-abbrev is_ask : Result Poll HostFault → Bool
-is_ask (Ok (polls.Ask m)) = true
-is_ask answer = false
-
-asked_found : (a new : Account) (r : ℕ) (m : ArrayVec ℕ) (o : Option Submission) → asks a r o ≡ (Ok (polls.Ask m), new)
-    → (s : Submission) × (o ≡ Some s)
-asked_found a new r m o e = grind (arith, false≢true)
-
-poll_kind : (old : PortAccount) (n : ℕ) (answer : Result Poll HostFault) (new : PortAccount) (b : Bool)
-    → (if b then (Err refusals.NoCredit, old) else polled_with old n (polls_oldest old.account n)) ≡ (answer, new)
-    → Kind old (Ask n answer) new
-poll_kind old n answer new o e = grind (arith, same, asked_found, false≢true)
-
 -- ---- a message
 
 abbrev refuses : PortAccount → HearFault → Result Heard HearFault × PortAccount
@@ -115,14 +102,11 @@ hear_kind : (old : PortAccount) (v : Envelope) (b : List ℕ) (answer : Result H
     (r : Result Message HearFault) → message_in v b ≡ r → heard_of old v.credits r ≡ (answer, new)
     → Kind old (Hear v b answer) new
 hear_kind old v b answer new (Err fault) m e = refused old v b answer new fault e
-hear_kind old v b answer new (Ok (messages.End x)) m e = ends_kind old v b answer new x _ m refl e
-hear_kind old v b answer new (Ok (messages.Attention code unit)) m e = grind (arith, heard_none)
-hear_kind old v b answer new (Ok messages.Datagram) m e = grind (arith, heard_none)
-hear_kind old v b answer new (Ok messages.Credits) m e = grind (arith, heard_none)
+hear_kind old v b answer new o m e = grind (arith, ends_kind, heard_none)
 
 pub kind : (old : PortAccount) (m : PortMoment) (new : PortAccount) → PortAnswers old m new → Kind old m new
 kind old (Submit command answer) new e = submit_kind old command answer new _ e
-kind old (Ask n answer) new e = poll_kind old n answer new _ e
+kind old (Ask n answer) new e = grind (arith, same, false≢true, false≢true)
 kind old (Hear v b answer) new e = hear_kind old v b answer new _ refl e
 kind old (Resume b) new e = same old (Resume b) new refl (resumed old new b e)
 kind old Other new e = same old Other new refl e

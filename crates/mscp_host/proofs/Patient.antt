@@ -48,29 +48,14 @@ record Has (timeout : ℕ) (before : List WatchMoment) (w : Watch) : Type 0 wher
   waited : Lately is_unpolled w.waited before
   silent : Lately is_silent w.silent before
 
-told_has : (timeout : ℕ) (before : List WatchMoment) (old : Watch) (heard : Heard) (b : Bool) → is_answer heard ≡ b
-    → Has timeout before old
-    → Has timeout (Told heard ∷ before) (if b then record old { silent = 0 } else old)
-told_has timeout before old heard o e h = grind (arith, told_on, none)
-
 has : (timeout : ℕ) (before : List WatchMoment) (w : Watch) → Watched timeout before w → Has timeout before w
 has timeout [] w e = grind (arith, none)
 has timeout (Tick p answer ∷ before) w x = grind (arith, has timeout before x.0 x.2, counts_on, none)
-has timeout (Told heard ∷ before) w x =
-    subst (Has timeout (Told heard ∷ before)) (sym x.1)
-    (told_has timeout before x.0 heard (is_answer heard) refl (has timeout before x.0 x.2))
+has timeout (Told heard ∷ before) w x = grind (arith, has timeout before x.0 x.2, told_on, none)
 
 -- ---- what it says
 
 -- the reasons
-abbrev is_reset : Advice → Bool
-is_reset advices.Reset = true
-is_reset answer = false
-
-abbrev is_poll : Advice → Bool
-is_poll advices.Poll = true
-is_poll answer = false
-
 resets : (b d : Bool) → (if b then advices.Reset else (if d then advices.Poll else advices.Nothing)) ≡ advices.Reset
     → b ≡ true
 resets o d e = grind (arith, false≢true)

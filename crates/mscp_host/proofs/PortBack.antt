@@ -18,18 +18,15 @@ with_name x y e = grind arith
 
 pub names_long : (xs : List Asked) (ys : List Submission) → map name_of_asked xs ≡ map name_of_submission ys
     → length xs ≡ length ys
-names_long [] [] same = refl
 names_long [] (y ∷ ys) same = search arith
-names_long (x ∷ xs) [] same = search arith
 names_long (x ∷ xs) (y ∷ ys) same =
     let e = names_long xs ys (ap names_behind same) in
     search (arith, e)
+names_long o w same = grind arith
 
 asked_back : (xs : List Asked) (ys : List Submission) (t : List ℕ) → map name_of_asked xs ≡ map name_of_submission ys
     → All HasAskedRange xs → asked_in (flat_map size_bytes xs ++ t) ys ≡ xs
-asked_back [] [] t same all = refl
 asked_back [] (y ∷ ys) t same all = search arith
-asked_back (x ∷ xs) [] t same all = search arith
 asked_back (x ∷ xs) (y ∷ ys) t same all =
     let named : name_of_asked x ≡ name_of_submission y = ap (λ ns. name_of_first ns (name_of_asked x)) same in
     let here : HasAskedRange x = all 0 x (omega arith) in
@@ -37,6 +34,7 @@ asked_back (x ∷ xs) (y ∷ ys) t same all =
     let one = ap (asked_with y) (four x.bytes here) ∙ with_name x y named in
     let rest = asked_back xs ys t (ap names_behind same) there in
     λ i. one i ∷ rest i
+asked_back o w t same all = grind arith
 
 sizes_long : (xs : List Asked) → length (flat_map size_bytes xs) ≡ 4 * length xs
 sizes_long [] = let e : 0 ≡ 4 * 0 = omega arith in e

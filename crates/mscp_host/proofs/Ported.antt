@@ -18,14 +18,10 @@ told_named : (r f : ℕ) (xs : List Submission) → map name_of_submission (with
 told_named r f [] = refl
 told_named r f (x ∷ xs) = search (arith, told_named r f xs)
 
-outstanding_named : (a : Account) (told : Option (ℕ × ℕ))
-    → map name_of_submission (outstanding_with a told) ≡ map name_of_submission a.outstanding
-outstanding_named a told = search (arith, told_named)
-
 pub read_reference : (e : End) → (as_read e).reference ≡ e.reference
 read_reference e = search arith
 
 pub same_ended : (a : Account) (e : End) (xs : List Asked) → map name_of_asked xs ≡ map name_of_submission a.outstanding
     → map name_of_asked (without_by (is_of e.reference) xs)
     ≡ map name_of_submission (received a (as_read e)).outstanding
-same_ended a e xs same = grind (arith, read_reference, asked_without, outstanding_named, submissions_without)
+same_ended a e xs same = grind (arith, read_reference, asked_without, submissions_without, told_named)

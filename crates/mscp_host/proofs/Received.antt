@@ -86,10 +86,6 @@ same_name : (credits : ℕ) (h : History) (j i y n : ℕ) → IsApart credits h 
     → is_outstanding h j y ≡ true → reference h i ≡ n → nat_eq i y ≡ nat_eq (reference h y) n
 same_name credits h j i y n a ei ey r = search (arith, eq-eqb, eqb-true)
 
-gone : (h : History) (j i : ℕ) (o : Option ℕ) → found_stands h j o ≡ false → is_outstanding h j i ≡ true
-    → is_it i o ≡ false
-gone h j i o s e = grind (arith, eqb-true, true≢false)
-
 untold_of : (h : History) (e : End) (p i : ℕ) → answer_in h e p ≡ None
     → (if asks_about h i p then figure_in (Some e) else None) ≡ None
 untold_of h e p i q = grind (arith, true≢false)
@@ -181,7 +177,7 @@ module _ {credits : ℕ} {h : History} {j : ℕ} {e : End} {p : ℕ} (x : Hears 
       one_told credits h j told.0 told.1 x.apart (λ y out. told_is y
       ∙ ((λ k. if f.0 k && is_it y (r k) then f.1 k else None)
       ∙ ap (λ b. if b then Some told.1 else None) (same_name credits h j i y told.0 x.apart s out n)))
-  told_of told q o r false s = grind (arith, none_told, gone, and-false, told_is)
+  told_of told q o r false s = grind (arith, none_told, and-false, told_is, eqb-true, true≢false)
 
   told_when : (t : Option (ℕ × ℕ)) → answer_in h e p ≡ t → outstanding_with (account_at credits h j) t
       ≡ map (submission_at h (j + 1)) (outstanding h j)
@@ -230,11 +226,10 @@ module _ {credits : ℕ} {h : History} {j : ℕ} {e : End} {p : ℕ} (x : Hears 
       → answer_in h e p ≡ Some told → (o : Option ℕ) → asked_for h p ≡ o → (b : Bool) → found_stands h j o ≡ b
       → (if b then news_of_figure (host.last_told (account_at credits h j).outstanding told.0) told.1 else news.Late)
       ≡ (if b then news_of_figure (last_found h j o) told.1 else news.Late)
-  says_told told q None r true s = absurd (false≢true s)
   says_told told q (Some i) r true s =
       ap (λ o. news_of_figure o told.1)
       (last_is credits h j i told.0 x.apart s (ap (reference_found h) (sym r) ∙ named told q))
-  says_told told q o r false s = refl
+  says_told told q o r w s = grind (arith, false≢true)
 
   says_when : (t : Option (ℕ × ℕ)) → answer_in h e p ≡ t → news_with (account_at credits h j) e t ≡ news_at h j e p
   says_when t h1 = search (arith, watched, figure_of, says_told)

@@ -17,9 +17,6 @@ module _ (p : Submission → Bool) where
   any_without r other [] e = e
   any_without r other (s ∷ rest) e = grind (arith, any_without r other rest, other, true≢false)
 
-  any_more : (s : Submission) (xs : List Submission) → list_any p xs ≡ true → list_any p (xs ++ s ∷ []) ≡ true
-  any_more s xs e = list_any-append p xs (s ∷ []) ∙ or_left (list_any p xs) (list_any p (s ∷ [])) e
-
 -- another number isn't that of the one that leaves
 other_status : (n r : ℕ) (s : Submission) → nat_eq n r ≡ false → is_status n s ≡ true → has_reference r s ≡ false
 other_status n r s other e = search (arith, and_parts)
@@ -86,7 +83,7 @@ watched_without r xs o e = grind (arith, and_parts, any_without, other_status, o
 
 pub watched_more : (s : Submission) (xs : List Submission) (watch : Option Watch) → is_watched xs watch ≡ true
     → is_watched (xs ++ s ∷ []) watch ≡ true
-watched_more s xs o e = grind (arith, and_parts, oldest_more, any_more)
+watched_more s xs o e = grind (arith, and_parts, oldest_more, list_any-append, or_left)
 
 -- ---- a poll comes
 
