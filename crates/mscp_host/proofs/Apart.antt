@@ -1,5 +1,5 @@
 -- Outstanding submissions stay apart.
-use Rattle.mscp_host.proofs.Common.{◌≡◌, ℕ, true, false, ◌||◌, List, [], ◌∷◌, ◌++◌, length, nat_eq, refl, arith, list_any, refill, take-append-le, take_all, Submission, has_reference, with_told, without, are_apart}
+use Rattle.mscp_host.proofs.Common.{◌≡◌, ℕ, true, false, ◌||◌, List, [], ◌∷◌, ◌++◌, length, refl, arith, list_any, refill, take-append-le, take_all, Submission, has_reference, with_told, without, are_apart}
 
 -- ---- a figure is told
 

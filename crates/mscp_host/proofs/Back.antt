@@ -1,5 +1,5 @@
 -- The bytes that a host is saved as say that host.
-use Rattle.mscp_host.proofs.Common.{All, ◌≡◌, ℕ, ◌+◌, ◌*◌, ◌<◌, ◌≤◌, ◌^◌, true, List, [], ◌∷◌, ◌++◌, drop, length, refl, arith, le-leb, le-ltb, lt-ltb, eq-eqb, length-append, bytes_eq-Decides, flat_map, Option, None, IfSome, Ok, slice_index, bytes_eq, num, parts_in, four, two, read_all, Submission, Watch, Account, IsSound, account_fault, account_in, head_fault, restored, submission_in, told_in, HasRange, HasSubmissionRange, saved_bytes, submission_bytes, told_bytes}
+use Rattle.mscp_host.proofs.Common.{All, ◌≡◌, ℕ, ◌+◌, ◌*◌, ◌≤◌, true, List, [], ◌∷◌, ◌++◌, drop, length, refl, arith, le-leb, le-ltb, lt-ltb, eq-eqb, length-append, bytes_eq-Decides, flat_map, Option, None, Ok, bytes_eq, parts_in, four, two, read_all, Submission, Watch, Account, IsSound, account_fault, account_in, head_fault, restored, submission_in, HasRange, HasSubmissionRange, saved_bytes, submission_bytes}
 
 -- ---- a submission
 

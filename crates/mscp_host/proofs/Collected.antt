@@ -1,5 +1,5 @@
 -- What a list of moments says of the commands that are outstanding, with one moment more.
-use Rattle.mscp_host.proofs.Common.{◌≡◌, ⊎_elim, ℕ, ◌+◌, ◌<◌, ◌≤◌, Bool, true, false, cond, List, [], ◌∷◌, ◌++◌, refl, ap, sym, ◌∙◌, subst, arith, append-nil, filter, find, flat_map, not, ◌&&◌, ◌||◌, Option, Some, None, option_to_list, option_or, AllByRecursion, last_or, list_any, and-false, or-false, cases_lt, false≢true, nat_tests, flat_map-append, filter-append, list_any-append, History, before, end_heard, figure_from, handed_over, is_end_of, is_ended, is_it, is_outstanding, is_sent, last_told, moment, outstanding, reference, told_at}
+use Rattle.mscp_host.proofs.Common.{◌≡◌, ⊎_elim, ℕ, ◌+◌, ◌<◌, Bool, true, false, cond, List, [], ◌∷◌, ◌++◌, refl, ap, sym, ◌∙◌, subst, arith, append-nil, filter, find, flat_map, not, ◌&&◌, Some, None, option_to_list, option_or, AllByRecursion, last_or, list_any, and-false, or-false, cases_lt, false≢true, nat_tests, flat_map-append, filter-append, list_any-append, History, before, end_heard, is_end_of, is_ended, is_outstanding, is_sent, last_told, moment, outstanding, reference, told_at}
 use Rattle.mscp_host.proofs.Lists.{before_at, before_below, before_more, every_kept, every_passes, every_weaker, filter_filter, filter_on, found, last_more}
 
 -- ---- which are outstanding

@@ -1,8 +1,6 @@
 -- Credits and commands are counted.
-use Rattle.mscp_host.proofs.Common.{Account, ArrayVec, Asked, Bool, Command, End, Envelope, Err, Hear, HearFault, Heard, HostFault, List, Message, News, None, Ok, Option, Poll, PortAccount, PortAnswered, PortAnswers, PortHistory, PortHostsKeepCount, PortMoment, Result, Resume, Some, Submission, Watch, [], and-true, ap, arith, asked_of, asks, attention_of, credit_fault, end_says, ended, ended_in, ended_of, ends_in, ends_of, false, false≢true, find, granted, if◌then◌else◌, is_none, is_of, is_some, is_to_poll, length, length-append, ltb-false, min, nat_eq, nat_lt, nat_tests, news_said, noted, noted_poll, oldest, opcode_byte, or_parts, poll_of, polled_with, polls_oldest, refl, sent_in, submits, submits_unless_faulty, submitted_with, sum_by-cons, sym, true, without_by, ℕ, ◌&&◌, ◌++◌, ◌+◌, ◌-◌, ◌∙◌, ◌∷◌, ◌≡◌, ◌≤◌}
-use Rattle.mscp_host.specs.declared.heard.Heard.TheVariants as heards
+use Rattle.mscp_host.proofs.Common.{Account, ArrayVec, Asked, Bool, Command, End, Envelope, Err, Hear, HearFault, Heard, HostFault, List, Message, News, None, Ok, Option, Poll, PortAccount, PortAnswered, PortAnswers, PortHistory, PortHostsKeepCount, PortMoment, Result, Resume, Some, Submission, Watch, [], and-true, ap, arith, asked_of, asks, credit_fault, end_says, ended, ended_in, ends_in, ends_of, false, false≢true, find, granted, if◌then◌else◌, is_none, is_of, is_some, is_to_poll, length, length-append, ltb-false, nat_eq, nat_tests, news_said, noted, noted_poll, oldest, opcode_byte, or_parts, poll_of, polled_with, polls_oldest, refl, sent_in, submits, submits_unless_faulty, submitted_with, sum_by-cons, sym, true, without_by, ℕ, ◌&&◌, ◌+◌, ◌∙◌, ◌∷◌, ◌≡◌, ◌≤◌}
 use Rattle.mscp_host.specs.declared.message.HearFault.TheVariants as faults
-use Rattle.mscp_host.specs.declared.news.HostFault.TheVariants as refusals
 use Rattle.mscp_host.specs.declared.news.Poll.TheVariants as polls
 use Rattle.mscp_host.specs.declared.message.Message.TheVariants as messages
 use Rattle.mscp_host.specs.PortAccounts.{heard_of}

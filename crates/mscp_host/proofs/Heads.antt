@@ -1,5 +1,5 @@
 -- What a head and an account without a fault tell.
-use Rattle.mscp_host.proofs.Common.{arith, ◌≡◌, ℕ, ◌+◌, ◌*◌, ◌<◌, ◌≤◌, Bool, true, false, List, length, not, if◌then◌else◌, Option, Some, None, and_parts, eqb-true, leb-true, ltb-false, ltb-true, true≢false, num, RestoreFault, Account, are_apart, account_fault, count_in, head_fault, waiting, are_told, is_watched}
+use Rattle.mscp_host.proofs.Common.{arith, ◌≡◌, ℕ, ◌+◌, ◌*◌, ◌<◌, ◌≤◌, Bool, true, List, length, not, if◌then◌else◌, Option, Some, None, and_parts, eqb-true, leb-true, ltb-false, ltb-true, true≢false, num, RestoreFault, Account, are_apart, account_fault, count_in, head_fault, waiting, are_told, is_watched}
 
 -- what was tested first holds, and then no later fault does
 first : (t : Bool) (fault : RestoreFault) (rest : Option RestoreFault)

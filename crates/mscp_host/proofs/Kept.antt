@@ -1,5 +1,5 @@
 -- What a host keeps, as the list so far says it, after a moment in which no end is heard.
-use Rattle.mscp_host.proofs.Common.{◌≡◌, ℕ, ◌+◌, ◌<◌, ◌≤◌, Bool, true, false, cond, List, [], ◌∷◌, map, refl, ap, sym, ◌∙◌, arith, append-nil, ◌&&◌, filter, not, Option, Some, None, option_map, Ok, option_or, and-true, false≢true, map-append, find-append, ArrayVec, Command, Submission, is_immediate, oldest, submitted, watching, Moment, Submit, Ask, History, account_at, asked_for, end_heard, is_end_of, found_stands, handed_over, in_flight, is_poll, is_sent, last_told, moment, opcode_in, outstanding, reference, submission_at, unit_found, unit_in, unit_named, watch_at}
+use Rattle.mscp_host.proofs.Common.{◌≡◌, ℕ, ◌+◌, ◌<◌, ◌≤◌, Bool, true, false, cond, List, map, refl, ap, sym, ◌∙◌, arith, append-nil, ◌&&◌, filter, not, Option, Some, None, option_map, Ok, option_or, and-true, false≢true, map-append, find-append, ArrayVec, Command, Submission, is_immediate, oldest, submitted, watching, Moment, Submit, Ask, History, account_at, asked_for, end_heard, is_end_of, found_stands, in_flight, is_poll, is_sent, moment, opcode_in, outstanding, reference, submission_at, unit_found, unit_in, unit_named, watch_at}
 use Rattle.mscp_host.specs.declared.news.Poll.TheVariants as polls
 use Rattle.mscp_host.proofs.Collected.{ends_now, found_before, found_out, last_then, out_all, out_old, outstanding_more, untold}
 use Rattle.mscp_host.proofs.Lists.{filter_all, find_map, find_none}

@@ -1,12 +1,9 @@
 -- What a moment of a host of a port is to the host of 64 credits in it.
-use Rattle.mscp_host.proofs.Common.{Account, ArrayVec, Asked, Bool, Command, End, Envelope, Err, Hear, HearFault, Heard, HostFault, List, Message, None, Ok, Option, Poll, PortAccount, PortAnswers, PortMoment, Result, Resume, Some, Submission, Watch, [], and_parts, answered, ap, arith, as_read, asked_of, asks, attention_of, end_says, ended, ends_of, false, false≢true, find, granted, if◌then◌else◌, is_about_polled, is_code_of, is_of, is_some, may_be_of, message_in, news_in, news_of_figure, news_said, news_with, noted_poll, oldest, poll_of, polled_with, polls_oldest, received, refl, seen, seen_message, submits, submits_unless_faulty, submitted_with, sym, true, without_by, ℕ, ◌++◌, ◌∙◌, ◌∷◌, ◌≡◌}
+use Rattle.mscp_host.proofs.Common.{ArrayVec, Asked, Bool, Command, End, Envelope, Err, Hear, HearFault, Heard, HostFault, List, Message, Ok, Option, PortAccount, PortAnswers, PortMoment, Result, Resume, Some, Submission, [], and_parts, answered, arith, as_read, asked_of, end_says, ended, ends_of, false≢true, find, granted, if◌then◌else◌, is_about_polled, is_of, may_be_of, message_in, news_with, oldest, poll_of, polls_oldest, received, refl, seen, submits, submits_unless_faulty, submitted_with, true, without_by, ℕ, ◌++◌, ◌∷◌, ◌≡◌}
 use Rattle.mscp_host.specs.Histories as hosts
 use Rattle.mscp_host.specs.declared.message.Message.TheVariants as messages
 use Rattle.mscp_host.specs.declared.news.Poll.TheVariants as polls
-use Rattle.mscp_host.specs.declared.news.News.TheVariants as news
-use Rattle.mscp_host.specs.declared.news.HostFault.TheVariants as refusals
 use Rattle.mscp_host.specs.declared.message.HearFault.TheVariants as faults
-use Rattle.mscp_host.specs.declared.heard.Heard.TheVariants as heards
 use Rattle.mscp_host.specs.PortAccounts.{heard_of}
 use Rattle.mscp_host.proofs.PortBack.{resumed}
 use Rattle.mscp_host.specs.PortHistories.{Ask, Other, Submit}

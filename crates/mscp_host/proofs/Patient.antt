@@ -1,8 +1,7 @@
 -- A watch waits a whole timeout.
-use Rattle.mscp_host.proofs.Common.{Advice, Bool, Heard, Lately, List, PortAccount, Tick, Told, WatchMoment, Watched, WatchesArePatient, [], advice, advised, and_parts, ap, arith, cond, counted, false, false≢true, if◌then◌else◌, is_answer, is_owed, is_silent, is_tick, is_unpolled, is_waiting, leb-true, ltb-true, min, not, not-true, refl, subst, sum_by-cons, sym, ticked, true, ℕ, ◌&&◌, ◌+◌, ◌∙◌, ◌∷◌, ◌≡◌, ◌≤◌}
+use Rattle.mscp_host.proofs.Common.{Advice, Bool, Heard, Lately, List, PortAccount, Tick, Told, WatchMoment, Watched, WatchesArePatient, [], advice, and_parts, ap, arith, cond, counted, false, false≢true, if◌then◌else◌, is_silent, is_tick, is_unpolled, leb-true, ltb-true, min, not-true, refl, sum_by-cons, ticked, true, ℕ, ◌&&◌, ◌+◌, ◌∷◌, ◌≡◌, ◌≤◌}
 use Rattle.mscp_host.specs.declared.ticking.Advice.TheVariants as advices
 use Rattle.mscp_host.specs.declared.ticking.Watch.{Watch}
-use Rattle.mscp_host.specs.Watching.{is_polled}
 
 -- ---- the newest moments
 

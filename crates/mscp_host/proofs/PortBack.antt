@@ -1,5 +1,5 @@
 -- The bytes that a host of a port is saved as say that host.
-use Rattle.mscp_host.proofs.Common.{All, Asked, Err, HasAskedRange, HasPortRange, IsPorted, IsSavedAs, List, Name, None, Ok, PortAccount, RestoreFault, Result, Submission, [], ap, arith, asked_in, asked_with, bytes_eq, bytes_eq-Decides, drop, drop-drop, eq-eqb, flat_map, four, host_part, if◌then◌else◌, le-leb, length, length-append, map, name_of_asked, name_of_submission, nat_eq, port_account_in, port_head_fault, port_restored, port_restored_unless, port_restored_with, port_saved_bytes, port_whose, refl, restored, saved_bytes, size_bytes, suc, sym, true, two, ℕ, ◌*◌, ◌++◌, ◌+◌, ◌∙◌, ◌∷◌, ◌≡◌, ◌≤◌}
+use Rattle.mscp_host.proofs.Common.{All, Asked, Err, HasAskedRange, HasPortRange, IsPorted, IsSavedAs, List, Name, None, Ok, PortAccount, RestoreFault, Result, Submission, [], ap, arith, asked_in, asked_with, bytes_eq, bytes_eq-Decides, drop, drop-drop, eq-eqb, flat_map, four, host_part, if◌then◌else◌, le-leb, length, length-append, map, name_of_asked, name_of_submission, nat_eq, port_account_in, port_head_fault, port_restored, port_restored_unless, port_restored_with, port_saved_bytes, port_whose, refl, restored, saved_bytes, size_bytes, suc, sym, true, two, ℕ, ◌*◌, ◌++◌, ◌∙◌, ◌∷◌, ◌≡◌, ◌≤◌}
 use Rattle.mscp_host.specs.declared.restoring.RestoreFault.TheVariants as faults
 use Rattle.mscp_host.proofs.Back.{saved_long}
 

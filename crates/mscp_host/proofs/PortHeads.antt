@@ -1,5 +1,5 @@
 -- What the head of a saved host of a port tells, and what is read behind it.
-use Rattle.mscp_host.proofs.Common.{Account, Asked, Bool, List, None, Option, RestoreFault, Some, Submission, [], and_parts, ap, arith, asked_count, asked_in, asked_with, drop, drop-drop, eqb-true, host_part, if◌then◌else◌, leb-true, length, length-drop, length-take-le, map, name_of_asked, name_of_submission, not, num, port_head_fault, refl, saved_bytes, slice_index_or, suc, sym, take, take_more, true, true≢false, ℕ, ◌*◌, ◌++◌, ◌+◌, ◌-◌, ◌<◌, ◌∙◌, ◌∷◌, ◌≡◌, ◌≤◌}
+use Rattle.mscp_host.proofs.Common.{Account, Asked, List, None, Submission, [], and_parts, ap, arith, asked_count, asked_in, asked_with, drop, drop-drop, eqb-true, host_part, leb-true, length, length-drop, length-take-le, map, name_of_asked, name_of_submission, num, port_head_fault, refl, saved_bytes, slice_index_or, suc, sym, take, take_more, true≢false, ℕ, ◌*◌, ◌++◌, ◌+◌, ◌-◌, ◌<◌, ◌∙◌, ◌∷◌, ◌≡◌, ◌≤◌}
 use Rattle.mscp_host.proofs.Back.{saved_long}
 
 -- what was tested first holds

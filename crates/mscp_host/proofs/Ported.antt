@@ -1,5 +1,5 @@
 -- What is kept of commands beside the bytes that they ask for, on both sides.
-use Rattle.mscp_host.proofs.Common.{Account, Asked, Bool, End, List, Name, Option, Submission, [], answered, ap, arith, as_read, is_of, map, name_of_asked, name_of_submission, nat_eq, outstanding_with, received, refl, sym, with_told, without, without_by, ℕ, ◌∙◌, ◌∷◌, ◌≡◌}
+use Rattle.mscp_host.proofs.Common.{Account, Asked, Bool, End, List, Name, Submission, [], arith, as_read, is_of, map, name_of_asked, name_of_submission, nat_eq, received, refl, with_told, without, without_by, ℕ, ◌∷◌, ◌≡◌}
 
 abbrev is_named : ℕ → Name → Bool
 is_named reference n = nat_eq n.reference reference

@@ -1,5 +1,5 @@
 -- A list without the first that passes a test.
-use Rattle.mscp_host.proofs.Common.{Bool, List, None, Some, [], arith, cond, false≢true, length, nat_lt, nat_tests, position, position_or_len, refl, remove, true≢false, without_by, ℕ, ◌<◌, ◌∷◌, ◌≡◌, ◌≤◌}
+use Rattle.mscp_host.proofs.Common.{Bool, List, None, Some, [], arith, false≢true, length, nat_tests, position, position_or_len, refl, remove, true≢false, without_by, ℕ, ◌<◌, ◌∷◌, ◌≡◌, ◌≤◌}
 
 removed_cons : {X : Type 0} (p : X → Bool) (x : X) (xs : List X) (b : Bool) → p x ≡ b
     → (position_or_len p xs < length xs → remove xs (position_or_len p xs) ≡ without_by p xs)

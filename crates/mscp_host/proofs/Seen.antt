@@ -1,8 +1,8 @@
 -- The host of 64 credits in a host of a port, and the commands that the latter keeps, over a whole history.
-use Rattle.mscp_host.proofs.Common.{Account, Answered, Answers, Asked, Bool, End, History, List, None, Option, PortAccount, PortAnswered, PortHistory, PortHostsKeepTheirHistory, PortMoment, Settles, Some, Submission, [], account_at, and_parts, answered, ap, append-nil, are_apart, arith, as_read, asked_at, asked_of, drop, drop_all, drop_more, end_heard, eqb-true, false, false≢true, filter, find, fresh_of_port, get_or-map, has_reference, is_end_of, is_of, is_sent, is_some, length, length-map, list_any, map, map-append, moment, nat_eq, news_with, not, not-true, oldest, option_map, or_parts, outstanding, reference, refl, seen, slice_index_or, submission_at, subst, suc, sym, true, without_by, zero, ℕ, ◌++◌, ◌+◌, ◌<◌, ◌∙◌, ◌∷◌, ◌≡◌, ◌≤◌}
+use Rattle.mscp_host.proofs.Common.{Account, Answered, Answers, Asked, Bool, End, History, List, None, Option, PortAccount, PortAnswered, PortHistory, PortHostsKeepTheirHistory, PortMoment, Settles, Some, Submission, [], account_at, and_parts, answered, ap, append-nil, are_apart, arith, as_read, asked_at, drop, drop_all, drop_more, end_heard, eqb-true, false, false≢true, filter, find, fresh_of_port, get_or-map, has_reference, is_of, is_sent, is_some, length, length-map, list_any, map, map-append, moment, nat_eq, news_with, not, not-true, oldest, option_map, or_parts, outstanding, reference, refl, seen, slice_index_or, submission_at, subst, suc, sym, true, without_by, zero, ℕ, ◌++◌, ◌+◌, ◌<◌, ◌∙◌, ◌∷◌, ◌≡◌, ◌≤◌}
 use Rattle.mscp_host.specs.Histories as hosts
-use Rattle.mscp_host.specs.PortHistories.{Other, asked_in}
-use Rattle.mscp_host.proofs.Collected.{ends_now, outstanding_more}
+use Rattle.mscp_host.specs.PortHistories.{Other}
+use Rattle.mscp_host.proofs.Collected.{outstanding_more}
 use Rattle.mscp_host.proofs.Kept.{NoEnd, all_stay, polled_unit}
 use Rattle.mscp_host.proofs.Lists.{find_map}
 use Rattle.mscp_host.proofs.Moments.{Ends, Kind, Polls, Stays, Submits, kind}

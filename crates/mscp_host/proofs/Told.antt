@@ -1,5 +1,5 @@
 -- A figure is told of the oldest command alone, and a credit is kept for those that are answered when they arrive.
-use Rattle.mscp_host.proofs.Common.{◌≡◌, ◌≤◌, ◌<◌, ◌-◌, ℕ, Bool, true, false, ◌&&◌, ◌||◌, List, [], ◌∷◌, ◌++◌, length, refl, ap, subst, ◌∙◌, arith, not, Option, Some, None, is_none, list_all, list_any, and_parts, eqb-true, not-true, or_left, or_parts, false≢true, length-append, filter-append, list_all-append, count_by-le-length, length-filter, Submission, Watch, Account, balance, has_reference, is_about_polled, is_immediate, polled_is_outstanding, refusal, with_told, without, are_apart, waiting, are_told, is_numbered, is_oldest, is_watched}
+use Rattle.mscp_host.proofs.Common.{◌≡◌, ◌≤◌, ◌<◌, ◌-◌, ℕ, Bool, true, false, ◌&&◌, ◌||◌, List, [], ◌∷◌, ◌++◌, length, refl, subst, arith, not, Option, Some, None, is_none, list_all, list_any, and_parts, eqb-true, not-true, or_left, or_parts, false≢true, length-append, filter-append, list_all-append, count_by-le-length, length-filter, Submission, Watch, Account, balance, has_reference, is_about_polled, is_immediate, polled_is_outstanding, refusal, with_told, without, are_apart, waiting, are_told, is_oldest, is_watched}
 use Rattle.mscp_host.proofs.Watched.{is_oldest_told, oldest_more, oldest_without}
 
 -- ---- all pass a test

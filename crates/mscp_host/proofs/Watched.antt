@@ -1,5 +1,5 @@
 -- A poll in flight stays one that a host may have.
-use Rattle.mscp_host.proofs.Common.{◌≡◌, ℕ, Bool, true, false, ◌&&◌, List, [], ◌∷◌, ◌++◌, nat_eq, refl, ap, sym, ◌∙◌, arith, not, Option, Some, None, Ok, list_any, and_parts, or_left, or_right, true≢false, list_any-append, ArrayVec, Command, HostFault, Submission, Watch, Account, has_reference, is_immediate, poll_of, submission_of, submits_unless, submitted, watch_after, with_told, without, is_about_somebody, is_numbered, is_oldest, is_polled, is_status, is_watched, oldest_of}
+use Rattle.mscp_host.proofs.Common.{◌≡◌, ℕ, Bool, true, false, ◌&&◌, List, [], ◌∷◌, ◌++◌, nat_eq, refl, ap, sym, ◌∙◌, arith, not, Option, Some, Ok, list_any, and_parts, or_left, or_right, true≢false, list_any-append, ArrayVec, Command, HostFault, Submission, Watch, Account, has_reference, is_immediate, poll_of, submission_of, submits_unless, submitted, watch_after, with_told, without, is_numbered, is_oldest, is_polled, is_status, is_watched, oldest_of}
 use Rattle.mscp_host.specs.Watched.{is_poll}
 
 -- ---- one of the submissions passes a test

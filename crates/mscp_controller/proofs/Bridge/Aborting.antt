@@ -1,5 +1,5 @@
 -- What a message aborts: the same by records and by history.
-use Rattle.mscp_controller.proofs.Basics.{◌≡◌, ◌≢◌, ⊎_elim, ℕ, Bool, true, false, not, List, [], ◌∷◌, map, ap, sym, ◌∙◌, subst, arith, filter, find, if◌then◌else◌, Option, Some, None, option_map, option_to_list, slice_get, Ok, AllByRecursion, Command, Order, AreApart, names, Name, aborted_end, Record, aborted_record, has_name, name_of, without, Connection, name_on, same_name, differ_is, is_differ, is_same, same_is, found_once, every_from, every_mapped, every_parts, every_weaker, filter_all, filter_on, filter_map_of, find_cases, find_first, find_none, map_map, Settings, Trace, command, name, reference, waiting, good, ends_in, is_waiting, aborted_unless, named, record_aborted, reference_aborted, begun_after, unaborted, Sent, Apart, cut, waits_below}
+use Rattle.mscp_controller.proofs.Basics.{◌≡◌, ◌≢◌, ⊎_elim, ℕ, Bool, true, false, not, List, [], ◌∷◌, map, ap, sym, ◌∙◌, subst, arith, filter, find, if◌then◌else◌, Option, Some, None, option_map, option_to_list, slice_get, Ok, AllByRecursion, Command, Order, AreApart, names, Name, aborted_end, Record, aborted_record, has_name, name_of, without, Connection, name_on, same_name, differ_is, is_differ, is_same, same_is, found_once, every_from, every_mapped, every_parts, every_weaker, filter_all, filter_on, filter_map_of, find_cases, find_first, find_none, map_map, Settings, Trace, command, name, reference, waiting, good, ends_in, is_waiting, named, record_aborted, reference_aborted, begun_after, unaborted, Sent, Apart, cut, waits_below}
 use Rattle.mscp_controller.specs.declared.entry.Entry.TheVariants as entries
 use Rattle.mscp_controller.specs.Ends as history
 use Rattle.mscp_controller.proofs.Bridge.Held.{held_of}

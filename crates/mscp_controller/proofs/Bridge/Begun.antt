@@ -1,5 +1,5 @@
 -- What is begun when one more call comes.
-use Rattle.mscp_controller.proofs.Bridge.Basics.{◌≡◌, ℕ, ◌+◌, ◌<◌, ◌≤◌, Bool, true, false, not, List, [], ◌∷◌, ◌++◌, take, drop, length, refl, ap, sym, ◌∙◌, subst, append_assoc, append-nil, arith, if◌then◌else◌, is_some, nat_eq, unwrap_or, Option, Some, None, list_any, and_parts, true≢false, drop-append-le, drop_all, get_or_append_left, get_or_at, length-append, length_push, take-append-drop, take-append-le, take_at, list_any-append, flat_map-append, Upcoming, Choice, Name, Settings, Trace, ends_in, is_waiting, name, waiting, IsLegal, IsPick, Call, HoldsToBegun, IsBegunSince, IsRightCall, NothingBegun, StartsChosen, call_at, foretold, history, moments_of, steps, upcoming_in, upcoming_name, Begin, Holdings, Apart, one_waits, is_waiting_before, cut, waits_below, Agrees}
+use Rattle.mscp_controller.proofs.Bridge.Basics.{◌≡◌, ℕ, ◌<◌, ◌≤◌, Bool, true, false, List, [], ◌∷◌, ◌++◌, take, drop, length, refl, ap, sym, ◌∙◌, subst, append_assoc, append-nil, arith, if◌then◌else◌, is_some, nat_eq, Option, Some, None, and_parts, true≢false, drop-append-le, drop_all, get_or_append_left, get_or_at, length-append, length_push, take-append-drop, take-append-le, take_at, list_any-append, flat_map-append, Upcoming, Choice, Name, Settings, Trace, is_waiting, name, waiting, IsLegal, IsPick, Call, HoldsToBegun, IsBegunSince, IsRightCall, NothingBegun, StartsChosen, call_at, foretold, history, moments_of, steps, upcoming_in, upcoming_name, Begin, Holdings, Apart, one_waits, is_waiting_before, cut, waits_below, Agrees}
 
 -- ---- one more call
 pub history_more : (calls : List Call) (call : Call) → history (calls ++ call ∷ []) ≡ history calls ++ moments_of call

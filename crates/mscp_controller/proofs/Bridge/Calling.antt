@@ -1,5 +1,5 @@
 -- Every call of a controller that somebody holds is answered right, and what was begun is held to.
-use Rattle.mscp_controller.proofs.Bridge.Basics.{◌≡◌, ℕ, ◌<◌, Bool, true, false, not, List, [], ◌∷◌, ◌++◌, map, refl, ap, sym, ◌∙◌, subst, append_assoc, append-nil, arith, IfSome, if◌then◌else◌, Option, Some, None, Result, Ok, Err, false≢true, Command, command_of, Block, Report, Upcoming, Choice, Line, Name, Connection, name_on, same_name, is_begun, Event, Entry, SendFault, NotBegun, Settings, IsValid, refusal, Trace, Moment, Service, is_step, service_in, ends_in, is_waiting, name, waiting, IsLegal, IsServed, block_of, Answers, Finishes, Holdings, Steps, balance_of, fresh, held_unless, outstanding_of, sent_unless, AnswersCall, AtEachCall, Begin, Call, Finish, HoldsToBegun, IsAsTold, IsBegun, IsBegunSince, IsChosen, IsRightCall, Plain, StartsChosen, foretold, history, start_of, upcoming_name, differ_is, same_is, each_push, one_waits, command_before, connection_before, is_waiting_before, done_kept, waits_below, owner_kept, unbegun_kept, legal_more, held_of, Agrees}
+use Rattle.mscp_controller.proofs.Bridge.Basics.{◌≡◌, ℕ, ◌<◌, Bool, true, false, not, List, [], ◌∷◌, ◌++◌, map, refl, ap, sym, ◌∙◌, subst, append_assoc, append-nil, arith, IfSome, if◌then◌else◌, Option, Some, None, Result, Ok, Err, false≢true, Command, command_of, Block, Report, Upcoming, Choice, Name, Connection, name_on, same_name, is_begun, Event, Entry, SendFault, NotBegun, Settings, IsValid, refusal, Trace, Moment, Service, is_step, service_in, ends_in, is_waiting, name, waiting, IsLegal, IsServed, block_of, Answers, Finishes, Holdings, Steps, balance_of, fresh, held_unless, outstanding_of, sent_unless, AnswersCall, AtEachCall, Begin, Call, Finish, HoldsToBegun, IsAsTold, IsBegun, IsBegunSince, IsChosen, IsRightCall, Plain, StartsChosen, history, start_of, upcoming_name, differ_is, same_is, each_push, one_waits, command_before, connection_before, is_waiting_before, done_kept, waits_below, owner_kept, unbegun_kept, legal_more, held_of, Agrees}
 use Rattle.mscp_controller.proofs.Promise.States.{is_online_kept}
 use Rattle.mscp_controller.proofs.Bridge.Aborting.{begun_left}
 use Rattle.mscp_controller.proofs.Bridge.Begun.{PicksThen, Held, IsPickThen, Turned, none_waits, Holds, history_more, holds_on, nothing_stepped, name_begun}
@@ -56,14 +56,12 @@ module _ {K : Type 0} (c : Settings) (picks : PicksThen) (calls : List Call) (k 
   starts_chosen : (report : Report) (h h' : Holdings K) (o : Option Name) → Agrees c (history calls) h
       → Held c picks calls h o → Turns c (picks calls) (history calls) (Event.Step k, Entry.Stepped report) h.begun h'
       → IfSome (start_of (service_in (Entry.Stepped report))) (IsChosen (IsPickThen c picks) calls)
-  starts_chosen Report.Idle h h' o a b turn = tt
-  starts_chosen (Report.Served via' reference' unit' lbn false seek e') h h' o a b turn = tt
-  starts_chosen (Report.Served via' reference' unit' lbn true seek e') h h' None a b turn = search arith
   starts_chosen (Report.Served via' reference' unit' lbn true seek e') h h' (Some n) a b turn =
       let same : name_on via' reference' ≡ n = turn.same n b.0 in
       let told = as_told
       (Report.Served via' reference' unit' lbn true seek e') h h' (Some n) a b turn b.1.0 b.1.1 b.1.2 b.1.3.is in
       search arith
+  starts_chosen w h h' o a b turn = grind arith
 
   -- after a step nothing is begun
   unbegun_after : (report : Report) (h h' : Holdings K) (o : Option Name) → Held c picks calls h o

@@ -1,5 +1,5 @@
 -- A controller of a picker keeps the promise, and a run has it.
-use Rattle.mscp_controller.proofs.Common.{◌≡◌, inl, inr, ℕ, ◌-◌, ◌+◌, ◌++◌, ◌∷◌, [], List, take, length, ap, ◌∙◌, arith, IfSome, Option, Some, None, Choice, figure_of_name, Name, name_of, holders_of_name, names, map_map, Event, Entry, Settings, IsValid, credits_of, of, Answered, Holdings, fresh, waiting_on, IsRun, IsPick, IsSwept, AnsweredCalls, AtEachCall, Call, IsChosen, StartsChosen, Trace, call_at, view, history, starts, KeepsPromise, waiting}
+use Rattle.mscp_controller.proofs.Common.{◌≡◌, ℕ, ◌++◌, ◌∷◌, [], List, ap, ◌∙◌, arith, Choice, figure_of_name, Name, name_of, holders_of_name, names, map_map, Event, Entry, Settings, IsValid, Answered, Holdings, fresh, IsRun, IsPick, IsSwept, AnsweredCalls, AtEachCall, Call, StartsChosen, Trace, view, history, KeepsPromise, waiting}
 use Rattle.mscp_controller.proofs.Bridge.Swept.{sweeping, swept_pick}
 use Rattle.mscp_controller.proofs.Bridge.Basics.{figure_of_held, held_of, balance_held}
 use Rattle.mscp_controller.proofs.Bridge.Holders.{holders_of_held, startable_unheld}

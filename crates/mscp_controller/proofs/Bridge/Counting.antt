@@ -1,5 +1,5 @@
 -- How many commands of each connection wait.
-use Rattle.mscp_controller.proofs.Basics.{◌≡◌, ℕ, ◌+◌, ◌<◌, Bool, true, false, not, ◌&&◌, List, [], ◌∷◌, ◌++◌, map, length, take, drop, ap, refl, arith, if◌then◌else◌, option_to_list, Option, and-false, true≢false, length-append, filter-append, End, Block, Connection, First, Second, Report, Choice, Line, Serves, name_on, same_connection, Record, no_record, passed_by, record_at, remains, without, every_from, filter_filter, filter_on, one_side, other_side, cut_at, ends_reported, waiting_on, sides_length}
+use Rattle.mscp_controller.proofs.Basics.{◌≡◌, ℕ, ◌+◌, ◌<◌, false, List, [], ◌∷◌, ◌++◌, map, length, take, drop, ap, refl, arith, if◌then◌else◌, option_to_list, Option, and-false, true≢false, length-append, filter-append, End, Block, Connection, First, Second, Report, Choice, Line, Serves, name_on, same_connection, Record, no_record, passed_by, record_at, remains, without, every_from, filter_filter, filter_on, one_side, other_side, cut_at, ends_reported, waiting_on, sides_length}
 
 -- ---- a step
 passed_count : (n : ℕ) (via : Connection) (rs : List Record)

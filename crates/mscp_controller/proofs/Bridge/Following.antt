@@ -1,5 +1,5 @@
 -- Every answer is right and picked, and what is then held is that of the run.
-use Rattle.mscp_controller.proofs.Bridge.Basics.{◌≡◌, ℕ, suc, ◌≤◌, true, List, [], ◌∷◌, ◌++◌, map, drop, length, refl, ap, sym, ◌∙◌, subst, append-nil, arith, zip, slice_get, Option, Some, None, option_map, append_assoc, ArrayVec, End, end_bytes, Connection, Block, Report, Choice, figures, Line, Event, Entry, Settings, IsValid, Both, of, put, Trace, Moment, collect, takes, waiting, ends, untaken, IsLegal, IsPicked, IsRight, Answered, Answers, Holdings, Steps, after_take, fresh, owner_kept, unbegun_kept, legal_more, picked_more, known_empty, held_of, figures_held, untaken_taken, driven_fresh, Agrees, IsUntaken, Sends, ends_on, ends_stay, quiet, sends}
+use Rattle.mscp_controller.proofs.Bridge.Basics.{◌≡◌, ℕ, suc, ◌≤◌, List, [], ◌∷◌, ◌++◌, map, drop, length, refl, ap, sym, ◌∙◌, subst, append-nil, arith, zip, slice_get, Option, Some, None, option_map, append_assoc, ArrayVec, End, end_bytes, Connection, Block, Report, Choice, figures, Line, Event, Entry, Settings, IsValid, Both, of, put, Trace, Moment, collect, waiting, ends, untaken, IsLegal, IsPicked, IsRight, Answered, Answers, Holdings, Steps, after_take, fresh, owner_kept, unbegun_kept, legal_more, picked_more, known_empty, held_of, figures_held, untaken_taken, driven_fresh, Agrees, IsUntaken, Sends, ends_on, ends_stay, quiet, sends}
 use Rattle.mscp_controller.proofs.Bridge.Stepped.{Turns, of_after, turns_at}
 
 -- ---- a look

@@ -1,5 +1,5 @@
 -- What is known of a message that isn't refused.
-use Rattle.mscp_controller.proofs.Common.{◌≡◌, ℕ, Bool, true, false, ◌&&◌, ◌||◌, List, [], ◌∷◌, ◌++◌, refl, ap, arith, cond, nat_eq, slice_index, None, list_any, list_any-append, le-ltb, true≢false, Connection, name_on, same_connection, Record, has_name, Command, IsCommand, Option, subst, sym, ◌∙◌, command_of, End, numbers, numbers_ended, waiting_on, credit_fault, holds, refusal}
+use Rattle.mscp_controller.proofs.Common.{◌≡◌, ℕ, false, ◌||◌, List, [], ◌∷◌, ◌++◌, refl, ap, arith, nat_eq, slice_index, None, list_any, list_any-append, le-ltb, true≢false, Connection, name_on, Record, has_name, Command, IsCommand, Option, command_of, End, numbers, numbers_ended, waiting_on, credit_fault, holds, refusal}
 use Rattle.mscp_packet.proofs.Kept.{opcode_kept}
 use Rattle.mscp_packet.specs.Commands.{opcode_byte}
 use Rattle.mscp_controller.specs.declared.entry.SendFault.{SendFault}

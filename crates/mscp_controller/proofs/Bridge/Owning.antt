@@ -1,5 +1,5 @@
 -- What no event changes: the settings and the picker, and that nothing is begun.
-use Rattle.mscp_controller.proofs.Common.{◌≡◌, List, ℕ, ap, sym, subst, ◌∙◌, arith, Option, None, Command, command_of, Block, Connection, Report, Choice, Line, Serves, SendFault, Event, Entry, refusal, Answers, Holdings, balance_of, held_unless, line_of, outstanding_of}
+use Rattle.mscp_controller.proofs.Common.{◌≡◌, List, ℕ, arith, Option, None, Command, Block, Connection, Report, Choice, Line, Serves, SendFault, Event, Entry, Answers, Holdings, held_unless}
 
 -- the limits and the picker stay
 pub stays : {K : Type 0} (picks : List Choice → ℕ → Type 0) (k : Block) (old : Line K) (report : Report) (new : Line K)

@@ -1,5 +1,5 @@
 -- A controller whose picker is replaced keeps the promise: at each call its picker is that which it has at.
-use Rattle.mscp_controller.proofs.Common.{◌≡◌, ℕ, List, [], ◌∷◌, Option, None, Some, refl, ap, arith, Result, Command, Block, Connection, Event, IsValid, Settings, Drive, Name, Report, Upcoming, Choice, Begins, Serves, Record, IsNext, view_of, AnswersCall, Begin, Call, Finish, Line, Plain, Ok, Err, history, length, ◌++◌, ◌∙◌, append-nil, append_assoc, subst, sym, KeepsPromiseInTurn, picker_at, IsSwept, Sweeps, Answers, Finishes, Holdings, Steps, fresh, held_unless, line_of, sent_unless, AnsweredInTurn, Called, Replaced, Turn, calls_of, Entry, SendFault, NotBegun}
+use Rattle.mscp_controller.proofs.Common.{◌≡◌, ℕ, List, [], ◌∷◌, Option, None, Some, refl, ap, arith, IsValid, Settings, Drive, Name, Choice, Record, IsNext, view_of, AnswersCall, Begin, Call, Finish, Line, Plain, Ok, Err, history, length, ◌++◌, ◌∙◌, append-nil, append_assoc, subst, sym, KeepsPromiseInTurn, picker_at, IsSwept, Sweeps, Holdings, fresh, AnsweredInTurn, Called, Replaced, Turn, calls_of}
 use Rattle.mscp_controller.proofs.Bridge.Begun.{PicksThen, IsPickThen}
 use Rattle.mscp_controller.proofs.Bridge.Calling.{AnsweredThen, called}
 use Rattle.mscp_controller.proofs.Bridge.Controllers.{each_weaker, keeps_then}
@@ -18,29 +18,16 @@ shown h = view_of h.settings.budget h.drives h.waiting
 abbrev Allows : List Choice → (List Choice → ℕ → Type 0) → (List Choice → ℕ → Type 0) → Type 0
 Allows view picks allowed = (place : ℕ) → picks view place → allowed view place
 
--- ---- messages
-module _ {K : Type 0} (via : Connection) (h : Holdings K) (a : K) (command : Command) (o : Option SendFault) where
-  held_by : by a (held_unless via h command o) ≡ held_unless via (by a h) command o
-  held_by = grind arith
-
-  sent_by : sent_unless via h command o ≡ sent_unless via (by a h) command o
-  sent_by = grind arith
-
 -- ---- steps
 next_allowed : (picks allowed : List Choice → ℕ → Type 0) (budget : ℕ) (ds : List Drive) (rs : List Record)
     (begun : Option Name) (place : ℕ) → Allows (view_of budget ds rs) picks allowed
     → IsNext picks budget ds rs begun place → IsNext allowed budget ds rs begun place
 next_allowed picks allowed budget ds rs begun place allows n = search arith
 
-module _ {K : Type 0} (picks allowed : List Choice → ℕ → Type 0) (a : K) where
-  steps_by : (k : Block) (old new : Holdings K) (report : Report)
-      → Allows (shown old) picks allowed → Steps picks k old report new → Steps allowed k (by a old) report (by a new)
-  steps_by k old new report allows s = grind (arith, next_allowed)
-  -- ---- calls
-
+-- ---- calls
 call_by : {K : Type 0} (picks allowed : List Choice → ℕ → Type 0) (a : K) (old new : Holdings K) (call : Call)
     → Allows (shown old) picks allowed → AnswersCall picks old call new → AnswersCall allowed (by a old) call (by a new)
-call_by picks allowed a old new call h6 h7 = grind (arith, next_allowed, sent_by, held_by, steps_by)
+call_by picks allowed a old new call h6 h7 = grind (arith, next_allowed)
 
 picker_kept : {K : Type 0} (picks : List Choice → ℕ → Type 0) (h h' : Holdings K) (call : Call)
     → AnswersCall picks h call h' → h'.picker ≡ h.picker

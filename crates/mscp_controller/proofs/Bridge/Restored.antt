@@ -1,5 +1,5 @@
 -- A controller as it was, and what is known of one that is.
-use Rattle.mscp_controller.proofs.Common.{true, List, arith, All-from_recursion, IsOfKind, Connection, First, Second, ArePassedInOrder, Line, Record, Account, Accounts, untaken_in, IsAccount, IsHeld, IsCovered, IsSound, Settings}
+use Rattle.mscp_controller.proofs.Common.{true, List, arith, All-from_recursion, Connection, First, Second, ArePassedInOrder, Line, Record, Account, Accounts, untaken_in, IsAccount, IsHeld, IsCovered, IsSound, Settings}
 use Rattle.mscp_queue.specs.Kept as queue
 
 covered_of : {c : Settings} {rs : List Record} {via : Connection} {own : Account}

@@ -1,6 +1,5 @@
 -- A message: the answer to it is right, and what is held after it.
-use Rattle.mscp_controller.proofs.Basics.{◌≡◌, ℕ, ◌+◌, ◌-◌, ◌≤◌, Bool, true, false, not, List, [], ◌∷◌, ◌++◌, map, length, refl, ap, sym, ◌∙◌, subst, append-nil, append_assoc, arith, filter, if◌then◌else◌, Option, Some, None, is_some, option_map, option_to_list, Result, Ok, Err, length-map, Command, Order, End, command_of, Drive, Record, aborted_record, name_of, SendFault, Sent, ArrayVec, Settings, credits_of, unit_found, Both, of, is_queued, refusal, own_end, Trace, Moment, queues, service_in, takes, ends_in, reference, waiting_by, is_online, answer, ends_at, untaken, balance, outstanding, arrival, taken_in, taken_unless, IsRight, Holdings, record_aborted, reference_aborted, aborting, after_message, answer_to_message, answered_end, balance_of, with_end, figure_polled, held_unless, outstanding_of, queued, sent_unless, waiting_on, Connection, drive_of, every_from, filter_all, filter_map_of, map_map, Event, Entry, taken_when, untaken_more}
-use Rattle.mscp_controller.specs.Ends as history
+use Rattle.mscp_controller.proofs.Basics.{◌≡◌, ℕ, ◌+◌, ◌-◌, ◌≤◌, Bool, true, false, not, List, [], ◌∷◌, ◌++◌, map, length, refl, ap, sym, ◌∙◌, subst, append-nil, append_assoc, arith, filter, if◌then◌else◌, Option, Some, None, option_map, option_to_list, Result, Ok, Err, length-map, Command, End, command_of, Record, aborted_record, name_of, SendFault, Sent, ArrayVec, Settings, credits_of, Both, of, is_queued, refusal, Trace, Moment, queues, service_in, takes, ends_in, waiting_by, answer, ends_at, untaken, balance, outstanding, arrival, taken_in, taken_unless, IsRight, Holdings, record_aborted, reference_aborted, aborting, after_message, answer_to_message, answered_end, with_end, held_unless, queued, sent_unless, waiting_on, Connection, every_from, filter_all, filter_map_of, map_map, Event, Entry, taken_when, untaken_more}
 use Rattle.mscp_controller.proofs.Bridge.Held.{held_of, Follows, figure_of_held}
 use Rattle.mscp_controller.proofs.Bridge.Aborting.{end_made, others_wait, reference_told}
 use Rattle.mscp_controller.proofs.Bridge.Quiet.{IsQuiet, follows_left, follows_queued}
@@ -30,16 +29,11 @@ module _ (c : Settings)
 -- a message is refused alike
 -- ---- its end
 -- An answer asks for the state of no unit that isn't configured.
-own_same : (c : Settings) (on on' : Bool) (figure reference unit : ℕ) (o : Order)
-    → (is_some (unit_found c unit) ≡ true → on ≡ on') → let k : Command =
-    record { reference = reference; unit = unit; order = o } in own_end c on figure k ≡ own_end c on' figure k
-own_same c on on' figure reference unit o h7 = search arith
-
 answer_held : {K : Type 0} (via : Connection) (h : Holdings K) (t : Trace) (b : List ℕ) → Agrees h.settings t h
     → option_to_list (option_map aborted_record (record_aborted via h.waiting (command_of b).order)) ++ answered_end
     via h (command_of b) ∷ [] ≡ answer h.settings via t b
 unfolding answer
-answer_held via h t b a = grind (arith, own_same, drive_found, end_made, figure_of_held)
+answer_held via h t b a = grind (arith, drive_found, end_made, figure_of_held)
 
 -- ---- what becomes of it
 -- what is answered to a message is right, and what is then held is that of the run

@@ -1,6 +1,5 @@
 -- The record that may be served next: the run serves its command next, too.
-use Rattle.mscp_controller.proofs.Bridge.Basics.{◌≡◌, ℕ, ◌+◌, ◌<◌, Bool, true, false, ◌&&◌, ◌||◌, List, [], ◌∷◌, map, take, drop, get_or, length, refl, ap, sym, ◌∙◌, subst, arith, All, nat_eq, Option, Some, None, is_some, AllByRecursion, list_all, eq-eqb, eqb-false, lt-ltb, get_or-map, length-map, recursion_from_All, Drive, Choice, drive_of, Name, Record, name_of, record_at, IsNext, open_places, Settings, unit_found, Trace, name, unit, is_idle, is_waiting, waiting, done, in_service, is_startable, startable, view, same_is, every_mapped, every_weaker, every_parts, waiting_waits, held_of, Driven, drive_by, drive_found, cut_at, record_held, startable_held, startable_places, view_held, waiting_at}
-use Rattle.mscp_queue.specs.Records as recorded
+use Rattle.mscp_controller.proofs.Bridge.Basics.{◌≡◌, ℕ, ◌+◌, ◌<◌, Bool, true, ◌&&◌, ◌||◌, List, [], ◌∷◌, map, take, drop, get_or, length, refl, ap, ◌∙◌, subst, arith, All, nat_eq, Option, Some, None, is_some, AllByRecursion, list_all, eq-eqb, eqb-false, lt-ltb, get_or-map, length-map, recursion_from_All, Drive, Choice, drive_of, Name, Record, record_at, IsNext, Settings, unit_found, Trace, name, unit, is_idle, is_waiting, waiting, done, in_service, is_startable, startable, view, same_is, every_mapped, every_weaker, every_parts, waiting_waits, held_of, Driven, drive_by, drive_found, cut_at, record_held, startable_held, startable_places, view_held, waiting_at}
 
 pub all_of : (p : ℕ → Bool) (xs : List ℕ) → AllByRecursion (λ x. p x ≡ true) xs → list_all p xs ≡ true
 all_of p [] h = refl

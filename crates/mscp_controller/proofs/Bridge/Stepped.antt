@@ -1,6 +1,6 @@
 -- A step of the record that may be served next: it is right, it is picked, and what is held after it is that of the
 -- run.
-use Rattle.mscp_controller.proofs.Bridge.Basics.{◌≡◌, ℕ, ◌+◌, ◌<◌, Bool, true, false, cond, ◌&&◌, List, [], ◌∷◌, ◌++◌, map, take, drop, length, refl, ap, sym, ◌∙◌, subst, arith, All, IfSome, nat_eq, Option, Some, None, option_to_list, if◌then◌else◌, AllByRecursion, and-false, eq-eqb, lt-ltb, true≢false, false≢true, map-append, take-map, drop-map, recursion_from_All, End, Block, Drive, Report, Choice, drive_of, replaced, Line, ServesAt, Name, Connection, same_connection, order_weight, Record, advanced, step_charge, passed_by, record_at, IsNext, drive_after, report_of, waiting_after, Settings, IsValid, Both, of, Trace, Moment, is_good, service_in, WhenStarted, connection, name, reference, service_name, unit, is_waiting, waiting, weight, done, good, serves_in, passed, untaken, IsPick, IsRight, block_of, end_of, IsServed, seek_to, Holdings, ends_after, ends_reported, line_of, is_same, every_mapped, every_weaker, every_both, every_from, every_parts, map_map, map_on, Event, Entry, command_before, connection_before, done_before, good_before, untaken_more, cut_of, waiting_below, waiting_waits, Apart, alone, Step, changes, below_parts, none_starts, passed_behind, passed_front, service_by, known_more, held_of, drive_by, driven_served, end_held, held_same, records_kept, Agrees, Sends, cut_at, record_held, waiting_at}
+use Rattle.mscp_controller.proofs.Bridge.Basics.{◌≡◌, ℕ, ◌+◌, ◌<◌, Bool, true, false, cond, List, [], ◌∷◌, ◌++◌, map, take, drop, length, refl, ap, sym, ◌∙◌, subst, arith, All, IfSome, nat_eq, Option, Some, None, AllByRecursion, and-false, eq-eqb, lt-ltb, true≢false, false≢true, map-append, take-map, drop-map, recursion_from_All, End, Block, Drive, Report, Choice, replaced, Line, ServesAt, Name, Connection, Record, advanced, step_charge, passed_by, record_at, IsNext, drive_after, report_of, waiting_after, Settings, IsValid, Both, of, Trace, Moment, service_in, WhenStarted, connection, reference, service_name, unit, is_waiting, waiting, weight, done, good, passed, untaken, IsPick, IsRight, block_of, end_of, IsServed, seek_to, Holdings, ends_after, ends_reported, line_of, is_same, every_mapped, every_weaker, every_both, every_from, every_parts, map_map, map_on, Event, Entry, command_before, connection_before, done_before, good_before, untaken_more, cut_of, waiting_below, waiting_waits, Apart, alone, Step, changes, below_parts, none_starts, passed_behind, passed_front, service_by, known_more, held_of, drive_by, driven_served, end_held, held_same, records_kept, Agrees, Sends, cut_at, record_held, waiting_at}
 use Rattle.mscp_queue.specs.Records as recorded
 use Rattle.mscp_controller.specs.Passing as passings
 use Rattle.mscp_controller.proofs.Bridge.Servable.{Next, next_held, reads, waits_at}
@@ -31,12 +31,8 @@ module _ (c : Settings) (t : Trace) (k : Block) (place : ℕ) where
   step_at apart n = search (arith, cut_at t place n.inside, served_at n, alone, cut_of, changes)
 
 -- ---- the others
-one_if : Bool → ℕ
-one_if b = cond b 1 0
-
 good_same : (t : Trace) (m : Moment) (x : ℕ)
     → x < length t → done (t ++ m ∷ []) x ≡ done t x → good (t ++ m ∷ []) x ≡ good t x
-unfolding one_if
 good_same t m x l d = grind (arith, good_before, done_before)
 
 -- the commands behind it keep their records

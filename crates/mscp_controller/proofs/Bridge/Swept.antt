@@ -1,5 +1,5 @@
 -- Where a picker picks only what the sweep may pick, each command that starts is the one that the sweep starts.
-use Rattle.mscp_controller.proofs.Basics.{◌≡◌, ℕ, ◌+◌, ◌<◌, ◌≤◌, Bool, true, false, not, List, ◌∷◌, ◌++◌, map, take, drop, get_or, length, ap, sym, ◌∙◌, subst, arith, find, nat_eq, Option, Some, None, AllByRecursion, list_all, and-false, le-ltb, lt-ltb, ne_eqb, drop_more, get_or-map, length-map, take-append-drop, take-map, recursion_from_All, list_all-append, Choice, Name, IsFirstLeast, Pairs, every_append, every_both, every_mapped, every_parts, every_weaker, pairs_filter, pairs_middle, find_first, map_map, Settings, Trace, moment, Service, service_in, WhenStarted, service_name, waiting, is_startable, startable, cost, IsPick, IsPicked, IsSwept, IsSweeping, Sweeps, goes_before, swept, waiting_rises}
+use Rattle.mscp_controller.proofs.Basics.{◌≡◌, ℕ, ◌+◌, ◌<◌, ◌≤◌, Bool, true, false, not, List, ◌∷◌, ◌++◌, map, take, drop, get_or, length, ap, sym, ◌∙◌, subst, arith, find, Option, Some, None, AllByRecursion, list_all, and-false, le-ltb, lt-ltb, ne_eqb, drop_more, get_or-map, length-map, take-append-drop, take-map, recursion_from_All, list_all-append, Choice, Name, IsFirstLeast, Pairs, every_append, every_both, every_mapped, every_parts, every_weaker, pairs_filter, pairs_middle, find_first, map_map, Settings, Trace, moment, Service, service_in, WhenStarted, service_name, waiting, is_startable, startable, cost, IsPick, IsPicked, IsSwept, IsSweeping, Sweeps, goes_before, swept, waiting_rises}
 use Rattle.mscp_controller.proofs.Bridge.Servable.{all_of}
 
 -- no other goes before what costs less, or as much and came earlier

@@ -1,5 +1,5 @@
 -- What a begin tells is what the next step serves, and it is kept.
-use Rattle.mscp_controller.proofs.Bridge.Basics.{◌≡◌, inl, ℕ, Bool, true, false, List, [], ◌∷◌, ◌++◌, map, refl, ap, sym, ◌∙◌, subst, arith, IfSome, if◌then◌else◌, nat_eq, Option, Some, None, Upcoming, BeginsAt, Line, Name, Record, name_of, IsNext, upcoming_of, Settings, Trace, is_waiting, name, unit, waiting, IsLegal, block_of, Foretells, Holdings, line_of, Begin, Call, HoldsToBegun, IsChosen, NothingBegun, foretold, history, upcoming_name, one_waits, drive_by, held_of, Agrees, waiting_at}
+use Rattle.mscp_controller.proofs.Bridge.Basics.{◌≡◌, inl, ℕ, Bool, true, false, List, [], ◌∷◌, ◌++◌, map, refl, ap, sym, ◌∙◌, subst, arith, IfSome, if◌then◌else◌, nat_eq, Option, Some, None, Upcoming, BeginsAt, Name, IsNext, upcoming_of, Settings, Trace, is_waiting, name, unit, waiting, IsLegal, block_of, Foretells, Holdings, line_of, Begin, Call, HoldsToBegun, IsChosen, NothingBegun, foretold, history, upcoming_name, one_waits, drive_by, held_of, Agrees, waiting_at}
 use Rattle.mscp_controller.proofs.Bridge.Begun.{PicksThen, Held, IsPickThen, Turned, Holds, begin_same, holds_again, holds_new, nothing_told, name_begun}
 use Rattle.mscp_controller.proofs.Bridge.Following.{none_mapped}
 use Rattle.mscp_controller.proofs.Bridge.Servable.{next_held, reads, waits_at}

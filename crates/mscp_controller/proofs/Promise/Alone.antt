@@ -1,5 +1,5 @@
 -- At most one command is in service, and if none is, the oldest that waits may start.
-use Rattle.mscp_controller.proofs.Basics.{◌≡◌, ◌⊎◌, ⊎_elim, ℕ, ◌<◌, ◌≤◌, true, not, List, [], ◌∷◌, length, ap, arith, filter, slice_get, Some, is_some, AllByRecursion, false≢true, ltb-true, every_weaker, filter_none, Settings, Trace, done, in_service, is_idle, waiting, is_free, is_startable, Single, cut_of, earlier_is}
+use Rattle.mscp_controller.proofs.Basics.{◌≡◌, ℕ, ◌≤◌, true, not, List, [], ◌∷◌, length, ap, arith, filter, slice_get, Some, is_some, false≢true, ltb-true, every_weaker, filter_none, Settings, Trace, in_service, is_idle, waiting, is_free, is_startable, Single, cut_of, earlier_is}
 
 -- beside one that was served nobody is
 pub one_served : (t : Trace) (xs : List ℕ) → Single t xs → length (filter (in_service t) xs) ≤ 1

@@ -1,5 +1,5 @@
 -- What is known of a message that was taken.
-use Rattle.mscp_controller.proofs.Common.{◌≡◌, ℕ, ◌≤◌, Bool, true, false, not, ◌&&◌, List, length, arith, nat_eq, if◌then◌else◌, slice_index, Option, Some, None, Result, Ok, Err, true≢false, false≢true, Command, SendFault, Sent, Event, Entry, Connection, Settings, num, class, is_immediate_class, command_of, is_queued, holds, refusal, Trace, connection_of, queues, sent_bytes, aborted_reference, taken_in, taken_unless, arrival, balance, outstanding, IsRight}
+use Rattle.mscp_controller.proofs.Common.{◌≡◌, ℕ, ◌≤◌, Bool, true, false, not, ◌&&◌, List, length, arith, nat_eq, if◌then◌else◌, slice_index, Option, None, Ok, true≢false, false≢true, Command, SendFault, Sent, Event, Entry, Connection, Settings, num, class, is_immediate_class, command_of, is_queued, holds, refusal, Trace, connection_of, queues, sent_bytes, aborted_reference, taken_in, taken_unless, arrival, balance, outstanding, IsRight}
 
 -- no reason to refuse it
 pub record IsTaken (credit : ℕ) (references b : List ℕ) : Type 0 where

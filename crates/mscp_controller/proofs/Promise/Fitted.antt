@@ -1,6 +1,6 @@
 -- A right step, with all that is known of those that wait; and moments that serve nobody.
-use Rattle.mscp_controller.proofs.Basics.{◌≡◌, ℕ, ◌+◌, ◌<◌, ◌≤◌, List, ◌∷◌, ap, sym, ◌∙◌, subst, arith, None, is_some, AllByRecursion, Block, Settings, Trace, Moment, Service, service_in, weight, done, charge, passed, every_weaker, every_parts, waiting_below, earlier_is, Step, startable_of, startable_parts, Steady, idle_others, more_left, done_kept, weight_before, none_starts}
-use Rattle.mscp_controller.proofs.Promise.Figured.{record_of, marks, made_is}
+use Rattle.mscp_controller.proofs.Basics.{◌≡◌, ℕ, ◌<◌, List, ◌∷◌, ap, sym, ◌∙◌, subst, arith, None, is_some, AllByRecursion, Block, Settings, Trace, Moment, Service, service_in, weight, done, every_weaker, every_parts, waiting_below, earlier_is, Step, startable_of, startable_parts, Steady, idle_others, more_left, done_kept, weight_before, none_starts}
+use Rattle.mscp_controller.proofs.Promise.Figured.{marks, made_is}
 use Rattle.mscp_controller.proofs.Promise.Falls.{Fit}
 use Rattle.mscp_controller.proofs.Promise.Stays.{Leaves}
 

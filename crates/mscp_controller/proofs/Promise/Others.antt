@@ -1,5 +1,5 @@
 -- What comes from the host of one connection leaves the account of the other's as it was.
-use Rattle.mscp_controller.proofs.Basics.{◌≡◌, ◌≢◌, ℕ, Bool, true, false, not, [], ◌∷◌, ◌++◌, length, ap, ◌∙◌, append-nil, arith, filter, nat_eq, ◌&&◌, cond, Some, true≢false, Connection, Name, same_connection, every_from, every_filter, every_weaker, every_kept, filter_all, one_side, map_on, Event, Entry, Settings, Trace, Moment, comes_by, takes, connection, name, waiting, waiting_by, ends_in, ends_at, balance, outstanding, IsRight, IsUntouched, LeavesOther, command_before, untaken_more, some_same, queues_by, waiting_by_more, waiting_below}
+use Rattle.mscp_controller.proofs.Basics.{◌≡◌, ◌≢◌, ℕ, Bool, true, false, not, [], ◌∷◌, ◌++◌, length, ap, ◌∙◌, append-nil, arith, filter, cond, Some, true≢false, Connection, Name, same_connection, every_from, every_filter, every_weaker, every_kept, filter_all, one_side, map_on, Event, Entry, Settings, Trace, Moment, comes_by, takes, connection, name, waiting, waiting_by, ends_in, ends_at, balance, outstanding, IsRight, IsUntouched, LeavesOther, command_before, untaken_more, some_same, queues_by, waiting_by_more, waiting_below}
 use Rattle.mscp_controller.proofs.Promise.Room.{Room}
 
 -- they are two

@@ -1,5 +1,5 @@
 -- A command that is queued is no longer than may be, and leaves a credit.
-use Rattle.mscp_controller.proofs.Common.{◌≡◌, ◌≢◌, ℕ, ◌<◌, ◌≤◌, Bool, true, false, not, ◌&&◌, List, [], ◌∷◌, ◌++◌, length, sym, subst, arith, nat_eq, if◌then◌else◌, Option, None, is_none, AllByRecursion, ltb-false, eqb-false, true≢false, false≢true, Command, Order, command_of, Connection, Settings, order_fault, fault_of, is_immediate, is_queued, order_weight, Trace, Moment, command, weight, waiting, balance, IsRight, every_kept, every_append}
+use Rattle.mscp_controller.proofs.Common.{◌≡◌, ℕ, ◌<◌, ◌≤◌, true, false, not, List, [], ◌∷◌, ◌++◌, length, sym, subst, arith, None, AllByRecursion, ltb-false, eqb-false, true≢false, false≢true, Command, command_of, Connection, Settings, fault_of, is_immediate, is_queued, order_weight, Trace, Moment, command, weight, waiting, balance, IsRight, every_kept, every_append}
 use Rattle.mscp_controller.proofs.Promise.Grows.{command_before, command_last, waiting_more}
 use Rattle.mscp_controller.proofs.Promise.Waits.{waiting_below}
 use Rattle.mscp_controller.proofs.Promise.Arrivals.{Queues, queued_right}

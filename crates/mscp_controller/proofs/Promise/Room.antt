@@ -1,5 +1,5 @@
 -- The commands and the untaken ends of each connection never exceed its credits, and one credit of it is kept.
-use Rattle.mscp_controller.proofs.Basics.{◌≡◌, ℕ, ◌+◌, ◌<◌, ◌≤◌, Bool, true, false, not, List, [], ◌∷◌, ◌++◌, length, refl, ap, sym, subst, ◌∙◌, arith, append-nil, filter, if◌then◌else◌, count_by, slice_get, Option, Some, None, is_some, option_map, option_to_list, Ok, Err, AllByRecursion, length-append, length-map, length-drop, filter-append, true≢false, false≢true, ArrayVec, Command, Order, command_of, end_bytes, Connection, Name, name_on, same_connection, same_name, is_same, one_side, own_side, same_is, fewer, every_weaker, every_filter, every_from, filter_filter, filter_on, Sent, Event, Entry, Settings, credits_of, room_of, fault_of, is_queued, Trace, Moment, collect, sent_bytes, takes, Service, service_in, command, name, reference, waiting, waiting_by, aborts, aborted, aborted_unless, answer, ends_at, named, ends, untaken, balance, aborted_reference, arrival, IsRight, Report, ends_more, taken_more, Queues, arrives, queued_right, taken_when, two_free, kept_own, step_right, queues_by, waiting_by_length, Steady}
+use Rattle.mscp_controller.proofs.Basics.{◌≡◌, ℕ, ◌+◌, ◌<◌, ◌≤◌, Bool, true, false, not, List, [], ◌∷◌, ◌++◌, length, refl, ap, sym, subst, ◌∙◌, arith, append-nil, filter, if◌then◌else◌, count_by, slice_get, Option, Some, is_some, option_map, option_to_list, Ok, Err, AllByRecursion, length-append, length-map, length-drop, filter-append, true≢false, false≢true, ArrayVec, Command, Order, command_of, end_bytes, Connection, Name, name_on, same_connection, same_name, is_same, one_side, own_side, same_is, fewer, every_weaker, every_filter, every_from, filter_filter, filter_on, Sent, Event, Entry, Settings, credits_of, room_of, fault_of, is_queued, Trace, Moment, collect, sent_bytes, takes, Service, service_in, command, name, reference, waiting, waiting_by, aborts, aborted, aborted_unless, answer, ends_at, ends, untaken, balance, aborted_reference, arrival, IsRight, Report, ends_more, taken_more, Queues, arrives, queued_right, taken_when, two_free, kept_own, step_right, queues_by, waiting_by_length, Steady}
 
 -- each connection's ends that were taken were there, its commands and untaken ends have credits, and one is kept
 pub record Room (c : Settings) (t : Trace) : Type 0 where

@@ -1,5 +1,5 @@
 -- What waits after a step, and how often each command was served.
-use Rattle.mscp_controller.proofs.Common.{◌≡◌, ◌≢◌, ℕ, ◌+◌, ◌<◌, Bool, true, false, cond, not, ◌&&◌, List, [], ◌∷◌, ◌++◌, length, refl, ap, sym, ◌∙◌, subst, arith, append-nil, filter, Option, Some, None, is_some, AllByRecursion, filter-append, false≢true, Block, Event, Entry, Settings, Trace, Moment, queues, Service, service_in, name, waiting, done, service_is, service_name, service_ends, ends_in, IsRight, IsServed, Name, name_on, is_differ, is_same, every_weaker, every_both, every_parts, filter_all, Report}
+use Rattle.mscp_controller.proofs.Common.{◌≡◌, ◌≢◌, ℕ, ◌+◌, ◌<◌, Bool, true, false, cond, not, List, [], ◌∷◌, ◌++◌, length, subst, arith, append-nil, Some, is_some, AllByRecursion, filter-append, false≢true, Block, Event, Entry, Settings, Trace, Moment, queues, Service, service_in, name, waiting, done, service_name, service_ends, ends_in, IsRight, IsServed, Name, name_on, is_differ, is_same, every_weaker, every_both, every_parts, filter_all}
 use Rattle.mscp_controller.proofs.Promise.Grows.{done_before, waiting_more}
 use Rattle.mscp_controller.proofs.Promise.Waits.{Cut, cut, waits_below, waiting_below}
 use Rattle.mscp_controller.proofs.Promise.Apart.{Apart}

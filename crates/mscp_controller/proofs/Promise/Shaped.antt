@@ -1,5 +1,5 @@
 -- Each end that a legal trace makes has the body of its endcode.
-use Rattle.mscp_controller.proofs.Common.{◌≡◌, ℕ, zero, suc, ◌+◌, ◌<◌, Bool, List, [], ◌∷◌, ◌++◌, map, length, take, refl, sym, subst, arith, find, flat_map, nat_eq, if◌then◌else◌, slice_index, All, Option, Some, None, option_to_list, AllByRecursion, range_with_len, eqb-true, flat_map-cons, All-from_recursion, Opcode, Command, Order, row_of, opcode_of, opcodes, command_of, order_with, parameters, End, IsOfKind, kind_of_body, kind_of_code, invalid_length, Block, endcode, IsCoded, aborted_end, aborted_kind, ended_kind, refused_kind, every_append, found_is, Connection, Settings, unit_shape, answer_body, own_end, own_end_with, Moment, Trace, moment, positions, collect, sent_bytes, command, good, unit, is_online, aborted, answer, ends_at, outcome, ends, IsLegal, IsRight, end_of}
+use Rattle.mscp_controller.proofs.Common.{ℕ, zero, suc, ◌+◌, ◌<◌, List, [], ◌∷◌, map, length, take, arith, flat_map, All, option_to_list, AllByRecursion, range_with_len, eqb-true, flat_map-cons, All-from_recursion, command_of, IsOfKind, Block, IsCoded, aborted_end, aborted_kind, ended_kind, refused_kind, every_append, found_is, Connection, Settings, Moment, Trace, moment, positions, collect, sent_bytes, command, good, answer, ends_at, outcome, ends, IsLegal, IsRight, end_of}
 
 -- ---- what a message asks for has an endcode
 -- a message that is too short has the endcode of its opcode
@@ -11,11 +11,6 @@ command_coded : (t : Trace) (x : ℕ) → IsCoded (command t x).order
 unfolding command
 command_coded t x = coded (sent_bytes (moment t x).0)
 
--- ---- the end of an answered command
-module _ (c : Settings) (online : Bool) (figure : ℕ) (sent : Command) where
-  pub own_kind : IsCoded sent.order → IsOfKind (own_end c online figure sent)
-  own_kind h = grind (arith, refused_kind)
-
 -- ---- the ends of a moment
 aborted_kinds : (t : Trace) (xs : List ℕ) → AllByRecursion IsOfKind (map (λ x. aborted_end (command t x) (good t x)) xs)
 aborted_kinds t [] = tt
@@ -23,7 +18,7 @@ aborted_kinds t (x ∷ xs) = (aborted_kind (command t x) (good t x) (command_cod
 
 answer_kinds : (c : Settings) (via : Connection) (t : Trace) (b : List ℕ) → AllByRecursion IsOfKind (answer c via t b)
 unfolding answer
-answer_kinds c via t b = grind (arith, every_append, aborted_kinds, own_kind, coded)
+answer_kinds c via t b = grind (arith, every_append, aborted_kinds, coded, refused_kind)
 
 outcome_kind : (c : Settings) (t : Trace) (k : Block) (y : ℕ) → IsOfKind (outcome c t k y)
 unfolding outcome
@@ -32,13 +27,9 @@ outcome_kind c t k y = grind (arith, ended_kind, command_coded)
 end_kinds : (c : Settings) (t : Trace) (k : Block) (y : ℕ) → AllByRecursion IsOfKind (option_to_list (end_of c t k y))
 end_kinds c t k y = search (arith, outcome_kind c t k y)
 
-sent_kinds : (c : Settings) (via : Connection) (t : Trace) (b : List ℕ) (answered : Bool)
-    → AllByRecursion IsOfKind ((if answered then answer c via t b else []) ++ [])
-sent_kinds c via t b answered = grind (arith, every_append, answer_kinds)
-
 moment_kinds : (c : Settings) (via : Connection) (t : Trace) (m : Moment) → IsRight c t m.0 m.1
     → AllByRecursion IsOfKind (ends_at c via t m)
-moment_kinds c via t m h4 = grind (arith, sent_kinds, end_kinds)
+moment_kinds c via t m h4 = grind (arith, end_kinds, every_append, answer_kinds)
 
 -- ---- all ends
 every_flat : {X A : Type 0} (P : A → Type 0) (f : X → List A)

@@ -1,5 +1,5 @@
 -- What is true after every part of a legal run, from the definitions alone.
-use Rattle.mscp_controller.proofs.Common.{◌≡◌, ◌⊎◌, inl, inr, ⊎_elim, ℕ, ◌<◌, Bool, true, false, cond, not, ◌||◌, List, [], ◌∷◌, ◌++◌, length, refl, ap, sym, subst, arith, append-nil, filter, Option, Some, None, is_some, AllByRecursion, ltb-true, or_cases, true≢false, false≢true, Command, some_steps, Block, Settings, order_weight, Trace, Moment, Service, service_in, name, order, weight, waiting, done, left, in_service, ends_in, is_startable, IsRight, end_of, Pairs, every_weaker, every_kept, every_append, every_parts, every_both, pairs_filter, pairs_append, pairs_middle}
+use Rattle.mscp_controller.proofs.Common.{◌≡◌, ◌⊎◌, inl, inr, ⊎_elim, ℕ, ◌<◌, Bool, true, false, cond, not, ◌||◌, List, [], ◌∷◌, ◌++◌, length, refl, ap, subst, arith, append-nil, filter, Option, Some, None, is_some, AllByRecursion, ltb-true, or_cases, true≢false, false≢true, Command, some_steps, Block, Settings, order_weight, Trace, Moment, Service, service_in, name, order, weight, waiting, done, left, in_service, ends_in, is_startable, IsRight, end_of, Pairs, every_weaker, every_kept, every_append, every_parts, every_both, pairs_filter, pairs_append, pairs_middle}
 use Rattle.mscp_controller.proofs.Promise.Grows.{command_before, done_before, done_last, waiting_more}
 use Rattle.mscp_controller.proofs.Promise.Waits.{waiting_below}
 use Rattle.mscp_controller.proofs.Promise.Apart.{Apart, apart_more}

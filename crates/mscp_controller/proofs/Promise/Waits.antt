@@ -1,5 +1,5 @@
 -- What is true of the waiting commands of every run.
-use Rattle.mscp_controller.proofs.Common.{◌≡◌, ℕ, zero, suc, ◌+◌, ◌-◌, ◌<◌, ◌≤◌, true, cond, not, List, [], ◌∷◌, ◌++◌, length, ap, ◌∙◌, arith, append-nil, filter, AllByRecursion, range_with_len, length-take, get_or_past, filter-append, le-ltb, lt-ltb, ltb-true, ltb-false, true≢false, Trace, Moment, moment, positions, is_waiting, waiting, earlier, later, passed_at, passed, Pairs, filter_all, filter_none, pairs_middle, sum_none, every_weaker, every_kept, every_filter, range_below, pairs_range, pairs_filter}
+use Rattle.mscp_controller.proofs.Common.{◌≡◌, ℕ, suc, ◌+◌, ◌-◌, ◌<◌, ◌≤◌, true, not, List, [], ◌∷◌, ◌++◌, length, ap, ◌∙◌, arith, append-nil, filter, AllByRecursion, range_with_len, length-take, get_or_past, filter-append, le-ltb, lt-ltb, ltb-true, ltb-false, true≢false, Trace, Moment, moment, positions, is_waiting, waiting, earlier, later, passed_at, passed, Pairs, filter_all, filter_none, pairs_middle, sum_none, every_weaker, every_kept, every_filter, range_below, pairs_range, pairs_filter}
 use Rattle.mscp_controller.proofs.Promise.Grows.{passed_more}
 
 pub waiting_below : (t : Trace) → AllByRecursion (λ x. x < length t) (waiting t)
@@ -41,9 +41,8 @@ later_is t x o w k = grind (arith, le-ltb, filter-append, filter_none, every_wea
 
 range_cut : (a n k : ℕ) → k < n → range_with_len a n ≡ range_with_len a k ++ (a + k)
     ∷ range_with_len (a + k + 1) (n - (k + 1))
-range_cut a zero k h = absurd (omega arith)
-range_cut a (suc n) zero h = search arith
 range_cut a (suc n) (suc k) h = search (arith, range_cut (a + 1) n k (omega arith))
+range_cut a o k h = grind arith
 
 pub cut : (t : Trace) (y : ℕ)
     → y < length t → is_waiting t y ≡ true → (front : List ℕ) × (back : List ℕ) × Cut t y front back

@@ -1,5 +1,5 @@
 -- The figure of each command that waits, and the steps that it has seen, stay within the bound.
-use Rattle.mscp_controller.proofs.Basics.{◌≡◌, ℕ, ◌+◌, ◌*◌, ◌<◌, ◌≤◌, Bool, true, false, cond, not, List, [], ◌∷◌, ◌++◌, get_or, length, refl, ap, sym, ◌∙◌, subst, arith, append-nil, filter, sum_by, Contains, AllByRecursion, All-from_recursion, recursion_from_All, Contains-get_or, sum_by-le, Connection, First, Second, Settings, bound, room, Trace, Moment, connection_of, queues, is_step, sent_bytes, connection, name, weight, waiting, done, left, steps_after, ends_in, passed, figure, balance, IsRight, fewer, every_weaker, every_kept, every_append, every_parts, every_both, waiting_more, done_last, steps_more, steps_last, waiting_below, passed_last, queued_right, Short, two_free, sides_length}
+use Rattle.mscp_controller.proofs.Basics.{◌≡◌, ℕ, ◌+◌, ◌*◌, ◌<◌, ◌≤◌, Bool, true, false, cond, not, List, [], ◌∷◌, ◌++◌, get_or, length, refl, ap, arith, append-nil, filter, sum_by, Contains, AllByRecursion, All-from_recursion, recursion_from_All, Contains-get_or, sum_by-le, Connection, First, Second, Settings, bound, room, Trace, Moment, queues, is_step, connection, name, weight, waiting, done, left, steps_after, ends_in, passed, figure, balance, IsRight, fewer, every_weaker, every_kept, every_append, every_parts, every_both, waiting_more, done_last, steps_more, steps_last, waiting_below, passed_last, queued_right, Short, two_free, sides_length}
 use Rattle.mscp_controller.proofs.Promise.Falls.{figure_idle}
 use Rattle.mscp_controller.proofs.Promise.Falling.{Falling}
 use Rattle.mscp_controller.proofs.Promise.Room.{Room, balance_two}
