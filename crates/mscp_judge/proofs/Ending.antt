@@ -1,5 +1,5 @@
 -- Where a line asks too early, where a log ends, and how a legal one goes on.
-use Rattle.mscp_judge.proofs.Common.{◌≡◌, ◌≢◌, ℕ, List, [], ◌∷◌, ◌++◌, length, refl, ap, sym, ◌∙◌, subst, arith, append_assoc, append-nil, replicate, Block, Event, Settings, Trace, Holdings, IsLegal, entry_lines, Wanted, Mark, answers_in, told, transcript, whole, BeginsWith, Held, Stood}
+use Rattle.mscp_judge.proofs.Common.{◌≡◌, ℕ, List, [], ◌∷◌, ◌++◌, length, refl, ap, sym, ◌∙◌, subst, arith, append_assoc, append-nil, replicate, Block, Event, Settings, Trace, Holdings, IsLegal, entry_lines, Wanted, Mark, answers_in, told, transcript, whole, BeginsWith, Held, Stood}
 use Rattle.mscp_drive.specs.declared.event.Event.TheVariants as events
 use Rattle.mscp_judge.proofs.Existing.{steps_exist}
 use Rattle.mscp_judge.proofs.Feeds.{some_none, step_ends}
@@ -20,8 +20,7 @@ second_none (x ∷ xs) ys e = absurd (omega (arith, ap length e))
 pub all_told : (c : Settings) (marks : List Mark) (h : Holdings Wanted) (due : List ℕ) (owed : List Event)
     (s : Stood c marks h due owed []) (others : List Trace) (more : List Mark)
     → IsLegal c (whole others) → marks ++ more ≡ transcript others → lead more ≡ [] → due ≡ []
-all_told c marks h due owed s others more l e none =
-    search (arith, goes c marks h due owed [] s others more l e, first_none, lead, lead_told)
+all_told c marks h due owed s others more l e none = search (arith, goes c marks h due owed [] s others more l e, first_none, lead_told)
 
 pub no_step : (c : Settings) (marks : List Mark) (h : Holdings Wanted) (due : List ℕ) (k : Block)
     (owed : List Event) (s : Stood c marks h due (events.Step k ∷ owed) []) (others : List Trace) (more : List Mark)

@@ -1,5 +1,5 @@
 -- A log of which there is a legal trace is judged to be legal, and no other.
-use Rattle.mscp_judge.proofs.Common.{◌≡◌, ℕ, ◌+◌, ◌≤◌, List, [], ◌∷◌, ◌++◌, length, ap, sym, ◌∙◌, arith, append_assoc, append-nil, Result, Ok, Err, Settings, ◌>>=◌, line, lines, Place, Begins, HasGone, said_at, headed, Cause, ScriptFault, ReadFault, Totals, Verdict, IsLegalLog, Log, Mark, MayGoOn, after_line, after_lines, after_words, nothing, HasLegalTrace, IsLegalVerdict, Judges, JudgesBehind, JudgesLog}
+use Rattle.mscp_judge.proofs.Common.{◌≡◌, ℕ, ◌+◌, ◌≤◌, List, [], ◌∷◌, ◌++◌, length, ap, sym, ◌∙◌, arith, append_assoc, append-nil, Result, Ok, Err, Settings, ◌>>=◌, lines, Place, Begins, HasGone, headed, Cause, ScriptFault, ReadFault, Totals, Verdict, IsLegalLog, Log, Mark, MayGoOn, after_line, after_lines, nothing, HasLegalTrace, IsLegalVerdict, Judges, JudgesBehind, JudgesLog}
 use Rattle.mscp_reader.specs.declared.fault.ReadFault.TheVariants as faults
 use Rattle.mscp_judge.specs.declared.judging.Verdict.TheVariants as verdicts
 

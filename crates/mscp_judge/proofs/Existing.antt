@@ -1,5 +1,5 @@
 -- After each legal trace a step has a right answer.
-use Rattle.mscp_judge.proofs.Common.{◌≡◌, ℕ, zero, suc, Bool, true, false, ◌||◌, List, [], ◌∷◌, ◌++◌, refl, ap, sym, ◌∙◌, subst, arith, append_assoc, append-nil, nat_eq, replicate, slice_get, ◌&&◌, AllByRecursion, list_all, false≢true, lt-ltb, Block, Idle, Served, Entry, IsValid, Settings, Moment, Trace, connection, done, in_service, is_idle, is_waiting, reference, unit, waiting, is_startable, IsLegal, IsRight, block_of, end_of, seek_to, oldest_starts, waiting_waits, by_serving, legal_more, events_in}
+use Rattle.mscp_judge.proofs.Common.{◌≡◌, ℕ, zero, suc, Bool, true, false, ◌||◌, List, [], ◌∷◌, ◌++◌, refl, ap, sym, subst, arith, append_assoc, append-nil, nat_eq, replicate, slice_get, AllByRecursion, list_all, false≢true, lt-ltb, Block, Idle, Served, Entry, IsValid, Settings, Moment, Trace, connection, done, in_service, is_idle, is_waiting, reference, unit, waiting, is_startable, IsLegal, IsRight, block_of, end_of, seek_to, oldest_starts, waiting_waits, by_serving, legal_more, events_in}
 use Rattle.mscp_drive.specs.declared.event.Event.TheVariants as events
 use Rattle.mscp_controller.specs.declared.entry.Entry.TheVariants as entries
 

@@ -1,5 +1,5 @@
 -- What comes of a line of a log, where hosts hear it.
-use Rattle.mscp_judge.proofs.Common.{◌≡◌, ◌≢◌, ℕ, zero, suc, ◌+◌, ◌<◌, ◌≤◌, Bool, true, false, List, [], ◌∷◌, length, refl, ap, ◌∙◌, arith, result_ok, ◌↔◌, if◌then◌else◌, IfOk, Option, Some, None, Result, Ok, Err, replicate, IsCommand, command_of, Command, PacketFault, Both, Event, command_is, Account, ◌>>=◌, Block, lines, Begins, Place, asked_after, said_at, Fails, headed, in_line, ReadFault, ScriptFault, is_answer, FailsLine, Heard, after_answer, after_request, command_in, heard_behind, heard_log, hosts_after_all, from_ok}
+use Rattle.mscp_judge.proofs.Common.{◌≡◌, ◌≢◌, ℕ, zero, suc, ◌+◌, ◌<◌, ◌≤◌, Bool, true, false, List, [], ◌∷◌, length, refl, ap, ◌∙◌, arith, result_ok, ◌↔◌, if◌then◌else◌, IfOk, Option, Some, Result, Ok, Err, replicate, IsCommand, command_of, Command, PacketFault, Both, Event, command_is, Account, ◌>>=◌, Block, lines, Begins, Place, asked_after, said_at, Fails, headed, in_line, ReadFault, ScriptFault, is_answer, FailsLine, Heard, after_answer, after_request, command_in, heard_behind, heard_log, hosts_after_all, from_ok}
 use Rattle.mscp_judge.specs.Heard.{after_line, after_lines, after_words, asking}
 use Rattle.mscp_packet.specs.declared.reading.PacketFault.TheVariants as sizes
 use Rattle.mscp_drive.specs.declared.event.Event.TheVariants as events

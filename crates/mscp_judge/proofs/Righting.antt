@@ -1,5 +1,5 @@
 -- The line of a step that was answered is the right one.
-use Rattle.mscp_judge.proofs.Common.{◌≡◌, ◌≢◌, inl, inr, ℕ, suc, ◌-◌, ◌<◌, ◌≤◌, Bool, true, List, [], ◌∷◌, ◌++◌, get_or, length, refl, ap, sym, ◌∙◌, subst, arith, length-append, append-nil, codes, filter, replicate, Option, Some, None, AllByRecursion, flat_map, list_all, eq-eqb, ltb-true, append_cancel_right, length-replicate, Block, Event, IsValid, Settings, name_on, Report, Idle, Served, Entry, Service, Trace, WhenStarted, service_in, done, is_waiting, name, service_name, waiting, is_startable, startable, Answers, Holdings, fresh, IsPick, IsRight, IsServed, one_waits, Known, startable_of, waiting_waits, line, is_printed, entry_lines, step_line, Judge, Named, Wanted, AreAnswers, IsAnswerLine, IsRightThere, Log, telling, IsNamed, HasStepped, IsOpen, IsRightNext, IsServiceLine, IsStepLine, report_in, BeginsWith, Came, HasShortLine, IsFirstLine, IsHeld, IsSettled, Led, Stands, Stood, due, marked, owed, run_of, with_picker}
+use Rattle.mscp_judge.proofs.Common.{◌≡◌, ◌≢◌, inl, inr, ℕ, suc, ◌-◌, ◌<◌, ◌≤◌, Bool, true, List, [], ◌∷◌, ◌++◌, length, refl, ap, sym, ◌∙◌, subst, arith, length-append, append-nil, codes, filter, replicate, Option, Some, None, AllByRecursion, flat_map, list_all, eq-eqb, ltb-true, append_cancel_right, length-replicate, Block, Event, IsValid, Settings, name_on, Report, Idle, Served, Entry, Service, Trace, WhenStarted, service_in, done, is_waiting, name, service_name, waiting, is_startable, startable, Answers, Holdings, fresh, IsPick, IsRight, IsServed, one_waits, Known, startable_of, waiting_waits, line, is_printed, entry_lines, step_line, Judge, Named, Wanted, AreAnswers, IsAnswerLine, IsRightThere, Log, telling, IsNamed, HasStepped, IsOpen, IsRightNext, IsServiceLine, IsStepLine, report_in, BeginsWith, Came, HasShortLine, IsFirstLine, IsHeld, IsSettled, Led, Stands, Stood, due, marked, owed, run_of, with_picker}
 use Rattle.mscp_drive.specs.declared.event.Event.TheVariants as events
 use Rattle.mscp_controller.specs.declared.entry.Entry.TheVariants as entries
 use Rattle.mscp_judge.proofs.Coming.{printed_fed, ready_due, ready_not, right_step, stands_held, stands_with, told_not}
@@ -223,15 +223,7 @@ pub open_step : {A : Type 0} (c : Settings) (log : Log) (wanted : Option Named) 
     → IsOpen c log wanted old → due old ≡ [] → 0 < old.owed → Came None old new (events.Step old.block)
     → new.owed ≡ old.owed - 1 → new.block ≡ old.block → AreAnswers (due new) 1 → HasShortLine (due new)
     → IsFirstLine (due new) right → IsRightNext c log wanted right
-open_step c log wanted old new right (held, inl s) none some came w b a short f =
-    search (
-      arith,
-      next_stepped c log None new right (right_step c log None old new held none some came w b)
-          (has_stepped c log None old new s.stands none some came a short) f,
-      right_step c log None old new held none some came w b,
-      has_stepped c log None old new s.stands none some came a short,
-      owed_some,
-    )
+open_step c log wanted old new right (held, inl s) none some came w b a short f = search (arith, next_stepped c log None new right (right_step c log None old new held none some came w b) (has_stepped c log None old new s.stands none some came a short) f, owed_some)
 open_step c log wanted old new right (held, inr s) none some came w b a short f = search (arith, stepped_due)
 
 -- a judge that answered a step for a line is open

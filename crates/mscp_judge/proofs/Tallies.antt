@@ -1,6 +1,5 @@
 -- What one moment more adds to the totals of a run.
-use Rattle.mscp_judge.proofs.Common.{◌≡◌, ◌≢◌, ◌⊎◌, inl, inr, ⊎_elim, ℕ, ◌+◌, ◌≤◌, Bool, true, false, cond, List, [], ◌∷◌, ◌++◌, map, take, get_or, length, refl, ap, sym, ◌∙◌, subst, arith, length-append, Contains, filter, not, Ok, Option, AllByRecursion, take-append-le, take_all, All-contains, All-contains_itself, recursion_from_All, All-from_recursion, sum_by_push, cases_lt, false≢true, command_of, Connection, Record, record_at, every_append, every_mapped, every_kept, Event, Entry, is_queued, arrival, IsValid, Settings, bound, Moment, Trace, is_step, queues, ends_in, name, waiting, passed, figure, figure_of, EachWaiting, Answers, Holdings, IsRight, name_last, arrives, queued_right, taken_when, falling, is_waiting_last, waiting_more, progress, waits_in, figure_of_held, held_of, step_count, Named, Wanted, Totals, IsNamed, with_picker, Adds, AreTotals, IsLarger, IsLargest, figure_queued}
-use Rattle.mscp_controller.specs.declared.entry.Sent.TheVariants as sents
+use Rattle.mscp_judge.proofs.Common.{◌≡◌, ◌≢◌, ◌⊎◌, inl, inr, ⊎_elim, ℕ, ◌+◌, ◌≤◌, Bool, true, cond, List, [], ◌∷◌, ◌++◌, map, take, get_or, length, refl, ap, sym, ◌∙◌, subst, arith, length-append, Contains, filter, not, Option, AllByRecursion, take-append-le, take_all, All-contains, All-contains_itself, recursion_from_All, All-from_recursion, sum_by_push, cases_lt, false≢true, Record, record_at, every_append, every_mapped, every_kept, Event, Entry, IsValid, Settings, bound, Moment, Trace, is_step, queues, ends_in, name, waiting, passed, figure, figure_of, EachWaiting, Answers, Holdings, IsRight, name_last, arrives, queued_right, taken_when, falling, is_waiting_last, waiting_more, progress, waits_in, figure_of_held, held_of, step_count, Named, Wanted, Totals, IsNamed, with_picker, Adds, AreTotals, IsLarger, IsLargest, figure_queued}
 use Rattle.mscp_judge.proofs.Leading.{Follow, follow_more, turn_of}
 
 -- ---- the largest

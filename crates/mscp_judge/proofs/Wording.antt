@@ -1,5 +1,5 @@
 -- A line that asks for events is no answer.
-use Rattle.mscp_judge.proofs.Common.{◌≡◌, ◌||◌, ◌+◌, ◌<◌, ℕ, Bool, true, false, List, ◌∷◌, drop, length, refl, ap, sym, subst, arith, codes, Some, None, Result, Ok, bytes_eq, false≢true, bytes_eq-Decides, ◌>>=◌, Connection, Second, Event, asked_after, said_at, asked_at, asked_next, asked_if, event_form, form_of, message_form, plain_form, request, second_request, Cause, Log, after_line, after_words, asking, is_answer, is_answer_word, is_second_answer, name_in, served}
+use Rattle.mscp_judge.proofs.Common.{◌≡◌, ◌+◌, ◌<◌, ℕ, Bool, true, false, List, ◌∷◌, drop, length, ap, arith, codes, Some, None, Result, Ok, bytes_eq, false≢true, bytes_eq-Decides, ◌>>=◌, Connection, Second, Event, asked_after, said_at, asked_at, asked_next, asked_if, event_form, form_of, message_form, plain_form, request, second_request, Cause, Log, after_line, after_words, asking, is_answer, is_answer_word, is_second_answer, name_in, served}
 use Rattle.mscp_judge.proofs.Reading.{bound}
 
 -- a word of no line that asks
