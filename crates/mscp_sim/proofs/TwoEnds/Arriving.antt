@@ -1,5 +1,5 @@
 -- An abort and a command that arrives keep the match of the host of their connection and the controller.
-use Rattle.mscp_sim.proofs.Common.{◌≡◌, ⊎_elim, ℕ, ◌+◌, Bool, true, false, ◌&&◌, List, [], ◌∷◌, ◌++◌, map, refl, ap, sym, ◌∙◌, subst, arith, append-nil, find, nat_eq, Some, option_map, option_to_list, AllByRecursion, eq-eqb, length-append, map-append, filter-append, Connection, Name, name_on, own_side, same_is, and-false, Command, Order, End, opcode_byte, Record, aborted_record, fresh_record, has_name, name_of, without, every_append, every_from, filter_filter, filter_on, Found, find_cases, find_none, find_first, Holdings, aborting, more_ends, numbers_ended, outstanding_of, queued, waiting_on, with_end, Both, of, of_more, Submission, Account, is_code_of, Flight, HasOwnEndcode, IsAwaited, IsKnown, Matches, commands, opcode_found, references, times}
+use Rattle.mscp_sim.proofs.Common.{◌≡◌, ⊎_elim, ℕ, ◌+◌, Bool, true, false, ◌&&◌, List, [], ◌∷◌, ◌++◌, map, refl, ap, sym, ◌∙◌, arith, append-nil, find, nat_eq, Some, AllByRecursion, eq-eqb, length-append, map-append, filter-append, Connection, Name, name_on, own_side, same_is, and-false, Command, Order, End, opcode_byte, Record, fresh_record, has_name, name_of, without, every_append, every_from, filter_filter, filter_on, Found, find_cases, find_none, find_first, Holdings, aborting, numbers_ended, outstanding_of, queued, waiting_on, with_end, of, of_more, Submission, Account, is_code_of, Flight, HasOwnEndcode, IsAwaited, IsKnown, Matches, commands, references, times}
 use Rattle.mscp_packet.specs.declared.command.Order.TheVariants as orders
 use Rattle.mscp_sim.proofs.TwoEnds.Counting.{opcode_new}
 use Rattle.mscp_sim.proofs.TwoEnds.Matching.{Adds, Ends, Pushes, awaited_more, counted_numbers, ends_match, known_more, stays, times_called, times_ends}

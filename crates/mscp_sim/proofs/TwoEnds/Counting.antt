@@ -1,5 +1,5 @@
 -- How often a reference number stands in a list, and the submission of a reference number.
-use Rattle.mscp_sim.proofs.Common.{◌≡◌, ℕ, ◌+◌, Bool, false, List, [], ◌∷◌, ◌++◌, length, refl, ap, sym, ◌∙◌, arith, find, nat_eq, nat_lt, ◌||◌, Some, is_some, AllByRecursion, list_any, eqb-true, eq-eqb, false≢true, nat_tests, Submission, has_reference, with_told, IsSmall, opcode_found, references, times}
+use Rattle.mscp_sim.proofs.Common.{◌≡◌, ℕ, ◌+◌, Bool, false, List, [], ◌∷◌, ◌++◌, length, refl, ap, ◌∙◌, arith, find, nat_eq, nat_lt, ◌||◌, Some, is_some, AllByRecursion, list_any, eqb-true, eq-eqb, false≢true, nat_tests, Submission, has_reference, with_told, IsSmall, opcode_found, references, times}
 use Rattle.mscp_host.specs.Accounts.{without}
 
 -- ---- how often

@@ -1,5 +1,5 @@
 -- The figures of the waiting commands of one name: nothing raises them, and a step lowers them.
-use Rattle.mscp_sim.proofs.Common.{◌≡◌, ◌↔◌, Bool, map, ◌⊎◌, ⊎_elim, ℕ, suc, ◌+◌, ◌-◌, ◌<◌, ◌≤◌, true, List, [], ◌∷◌, ◌++◌, length, refl, ap, sym, ◌∙◌, subst, arith, find, not, ◌&&◌, Contains, Option, Some, is_some, and_parts, cases_lt, false≢true, list_any, length-append, take_all, take-append_seam, Name, name_on, same_name, same_is, Settings, Moment, Trace, connection_of, is_step, queues, ends_in, is_waiting, name, sent_command, waiting, figure, figure_found, figure_of, Promise, command_last, connection_last, name_before, is_waiting_before, is_waiting_last, moment_last, cut, waiting_waits, waits_below, any_map, found}
+use Rattle.mscp_sim.proofs.Common.{◌≡◌, Bool, map, ◌⊎◌, ⊎_elim, ℕ, suc, ◌+◌, ◌-◌, ◌<◌, ◌≤◌, true, List, [], ◌∷◌, ◌++◌, length, refl, ap, sym, ◌∙◌, subst, arith, find, not, ◌&&◌, Contains, is_some, and_parts, cases_lt, false≢true, list_any, length-append, take_all, take-append_seam, Name, name_on, same_name, same_is, Settings, Moment, Trace, connection_of, is_step, queues, ends_in, is_waiting, name, sent_command, waiting, figure, figure_of, Promise, command_last, connection_last, name_before, is_waiting_before, is_waiting_last, moment_last, cut, waiting_waits, waits_below, any_map, found}
 
 contains_in : (A : List ℕ) (x : ℕ) (B : List ℕ) → Contains (A ++ x ∷ B) x
 contains_in [] x B = (0, omega arith, refl)

@@ -1,5 +1,5 @@
 -- What comes by one connection leaves all that the other's host and the controller keep of each other.
-use Rattle.mscp_sim.proofs.Common.{◌≡◌, ℕ, Bool, true, false, not, ◌&&◌, List, [], ◌∷◌, ◌++◌, refl, ap, append-nil, arith, Option, Some, None, and-false, true≢false, filter-append, Command, Order, End, Connection, same_connection, Record, fresh_record, every_from, filter_filter, filter_on, one_side, other_side, SendFault, Holdings, aborting, after_message, after_take, answered_end, held_unless, queued, waiting_on, with_end, Account, Flight, Matches, commands}
+use Rattle.mscp_sim.proofs.Common.{◌≡◌, ℕ, false, List, [], ◌∷◌, ◌++◌, append-nil, arith, Option, Some, None, and-false, true≢false, filter-append, Command, Order, Connection, same_connection, Record, fresh_record, every_from, filter_filter, filter_on, one_side, other_side, SendFault, Holdings, aborting, after_message, after_take, held_unless, waiting_on, Account, Flight, Matches}
 use Rattle.mscp_sim.proofs.TwoEnds.Matching.{stays}
 use Rattle.mscp_sim.proofs.TwoEnds.Sides.{of_other}
 

@@ -1,5 +1,5 @@
 -- An end that is handed over: the host takes it, and the match is kept.
-use Rattle.mscp_sim.proofs.Common.{◌≡◌, ℕ, ◌+◌, Bool, true, false, cond, List, [], ◌∷◌, ◌++◌, drop, length, refl, ap, sym, ◌∙◌, subst, arith, find, nat_eq, ◌&&◌, if◌then◌else◌, Option, Some, None, option_map, slice_get, unwrap_or, Ok, AllByRecursion, list_any, eqb-true, eq-eqb, false≢true, true≢false, nat_tests, Command, End, EndBody, opcode_byte, IsEnd, every_weaker, every_both, Connection, of, put, Holdings, numbers_ended, outstanding_of, waiting_on, Submission, Watch, Account, answered, end_in, has_reference, heard, is_about_polled, news_with, outstanding_with, received, told_in, watch_after, with_told, heard_ok, Flight, HasFlight, IsAwaited, IsFlight, IsKnown, Matches, commands, times}
+use Rattle.mscp_sim.proofs.Common.{◌≡◌, ℕ, ◌+◌, Bool, true, false, cond, List, [], ◌∷◌, ◌++◌, length, refl, ap, sym, subst, arith, find, nat_eq, ◌&&◌, if◌then◌else◌, Option, Some, None, option_map, slice_get, unwrap_or, Ok, AllByRecursion, eqb-true, eq-eqb, false≢true, true≢false, nat_tests, Command, End, EndBody, opcode_byte, IsEnd, every_weaker, every_both, Connection, of, put, Holdings, numbers_ended, outstanding_of, waiting_on, Submission, Watch, Account, answered, end_in, has_reference, heard, is_about_polled, news_with, outstanding_with, received, told_in, watch_after, with_told, heard_ok, Flight, HasFlight, IsAwaited, IsFlight, IsKnown, Matches, commands, times}
 use Rattle.mscp_host.specs.Accounts.{without}
 use Rattle.mscp_packet.specs.declared.end.EndBody.TheVariants as bodies
 use Rattle.mscp_sim.proofs.TwoEnds.Counting.{length_without, opcode_told, opcode_without, references_told, small_told, small_without, times_append, times_without}

@@ -1,5 +1,5 @@
 -- What a host sends the controller takes in, and the match is kept.
-use Rattle.mscp_sim.proofs.Common.{◌≡◌, ℕ, ◌-◌, ◌<◌, ◌^◌, Bool, true, false, List, [], ◌∷◌, ◌++◌, refl, ap, sym, ◌∙◌, subst, arith, append-nil, find, nat_eq, not, ◌&&◌, ◌||◌, if◌then◌else◌, slice_index, Option, Some, None, Ok, list_any, list_any-append, eq-eqb, true_from_ne_false, true≢false, nat_tests, Command, End, HasCommandRange, IsCommand, IsValidOrder, command_bytes, command_of, opcode_byte, num, command_bytes_are_messages, command_read, opcode_kept, four, Connection, name_on, figure_of_name, credit_fault, fault_of, holds, is_queued, refusal, of_more, Holdings, aborting, after_message, answer_to_message, answered_end, arrives, balance_of, numbers, numbers_ended, with_end, outstanding_of, queued, taken_as, waiting_on, of, Submission, Watch, own_end_with, Settings, endcode, any_map, found, none_any, Account, balance, has_reference, is_code_of, is_immediate, poll_of, submission_of, submitted, watching, Flight, HasFlight, IsSmall, Matches, times}
+use Rattle.mscp_sim.proofs.Common.{◌≡◌, ℕ, ◌<◌, ◌^◌, Bool, true, false, List, [], ◌∷◌, ◌++◌, refl, sym, ◌∙◌, subst, arith, append-nil, find, nat_eq, not, ◌&&◌, ◌||◌, if◌then◌else◌, slice_index, Option, Some, None, Ok, list_any, list_any-append, eq-eqb, true_from_ne_false, true≢false, nat_tests, Command, End, HasCommandRange, IsCommand, IsValidOrder, command_bytes, command_of, opcode_byte, num, command_bytes_are_messages, command_read, opcode_kept, four, Connection, name_on, figure_of_name, fault_of, holds, is_queued, refusal, of_more, Holdings, aborting, after_message, answer_to_message, answered_end, arrives, balance_of, numbers, numbers_ended, with_end, outstanding_of, queued, taken_as, waiting_on, of, Submission, Watch, own_end_with, Settings, endcode, any_map, found, none_any, Account, balance, has_reference, is_code_of, is_immediate, poll_of, submission_of, submitted, watching, Flight, HasFlight, IsSmall, Matches, times}
 use Rattle.mscp_packet.specs.declared.command.Order.TheVariants as orders
 use Rattle.mscp_host.specs.Accounts as host
 use Rattle.mscp_sim.proofs.TwoEnds.Codes.{coded}

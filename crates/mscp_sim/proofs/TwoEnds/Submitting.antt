@@ -1,5 +1,5 @@
 -- What a turn in which the host submits, or polls, leaves.
-use Rattle.mscp_sim.proofs.Common.{◌≡◌, ℕ, ◌<◌, ◌^◌, Bool, true, false, List, refl, ap, sym, ◌∙◌, subst, arith, Option, Some, None, is_some, is_ok, Result, Ok, Err, if◌then◌else◌, false≢true, true≢false, ArrayVec, Command, command_bytes, command_of, opcode_byte, Connection, Sent, SendFault, Holdings, after_message, answer_to_message, taken_as, HostFault, Poll, Submission, Account, asks, asks_unless, oldest, poll_of, polls_oldest, submits, submits_unless, watching, Flight, MatchOn, Matches}
+use Rattle.mscp_sim.proofs.Common.{◌≡◌, ℕ, ◌<◌, ◌^◌, true, List, refl, ap, sym, ◌∙◌, subst, arith, Option, Some, None, is_ok, Result, Ok, Err, false≢true, true≢false, ArrayVec, Command, command_bytes, command_of, opcode_byte, Connection, Sent, SendFault, Holdings, after_message, answer_to_message, taken_as, HostFault, Poll, Submission, Account, asks_unless, oldest, poll_of, polls_oldest, submits, submits_unless, Flight, MatchOn, Matches}
 use Rattle.mscp_host.specs.Accounts.{refusal}
 use Rattle.mscp_host.specs.declared.news.Poll.TheVariants as polls
 use Rattle.mscp_sim.proofs.TwoEnds.Sending.{carries, polled_match, same_reference, submitted_match, told_now}
@@ -7,10 +7,6 @@ use Rattle.mscp_sim.proofs.TwoEnds.Sending.{carries, polled_match, same_referenc
 -- ---- what was answered
 
 -- the host asks
-abbrev pub is_ask : Result Poll HostFault → Bool
-is_ask (Ok (polls.Ask b)) = true
-is_ask p = false
-
 abbrev asked_or : Result Poll HostFault → ArrayVec ℕ → List ℕ
 asked_or (Ok (polls.Ask b)) other = b.items
 asked_or p other = other.items

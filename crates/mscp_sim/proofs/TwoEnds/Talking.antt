@@ -1,5 +1,5 @@
 -- A talk that goes on by one turn.
-use Rattle.mscp_sim.proofs.Common.{◌≡◌, ℕ, ◌+◌, ◌<◌, List, [], ◌∷◌, ◌++◌, map, take, length, get_or, refl, ap, sym, ◌∙◌, append_assoc, append-nil, arith, Option, option_to_list, flat_map-append, map-append, take_more, Choice, Both, Moment, Trace, Holdings, owner_kept, Account, Lists, Turn, Heard, Match, Said, Talk, trace_of, Converses, Goes, GoesOn, AnswersTurn, Says}
+use Rattle.mscp_sim.proofs.Common.{◌≡◌, ℕ, ◌+◌, ◌<◌, List, [], ◌∷◌, ◌++◌, take, length, get_or, refl, ap, ◌∙◌, append_assoc, append-nil, arith, Option, option_to_list, flat_map-append, map-append, take_more, Choice, Both, Moment, Trace, Holdings, owner_kept, Account, Lists, Turn, Heard, Match, Said, Talk, Converses, Goes, GoesOn, AnswersTurn, Says}
 
 converses_push : {K : Type 0} (picks : List Choice → ℕ → Type 0) (a m a' : Both Account) (h n h' : Holdings K)
     (talk : Talk) (s : Said) → Converses picks a h talk m n → Says picks m n s a' h'

@@ -1,5 +1,5 @@
 -- One turn of a talk: what is heard is what the rules of a host say of what the talk says so far.
-use Rattle.mscp_sim.proofs.Common.{◌≡◌, ◌↔◌, ℕ, ◌+◌, ◌<◌, ◌≤◌, Bool, true, false, List, [], ◌∷◌, map, take, length, refl, ap, sym, ◌∙◌, subst, arith, ◌≢◌, nat_eq, Option, Some, option_map, list_any, and_parts, eqb-true, eq-eqb, false≢true, true_from_ne_false, End, Connection, First, Second, Settings, credits_of, Both, of, Choice, names, name_on, same_name, Record, AnsweredCalls, name, sent_command, waiting, KeepsPromise, figure_of, Promise, Moment, Trace, Holdings, numbers, waiting_on, queues_by, Submission, Account, oldest, History, asked_for, asks_about, end_heard, figure_in, found_stands, handed_over, in_flight, is_end_of, is_it, is_outstanding, is_poll, is_sent, moment, news_heard, reference, reference_found, reference_in, submission_at, watch_at, Answers, Stands, found_out, oldest_is, it_is, losses_if, resets_if, IsApart, flies, flight_back, flight_new, step, Flight, HasFlight, IsFlight, Match, Matches, Talk, account_at, accounts_at, figure_told, history, said, trace_of, Says, IsHeard}
+use Rattle.mscp_sim.proofs.Common.{◌≡◌, ◌↔◌, ℕ, ◌+◌, ◌<◌, ◌≤◌, Bool, true, false, List, [], ◌∷◌, map, take, length, refl, ap, sym, ◌∙◌, subst, arith, ◌≢◌, nat_eq, Option, Some, option_map, list_any, and_parts, eqb-true, eq-eqb, false≢true, true_from_ne_false, End, Connection, First, Second, Settings, credits_of, Both, of, Choice, names, name_on, same_name, Record, AnsweredCalls, name, sent_command, waiting, KeepsPromise, figure_of, Promise, Moment, Trace, Holdings, numbers, waiting_on, queues_by, Submission, Account, oldest, History, asked_for, asks_about, end_heard, figure_in, found_stands, handed_over, in_flight, is_end_of, is_it, is_outstanding, is_poll, is_sent, moment, news_heard, reference, reference_found, reference_in, submission_at, watch_at, Answers, Stands, found_out, oldest_is, it_is, losses_if, resets_if, IsApart, flies, flight_back, flight_new, step, Flight, IsFlight, Match, Matches, Talk, account_at, accounts_at, figure_told, history, said, trace_of, Says, IsHeard}
 use Rattle.mscp_controller.specs.Holdings.{fresh}
 use Rattle.mscp_host.proofs.Stepping.{Goes}
 use Rattle.mscp_host.specs.declared.news.News.TheVariants as news
