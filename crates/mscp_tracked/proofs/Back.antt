@@ -1,7 +1,7 @@
 -- What is saved is restored.
 use Rattle.mscp_saved.specs.Restored as saved
 use Rattle.mscp_saved.specs.Saved as saving
-use Rattle.mscp_tracked.proofs.Common.{Bool, true, false, not, true≢false, Option, Some, None, Err, is_some, if◌then◌else◌, nat_le, nat_lt, leb-true, le-ltb, num, first_of, ok_is, get_or_append_left, List, ◌++◌, ◌≤◌, length, ℕ, ◌+◌, ◌*◌, ◌<◌, ◌^◌, ◌≡◌, ◌∙◌, All, AllByRecursion, refl, sym, ap, arith, nat_eq, Ok, drop, take, length-append, eq-eqb, eqb-true, and_parts, recursion_from_All, take_at, drop_at, get_or, little_bytes, eight, Holdings, IsBack, parts_long, parts_rest, parts_said, is_framed, frame_fault, RestoreFault, AreBeside, Tracking, behind, cookie_count, own_length, rest_bytes, restored, resumed, saved_bytes, tracking_in, word_in, words_bytes, words_in}
+use Rattle.mscp_tracked.proofs.Common.{Bool, true, false, not, true≢false, Option, Some, None, Err, if◌then◌else◌, nat_le, nat_lt, leb-true, le-ltb, num, first_of, ok_is, get_or_append_left, List, ◌++◌, ◌≤◌, length, ℕ, ◌*◌, ◌<◌, ◌^◌, ◌≡◌, ◌∙◌, All, AllByRecursion, refl, sym, ap, arith, nat_eq, Ok, drop, take, length-append, eq-eqb, eqb-true, and_parts, recursion_from_All, take_at, drop_at, little_bytes, eight, Holdings, IsBack, parts_long, parts_rest, parts_said, is_framed, frame_fault, RestoreFault, AreBeside, Tracking, behind, own_length, rest_bytes, restored, resumed, saved_bytes, tracking_in, word_in, words_bytes, words_in}
 
 -- ---- numbers
 word_back : (x : ℕ) → x < 2 ^ 64 → IsBack word_in (little_bytes 8) 8 x

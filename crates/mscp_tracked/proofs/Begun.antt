@@ -1,7 +1,6 @@
 -- What a call leaves of what is begun.
-use Rattle.mscp_controller.specs.declared.entry.Sent.TheVariants as sents
 use Rattle.mscp_controller.specs.declared.entry.Sent.TheVariants.{Answered}
-use Rattle.mscp_tracked.proofs.Common.{Bool, true, false, not, List, [], ◌∷◌, ◌++◌, ℕ, ◌≡◌, ◌∙◌, ◌⊎◌, inl, inr, refl, sym, ap, subst, arith, IfSome, Option, Some, None, Result, Ok, if◌then◌else◌, is_some, unwrap_or, find, filter, option_map, false≢true, Command, Order, command_of, Block, Connection, found_is, differ_is, is_differ, is_same, same_is, Record, has_name, name_of, name_on, same_name, without, Name, Report, Idle, Served, Choice, Upcoming, upcoming_begun, Drive, upcoming_of, drive_of, SendFault, Sent, Holdings, Steps, after_message, answer_to_message, aborting, answered_end, begun_after, begun_step, held_unless, is_queued, outstanding_of, balance_of, queued, reference_aborted, refusal, sent_unless, unaborted, upcoming_name, with_end}
+use Rattle.mscp_tracked.proofs.Common.{Bool, true, false, not, List, [], ◌∷◌, ◌++◌, ℕ, ◌≡◌, ◌⊎◌, refl, ap, arith, IfSome, Option, Some, None, Result, Ok, if◌then◌else◌, is_some, find, filter, option_map, false≢true, Command, Order, command_of, Block, Connection, found_is, differ_is, is_differ, is_same, same_is, Record, has_name, name_of, name_on, same_name, without, Name, Report, Choice, Upcoming, upcoming_begun, Drive, upcoming_of, drive_of, SendFault, Sent, Holdings, Steps, after_message, answer_to_message, begun_after, begun_step, held_unless, outstanding_of, balance_of, refusal, sent_unless, upcoming_name}
 
 -- ---- a step
 -- after a step nothing is begun

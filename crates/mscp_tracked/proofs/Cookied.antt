@@ -1,6 +1,6 @@
 -- The cookies that are told are those that were sent.
 use Rattle.mscp_controller.specs.declared.entry.Sent.TheVariants as sents
-use Rattle.mscp_tracked.proofs.Common.{Bool, true, false, List, [], ◌∷◌, ◌++◌, length, ℕ, ◌+◌, ◌<◌, ◌≡◌, ◌≢◌, ◌∙◌, refl, sym, ap, subst, arith, append-nil, suc, Option, Some, None, if◌then◌else◌, get_or, is_some, unwrap_or, option_map, option_to_list, list_any, map, take, drop, remove, position, true≢false, false≢true, position-Some, cut_at, drop-map, get_or-map, map-append, take-map, name_found, AreApart, names, Command, Order, command_of, Block, Connection, First, Second, of, put, End, Record, aborted_record, drive_at, end_given, has_name, is_same, name_of, name_on, no_record, passed_by, record_at, remains, same_is, same_name, step_charge, waiting_after, Name, Report, Idle, Served, Choice, Drive, Holdings, Steps, ends_after, Both, end_in, HasCookie, Settings, Cookies, cookie_in, ended, left, reported, sent, own_end_with, holds, holds_either, none_waits, refusal, outstanding_of, aborts_none, with_end, aborting, answered_end, queued, reference_aborted, place_aborted, fresh_record, nat_eq, eqb-false, differ_is, is_differ, same_connection, or_parts, ◌||◌, place_served}
+use Rattle.mscp_tracked.proofs.Common.{Bool, true, false, List, [], ◌∷◌, ◌++◌, length, ℕ, ◌+◌, ◌<◌, ◌≡◌, ◌≢◌, ◌∙◌, refl, sym, ap, subst, arith, append-nil, suc, Option, Some, None, if◌then◌else◌, get_or, is_some, option_map, option_to_list, list_any, map, take, drop, remove, position, true≢false, false≢true, position-Some, cut_at, drop-map, get_or-map, map-append, take-map, name_found, AreApart, names, Command, Order, command_of, Block, Connection, First, Second, of, put, End, Record, aborted_record, drive_at, end_given, has_name, is_same, name_of, name_on, no_record, passed_by, record_at, remains, same_is, same_name, waiting_after, Name, Report, Idle, Served, Choice, Drive, Holdings, Steps, ends_after, Both, end_in, HasCookie, Cookies, cookie_in, ended, left, reported, sent, holds, holds_either, none_waits, refusal, outstanding_of, aborts_none, with_end, aborting, answered_end, queued, reference_aborted, place_aborted, nat_eq, eqb-false, differ_is, is_differ, or_parts, place_served}
 use Rattle.mscp_queue.proofs.Aborts.{aborts_at}
 use Rattle.mscp_tracked.proofs.Keeping.{found_at, none_more}
 

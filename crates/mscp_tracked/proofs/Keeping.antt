@@ -1,6 +1,6 @@
 -- What a message keeps: every list of cookies is as long as the list beside it.
 use Rattle.mscp_controller.specs.declared.entry.Sent.TheVariants as sents
-use Rattle.mscp_tracked.proofs.Common.{Bool, true, false, List, [], ◌∷◌, ◌++◌, length, ℕ, ◌+◌, ◌<◌, ◌≤◌, ◌≡◌, ◌∙◌, refl, sym, ap, subst, arith, append-nil, ⊎_elim, Option, Some, None, Result, Ok, Err, IfSome, if◌then◌else◌, find, get_or, is_ok, is_some, unwrap_or, option_map, option_to_list, remove, position, true≢false, false≢true, length-append, length-remove, position-Some, Command, Order, IsCommand, command_of, IsValid, Connection, First, Second, Both, of, put, aborts_none, find_cases, find_first, position_first, position_none, get_or_at, End, Record, aborted_record, has_name, name_on, no_record, record_at, without, Sent, SendFault, Holdings, IsBalanced, after_message, answer_to_message, answered_end, aborting, arrives, balance_of, held_unless, is_queued, outstanding_of, queued, reference_aborted, refusal, sent_unless, taken_as, unaborted, with_end, sides_length, Cookies, CanCome, ended, left, sent, AreBeside, IsTracked, number_aborted, place_aborted}
+use Rattle.mscp_tracked.proofs.Common.{Bool, true, false, List, [], ◌∷◌, ◌++◌, length, ℕ, ◌+◌, ◌<◌, ◌≤◌, ◌≡◌, ◌∙◌, refl, sym, ap, subst, arith, append-nil, Option, Some, None, Result, Ok, Err, IfSome, if◌then◌else◌, find, get_or, is_ok, is_some, unwrap_or, option_map, option_to_list, remove, position, true≢false, false≢true, length-append, length-remove, position-Some, Command, Order, IsCommand, command_of, IsValid, Connection, Both, of, put, aborts_none, find_cases, find_first, position_first, position_none, get_or_at, End, Record, aborted_record, has_name, name_on, no_record, record_at, without, Sent, SendFault, Holdings, IsBalanced, after_message, answer_to_message, answered_end, aborting, arrives, balance_of, held_unless, is_queued, outstanding_of, queued, reference_aborted, refusal, sent_unless, taken_as, unaborted, with_end, sides_length, Cookies, CanCome, ended, left, sent, AreBeside, IsTracked, number_aborted, place_aborted}
 
 -- ---- how much there is
 -- commands that wait and ends that weren't taken are 64 at the most

@@ -1,6 +1,5 @@
 -- The serials of a tracked controller, over lists of calls.
-use Rattle.mscp_controller.specs.declared.entry.Sent.TheVariants.{Answered, Queued}
-use Rattle.mscp_tracked.proofs.Common.{Bool, true, false, ◌||◌, ◌&&◌, List, [], ◌∷◌, ◌++◌, length, ℕ, ◌+◌, ◌<◌, ◌≤◌, ◌^◌, ◌≡◌, ◌∙◌, ◌⊎◌, inl, inr, refl, sym, ap, subst, arith, Option, Some, None, Result, Ok, Err, is_some, nat_eq, list_any, true≢false, false≢true, length-append, Block, Connection, NotBegun, SendFault, Sent, Upcoming, Choice, Name, name_on, begun_step, Beginning, Finished, Tracking, Begins, BeginsAfter, Finishes, IsReportOf, has_serial, upcoming_name, AnsweredCalls, AnswersCall, Call, FinishesWhatWasTold, KeepsSerials, lets_go, was_let_go, answer_to_message, after_message, after_message_with, beginning_of, is_begun, upcoming_begun, Drive, Record, option_map, unwrap_or, IfSome, eq-eqb, ne_eqb}
+use Rattle.mscp_tracked.proofs.Common.{Bool, true, false, ◌||◌, List, [], ◌∷◌, ◌++◌, length, ℕ, ◌+◌, ◌<◌, ◌≤◌, ◌^◌, ◌≡◌, ◌∙◌, ◌⊎◌, inl, inr, refl, sym, ap, subst, arith, Some, None, Result, Ok, Err, list_any, true≢false, false≢true, length-append, Block, Connection, NotBegun, SendFault, Sent, Upcoming, Choice, begun_step, Beginning, Finished, Tracking, Begins, Finishes, has_serial, upcoming_name, AnsweredCalls, AnswersCall, Call, FinishesWhatWasTold, KeepsSerials, lets_go, was_let_go, answer_to_message, after_message, after_message_with, eq-eqb, ne_eqb}
 use Rattle.mscp_tracked.proofs.Keeping.{some_is}
 use Rattle.mscp_tracked.proofs.Begun.{After, message_stays, message_unbegun, step_unbegun}
 

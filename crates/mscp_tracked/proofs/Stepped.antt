@@ -1,5 +1,5 @@
 -- What a step of what is begun keeps and tells.
-use Rattle.mscp_tracked.proofs.Common.{true, List, [], ◌∷◌, ◌++◌, length, ℕ, ◌+◌, ◌<◌, ◌≤◌, ◌≡◌, ◌∙◌, refl, sym, ap, subst, arith, Option, Some, None, IfSome, get_or, is_some, option_map, option_to_list, map, take, drop, position, false≢true, length-append, length-drop, length-map, length-remove, length-take-le, position-Some, IsValid, Block, First, Second, End, Record, IsAlone, has_name, is_same, name_of, no_record, record_at, same_is, Name, Report, Idle, Served, Choice, Upcoming, Drive, drive_at, drive_of, end_in, report_of, upcoming_of, end_given, remains, advanced, passed_by, step_charge, waiting_after, IsNext, place_begun, upcoming_begun, ServesAt, Holdings, Foretells, IsBalanced, Steps, begun_at, begun_step, ends_after, line_of, Cookies, CanReport, reported, AreBeside, IsReportOf, IsTracked, place_served}
+use Rattle.mscp_tracked.proofs.Common.{true, List, length, ℕ, ◌+◌, ◌<◌, ◌≤◌, ◌≡◌, ◌∙◌, sym, ap, subst, arith, Option, Some, None, IfSome, is_some, option_to_list, position, false≢true, length-append, length-drop, length-map, length-remove, length-take-le, position-Some, IsValid, Block, End, Record, IsAlone, has_name, is_same, name_of, no_record, record_at, same_is, Name, Report, Idle, Served, Choice, Upcoming, Drive, drive_at, end_in, report_of, end_given, waiting_after, IsNext, place_begun, upcoming_begun, ServesAt, Holdings, Foretells, IsBalanced, Steps, begun_at, begun_step, line_of, Cookies, CanReport, reported, AreBeside, IsReportOf, IsTracked, place_served}
 use Rattle.mscp_tracked.proofs.Keeping.{few, found_at, more}
 
 -- ---- who is served
