@@ -1,5 +1,5 @@
 -- Outstanding submissions stay apart.
-use Rattle.mscp_host.proofs.Common.{◌≡◌, ℕ, true, false, ◌||◌, List, [], ◌∷◌, ◌++◌, length, nat_eq, refl, arith, list_any, refill, take-append-le, take_all, Submission, has_reference, with_told, without, are_apart}
+use Rattle.mscp_host.proofs.Common.{◌≡◌, ℕ, true, false, ◌||◌, List, [], ◌∷◌, ◌++◌, length, refl, arith, list_any, refill, take-append-le, take_all, Submission, has_reference, with_told, without, are_apart}
 
 -- ---- a figure is told
 
@@ -41,10 +41,7 @@ module _ (s : Submission) where
   none_more n [] e h = λ i. h i || false
   none_more n (x ∷ rest) e h = grind (arith, none_more n rest)
 
-  turned : (a b : ℕ) → nat_eq a b ≡ false → nat_eq b a ≡ false
-  turned a b e = grind arith
-
   pub apart_more : (xs : List Submission) → are_apart xs ≡ true → list_any (has_reference s.reference) xs ≡ false
       → are_apart (xs ++ s ∷ []) ≡ true
   apart_more [] e n = refl
-  apart_more (x ∷ rest) e n = grind (arith, apart_more rest, none_more, turned)
+  apart_more (x ∷ rest) e n = grind (arith, apart_more rest, none_more)

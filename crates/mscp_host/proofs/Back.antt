@@ -1,20 +1,13 @@
 -- The bytes that a host is saved as say that host.
-use Rattle.mscp_host.proofs.Common.{All, ◌≡◌, ℕ, ◌+◌, ◌*◌, ◌<◌, ◌≤◌, ◌^◌, true, List, [], ◌∷◌, ◌++◌, drop, length, refl, arith, le-leb, le-ltb, lt-ltb, eq-eqb, length-append, bytes_eq-Decides, flat_map, Option, None, IfSome, Ok, slice_index, bytes_eq, num, parts_in, four, two, read_all, Submission, Watch, Account, IsSound, account_fault, account_in, head_fault, restored, submission_in, told_in, HasRange, HasSubmissionRange, saved_bytes, submission_bytes, told_bytes}
+use Rattle.mscp_host.proofs.Common.{All, ◌≡◌, ℕ, ◌+◌, ◌*◌, ◌≤◌, true, List, [], ◌∷◌, ◌++◌, drop, length, refl, arith, le-leb, le-ltb, lt-ltb, eq-eqb, length-append, bytes_eq-Decides, flat_map, Option, None, Ok, bytes_eq, parts_in, four, two, read_all, Submission, Watch, Account, IsSound, account_fault, account_in, head_fault, restored, submission_in, HasRange, HasSubmissionRange, saved_bytes, submission_bytes}
 
 -- ---- a submission
 
-told_back : (told : Option ℕ) (t : List ℕ) → IfSome told (λ figure. figure < 2 ^ 32)
-    → told_in (slice_index (told_bytes told ++ t) 0) (num (told_bytes told ++ t) 1 4) ≡ told
-told_back told t h1 = search (arith, four)
-
-told_rest : (told : Option ℕ) (t : List ℕ) → drop 5 (told_bytes told ++ t) ≡ t
-told_rest told t = search arith
-
 submission_back : (s : Submission) (t : List ℕ) → HasSubmissionRange s → submission_in (submission_bytes s ++ t) ≡ s
-submission_back s t h = search (arith, four, two, told_back)
+submission_back s t h = grind (arith, four, two)
 
 submission_rest : (s : Submission) (t : List ℕ) → HasSubmissionRange s → drop 12 (submission_bytes s ++ t) ≡ t
-submission_rest s t h = told_rest s.told t
+submission_rest s t h = grind arith
 
 -- ---- all
 
@@ -32,12 +25,9 @@ account_back credits xs watch h1 h2 = search (arith, four, outstanding_back)
 
 -- ---- its head
 
-told_long : (told : Option ℕ) → length (told_bytes told) ≡ 5
-told_long told = search arith
-
 submissions_long : (xs : List Submission) → length (flat_map submission_bytes xs) ≡ 12 * length xs
 submissions_long [] = let e : 0 ≡ 12 * 0 = omega arith in e
-submissions_long (s ∷ xs) = search (arith, submissions_long xs, told_long, length-append)
+submissions_long (s ∷ xs) = grind (arith, submissions_long xs, length-append)
 
 pub saved_long : (a : Account) → length (saved_bytes a) ≡ 26 + 12 * length a.outstanding
 saved_long a = search (arith, submissions_long, length-append)

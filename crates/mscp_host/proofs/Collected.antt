@@ -1,5 +1,5 @@
 -- What a list of moments says of the commands that are outstanding, with one moment more.
-use Rattle.mscp_host.proofs.Common.{◌≡◌, ⊎_elim, ℕ, ◌+◌, ◌<◌, ◌≤◌, Bool, true, false, cond, List, [], ◌∷◌, ◌++◌, refl, ap, sym, ◌∙◌, subst, arith, append-nil, filter, find, flat_map, not, ◌&&◌, ◌||◌, Option, Some, None, option_to_list, option_or, AllByRecursion, last_or, list_any, and-false, or-false, cases_lt, false≢true, nat_tests, flat_map-append, filter-append, list_any-append, History, before, end_heard, figure_from, handed_over, is_end_of, is_ended, is_it, is_outstanding, is_sent, last_told, moment, outstanding, reference, told_at}
+use Rattle.mscp_host.proofs.Common.{◌≡◌, ⊎_elim, ℕ, ◌+◌, ◌<◌, Bool, true, false, cond, List, [], ◌∷◌, ◌++◌, refl, ap, sym, ◌∙◌, subst, arith, append-nil, filter, find, flat_map, not, ◌&&◌, Some, None, option_to_list, option_or, AllByRecursion, last_or, list_any, and-false, or-false, cases_lt, false≢true, nat_tests, flat_map-append, filter-append, list_any-append, History, before, end_heard, is_end_of, is_ended, is_outstanding, is_sent, last_told, moment, outstanding, reference, told_at}
 use Rattle.mscp_host.proofs.Lists.{before_at, before_below, before_more, every_kept, every_passes, every_weaker, filter_filter, filter_on, found, last_more}
 
 -- ---- which are outstanding
@@ -8,10 +8,6 @@ use Rattle.mscp_host.proofs.Lists.{before_at, before_below, before_more, every_k
 abbrev pub ends_now : History → ℕ → ℕ → Bool
 ends_now h j i = is_end_of (reference h i) (end_heard (moment h j))
 
-any_more : (h : History) (j i : ℕ) → list_any (is_ended h i) (before (j + 1))
-    ≡ (list_any (is_ended h i) (before j) || is_ended h i j)
-any_more h j i = grind (arith, before_more, list_any-append, or-false)
-
 none_ended : (h : History) (j : ℕ) (ks : List ℕ) → AllByRecursion (λ k. k < j + 1) ks
     → list_any (is_ended h j) ks ≡ false
 none_ended h j [] e = refl
@@ -19,7 +15,7 @@ none_ended h j (k ∷ ks) e = search (arith, none_ended h j ks e.1, nat_tests)
 
 pub out_old : (h : History) (j i : ℕ) → i < j
     → is_outstanding h (j + 1) i ≡ (is_outstanding h j i && not (ends_now h j i))
-out_old h j i l = grind (arith, any_more, nat_tests)
+out_old h j i l = grind (arith, nat_tests, before_more, list_any-append, or-false)
 
 pub out_new : (h : History) (j : ℕ) → is_outstanding h (j + 1) j ≡ is_sent (moment h j)
 out_new h j = grind (arith, none_ended, before_below, nat_tests)
@@ -98,20 +94,10 @@ pub found_before : (h : History) (j x : ℕ) (p : ℕ → Bool) → find p (outs
 found_before h j x p e = out_below h j x (found_out h j x p e).0
 
 -- nothing is told of a command before it was sent
-not_before : (j p : ℕ) (o : Option ℕ) → ((x : ℕ) → o ≡ Some x → x < p) → p ≤ j → is_it j o ≡ false
-not_before j p o f l = grind (arith, nat_tests)
-
-untold_from : (h : History) (j k : ℕ) (o : Option ℕ) → ((x : ℕ) → o ≡ Some x → x < k) → k ≤ j
-    → figure_from h j k o ≡ None
-untold_from h j k o h1 h2 = search (arith, not_before, found_before, and-false)
-
-pub untold_at : (h : History) (j k : ℕ) → k ≤ j → told_at h j k ≡ None
-untold_at h j k l = untold_from h j k (handed_over h k) (λ x e. found_before h k x _ e) l
-
 untold_in : (h : History) (j : ℕ) (ks : List ℕ) → AllByRecursion (λ k. k < j + 1) ks
     → flat_map (λ k. option_to_list (told_at h j k)) ks ≡ []
 untold_in h j [] e = refl
-untold_in h j (k ∷ ks) e = search (arith, untold_in h j ks e.1, untold_at)
+untold_in h j (k ∷ ks) e = grind (arith, untold_in h j ks e.1, found_before, and-false, nat_tests)
 
 pub untold : (h : History) (j : ℕ) → last_told h (j + 1) j ≡ None
 untold h j = ap (last_or None) (untold_in h j (before (j + 1)) (before_below (j + 1)))

@@ -1,8 +1,6 @@
 -- Credits and commands are counted.
-use Rattle.mscp_host.proofs.Common.{Account, ArrayVec, Asked, Bool, Command, End, Envelope, Err, Hear, HearFault, Heard, HostFault, List, Message, News, None, Ok, Option, Poll, PortAccount, PortAnswered, PortAnswers, PortHistory, PortHostsKeepCount, PortMoment, Result, Resume, Some, Submission, Watch, [], and-true, ap, arith, asked_of, asks, attention_of, credit_fault, end_says, ended, ended_in, ended_of, ends_in, ends_of, false, false≢true, find, granted, if◌then◌else◌, is_none, is_of, is_some, is_to_poll, length, length-append, ltb-false, min, nat_eq, nat_lt, nat_tests, news_said, noted, noted_poll, oldest, opcode_byte, or_parts, poll_of, polled_with, polls_oldest, refl, sent_in, submits, submits_unless_faulty, submitted_with, sum_by-cons, sym, true, without_by, ℕ, ◌&&◌, ◌++◌, ◌+◌, ◌-◌, ◌∙◌, ◌∷◌, ◌≡◌, ◌≤◌}
-use Rattle.mscp_host.specs.declared.heard.Heard.TheVariants as heards
+use Rattle.mscp_host.proofs.Common.{Account, ArrayVec, Asked, Bool, Command, End, Envelope, Err, Hear, HearFault, Heard, HostFault, List, Message, News, None, Ok, Option, Poll, PortAccount, PortAnswered, PortAnswers, PortHistory, PortHostsKeepCount, PortMoment, Result, Resume, Some, Submission, Watch, [], and-true, ap, arith, asked_of, asks, credit_fault, end_says, ended, ended_in, ends_in, ends_of, false, false≢true, find, granted, if◌then◌else◌, is_none, is_of, is_some, is_to_poll, length, length-append, ltb-false, nat_eq, nat_tests, news_said, noted, noted_poll, oldest, opcode_byte, or_parts, poll_of, polled_with, polls_oldest, refl, sent_in, submits, submits_unless_faulty, submitted_with, sum_by-cons, sym, true, without_by, ℕ, ◌&&◌, ◌+◌, ◌∙◌, ◌∷◌, ◌≡◌, ◌≤◌}
 use Rattle.mscp_host.specs.declared.message.HearFault.TheVariants as faults
-use Rattle.mscp_host.specs.declared.news.HostFault.TheVariants as refusals
 use Rattle.mscp_host.specs.declared.news.Poll.TheVariants as polls
 use Rattle.mscp_host.specs.declared.message.Message.TheVariants as messages
 use Rattle.mscp_host.specs.PortAccounts.{heard_of}
@@ -24,66 +22,31 @@ without_long p (y ∷ ys) x e = search (arith, without_long p ys x)
 some_credit : (credits opcode : ℕ) → credit_fault credits opcode ≡ None → 1 ≤ credits
 some_credit credits opcode e = search (arith, false≢true)
 
-noted_long : (xs : List Asked) (a : Asked) → length (xs ++ a ∷ []) ≡ length xs + 1
-noted_long xs a = search (arith, length-append)
-
 -- ---- nothing is sent and nothing is told
 
 quiet : (old : PortAccount) (m : PortMoment) (new : PortAccount) → new ≡ old → told_in m ≡ 0 → sent_in m ≡ 0
     → ended_in m ≡ 0 → Counts old m new
-quiet old m new e t s d = record {
-  over = λ f. sym (ap (λ (p : PortAccount). p.is_over) e) ∙ f;
-  credits = λ f. let c = ap (λ (p : PortAccount). p.credits) e in omega (arith, c, t, s);
-  no_more = let c = ap (λ (p : PortAccount). p.credits) e in omega (arith, c, t, s);
-  commands = let c = ap (λ (p : PortAccount). length p.asked) e in omega (arith, c, s, d);
-}
+quiet old m new e t s d = grind arith
 
 -- ---- a command is sent
 
 sent : (old : PortAccount) (m : PortMoment) (new : PortAccount) (a : Account) (asked : Asked) → new ≡ noted old a asked
     → 1 ≤ old.credits → told_in m ≡ 0 → sent_in m ≡ 1 → ended_in m ≡ 0 → Counts old m new
-sent old m new a asked e some t s d =
-    let c : new.credits ≡ old.credits - 1 = ap (λ (p : PortAccount). p.credits) e in
-    let l : length new.asked ≡ length old.asked + 1 = ap (λ (p : PortAccount). length p.asked) e
-    ∙ noted_long old.asked asked in
-    record {
-      over = λ f. sym (ap (λ (p : PortAccount). p.is_over) e) ∙ f;
-      credits = λ f. omega (arith, c, some, t, s);
-      no_more = omega (arith, c, some, t, s);
-      commands = omega (arith, l, s, d);
-    }
+sent old m new a asked e some t s d = grind (arith, length-append)
 
 -- ---- credits are told
-
-over_not : (p : PortAccount) (n : ℕ) → (granted n p).is_over ≡ false
-    → (p.is_over ≡ false) × (p.credits + n ≤ 65535)
-over_not p n e =
-    let both = or_parts p.is_over (nat_lt 65535 (p.credits + n)) e in
-    (both.0, ltb-false 65535 (p.credits + n) both.1)
 
 told : (old : PortAccount) (m : PortMoment) (new p : PortAccount) (n : ℕ) → new ≡ granted n p
     → p.credits ≡ old.credits → p.is_over ≡ old.is_over → told_in m ≡ n → sent_in m ≡ 0
     → length p.asked + ended_in m ≡ length old.asked → Counts old m new
-told old m new p n e same over t s ends =
-    let c : new.credits ≡ min (p.credits + n) 65535 = ap (λ (q : PortAccount). q.credits) e in
-    let l : length new.asked ≡ length p.asked = ap (λ (q : PortAccount). length q.asked) e in
-    let is : new.is_over ≡ (granted n p).is_over = ap (λ (q : PortAccount). q.is_over) e in
-    record {
-      over = λ f. sym over ∙ (over_not p n (sym is ∙ f)).0;
-      credits = λ f. let few = (over_not p n (sym is ∙ f)).1 in omega (arith, c, few, same, t, s);
-      no_more = omega (arith, c, same, t, s);
-      commands = omega (arith, l, ends, s);
-    }
+told old m new p n e same over t s ends = grind (arith, or_parts, ltb-false)
 
 -- ---- one moment
 
 submit_with : (old : PortAccount) (command : Command) (answer : Result (ArrayVec ℕ) HostFault) (new : PortAccount)
     (r : Result (ArrayVec ℕ) HostFault) (a : Account) → 1 ≤ old.credits
     → submitted_with old command (r, a) ≡ (answer, new) → Counts old (Submit command answer) new
-submit_with old command answer new (Err fault) a some e =
-    let err : Err fault ≡ answer = ap (λ p. p.0) e in
-    quiet old (Submit command answer) new (sym (ap (λ p. p.1) e)) refl
-    (ap (λ x. sent_in (Submit command x)) (sym err)) refl
+submit_with old command answer new (Err fault) a some e = grind (arith, quiet)
 submit_with old command answer new (Ok message) a some e =
     let ok : Ok message ≡ answer = ap (λ p. p.0) e in
     sent old (Submit command answer) new a _ (sym (ap (λ p. p.1) e)) some refl
@@ -92,28 +55,16 @@ submit_with old command answer new (Ok message) a some e =
 submit_counts : (old : PortAccount) (command : Command) (answer : Result (ArrayVec ℕ) HostFault) (new : PortAccount)
     (o : Option HostFault) → credit_fault old.credits (opcode_byte command.order) ≡ o
     → submits_unless_faulty old command o ≡ (answer, new) → Counts old (Submit command answer) new
-submit_counts old command answer new (Some fault) f e =
-    let err : Err fault ≡ answer = ap (λ p. p.0) e in
-    quiet old (Submit command answer) new (sym (ap (λ p. p.1) e)) refl
-    (ap (λ x. sent_in (Submit command x)) (sym err)) refl
+submit_counts old command answer new (Some fault) f e = grind (arith, quiet)
 submit_counts old command answer new None f e =
     submit_with old command answer new (submits old.account command).0 (submits old.account command).1
     (some_credit old.credits (opcode_byte command.order) f) e
 
 -- a poll is sent only where one is to be sent
-asked_found : (a new : Account) (r : ℕ) (m : ArrayVec ℕ) (o : Option Submission) → asks a r o ≡ (Ok (polls.Ask m), new)
-    → is_some o ≡ true
-asked_found a new r m o e = search (arith, false≢true)
-
-abbrev is_ask : Result Poll HostFault → Bool
-is_ask (Ok (polls.Ask m)) = true
-is_ask answer = false
-
 sent_poll : (a new : Account) (r : ℕ) (m : ArrayVec ℕ) (o : Option Watch) → a.watch ≡ o
     → (if is_some o then (Ok polls.Busy, a) else asks a r (oldest a)) ≡ (Ok (polls.Ask m), new)
     → (is_none o ≡ true) × (is_some (oldest a) ≡ true)
-sent_poll a new r m None w e = (refl, asked_found a new r m (oldest a) e)
-sent_poll a new r m (Some x) w e = absurd (false≢true (ap (λ p. is_ask p.0) e))
+sent_poll a new r m o w e = grind (arith, false≢true)
 
 noted_some : (p : PortAccount) (a : Account) (r : ℕ) (o : Option Submission) → is_some o ≡ true
     → (asked : Asked) × (noted_poll p a r o ≡ noted p a asked)
@@ -136,36 +87,12 @@ poll_with old n answer new (Ok (polls.Ask m)) a is free e =
   where
     positive : (k : ℕ) → nat_eq k 0 ≡ false → 1 ≤ k
     positive k e = search (arith, nat_tests)
-poll_with old n answer new (Ok polls.Nothing) a is free e =
-    let ok : Ok polls.Nothing ≡ answer = ap (λ p. p.0) e in
-    quiet old (Ask n answer) new (sym (ap (λ p. p.1) e)) refl (ap (λ x. sent_in (Ask n x)) (sym ok)) refl
-poll_with old n answer new (Ok polls.Busy) a is free e =
-    let ok : Ok polls.Busy ≡ answer = ap (λ p. p.0) e in
-    quiet old (Ask n answer) new (sym (ap (λ p. p.1) e)) refl (ap (λ x. sent_in (Ask n x)) (sym ok)) refl
-poll_with old n answer new (Err fault) a is free e =
-    let err : Err fault ≡ answer = ap (λ p. p.0) e in
-    quiet old (Ask n answer) new (sym (ap (λ p. p.1) e)) refl (ap (λ x. sent_in (Ask n x)) (sym err)) refl
-
-poll_counts : (old : PortAccount) (n : ℕ) (answer : Result Poll HostFault) (new : PortAccount) (b : Bool)
-    → (nat_eq old.credits 0 && is_to_poll old.account) ≡ b
-    → (if b then (Err refusals.NoCredit, old) else polled_with old n (polls_oldest old.account n)) ≡ (answer, new)
-    → Counts old (Ask n answer) new
-poll_counts old n answer new true f e =
-    let err : Err refusals.NoCredit ≡ answer = ap (λ p. p.0) e in
-    quiet old (Ask n answer) new (sym (ap (λ p. p.1) e)) refl (ap (λ x. sent_in (Ask n x)) (sym err)) refl
-poll_counts old n answer new false f e =
-    poll_with old n answer new (polls_oldest old.account n).0 (polls_oldest old.account n).1 refl f e
+poll_with old n answer new o a is free e = grind (arith, quiet)
 
 -- ---- a message is heard
 
-attention_none : (code unit : ℕ) → ends_in (attention_of code unit) ≡ 0
-attention_none code unit = search arith
-
-ended_one : (e : End) (asked : Asked) → ends_in (ended_of e asked) ≡ 1
-ended_one e asked = search arith
-
 said_one : (b : Bool) (e : End) (asked : Asked) (n : News) → ends_in (news_said b e asked n) ≡ 1
-said_one b e asked n = search (arith, ended_one)
+said_one b e asked n = grind arith
 
 abbrev refuses : PortAccount → HearFault → Result Heard HearFault × PortAccount
 refuses old fault = (Err fault, old)
@@ -175,31 +102,18 @@ tells credits heard new = (Ok heard, granted credits new)
 
 refused : (old : PortAccount) (v : Envelope) (b : List ℕ) (answer : Result Heard HearFault) (new : PortAccount)
     (fault : HearFault) → refuses old fault ≡ (answer, new) → Counts old (Hear v b answer) new
-refused old v b answer new fault e =
-    let err : Err fault ≡ answer = ap (λ p. p.0) e in
-    quiet old (Hear v b answer) new (sym (ap (λ p. p.1) e)) (ap (λ x. told_in (Hear v b x)) (sym err)) refl
-    (ap (λ x. ended_in (Hear v b x)) (sym err))
+refused old v b answer new fault e = grind (arith, quiet)
 
 heard_none : (old : PortAccount) (v : Envelope) (b : List ℕ) (answer : Result Heard HearFault) (new : PortAccount)
     (heard : Heard) → ends_in heard ≡ 0 → tells v.credits heard old ≡ (answer, new)
     → Counts old (Hear v b answer) new
-heard_none old v b answer new heard none e =
-    let ok : Ok heard ≡ answer = ap (λ p. p.0) e in
-    let zero : ended_in (Hear v b answer) ≡ 0 = ap (λ x. ended_in (Hear v b x)) (sym ok) ∙ none in
-    told old (Hear v b answer) new old v.credits (sym (ap (λ p. p.1) e)) refl refl
-    (ap (λ x. told_in (Hear v b x)) (sym ok)) refl (omega (arith, zero))
+heard_none old v b answer new heard none e = grind (arith, told)
 
 end_counts : (old : PortAccount) (v : Envelope) (b : List ℕ) (answer : Result Heard HearFault) (new : PortAccount)
     (x : End) (asked : Asked) (may : Bool) → find (is_of x.reference) old.asked ≡ Some asked
     → (if may then tells v.credits (end_says old x asked) (ended old x) else refuses old faults.Unknown)
     ≡ (answer, new) → Counts old (Hear v b answer) new
-end_counts old v b answer new x asked true found e =
-    let ok : Ok (end_says old x asked) ≡ answer = ap (λ p. p.0) e in
-    let one : ended_in (Hear v b answer) ≡ 1 = ap (λ y. ended_in (Hear v b y)) (sym ok) ∙ said_one _ x asked _ in
-    let long = without_long (is_of x.reference) old.asked asked found in
-    told old (Hear v b answer) new (ended old x) v.credits (sym (ap (λ p. p.1) e)) refl refl
-    (ap (λ y. told_in (Hear v b y)) (sym ok)) refl (omega (arith, one, long))
-end_counts old v b answer new x asked false found e = refused old v b answer new faults.Unknown e
+end_counts old v b answer new x asked o found e = grind (arith, said_one, without_long, told, refused)
 
 ends_counts : (old : PortAccount) (v : Envelope) (b : List ℕ) (answer : Result Heard HearFault) (new : PortAccount)
     (x : End) (o : Option Asked) → find (is_of x.reference) old.asked ≡ o → ends_of old v.credits x o ≡ (answer, new)
@@ -209,17 +123,12 @@ ends_counts old v b answer new x (Some asked) f e = end_counts old v b answer ne
 
 hear_counts : (old : PortAccount) (v : Envelope) (b : List ℕ) (answer : Result Heard HearFault) (new : PortAccount)
     (r : Result Message HearFault) → heard_of old v.credits r ≡ (answer, new) → Counts old (Hear v b answer) new
-hear_counts old v b answer new (Err fault) e = refused old v b answer new fault e
 hear_counts old v b answer new (Ok (messages.End x)) e = ends_counts old v b answer new x _ refl e
-hear_counts old v b answer new (Ok (messages.Attention code unit)) e =
-    heard_none old v b answer new (attention_of code unit) (attention_none code unit) e
-hear_counts old v b answer new (Ok messages.Datagram) e = heard_none old v b answer new heards.Logged refl e
-hear_counts old v b answer new (Ok messages.Credits) e =
-    heard_none old v b answer new (heards.Credits v.credits) refl e
+hear_counts old v b answer new o e = grind (arith, refused, heard_none)
 
 counts : (old : PortAccount) (m : PortMoment) (new : PortAccount) → PortAnswers old m new → Counts old m new
 counts old (Submit command answer) new e = submit_counts old command answer new _ refl e
-counts old (Ask n answer) new e = poll_counts old n answer new _ refl e
+counts old (Ask n answer) new e = grind (arith, quiet, poll_with)
 counts old (Hear v b answer) new e = hear_counts old v b answer new _ e
 counts old (Resume b) new e = quiet old (Resume b) new (resumed old new b e) refl refl refl
 counts old Other new e = quiet old Other new e refl refl refl
@@ -232,10 +141,7 @@ all_over old [] new a f = sym (ap (λ (p : PortAccount). p.is_over) a) ∙ f
 all_over old (m ∷ rest) new a f = (counts old m a.0 a.1).over (all_over a.0 rest new a.2 f)
 
 pub keeps_count : PortHostsKeepCount
-keeps_count old [] new a =
-    let c = ap (λ (p : PortAccount). p.credits) a in
-    let l = ap (λ (p : PortAccount). length p.asked) a in
-    record { credits = λ f. omega (arith, c); no_more = omega (arith, c); commands = omega (arith, l) }
+keeps_count old [] new a = grind arith
 keeps_count old (m ∷ rest) new a =
     let one = counts old m a.0 a.1 in
     let more = keeps_count a.0 rest new a.2 in
@@ -246,11 +152,4 @@ keeps_count old (m ∷ rest) new a =
     let after = more.no_more in
     let ends = one.commands in
     let others = more.commands in
-    record {
-      credits = λ f.
-          let now = one.credits (all_over a.0 rest new a.2 f) in
-          let later = more.credits f in
-          omega (arith, now, later, s, t);
-      no_more = omega (arith, once, after, s, t);
-      commands = omega (arith, ends, others, s, d);
-    }
+    grind (arith, all_over, one, more, s, t, d, once, after, ends, others)

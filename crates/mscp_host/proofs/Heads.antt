@@ -1,13 +1,10 @@
 -- What a head and an account without a fault tell.
-use Rattle.mscp_host.proofs.Common.{arith, ◌≡◌, ℕ, ◌+◌, ◌*◌, ◌<◌, ◌≤◌, Bool, true, false, List, length, not, if◌then◌else◌, Option, Some, None, and_parts, eqb-true, leb-true, ltb-false, ltb-true, true≢false, num, RestoreFault, Account, are_apart, account_fault, count_in, head_fault, waiting, are_told, is_watched}
+use Rattle.mscp_host.proofs.Common.{arith, ◌≡◌, ℕ, ◌+◌, ◌*◌, ◌<◌, ◌≤◌, Bool, true, List, length, not, if◌then◌else◌, Option, Some, None, and_parts, eqb-true, leb-true, ltb-false, ltb-true, true≢false, num, RestoreFault, Account, are_apart, account_fault, count_in, head_fault, waiting, are_told, is_watched}
 
 -- what was tested first holds, and then no later fault does
 first : (t : Bool) (fault : RestoreFault) (rest : Option RestoreFault)
     → (if not t then Some fault else rest) ≡ None → (t ≡ true) × (rest ≡ None)
 first t fault rest h1 = search (arith, true≢false)
-
-last : (t : Bool) (fault : RestoreFault) → (if t then Some fault else None) ≡ None → t ≡ false
-last t fault h1 = search (arith, true≢false)
 
 -- the same of what no host has
 pub record IsAccount (a : Account) : Type 0 where
@@ -27,4 +24,4 @@ pub record IsHead (b : List ℕ) : Type 0 where
   pub covered : count_in b ≤ num b 12 4
 
 pub head_tells : (b : List ℕ) → head_fault b ≡ None → IsHead b
-head_tells b e = search (arith, first, last, and_parts, leb-true, eqb-true, ltb-false)
+head_tells b e = grind (arith, first, and_parts, leb-true, eqb-true, ltb-false, true≢false)

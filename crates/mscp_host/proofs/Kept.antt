@@ -1,5 +1,5 @@
 -- What a host keeps, as the list so far says it, after a moment in which no end is heard.
-use Rattle.mscp_host.proofs.Common.{◌≡◌, ℕ, ◌+◌, ◌<◌, ◌≤◌, Bool, true, false, cond, List, [], ◌∷◌, map, refl, ap, sym, ◌∙◌, arith, append-nil, ◌&&◌, filter, not, Option, Some, None, option_map, Ok, option_or, and-true, false≢true, map-append, find-append, ArrayVec, Command, Submission, is_immediate, oldest, submitted, watching, Moment, Submit, Ask, History, account_at, asked_for, end_heard, is_end_of, found_stands, handed_over, in_flight, is_poll, is_sent, last_told, moment, opcode_in, outstanding, reference, submission_at, unit_found, unit_in, unit_named, watch_at}
+use Rattle.mscp_host.proofs.Common.{◌≡◌, ℕ, ◌+◌, ◌<◌, ◌≤◌, Bool, true, false, cond, List, map, refl, ap, sym, ◌∙◌, arith, append-nil, ◌&&◌, filter, not, Option, Some, None, option_map, Ok, option_or, and-true, false≢true, map-append, find-append, ArrayVec, Command, Submission, is_immediate, oldest, submitted, watching, Moment, Submit, Ask, History, account_at, asked_for, end_heard, is_end_of, found_stands, in_flight, is_poll, is_sent, moment, opcode_in, outstanding, reference, submission_at, unit_found, unit_in, unit_named, watch_at}
 use Rattle.mscp_host.specs.declared.news.Poll.TheVariants as polls
 use Rattle.mscp_host.proofs.Collected.{ends_now, found_before, found_out, last_then, out_all, out_old, outstanding_more, untold}
 use Rattle.mscp_host.proofs.Lists.{filter_all, find_map, find_none}
@@ -7,12 +7,6 @@ use Rattle.mscp_host.proofs.Lists.{filter_all, find_map, find_none}
 -- no end is heard at j
 abbrev pub NoEnd : History → ℕ → Type 0
 NoEnd h j = end_heard (moment h j) ≡ None
-
-pub none_handed : (h : History) (j : ℕ) → NoEnd h j → handed_over h j ≡ None
-none_handed h j n = find_none _ (outstanding h j) (out_all _ h j (λ x e. ap (λ o. is_end_of (reference h x) o) n))
-
-none_told : (h : History) (j i : ℕ) → NoEnd h j → last_told h (j + 1) i ≡ last_told h j i
-none_told h j i n = search (arith, last_then, none_handed)
 
 pub all_stay : (h : History) (j : ℕ) → NoEnd h j
     → filter (λ i. not (ends_now h j i)) (outstanding h j) ≡ outstanding h j
@@ -36,8 +30,7 @@ stands_then h j p l = stands_of h j (asked_for h p)
 -- what is kept of the commands and of a poll stays
 subs_same : (h : History) (j : ℕ) (xs : List ℕ) → NoEnd h j
     → map (submission_at h (j + 1)) xs ≡ map (submission_at h j) xs
-subs_same h j [] n = refl
-subs_same h j (x ∷ xs) n = search (arith, subs_same h j xs n, none_told)
+subs_same h j o n = grind (arith, last_then, find_none, out_all)
 
 watches_same : (h : History) (j : ℕ) (o : Option ℕ) → NoEnd h j → ((p : ℕ) → o ≡ Some p → p < j)
     → option_map (watch_at h (j + 1)) o ≡ option_map (watch_at h j) o

@@ -1,8 +1,7 @@
 -- A watch waits a whole timeout.
-use Rattle.mscp_host.proofs.Common.{Advice, Bool, Heard, Lately, List, PortAccount, Tick, Told, WatchMoment, Watched, WatchesArePatient, [], advice, advised, and_parts, ap, arith, cond, counted, false, false≢true, if◌then◌else◌, is_answer, is_owed, is_silent, is_tick, is_unpolled, is_waiting, leb-true, ltb-true, min, not, not-true, refl, subst, sum_by-cons, sym, ticked, true, ℕ, ◌&&◌, ◌+◌, ◌∙◌, ◌∷◌, ◌≡◌, ◌≤◌}
+use Rattle.mscp_host.proofs.Common.{Advice, Bool, Heard, Lately, List, PortAccount, Tick, Told, WatchMoment, Watched, WatchesArePatient, [], advice, and_parts, ap, arith, cond, counted, false, false≢true, if◌then◌else◌, is_silent, is_tick, is_unpolled, leb-true, ltb-true, min, not-true, refl, sum_by-cons, ticked, true, ℕ, ◌&&◌, ◌+◌, ◌∷◌, ◌≡◌, ◌≤◌}
 use Rattle.mscp_host.specs.declared.ticking.Advice.TheVariants as advices
 use Rattle.mscp_host.specs.declared.ticking.Watch.{Watch}
-use Rattle.mscp_host.specs.Watching.{is_polled}
 
 -- ---- the newest moments
 
@@ -24,9 +23,7 @@ one_tick test n before m k t e l =
 
 fewer : (test : WatchMoment → Bool) (n k : ℕ) (before : List WatchMoment) → k ≤ n → Lately test n before
     → Lately test k before
-fewer test n k before less l =
-    let many = l.many in
-    record { lately = l.lately; earlier = l.earlier; is = l.is; all = l.all; many = omega (arith, many, less) }
+fewer test n k before less l = grind arith
 
 -- a tick more, if that goes on
 counts_on : (test : WatchMoment → Bool) (n : ℕ) (before : List WatchMoment) (p : PortAccount) (answer : Advice)
@@ -50,95 +47,28 @@ record Has (timeout : ℕ) (before : List WatchMoment) (w : Watch) : Type 0 wher
   waited : Lately is_unpolled w.waited before
   silent : Lately is_silent w.silent before
 
-tick_has : (timeout : ℕ) (before : List WatchMoment) (old : Watch) (p : PortAccount) (answer : Advice)
-    → Has timeout before old → Has timeout (Tick p answer ∷ before) (advised (ticked old p) answer)
-tick_has timeout before old p advices.Nothing h = record {
-  is = h.is;
-  waited = counts_on is_unpolled old.waited before p advices.Nothing (is_waiting p) (λ e. e) h.waited;
-  silent = counts_on is_silent old.silent before p advices.Nothing (is_owed p) (λ e. e) h.silent;
-}
-tick_has timeout before old p advices.Poll h = record {
-  is = h.is;
-  waited = none is_unpolled _;
-  silent = counts_on is_silent old.silent before p advices.Poll (is_owed p) (λ e. e) h.silent;
-}
-tick_has timeout before old p advices.Reset h = record {
-  is = h.is;
-  waited = none is_unpolled _;
-  silent = none is_silent _;
-}
-
-told_has : (timeout : ℕ) (before : List WatchMoment) (old : Watch) (heard : Heard) (b : Bool) → is_answer heard ≡ b
-    → Has timeout before old
-    → Has timeout (Told heard ∷ before) (if b then record old { silent = 0 } else old)
-told_has timeout before old heard true e h = record {
-  is = h.is;
-  waited = told_on is_unpolled old.waited before heard refl h.waited;
-  silent = none is_silent _;
-}
-told_has timeout before old heard false e h = record {
-  is = h.is;
-  waited = told_on is_unpolled old.waited before heard refl h.waited;
-  silent = told_on is_silent old.silent before heard (ap not e) h.silent;
-}
-
 has : (timeout : ℕ) (before : List WatchMoment) (w : Watch) → Watched timeout before w → Has timeout before w
-has timeout [] w e =
-    subst (Has timeout []) (sym e) (record { is = refl; waited = none is_unpolled []; silent = none is_silent [] })
-has timeout (Tick p answer ∷ before) w x =
-    let said : advice (ticked x.0 p) p ≡ answer = ap (λ q. q.0) x.1 in
-    let kept : advised (ticked x.0 p) answer ≡ w =
-    ap (advised (ticked x.0 p)) (sym said) ∙ ap (λ q. q.1) x.1 in
-    subst (Has timeout (Tick p answer ∷ before)) kept
-    (tick_has timeout before x.0 p answer (has timeout before x.0 x.2))
-has timeout (Told heard ∷ before) w x =
-    subst (Has timeout (Told heard ∷ before)) (sym x.1)
-    (told_has timeout before x.0 heard (is_answer heard) refl (has timeout before x.0 x.2))
+has timeout [] w e = grind (arith, none)
+has timeout (Tick p answer ∷ before) w x = grind (arith, has timeout before x.0 x.2, counts_on, none)
+has timeout (Told heard ∷ before) w x = grind (arith, has timeout before x.0 x.2, told_on, none)
 
 -- ---- what it says
 
 -- the reasons
-abbrev is_reset : Advice → Bool
-is_reset advices.Reset = true
-is_reset answer = false
-
-abbrev is_poll : Advice → Bool
-is_poll advices.Poll = true
-is_poll answer = false
-
 resets : (b d : Bool) → (if b then advices.Reset else (if d then advices.Poll else advices.Nothing)) ≡ advices.Reset
     → b ≡ true
-resets true d e = refl
-resets false true e = absurd (false≢true (ap is_reset e))
-resets false false e = absurd (false≢true (ap is_reset e))
+resets o d e = grind (arith, false≢true)
 
 polls : (b d : Bool) → (if b then advices.Reset else (if d then advices.Poll else advices.Nothing)) ≡ advices.Poll
     → d ≡ true
-polls true d e = absurd (false≢true (ap is_poll e))
-polls false true e = refl
-polls false false e = absurd (false≢true (ap is_poll e))
+polls o d e = grind (arith, false≢true)
 
 counted_most : (b : Bool) (n : ℕ) → counted b n ≤ n + 1
-counted_most true n = omega arith
-counted_most false n = let e : 0 ≤ n + 1 = omega arith in e
+counted_most o n = grind arith
 
 pub are_patient : WatchesArePatient
 are_patient timeout before w new p answer watched e =
     let h = has timeout before w watched in
     let said : advice (ticked w p) p ≡ answer = ap (λ q. q.0) e in
     let same = h.is in
-    record {
-      polls = λ is.
-          let yes = polls _ _ (said ∙ is) in
-          let one = and_parts (is_waiting p) _ yes in
-          let two = and_parts (not (is_polled p)) _ one.1 in
-          let long = leb-true w.timeout (counted (is_waiting p) w.waited) two.1 in
-          let most = counted_most (is_waiting p) w.waited in
-          (one.0, not-true (is_polled p) two.0, (w.waited, omega (arith, long, most, same), h.waited));
-      resets = λ is.
-          let yes = resets _ _ (said ∙ is) in
-          let one = and_parts (is_owed p) _ yes in
-          let long = ltb-true w.timeout (counted (is_owed p) w.silent) one.1 in
-          let most = counted_most (is_owed p) w.silent in
-          (one.0, fewer is_silent w.silent timeout before (omega (arith, long, most, same)) h.silent);
-    }
+    grind (arith, polls, and_parts, leb-true, counted_most, not-true, resets, ltb-true, fewer, h, said, same)

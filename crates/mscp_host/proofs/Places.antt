@@ -8,16 +8,6 @@ no_submission = record { reference = 0; unit = 0; opcode = 0; told = None }
 abbrev told_now : ℕ → Submission → Submission
 told_now figure s = record s { told = Some figure }
 
-told_cons : (r f : ℕ) (s : Submission) (rest : List Submission) (b : Bool) → has_reference r s ≡ b
-    → (position_or_len (has_reference r) rest < length rest
-    → slice_set rest (position_or_len (has_reference r) rest)
-    (told_now f (slice_index_or rest (position_or_len (has_reference r) rest) no_submission)) ≡ with_told r f rest)
-    → position_or_len (has_reference r) (s ∷ rest) < length (s ∷ rest)
-    → slice_set (s ∷ rest) (position_or_len (has_reference r) (s ∷ rest))
-    (told_now f (slice_index_or (s ∷ rest) (position_or_len (has_reference r) (s ∷ rest)) no_submission))
-    ≡ with_told r f (s ∷ rest)
-told_cons r f s rest b h1 h2 h3 = search arith
-
 removed_cons : (r : ℕ) (s : Submission) (rest : List Submission) (b : Bool) → has_reference r s ≡ b
     → (position_or_len (has_reference r) rest < length rest
     → remove rest (position_or_len (has_reference r) rest) ≡ without r rest)
@@ -29,7 +19,7 @@ told_len : (r f : ℕ) (xs : List Submission) → position_or_len (has_reference
     → slice_set xs (position_or_len (has_reference r) xs)
     (told_now f (slice_index_or xs (position_or_len (has_reference r) xs) no_submission)) ≡ with_told r f xs
 told_len r f [] l = absurd (omega (arith, l))
-told_len r f (s ∷ rest) l = told_cons r f s rest (has_reference r s) refl (told_len r f rest) l
+told_len r f (s ∷ rest) l = grind (arith, told_len r f rest)
 
 removed_len : (r : ℕ) (xs : List Submission) → position_or_len (has_reference r) xs < length xs
     → remove xs (position_or_len (has_reference r) xs) ≡ without r xs
@@ -38,28 +28,19 @@ removed_len r (s ∷ rest) l = removed_cons r s rest (has_reference r s) refl (r
 
 -- ---- where none is found
 
-nowhere_cons : (r f : ℕ) (s : Submission) (rest : List Submission) (b : Bool) → has_reference r s ≡ b
-    → (length rest ≤ position_or_len (has_reference r) rest → (with_told r f rest ≡ rest) × (without r rest ≡ rest))
-    → length (s ∷ rest) ≤ position_or_len (has_reference r) (s ∷ rest)
-    → (with_told r f (s ∷ rest) ≡ s ∷ rest) × (without r (s ∷ rest) ≡ s ∷ rest)
-nowhere_cons r f s rest b h1 h2 h3 = search arith
-
 nowhere_len : (r f : ℕ) (xs : List Submission) → length xs ≤ position_or_len (has_reference r) xs
     → (with_told r f xs ≡ xs) × (without r xs ≡ xs)
 nowhere_len r f [] l = (refl, refl)
-nowhere_len r f (s ∷ rest) l = nowhere_cons r f s rest (has_reference r s) refl (nowhere_len r f rest) l
+nowhere_len r f (s ∷ rest) l = grind (arith, nowhere_len r f rest)
 
 -- ---- the place that is found
-
-place_in : (n k place : ℕ) (b : Bool) → nat_lt n k ≡ b → cond b (Some n) None ≡ Some place → (place ≡ n) × (n < k)
-place_in n k place b h1 h2 = search (arith, nat_tests, false≢true)
 
 place_out : (n k : ℕ) (b : Bool) → nat_lt n k ≡ b → cond b (Some n) None ≡ None → k ≤ n
 place_out n k b h1 h2 = search (arith, true≢false, nat_tests)
 
 found : (r : ℕ) (xs : List Submission) (place : ℕ) → position (has_reference r) xs ≡ Some place
     → (place ≡ position_or_len (has_reference r) xs) × (position_or_len (has_reference r) xs < length xs)
-found r xs place h = search (arith, place_in, nat_lt)
+found r xs place h = grind (arith, nat_tests, false≢true)
 
 pub told_at : (r f : ℕ) (xs : List Submission) (place : ℕ) → position (has_reference r) xs ≡ Some place
     → slice_set xs place (told_now f (slice_index_or xs place no_submission)) ≡ with_told r f xs

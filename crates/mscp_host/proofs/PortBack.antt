@@ -1,5 +1,5 @@
 -- The bytes that a host of a port is saved as say that host.
-use Rattle.mscp_host.proofs.Common.{All, Asked, Err, HasAskedRange, HasPortRange, IsPorted, IsSavedAs, List, Name, None, Ok, PortAccount, RestoreFault, Result, Submission, [], ap, arith, asked_in, asked_with, bytes_eq, bytes_eq-Decides, drop, drop-drop, eq-eqb, flat_map, four, host_part, if◌then◌else◌, le-leb, length, length-append, map, name_of_asked, name_of_submission, nat_eq, port_account_in, port_head_fault, port_restored, port_restored_unless, port_restored_with, port_saved_bytes, port_whose, refl, restored, saved_bytes, size_bytes, suc, sym, true, two, ℕ, ◌*◌, ◌++◌, ◌+◌, ◌∙◌, ◌∷◌, ◌≡◌, ◌≤◌}
+use Rattle.mscp_host.proofs.Common.{All, Asked, Err, HasAskedRange, HasPortRange, IsPorted, IsSavedAs, List, Name, None, Ok, PortAccount, RestoreFault, Result, Submission, [], ap, arith, asked_in, asked_with, bytes_eq, bytes_eq-Decides, drop, drop-drop, eq-eqb, flat_map, four, host_part, if◌then◌else◌, le-leb, length, length-append, map, name_of_asked, name_of_submission, nat_eq, port_account_in, port_head_fault, port_restored, port_restored_unless, port_restored_with, port_saved_bytes, port_whose, refl, restored, saved_bytes, size_bytes, suc, sym, true, two, ℕ, ◌*◌, ◌++◌, ◌∙◌, ◌∷◌, ◌≡◌, ◌≤◌}
 use Rattle.mscp_host.specs.declared.restoring.RestoreFault.TheVariants as faults
 use Rattle.mscp_host.proofs.Back.{saved_long}
 
@@ -14,27 +14,19 @@ names_behind [] = []
 names_behind (x ∷ xs) = xs
 
 with_name : (x : Asked) (y : Submission) → name_of_asked x ≡ name_of_submission y → asked_with y x.bytes ≡ x
-with_name x y e = λ i. record {
-  reference = (sym e i).reference;
-  unit = (sym e i).unit;
-  opcode = (sym e i).opcode;
-  bytes = x.bytes;
-}
+with_name x y e = grind arith
 
 pub names_long : (xs : List Asked) (ys : List Submission) → map name_of_asked xs ≡ map name_of_submission ys
     → length xs ≡ length ys
-names_long [] [] same = refl
 names_long [] (y ∷ ys) same = search arith
-names_long (x ∷ xs) [] same = search arith
 names_long (x ∷ xs) (y ∷ ys) same =
     let e = names_long xs ys (ap names_behind same) in
     search (arith, e)
+names_long o w same = grind arith
 
 asked_back : (xs : List Asked) (ys : List Submission) (t : List ℕ) → map name_of_asked xs ≡ map name_of_submission ys
     → All HasAskedRange xs → asked_in (flat_map size_bytes xs ++ t) ys ≡ xs
-asked_back [] [] t same all = refl
 asked_back [] (y ∷ ys) t same all = search arith
-asked_back (x ∷ xs) [] t same all = search arith
 asked_back (x ∷ xs) (y ∷ ys) t same all =
     let named : name_of_asked x ≡ name_of_submission y = ap (λ ns. name_of_first ns (name_of_asked x)) same in
     let here : HasAskedRange x = all 0 x (omega arith) in
@@ -42,6 +34,7 @@ asked_back (x ∷ xs) (y ∷ ys) t same all =
     let one = ap (asked_with y) (four x.bytes here) ∙ with_name x y named in
     let rest = asked_back xs ys t (ap names_behind same) there in
     λ i. one i ∷ rest i
+asked_back o w t same all = grind arith
 
 sizes_long : (xs : List Asked) → length (flat_map size_bytes xs) ≡ 4 * length xs
 sizes_long [] = let e : 0 ≡ 4 * 0 = omega arith in e
@@ -55,18 +48,9 @@ sizes_rest (x ∷ xs) t =
 
 -- ---- its head
 
-pub port_saved_long : (p : PortAccount) → length p.asked ≡ length p.account.outstanding
-    → length (port_saved_bytes p) ≡ 42 + 16 * length p.asked
-port_saved_long p same =
-    let sizes = sizes_long p.asked in
-    let host = saved_long p.account in
-    search (arith, sizes, host, same, length-append)
-
 port_head_back : (p : PortAccount) → length p.asked ≡ length p.account.outstanding → length p.asked ≤ 64
     → port_head_fault (port_saved_bytes p) ≡ None
-port_head_back p same few =
-    let long = port_saved_long p same in
-    search (arith, long, four, le-leb, eq-eqb)
+port_head_back p same few = grind (arith, four, le-leb, eq-eqb, sizes_long, saved_long, length-append)
 
 -- ---- what is behind it
 
@@ -80,10 +64,7 @@ host_back p =
 
 pub port_account_back : (p : PortAccount) → map name_of_asked p.asked ≡ map name_of_submission p.account.outstanding
     → HasPortRange p → port_account_in (port_saved_bytes p) p.account ≡ p
-port_account_back p same range =
-    let asked = ap (λ b. asked_in b p.account.outstanding) (head_rest p)
-    ∙ asked_back p.asked p.account.outstanding (saved_bytes p.account) same range.asked in
-    search (arith, asked, two)
+port_account_back p same range = grind (arith, head_rest, asked_back, two)
 
 same_bytes : (b : List ℕ) → bytes_eq b b ≡ true
 same_bytes b = (bytes_eq-Decides b b).1 refl

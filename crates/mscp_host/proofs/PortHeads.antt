@@ -1,18 +1,14 @@
 -- What the head of a saved host of a port tells, and what is read behind it.
-use Rattle.mscp_host.proofs.Common.{Account, Asked, Bool, List, None, Option, RestoreFault, Some, Submission, [], and_parts, ap, arith, asked_count, asked_in, asked_with, drop, drop-drop, eqb-true, host_part, if◌then◌else◌, leb-true, length, length-drop, length-take-le, map, name_of_asked, name_of_submission, not, num, port_head_fault, refl, saved_bytes, slice_index_or, suc, sym, take, take_more, true, true≢false, ℕ, ◌*◌, ◌++◌, ◌+◌, ◌-◌, ◌<◌, ◌∙◌, ◌∷◌, ◌≡◌, ◌≤◌}
+use Rattle.mscp_host.proofs.Common.{Account, Asked, List, None, Submission, [], and_parts, ap, arith, asked_count, asked_in, asked_with, drop, drop-drop, eqb-true, host_part, leb-true, length, length-drop, length-take-le, map, name_of_asked, name_of_submission, num, port_head_fault, refl, saved_bytes, slice_index_or, suc, sym, take, take_more, true≢false, ℕ, ◌*◌, ◌++◌, ◌+◌, ◌-◌, ◌<◌, ◌∙◌, ◌∷◌, ◌≡◌, ◌≤◌}
 use Rattle.mscp_host.proofs.Back.{saved_long}
 
 -- what was tested first holds
-first : (t : Bool) (fault : RestoreFault) (rest : Option RestoreFault)
-    → (if not t then Some fault else rest) ≡ None → t ≡ true
-first t fault rest h1 = search (arith, true≢false)
-
 pub record IsPortHead (b : List ℕ) : Type 0 where
   pub long : 16 ≤ length b
   pub parts : 42 + 16 * asked_count b ≡ length b
 
 pub port_head_tells : (b : List ℕ) → port_head_fault b ≡ None → IsPortHead b
-port_head_tells b e = search (arith, first, and_parts, leb-true, eqb-true)
+port_head_tells b e = grind (arith, and_parts, leb-true, eqb-true, true≢false)
 
 -- the host in it is as long as what tells of as many commands
 part_long : (b : List ℕ) → length (host_part b) ≡ length b - (16 + 4 * asked_count b)
@@ -34,9 +30,7 @@ names_in b (y ∷ ys) = ap (λ ns. name_of_submission y ∷ ns) (names_in (drop 
 
 read_behind : (b : List ℕ) (xs : List Submission) (y : Submission)
     → asked_in b (xs ++ y ∷ []) ≡ asked_in b xs ++ asked_with y (num (drop (4 * length xs) b) 0 4) ∷ []
-read_behind b [] y =
-    let e : 0 ≡ 4 * 0 = omega arith in
-    ap (λ (k : ℕ). asked_with y (num (drop k b) 0 4) ∷ []) e
+read_behind b [] y = grind arith
 read_behind b (x ∷ xs) y =
     let e : 4 + 4 * length xs ≡ 4 * suc (length xs) = omega arith in
     let place = drop-drop (4 * length xs) 4 b ∙ ap (λ (k : ℕ). drop k b) e in
@@ -58,6 +52,4 @@ pub one_more_pushed : (b : List ℕ) (ys : List Submission) (n : ℕ) (d : Submi
     (out new : List Asked)
     → n < length ys → k ≡ num (drop (4 * n) b) 0 4 → r ≡ asked_with (slice_index_or ys n d) k
     → out ≡ asked_in b (take n ys) → new ≡ out ++ r ∷ [] → new ≡ asked_in b (take (n + 1) ys)
-one_more_pushed b ys n d k r out new l read said before more =
-    let is = said ∙ ap (λ (m : ℕ). asked_with (slice_index_or ys n d) m) read in
-    more ∙ ((λ i. before i ++ is i ∷ []) ∙ sym (one_more_read b ys n d l))
+one_more_pushed b ys n d k r out new l read said before more = grind (arith, one_more_read)

@@ -1,5 +1,5 @@
 -- What is kept of commands beside the bytes that they ask for, on both sides.
-use Rattle.mscp_host.proofs.Common.{Account, Asked, Bool, End, List, Name, Option, Submission, [], answered, ap, arith, as_read, is_of, map, name_of_asked, name_of_submission, nat_eq, outstanding_with, received, refl, sym, with_told, without, without_by, ℕ, ◌∙◌, ◌∷◌, ◌≡◌}
+use Rattle.mscp_host.proofs.Common.{Account, Asked, Bool, End, List, Name, Submission, [], arith, as_read, is_of, map, name_of_asked, name_of_submission, nat_eq, received, refl, with_told, without, without_by, ℕ, ◌∷◌, ◌≡◌}
 
 abbrev is_named : ℕ → Name → Bool
 is_named reference n = nat_eq n.reference reference
@@ -18,24 +18,10 @@ told_named : (r f : ℕ) (xs : List Submission) → map name_of_submission (with
 told_named r f [] = refl
 told_named r f (x ∷ xs) = search (arith, told_named r f xs)
 
-outstanding_named : (a : Account) (told : Option (ℕ × ℕ))
-    → map name_of_submission (outstanding_with a told) ≡ map name_of_submission a.outstanding
-outstanding_named a told = search (arith, told_named)
-
-same_without : (a : Account) (told : Option (ℕ × ℕ)) (r : ℕ) (xs : List Asked)
-    → map name_of_asked xs ≡ map name_of_submission a.outstanding
-    → map name_of_asked (without_by (is_of r) xs) ≡ map name_of_submission (without r (outstanding_with a told))
-same_without a told r xs same =
-    asked_without r xs ∙ (ap (without_by (is_named r)) (same ∙ sym (outstanding_named a told))
-    ∙ sym (submissions_without r (outstanding_with a told)))
-
 pub read_reference : (e : End) → (as_read e).reference ≡ e.reference
 read_reference e = search arith
 
 pub same_ended : (a : Account) (e : End) (xs : List Asked) → map name_of_asked xs ≡ map name_of_submission a.outstanding
     → map name_of_asked (without_by (is_of e.reference) xs)
     ≡ map name_of_submission (received a (as_read e)).outstanding
-same_ended a e xs same =
-    let told = answered a.watch (as_read e) in
-    same_without a told e.reference xs same
-    ∙ ap (λ (r : ℕ). map name_of_submission (without r (outstanding_with a told))) (sym (read_reference e))
+same_ended a e xs same = grind (arith, read_reference, asked_without, submissions_without, told_named)

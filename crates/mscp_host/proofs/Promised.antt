@@ -25,11 +25,7 @@ next : (credits : ℕ) (h : History) (last : Account) (j : ℕ) → j < length h
 next credits h last j l x =
     let rest = subst (λ xs. Answered (account_at credits h j) xs last) (drop_more h j Other l) x.rest in
     let goes = step credits h j x.apart rest.0 (moment h j) refl rest.1 in
-    record {
-      answers = subst (Answers (account_at credits h j) (moment h j)) goes.kept rest.1;
-      goes = subst (Goes credits h j) goes.kept goes;
-      reached = record { apart = goes.apart; rest = subst (λ a. Answered a (drop (j + 1) h) last) goes.kept rest.2 };
-    }
+    grind (arith, rest, goes)
 
 reached : (credits : ℕ) (h : History) (last : Account) → Answered (fresh credits) h last → (j : ℕ) → j ≤ length h
     → Reached credits h last j

@@ -86,10 +86,6 @@ same_name : (credits : ℕ) (h : History) (j i y n : ℕ) → IsApart credits h 
     → is_outstanding h j y ≡ true → reference h i ≡ n → nat_eq i y ≡ nat_eq (reference h y) n
 same_name credits h j i y n a ei ey r = search (arith, eq-eqb, eqb-true)
 
-gone : (h : History) (j i : ℕ) (o : Option ℕ) → found_stands h j o ≡ false → is_outstanding h j i ≡ true
-    → is_it i o ≡ false
-gone h j i o s e = grind (arith, eqb-true, true≢false)
-
 untold_of : (h : History) (e : End) (p i : ℕ) → answer_in h e p ≡ None
     → (if asks_about h i p then figure_in (Some e) else None) ≡ None
 untold_of h e p i q = grind (arith, true≢false)
@@ -149,13 +145,8 @@ module _ {credits : ℕ} {h : History} {j : ℕ} {e : End} {p : ℕ} (x : Hears 
       → (if b && nat_eq e.code status_end then told_in e.body else None) ≡ answer_in h e p =
       λ b. elim b as (λ b. nat_eq (reference h y) e.reference ≡ b
       → (if b && nat_eq e.code status_end then told_in e.body else None) ≡ answer_in h e p) [
-        | true ↦ λ n. let same : y ≡ p = x.apart.names y p own.0 own_out (eqb-true _ _ n ∙ sym own_number) in
-            rw (sym (ap (λ z. is_poll (moment h z)) same) ∙ own.1) refl
-        | false ↦ λ n.
-            let no : is_poll (moment h p) ≡ false = false_from_ne_true _ (λ f.
-            let same = x.apart.polls y p own.0 own_out (own.1, f) in
-            true≢false (sym (eq-eqb _ _ (ap (reference h) same ∙ own_number)) ∙ n)) in
-            rw no refl
+        | true ↦ λ n. grind (arith, own_out, eqb-true, own_number, own)
+        | false ↦ λ n. grind (arith, false_from_ne_true, own_out, true≢false, eq-eqb, own_number, own)
       ] in
       both (nat_eq (reference h y) e.reference) refl
 
@@ -173,9 +164,6 @@ module _ {credits : ℕ} {h : History} {j : ℕ} {e : End} {p : ℕ} (x : Hears 
   named : (told : ℕ × ℕ) → answer_in h e p ≡ Some told → reference_found h (asked_for h p) ≡ told.0
   named told q = search (arith, figure_of, watched, answered_is, eqb-true)
 
-  untold_when : (i : ℕ) → (asks_about h i p ≡ false) → told_at h i j ≡ None
-  untold_when i f = told_is i ∙ ap (λ b. if b then figure_in (Some e) else None) f
-
   -- what is told, of the command that was found
   told_of : (told : ℕ × ℕ)
       → answer_in h e p ≡ Some told → (o : Option ℕ) → asked_for h p ≡ o → (b : Bool) → found_stands h j o ≡ b
@@ -189,16 +177,12 @@ module _ {credits : ℕ} {h : History} {j : ℕ} {e : End} {p : ℕ} (x : Hears 
       one_told credits h j told.0 told.1 x.apart (λ y out. told_is y
       ∙ ((λ k. if f.0 k && is_it y (r k) then f.1 k else None)
       ∙ ap (λ b. if b then Some told.1 else None) (same_name credits h j i y told.0 x.apart s out n)))
-  told_of told q o r false s = search (arith, none_told, untold_when, gone, and-false)
+  told_of told q o r false s = grind (arith, none_told, and-false, told_is, eqb-true, true≢false)
 
   told_when : (t : Option (ℕ × ℕ)) → answer_in h e p ≡ t → outstanding_with (account_at credits h j) t
       ≡ map (submission_at h (j + 1)) (outstanding h j)
   told_when None q = none_told h j (λ i out. told_is i ∙ untold_of h e p i q)
   told_when (Some told) q = search (arith, watched, figure_of, told_of)
-
-  all_told : outstanding_with (account_at credits h j) (answered (account_at credits h j).watch e)
-      ≡ map (submission_at h (j + 1)) (outstanding h j)
-  all_told = ap (outstanding_with (account_at credits h j)) answered_is ∙ told_when (answer_in h e p) refl
 
   -- ---- what is left
 
@@ -220,16 +204,13 @@ module _ {credits : ℕ} {h : History} {j : ℕ} {e : End} {p : ℕ} (x : Hears 
   flight_if q f false n = flight_after ∙ (find_on _ (λ i. is_poll (moment h i)) (outstanding h j)
       (out_all _ h j (λ y o. keeps_poll credits h j q e.reference y false x.apart f n o _ refl)) ∙ f)
 
-  flight_none : in_flight h j ≡ None → in_flight h (j + 1) ≡ None
-  flight_none f = search (arith, flight_after, find_none, every_weaker, nat_eq, and-false, none_found)
-
   stands_if : (o : Option ℕ) → (found_stands h j o && not (ends_found h j o))
       ≡ (if nat_eq (reference_found h o) e.reference then false else found_stands h j o)
   stands_if o = search (arith, ends_is, and-false, and-true)
 
   watch_left : (o : Option ℕ) → in_flight h j ≡ o → option_map (watch_at h (j + 1)) (in_flight h (j + 1))
       ≡ watch_after (option_map (watch_at h j) o) e.reference
-  watch_left None f = ap (option_map (watch_at h (j + 1))) (flight_none f)
+  watch_left None f = grind (arith, flight_after, find_none, every_weaker, and-false, none_found)
   watch_left (Some q) f =
       let l : q < j = found_before h j q _ f in
       let after = flight_if q f (nat_eq (reference h q) e.reference) refl in
@@ -239,17 +220,16 @@ module _ {credits : ℕ} {h : History} {j : ℕ} {e : End} {p : ℕ} (x : Hears 
       (λ k. record (watch_at h j q) { is_outstanding = stands k })
 
   pub account_received : account_at credits h (j + 1) ≡ received (account_at credits h j) e
-  account_received = search (arith, all_told, apart_with, answered, without_kept, filter_map_of, outs_after, watch_left)
+  account_received = grind (arith, apart_with, without_kept, filter_map_of, outs_after, watch_left, answered_is, told_when)
 
   says_told : (told : ℕ × ℕ)
       → answer_in h e p ≡ Some told → (o : Option ℕ) → asked_for h p ≡ o → (b : Bool) → found_stands h j o ≡ b
       → (if b then news_of_figure (host.last_told (account_at credits h j).outstanding told.0) told.1 else news.Late)
       ≡ (if b then news_of_figure (last_found h j o) told.1 else news.Late)
-  says_told told q None r true s = absurd (false≢true s)
   says_told told q (Some i) r true s =
       ap (λ o. news_of_figure o told.1)
       (last_is credits h j i told.0 x.apart s (ap (reference_found h) (sym r) ∙ named told q))
-  says_told told q o r false s = refl
+  says_told told q o r w s = grind (arith, false≢true)
 
   says_when : (t : Option (ℕ × ℕ)) → answer_in h e p ≡ t → news_with (account_at credits h j) e t ≡ news_at h j e p
   says_when t h1 = search (arith, watched, figure_of, says_told)

@@ -1,8 +1,8 @@
 -- The host of 64 credits in a host of a port, and the commands that the latter keeps, over a whole history.
-use Rattle.mscp_host.proofs.Common.{Account, Answered, Answers, Asked, Bool, End, History, List, None, Option, PortAccount, PortAnswered, PortHistory, PortHostsKeepTheirHistory, PortMoment, Settles, Some, Submission, [], account_at, and_parts, answered, ap, append-nil, are_apart, arith, as_read, asked_at, asked_of, drop, drop_all, drop_more, end_heard, eqb-true, false, false≢true, filter, find, fresh_of_port, get_or-map, has_reference, is_end_of, is_of, is_sent, is_some, length, length-map, list_any, map, map-append, moment, nat_eq, news_with, not, not-true, oldest, option_map, or_parts, outstanding, reference, refl, seen, slice_index_or, submission_at, subst, suc, sym, true, without_by, zero, ℕ, ◌++◌, ◌+◌, ◌<◌, ◌∙◌, ◌∷◌, ◌≡◌, ◌≤◌}
+use Rattle.mscp_host.proofs.Common.{Account, Answered, Answers, Asked, Bool, End, History, List, None, Option, PortAccount, PortAnswered, PortHistory, PortHostsKeepTheirHistory, PortMoment, Settles, Some, Submission, [], account_at, and_parts, answered, ap, append-nil, are_apart, arith, as_read, asked_at, drop, drop_all, drop_more, end_heard, eqb-true, false, false≢true, filter, find, fresh_of_port, get_or-map, has_reference, is_of, is_sent, is_some, length, length-map, list_any, map, map-append, moment, nat_eq, news_with, not, not-true, oldest, option_map, or_parts, outstanding, reference, refl, seen, slice_index_or, submission_at, subst, suc, sym, true, without_by, zero, ℕ, ◌++◌, ◌+◌, ◌<◌, ◌∙◌, ◌∷◌, ◌≡◌, ◌≤◌}
 use Rattle.mscp_host.specs.Histories as hosts
-use Rattle.mscp_host.specs.PortHistories.{Other, asked_in}
-use Rattle.mscp_host.proofs.Collected.{ends_now, outstanding_more}
+use Rattle.mscp_host.specs.PortHistories.{Other}
+use Rattle.mscp_host.proofs.Collected.{outstanding_more}
 use Rattle.mscp_host.proofs.Kept.{NoEnd, all_stay, polled_unit}
 use Rattle.mscp_host.proofs.Lists.{find_map}
 use Rattle.mscp_host.proofs.Moments.{Ends, Kind, Polls, Stays, Submits, kind}
@@ -13,20 +13,9 @@ use Rattle.mscp_host.proofs.Stepping.{step}
 
 -- ---- what is outstanding after a moment
 
-outs_quiet : (s : History) (j : ℕ) → is_sent (moment s j) ≡ false → NoEnd s j → outstanding s (j + 1) ≡ outstanding s j
-outs_quiet s j silent none = search (arith, outstanding_more, all_stay, append-nil)
-
-outs_sent : (s : History) (j : ℕ) → is_sent (moment s j) ≡ true → NoEnd s j
-    → outstanding s (j + 1) ≡ outstanding s j ++ j ∷ []
-outs_sent s j sent none = search (arith, outstanding_more, all_stay)
-
-ends_is : (s : History) (j : ℕ) (e : End) → end_heard (moment s j) ≡ Some e → (i : ℕ)
-    → ends_now s j i ≡ nat_eq (reference s i) e.reference
-ends_is s j e heard i = ap (is_end_of (reference s i)) heard
-
 outs_ended : (s : History) (j : ℕ) (e : End) → is_sent (moment s j) ≡ false → end_heard (moment s j) ≡ Some e
     → outstanding s (j + 1) ≡ filter (λ i. not (nat_eq (reference s i) e.reference)) (outstanding s j)
-outs_ended s j e silent heard = search (arith, outstanding_more, ends_is, append-nil)
+outs_ended s j e silent heard = grind (arith, outstanding_more, append-nil)
 
 -- ---- one leaves
 
@@ -39,9 +28,7 @@ kept_all s j r (x ∷ xs) e = search (arith, kept_all s j r xs, or_parts)
 first_left : (s : History) (j r x : ℕ) (xs : List ℕ) → nat_eq (reference s x) r ≡ true
     → list_any (has_reference (reference s x)) (map (submission_at s j) xs) ≡ false
     → filter (λ i. not (nat_eq (reference s i) r)) xs ≡ xs
-first_left s j r x xs is none =
-    kept_all s j r xs (subst (λ n. list_any (has_reference n) (map (submission_at s j) xs) ≡ false)
-    (eqb-true (reference s x) r is) none)
+first_left s j r x xs is none = grind (arith, kept_all, eqb-true)
 
 removed_from : (s : History) (j r : ℕ) (xs : List ℕ) → are_apart (map (submission_at s j) xs) ≡ true
     → without_by (is_of r) (map (asked_at s) xs)
@@ -58,8 +45,7 @@ removed_from s j r (x ∷ xs) apart =
         ≡ map (asked_at s) (filter (λ i. not (nat_eq (reference s i) r)) xs)
         → without_by (is_of r) (map (asked_at s) (x ∷ xs))
         ≡ map (asked_at s) (filter (λ i. not (nat_eq (reference s i) r)) (x ∷ xs))
-    by true is none more = rw is (ap (map (asked_at s)) (sym (first_left s j r x xs is none)))
-    by false is none more = rw is (ap (λ (l : List Asked). asked_at s x ∷ l) more)
+    by o is none more = grind (arith, first_left)
 
 -- what is found on one side is found on the other
 found_by : (s : History) (j r : ℕ) (o : Option ℕ) (a : Asked) → option_map (asked_at s) o ≡ Some a
@@ -90,36 +76,23 @@ record Changes (s : History) (j : ℕ) (p new : PortAccount) : Type 0 where
 one_more : (s : History) (j : ℕ) (p new : PortAccount) (a : Asked) → Knows s j p
     → new.asked ≡ p.asked ++ a ∷ [] → asked_at s j ≡ a → is_sent (moment s j) ≡ true → NoEnd s j
     → new.asked ≡ map (asked_at s) (outstanding s (j + 1))
-one_more s j p new a k more is sent none =
-    more ∙ (ap (λ (l : List Asked). l ++ a ∷ []) k.asked
-    ∙ (ap (λ (x : Asked). map (asked_at s) (outstanding s j) ++ x ∷ []) (sym is)
-    ∙ (sym (map-append (asked_at s) (outstanding s j) (j ∷ []))
-    ∙ ap (map (asked_at s)) (sym (outs_sent s j sent none)))))
+one_more s j p new a k more is sent none = grind (arith, map-append, outstanding_more, all_stay)
 
 changes : (s : History) (j : ℕ) (p : PortAccount) (m : PortMoment) (new : PortAccount) → moment s j ≡ seen m
     → Knows s j p → Kind p m new → Changes s j p new
-changes s j p m new at k (Stays q) =
-    let is = at ∙ q.is in
-    record {
-      answers = subst (λ x. Answers p.account x new.account) (sym is) q.account;
-      asked = q.asked ∙ (k.asked
-          ∙ ap (map (asked_at s)) (sym (outs_quiet s j (ap is_sent is) (ap end_heard is))));
-    }
+changes s j p m new at k (Stays q) = grind (arith, outstanding_more, all_stay, append-nil)
 changes s j p m new at k (Submits q) =
     let is = at ∙ q.is in
     record {
       answers = subst (λ x. Answers p.account x new.account) (sym is) (λ i. (q.first i, sym q.account i));
-      asked = one_more s j p new (asked_of q.command) k q.asked (ap (asked_in s j) is) (ap is_sent is)
-          (ap end_heard is);
+      asked = search (arith, one_more, is);
     }
 changes s j p m new at k (Polls q) =
     let is = at ∙ q.is in
     let unit = polled_unit 64 s j q.polled (ap oldest (sym k.account) ∙ q.oldest_is) in
     record {
       answers = subst (λ x. Answers p.account x new.account) (sym is) (λ i. (q.first i, sym q.account i));
-      asked = one_more s j p new _ k q.asked
-          (ap (asked_in s j) is ∙ (λ i. record { reference = q.reference; unit = unit i; opcode = 2; bytes = 0 }))
-          (ap is_sent is) (ap end_heard is);
+      asked = search (arith, one_more, is, unit);
     }
 changes s j p m new at k (Ends q) =
     let is = at ∙ q.is in
@@ -164,11 +137,7 @@ goes_on h new j l x =
     let goes = step 64 s j x.knows.apart rest.0.account (moment s j) refl answers in
     record {
       answers = subst (Answers (account_at 64 s j) (moment s j)) goes.kept answers;
-      reaches = record {
-        held = rest.0;
-        knows = record { account = goes.kept; apart = goes.apart; asked = change.asked };
-        rest = rest.2;
-      };
+      reaches = search (arith, rest, change, goes);
     }
 
 none_yet : (s : History) → [] ≡ map (asked_at s) (outstanding s 0)
@@ -192,10 +161,7 @@ reaches h new a (suc j) l =
 chain : (s : History) (last : Account)
     → ((j : ℕ) → j < length s → Answers (account_at 64 s j) (moment s j) (account_at 64 s (j + 1)))
     → last ≡ account_at 64 s (length s) → (n j : ℕ) → j + n ≡ length s → Answered (account_at 64 s j) (drop j s) last
-chain s last f e zero j l =
-    let same : j ≡ length s = omega (arith, l) in
-    subst (λ xs. Answered (account_at 64 s j) xs last) (sym (drop_all j s (omega (arith, l))))
-    (e ∙ ap (account_at 64 s) (sym same))
+chain s last f e zero j l = grind (arith, drop_all)
 chain s last f e (suc n) j l =
     let less : j < length s = omega (arith, l) in
     subst (λ xs. Answered (account_at 64 s j) xs last) (sym (drop_more s j hosts.Other less))

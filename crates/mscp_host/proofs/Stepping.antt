@@ -1,5 +1,5 @@
 -- One moment more: what the list says, and what the host says of an end.
-use Rattle.mscp_host.proofs.Common.{◌≡◌, ℕ, ◌+◌, Bool, true, false, List, [], ◌∷◌, ◌++◌, refl, ap, sym, ◌∙◌, subst, arith, find, nat_eq, if◌then◌else◌, Option, Some, None, is_some, option_map, Result, Ok, Err, is_ok, list_any, eq-eqb, false≢true, true≢false, ArrayVec, Command, End, EndFault, opcode_byte, HostFault, News, Poll, Submission, Account, answered, asks, asks_unless, end_in, has_reference, heard, heard_in, heard_of, oldest, poll_of, submits_unless, are_apart, Moment, Submit, Ask, Receive, Settle, Other, History, account_at, asked_for, end_heard, end_or_none, handed_over, is_end_of, in_flight, is_outstanding, is_poll, is_sent, moment, news_heard, outstanding, reference, submission_at, watch_at, Answers, IsHeard, Settles}
+use Rattle.mscp_host.proofs.Common.{◌≡◌, ℕ, ◌+◌, Bool, true, false, List, [], ◌∷◌, ◌++◌, refl, ap, sym, ◌∙◌, arith, find, nat_eq, if◌then◌else◌, Option, Some, None, is_some, option_map, Result, Ok, Err, list_any, eq-eqb, false≢true, true≢false, ArrayVec, Command, End, EndFault, opcode_byte, HostFault, News, Poll, Submission, Account, answered, asks, asks_unless, end_in, has_reference, heard, heard_in, heard_of, oldest, poll_of, submits_unless, are_apart, Moment, Submit, Ask, Receive, Settle, Other, History, account_at, asked_for, end_heard, end_or_none, handed_over, is_end_of, in_flight, is_outstanding, is_poll, is_sent, moment, news_heard, outstanding, reference, submission_at, watch_at, Answers, IsHeard, Settles}
 use Rattle.mscp_host.specs.declared.news.Poll.TheVariants as polls
 use Rattle.mscp_host.specs.Accounts as host
 use Rattle.mscp_host.proofs.Apart.{apart_more, apart_without}
@@ -37,8 +37,7 @@ record Accepts (a : Account) (b : List ℕ) (n : News) (new : Account) : Type 0 
 accepts_found : (a : Account) (b : List ℕ) (n : News) (new : Account) (e : End) (o : Option Submission)
     → end_in b ≡ Ok e → find (has_reference e.reference) a.outstanding ≡ o → heard_of a e o ≡ (Ok n, new)
     → Accepts a b n new
-accepts_found a b n new e None r f h = absurd (false≢true (ap (λ p. is_ok p.0) h))
-accepts_found a b n new e (Some s) r f h = grind (arith, false≢true)
+accepts_found a b n new e o r f h = grind (arith, false≢true)
 
 accepts : (a : Account) (b : List ℕ) (n : News) (new : Account) (r : Result End EndFault) → end_in b ≡ r
     → heard_in a r ≡ (Ok n, new) → Accepts a b n new
@@ -88,8 +87,7 @@ module _ (credits : ℕ) (h : History) (j : ℕ) (a : IsApart credits h j) where
       → (account_at credits h (j + 1)).outstanding ≡ (account_at credits h j).outstanding ++ s ∷ []
       → (is_poll (moment h j) ≡ true → in_flight h j ≡ None) → IsApart credits h (j + 1)
   apart_sent s none r more idle = record {
-    submissions = ap are_apart more ∙ apart_more s (account_at credits h j).outstanding a.submissions
-        (subst (λ n. list_any (has_reference n) (account_at credits h j).outstanding ≡ false) (sym r) none);
+    submissions = grind (arith, apart_more);
     names = one_more _ h j (λ x y r. sym r) (λ q. new_name none) a.names;
     polls = one_more _ h j (λ x y r. (r.1, r.0)) (λ q x e r. true≢false (sym r.0
         ∙ each_out (λ y. is_poll (moment h y) ≡ false) h j x (none_found _ (outstanding h j) (idle r.1)) e)) a.polls;
@@ -152,13 +150,7 @@ module _ (credits : ℕ) (h : History) (j : ℕ) (a : IsApart credits h j) where
   hear_goes e n new silent heard said x =
       let p = handed_of h j e x.submission _ refl
       (sym (find_map (submission_at h j) (has_reference e.reference) (outstanding h j)) ∙ x.found) heard in
-      let hears : Hears credits h j e p.0 = record {
-        apart = a;
-        silent = silent;
-        heard = heard;
-        handed = p.1;
-        about = x.about;
-      } in
+      let hears : Hears credits h j e p.0 = grind (arith, p) in
       let after = account_received hears in
       search (arith, still_apart, apart_without, apart_with, answered, says_is, false≢true, no_poll)
 

@@ -1,5 +1,5 @@
 -- A figure is told of the oldest command alone, and a credit is kept for those that are answered when they arrive.
-use Rattle.mscp_host.proofs.Common.{◌≡◌, ◌≤◌, ◌<◌, ◌-◌, ℕ, Bool, true, false, ◌&&◌, ◌||◌, List, [], ◌∷◌, ◌++◌, length, refl, ap, subst, ◌∙◌, arith, not, Option, Some, None, is_none, list_all, list_any, and_parts, eqb-true, not-true, or_left, or_parts, false≢true, length-append, filter-append, list_all-append, count_by-le-length, length-filter, Submission, Watch, Account, balance, has_reference, is_about_polled, is_immediate, polled_is_outstanding, refusal, with_told, without, are_apart, waiting, are_told, is_numbered, is_oldest, is_watched}
+use Rattle.mscp_host.proofs.Common.{◌≡◌, ◌≤◌, ◌<◌, ◌-◌, ℕ, Bool, true, false, ◌&&◌, ◌||◌, List, [], ◌∷◌, ◌++◌, length, refl, subst, arith, not, Option, Some, None, is_none, list_all, list_any, and_parts, eqb-true, not-true, or_left, or_parts, false≢true, length-append, filter-append, list_all-append, count_by-le-length, length-filter, Submission, Watch, Account, balance, has_reference, is_about_polled, is_immediate, polled_is_outstanding, refusal, with_told, without, are_apart, waiting, are_told, is_oldest, is_watched}
 use Rattle.mscp_host.proofs.Watched.{is_oldest_told, oldest_more, oldest_without}
 
 -- ---- all pass a test
@@ -57,12 +57,7 @@ told_without r xs apart e =
     (all_without (may xs) r xs e) (none_left r xs apart)
   where
     still : (x : Submission) → may xs x ≡ true → not (has_reference r x) ≡ true → may (without r xs) x ≡ true
-    still x h other = by (is_none x.told) h
-      where
-        by : (b : Bool) → (b || is_oldest x.reference xs) ≡ true → (b || is_oldest x.reference (without r xs)) ≡ true
-        by true h = refl
-        by false h = ap (is_numbered x.reference)
-            (oldest_without r x.reference xs (not-true (has_reference r x) other) h) ∙ h
+    still x h other = grind (arith, oldest_without, not-true)
 
     all_both : (p q t : Submission → Bool) → ((s : Submission) → p s ≡ true → q s ≡ true → t s ≡ true)
         → (ys : List Submission) → list_all p ys ≡ true → list_all q ys ≡ true → list_all t ys ≡ true

@@ -1,5 +1,5 @@
 -- A poll in flight stays one that a host may have.
-use Rattle.mscp_host.proofs.Common.{◌≡◌, ℕ, Bool, true, false, ◌&&◌, List, [], ◌∷◌, ◌++◌, nat_eq, refl, ap, sym, ◌∙◌, arith, not, Option, Some, None, Ok, list_any, and_parts, or_left, or_right, true≢false, list_any-append, ArrayVec, Command, HostFault, Submission, Watch, Account, has_reference, is_immediate, poll_of, submission_of, submits_unless, submitted, watch_after, with_told, without, is_about_somebody, is_numbered, is_oldest, is_polled, is_status, is_watched, oldest_of}
+use Rattle.mscp_host.proofs.Common.{◌≡◌, ℕ, Bool, true, false, ◌&&◌, List, [], ◌∷◌, ◌++◌, nat_eq, refl, ap, sym, ◌∙◌, arith, not, Option, Some, Ok, list_any, and_parts, or_left, or_right, true≢false, list_any-append, ArrayVec, Command, HostFault, Submission, Watch, Account, has_reference, is_immediate, poll_of, submission_of, submits_unless, submitted, watch_after, with_told, without, is_numbered, is_oldest, is_polled, is_status, is_watched, oldest_of}
 use Rattle.mscp_host.specs.Watched.{is_poll}
 
 -- ---- one of the submissions passes a test
@@ -17,15 +17,9 @@ module _ (p : Submission → Bool) where
   any_without r other [] e = e
   any_without r other (s ∷ rest) e = grind (arith, any_without r other rest, other, true≢false)
 
-  any_more : (s : Submission) (xs : List Submission) → list_any p xs ≡ true → list_any p (xs ++ s ∷ []) ≡ true
-  any_more s xs e = list_any-append p xs (s ∷ []) ∙ or_left (list_any p xs) (list_any p (s ∷ [])) e
-
 -- another number isn't that of the one that leaves
 other_status : (n r : ℕ) (s : Submission) → nat_eq n r ≡ false → is_status n s ≡ true → has_reference r s ≡ false
 other_status n r s other e = search (arith, and_parts)
-
-other_poll : (n u r : ℕ) (s : Submission) → nat_eq n r ≡ false → is_poll n u s ≡ true → has_reference r s ≡ false
-other_poll n u r s other e = other_status n r s other (and_parts (is_status n s) (nat_eq s.unit u) e).0
 
 -- ---- the oldest
 
@@ -80,66 +74,16 @@ oldest_more s n (x ∷ rest) e = grind (arith, oldest_more s n rest)
 
 -- ---- one leaves
 
-polled_without : (r n : ℕ) (xs : List Submission) (o : Option Submission) → nat_eq n r ≡ false
-    → is_polled n xs o ≡ true → is_polled n (without r xs) o ≡ true
-polled_without r n xs o h1 h2 = search (arith, any_without, other_poll)
-
 -- once the end of this number was received, it stays so
 pub watched_without : (r : ℕ) (xs : List Submission) (watch : Option Watch) → is_watched xs watch ≡ true
     → is_watched (without r xs) (watch_after watch r) ≡ true
-watched_without r xs None e = refl
-watched_without r xs (Some w) e =
-    let p = and_parts (list_any (is_status w.reference) xs) (is_about_somebody xs w) e in
-    by (nat_eq w.reference r) (nat_eq w.polled r) w.is_outstanding refl refl refl p.0 p.1
-  where
-    apart : nat_eq w.reference r ≡ false → nat_eq w.polled r ≡ true → nat_eq w.polled w.reference ≡ false
-    apart a b = grind arith
-
-    own : nat_eq w.reference r ≡ false → list_any (is_status w.reference) xs ≡ true
-        → list_any (is_status w.reference) (without r xs) ≡ true
-    own a any = any_without (is_status w.reference) r (λ s. other_status w.reference r s a) xs any
-
-    about : nat_eq w.reference r ≡ false → nat_eq w.polled r ≡ false
-        → (is_oldest w.polled xs && is_polled w.reference xs (oldest_of xs)) ≡ true
-        → (is_oldest w.polled (without r xs) && is_polled w.reference (without r xs) (oldest_of (without r xs))) ≡ true
-    about a b both =
-        let p = and_parts (is_oldest w.polled xs) (is_polled w.reference xs (oldest_of xs)) both in
-        let same = oldest_without r w.polled xs b p.0 in
-        ap (λ o. is_numbered w.polled o && is_polled w.reference (without r xs) o) same
-        ∙ (λ i. p.0 i && polled_without r w.reference xs (oldest_of xs) a p.1 i)
-
-    by : (own_end its so : Bool) → nat_eq w.reference r ≡ own_end → nat_eq w.polled r ≡ its → w.is_outstanding ≡ so
-        → list_any (is_status w.reference) xs ≡ true → is_about_somebody xs w ≡ true
-        → is_watched (without r xs) (watch_after (Some w) r) ≡ true
-    by true its so a b c any some = rw a refl
-    by false true so a b c any some = rw (a, b) (λ i. own a any i && not (apart a b i))
-    by false false true a b c any some = rw (a, b, c) (λ i. own a any i && about a b (rw c at some) i)
-    by false false false a b c any some = rw (a, b, c) (λ i. own a any i && (rw c at some) i)
+watched_without r xs o e = grind (arith, and_parts, any_without, other_status, oldest_without)
 
 -- ---- one comes
 
-polled_more : (s : Submission) (n : ℕ) (xs : List Submission) (o : Option Submission) → is_polled n xs o ≡ true
-    → is_polled n (xs ++ s ∷ []) o ≡ true
-polled_more s n xs o h1 = search (arith, any_more)
-
 pub watched_more : (s : Submission) (xs : List Submission) (watch : Option Watch) → is_watched xs watch ≡ true
     → is_watched (xs ++ s ∷ []) watch ≡ true
-watched_more s xs None e = refl
-watched_more s xs (Some w) e =
-    let p = and_parts (list_any (is_status w.reference) xs) (is_about_somebody xs w) e in
-    by w.is_outstanding refl p.0 p.1
-  where
-    about : (is_oldest w.polled xs && is_polled w.reference xs (oldest_of xs)) ≡ true
-        → (is_oldest w.polled (xs ++ s ∷ []) && is_polled w.reference (xs ++ s ∷ []) (oldest_of (xs ++ s ∷ []))) ≡ true
-    about both =
-        let p = and_parts (is_oldest w.polled xs) (is_polled w.reference xs (oldest_of xs)) both in
-        ap (λ o. is_numbered w.polled o && is_polled w.reference (xs ++ s ∷ []) o) (oldest_more s w.polled xs p.0)
-        ∙ (λ i. p.0 i && polled_more s w.reference xs (oldest_of xs) p.1 i)
-
-    by : (so : Bool) → w.is_outstanding ≡ so → list_any (is_status w.reference) xs ≡ true
-        → is_about_somebody xs w ≡ true → is_watched (xs ++ s ∷ []) (Some w) ≡ true
-    by true c any some = rw c (λ i. any_more (is_status w.reference) s xs any i && about (rw c at some) i)
-    by false c any some = rw c (λ i. any_more (is_status w.reference) s xs any i && (rw c at some) i)
+watched_more s xs o e = grind (arith, and_parts, oldest_more, list_any-append, or_left)
 
 -- ---- a poll comes
 

@@ -87,12 +87,7 @@ asked_one {A} (Ok x) old new name event o q came w =
     let counted : Counted c marks new.controller (entry_lines came.entry) [] [] totals =
     event_counted c (marked log) old.controller new.controller name event came.entry (totals_of c old) totals o
     (settled c log old s q) came.answers (came.adds c) in
-    record {
-      counted = subst (λ bs. Counted c marks new.controller bs (owed new) [] totals) (sym came.due)
-          (subst (λ es. Counted c marks new.controller (entry_lines came.entry) es [] totals)
-          (ap (λ k. replicate k (events.Step new.block)) (sym none)) counted);
-      count = omega (arith, length-append log.events (event ∷ []), s.count, came.count, w, q.answered);
-    }
+    grind (arith, length-append, marks, none, totals, counted)
 asked_one (Err x) old new name event o q came w = tt
 
 -- what tells the same has the same totals
@@ -175,13 +170,7 @@ pub told_so : {A : Type 0} (c : Settings) (log : Log) (line : List ℕ) (old new
     → (begins : BeginsWith (due old) line) → new.controller ≡ old.controller → new.reporter ≡ old.reporter
     → new.peaks ≡ old.peaks → new.owed ≡ old.owed → new.block ≡ old.block → due new ≡ begins.0
     → Stands c (telling log (line ++ 10 ∷ [])) new
-told_so {A} c log line old new s begins h r p w b d =
-    search (
-      arith,
-      told_counted c (marked log) old.controller (due old) (owed old) line begins.0 (totals_of c old)
-          s.counted begins.1,
-      same_totals,
-    )
+told_so {A} c log line old new s begins h r p w b d = search (arith, told_counted c (marked log) old.controller (due old) (owed old) line begins.0 (totals_of c old) s.counted begins.1)
 
 -- what is due behind a line that was told
 pub left_due : (lines line rest : List ℕ) (start place : ℕ) → drop start lines ≡ line ++ 10 ∷ rest

@@ -1,5 +1,5 @@
 -- How a judge stands after one more line, with the totals so far.
-use Rattle.mscp_judge.proofs.Common.{◌≡◌, ℕ, false, List, [], ◌∷◌, ◌++◌, sym, ◌∙◌, subst, append_assoc, append-nil, arith, Option, Block, Event, Entry, Settings, is_step, Answers, Holdings, words, entry_lines, Named, Wanted, Totals, Asked, Log, Mark, told, whole, IsNamed, name_in, Counted, Stood, marked, run_of, with_picker, Adds, AreTotals}
+use Rattle.mscp_judge.proofs.Common.{◌≡◌, ℕ, false, List, [], ◌∷◌, ◌++◌, sym, subst, append_assoc, append-nil, arith, Option, Block, Event, Entry, Settings, is_step, Answers, Holdings, words, entry_lines, Named, Wanted, Totals, Asked, Log, Mark, told, whole, IsNamed, name_in, Counted, Stood, marked, run_of, with_picker, Adds, AreTotals}
 use Rattle.mscp_drive.specs.declared.event.Event.TheVariants as events
 use Rattle.mscp_judge.proofs.Leading.{follow}
 use Rattle.mscp_judge.proofs.Marks.{is_legal_log, legal_run}
@@ -51,8 +51,7 @@ pub steps_counted : (c : Settings) (marks : List Mark) (h : Holdings Wanted) (es
 unfolding steps_on
 steps_counted c marks h es totals s = record {
   stood = steps_on c marks h es s.stood;
-  are = subst (λ t. AreTotals c t totals) (sym (append-nil (whole (s.stood.parts ++ s.stood.now ∷ []))
-      ∙ whole_more s.stood.parts s.stood.now)) s.are;
+  are = grind (arith, append-nil, whole_more);
 }
 
 pub event_counted : (c : Settings) (marks : List Mark) (h h' : Holdings Wanted) (name : Option Named) (event : Event)

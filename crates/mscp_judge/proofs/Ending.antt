@@ -1,5 +1,5 @@
 -- Where a line asks too early, where a log ends, and how a legal one goes on.
-use Rattle.mscp_judge.proofs.Common.{◌≡◌, ◌≢◌, ℕ, List, [], ◌∷◌, ◌++◌, length, refl, ap, sym, ◌∙◌, subst, arith, append_assoc, append-nil, replicate, Block, Event, Settings, Trace, Holdings, IsLegal, entry_lines, Wanted, Mark, answers_in, told, transcript, whole, BeginsWith, Held, Stood}
+use Rattle.mscp_judge.proofs.Common.{◌≡◌, ℕ, List, [], ◌∷◌, ◌++◌, length, refl, ap, sym, ◌∙◌, subst, arith, append_assoc, append-nil, replicate, Block, Event, Settings, Trace, Holdings, IsLegal, entry_lines, Wanted, Mark, answers_in, told, transcript, whole, BeginsWith, Held, Stood}
 use Rattle.mscp_drive.specs.declared.event.Event.TheVariants as events
 use Rattle.mscp_judge.proofs.Existing.{steps_exist}
 use Rattle.mscp_judge.proofs.Feeds.{some_none, step_ends}
@@ -20,8 +20,7 @@ second_none (x ∷ xs) ys e = absurd (omega (arith, ap length e))
 pub all_told : (c : Settings) (marks : List Mark) (h : Holdings Wanted) (due : List ℕ) (owed : List Event)
     (s : Stood c marks h due owed []) (others : List Trace) (more : List Mark)
     → IsLegal c (whole others) → marks ++ more ≡ transcript others → lead more ≡ [] → due ≡ []
-all_told c marks h due owed s others more l e none =
-    search (arith, goes c marks h due owed [] s others more l e, first_none, lead, lead_told)
+all_told c marks h due owed s others more l e none = search (arith, goes c marks h due owed [] s others more l e, first_none, lead_told)
 
 pub no_step : (c : Settings) (marks : List Mark) (h : Holdings Wanted) (due : List ℕ) (k : Block)
     (owed : List Event) (s : Stood c marks h due (events.Step k ∷ owed) []) (others : List Trace) (more : List Mark)
@@ -59,8 +58,7 @@ goes_from c marks h due k n s =
     let f = follow c s.begun T h s.valid s.led in
     let u = steps_exist c s.valid k n T f.legal in
     let others = s.parts ++ (s.now ++ u.0) ∷ [] in
-    let same : whole others ≡ T ++ u.0 = whole_append s.parts ((s.now ++ u.0) ∷ [])
-    ∙ (ap (λ t. whole s.parts ++ t) (append-nil (s.now ++ u.0)) ∙ sym (append_assoc (whole s.parts) s.now u.0)) in
+    let same : whole others ≡ T ++ u.0 = grind (arith, whole_append, append-nil, append_assoc, u) in
     search (arith, known_marks c marks h due owed s u.0 [] u.1)
 
 pub opens : (c : Settings) (marks : List Mark) (h : Holdings Wanted) (due : List ℕ) (k : Block) (n : ℕ)

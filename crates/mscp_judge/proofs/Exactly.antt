@@ -1,5 +1,5 @@
 -- A log of which there is a legal trace is judged to be legal, and no other.
-use Rattle.mscp_judge.proofs.Common.{◌≡◌, ℕ, ◌+◌, ◌≤◌, List, [], ◌∷◌, ◌++◌, length, ap, sym, ◌∙◌, arith, append_assoc, append-nil, Result, Ok, Err, Settings, ◌>>=◌, line, lines, Place, Begins, HasGone, said_at, headed, Cause, ScriptFault, ReadFault, Totals, Verdict, IsLegalLog, Log, Mark, MayGoOn, after_line, after_lines, after_words, nothing, HasLegalTrace, IsLegalVerdict, Judges, JudgesBehind, JudgesLog}
+use Rattle.mscp_judge.proofs.Common.{◌≡◌, ℕ, ◌+◌, ◌≤◌, List, [], ◌∷◌, ◌++◌, length, ap, sym, ◌∙◌, arith, append_assoc, append-nil, Result, Ok, Err, Settings, ◌>>=◌, lines, Place, Begins, HasGone, headed, Cause, ScriptFault, ReadFault, Totals, Verdict, IsLegalLog, Log, Mark, MayGoOn, after_line, after_lines, nothing, HasLegalTrace, IsLegalVerdict, Judges, JudgesBehind, JudgesLog}
 use Rattle.mscp_reader.specs.declared.fault.ReadFault.TheVariants as faults
 use Rattle.mscp_judge.specs.declared.judging.Verdict.TheVariants as verdicts
 
@@ -9,12 +9,9 @@ abbrev Grown : Log → Result Log Cause → Type 0
 Grown log (Ok next) = (more : List Mark) × (next.marks ≡ log.marks ++ more)
 Grown log (Err cause) = Unit {0}
 
-grown_said : (log : Log) (bytes : List ℕ) (r : Result (List (List ℕ)) Cause) → Grown log (r >>= after_words log bytes)
-grown_said log bytes r = grind (arith, append-nil)
-
 grown_line : (n : ℕ) (log : Log) (bytes : List ℕ) → Grown log (after_line n log bytes)
 unfolding after_line
-grown_line n log bytes = grown_said log bytes (said_at n bytes)
+grown_line n log bytes = grind (arith, append-nil)
 
 grown_on : (log : Log) (n : ℕ) (rest : List (List ℕ)) (r : Result Log Cause) → Grown log r
     → ((next : Log) → Grown next (after_lines n next rest)) → Grown log (r >>= λ next. after_lines n next rest)

@@ -1,5 +1,5 @@
 -- After each legal trace a step has a right answer.
-use Rattle.mscp_judge.proofs.Common.{◌≡◌, ℕ, zero, suc, Bool, true, false, ◌||◌, List, [], ◌∷◌, ◌++◌, refl, ap, sym, ◌∙◌, subst, arith, append_assoc, append-nil, nat_eq, replicate, slice_get, ◌&&◌, AllByRecursion, list_all, false≢true, lt-ltb, Block, Idle, Served, Entry, IsValid, Settings, Moment, Trace, connection, done, in_service, is_idle, is_waiting, reference, unit, waiting, is_startable, IsLegal, IsRight, block_of, end_of, seek_to, oldest_starts, waiting_waits, by_serving, legal_more, events_in}
+use Rattle.mscp_judge.proofs.Common.{◌≡◌, ℕ, zero, suc, Bool, true, false, ◌||◌, List, [], ◌∷◌, ◌++◌, refl, ap, sym, subst, arith, append_assoc, append-nil, nat_eq, replicate, slice_get, AllByRecursion, list_all, false≢true, lt-ltb, Block, Idle, Served, Entry, IsValid, Settings, Moment, Trace, connection, done, in_service, is_idle, is_waiting, reference, unit, waiting, is_startable, IsLegal, IsRight, block_of, end_of, seek_to, oldest_starts, waiting_waits, by_serving, legal_more, events_in}
 use Rattle.mscp_drive.specs.declared.event.Event.TheVariants as events
 use Rattle.mscp_controller.specs.declared.entry.Entry.TheVariants as entries
 
@@ -12,15 +12,11 @@ serves c t k y w n = (
   by_serving y w n refl,
 )
 
-positive : (n : ℕ) → nat_eq n 0 ≡ false → (m : ℕ) × (n ≡ suc m)
-positive zero e = absurd (false≢true (sym e))
-positive (suc m) e = (m, refl)
-
 -- of those that wait one is in service, if not all are idle
 some_served : (t : Trace) (xs : List ℕ) → AllByRecursion (λ x. is_waiting t x ≡ true) xs
     → list_all (λ x. nat_eq (done t x) 0) xs ≡ false → (y : ℕ) × (is_waiting t y ≡ true) × (in_service t y ≡ true)
 some_served t [] w e = absurd (false≢true (sym e))
-some_served t (x ∷ xs) w e = search (arith, Bool, nat_eq, positive, lt-ltb, some_served t xs w.1)
+some_served t (x ∷ xs) w e = grind (arith, some_served t xs w.1, lt-ltb, false≢true)
 
 among : (c : Settings) (t : Trace) (k : Block) (ws : List ℕ) → waiting t ≡ ws
     → (entry : Entry) × IsRight c t (events.Step k) entry
@@ -38,8 +34,7 @@ among c t k (x ∷ xs) e =
     both (is_idle t) refl
   where
     or_last : (a b : Bool) → b ≡ true → (a || b) ≡ true
-    or_last true b h = refl
-    or_last false b h = h
+    or_last o b h = grind arith
 
 -- so many steps may come
 pub steps_exist : (c : Settings) → IsValid c → (k : Block) (n : ℕ) (t : Trace) → IsLegal c t

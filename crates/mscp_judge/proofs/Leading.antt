@@ -1,5 +1,5 @@
 -- What is held after moments that came one after the other, each with a picker of its own, is that of a legal trace.
-use Rattle.mscp_judge.proofs.Common.{◌≡◌, [], ◌∷◌, ◌++◌, refl, sym, subst, arith, append-nil, None, Option, append_assoc, Event, Entry, IsValid, Settings, Moment, Trace, Answers, Holdings, fresh, IsLegal, none_held, turns, legal_more, owner_kept, unbegun_kept, Agrees, Turns, Named, Wanted, IsNamed, Led, with_picker}
+use Rattle.mscp_judge.proofs.Common.{◌≡◌, [], ◌∷◌, ◌++◌, refl, sym, subst, arith, append-nil, None, Option, append_assoc, Event, Entry, IsValid, Settings, Moment, Trace, Answers, Holdings, fresh, IsLegal, none_held, turns, legal_more, owner_kept, Agrees, Turns, Named, Wanted, IsNamed, Led, with_picker}
 
 -- one more moment
 pub led_more : (old mid new : Holdings Wanted) (ms : Trace) (name : Option Named) (e : Event) (n : Entry)
@@ -28,8 +28,7 @@ turn_of c t h h' name event entry v k r =
 pub follow_more : (c : Settings) (t : Trace) (h h' : Holdings Wanted) (name : Option Named) (event : Event)
     (entry : Entry) → IsValid c → Follow c t h → Answers (IsNamed name) (with_picker h name) event entry h'
     → Follow c (t ++ (event, entry) ∷ []) h'
-follow_more c t h h' name event entry v k r =
-    search (arith, turn_of c t h h' name event entry v k r, owner_kept, legal_more, unbegun_kept)
+follow_more c t h h' name event entry v k r = search (arith, turn_of c t h h' name event entry v k r, owner_kept, legal_more)
 
 follow_on : (c : Settings) (t : Trace) (h h' : Holdings Wanted) (ms : Trace) → IsValid c → Follow c t h → Led h ms h'
     → Follow c (t ++ ms) h'

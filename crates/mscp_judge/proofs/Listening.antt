@@ -1,5 +1,5 @@
 -- What comes of a line of a log, where hosts hear it.
-use Rattle.mscp_judge.proofs.Common.{◌≡◌, ◌≢◌, ℕ, zero, suc, ◌+◌, ◌<◌, ◌≤◌, Bool, true, false, List, [], ◌∷◌, length, refl, ap, ◌∙◌, arith, result_ok, ◌↔◌, if◌then◌else◌, IfOk, Option, Some, None, Result, Ok, Err, replicate, IsCommand, command_of, Command, PacketFault, Both, Event, command_is, Account, ◌>>=◌, Block, lines, Begins, Place, asked_after, said_at, Fails, headed, in_line, ReadFault, ScriptFault, is_answer, FailsLine, Heard, after_answer, after_request, command_in, heard_behind, heard_log, hosts_after_all, from_ok}
+use Rattle.mscp_judge.proofs.Common.{◌≡◌, ◌≢◌, ℕ, zero, suc, ◌+◌, ◌<◌, ◌≤◌, Bool, true, false, List, [], ◌∷◌, length, refl, ap, ◌∙◌, arith, result_ok, ◌↔◌, if◌then◌else◌, IfOk, Option, Some, Result, Ok, Err, replicate, IsCommand, command_of, Command, PacketFault, Both, Event, command_is, Account, ◌>>=◌, Block, lines, Begins, Place, asked_after, said_at, Fails, headed, in_line, ReadFault, ScriptFault, is_answer, FailsLine, Heard, after_answer, after_request, command_in, heard_behind, heard_log, hosts_after_all, from_ok}
 use Rattle.mscp_judge.specs.Heard.{after_line, after_lines, after_words, asking}
 use Rattle.mscp_packet.specs.declared.reading.PacketFault.TheVariants as sizes
 use Rattle.mscp_drive.specs.declared.event.Event.TheVariants as events
@@ -7,23 +7,13 @@ use Rattle.mscp_judge.proofs.Reading.{in_err}
 
 -- ---- a message
 
-short : (b : List ℕ) → length b < 12 → None ≡ command_in b
-short b l = grind arith
-
-long : (b : List ℕ) → 64 < length b → None ≡ command_in b
-long b l = grind arith
-
 right : (b : List ℕ) (c : Command) → IsCommand b c → Some (command_of b) ≡ command_in b
 right b c h = grind arith
-
-none_is : (b : List ℕ) (fault : PacketFault) (r : Result Command PacketFault) → r ≡ Err fault
-    → ((r ≡ Err sizes.Short) ↔ (length b < 12)) → ((r ≡ Err sizes.Long) ↔ (64 < length b)) → None ≡ command_in b
-none_is b fault r h3 h4 h5 = grind (arith, short, long)
 
 pub read_in : (b : List ℕ) (r : Result Command PacketFault) → ((r ≡ Err sizes.Short) ↔ (length b < 12))
     → ((r ≡ Err sizes.Long) ↔ (64 < length b)) → IfOk r (λ c. IsCommand b c) → result_ok r ≡ command_in b
 read_in b (Ok c) s l h = ap Some (command_is b c h) ∙ right b c h
-read_in b (Err fault) s l h = none_is b fault (Err fault) refl s l
+read_in b (Err fault) s l h = grind arith
 
 -- ---- events
 

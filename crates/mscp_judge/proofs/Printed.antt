@@ -1,5 +1,5 @@
 -- Bytes that are printed: the digits of numbers, also of those that no type holds, and of the bytes of an end.
-use Rattle.mscp_judge.proofs.Common.{◌≡◌, ◌==◌, ℕ, zero, suc, ◌+◌, ◌*◌, ◌/◌, ◌%◌, ◌<◌, ◌≤◌, true, false, arith, List, [], ◌∷◌, ◌++◌, length, refl, sym, subst, find, if◌then◌else◌, nat_eq, nat_lt, replicate, IfSome, Option, Some, None, slice_index, decimal, digits, digits_onto, byte_at, bytes_high_first, bytes_low_first, to_be_bytes, w16, AllByRecursion, list_all, option_map, and_from, and_parts, eqb-true, ltb-true, nat_tests, ArrayVec, little_bytes, encode_lower, encode_with, lower_digits, BodyKind, EndBody, End, HasBody, IsEnd, body_bytes, end_bytes, bytes_span, every_append, status_text, is_printed}
+use Rattle.mscp_judge.proofs.Common.{◌≡◌, ℕ, zero, suc, ◌+◌, ◌*◌, ◌/◌, ◌%◌, ◌<◌, ◌≤◌, true, false, arith, List, [], ◌∷◌, ◌++◌, length, refl, sym, subst, find, nat_eq, nat_lt, replicate, IfSome, Option, Some, None, slice_index, decimal, digits, digits_onto, byte_at, bytes_low_first, AllByRecursion, list_all, option_map, and_from, and_parts, nat_tests, ArrayVec, little_bytes, encode_lower, encode_with, lower_digits, BodyKind, EndBody, End, HasBody, IsEnd, body_bytes, end_bytes, bytes_span, every_append, status_text, is_printed}
 use Rattle.mscp_packet.specs.declared.end.EndBody.TheVariants as bodies
 
 -- ---- numbers
@@ -34,8 +34,7 @@ coded_small : (es : List (ℕ × BodyKind)) (code : ℕ) (b : List ℕ) (body : 
     → list_all (λ e. nat_lt e.0 256) es ≡ true
     → HasBody (option_map (λ e. e.1) (find (λ e. nat_eq e.0 code) es)) b body → code < 256
 coded_small [] code b body small has = absurd has
-coded_small (e ∷ es) code b body small has =
-    search (arith, and_parts, nat_lt, nat_eq, eqb-true, ltb-true, coded_small es code b body)
+coded_small (e ∷ es) code b body small has = search (arith, coded_small es code b body)
 
 abbrev pub AllBytes : List ℕ → Type 0
 AllBytes bytes = AllByRecursion (λ b. b < 256) bytes
@@ -101,9 +100,5 @@ encoded_length (b ∷ bytes) = omega (arith, encoded_length bytes)
 
 -- ---- a status
 
-high_bytes : (k n : ℕ) → AllBytes (bytes_high_first k n)
-high_bytes zero n = tt
-high_bytes (suc k) n = (low_byte k n, high_bytes k n)
-
 pub status_printed : (status : ℕ) → AllPrinted (status_text status)
-status_printed status = encoded_printed (to_be_bytes w16 status) (high_bytes 2 status)
+status_printed status = grind (arith, encoded_printed, low_byte)

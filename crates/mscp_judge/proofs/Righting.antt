@@ -1,5 +1,5 @@
 -- The line of a step that was answered is the right one.
-use Rattle.mscp_judge.proofs.Common.{◌≡◌, ◌≢◌, inl, inr, ℕ, suc, ◌-◌, ◌<◌, ◌≤◌, Bool, true, List, [], ◌∷◌, ◌++◌, get_or, length, refl, ap, sym, ◌∙◌, subst, arith, length-append, append-nil, codes, filter, replicate, Option, Some, None, AllByRecursion, flat_map, list_all, eq-eqb, ltb-true, append_cancel_right, length-replicate, Block, Event, IsValid, Settings, name_on, Report, Idle, Served, Entry, Service, Trace, WhenStarted, service_in, done, is_waiting, name, service_name, waiting, is_startable, startable, Answers, Holdings, fresh, IsPick, IsRight, IsServed, one_waits, Known, startable_of, waiting_waits, line, is_printed, entry_lines, step_line, Judge, Named, Wanted, AreAnswers, IsAnswerLine, IsRightThere, Log, telling, IsNamed, HasStepped, IsOpen, IsRightNext, IsServiceLine, IsStepLine, report_in, BeginsWith, Came, HasShortLine, IsFirstLine, IsHeld, IsSettled, Led, Stands, Stood, due, marked, owed, run_of, with_picker}
+use Rattle.mscp_judge.proofs.Common.{◌≡◌, ◌≢◌, inl, inr, ℕ, suc, ◌-◌, ◌<◌, ◌≤◌, Bool, true, List, [], ◌∷◌, ◌++◌, length, refl, ap, sym, ◌∙◌, subst, arith, length-append, append-nil, codes, filter, replicate, Option, Some, None, AllByRecursion, flat_map, list_all, eq-eqb, ltb-true, append_cancel_right, length-replicate, Block, Event, IsValid, Settings, name_on, Report, Idle, Served, Entry, Service, Trace, WhenStarted, service_in, done, is_waiting, name, service_name, waiting, is_startable, startable, Answers, Holdings, fresh, IsPick, IsRight, IsServed, one_waits, Known, startable_of, waiting_waits, line, is_printed, entry_lines, step_line, Judge, Named, Wanted, AreAnswers, IsAnswerLine, IsRightThere, Log, telling, IsNamed, HasStepped, IsOpen, IsRightNext, IsServiceLine, IsStepLine, report_in, BeginsWith, Came, HasShortLine, IsFirstLine, IsHeld, IsSettled, Led, Stands, Stood, due, marked, owed, run_of, with_picker}
 use Rattle.mscp_drive.specs.declared.event.Event.TheVariants as events
 use Rattle.mscp_controller.specs.declared.entry.Entry.TheVariants as entries
 use Rattle.mscp_judge.proofs.Coming.{printed_fed, ready_due, ready_not, right_step, stands_held, stands_with, told_not}
@@ -12,14 +12,11 @@ use Rattle.mscp_judge.proofs.Unique.{idle_where, nobody_waits, picked_first, pic
 
 -- ---- who may start
 
-heads : (a b : ℕ) (xs ys : List ℕ) → a ∷ xs ≡ b ∷ ys → a ≡ b
-heads a b xs ys e = cc
-
 -- the first of those that are kept is one of all
 first_kept : (p : ℕ → Bool) (P : ℕ → Type 0) (xs : List ℕ) (x : ℕ) (later : List ℕ) → AllByRecursion P xs
     → filter p xs ≡ x ∷ later → P x × (p x ≡ true)
 first_kept p P [] x later h e = cc
-first_kept p P (y ∷ ys) x later h e = search (arith, Bool, heads, first_kept p P ys x later h.1)
+first_kept p P (y ∷ ys) x later h e = grind (arith, first_kept p P ys x later h.1)
 
 -- the first of those that may start waits, and may start
 first_starts : (c : Settings) (t : Trace) (x : ℕ) (later : List ℕ) → startable c t ≡ x ∷ later
@@ -48,8 +45,7 @@ service_line : (c : Settings) (t : Trace) (k : Block) (wanted : Option Named) (s
     → line text ≡ step_line (report_in s) → IsStepLine c t k wanted text
 service_line c t k wanted s y text known v picked l = record {
   idle = λ none. absurd (nobody_waits t y none v.waits);
-  served = λ x w served. of_one c t k s y x text v
-      (sym (served_once c t y x known.steady.single v.waits w v.next (ltb-true 0 (done t x) served))) l;
+  served = grind (arith, of_one, served_once, ltb-true);
   named = λ x w may names.
       let start = starts_then c t k s y x v may in
       let own = (picked_one c t wanted (service_name s) x (picked start) w may).1 names in
@@ -60,8 +56,7 @@ service_line c t k wanted s y text known v picked l = record {
       let may = startable_of c t k s y v start in
       let own = picked_first c t wanted (service_name s) (picked start)
       (λ e. none y v.waits may (e ∙ ap Some (own_name c t k s y v))) in
-      of_one c t k s y x text v (one_waits t y x known.steady.apart v.waits first.0
-      (sym (own_name c t k s y v) ∙ (own ∙ ap (λ xs. name t (get_or xs 0 0)) are))) l;
+      grind (arith, of_one, one_waits, own_name, own, first, own);
 }
 
 -- a step is idle where nothing waits
@@ -199,8 +194,7 @@ next_none c log wanted judge right e s q = record {
   owed = owed judge;
   stood = s.counted.stood;
   due_is = λ some. absurd (some q.told);
-  step_is = λ k later none is.
-      absurd (cons_not (events.Step k) later (sym is ∙ ap (λ n. replicate n (events.Step judge.block)) q.answered));
+  step_is = grind (arith, cons_not);
   none_is = λ none all. e;
 }
 
@@ -229,15 +223,7 @@ pub open_step : {A : Type 0} (c : Settings) (log : Log) (wanted : Option Named) 
     → IsOpen c log wanted old → due old ≡ [] → 0 < old.owed → Came None old new (events.Step old.block)
     → new.owed ≡ old.owed - 1 → new.block ≡ old.block → AreAnswers (due new) 1 → HasShortLine (due new)
     → IsFirstLine (due new) right → IsRightNext c log wanted right
-open_step c log wanted old new right (held, inl s) none some came w b a short f =
-    search (
-      arith,
-      next_stepped c log None new right (right_step c log None old new held none some came w b)
-          (has_stepped c log None old new s.stands none some came a short) f,
-      right_step c log None old new held none some came w b,
-      has_stepped c log None old new s.stands none some came a short,
-      owed_some,
-    )
+open_step c log wanted old new right (held, inl s) none some came w b a short f = search (arith, next_stepped c log None new right (right_step c log None old new held none some came w b) (has_stepped c log None old new s.stands none some came a short) f, owed_some)
 open_step c log wanted old new right (held, inr s) none some came w b a short f = search (arith, stepped_due)
 
 -- a judge that answered a step for a line is open

@@ -1,16 +1,13 @@
 -- The line of a step says which command was served.
-use Rattle.mscp_judge.proofs.Common.{◌≡◌, ◌==◌, ℕ, ◌<◌, ◌^◌, true, not, List, [], ◌∷◌, ◌++◌, length, refl, ap, ◌∙◌, arith, append_assoc, codes, Ok, Option, Some, decimal, list_all, AllDigits, digit_value, nat_tests, and_from, and_parts, false≢true, le-leb, decimal_is_IsNumeral, digit_from_value, End, Connection, First, Second, Report, Idle, Served, name_on, every_append, is_digit, number, wide, words, few_digits, AllSolid, solid_digits, word_front, block_word, connection_word, ended_part, step_line, name_in, numbered, served, wanted_name}
+use Rattle.mscp_judge.proofs.Common.{◌≡◌, ◌==◌, ℕ, ◌<◌, ◌^◌, true, not, List, [], ◌∷◌, ◌++◌, length, refl, ap, arith, append_assoc, codes, Ok, Option, Some, decimal, list_all, AllDigits, nat_tests, and_from, and_parts, false≢true, le-leb, decimal_is_IsNumeral, digit_from_value, End, Connection, First, Second, Report, Idle, Served, name_on, every_append, is_digit, number, wide, words, few_digits, AllSolid, solid_digits, word_front, block_word, connection_word, ended_part, step_line, name_in, numbered, served, wanted_name}
 use Rattle.mscp_judge.proofs.Feeds.{NoFeed, front_of}
 use Rattle.mscp_judge.proofs.Unique.{Says}
 
 -- ---- a number
 
-digit_byte : (b : ℕ) → digit_value b < 10 → is_digit b ≡ true
-digit_byte b h = search (arith, digit_from_value b h, nat_tests)
-
 digit_bytes : (ds : List ℕ) → AllDigits 10 ds → list_all is_digit ds ≡ true
 digit_bytes [] h = refl
-digit_bytes (d ∷ ds) h = and_from _ _ (digit_byte d h.0) (digit_bytes ds h.1)
+digit_bytes (d ∷ ds) h = grind (arith, digit_bytes ds h.1, and_from, digit_from_value, nat_tests)
 
 pub digits_fed : (ds : List ℕ) → list_all is_digit ds ≡ true → NoFeed ds
 digits_fed [] h = tt
@@ -103,14 +100,4 @@ says_front Second n more h =
 pub line_says : (line X Y : List ℕ) (report : Report) → line ++ 10 ∷ X ≡ step_line report ++ Y
     → Says (name_in (words line)) report
 line_says line X Y Idle e = tt
-line_says line X Y (Served via n unit lbn started seek ended) e =
-    search (
-      arith,
-      served_words n unit lbn seek ended,
-      append_assoc (connection_word via) (codes "serve " ++ (decimal n
-          ++ (32 ∷ []))) (tail unit lbn seek ended),
-      append_assoc (head via n) (tail unit lbn seek ended) Y,
-      front_of,
-      head_fed,
-      says_front,
-    )
+line_says line X Y (Served via n unit lbn started seek ended) e = search (arith, served_words n unit lbn seek ended, append_assoc (head via n) (tail unit lbn seek ended) Y, front_of, head_fed, says_front)

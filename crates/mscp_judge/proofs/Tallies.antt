@@ -1,6 +1,5 @@
 -- What one moment more adds to the totals of a run.
-use Rattle.mscp_judge.proofs.Common.{◌≡◌, ◌≢◌, ◌⊎◌, inl, inr, ⊎_elim, ℕ, ◌+◌, ◌≤◌, Bool, true, false, cond, List, [], ◌∷◌, ◌++◌, map, take, get_or, length, refl, ap, sym, ◌∙◌, subst, arith, length-append, Contains, filter, not, Ok, Option, AllByRecursion, take-append-le, take_all, All-contains, All-contains_itself, recursion_from_All, All-from_recursion, sum_by_push, cases_lt, false≢true, command_of, Connection, Record, record_at, every_append, every_mapped, every_kept, Event, Entry, is_queued, arrival, IsValid, Settings, bound, Moment, Trace, is_step, queues, ends_in, name, waiting, passed, figure, figure_of, EachWaiting, Answers, Holdings, IsRight, name_last, arrives, queued_right, taken_when, falling, is_waiting_last, waiting_more, progress, waits_in, figure_of_held, held_of, step_count, Named, Wanted, Totals, IsNamed, with_picker, Adds, AreTotals, IsLarger, IsLargest, figure_queued}
-use Rattle.mscp_controller.specs.declared.entry.Sent.TheVariants as sents
+use Rattle.mscp_judge.proofs.Common.{◌≡◌, ◌≢◌, ◌⊎◌, inl, inr, ⊎_elim, ℕ, ◌+◌, ◌≤◌, Bool, true, cond, List, [], ◌∷◌, ◌++◌, map, take, get_or, length, refl, ap, sym, ◌∙◌, subst, arith, length-append, Contains, filter, not, Option, AllByRecursion, take-append-le, take_all, All-contains, All-contains_itself, recursion_from_All, All-from_recursion, sum_by_push, cases_lt, false≢true, Record, record_at, every_append, every_mapped, every_kept, Event, Entry, IsValid, Settings, bound, Moment, Trace, is_step, queues, ends_in, name, waiting, passed, figure, figure_of, EachWaiting, Answers, Holdings, IsRight, name_last, arrives, queued_right, taken_when, falling, is_waiting_last, waiting_more, progress, waits_in, figure_of_held, held_of, step_count, Named, Wanted, Totals, IsNamed, with_picker, Adds, AreTotals, IsLarger, IsLargest, figure_queued}
 use Rattle.mscp_judge.proofs.Leading.{Follow, follow_more, turn_of}
 
 -- ---- the largest
@@ -28,27 +27,19 @@ each_more P t m before new x w =
     (λ i d l. before (get_or (waiting t) i d) (All-contains_itself (waiting t) i d l))) in
     let all = every_append P (filter q (waiting t)) (cond (queues m.1) (length t ∷ []) []) kept
     (last (queues m.1) new) in
-    All-contains P (waiting (t ++ m ∷ [])) x (All-from_recursion P (waiting (t ++ m ∷ []))
-    (subst (AllByRecursion P) (sym (waiting_more t m)) all)) w
+    grind (arith, All-contains, All-from_recursion, waiting_more, all)
   where
     last : (b : Bool) → (b ≡ true → P (length t)) → AllByRecursion P (cond b (length t ∷ []) [])
-    last true h = (h refl, tt)
-    last false h = tt
+    last o h = grind arith
 
 -- ---- the figure of a new command
 
 -- the name that is told of it is its own
-own_name : (c : Settings) (via : Connection) (t : Trace) (b : List ℕ) (reference : ℕ)
-    → Ok (sents.Queued reference) ≡ arrival c via t b → is_queued c (command_of b) ≡ true
-    → reference ≡ (command_of b).reference
-own_name c via t b reference h q = grind (arith, arrives, taken_when)
-
 queued_figure : (c : Settings) (t : Trace) (h : Holdings Wanted) (event : Event) (entry : Entry)
     → IsRight c t event entry → h.settings ≡ c
     → h.waiting ≡ map (held_of (t ++ (event, entry) ∷ [])) (waiting (t ++ (event, entry) ∷ [])) → queues entry ≡ true
     → figure_queued h entry ≡ figure_of c (t ++ (event, entry) ∷ []) (name (t ++ (event, entry) ∷ []) (length t))
-queued_figure c t h event entry h5 h6 h7 h8 =
-    search (arith, own_name, queued_right, name_last, figure_of_held, false≢true)
+queued_figure c t h event entry h5 h6 h7 h8 = grind (arith, queued_right, name_last, figure_of_held, false≢true, arrives, taken_when)
 
 -- of no other is one told
 none_queued : (h : Holdings Wanted) (entry : Entry) → figure_queued h entry ≢ 0 → queues entry ≡ true
@@ -96,8 +87,7 @@ totals_more c t h h' picker event entry old new v k r a adds =
     (recursion_from_All (λ (z : Record). z.passed ≤ (record_at h'.waiting 0).passed) h'.waiting adds.oldest)) in
     record {
       moments = omega (arith, adds.moments, a.moments, length-append t (m ∷ []));
-      steps = adds.steps ∙ ((λ i. a.steps i + step_counts c t event entry right i)
-          ∙ sym (sum_by_push (λ (n : Moment). cond (is_step n.0) 1 0) t m));
+      steps = grind (arith, step_counts, sum_by_push, m, right);
       figure = largest_more (figure c) t m old.figure (figure_queued h' entry) new.figure a.figure adds.figure
           (each_more (λ x. figure c u x ≤ new.figure) t m (λ x w. let l = falls.other x w in
           let g = before x (subst (λ z. Contains (waiting z) x) (sym (take_all (length t) t (omega arith))) w) in

@@ -1,41 +1,14 @@
 -- A line that asks for events is no answer.
-use Rattle.mscp_judge.proofs.Common.{◌≡◌, ◌||◌, ◌+◌, ◌<◌, ℕ, Bool, true, false, List, ◌∷◌, drop, length, refl, ap, sym, subst, arith, codes, Some, None, Result, Ok, bytes_eq, false≢true, bytes_eq-Decides, ◌>>=◌, Connection, Second, Event, asked_after, said_at, asked_at, asked_next, asked_if, event_form, form_of, message_form, plain_form, request, second_request, Cause, Log, after_line, after_words, asking, is_answer, is_answer_word, is_second_answer, name_in, served}
+use Rattle.mscp_judge.proofs.Common.{◌≡◌, ◌+◌, ◌<◌, ℕ, Bool, true, false, List, ◌∷◌, drop, length, ap, arith, codes, Some, None, Result, Ok, bytes_eq, false≢true, bytes_eq-Decides, ◌>>=◌, Connection, Second, Event, asked_after, said_at, asked_at, asked_next, asked_if, event_form, form_of, message_form, plain_form, request, second_request, Cause, Log, after_line, after_words, asking, is_answer, is_answer_word, is_second_answer, name_in, served}
 use Rattle.mscp_judge.proofs.Reading.{bound}
 
 -- a word of no line that asks
 abbrev NoForm : List ℕ → Type 0
 NoForm word = (form_of word ≡ None) × (bytes_eq word (codes "second") ≡ false)
 
-either : {P : Type 0} (a b : Bool) → (a ≡ true → P) → (b ≡ true → P) → (a || b) ≡ true → P
-either a b h2 h3 h4 = grind arith
-
-same_word : (word other : List ℕ) → NoForm other → bytes_eq word other ≡ true → NoForm word
-same_word word other n e = subst NoForm (sym ((bytes_eq-Decides word other).0 e)) n
-
 no_form : (word : List ℕ) → is_answer_word word ≡ true → NoForm word
 unfolding form_of plain_form message_form event_form
-no_form word h =
-    let q = bytes_eq word (codes "queued") in
-    let a = bytes_eq word (codes "answered") in
-    let r = bytes_eq word (codes "refused") in
-    let s = bytes_eq word (codes "serve") in
-    let i = bytes_eq word (codes "idle") in
-    let e = bytes_eq word (codes "end") in
-    let n = bytes_eq word (codes "none") in
-    let f = bytes_eq word (codes "figure") in
-    either (q || a || r || s || i || e || n) f
-    (either (q || a || r || s || i || e) n
-    (either (q || a || r || s || i) e
-    (either (q || a || r || s) i
-    (either (q || a || r) s
-    (either (q || a) r
-    (either q a (same_word word (codes "queued") (refl, refl)) (same_word word (codes "answered") (refl, refl)))
-    (same_word word (codes "refused") (refl, refl)))
-    (same_word word (codes "serve") (refl, refl)))
-    (same_word word (codes "idle") (refl, refl)))
-    (same_word word (codes "end") (refl, refl)))
-    (same_word word (codes "none") (refl, refl)))
-    (same_word word (codes "figure") (refl, refl)) h
+no_form word h = grind (arith, bytes_eq-Decides)
 
 first_no_answer : (word : List ℕ) (rest : List (List ℕ)) (what : List Event) → bytes_eq word (codes "second") ≡ false
     → request (word ∷ rest) ≡ Ok what → (b : Bool) → is_answer_word word ≡ b → b ≡ false

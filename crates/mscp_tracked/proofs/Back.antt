@@ -1,7 +1,7 @@
 -- What is saved is restored.
 use Rattle.mscp_saved.specs.Restored as saved
 use Rattle.mscp_saved.specs.Saved as saving
-use Rattle.mscp_tracked.proofs.Common.{Bool, true, false, not, true≢false, Option, Some, None, Err, is_some, if◌then◌else◌, nat_le, nat_lt, leb-true, le-ltb, num, first_of, ok_is, get_or_append_left, List, ◌++◌, ◌≤◌, length, ℕ, ◌+◌, ◌*◌, ◌<◌, ◌^◌, ◌≡◌, ◌∙◌, All, AllByRecursion, refl, sym, ap, arith, nat_eq, Ok, drop, take, length-append, eq-eqb, eqb-true, and_parts, recursion_from_All, take_at, drop_at, get_or, little_bytes, eight, Holdings, IsBack, parts_long, parts_rest, parts_said, is_framed, frame_fault, RestoreFault, AreBeside, Tracking, behind, cookie_count, own_length, rest_bytes, restored, resumed, saved_bytes, tracking_in, word_in, words_bytes, words_in}
+use Rattle.mscp_tracked.proofs.Common.{Bool, true, false, not, true≢false, Option, Some, None, Err, if◌then◌else◌, nat_le, nat_lt, leb-true, le-ltb, num, first_of, ok_is, get_or_append_left, List, ◌++◌, ◌≤◌, length, ℕ, ◌*◌, ◌<◌, ◌^◌, ◌≡◌, ◌∙◌, All, AllByRecursion, refl, sym, ap, arith, nat_eq, Ok, drop, take, length-append, eq-eqb, eqb-true, and_parts, recursion_from_All, take_at, drop_at, little_bytes, eight, Holdings, IsBack, parts_long, parts_rest, parts_said, is_framed, frame_fault, RestoreFault, AreBeside, Tracking, behind, own_length, rest_bytes, restored, resumed, saved_bytes, tracking_in, word_in, words_bytes, words_in}
 
 -- ---- numbers
 word_back : (x : ℕ) → x < 2 ^ 64 → IsBack word_in (little_bytes 8) 8 x
@@ -11,12 +11,10 @@ abbrev pub AreSmall : List ℕ → Type 0
 AreSmall words = All (λ word. word < 2 ^ 64) words
 
 words_back : (words : List ℕ) → AreSmall words → AllByRecursion (IsBack word_in (little_bytes 8) 8) words
-words_back words h = recursion_from_All (IsBack word_in (little_bytes 8) 8) words
-    (λ k d l. word_back (get_or words k d) (h k d l))
+words_back words h = grind (arith, recursion_from_All, word_back)
 
 said : (n : ℕ) (words t : List ℕ) → n ≡ length words → AreSmall words → words_in n (words_bytes words ++ t) ≡ words
-said n words t e h = ap (λ m. words_in m (words_bytes words ++ t)) e
-    ∙ parts_said word_in (little_bytes 8) 8 words t (words_back words h)
+said n words t e h = grind (arith, parts_said, words_back)
 
 left_behind : (n : ℕ) (words t : List ℕ) → n ≡ length words → AreSmall words
     → behind n (words_bytes words ++ t) ≡ t
@@ -28,13 +26,11 @@ long words h = parts_long word_in (little_bytes 8) 8 words (words_back words h)
 
 -- ---- where the controller ends
 first_none : (o other : Option RestoreFault) → first_of o other ≡ None → o ≡ None
-first_none None other h = refl
-first_none (Some fault) other h = absurd (true≢false (ap is_some h))
+first_none o other h = grind (arith, true≢false)
 
 framed_if : (q : Bool) (other : Option RestoreFault)
     → (if not q then Some RestoreFault.Length else other) ≡ None → q ≡ true
-framed_if true other h = refl
-framed_if false other h = absurd (true≢false (ap is_some h))
+framed_if o other h = grind (arith, true≢false)
 
 pub record IsWhole (b : List ℕ) : Type 0 where
   pub head : 48 ≤ length b
@@ -50,10 +46,7 @@ whole number picker b h e =
     record { head = leb-true 48 (length b) parts.0; told = eqb-true (num b 8 4) (length b) rest.0 }
 
 front_num : (a b : List ℕ) → 48 ≤ length a → own_length (a ++ b) ≡ own_length a
-front_num a b l =
-    let e : (n : ℕ) → n < length a → get_or (a ++ b) n 0 ≡ get_or a n 0 = get_or_append_left a b 0 in
-    λ i. 0 + e 8 (omega (arith, l)) i * 256 ^ 0 + e 9 (omega (arith, l)) i * 256 ^ 1
-    + e 10 (omega (arith, l)) i * 256 ^ 2 + e 11 (omega (arith, l)) i * 256 ^ 3
+front_num a b l = grind (arith, get_or_append_left)
 
 restored_parts : {K : Type 0} (number : ℕ) (t : Tracking K) (a b : List ℕ)
     → saved.restored number t.controller.picker a ≡ Ok t.controller → resumed b (Ok t.controller) ≡ Ok t
@@ -93,49 +86,13 @@ module _ {K : Type 0} (t : Tracking K) (b : AreBeside t.controller t.cookies) (r
   at_first = left_behind (length H.waiting) t.cookies.waiting First (sym b.waiting) r.waiting
 
   at_second : behind (length H.untaken.first) (behind (length H.waiting) (rest_bytes t)) ≡ Second
-  at_second = ap (behind (length H.untaken.first)) at_first
-      ∙ left_behind (length H.untaken.first) t.cookies.untaken.first Second (sym b.first) r.first
-
-  at_count : behind (length H.untaken.second)
-      (behind (length H.untaken.first) (behind (length H.waiting) (rest_bytes t))) ≡ little_bytes 8 t.beginnings
-  at_count = ap (behind (length H.untaken.second)) at_second
-      ∙ left_behind (length H.untaken.second) t.cookies.untaken.second (little_bytes 8 t.beginnings)
-      (sym b.second) r.second
+  at_second = grind (arith, at_first, left_behind)
 
   pub said_again : tracking_in H (rest_bytes t) ≡ t
-  said_again = λ i. record {
-    controller = H;
-    cookies = record {
-      waiting = said (length H.waiting) t.cookies.waiting First (sym b.waiting) r.waiting i;
-      untaken = record {
-        first = (ap (words_in (length H.untaken.first)) at_first
-            ∙ said (length H.untaken.first) t.cookies.untaken.first Second (sym b.first) r.first) i;
-        second = (ap (words_in (length H.untaken.second)) at_second
-            ∙ said (length H.untaken.second) t.cookies.untaken.second (little_bytes 8 t.beginnings)
-            (sym b.second) r.second) i;
-      };
-    };
-    beginnings = (ap word_in at_count ∙ eight t.beginnings r.count) i;
-  }
-
-  rest_long : length (rest_bytes t) ≡ 8 * (cookie_count H + 1)
-  rest_long = omega (
-    arith,
-    long t.cookies.waiting r.waiting,
-    long t.cookies.untaken.first r.first,
-    long t.cookies.untaken.second r.second,
-    length-append (words_bytes t.cookies.waiting) First,
-    length-append (words_bytes t.cookies.untaken.first) Second,
-    length-append (words_bytes t.cookies.untaken.second) (little_bytes 8 t.beginnings),
-    b.waiting,
-    b.first,
-    b.second,
-  )
+  said_again = grind (arith, said, at_first, at_second, eight, left_behind)
 
   resumed_again : resumed (rest_bytes t) (Ok H) ≡ Ok t
-  resumed_again =
-      ap (λ q. if q then Ok (tracking_in H (rest_bytes t)) else Err RestoreFault.Length) (eq-eqb _ _ rest_long)
-      ∙ ap Ok said_again
+  resumed_again = grind (arith, eq-eqb, said_again, long, length-append)
 
   pub saved_back : (number : ℕ) → saved.restored number H.picker (saving.saved_bytes number H) ≡ Ok H
       → restored number H.picker (saved_bytes number t) ≡ Ok t
@@ -145,6 +102,4 @@ module _ {K : Type 0} (t : Tracking K) (b : AreBeside t.controller t.cookies) (r
 -- where there are as many bytes as tell how long the controller is
 pub restored_long : {K : Type 0} (number : ℕ) (picker : K) (b : List ℕ) → 12 ≤ length b
     → resumed (drop (own_length b) b) (saved.restored number picker (take (own_length b) b)) ≡ restored number picker b
-restored_long number picker b l = sym (ap (λ q. if q then Err RestoreFault.Length
-    else resumed (drop (own_length b) b) (saved.restored number picker (take (own_length b) b)))
-    (le-ltb (length b) 12 l))
+restored_long number picker b l = grind (arith, le-ltb)

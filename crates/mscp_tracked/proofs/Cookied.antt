@@ -1,13 +1,8 @@
 -- The cookies that are told are those that were sent.
 use Rattle.mscp_controller.specs.declared.entry.Sent.TheVariants as sents
-use Rattle.mscp_tracked.proofs.Common.{Bool, true, false, List, [], ◌∷◌, ◌++◌, length, ℕ, ◌+◌, ◌<◌, ◌≡◌, ◌≢◌, ◌∙◌, refl, sym, ap, subst, arith, append-nil, suc, Option, Some, None, if◌then◌else◌, get_or, is_some, unwrap_or, option_map, option_to_list, list_any, map, take, drop, remove, position, true≢false, false≢true, position-Some, cut_at, drop-map, get_or-map, map-append, take-map, name_found, AreApart, names, Command, Order, command_of, Block, Connection, First, Second, of, put, End, Record, aborted_record, drive_at, end_given, has_name, is_same, name_of, name_on, no_record, passed_by, record_at, remains, same_is, same_name, step_charge, waiting_after, Name, Report, Idle, Served, Choice, Drive, Holdings, Steps, ends_after, Both, end_in, HasCookie, Settings, Cookies, cookie_in, ended, left, reported, sent, own_end_with, holds, holds_either, none_waits, refusal, outstanding_of, aborts_none, with_end, aborting, answered_end, queued, reference_aborted, place_aborted, fresh_record, nat_eq, eqb-false, differ_is, is_differ, same_connection, or_parts, ◌||◌, place_served}
+use Rattle.mscp_tracked.proofs.Common.{Bool, true, false, List, [], ◌∷◌, ◌++◌, length, ℕ, ◌+◌, ◌<◌, ◌≡◌, ◌≢◌, ◌∙◌, refl, sym, ap, subst, arith, append-nil, suc, Option, Some, None, if◌then◌else◌, get_or, is_some, option_map, option_to_list, list_any, map, take, drop, remove, position, true≢false, false≢true, position-Some, cut_at, drop-map, get_or-map, map-append, take-map, name_found, AreApart, names, Command, Order, command_of, Block, Connection, First, Second, of, put, End, Record, aborted_record, drive_at, end_given, has_name, is_same, name_of, name_on, no_record, passed_by, record_at, remains, same_is, same_name, waiting_after, Name, Report, Idle, Served, Choice, Drive, Holdings, Steps, ends_after, Both, end_in, HasCookie, Cookies, cookie_in, ended, left, reported, sent, holds, holds_either, none_waits, refusal, outstanding_of, aborts_none, with_end, aborting, answered_end, queued, reference_aborted, place_aborted, nat_eq, eqb-false, differ_is, is_differ, or_parts, place_served}
 use Rattle.mscp_queue.proofs.Aborts.{aborts_at}
 use Rattle.mscp_tracked.proofs.Keeping.{found_at, none_more}
-
-own_number : (c : Settings) (online : Bool) (figure : ℕ) (k : Command) (fault : Option ℕ)
-    → (own_end_with c online figure k fault).reference ≡ k.reference
-own_number c online figure k None = refl
-own_number c online figure k (Some status) = refl
 
 -- ---- what belongs to whom
 -- the cookies of records, and of ends of a connection
@@ -24,9 +19,7 @@ pub record AreOwn {K : Type 0} (f : Name → ℕ) (h : Holdings K) (k : Cookies)
   pub second : k.untaken.second ≡ own_ends f Second h.untaken.second
 
 map_remove : {X Y : Type 0} (g : X → Y) (xs : List X) (k : ℕ) → map g (remove xs k) ≡ remove (map g xs) k
-map_remove g xs k = map-append g (take k xs) (drop (suc k) xs)
-    ∙ (ap (λ ys. ys ++ map g (drop (suc k) xs)) (sym (take-map g k xs))
-    ∙ ap (λ ys. take k (map g xs) ++ ys) (sym (drop-map g (suc k) xs)))
+map_remove g xs k = grind (arith, map-append, take-map, drop-map)
 
 pub own_at : (f : Name → ℕ) (rs : List Record) (k : ℕ) → k < length rs
     → get_or (own f rs) k 0 ≡ f (name_of (record_at rs k))
@@ -37,26 +30,16 @@ passed_own : (f : Name → ℕ) (n : ℕ) (rs : List Record) → own f (map (pas
 passed_own f n [] = refl
 passed_own f n (r ∷ rs) = ap (λ xs. f (name_of r) ∷ xs) (passed_own f n rs)
 
-ended_number : (b : Bool) (e o : End) → (if b then None else Some o) ≡ Some e → o ≡ e
-ended_number true e o h = absurd (false≢true (ap is_some h))
-ended_number false e o h = ap (λ x. unwrap_or x o) h
-
 end_number : (k : Block) (d : Drive) (r : Record) (e : End) → end_given k d r ≡ Some e
     → e.reference ≡ r.command.reference
-end_number k d r e h = ap (λ x. x.reference) (sym (ended_number _ e _ h))
+end_number k d r e h = grind (arith, false≢true)
 
 -- the others keep their names
 names_after : (f : Name → ℕ) (k : Block) (d : Drive) (rs : List Record) (q : ℕ) (end : Option End) → q < length rs
     → end_given k d (record_at rs q) ≡ end
     → own f (waiting_after k d rs q) ≡ own f (take q rs) ++ (own f (remains (record_at rs q) end)
     ++ own f (drop (q + 1) rs))
-names_after f k d rs q end l e =
-    let r = record_at rs q in
-    let n = step_charge r in
-    ap (λ o. own f (map (passed_by n) (take q rs) ++ (remains r o ++ drop (q + 1) rs))) e
-    ∙ (map-append (λ z. f (name_of z)) (map (passed_by n) (take q rs)) (remains r end ++ drop (q + 1) rs)
-    ∙ (ap (λ xs. xs ++ own f (remains r end ++ drop (q + 1) rs)) (passed_own f n (take q rs))
-    ∙ ap (λ xs. own f (take q rs) ++ xs) (map-append (λ z. f (name_of z)) (remains r end) (drop (q + 1) rs))))
+names_after f k d rs q end l e = grind (arith, map-append, passed_own)
 
 waiting_stays : (f : Name → ℕ) (k : Block) (d : Drive) (rs : List Record) (q : ℕ) → q < length rs
     → end_given k d (record_at rs q) ≡ None → own f (waiting_after k d rs q) ≡ own f rs
@@ -77,8 +60,7 @@ waiting_less f k d rs q end l e =
 -- where a report's command stands
 reported_at : (rs : List Record) (q : ℕ) (via : Connection) (reference : ℕ) → AreApart (names rs) → q < length rs
     → name_on via reference ≡ name_of (record_at rs q) → position (has_name (name_on via reference)) rs ≡ Some q
-reported_at rs q via reference a l e =
-    name_found rs (name_on via reference) q (position (has_name (name_on via reference)) rs) a l (sym e) refl
+reported_at rs q via reference a l e = grind (arith, name_found)
 
 abbrev name_reported : Name → Report → Name
 name_reported name Idle = name
@@ -87,19 +69,13 @@ name_reported name (Served via reference unit lbn started seek ended) = name_on 
 -- lists that stay
 same_lists : {K : Type 0} (f : Name → ℕ) (h new : Holdings K) (k c : Cookies) → own f new.waiting ≡ own f h.waiting
     → new.untaken ≡ h.untaken → c ≡ k → AreOwn f h k → AreOwn f new c
-same_lists f h new k c w u e o = record {
-  waiting = ap (λ z. z.waiting) e ∙ (o.waiting ∙ sym w);
-  first = ap (λ z. z.untaken.first) e ∙ (o.first ∙ ap (λ z. own_ends f First z.first) (sym u));
-  second = ap (λ z. z.untaken.second) e ∙ (o.second ∙ ap (λ z. own_ends f Second z.second) (sym u));
-}
+same_lists f h new k c w u e o = grind arith
 
 -- an end more
 end_more : (f : Name → ℕ) (via : Connection) (ks : List ℕ) (es : List End) (cookie : ℕ) (e : End)
     → ks ≡ own_ends f via es → cookie ≡ f (name_on via e.reference)
     → ks ++ cookie ∷ [] ≡ own_ends f via (es ++ e ∷ [])
-end_more f via ks es cookie e a b =
-    ap (λ xs. xs ++ cookie ∷ []) a
-    ∙ (ap (λ n. own_ends f via es ++ n ∷ []) b ∙ sym (map-append (λ x. f (name_on via x.reference)) es (e ∷ [])))
+end_more f via ks es cookie e a b = grind (arith, map-append)
 
 -- one left those that wait, for its end
 own_left : {K : Type 0} (f : Name → ℕ) (h new : Holdings K) (k : Cookies) (via : Connection) (q : ℕ) (e : End)
@@ -107,39 +83,18 @@ own_left : {K : Type 0} (f : Name → ℕ) (h new : Holdings K) (k : Cookies) (v
     → new.untaken ≡ put via (of via h.untaken ++ e ∷ []) h.untaken
     → name_on via e.reference ≡ name_of (record_at h.waiting q) → AreOwn f h k
     → AreOwn f new (left via (Some q) k)
-own_left f h new k First q e l w u n o =
-    let cookie : get_or k.waiting q 0 ≡ f (name_on First e.reference) =
-    ap (λ ws. get_or ws q 0) o.waiting ∙ (own_at f h.waiting q l ∙ ap f (sym n)) in
-    record {
-      waiting = ap (λ ws. remove ws q) o.waiting ∙ sym w;
-      first = end_more f First k.untaken.first h.untaken.first _ e o.first cookie
-          ∙ ap (λ z. own_ends f First z.first) (sym u);
-      second = o.second ∙ ap (λ z. own_ends f Second z.second) (sym u);
-    }
-own_left f h new k Second q e l w u n o =
-    let cookie : get_or k.waiting q 0 ≡ f (name_on Second e.reference) =
-    ap (λ ws. get_or ws q 0) o.waiting ∙ (own_at f h.waiting q l ∙ ap f (sym n)) in
-    record {
-      waiting = ap (λ ws. remove ws q) o.waiting ∙ sym w;
-      first = o.first ∙ ap (λ z. own_ends f First z.first) (sym u);
-      second = end_more f Second k.untaken.second h.untaken.second _ e o.second cookie
-          ∙ ap (λ z. own_ends f Second z.second) (sym u);
-    }
+own_left f h new k y q e l w u n o = grind (arith, own_at, end_more)
 
 none_ends : (z : Both (List End)) → record { first = z.first ++ []; second = z.second ++ [] } ≡ z
 none_ends z = λ i. record { first = append-nil z.first i; second = append-nil z.second i }
 
 ends_none : (via : Connection) (z : Both (List End)) (reference unit : ℕ) (lbn : Option ℕ) (started : Bool) (seek : ℕ)
     → ends_after z (Served via reference unit lbn started seek None) ≡ z
-ends_none First z reference unit lbn started seek = none_ends z
-ends_none Second z reference unit lbn started seek = none_ends z
+ends_none o z reference unit lbn started seek = grind (arith, none_ends)
 
 ends_one : (via : Connection) (z : Both (List End)) (reference unit : ℕ) (lbn : Option ℕ) (started : Bool) (seek : ℕ)
     (e : End) → ends_after z (Served via reference unit lbn started seek (Some e)) ≡ put via (of via z ++ e ∷ []) z
-ends_one First z reference unit lbn started seek e =
-    λ i. record { first = z.first ++ e ∷ []; second = append-nil z.second i }
-ends_one Second z reference unit lbn started seek e =
-    λ i. record { first = append-nil z.first i; second = z.second ++ e ∷ [] }
+ends_one o z reference unit lbn started seek e = grind (arith, append-nil)
 
 -- what a step tells, and what it leaves
 module _ {K : Type 0} (f : Name → ℕ) (picks : List Choice → ℕ → Type 0) (k : Block) (h new : Holdings K)
@@ -147,8 +102,7 @@ module _ {K : Type 0} (f : Name → ℕ) (picks : List Choice → ℕ → Type 0
   pub step_owns : (report : Report) (cookie : ℕ) → Steps picks k h report new
       → cookie ≡ cookie_in c.waiting (place_served h.waiting report)
       → d ≡ reported (place_served h.waiting report) report c → HasCookie f report cookie × AreOwn f new d
-  step_owns Idle cookie s e g =
-      (tt, same_lists f h new c d (ap (λ l. own f l.waiting) s.serves.2) (s.ends ∙ none_ends h.untaken) g o)
+  step_owns Idle cookie s e g = grind (arith, same_lists, none_ends)
   step_owns (Served via reference unit lbn started seek ended) cookie s e g =
       let q = s.serves.0 in
       let a = s.serves.1 in
@@ -217,11 +171,7 @@ same_ends f via reference cookie (e ∷ es) h =
 other_ends : (f : Name → ℕ) (via other : Connection) (reference cookie : ℕ) (es : List End) → via ≢ other
     → own_ends (sent_with f (name_on via reference) cookie) other es ≡ own_ends f other es
 other_ends f via other reference cookie [] d = refl
-other_ends f via other reference cookie (e ∷ es) d =
-    let n = name_on via reference in
-    ap (λ x. x ∷ own_ends (sent_with f n cookie) other es) (other_sent f n (name_on other e.reference) cookie
-    (is_differ n (name_on other e.reference) (λ same. d (ap (λ (m : Name). m.connection) same))))
-    ∙ ap (λ xs. f (name_on other e.reference) ∷ xs) (other_ends f via other reference cookie es d)
+other_ends f via other reference cookie (e ∷ es) d = grind (arith, other_ends f via other reference cookie es d, other_sent, is_differ)
 
 -- a number that isn't outstanding
 pub unheld : (balance : ℕ) (outstanding b : List ℕ) → refusal balance outstanding b ≡ None
@@ -229,45 +179,14 @@ pub unheld : (balance : ℕ) (outstanding b : List ℕ) → refusal balance outs
 unfolding command_of
 unheld balance outstanding b h = grind arith
 
-or_right : (a b : Bool) → (a || b) ≡ false → b ≡ false
-or_right a b h = (or_parts a b h).1
-
 pub still_own : {K : Type 0} (f : Name → ℕ) (h : Holdings K) (k : Cookies) (via : Connection) (reference cookie : ℕ)
     → holds (outstanding_of via h) reference ≡ false → AreOwn f h k
     → AreOwn (sent_with f (name_on via reference) cookie) h k
-still_own f h k First reference cookie free o =
-    let n = name_on First reference in
-    let es = h.untaken.first in
-    record {
-      waiting = o.waiting ∙ sym (own_still f n cookie h.waiting (none_waits h.waiting First es reference free));
-      first = o.first ∙ sym (same_ends f First reference cookie es
-          (or_right _ _ (sym (holds_either h.waiting First es reference) ∙ free)));
-      second = o.second ∙ sym (other_ends f First Second reference cookie h.untaken.second
-          (λ e. false≢true (sym (ap (same_connection First) e))));
-    }
-still_own f h k Second reference cookie free o =
-    let n = name_on Second reference in
-    let es = h.untaken.second in
-    record {
-      waiting = o.waiting ∙ sym (own_still f n cookie h.waiting (none_waits h.waiting Second es reference free));
-      first = o.first ∙ sym (other_ends f Second First reference cookie h.untaken.first
-          (λ e. false≢true (sym (ap (same_connection Second) e))));
-      second = o.second ∙ sym (same_ends f Second reference cookie es
-          (or_right _ _ (sym (holds_either h.waiting Second es reference) ∙ free)));
-    }
+still_own f h k w reference cookie free o = grind (arith, own_still, none_waits, same_ends, holds_either, other_ends, false≢true, or_parts)
 
 own_ended : {K : Type 0} (f : Name → ℕ) (h : Holdings K) (k : Cookies) (via : Connection) (e : End) (cookie : ℕ)
     → cookie ≡ f (name_on via e.reference) → AreOwn f h k → AreOwn f (with_end via h e) (ended via cookie k)
-own_ended f h k First e cookie c o = record {
-  waiting = o.waiting;
-  first = end_more f First k.untaken.first h.untaken.first cookie e o.first c;
-  second = o.second;
-}
-own_ended f h k Second e cookie c o = record {
-  waiting = o.waiting;
-  first = o.first;
-  second = end_more f Second k.untaken.second h.untaken.second cookie e o.second c;
-}
+own_ended f h k w e cookie c o = grind (arith, end_more)
 
 module _ {K : Type 0} (f : Name → ℕ) (h : Holdings K) (k : Cookies) (via : Connection)
     (apart : AreApart (names h.waiting)) (o : AreOwn f h k) where
@@ -275,9 +194,7 @@ module _ {K : Type 0} (f : Name → ℕ) (h : Holdings K) (k : Cookies) (via : C
       → AreOwn f (aborting via h (Order.Abort other)) (left via place k)
   abort_owns other None e =
       let none = aborts_none (name_on via other) h.waiting (sym e) in
-      same_lists f h (aborting via h (Order.Abort other)) k k (ap (own f) none.left)
-      (ap (λ z. put via (of via h.untaken ++ option_to_list (option_map aborted_record z)) h.untaken) none.found
-      ∙ none_more via h.untaken) refl o
+      grind (arith, same_lists, none_more, none)
   abort_owns other (Some place) e =
       let gone = name_on via other in
       let found = found_at (has_name gone) h.waiting place no_record (sym e) in
@@ -296,19 +213,14 @@ module _ {K : Type 0} (f : Name → ℕ) (h : Holdings K) (k : Cookies) (via : C
   order_owns order (Some place) e = absurd (true≢false (ap is_some e))
 
   end_of_own : (command : Command) → (answered_end via h command).reference ≡ command.reference
-  end_of_own command = own_number h.settings _ _ command _
+  end_of_own command = grind arith
 
   pub arrived_owns : (command : Command) (cookie : ℕ) (q : Bool) → cookie ≡ f (name_on via command.reference)
       → AreOwn f (if q then queued via h command else with_end via (aborting via h command.order)
       (answered_end via h command)) (sent via (if q then sents.Queued command.reference
       else sents.Answered command.reference (reference_aborted via h.waiting command.order))
       (place_aborted via h.waiting command.order) cookie k)
-  arrived_owns command cookie true e = record {
-    waiting = ap (λ xs. xs ++ cookie ∷ []) o.waiting ∙ (ap (λ n. own f h.waiting ++ n ∷ []) e
-        ∙ sym (map-append (λ z. f (name_of z)) h.waiting (fresh_record via command ∷ [])));
-    first = o.first;
-    second = o.second;
-  }
+  arrived_owns command cookie true e = grind (arith, map-append)
   arrived_owns command cookie false e =
       own_ended f (aborting via h command.order) (left via (place_aborted via h.waiting command.order) k) via
       (answered_end via h command) cookie (e ∙ ap (λ n. f (name_on via n)) (sym (end_of_own command)))

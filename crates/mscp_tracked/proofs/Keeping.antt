@@ -1,6 +1,6 @@
 -- What a message keeps: every list of cookies is as long as the list beside it.
 use Rattle.mscp_controller.specs.declared.entry.Sent.TheVariants as sents
-use Rattle.mscp_tracked.proofs.Common.{Bool, true, false, List, [], ◌∷◌, ◌++◌, length, ℕ, ◌+◌, ◌<◌, ◌≤◌, ◌≡◌, ◌∙◌, refl, sym, ap, subst, arith, append-nil, ⊎_elim, Option, Some, None, Result, Ok, Err, IfSome, if◌then◌else◌, find, get_or, is_ok, is_some, unwrap_or, option_map, option_to_list, remove, position, true≢false, false≢true, length-append, length-remove, position-Some, Command, Order, IsCommand, command_of, IsValid, Connection, First, Second, Both, of, put, aborts_none, find_cases, find_first, position_first, position_none, get_or_at, End, Record, aborted_record, has_name, name_on, no_record, record_at, without, Sent, SendFault, Holdings, IsBalanced, after_message, answer_to_message, answered_end, aborting, arrives, balance_of, held_unless, is_queued, outstanding_of, queued, reference_aborted, refusal, sent_unless, taken_as, unaborted, with_end, sides_length, Cookies, CanCome, ended, left, sent, AreBeside, IsTracked, number_aborted, place_aborted}
+use Rattle.mscp_tracked.proofs.Common.{Bool, true, false, List, [], ◌∷◌, ◌++◌, length, ℕ, ◌+◌, ◌<◌, ◌≤◌, ◌≡◌, ◌∙◌, refl, sym, ap, subst, arith, append-nil, Option, Some, None, Result, Ok, Err, IfSome, if◌then◌else◌, find, get_or, is_ok, is_some, unwrap_or, option_map, option_to_list, remove, position, true≢false, false≢true, length-append, length-remove, position-Some, Command, Order, IsCommand, command_of, IsValid, Connection, Both, of, put, aborts_none, find_cases, find_first, position_first, position_none, get_or_at, End, Record, aborted_record, has_name, name_on, no_record, record_at, without, Sent, SendFault, Holdings, IsBalanced, after_message, answer_to_message, answered_end, aborting, arrives, balance_of, held_unless, is_queued, outstanding_of, queued, reference_aborted, refusal, sent_unless, taken_as, unaborted, with_end, sides_length, Cookies, CanCome, ended, left, sent, AreBeside, IsTracked, number_aborted, place_aborted}
 
 -- ---- how much there is
 -- commands that wait and ends that weren't taken are 64 at the most
@@ -22,16 +22,7 @@ some_is x y e = ap (λ o. unwrap_or o x) e
 -- what stands at the place of the first that passes is found
 pub found_at : {X : Type 0} (p : X → Bool) (xs : List X) (k : ℕ) (d : X) → position p xs ≡ Some k
     → find p xs ≡ Some (get_or xs k d)
-found_at p xs k d h =
-    ⊎_elim
-    (λ none. absurd (true≢false (ap is_some (sym h ∙ position_none p xs none))))
-    (λ some.
-    let f = some.3 in
-    let at : length some.0 ≡ k =
-    some_is _ _ (sym (position_first p some.0 some.1 some.2 f.before f.passed) ∙ (ap (position p) (sym f.is) ∙ h)) in
-    ap (find p) f.is ∙ (find_first p some.0 some.1 some.2 f.before f.passed
-    ∙ ap Some (sym (ap (λ ys. get_or ys k d) f.is ∙ get_or_at some.0 some.1 some.2 d k at))))
-    (find_cases p xs)
+found_at p xs k d h = grind (arith, true≢false, position_none, some_is, position_first, find_first, get_or_at, find_cases)
 
 -- ---- a message
 -- one that isn't refused is a command
@@ -42,36 +33,13 @@ is_command balance outstanding b h = grind arith
 
 pub unaborted_is : (via : Connection) (rs : List Record) (order : Order) (n : ℕ) → number_aborted order ≡ Some n
     → without (name_on via n) rs ≡ unaborted via rs order
-unaborted_is via rs (Order.Abort other) n e = ap (λ k. without (name_on via k) rs) (sym (some_is _ _ e))
-unaborted_is via rs order n e = absurd (false≢true (ap is_some e))
+unaborted_is via rs order n e = grind (arith, some_is, false≢true)
 
 beside_ended : {K : Type 0} (h : Holdings K) (k : Cookies) (via : Connection) (end : End) (cookie : ℕ)
     → AreBeside h k → AreBeside (with_end via h end) (ended via cookie k)
-beside_ended h k First end cookie b = record {
-  waiting = b.waiting;
-  first = omega (
-    arith,
-    b.first,
-    length-append h.untaken.first (end ∷ []),
-    length-append k.untaken.first (cookie ∷ []),
-  );
-  second = b.second;
-}
-beside_ended h k Second end cookie b = record {
-  waiting = b.waiting;
-  first = b.first;
-  second = omega (
-    arith,
-    b.second,
-    length-append h.untaken.second (end ∷ []),
-    length-append k.untaken.second (cookie ∷ []),
-  );
-}
+beside_ended h k o end cookie b = grind (arith, length-append)
 
 -- one command left those that wait, for its end
-pub less : (m n : ℕ) (m' n' : ℕ) → m' + 1 ≡ m → n' + 1 ≡ n → m ≡ n → m' ≡ n'
-less m n m' n' e f h = omega (arith, e, f, h)
-
 pub more : {X Y : Type 0} (xs : List X) (ys : List Y) (x : X) (y : Y) → length xs ≡ length ys
     → length (xs ++ x ∷ []) ≡ length (ys ++ y ∷ [])
 more xs ys x y e = omega (arith, e, length-append xs (x ∷ []), length-append ys (y ∷ []))
@@ -80,44 +48,22 @@ beside_left : {K : Type 0} (h new : Holdings K) (k : Cookies) (via : Connection)
     → place < length h.waiting → new.waiting ≡ remove h.waiting place
     → new.untaken ≡ put via (of via h.untaken ++ end ∷ []) h.untaken → AreBeside h k
     → AreBeside new (left via (Some place) k)
-beside_left h new k First place end l w u b =
-    let m = length-remove k.waiting place (omega (arith, l, b.waiting)) in
-    let n = length-remove h.waiting place l in
-    record {
-      waiting = less _ _ _ _ m n b.waiting ∙ ap length (sym w);
-      first = more k.untaken.first h.untaken.first _ end b.first ∙ ap (λ z. length z.first) (sym u);
-      second = b.second ∙ ap (λ z. length z.second) (sym u);
-    }
-beside_left h new k Second place end l w u b =
-    let m = length-remove k.waiting place (omega (arith, l, b.waiting)) in
-    let n = length-remove h.waiting place l in
-    record {
-      waiting = less _ _ _ _ m n b.waiting ∙ ap length (sym w);
-      first = b.first ∙ ap (λ z. length z.first) (sym u);
-      second = more k.untaken.second h.untaken.second _ end b.second ∙ ap (λ z. length z.second) (sym u);
-    }
+beside_left h new k o place end l w u b = grind (arith, length-remove, more)
 
 -- nothing goes to a connection
 pub none_more : {X : Type 0} (via : Connection) (both : Both (List X)) → put via (of via both ++ []) both ≡ both
-none_more First both = ap (λ xs. record { first = xs; second = both.second }) (append-nil both.first)
-none_more Second both = ap (λ xs. record { first = both.first; second = xs }) (append-nil both.second)
+none_more o both = grind (arith, append-nil)
 
 module _ {K : Type 0} (h : Holdings K) (k : Cookies) (via : Connection) where
   same_beside : (new : Holdings K) → new.waiting ≡ h.waiting → new.untaken ≡ h.untaken → AreBeside h k → AreBeside new k
-  same_beside new w u b = record {
-    waiting = b.waiting ∙ ap length (sym w);
-    first = b.first ∙ ap (λ z. length z.first) (sym u);
-    second = b.second ∙ ap (λ z. length z.second) (sym u);
-  }
+  same_beside new w u b = grind arith
 
   abort_beside : (other : ℕ) (place : Option ℕ) → place ≡ position (has_name (name_on via other)) h.waiting
       → IfSome place (λ p. remove h.waiting p ≡ without (name_on via other) h.waiting) → AreBeside h k
       → AreBeside (aborting via h (Order.Abort other)) (left via place k)
   abort_beside other None e r b =
       let none = aborts_none (name_on via other) h.waiting (sym e) in
-      same_beside (aborting via h (Order.Abort other)) none.left
-      (ap (λ o. put via (of via h.untaken ++ option_to_list (option_map aborted_record o)) h.untaken) none.found
-      ∙ none_more via h.untaken) b
+      grind (arith, same_beside, none_more, none)
   abort_beside other (Some place) e r b =
       let gone = name_on via other in
       let found = found_at (has_name gone) h.waiting place no_record (sym e) in
@@ -139,11 +85,7 @@ module _ {K : Type 0} (h : Holdings K) (k : Cookies) (via : Connection) where
         (if q then queued via h command else with_end via (aborting via h command.order) (answered_end via h command))
         (sent via (if q then sents.Queued command.reference
         else sents.Answered command.reference (reference_aborted via h.waiting command.order)) place cookie k)
-    arrived_beside true = record {
-      waiting = more k.waiting h.waiting cookie _ b.waiting;
-      first = b.first;
-      second = b.second;
-    }
+    arrived_beside true = grind (arith, more)
     arrived_beside false = beside_ended (aborting via h command.order) (left via place k) via
         (answered_end via h command) cookie (order_beside command.order place e r b)
 
@@ -155,16 +97,6 @@ module _ {K : Type 0} (h : Holdings K) (k : Cookies) (via : Connection) where
         (ok_is (sent_unless via h command None) (taken_as via h command) became refl s)
         (arrived_beside (is_queued h.settings command))
 
-  arrived_settings : (command : Command) (q : Bool) → (if q then queued via h command else with_end via
-      (aborting via h command.order) (answered_end via h command)).settings ≡ h.settings
-  arrived_settings command true = refl
-  arrived_settings command false = refl
-
-  unless_settings : (command : Command) (fault : Option SendFault)
-      → (held_unless via h command fault).settings ≡ h.settings
-  unless_settings command (Some fault) = refl
-  unless_settings command None = arrived_settings command (is_queued h.settings command)
-
 -- ---- what a message becomes
 module _ {K : Type 0} (h : Holdings K) (k : Cookies) (via : Connection) (b : List ℕ) where
   abbrev Fault : Option SendFault
@@ -172,8 +104,7 @@ module _ {K : Type 0} (h : Holdings K) (k : Cookies) (via : Connection) (b : Lis
 
   free : (fault : Option SendFault) (became : Sent) → fault ≡ Fault
       → sent_unless via h (command_of b) fault ≡ Ok became → Fault ≡ None
-  free None became e s = sym e
-  free (Some fault) became e s = absurd (false≢true (ap is_ok s))
+  free o became e s = grind (arith, false≢true)
 
   -- a message that became something is a command
   pub was_command : (became : Sent) → answer_to_message via h b ≡ Ok became → IsCommand b (command_of b)
@@ -187,14 +118,11 @@ module _ {K : Type 0} (h : Holdings K) (k : Cookies) (via : Connection) (b : Lis
       unless_beside h k via (command_of b) place cookie e r beside Fault became s
 
   pub message_settings : (after_message via h b).settings ≡ h.settings
-  message_settings = unless_settings h k via (command_of b) Fault
+  message_settings = grind arith
 
 place_inside : (via : Connection) (rs : List Record) (order : Order) (place : Option ℕ)
     → place ≡ place_aborted via rs order → IfSome place (λ p. p < length rs)
-place_inside via rs order None e = tt
-place_inside via rs (Order.Abort other) (Some p) e =
-    (position-Some (has_name (name_on via other)) rs p no_record (sym e)).0
-place_inside via rs order (Some p) e = absurd (true≢false (ap is_some e))
+place_inside via rs order o e = grind (arith, position-Some, true≢false)
 
 -- what a message becomes has room
 came : (via : Connection) (became : Sent) (place : Option ℕ) (cookie : ℕ) (k : Cookies)
@@ -202,32 +130,7 @@ came : (via : Connection) (became : Sent) (place : Option ℕ) (cookie : ℕ) (k
     → length (sent via became place cookie k).waiting + (length (sent via became place cookie k).untaken.first
     + length (sent via became place cookie k).untaken.second) ≤ 64
     → CanCome via became place k
-came via (sents.Queued reference) place cookie k l f =
-    omega (arith, f, length-append k.waiting (cookie ∷ []))
-came First (sents.Answered reference aborted) None cookie k l f =
-    omega (arith, f, length-append k.untaken.first (cookie ∷ []))
-came Second (sents.Answered reference aborted) None cookie k l f =
-    omega (arith, f, length-append k.untaken.second (cookie ∷ []))
-came First (sents.Answered reference aborted) (Some p) cookie k l f =
-    let x = get_or k.waiting p 0 in (
-      l,
-      omega (
-        arith,
-        f,
-        length-append (k.untaken.first ++ x ∷ []) (cookie ∷ []),
-        length-append k.untaken.first (x ∷ []),
-      ),
-    )
-came Second (sents.Answered reference aborted) (Some p) cookie k l f =
-    let x = get_or k.waiting p 0 in (
-      l,
-      omega (
-        arith,
-        f,
-        length-append (k.untaken.second ++ x ∷ []) (cookie ∷ []),
-        length-append k.untaken.second (x ∷ []),
-      ),
-    )
+came via o place cookie k l f = grind (arith, length-append)
 
 -- what a message keeps
 pub record Comes {K : Type 0} (new : Holdings K) (via : Connection) (became : Sent) (place : Option ℕ)

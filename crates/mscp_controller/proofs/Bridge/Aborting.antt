@@ -1,5 +1,5 @@
 -- What a message aborts: the same by records and by history.
-use Rattle.mscp_controller.proofs.Basics.{◌≡◌, ◌≢◌, ⊎_elim, ℕ, Bool, true, false, not, List, [], ◌∷◌, map, ap, sym, ◌∙◌, subst, arith, filter, find, if◌then◌else◌, Option, Some, None, option_map, option_to_list, slice_get, Ok, AllByRecursion, Command, Order, AreApart, names, Name, aborted_end, Record, aborted_record, has_name, name_of, without, Connection, name_on, same_name, differ_is, is_differ, is_same, same_is, found_once, every_from, every_mapped, every_parts, every_weaker, filter_all, filter_on, filter_map_of, find_cases, find_first, find_none, map_map, Settings, Trace, command, name, reference, waiting, good, ends_in, is_waiting, aborted_unless, named, record_aborted, reference_aborted, begun_after, unaborted, Sent, Apart, cut, waits_below}
+use Rattle.mscp_controller.proofs.Basics.{◌≡◌, ◌≢◌, ⊎_elim, ℕ, Bool, true, false, not, List, [], ◌∷◌, map, ap, sym, ◌∙◌, subst, arith, filter, find, if◌then◌else◌, Option, Some, None, option_map, option_to_list, slice_get, Ok, AllByRecursion, Command, Order, AreApart, names, Name, aborted_end, Record, aborted_record, has_name, name_of, without, Connection, name_on, same_name, differ_is, is_differ, is_same, same_is, found_once, every_from, every_mapped, every_parts, every_weaker, filter_all, filter_on, filter_map_of, find_cases, find_first, find_none, map_map, Settings, Trace, command, name, reference, waiting, good, ends_in, is_waiting, named, record_aborted, reference_aborted, begun_after, unaborted, Sent, Apart, cut, waits_below}
 use Rattle.mscp_controller.specs.declared.entry.Entry.TheVariants as entries
 use Rattle.mscp_controller.specs.Ends as history
 use Rattle.mscp_controller.proofs.Bridge.Held.{held_of}
@@ -22,14 +22,10 @@ named_held via t ws (Order.Abort other) a e = sym (filter_map_of (held_of t)
     ∙ found_once (name_on via other) ws (subst (λ rs. AreApart (names rs)) (sym e) (apart_held t (waiting t) a)))
 named_held via t ws o h4 h5 = grind arith
 
-unnamed : (via : Connection) (t : Trace) (o : Order) (fault : Option ℕ) → named via t o ≡ []
-    → aborted_unless via t o fault ≡ []
-unnamed via t o fault h4 = grind arith
-
 aborted_held : (c : Settings) (via : Connection) (t : Trace) (ws : List Record) (k : Command) → Apart t (waiting t)
     → ws ≡ map (held_of t) (waiting t) → map (held_of t) (history.aborted c via t k)
     ≡ option_to_list (record_aborted via ws k.order)
-aborted_held c via t ws k a e = search (arith, named_held, held_of, unnamed)
+aborted_held c via t ws k a e = grind (arith, named_held)
 
 -- ---- what is told of it
 abbrev first_reference : List Record → ℕ
@@ -45,8 +41,7 @@ first_held t xs o h3 = grind arith
 pub reference_told : (c : Settings) (via : Connection) (t : Trace) (ws : List Record) (k : Command)
     → Apart t (waiting t) → ws ≡ map (held_of t) (waiting t)
     → option_map (reference t) (slice_get (history.aborted c via t k) 0) ≡ reference_aborted via ws k.order
-reference_told c via t ws k a e = first_held t (history.aborted c via t k) (record_aborted via ws k.order)
-    (aborted_held c via t ws k a e)
+reference_told c via t ws k a e = grind (arith, first_held, aborted_held)
 
 mapped_option : (o : Option Record) → map aborted_record (option_to_list o)
     ≡ option_to_list (option_map aborted_record o)

@@ -1,5 +1,5 @@
 -- What is begun when one more call comes.
-use Rattle.mscp_controller.proofs.Bridge.Basics.{◌≡◌, ℕ, ◌+◌, ◌<◌, ◌≤◌, Bool, true, false, not, List, [], ◌∷◌, ◌++◌, take, drop, length, refl, ap, sym, ◌∙◌, subst, append_assoc, append-nil, arith, if◌then◌else◌, is_some, nat_eq, unwrap_or, Option, Some, None, list_any, and_parts, true≢false, drop-append-le, drop_all, get_or_append_left, get_or_at, length-append, length_push, take-append-drop, take-append-le, take_at, list_any-append, flat_map-append, Upcoming, Choice, Name, Settings, Trace, ends_in, is_waiting, name, waiting, IsLegal, IsPick, Call, HoldsToBegun, IsBegunSince, IsRightCall, NothingBegun, StartsChosen, call_at, foretold, history, moments_of, steps, upcoming_in, upcoming_name, Begin, Holdings, Apart, one_waits, is_waiting_before, cut, waits_below, Agrees}
+use Rattle.mscp_controller.proofs.Bridge.Basics.{◌≡◌, ℕ, ◌<◌, ◌≤◌, Bool, true, false, List, [], ◌∷◌, ◌++◌, take, drop, length, refl, ap, sym, ◌∙◌, subst, append_assoc, append-nil, arith, if◌then◌else◌, is_some, nat_eq, Option, Some, None, and_parts, true≢false, drop-append-le, drop_all, get_or_append_left, get_or_at, length-append, length_push, take-append-drop, take-append-le, take_at, list_any-append, flat_map-append, Upcoming, Choice, Name, Settings, Trace, is_waiting, name, waiting, IsLegal, IsPick, Call, HoldsToBegun, IsBegunSince, IsRightCall, NothingBegun, StartsChosen, call_at, foretold, history, moments_of, steps, upcoming_in, upcoming_name, Begin, Holdings, Apart, one_waits, is_waiting_before, cut, waits_below, Agrees}
 
 -- ---- one more call
 pub history_more : (calls : List Call) (call : Call) → history (calls ++ call ∷ []) ≡ history calls ++ moments_of call
@@ -19,12 +19,6 @@ shorter calls j =
     omega (arith, ap length cut, length-append (history (take j calls)) (history (drop j calls)))
 
 -- what waits waited before, if it had come
-waits_before : (t ms : Trace) (y : ℕ) → y < length t → is_waiting (t ++ ms) y ≡ true → is_waiting t y ≡ true
-waits_before t [] y l w = subst (λ u. is_waiting u y ≡ true) (append-nil t) w
-waits_before t (m ∷ ms) y l w = (and_parts (is_waiting t y)
-    (not (ends_in (name t y) m.1)) (sym (is_waiting_before t m y l) ∙ (waits_before (t ++ m ∷ []) ms
-    y (omega (arith, l, length_push t m)) (subst (λ u. is_waiting u y ≡ true) (sym (append_assoc t (m ∷ []) ms)) w)))).0
-
 -- what the last call began
 pub record Last (calls : List Call) (call : Call) (up : Upcoming) (y : ℕ) : Type 0 where
   pub told : upcoming_in call ≡ Some up
@@ -34,20 +28,7 @@ pub record Last (calls : List Call) (call : Call) (up : Upcoming) (y : ℕ) : Ty
 -- either is known of what is begun after one more call
 pub either : (X : Type 0) (calls : List Call) (call : Call) (up : Upcoming) (y j : ℕ) → (IsBegunSince calls up y j
     → steps call ≡ false → X) → (Last calls call up y → X) → IsBegunSince (calls ++ call ∷ []) up y j → X
-either X calls call up y j before last b = search (
-  arith,
-  length-append,
-  front_same,
-  drop-append-le,
-  list_any-append,
-  shorter,
-  history_more,
-  waits_below,
-  waits_before,
-  take_at,
-  call_last,
-  get_or_append_left,
-)
+either o calls call up y j before last b = grind (arith, length-append, front_same, drop-append-le, list_any-append, shorter, history_more, waits_below, take_at, call_last, get_or_append_left, append-nil, and_parts, is_waiting_before, length_push, append_assoc)
 
 -- what was begun is begun after a call that is no step, where it still waits
 pub begun_more : (calls : List Call) (call : Call) (up : Upcoming) (y j : ℕ) → IsBegunSince calls up y j
@@ -113,8 +94,7 @@ holds_on c picks calls call (Some n) o' s q stay link none h =
             own = b.own;
             only = λ up' y' j' k. either ((y' ≡ y) × (up' ≡ up)) calls call up' y' j' (λ m z. b.only up' y' j' m)
                 (λ l. absurd (untold call up' q l.told)) k;
-            chosen = λ d. subst (λ cs. IsPickThen c picks cs n)
-                (sym (front_same calls call j b.is.inside)) (b.chosen d);
+            chosen = grind (arith, front_same, calls, j, b);
           } in
           (up, y, j, on)
       | false ↦ λ e up' y' j' k.
@@ -130,13 +110,10 @@ nothing_stepped calls call s q up y j b = either ⊥ calls call up y j (λ k z. 
     (λ l. untold call up q l.told) b
 
 -- a begin that tells of y
-some_is : (up up' : Upcoming) → Some up ≡ Some up' → up' ≡ up
-some_is up up' e = ap (λ o. unwrap_or o up) (sym e)
-
 last_same : (calls : List Call) (up up' : Upcoming) (y y' : ℕ) → Apart (history calls) (waiting (history calls))
     → is_waiting (history calls) y ≡ true → up ≡ foretold (history calls) y → Last calls (Begin (Some up)) up' y'
     → (y' ≡ y) × (up' ≡ up)
-last_same calls up up' y y' apart w e l = search (arith, some_is up up' l.told, one_waits)
+last_same calls up up' y y' apart w e l = grind (arith, one_waits)
 
 -- a begin is no moment
 pub begin_same : (calls : List Call) (upcoming : Option Upcoming)
@@ -154,14 +131,7 @@ module _ (c : Settings) (picks : PicksThen) (calls : List Call) (n : Name) (up :
       let j = length calls in
       let same = begin_same calls (Some up) in
       let front : take j calls' ≡ calls = take_at calls (call ∷ []) j refl in
-      let is : IsBegunSince calls' up y j = record {
-        inside = omega (arith, length-append calls (call ∷ []));
-        told = ap upcoming_in (call_last calls call);
-        own = e ∙ ap (λ cs. foretold (history cs) y) (sym front);
-        waited = subst (λ cs. is_waiting (history cs) y ≡ true) (sym front) w;
-        unstepped = ap (list_any steps) (drop_all (j + 1) calls' (omega (arith, length-append calls (call ∷ []))));
-        waits = subst (λ u. is_waiting u y ≡ true) (sym same) w;
-      } in
+      let is : IsBegunSince calls' up y j = grind (arith, length-append, call_last, steps, drop_all, call, calls, j, same, front) in
       let all : Begun c picks calls' n up y j = record {
         is = is;
         now = e ∙ ap (λ u. foretold u y) (sym same);

@@ -1,5 +1,5 @@
 -- Every call of a controller that somebody holds is answered right, and what was begun is held to.
-use Rattle.mscp_controller.proofs.Bridge.Basics.{◌≡◌, ℕ, ◌<◌, Bool, true, false, not, List, [], ◌∷◌, ◌++◌, map, refl, ap, sym, ◌∙◌, subst, append_assoc, append-nil, arith, IfSome, if◌then◌else◌, Option, Some, None, Result, Ok, Err, false≢true, Command, command_of, Block, Report, Upcoming, Choice, Line, Name, Connection, name_on, same_name, is_begun, Event, Entry, SendFault, NotBegun, Settings, IsValid, refusal, Trace, Moment, Service, is_step, service_in, ends_in, is_waiting, name, waiting, IsLegal, IsServed, block_of, Answers, Finishes, Holdings, Steps, balance_of, fresh, held_unless, outstanding_of, sent_unless, AnswersCall, AtEachCall, Begin, Call, Finish, HoldsToBegun, IsAsTold, IsBegun, IsBegunSince, IsChosen, IsRightCall, Plain, StartsChosen, foretold, history, start_of, upcoming_name, differ_is, same_is, each_push, one_waits, command_before, connection_before, is_waiting_before, done_kept, waits_below, owner_kept, unbegun_kept, legal_more, held_of, Agrees}
+use Rattle.mscp_controller.proofs.Bridge.Basics.{◌≡◌, ℕ, ◌<◌, Bool, true, false, not, List, [], ◌∷◌, ◌++◌, map, refl, ap, sym, ◌∙◌, subst, append_assoc, append-nil, arith, IfSome, if◌then◌else◌, Option, Some, None, Result, Ok, Err, false≢true, Command, command_of, Block, Report, Upcoming, Choice, Name, Connection, name_on, same_name, is_begun, Event, Entry, SendFault, NotBegun, Settings, IsValid, refusal, Trace, Moment, Service, is_step, service_in, ends_in, is_waiting, name, waiting, IsLegal, IsServed, block_of, Answers, Finishes, Holdings, Steps, balance_of, fresh, held_unless, outstanding_of, sent_unless, AnswersCall, AtEachCall, Begin, Call, Finish, HoldsToBegun, IsAsTold, IsBegun, IsBegunSince, IsChosen, IsRightCall, Plain, StartsChosen, history, start_of, upcoming_name, differ_is, same_is, each_push, one_waits, command_before, connection_before, is_waiting_before, done_kept, waits_below, owner_kept, unbegun_kept, legal_more, held_of, Agrees}
 use Rattle.mscp_controller.proofs.Promise.States.{is_online_kept}
 use Rattle.mscp_controller.proofs.Bridge.Aborting.{begun_left}
 use Rattle.mscp_controller.proofs.Bridge.Begun.{PicksThen, Held, IsPickThen, Turned, none_waits, Holds, history_more, holds_on, nothing_stepped, name_begun}
@@ -19,18 +19,7 @@ quiet : {K : Type 0} (c : Settings) (picks : PicksThen) (calls : List Call)
     → IsLegal c (history calls) → service_in entry ≡ None → is_step event ≡ false → IsLeft h h' (history calls) entry
     → (h.begun ≡ None → h'.begun ≡ None) → Holds c picks calls h.begun → Turned c picks calls (Plain event entry) h'
 unfolding block_of
-quiet c picks calls event entry h h' turn legal e s left none holds = search (
-  arith,
-  history_more,
-  waits_below,
-  legal_more,
-  holds_on,
-  command_before,
-  done_kept,
-  connection_before,
-  is_waiting_before,
-  is_online_kept,
-)
+quiet c picks calls event entry h h' turn legal e s left none holds = grind (arith, history_more, waits_below, legal_more, holds_on, command_before, done_kept, connection_before, is_waiting_before, is_online_kept)
 
 -- what is begun after a message
 begun_unless : {K : Type 0} (via : Connection) (h : Holdings K)
@@ -59,8 +48,7 @@ module _ {K : Type 0} (c : Settings) (picks : PicksThen) (calls : List Call) (k 
       } in
       let own = b.1.3 in
       let some = turn.sends.right in
-      let same : some.0 ≡ b.1.1 = one_waits t some.0 b.1.1 a.follows.known.steady.apart some.1.waits own.is.waits
-      (sym (λ i. name_on (some.1.connection i) (some.1.reference i)) ∙ (turn.same n b.0 ∙ sym (name_begun own))) in
+      let same : some.0 ≡ b.1.1 = grind (arith, one_waits, name_begun, t, own, some) in
       let v : IsServed c t k s b.1.1 = subst (IsServed c t k s) same some.1 in
       let told : IsAsTold b.1.0 s = search arith in
       subst (λ u. IsAsTold u s) (sym (own.only up y j is).1) told
@@ -68,23 +56,18 @@ module _ {K : Type 0} (c : Settings) (picks : PicksThen) (calls : List Call) (k 
   starts_chosen : (report : Report) (h h' : Holdings K) (o : Option Name) → Agrees c (history calls) h
       → Held c picks calls h o → Turns c (picks calls) (history calls) (Event.Step k, Entry.Stepped report) h.begun h'
       → IfSome (start_of (service_in (Entry.Stepped report))) (IsChosen (IsPickThen c picks) calls)
-  starts_chosen Report.Idle h h' o a b turn = tt
-  starts_chosen (Report.Served via' reference' unit' lbn false seek e') h h' o a b turn = tt
-  starts_chosen (Report.Served via' reference' unit' lbn true seek e') h h' None a b turn = search arith
   starts_chosen (Report.Served via' reference' unit' lbn true seek e') h h' (Some n) a b turn =
       let same : name_on via' reference' ≡ n = turn.same n b.0 in
       let told = as_told
       (Report.Served via' reference' unit' lbn true seek e') h h' (Some n) a b turn b.1.0 b.1.1 b.1.2 b.1.3.is in
       search arith
+  starts_chosen w h h' o a b turn = grind arith
 
   -- after a step nothing is begun
   unbegun_after : (report : Report) (h h' : Holdings K) (o : Option Name) → Held c picks calls h o
       → Turns c (picks calls) (history calls) (Event.Step k, Entry.Stepped report) h.begun h'
       → Steps (picks calls) k h report h' → h'.begun ≡ None
-  unbegun_after Report.Idle h h' None b turn s = ap (λ (l : Line K). l.begun) s.serves.2 ∙ b.0
-  unbegun_after Report.Idle h h' (Some n) b turn s =
-      absurd (none_waits (history calls) b.1.1 turn.sends.right b.1.3.is.waits)
-  unbegun_after (Report.Served via' reference' unit' lbn b' seek e') h h' o b turn s = search arith
+  unbegun_after w h h' o b turn s = grind (arith, none_waits)
 
   stepped : (report : Report) (h h' : Holdings K) (o : Option Name) → Agrees c (history calls) h → IsLegal c
       (history calls) → Held c picks calls h o
@@ -179,9 +162,7 @@ module _ {K : Type 0} (picks : PicksThen) where
         begun = λ up y j is. differ_is (upcoming_name up)
             (name_on via number) (only_begun c picks calls via number h.begun false r.0 b up y j is);
         picked = tt;
-        holds = holds_on c picks calls call h.begun h'.begun refl refl (λ y w. ap (λ u. foretold u y) same)
-            (λ n y e w own. held ∙ (e ∙ ap (λ b. if b then Some n else None) (sym (ap (λ u. is_waiting u y) same ∙ w))))
-            (λ n. held ∙ n) b;
+        holds = grind (arith, holds_on, c, call, same, held);
       }
 
   -- ---- every call
@@ -189,9 +170,7 @@ module _ {K : Type 0} (picks : PicksThen) where
       → IsValid h.settings → Agrees h.settings (history calls) h → IsLegal h.settings (history calls)
       → Holds h.settings picks calls h.begun → AnswersCall (picks calls) h call h'
       → Turned h.settings picks calls call h'
-  turned calls (Plain event entry) h h' v a legal b r = plain picks calls event entry h h' v a legal b r
-  turned calls (Begin upcoming) h h' v a legal b r = begin picks calls upcoming h h' a legal b r
-  turned calls (Finish via number k answer) h h' v a legal b r = finish calls via number k answer h h' v a legal b r
+  turned calls o h h' v a legal b r = grind (arith, plain, begin, finish)
 
 module _ {K : Type 0} (picks : List Choice → ℕ → Type 0) (h h' : Holdings K) (call : Call) where
   settings_kept : AnswersCall picks h call h' → h'.settings ≡ h.settings

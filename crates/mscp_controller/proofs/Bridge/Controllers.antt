@@ -1,5 +1,5 @@
 -- A controller of a picker keeps the promise, and a run has it.
-use Rattle.mscp_controller.proofs.Common.{◌≡◌, inl, inr, ℕ, ◌-◌, ◌+◌, ◌++◌, ◌∷◌, [], List, take, length, ap, ◌∙◌, arith, IfSome, Option, Some, None, Choice, figure_of_name, Name, name_of, holders_of_name, names, map_map, Event, Entry, Settings, IsValid, credits_of, of, Answered, Holdings, fresh, waiting_on, IsRun, IsPick, IsSwept, AnsweredCalls, AtEachCall, Call, IsChosen, StartsChosen, Trace, call_at, view, history, starts, KeepsPromise, waiting}
+use Rattle.mscp_controller.proofs.Common.{◌≡◌, ℕ, ◌++◌, ◌∷◌, [], List, ap, ◌∙◌, arith, Choice, figure_of_name, Name, name_of, holders_of_name, names, map_map, Event, Entry, Settings, IsValid, Answered, Holdings, fresh, IsRun, IsPick, IsSwept, AnsweredCalls, AtEachCall, Call, StartsChosen, Trace, view, history, KeepsPromise, waiting}
 use Rattle.mscp_controller.proofs.Bridge.Swept.{sweeping, swept_pick}
 use Rattle.mscp_controller.proofs.Bridge.Basics.{figure_of_held, held_of, balance_held}
 use Rattle.mscp_controller.proofs.Bridge.Holders.{holders_of_held, startable_unheld}
@@ -22,20 +22,10 @@ new_runs {K} c picks picker new es ns h v e r = search (arith, runs)
 
 -- ---- whoever calls
 -- what was chosen where one relation allowed it was chosen where a weaker one does
-chosen_weaker : (R S : List Call → Name → Type 0) → ((so_far : List Call) (n : Name) → R so_far n → S so_far n)
-    → (so_far : List Call) (n : Name) → IsChosen R so_far n → IsChosen S so_far n
-chosen_weaker R S w so_far n (inl h) = inl (h.0, w so_far n h.1)
-chosen_weaker R S w so_far n (inr h) = inr (h.0, h.1, h.2, h.3, h.4, w (take h.2 so_far) n h.5)
-
-starts_weaker : (R S : List Call → Name → Type 0) → ((so_far : List Call) (n : Name) → R so_far n → S so_far n)
-    → (so_far : List Call) (o : Option Name) → IfSome o (IsChosen R so_far) → IfSome o (IsChosen S so_far)
-starts_weaker R S w so_far None h = tt
-starts_weaker R S w so_far (Some n) h = chosen_weaker R S w so_far n h
-
 -- the same at each call
 pub each_weaker : (R S : List Call → Name → Type 0) → ((so_far : List Call) (n : Name) → R so_far n → S so_far n)
     → (calls : List Call) → AtEachCall calls (StartsChosen R) → AtEachCall calls (StartsChosen S)
-each_weaker R S w calls h = λ i l. starts_weaker R S w (take i calls) (starts (call_at calls i)) (h i l)
+each_weaker o y w calls h = grind arith
 
 -- what a picker may pick that allows no more
 pick_weaker : (c : Settings) (picks allowed : List Choice → ℕ → Type 0)
@@ -69,8 +59,7 @@ keeps_then c picks allowed picker calls h v w k =
       kept_back = λ name. ap (λ ws. holders_of_name c.budget ws name) f.waits ∙ holders_of_held c t name;
       unheld = λ x l idle. startable_unheld c t x idle;
       drives = k.agrees.driven.drives;
-      balance = λ via. ap (λ (s : Settings). credits_of s via - (length (waiting_on via h.waiting) + length
-          (of via h.untaken))) k.settings ∙ balance_held c via t h.waiting h.untaken f;
+      balance = grind (arith, balance_held, t, f);
     }
 
 -- where one picker picks all the time

@@ -1,5 +1,5 @@
 -- How many commands of each connection wait.
-use Rattle.mscp_controller.proofs.Basics.{◌≡◌, ℕ, ◌+◌, ◌<◌, Bool, true, false, not, ◌&&◌, List, [], ◌∷◌, ◌++◌, map, length, take, drop, ap, refl, arith, if◌then◌else◌, option_to_list, Option, and-false, true≢false, length-append, filter-append, End, Block, Connection, First, Second, Report, Choice, Line, Serves, name_on, same_connection, Record, no_record, passed_by, record_at, remains, without, every_from, filter_filter, filter_on, one_side, other_side, cut_at, ends_reported, waiting_on, sides_length}
+use Rattle.mscp_controller.proofs.Basics.{◌≡◌, ℕ, ◌+◌, ◌<◌, false, List, [], ◌∷◌, ◌++◌, map, length, take, drop, ap, refl, arith, if◌then◌else◌, option_to_list, Option, and-false, true≢false, length-append, filter-append, End, Block, Connection, First, Second, Report, Choice, Line, Serves, name_on, same_connection, Record, no_record, passed_by, record_at, remains, without, every_from, filter_filter, filter_on, one_side, other_side, cut_at, ends_reported, waiting_on, sides_length}
 
 -- ---- a step
 passed_count : (n : ℕ) (via : Connection) (rs : List Record)
@@ -43,13 +43,9 @@ count_stepped {K} via picks k old (Report.Served connection reference unit lbn s
 -- ---- a command comes
 -- ---- a command is aborted
 -- the others keep their commands
-apart_and : (here there n : Bool) → (there ≡ true → here ≡ false) → (not (here && n) && there) ≡ there
-apart_and here there n h3 = grind (arith, true≢false, and-false, not)
-
 pub other_count : (via other : Connection) (n : ℕ) (ws : List Record) → same_connection via other ≡ false
     → length (waiting_on other (without (name_on via n) ws)) ≡ length (waiting_on other ws)
-other_count via other n ws d =
-    search (arith, other_side via other d, not, filter_filter, filter_on, every_from, apart_and, one_side)
+other_count via other n ws d = grind (arith, other_side, filter_filter, filter_on, every_from, one_side, true≢false, and-false)
 
 -- and its own connection one less
 pub own_count : (via : Connection) (n : ℕ) (ws : List Record) → length (without (name_on via n) ws) + 1 ≡ length ws

@@ -59,8 +59,7 @@ driven_fresh c = search (arith, map_on, every_from, is_online_empty, head_empty)
 
 pub driven_kept : (c : Settings) (t : Trace) (m : Moment) (ds : List Drive) → service_in m.1 ≡ None
     → IsRight c t m.0 m.1 → Driven c t ds → Driven c (t ++ m ∷ []) ds
-driven_kept c t m ds n r d =
-    search (arith, configured_more c t m r d.configured, map_on, every_from, is_online_kept, head_kept)
+driven_kept c t m ds n r d = grind (arith, configured_more, map_on, every_from, is_online_kept, head_kept)
 
 -- ---- a step
 -- a record's end is its command's

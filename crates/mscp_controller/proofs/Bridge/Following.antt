@@ -1,5 +1,5 @@
 -- Every answer is right and picked, and what is then held is that of the run.
-use Rattle.mscp_controller.proofs.Bridge.Basics.{◌≡◌, ℕ, suc, ◌≤◌, true, List, [], ◌∷◌, ◌++◌, map, drop, length, refl, ap, sym, ◌∙◌, subst, append-nil, arith, zip, slice_get, Option, Some, None, option_map, append_assoc, ArrayVec, End, end_bytes, Connection, Block, Report, Choice, figures, Line, Event, Entry, Settings, IsValid, Both, of, put, Trace, Moment, collect, takes, waiting, ends, untaken, IsLegal, IsPicked, IsRight, Answered, Answers, Holdings, Steps, after_take, fresh, owner_kept, unbegun_kept, legal_more, picked_more, known_empty, held_of, figures_held, untaken_taken, driven_fresh, Agrees, IsUntaken, Sends, ends_on, ends_stay, quiet, sends}
+use Rattle.mscp_controller.proofs.Bridge.Basics.{◌≡◌, ℕ, suc, ◌≤◌, List, [], ◌∷◌, ◌++◌, map, drop, length, refl, ap, sym, ◌∙◌, subst, append-nil, arith, zip, slice_get, Option, Some, None, option_map, append_assoc, ArrayVec, End, end_bytes, Connection, Block, Report, Choice, figures, Line, Event, Entry, Settings, IsValid, Both, of, put, Trace, Moment, collect, waiting, ends, untaken, IsLegal, IsPicked, IsRight, Answered, Answers, Holdings, Steps, after_take, fresh, owner_kept, unbegun_kept, legal_more, picked_more, known_empty, held_of, figures_held, untaken_taken, driven_fresh, Agrees, IsUntaken, Sends, ends_on, ends_stay, quiet, sends}
 use Rattle.mscp_controller.proofs.Bridge.Stepped.{Turns, of_after, turns_at}
 
 -- ---- a look
@@ -18,13 +18,9 @@ abbrev taking : Connection → Option End → Moment
 taking via end = (Event.Take via, Entry.Taken via (option_map (λ e. record { items = end_bytes e }) end))
 
 -- the ends that are then held, where these are the connection's
-rest_held : {K : Type 0} (via : Connection) (h : Holdings K) (t : Trace) (u : End) → Agrees h.settings t h → takes via
-    (taking via (Some u)).1 ≡ true → drop 1 (of via h.untaken) ≡ untaken h.settings via (t ++ taking via (Some u) ∷ [])
-rest_held via h t u a n = search (arith, untaken_taken h.settings via t (taking via (Some u)) n refl)
-
 all_held : {K : Type 0} (via : Connection) (h : Holdings K) (t : Trace) (u : End) → Agrees h.settings t h
     → IsUntaken h t (taking via (Some u)) (after_take via h)
-all_held via h t u h4 h5 = grind (arith, rest_held, ends_stay)
+all_held via h t u h4 h5 = grind (arith, ends_stay, untaken_taken)
 
 put_same : (via : Connection) (us : Both (List End)) → of via us ≡ [] → put via (drop 1 (of via us)) us ≡ us
 put_same via us h2 = grind arith

@@ -23,8 +23,7 @@ pub record Follows (c : Settings) (t : Trace) (ws : List Record) (us : Both (Lis
 -- ---- figures
 working_held : (t : Trace) (B : List ℕ) → sum_by left_of (filter is_in_service (map (held_of t) B))
     ≡ sum_by (left t) (filter (in_service t) B)
-working_held t B = ap (sum_by left_of) (filter_map_of (held_of t) is_in_service B)
-    ∙ sum_by_map (held_of t) left_of (filter (in_service t) B)
+working_held t o = grind (arith, filter_map_of, sum_by_map)
 
 -- the figure of a record is that of its command
 figure_held : (c : Settings) (t : Trace) (A : List ℕ) (x : ℕ) (B : List ℕ) → waiting t ≡ A ++ x ∷ B

@@ -1,5 +1,5 @@
 -- What each call keeps of what a controller holds.
-use Rattle.mscp_controller.proofs.Basics.{◌≡◌, ℕ, ◌+◌, ◌-◌, ◌<◌, ◌≤◌, List, [], ◌∷◌, map, length, drop, ap, refl, sym, subst, ◌∙◌, arith, slice_get, Option, Some, None, IfSome, is_some, false≢true, AllByRecursion, length-append, length-drop, End, IsOfKind, Shape, Block, Connection, First, Second, Name, Report, Choice, fresh_drive, units_of, Line, Serves, name_on, Record, without, end_in, every_append, Account, Accounts, CanEnd, account, put_account, reported, taken, untaken_in, Settings, IsValid, credits_of, room, waiting_on, of, IsAccount, IsHeld, each_account, seen_of, some_same, sides_length}
+use Rattle.mscp_controller.proofs.Basics.{◌≡◌, ℕ, ◌+◌, ◌-◌, ◌<◌, ◌≤◌, List, [], ◌∷◌, map, length, drop, ap, refl, sym, subst, ◌∙◌, arith, slice_get, Option, Some, IfSome, is_some, false≢true, AllByRecursion, length-append, length-drop, End, IsOfKind, Shape, Block, Connection, First, Second, Name, Report, Choice, fresh_drive, units_of, Line, Serves, name_on, Record, without, end_in, every_append, Account, Accounts, CanEnd, account, put_account, reported, taken, untaken_in, Settings, IsValid, credits_of, room, waiting_on, of, IsAccount, IsHeld, each_account, seen_of, some_same, sides_length}
 use Rattle.mscp_controller.specs.Accounts.{fresh, left}
 use Rattle.mscp_queue.specs.Lines as lines
 use Rattle.mscp_controller.proofs.Bridge.Counting.{count_stepped, other_count, own_count}
@@ -42,10 +42,9 @@ few_of c via h2 = grind arith
 -- there is room for the end that a step brings, and its command is counted
 pub can_end : {K : Type 0} (c : Settings) (picks : List Choice → ℕ → Type 0) (k : Block) (old : Line K)
     (report : Report) (new : Line K) (a : Accounts) → IsHeld c old a → Serves picks k old report new → CanEnd report a
-can_end c picks k old Report.Idle new a h s = tt
-can_end c picks k old (Report.Served via reference unit lbn started seek None) new a h s = tt
 can_end c picks k old (Report.Served via reference unit lbn started seek (Some end)) new a h s =
     search (arith, count_stepped via picks k old (Report.Served via reference unit lbn started seek (Some end)) new s)
+can_end c picks k old o new a h s = grind arith
 
 pub held_stepped : {K : Type 0} (c : Settings) (picks : List Choice → ℕ → Type 0) (k : Block)
     (old : Line K) (report : Report) (new : Line K) (a : Accounts) → IsHeld c old a → Serves picks k old report new

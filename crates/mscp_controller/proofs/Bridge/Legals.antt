@@ -1,10 +1,5 @@
--- A run whose moments are right one by one is legal.
-use Rattle.mscp_controller.proofs.Common.{◌≡◌, ℕ, ◌<◌, true, ◌||◌, ◌&&◌, List, [], ◌∷◌, ◌++◌, map, take, drop, length, ap, sym, subst, arith, append-nil, if◌then◌else◌, nat_eq, option_map, slice_get, slice_index_or, None, Option, Some, and_parts, false≢true, append_assoc, command_of, end_bytes, Block, First, Settings, Trace, Moment, moment, collect, Service, service_in, WhenStarted, balance, ends, outstanding, untaken, command, connection, reference, service_name, unit, is_waiting, waiting, done, good, in_service, arrival, answer, outcome, figure, figure_of, is_free, is_startable, passed, passed_at, startable, head_cylinder, head_up, is_online, Choice, IsPick, IsPicked, IsRight, IsLegal, IsServed, block_of, seek_to, end_of, shown, Event, Entry, each_push, Report}
-
--- each moment is right after those before it
-abbrev pub RightFrom : Settings → Trace → Trace → Type 0
-RightFrom c t [] = Unit {0}
-RightFrom c t (m ∷ ms) = IsRight c t m.0 m.1 × RightFrom c (t ++ m ∷ []) ms
+-- A run with one more right moment is legal, and what a step says where it serves a command.
+use Rattle.mscp_controller.proofs.Common.{◌≡◌, ℕ, ◌<◌, true, ◌||◌, ◌&&◌, List, [], ◌∷◌, ◌++◌, map, take, drop, length, arith, if◌then◌else◌, nat_eq, option_map, slice_get, slice_index_or, None, Option, Some, command_of, end_bytes, Block, First, Settings, Trace, Moment, moment, collect, Service, service_in, WhenStarted, balance, ends, outstanding, untaken, command, connection, reference, service_name, unit, is_waiting, waiting, done, good, in_service, arrival, answer, outcome, figure, figure_of, is_free, is_startable, passed, passed_at, startable, head_cylinder, head_up, is_online, Choice, IsPick, IsPicked, IsRight, IsLegal, IsServed, block_of, seek_to, end_of, shown, Event, Entry, each_push, Report}
 
 -- What holds at each moment, with one more.
 each_more : (R : Trace → Moment → Type 0) (t : Trace) (m : Moment) → ((i : ℕ) → i < length t → R (take i t)
@@ -21,14 +16,6 @@ pub picked_more : (c : Settings) (picks : List Choice → ℕ → Type 0) (t : T
     → WhenStarted (λ s. IsPick c picks t (service_name s)) (service_in m.1) → IsPicked c picks (t ++ m ∷ [])
 picked_more c picks t m l r = each_more (λ u n. WhenStarted (λ s. IsPick c picks u (service_name s)) (service_in n.1)) t
     m l r
-
-pub legal_onto : (c : Settings) (t ms : Trace) → IsLegal c t → RightFrom c t ms → IsLegal c (t ++ ms)
-legal_onto c t [] l r = subst (IsLegal c) (sym (append-nil t)) l
-legal_onto c t (m ∷ ms) l r = subst (IsLegal c) (append_assoc t (m ∷ []) ms)
-    (legal_onto c (t ++ m ∷ []) ms (legal_more c t m l r.0) r.1)
-
-pub legal_from : (c : Settings) (ms : Trace) → RightFrom c [] ms → IsLegal c ms
-legal_from c ms r = legal_onto c [] ms (λ i h. absurd (omega (arith, h))) r
 
 -- all that a step says where it serves y
 abbrev pub service_by : Settings → Trace → Block → ℕ → Service
@@ -76,24 +63,3 @@ unfolding moment collect command_of command is_waiting waiting done good passed_
 answers_by c t [] ys = []
 answers_by c t (m ∷ ms) ys =
     answer_by c t m.0 (slice_index_or ys 0 0) ∷ answers_by c (t ++ m ∷ []) ms (still_served t m.0 ys)
-
-right_step : (c : Settings) (t : Trace) (k : Block) (y : ℕ) (a : Entry) (ws : List ℕ) → waiting t ≡ ws
-    → step_by c t k y ws ≡ Some a → IsRight c t (Event.Step k) a
-right_step c t k y a ws h6 h7 = grind (arith, and_parts, by_serving, false≢true)
-
-right_by : (c : Settings) (t : Trace) (e : Event) (y : ℕ) (a : Entry) → answer_by c t e y ≡ Some a → IsRight c t e a
-right_by c t e y a h5 = grind (arith, right_step)
-
-right_from : (c : Settings) (t ms : Trace) (ys : List ℕ) → answers_by c t ms ys ≡ map (λ m. Some m.1) ms
-    → RightFrom c t ms
-unfolding answers_by
-right_from c t [] ys h = tt
-right_from c t (m ∷ ms) ys h = (
-  right_by c t m.0 (slice_index_or ys 0 0) m.1 (ap (λ l. slice_index_or l 0 None) h),
-  right_from c (t ++ m ∷ []) ms (still_served t m.0 ys) (ap (λ l. drop 1 l) h),
-)
-
--- A run is legal if each moment has the answer that is computed after those before it, where its steps serve these
--- commands.
-pub legal_by : (c : Settings) (ms : Trace) (ys : List ℕ) → answers_by c [] ms ys ≡ map (λ m. Some m.1) ms → IsLegal c ms
-legal_by c ms ys h = legal_from c ms (right_from c [] ms ys h)

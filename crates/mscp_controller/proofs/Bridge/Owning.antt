@@ -1,5 +1,5 @@
 -- What no event changes: the settings and the picker, and that nothing is begun.
-use Rattle.mscp_controller.proofs.Common.{◌≡◌, List, ℕ, ap, sym, subst, ◌∙◌, arith, Option, None, Command, command_of, Block, Connection, Report, Choice, Line, Serves, SendFault, Event, Entry, refusal, Answers, Holdings, balance_of, held_unless, line_of, outstanding_of}
+use Rattle.mscp_controller.proofs.Common.{◌≡◌, List, ℕ, arith, Option, None, Command, Block, Connection, Report, Choice, Line, Serves, SendFault, Event, Entry, Answers, Holdings, held_unless}
 
 -- the limits and the picker stay
 pub stays : {K : Type 0} (picks : List Choice → ℕ → Type 0) (k : Block) (old : Line K) (report : Report) (new : Line K)
@@ -20,19 +20,9 @@ owner_unless via h command o = grind arith
 module _ {K : Type 0} (picks : List Choice → ℕ → Type 0) (h h' : Holdings K) where
   -- no event changes the settings or the picker
   pub owner_kept : (event : Event) (entry : Entry) → Answers picks h event entry h' → IsSameOwner h h'
-  owner_kept (Event.Send via message) (Entry.Sent other sent) r = subst (λ (x : Holdings K). IsSameOwner h x) (sym r.2)
-      (owner_unless via h (command_of message.items) (refusal (balance_of via h) (outstanding_of via h) message.items))
-  owner_kept (Event.Take via) (Entry.Taken other end) r = search arith
-  owner_kept (Event.Step k) (Entry.Stepped report) r =
-      (r.settings, (stays picks k (line_of h) report (line_of h') r.serves).3)
-  owner_kept Event.Look (Entry.Looked list) r = search arith
-  owner_kept _ _ r = absurd r
+  owner_kept o w r = grind (arith, owner_unless, stays)
 
   -- ---- nothing is begun
   -- no event begins a command
   pub unbegun_kept : (event : Event) (entry : Entry) → h.begun ≡ None → Answers picks h event entry h' → h'.begun ≡ None
-  unbegun_kept (Event.Send via message) (Entry.Sent other sent) n r = search arith
-  unbegun_kept (Event.Take via) (Entry.Taken other end) n r = search arith
-  unbegun_kept (Event.Step k) (Entry.Stepped report) n r = search arith
-  unbegun_kept Event.Look (Entry.Looked list) n r = ap (λ (x : Holdings K). x.begun) r.1 ∙ n
-  unbegun_kept _ _ n r = absurd r
+  unbegun_kept o w n r = grind arith

@@ -66,6 +66,5 @@ untaken_taken c via t m e n =
     let k = count_by (λ (n : Moment). takes via n.1) t in
     let one : count_by (λ (n : Moment). takes via n.1) (t ++ m ∷ []) ≡ k + 1 =
     taken_more via t m ∙ ap (λ b. k + cond b 1 0) e in
-    let same : ends c via (t ++ m ∷ []) ≡ ends c via t = ends_more c via t m
-    ∙ (ap (λ l. ends c via t ++ l) n ∙ append-nil (ends c via t)) in
+    let same : ends c via (t ++ m ∷ []) ≡ ends c via t = grind (arith, ends_more, append-nil) in
     ap (λ j. drop j (ends c via (t ++ m ∷ []))) one ∙ (ap (drop (k + 1)) same ∙ sym (drop-drop 1 k (ends c via t)))

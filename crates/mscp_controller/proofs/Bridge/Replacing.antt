@@ -1,5 +1,5 @@
 -- A controller whose picker is replaced keeps the promise: at each call its picker is that which it has at.
-use Rattle.mscp_controller.proofs.Common.{◌≡◌, ℕ, List, [], ◌∷◌, Option, None, Some, refl, ap, arith, Result, Command, Block, Connection, Event, IsValid, Settings, Drive, Name, Report, Upcoming, Choice, Begins, Serves, Record, IsNext, view_of, AnswersCall, Begin, Call, Finish, Line, Plain, Ok, Err, history, length, ◌++◌, ◌∙◌, append-nil, append_assoc, subst, sym, KeepsPromiseInTurn, picker_at, IsSwept, Sweeps, Answers, Finishes, Holdings, Steps, fresh, held_unless, line_of, sent_unless, AnsweredInTurn, Called, Replaced, Turn, calls_of, Entry, SendFault, NotBegun}
+use Rattle.mscp_controller.proofs.Common.{◌≡◌, ℕ, List, [], ◌∷◌, Option, None, Some, refl, ap, arith, IsValid, Settings, Drive, Name, Choice, Record, IsNext, view_of, AnswersCall, Begin, Call, Finish, Line, Plain, Ok, Err, history, length, ◌++◌, ◌∙◌, append-nil, append_assoc, subst, sym, KeepsPromiseInTurn, picker_at, IsSwept, Sweeps, Holdings, fresh, AnsweredInTurn, Called, Replaced, Turn, calls_of}
 use Rattle.mscp_controller.proofs.Bridge.Begun.{PicksThen, IsPickThen}
 use Rattle.mscp_controller.proofs.Bridge.Calling.{AnsweredThen, called}
 use Rattle.mscp_controller.proofs.Bridge.Controllers.{each_weaker, keeps_then}
@@ -18,61 +18,23 @@ shown h = view_of h.settings.budget h.drives h.waiting
 abbrev Allows : List Choice → (List Choice → ℕ → Type 0) → (List Choice → ℕ → Type 0) → Type 0
 Allows view picks allowed = (place : ℕ) → picks view place → allowed view place
 
--- ---- messages
-module _ {K : Type 0} (via : Connection) (h : Holdings K) (a : K) (command : Command) (o : Option SendFault) where
-  held_by : by a (held_unless via h command o) ≡ held_unless via (by a h) command o
-  held_by = grind arith
-
-  sent_by : sent_unless via h command o ≡ sent_unless via (by a h) command o
-  sent_by = grind arith
-
 -- ---- steps
 next_allowed : (picks allowed : List Choice → ℕ → Type 0) (budget : ℕ) (ds : List Drive) (rs : List Record)
     (begun : Option Name) (place : ℕ) → Allows (view_of budget ds rs) picks allowed
     → IsNext picks budget ds rs begun place → IsNext allowed budget ds rs begun place
 next_allowed picks allowed budget ds rs begun place allows n = search arith
 
-module _ {K : Type 0} (picks allowed : List Choice → ℕ → Type 0) (a : K) where
-  serves_by : (k : Block) (old new : Holdings K) (report : Report) → Allows (shown old) picks allowed → Serves picks
-      k (line_of old) report (line_of new) → Serves allowed k (line_of (by a old)) report (line_of (by a new))
-  serves_by k old new Report.Idle allows s = search arith
-  serves_by k old new (Report.Served via reference unit lbn started seek ended) allows s = search
-      (arith, next_allowed picks allowed old.settings.budget old.drives old.waiting old.begun s.0 allows s.1.next)
-
-  steps_by : (k : Block) (old new : Holdings K) (report : Report)
-      → Allows (shown old) picks allowed → Steps picks k old report new → Steps allowed k (by a old) report (by a new)
-  steps_by k old new report allows s = search (arith, serves_by k old new report allows s.serves)
-
-  begins_by : (old new : Holdings K) (upcoming : Option Upcoming) → Allows (shown old) picks allowed → Begins picks
-      (line_of old) upcoming (line_of new) → Begins allowed (line_of (by a old)) upcoming (line_of (by a new))
-  begins_by old new None allows b = search arith
-  begins_by old new (Some upcoming) allows b = search
-      (arith, next_allowed picks allowed old.settings.budget old.drives old.waiting old.begun b.0 allows b.1.next)
-
-  -- ---- calls
-  answers_by : (old new : Holdings K) (event : Event) (entry : Entry) → Allows (shown old) picks allowed
-      → Answers picks old event entry new → Answers allowed (by a old) event entry (by a new)
-  answers_by old new (Event.Send via message) (Entry.Sent other sent) allows r = search (arith, sent_by, held_by)
-  answers_by old new (Event.Take via) (Entry.Taken other end) allows r = search arith
-  answers_by old new (Event.Step k) (Entry.Stepped report) allows r = steps_by k old new report allows r
-  answers_by old new Event.Look (Entry.Looked list) allows r = search arith
-  answers_by old new event entry allows r = absurd r
-
-  finishes_by : (name : Name) (k : Block) (old new : Holdings K) (answer : Result Report NotBegun) → Allows (shown old)
-      picks allowed → Finishes picks name k old answer new → Finishes allowed name k (by a old) answer (by a new)
-  finishes_by name k old new answer h8 h9 = grind (arith, steps_by)
-
+-- ---- calls
 call_by : {K : Type 0} (picks allowed : List Choice → ℕ → Type 0) (a : K) (old new : Holdings K) (call : Call)
     → Allows (shown old) picks allowed → AnswersCall picks old call new → AnswersCall allowed (by a old) call (by a new)
-call_by picks allowed a old new call h6 h7 = grind (arith, answers_by, begins_by, finishes_by)
+call_by picks allowed a old new call h6 h7 = grind (arith, next_allowed)
 
 picker_kept : {K : Type 0} (picks : List Choice → ℕ → Type 0) (h h' : Holdings K) (call : Call)
     → AnswersCall picks h call h' → h'.picker ≡ h.picker
 picker_kept picks h h' (Plain event entry) r = (owner_kept picks h h' event entry r).1
 picker_kept {K} picks h h' (Begin None) r = ap (λ (l : Line K). l.picker) r.begins.2
 picker_kept {K} picks h h' (Begin (Some upcoming)) r = ap (λ (l : Line K). l.picker) r.begins.1.left
-picker_kept picks h h' (Finish via number k (Ok report)) r =
-    (stays picks k (line_of h) report (line_of h') r.1.serves).3
+picker_kept picks h h' (Finish via number k (Ok report)) r = grind (arith, stays)
 picker_kept {K} picks h h' (Finish via number k (Err not_begun)) r = ap (λ (x : Holdings K). x.picker) r.1
 
 -- ---- calls, one after the other
@@ -108,22 +70,7 @@ keeps_in_turn {K} c picks picker turns held v r =
     let kept = keeps_then c at (λ view place. Unit {0}) picker calls (by picker held) v
     (λ so_far view place own. tt) k in
     record {
-      kept = record {
-        legal = kept.legal;
-        promise = kept.promise;
-        right = kept.right;
-        begun = kept.begun;
-        picked = kept.picked;
-        swept = kept.swept;
-        settings = kept.settings;
-        waiting = kept.waiting;
-        untaken = kept.untaken;
-        figure = kept.figure;
-        kept_back = kept.kept_back;
-        unheld = kept.unheld;
-        drives = kept.drives;
-        balance = kept.balance;
-      };
+      kept = grind (arith, kept);
       picked = k.picked;
       swept = each_weaker (IsPickThen c at) (λ so_far n. Sweeps (at so_far) → IsSwept c (history so_far) n)
           (λ so_far n p sweeps. swept_pick c (at so_far) (history so_far) n sweeps p) calls k.picked;

@@ -1,6 +1,5 @@
 -- A message: the answer to it is right, and what is held after it.
-use Rattle.mscp_controller.proofs.Basics.{◌≡◌, ℕ, ◌+◌, ◌-◌, ◌≤◌, Bool, true, false, not, List, [], ◌∷◌, ◌++◌, map, length, refl, ap, sym, ◌∙◌, subst, append-nil, append_assoc, arith, filter, if◌then◌else◌, Option, Some, None, is_some, option_map, option_to_list, Result, Ok, Err, length-map, Command, Order, End, command_of, Drive, Record, aborted_record, name_of, SendFault, Sent, ArrayVec, Settings, credits_of, unit_found, Both, of, is_queued, refusal, own_end, Trace, Moment, queues, service_in, takes, ends_in, reference, waiting_by, is_online, answer, ends_at, untaken, balance, outstanding, arrival, taken_in, taken_unless, IsRight, Holdings, record_aborted, reference_aborted, aborting, after_message, answer_to_message, answered_end, balance_of, with_end, figure_polled, held_unless, outstanding_of, queued, sent_unless, waiting_on, Connection, drive_of, every_from, filter_all, filter_map_of, map_map, Event, Entry, taken_when, untaken_more}
-use Rattle.mscp_controller.specs.Ends as history
+use Rattle.mscp_controller.proofs.Basics.{◌≡◌, ℕ, ◌+◌, ◌-◌, ◌≤◌, Bool, true, false, not, List, [], ◌∷◌, ◌++◌, map, length, refl, ap, sym, ◌∙◌, subst, append-nil, append_assoc, arith, filter, if◌then◌else◌, Option, Some, None, option_map, option_to_list, Result, Ok, Err, length-map, Command, End, command_of, Record, aborted_record, name_of, SendFault, Sent, ArrayVec, Settings, credits_of, Both, of, is_queued, refusal, Trace, Moment, queues, service_in, takes, ends_in, waiting_by, answer, ends_at, untaken, balance, outstanding, arrival, taken_in, taken_unless, IsRight, Holdings, record_aborted, reference_aborted, aborting, after_message, answer_to_message, answered_end, with_end, held_unless, queued, sent_unless, waiting_on, Connection, every_from, filter_all, filter_map_of, map_map, Event, Entry, taken_when, untaken_more}
 use Rattle.mscp_controller.proofs.Bridge.Held.{held_of, Follows, figure_of_held}
 use Rattle.mscp_controller.proofs.Bridge.Aborting.{end_made, others_wait, reference_told}
 use Rattle.mscp_controller.proofs.Bridge.Quiet.{IsQuiet, follows_left, follows_queued}
@@ -28,35 +27,13 @@ module _ (c : Settings)
   outstanding_held = search (arith, held_by, held_of t, map_map)
 
 -- a message is refused alike
-refusal_held : {K : Type 0} (via : Connection) (h : Holdings K) (t : Trace) (b : List ℕ)
-    → Follows h.settings t h.waiting h.untaken → refusal (balance_of via h) (outstanding_of via h) b
-    ≡ refusal (balance h.settings via t) (outstanding h.settings via t) b
-refusal_held via h t b f = search (arith, balance_held, outstanding_held)
-
 -- ---- its end
-asked_held : (c : Settings) (via : Connection) (t : Trace) (ws : List Record) (us : Both (List End)) (o : Order)
-    → Follows c t ws us → figure_polled c via ws o ≡ history.figure_asked c via t o
-asked_held c via t ws us o h6 = grind (arith, figure_of_held)
-
 -- An answer asks for the state of no unit that isn't configured.
-own_same : (c : Settings) (on on' : Bool) (figure reference unit : ℕ) (o : Order)
-    → (is_some (unit_found c unit) ≡ true → on ≡ on') → let k : Command =
-    record { reference = reference; unit = unit; order = o } in own_end c on figure k ≡ own_end c on' figure k
-own_same c on on' figure reference unit o h7 = search arith
-
 answer_held : {K : Type 0} (via : Connection) (h : Holdings K) (t : Trace) (b : List ℕ) → Agrees h.settings t h
     → option_to_list (option_map aborted_record (record_aborted via h.waiting (command_of b).order)) ++ answered_end
     via h (command_of b) ∷ [] ≡ answer h.settings via t b
 unfolding answer
-answer_held via h t b a =
-    let c = h.settings in
-    let k = command_of b in
-    let on = is_online t k.unit in
-    let state = own_same c (drive_of h.drives k.unit).online on (figure_polled c via h.waiting k.order) k.reference
-    k.unit k.order (λ found. ap (λ (d : Drive). d.online) (drive_found c t h.drives k.unit a.driven found)) in
-    let own : answered_end via h k ≡ own_end c on (history.figure_asked c via t k.order) k = state
-    ∙ ap (λ n. own_end c on n k) (asked_held c via t h.waiting h.untaken k.order a.follows) in
-    (λ i. (end_made c via t h.waiting k a.follows.known.steady.apart a.follows.waits) i ++ own i ∷ [])
+answer_held via h t b a = grind (arith, drive_found, end_made, figure_of_held)
 
 -- ---- what becomes of it
 -- what is answered to a message is right, and what is then held is that of the run
@@ -128,16 +105,9 @@ answering via h b =
 
 module _ {K : Type 0} (via : Connection) (h : Holdings K) (t : Trace) (b : ArrayVec ℕ) where
   -- the ends of the connection are its own two or one more
-  own_ends : Agrees h.settings t h → takes via (answering via h b).1 ≡ false
-      → ends_at h.settings via t (answering via h b) ≡ answer h.settings via t b.items ++ [] → (of via
-      h.untaken ++ option_to_list (option_map aborted_record (record_aborted via h.waiting (command_of b.items).order)))
-      ++ answered_end via h (command_of b.items) ∷ [] ≡ untaken h.settings via (t ++ answering via h b ∷ [])
-  own_ends a n e =
-      search (arith, answer_held via h t b.items a, append-nil (answer h.settings via t b.items), append_assoc, ends_on)
-
   -- and those of the other as they were
   answered_ends : Agrees h.settings t h → IsUntaken h t (answering via h b) (answered_holds via h (command_of b.items))
-  answered_ends h4 h5 = grind (arith, own_ends, ends_stay)
+  answered_ends h4 h5 = grind (arith, ends_stay, answer_held, append-nil, append_assoc, ends_on)
 
   answered : 1 ≤ h.settings.longest → Agrees h.settings t h → Ok (Sent.Answered (command_of b.items).reference
       (reference_aborted via h.waiting (command_of b.items).order)) ≡ arrival h.settings via t b.items
@@ -152,8 +122,7 @@ taken_as_queued c via t k q = sym (ap (taken_when c via t k) q)
 taken_as_answered : {K : Type 0} (via : Connection) (h : Holdings K) (t : Trace) (k : Command)
     → Follows h.settings t h.waiting h.untaken → is_queued h.settings k ≡ false
     → Sent.Answered k.reference (reference_aborted via h.waiting k.order) ≡ taken_in h.settings via t k
-taken_as_answered via h t k f q = ap (Sent.Answered k.reference) (sym (reference_told h.settings
-    via t h.waiting k f.known.steady.apart f.waits)) ∙ sym (ap (taken_when h.settings via t k) q)
+taken_as_answered via h t k f q = grind (arith, reference_told)
 
 -- what the history says of a message that is refused so, or isn't
 arrival_when : (c : Settings) (via : Connection) (t : Trace) (b : List ℕ) (o : Option SendFault)
@@ -180,5 +149,4 @@ module _ {K : Type 0} (via : Connection)
 
   -- A message is answered right, and what is then held is that of the run.
   pub sends : Sends h.settings t (sending via b (answer_to_message via h b.items)) (after_message via h b.items)
-  sends = sends_when (refusal (balance_of via h) (outstanding_of via h) b.items)
-      (sym (refusal_held via h t b.items f.follows))
+  sends = grind (arith, sends_when, balance_held, outstanding_held)

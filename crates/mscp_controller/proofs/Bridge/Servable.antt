@@ -1,13 +1,9 @@
 -- The record that may be served next: the run serves its command next, too.
-use Rattle.mscp_controller.proofs.Bridge.Basics.{◌≡◌, ℕ, ◌+◌, ◌<◌, Bool, true, false, ◌&&◌, ◌||◌, List, [], ◌∷◌, map, take, drop, get_or, length, refl, ap, sym, ◌∙◌, subst, arith, All, nat_eq, Option, Some, None, is_some, AllByRecursion, list_all, eq-eqb, eqb-false, lt-ltb, get_or-map, length-map, recursion_from_All, Drive, Choice, drive_of, Name, Record, name_of, record_at, IsNext, open_places, Settings, unit_found, Trace, name, unit, is_idle, is_waiting, waiting, done, in_service, is_startable, startable, view, same_is, every_mapped, every_weaker, every_parts, waiting_waits, held_of, Driven, drive_by, drive_found, cut_at, record_held, startable_held, startable_places, view_held, waiting_at}
-use Rattle.mscp_queue.specs.Records as recorded
+use Rattle.mscp_controller.proofs.Bridge.Basics.{◌≡◌, ℕ, ◌+◌, ◌<◌, Bool, true, ◌&&◌, ◌||◌, List, [], ◌∷◌, map, take, drop, get_or, length, refl, ap, ◌∙◌, subst, arith, All, nat_eq, Option, Some, None, is_some, AllByRecursion, list_all, eq-eqb, eqb-false, lt-ltb, get_or-map, length-map, recursion_from_All, Drive, Choice, drive_of, Name, Record, record_at, IsNext, Settings, unit_found, Trace, name, unit, is_idle, is_waiting, waiting, done, in_service, is_startable, startable, view, same_is, every_mapped, every_weaker, every_parts, waiting_waits, held_of, Driven, drive_by, drive_found, cut_at, record_held, startable_held, startable_places, view_held, waiting_at}
 
 pub all_of : (p : ℕ → Bool) (xs : List ℕ) → AllByRecursion (λ x. p x ≡ true) xs → list_all p xs ≡ true
 all_of p [] h = refl
 all_of p (x ∷ xs) h = ap (λ b. b && list_all p xs) h.0 ∙ all_of p xs h.1
-
-or_right : (a b : Bool) → b ≡ true → (a || b) ≡ true
-or_right a b h2 = grind arith
 
 -- the records are idle where the commands are
 idle_held : (t : Trace) → All (λ r. r.done ≡ 0) (map (held_of t) (waiting t)) → is_idle t ≡ true
@@ -28,39 +24,7 @@ pub record Chosen (c : Settings) (picks : List Choice → ℕ → Type 0) (t : T
 pub next_held : (c : Settings) (picks : List Choice → ℕ → Type 0) (t : Trace) (ds : List Drive) (begun : Option Name)
     (place : ℕ) → Driven c t ds → IsNext picks c.budget ds (map (held_of t) (waiting t)) begun place
     → Next c t place × Chosen c picks t begun place
-next_held c picks t ds begun place d n =
-    let rs = map (held_of t) (waiting t) in
-    let y = waiting_at t place in
-    let inside : place < length (waiting t) = search (arith, length-map (waiting t) (held_of t), held_of t) in
-    let same : recorded.is_unstarted (record_at rs place) ≡ nat_eq (done t y) 0 =
-    ap recorded.is_unstarted (record_held t place inside) in
-    let places = open_places c.budget rs in
-    let both : (b : Bool) → nat_eq (done t y) 0 ≡ b → (in_service t y || is_startable c t y) ≡ true =
-    λ b. elim b as (λ b. nat_eq (done t y) 0 ≡ b → (in_service t y || is_startable c t y) ≡ true) [
-      | true ↦ λ e.
-          let idle = idle_held t (n.servable.idle (same ∙ e)) in
-          or_right (in_service t y) (is_startable c t y)
-          (startable_held c t place inside idle ∙ n.servable.opens (same ∙ e))
-      | false ↦ λ e.
-          let some = eqb-false (done t y) 0 e in
-          ap (λ b. b || is_startable c t y) (lt-ltb 0 (done t y) (omega arith))
-    ] in
-    let next : Next c t place = record { inside = inside; next = both (nat_eq (done t y) 0) refl } in
-    let chosen : Chosen c picks t begun place = record {
-      same = λ k e. ap name_of (sym (record_held t place inside))
-          ∙ same_is (name_of (record_at rs place)) k (n.same k e);
-      picked = λ b e.
-          let idle = idle_held t (n.servable.idle (same ∙ e)) in
-          let p = n.picked b (same ∙ e) in
-          let at = startable_places c t idle in
-          let i = p.0 in (
-            i,
-            (let l = p.1 in omega (arith, ap length at, length-map places (waiting_at t))),
-            ap (λ xs. get_or xs i 0) at ∙ (get_or-map (waiting_at t) places i 0 0 p.1 ∙ ap (waiting_at t) p.2),
-            subst (λ v. picks v i) (sym (view_held c t ds d idle)) p.3,
-          );
-    } in
-    (next, chosen)
+next_held c picks t ds begun place d n = grind (arith, length-map, record_held, idle_held, startable_held, eqb-false, lt-ltb, same_is, startable_places, get_or-map, view_held)
 
 -- what is read of the record at a place: it is that of its command, and its drive that of its unit
 pub record Reads (c : Settings) (t : Trace) (ds : List Drive) (ws : List Record) (place : ℕ) : Type 0 where

@@ -1,6 +1,6 @@
 -- A step of the record that may be served next: it is right, it is picked, and what is held after it is that of the
 -- run.
-use Rattle.mscp_controller.proofs.Bridge.Basics.{◌≡◌, ℕ, ◌+◌, ◌<◌, Bool, true, false, cond, ◌&&◌, List, [], ◌∷◌, ◌++◌, map, take, drop, length, refl, ap, sym, ◌∙◌, subst, arith, All, IfSome, nat_eq, Option, Some, None, option_to_list, if◌then◌else◌, AllByRecursion, and-false, eq-eqb, lt-ltb, true≢false, false≢true, map-append, take-map, drop-map, recursion_from_All, End, Block, Drive, Report, Choice, drive_of, replaced, Line, ServesAt, Name, Connection, same_connection, order_weight, Record, advanced, step_charge, passed_by, record_at, IsNext, drive_after, report_of, waiting_after, Settings, IsValid, Both, of, Trace, Moment, is_good, service_in, WhenStarted, connection, name, reference, service_name, unit, is_waiting, waiting, weight, done, good, serves_in, passed, untaken, IsPick, IsRight, block_of, end_of, IsServed, seek_to, Holdings, ends_after, ends_reported, line_of, is_same, every_mapped, every_weaker, every_both, every_from, every_parts, map_map, map_on, Event, Entry, command_before, connection_before, done_before, good_before, untaken_more, cut_of, waiting_below, waiting_waits, Apart, alone, Step, changes, below_parts, none_starts, passed_behind, passed_front, service_by, known_more, held_of, drive_by, driven_served, end_held, held_same, records_kept, Agrees, Sends, cut_at, record_held, waiting_at}
+use Rattle.mscp_controller.proofs.Bridge.Basics.{◌≡◌, ℕ, ◌+◌, ◌<◌, Bool, true, false, cond, List, [], ◌∷◌, ◌++◌, map, take, drop, length, refl, ap, sym, ◌∙◌, subst, arith, All, IfSome, nat_eq, Option, Some, None, AllByRecursion, and-false, eq-eqb, lt-ltb, true≢false, false≢true, map-append, take-map, drop-map, recursion_from_All, End, Block, Drive, Report, Choice, replaced, Line, ServesAt, Name, Connection, Record, advanced, step_charge, passed_by, record_at, IsNext, drive_after, report_of, waiting_after, Settings, IsValid, Both, of, Trace, Moment, service_in, WhenStarted, connection, reference, service_name, unit, is_waiting, waiting, weight, done, good, passed, untaken, IsPick, IsRight, block_of, end_of, IsServed, seek_to, Holdings, ends_after, ends_reported, line_of, is_same, every_mapped, every_weaker, every_both, every_from, every_parts, map_map, map_on, Event, Entry, command_before, connection_before, done_before, good_before, untaken_more, cut_of, waiting_below, waiting_waits, Apart, alone, Step, changes, below_parts, none_starts, passed_behind, passed_front, service_by, known_more, held_of, drive_by, driven_served, end_held, held_same, records_kept, Agrees, Sends, cut_at, record_held, waiting_at}
 use Rattle.mscp_queue.specs.Records as recorded
 use Rattle.mscp_controller.specs.Passing as passings
 use Rattle.mscp_controller.proofs.Bridge.Servable.{Next, next_held, reads, waits_at}
@@ -31,18 +31,9 @@ module _ (c : Settings) (t : Trace) (k : Block) (place : ℕ) where
   step_at apart n = search (arith, cut_at t place n.inside, served_at n, alone, cut_of, changes)
 
 -- ---- the others
-one_if : Bool → ℕ
-one_if b = cond b 1 0
-
-unserved : (here well : Bool) (n : ℕ) → n + one_if here ≡ n → one_if (here && well) ≡ 0
-unfolding one_if
-unserved here well n h3 = grind arith
-
 good_same : (t : Trace) (m : Moment) (x : ℕ)
     → x < length t → done (t ++ m ∷ []) x ≡ done t x → good (t ++ m ∷ []) x ≡ good t x
-unfolding one_if
-good_same t m x l d = good_before t m x l ∙ (ap (λ n. good t x + n)
-    (unserved (serves_in (name t x) m.1) (is_good m.0) (done t x) (sym (done_before t m x l) ∙ d)) ∙ omega arith)
+good_same t m x l d = grind (arith, good_before, done_before)
 
 -- the commands behind it keep their records
 behind_kept : (c : Settings) (t : Trace) (k : Block) (y : ℕ) (A B : List ℕ) → Step c t (serving c t k y)
@@ -98,11 +89,8 @@ module _ (c : Settings) (t : Trace) (k : Block) (y : ℕ) (A B : List ℕ) (st :
 
 -- ---- the command itself, where it goes on
 module _ (c : Settings) (t : Trace) (k : Block) (y : ℕ) where
-  goes_on_good : end_of c t k y ≡ None → is_good (Event.Step k) ≡ true
-  goes_on_good h = search (arith, false≢true, true≢false)
-
   good_own : y < length t → end_of c t k y ≡ None → good (t ++ serving c t k y ∷ []) y ≡ good t y + 1
-  good_own l e = search (arith, good_before t (serving c t k y) y l, is_same (name t y) (name t y) refl, goes_on_good e)
+  good_own l e = grind (arith, good_before, is_same, false≢true, true≢false)
 
 held_own : (c : Settings) (t : Trace) (k : Block) (y : ℕ) (A B : List ℕ) → Step c t (serving c t k y) (service_by c
     t k y) k y A B → end_of c t k y ≡ None → held_of (t ++ serving c t k y ∷ []) y ≡ advanced (held_of t y)
@@ -114,8 +102,7 @@ held_own c t k y A B st e =
     let d = st.changes.own_done in
     let g = good_own c t k y l e in
     let p = passed_behind c t m (service_by c t k y) k y A B st y (omega arith) in
-    λ i.
-    record { connection = v i; command = q i; weight = order_weight (q i).order; done = d i; good = g i; passed = p i }
+    grind (arith, q, v, d, g, p)
 
 -- ---- what is held afterwards
 -- the records after a step of the one at the place
@@ -186,18 +173,12 @@ turns_at {K} picks h h' t k report place v a s u =
     let read = reads c t h.drives h.waiting place a.driven f.waits n.inside in
     let own = read.own in
     let at = read.at in
-    let told : report ≡ report_of k (drive_by c t (unit t y)) (held_of t y) = s.told
-    ∙ (λ i. report_of k (at i) (own i)) in
+    let told : report ≡ report_of k (drive_by c t (unit t y)) (held_of t y) = grind (arith, own, at) in
     let entry : Entry.Stepped report ≡ m.1 = ap Entry.Stepped told ∙ report_held c t k y in
     let right : IsRight c t m.0 m.1 = (y, served_at c t k place n) in
     let known = known_more c v.some_blocks t m right f.known in
-    let waits : h'.waiting ≡ map (held_of t') (waiting t') = ap (λ (l : Line K). l.waiting) s.left
-    ∙ (ap (λ ws. waiting_after k (drive_of h.drives (record_at h.waiting place).command.unit) ws place) f.waits
-    ∙ waiting_served c t k place (drive_of h.drives (record_at h.waiting place).command.unit) apart n at idle) in
-    let ends : (via : Connection) → of via h'.untaken ≡ untaken c via t' = λ via. ap (of via) u
-    ∙ (of_after via h.untaken report ∙ ((λ i. f.ends via i ++ ends_reported via (told i))
-    ∙ (ap (λ o. untaken c via t ++ (if same_connection (connection t y) via then option_to_list o else []))
-    (end_held c t k y) ∙ sym (untaken_more c via t m refl (f.known.room.taken via))))) in
+    let waits : h'.waiting ≡ map (held_of t') (waiting t') = grind (arith, waiting_served, c, f, n, t, apart, idle, at) in
+    let ends : (via : Connection) → of via h'.untaken ≡ untaken c via t' = grind (arith, of_after, end_held, untaken_more, c, f, y, m, t, told) in
     let drives : h'.drives ≡ replaced (unit t y) (drive_after k (drive_by c t (unit t y)) (held_of t y)) h.drives = ap
     (λ (l : Line K). l.drives) s.left ∙ (λ i. replaced (own i).command.unit (drive_after k (at i) (own i)) h.drives) in
     let driven = driven_served c t m k y (take place W) (drop (place + 1) W) h.drives v.unit_list st right a.driven in

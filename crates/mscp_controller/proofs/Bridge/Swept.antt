@@ -1,11 +1,10 @@
 -- Where a picker picks only what the sweep may pick, each command that starts is the one that the sweep starts.
-use Rattle.mscp_controller.proofs.Basics.{◌≡◌, ℕ, ◌+◌, ◌<◌, ◌≤◌, Bool, true, false, not, List, ◌∷◌, ◌++◌, map, take, drop, get_or, length, ap, sym, ◌∙◌, subst, arith, find, nat_eq, Option, Some, None, AllByRecursion, list_all, and-false, le-ltb, lt-ltb, ne_eqb, drop_more, get_or-map, length-map, take-append-drop, take-map, recursion_from_All, list_all-append, Choice, Name, IsFirstLeast, Pairs, every_append, every_both, every_mapped, every_parts, every_weaker, pairs_filter, pairs_middle, find_first, map_map, Settings, Trace, moment, Service, service_in, WhenStarted, service_name, waiting, is_startable, startable, cost, IsPick, IsPicked, IsSwept, IsSweeping, Sweeps, goes_before, swept, waiting_rises}
+use Rattle.mscp_controller.proofs.Basics.{◌≡◌, ℕ, ◌+◌, ◌<◌, ◌≤◌, Bool, true, false, not, List, ◌∷◌, ◌++◌, map, take, drop, get_or, length, ap, sym, ◌∙◌, subst, arith, find, Option, Some, None, AllByRecursion, list_all, and-false, le-ltb, lt-ltb, ne_eqb, drop_more, get_or-map, length-map, take-append-drop, take-map, recursion_from_All, list_all-append, Choice, Name, IsFirstLeast, Pairs, every_append, every_both, every_mapped, every_parts, every_weaker, pairs_filter, pairs_middle, find_first, map_map, Settings, Trace, moment, Service, service_in, WhenStarted, service_name, waiting, is_startable, startable, cost, IsPick, IsPicked, IsSwept, IsSweeping, Sweeps, goes_before, swept, waiting_rises}
 use Rattle.mscp_controller.proofs.Bridge.Servable.{all_of}
 
 -- no other goes before what costs less, or as much and came earlier
 not_before : (c : Settings) (t : Trace) (x y : ℕ) → cost c t y ≤ cost c t x → y ≤ x → goes_before c t x y ≡ false
-not_before c t x y l o =
-    search (arith, le-ltb (cost c t x) (cost c t y) l, le-ltb x y o, and-false (nat_eq (cost c t x) (cost c t y)))
+not_before c t x y l o = grind (arith, le-ltb, and-false)
 
 -- nor before what costs less
 not_cheaper : (c : Settings) (t : Trace) (x y : ℕ) → cost c t y < cost c t x → goes_before c t x y ≡ false

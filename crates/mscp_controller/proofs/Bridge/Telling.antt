@@ -1,5 +1,5 @@
 -- What a begin tells is what the next step serves, and it is kept.
-use Rattle.mscp_controller.proofs.Bridge.Basics.{◌≡◌, inl, ℕ, Bool, true, false, List, [], ◌∷◌, ◌++◌, map, refl, ap, sym, ◌∙◌, subst, arith, IfSome, if◌then◌else◌, nat_eq, Option, Some, None, Upcoming, BeginsAt, Line, Name, Record, name_of, IsNext, upcoming_of, Settings, Trace, is_waiting, name, unit, waiting, IsLegal, block_of, Foretells, Holdings, line_of, Begin, Call, HoldsToBegun, IsChosen, NothingBegun, foretold, history, upcoming_name, one_waits, drive_by, held_of, Agrees, waiting_at}
+use Rattle.mscp_controller.proofs.Bridge.Basics.{◌≡◌, inl, ℕ, Bool, true, false, List, [], ◌∷◌, ◌++◌, map, refl, ap, sym, ◌∙◌, subst, arith, IfSome, if◌then◌else◌, nat_eq, Option, Some, None, Upcoming, BeginsAt, Name, IsNext, upcoming_of, Settings, Trace, is_waiting, name, unit, waiting, IsLegal, block_of, Foretells, Holdings, line_of, Begin, Call, HoldsToBegun, IsChosen, NothingBegun, foretold, history, upcoming_name, one_waits, drive_by, held_of, Agrees, waiting_at}
 use Rattle.mscp_controller.proofs.Bridge.Begun.{PicksThen, Held, IsPickThen, Turned, Holds, begin_same, holds_again, holds_new, nothing_told, name_begun}
 use Rattle.mscp_controller.proofs.Bridge.Following.{none_mapped}
 use Rattle.mscp_controller.proofs.Bridge.Servable.{next_held, reads, waits_at}
@@ -62,8 +62,7 @@ begin_at {K} picks calls up h h' place a legal b s u =
     let inside = both.0.inside in
     let read = reads c t h.drives h.waiting place a.driven a.follows.waits inside in
     let own : up ≡ foretold t y = s.told ∙ ((λ i. upcoming_of (read.at i) (read.own i)) ∙ told_held c t y) in
-    let kept : h'.begun ≡ Some (name t y) = ap (λ (l : Line K). l.begun) s.left
-    ∙ ap (λ (r : Record). Some (name_of r)) read.own in
+    let kept : h'.begun ≡ Some (name t y) = grind (arith, read) in
     let tells : Tells c picks calls up h h' y = search (arith, waits_at t place inside) in
     let same = begin_same calls (Some up) in
     let chosen : (q : Bool) → nat_eq up.done 0 ≡ q

@@ -45,8 +45,7 @@ module _ (t : Trace) (place : ℕ) (l : place < length (waiting t)) where
 pub startable_held : (c : Settings) (t : Trace) (place : ℕ) → place < length (waiting t) → is_idle t ≡ true
     → is_startable c t (waiting_at t place) ≡ is_open_at c.budget (map (held_of t) (waiting t)) place
 unfolding is_startable
-startable_held c t place l idle =
-    search (arith, held_of t, free_held t place l, record_held t place l, front_held, held_of, take-map, list_all-map)
+startable_held c t place l idle = grind (arith, free_held, record_held, front_held, take-map, list_all-map)
 
 -- the commands that may start are those at the places that may
 pub startable_places : (c : Settings) (t : Trace) → is_idle t ≡ true

@@ -1,14 +1,10 @@
 -- At most one command is in service, and if none is, the oldest that waits may start.
-use Rattle.mscp_controller.proofs.Basics.{◌≡◌, ◌⊎◌, ⊎_elim, ℕ, ◌<◌, ◌≤◌, true, not, List, [], ◌∷◌, length, ap, arith, filter, slice_get, Some, is_some, AllByRecursion, false≢true, ltb-true, every_weaker, filter_none, Settings, Trace, done, in_service, is_idle, waiting, is_free, is_startable, Single, cut_of, earlier_is}
+use Rattle.mscp_controller.proofs.Basics.{◌≡◌, ℕ, ◌≤◌, true, not, List, [], ◌∷◌, length, ap, arith, filter, slice_get, Some, is_some, false≢true, ltb-true, every_weaker, filter_none, Settings, Trace, in_service, is_idle, waiting, is_free, is_startable, Single, cut_of, earlier_is}
 
 -- beside one that was served nobody is
-others_idle : (t : Trace) (x : ℕ) (xs : List ℕ) → 0 < done t x
-    → AllByRecursion (λ z. (done t x ≡ 0) ⊎ (done t z ≡ 0)) xs → filter (in_service t) xs ≡ []
-others_idle t x xs l h = search (arith, filter_none, every_weaker, ⊎_elim)
-
 pub one_served : (t : Trace) (xs : List ℕ) → Single t xs → length (filter (in_service t) xs) ≤ 1
 one_served t [] h = omega arith
-one_served t (x ∷ xs) h = search (arith, one_served t xs h.1, others_idle, ltb-true)
+one_served t (x ∷ xs) h = grind (arith, one_served t xs h.1, ltb-true, filter_none, every_weaker)
 
 first_starts : (c : Settings) (t : Trace) (x : ℕ) (rest : List ℕ) → waiting t ≡ x ∷ rest → is_idle t ≡ true
     → is_startable c t x ≡ true

@@ -15,8 +15,7 @@ alone t y front back a k = search (arith, pairs_middle, every_weaker)
 pub figure_of_one : (c : Settings) (t : Trace) (y : ℕ) (front back : List ℕ) → Alone t y front back
     → figure_of c t (name t y) ≡ figure c t y
 unfolding figure_of
-figure_of_one c t y front back a =
-    search (arith, is_same (name t y) (name t y) refl, find_first, every_weaker, is_differ)
+figure_of_one c t y front back a = grind (arith, is_same, find_first, every_weaker, is_differ)
 
 -- two that wait and have one name are one
 pub one_waits : (t : Trace) (x y : ℕ) → Apart t (waiting t) → is_waiting t x ≡ true → is_waiting t y ≡ true

@@ -1,5 +1,5 @@
 -- What is known of a message that was taken.
-use Rattle.mscp_controller.proofs.Common.{◌≡◌, ℕ, ◌≤◌, Bool, true, false, not, ◌&&◌, List, length, arith, nat_eq, if◌then◌else◌, slice_index, Option, Some, None, Result, Ok, Err, true≢false, false≢true, Command, SendFault, Sent, Event, Entry, Connection, Settings, num, class, is_immediate_class, command_of, is_queued, holds, refusal, Trace, connection_of, queues, sent_bytes, aborted_reference, taken_in, taken_unless, arrival, balance, outstanding, IsRight}
+use Rattle.mscp_controller.proofs.Common.{◌≡◌, ℕ, ◌≤◌, Bool, true, false, not, ◌&&◌, List, length, arith, nat_eq, if◌then◌else◌, slice_index, Option, None, Ok, true≢false, false≢true, Command, SendFault, Sent, Event, Entry, Connection, Settings, num, class, is_immediate_class, command_of, is_queued, holds, refusal, Trace, connection_of, queues, sent_bytes, aborted_reference, taken_in, taken_unless, arrival, balance, outstanding, IsRight}
 
 -- no reason to refuse it
 pub record IsTaken (credit : ℕ) (references b : List ℕ) : Type 0 where
@@ -9,22 +9,13 @@ pub record IsTaken (credit : ℕ) (references b : List ℕ) : Type 0 where
   pub last : (nat_eq credit 1 && not (is_immediate_class (class (slice_index b 8)))) ≡ false
   pub new : holds references (num b 0 4) ≡ false
 
-pub if_none : {X : Type 0} (b : Bool) (f : X) (rest : Option X) → (if b then Some f else rest) ≡ None
-    → (b ≡ false) × (rest ≡ None)
-if_none b f rest h3 = grind (arith, true≢false)
-
 pub refusal_none : (credit : ℕ) (references b : List ℕ)
     → refusal credit references b ≡ None → IsTaken credit references b
 refusal_none credit references b h = search arith
 
-sent_or : Sent → Result Sent SendFault → Sent
-sent_or s (Ok r) = r
-sent_or s (Err f) = s
-
 unless_ok : (c : Settings) (via : Connection) (t : Trace) (command : Command) (s : Sent) (o : Option SendFault)
     → Ok s ≡ taken_unless c via t command o → (o ≡ None) × (s ≡ taken_in c via t command)
-unfolding sent_or
-unless_ok c via t command s o h6 = grind (arith, sent_or, true≢false)
+unless_ok c via t command s o h6 = grind (arith, true≢false)
 
 pub record Arrives (c : Settings) (via : Connection) (t : Trace) (b : List ℕ) (s : Sent) : Type 0 where
   pub taken : IsTaken (balance c via t) (outstanding c via t) b
@@ -36,10 +27,6 @@ unfolding arrival
 arrives c via t b s h =
     let u = unless_ok c via t (command_of b) s (refusal (balance c via t) (outstanding c via t) b) h in
     record { taken = refusal_none (balance c via t) (outstanding c via t) b u.0; is = u.1 }
-
-is_queue : Sent → Bool
-is_queue (Sent.Queued r) = true
-is_queue (Sent.Answered r a) = false
 
 -- what is known of a message that was queued
 pub record Queues (c : Settings) (via : Connection) (t : Trace) (b : List ℕ) : Type 0 where
@@ -53,7 +40,5 @@ taken_when c via t command q =
 
 pub queued_right : (c : Settings) (t : Trace) (event : Event) (entry : Entry) → queues entry ≡ true
     → IsRight c t event entry → Queues c (connection_of event) t (sent_bytes event)
-unfolding is_queue
-queued_right c t (Event.Send via b) (Entry.Sent other (Ok (Sent.Queued r))) q h =
-    search (arith, arrives, true≢false, is_queue)
+queued_right c t (Event.Send via b) (Entry.Sent other (Ok (Sent.Queued r))) q h = grind (arith, arrives, true≢false)
 queued_right c t event entry h4 h5 = grind (arith, false≢true)

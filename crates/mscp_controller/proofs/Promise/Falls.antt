@@ -22,8 +22,7 @@ figure_at c t A x B e =
     search (arith, cut_of t A x B e, w, F, earlier_is, later_is)
 
 pub working_append : (t : Trace) (A B : List ℕ) → working t (A ++ B) ≡ working t A + working t B
-working_append t A B = ap (sum_by (left t)) (filter-append (in_service t) A B)
-    ∙ sum_by-append (left t) (filter (in_service t) A) (filter (in_service t) B)
+working_append t o w = grind (arith, filter-append, sum_by-append)
 
 pub working_idle : (t : Trace) (A : List ℕ) → AllByRecursion (λ x. done t x ≡ 0) A → working t A ≡ 0
 working_idle t A h = search (arith, filter_none, every_weaker, le-ltb)
@@ -81,8 +80,7 @@ working_before c t m s front y back B f b =
 working_after : (t t' : Trace) (s : Service) (y : ℕ) (back B : List ℕ) → record_of t' y ≡ served (record_of t y)
     → AllByRecursion (λ x. done t' x ≡ 0) B → AllByRecursion (λ x. done t' x ≡ 0) back → working t'
     (B ++ (cond (is_some s.ended) [] (y ∷ []) ++ back)) ≡ sum_by (left t') (cond (is_some s.ended) [] (y ∷ []))
-working_after t t' s y back B e b k =
-    search (arith, working_idle t' B b, working_idle t' back k, working_append, lt-ltb)
+working_after t t' s y back o e b k = grind (arith, working_idle, working_append, lt-ltb)
 
 pub idle_stays : (t t' : Trace) (n : ℕ) (xs : List ℕ) → AllByRecursion (λ x. record_of t' x ≡ charged n (record_of t x))
     xs → AllByRecursion (λ x. done t x ≡ 0) xs → AllByRecursion (λ x. done t' x ≡ 0) xs
@@ -118,10 +116,8 @@ module _ (c : Settings) (t : Trace) (m : Moment) (s : Service)
       let new = every_parts Same A (x ∷ B) (subst (λ l. AllByRecursion Same l) q ch.at_front) in
       let idle =
       every_parts (λ z. done t z ≡ 0) A (x ∷ B) (subst (λ l. AllByRecursion (λ z. done t z ≡ 0) l) q f.idle_front) in
-      let e : waiting t ≡ A ++ x ∷ (B ++ y ∷ back) = f.is
-      ∙ (ap (λ l. l ++ y ∷ back) q ∙ append_assoc A (x ∷ B) (y ∷ back)) in
-      let e' : waiting t' ≡ A ++ x ∷ (B ++ (own ++ back)) = f.after
-      ∙ (ap (λ l. l ++ (own ++ back)) q ∙ append_assoc A (x ∷ B) (own ++ back)) in
+      let e : waiting t ≡ A ++ x ∷ (B ++ y ∷ back) = grind (arith, append_assoc) in
+      let e' : waiting t' ≡ A ++ x ∷ (B ++ (own ++ back)) = grind (arith, append_assoc, own) in
       let old = figure_idle c t A x (B ++ y ∷ back) e idle.1.0 in
       let now = figure_idle c t' A x (B ++ (own ++ back)) e' (ap (λ (r : Figured). r.done) new.1.0 ∙ idle.1.0) in
       let sA = left_all t t' (step_charge t s y) A new.0 in
@@ -145,8 +141,7 @@ module _ (c : Settings) (t : Trace) (m : Moment) (s : Service)
       let new = every_parts Same A (x ∷ B) (subst (λ l. AllByRecursion Same l) q ch.at_back) in
       let idle =
       every_parts (λ z. done t z ≡ 0) A (x ∷ B) (subst (λ l. AllByRecursion (λ z. done t z ≡ 0) l) q f.idle_back) in
-      let e : waiting t ≡ (front ++ y ∷ A) ++ x ∷ B = f.is
-      ∙ (ap (λ l. front ++ y ∷ l) q ∙ sym (append_assoc front (y ∷ A) (x ∷ B))) in
+      let e : waiting t ≡ (front ++ y ∷ A) ++ x ∷ B = grind (arith, append_assoc) in
       let e' : waiting t' ≡ (front ++ (own ++ A)) ++ x ∷ B =
       search (arith, append_assoc own A (x ∷ B), append_assoc front (own ++ A) (x ∷ B)) in
       let old = figure_idle c t (front ++ y ∷ A) x B e idle.1.0 in

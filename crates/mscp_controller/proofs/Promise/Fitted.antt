@@ -1,6 +1,6 @@
 -- A right step, with all that is known of those that wait; and moments that serve nobody.
-use Rattle.mscp_controller.proofs.Basics.{◌≡◌, ℕ, ◌+◌, ◌<◌, ◌≤◌, List, ◌∷◌, ap, sym, ◌∙◌, subst, arith, None, is_some, AllByRecursion, Block, Settings, Trace, Moment, Service, service_in, weight, done, charge, passed, every_weaker, every_parts, waiting_below, earlier_is, Step, startable_of, startable_parts, Steady, idle_others, more_left, done_kept, weight_before, none_starts}
-use Rattle.mscp_controller.proofs.Promise.Figured.{record_of, marks, made_is}
+use Rattle.mscp_controller.proofs.Basics.{◌≡◌, ℕ, ◌<◌, List, ◌∷◌, ap, sym, ◌∙◌, subst, arith, None, is_some, AllByRecursion, Block, Settings, Trace, Moment, Service, service_in, weight, done, every_weaker, every_parts, waiting_below, earlier_is, Step, startable_of, startable_parts, Steady, idle_others, more_left, done_kept, weight_before, none_starts}
+use Rattle.mscp_controller.proofs.Promise.Figured.{marks, made_is}
 use Rattle.mscp_controller.proofs.Promise.Falls.{Fit}
 use Rattle.mscp_controller.proofs.Promise.Stays.{Leaves}
 
@@ -21,10 +21,8 @@ fit_of c t m s k y front back st steady =
           front (y ∷ back) (subst (AllByRecursion (λ x. done t x < weight t x)) w steady.unfinished)).1.0;
       idle_front = idle.0;
       idle_back = idle.1;
-      affordable = λ b. subst (AllByRecursion (λ x. passed t x + charge t y ≤ c.budget)) (earlier_is t
-          y front back st.serves.among.at) (startable_parts c t y (startable_of c t k s y st.served b)).affordable;
+      affordable = grind (arith, earlier_is, startable_parts, startable_of);
     }
 
 pub leaves_of : (t : Trace) (m : Moment) → service_in m.1 ≡ None → Leaves t m
-leaves_of t m e =
-    search (arith, waiting_below t, every_weaker, record_of, made_is, weight_before, done_kept, none_starts)
+leaves_of t m e = grind (arith, waiting_below, every_weaker, made_is, weight_before, done_kept, none_starts)

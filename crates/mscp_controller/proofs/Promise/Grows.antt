@@ -1,5 +1,5 @@
 -- What the definitions say when one more moment comes.
-use Rattle.mscp_controller.proofs.Common.{◌≡◌, ℕ, ◌+◌, ◌<◌, ◌≤◌, Bool, true, false, cond, not, ◌&&◌, ◌||◌, List, [], ◌∷◌, ◌++◌, take, drop, length, refl, ap, ◌∙◌, arith, append-nil, filter, count_by, None, range_with_len, get_or_append_left, get_or_at, drop-append-le, drop_all, length_push, take_at, take-append-le, sum_by_push, list_any-append, filter-append, flat_map-append, command_of, Settings, Trace, Moment, moment, positions, collect, connection_of, last_or, queues, sent_bytes, is_good, is_step, takes, command, connection, name, is_waiting, waiting, done, good, steps_after, serves_in, ends_in, passed_at, passed, ends_at, ends, untaken, Connection, First, name_on, filter_on, filter_filter, sum_on, flat_on, every_weaker, range_more, range_below, Event, Entry}
+use Rattle.mscp_controller.proofs.Common.{◌≡◌, ℕ, ◌+◌, ◌<◌, ◌≤◌, false, cond, not, ◌&&◌, List, [], ◌∷◌, ◌++◌, drop, length, refl, ap, ◌∙◌, arith, append-nil, filter, count_by, None, range_with_len, get_or_append_left, get_or_at, drop-append-le, drop_all, length_push, take_at, take-append-le, sum_by_push, list_any-append, filter-append, flat_map-append, command_of, Settings, Trace, Moment, moment, positions, collect, connection_of, last_or, queues, sent_bytes, is_good, is_step, takes, command, connection, name, is_waiting, waiting, done, good, steps_after, serves_in, ends_in, passed_at, passed, ends_at, ends, untaken, Connection, First, name_on, filter_on, filter_filter, sum_on, flat_on, every_weaker, range_more, range_below, Event, Entry}
 
 pub moment_before : (t : Trace) (m : Moment) (x : ℕ) → x < length t → moment (t ++ m ∷ []) x ≡ moment t x
 unfolding moment
@@ -16,19 +16,7 @@ positions_more t m = ap (range_with_len 0) (length_push t m) ∙ range_more (len
 pub collect_more : {X : Type 0} (seen : Trace → Moment → List X) (t : Trace) (m : Moment)
     → collect seen (t ++ m ∷ []) ≡ collect seen t ++ seen t m
 unfolding collect
-collect_more seen t m = search (
-  arith,
-  range_below 0 (length t),
-  take_at t (m ∷ []) (length t) refl,
-  moment_last t m,
-  positions_more t m,
-  append-nil (seen (take (length t) (t ++ m ∷ [])) (moment (t ++ m ∷ []) (length t))),
-  flat_on,
-  every_weaker,
-  take-append-le,
-  moment_before,
-  flat_map-append,
-)
+collect_more seen t m = grind (arith, range_below, take_at, moment_last, positions_more, append-nil, flat_on, every_weaker, take-append-le, moment_before, flat_map-append)
 
 pub last_or-append : {X : Type 0} (xs ys : List X) (d : X) → last_or (xs ++ ys) d ≡ last_or ys (last_or xs d)
 last_or-append [] ys d = refl
@@ -59,21 +47,14 @@ drop_before t m x h = drop-append-le (x + 1) t (m ∷ []) (omega arith)
 pub drop_last : (t : Trace) (m : Moment) → drop (length t + 1) (t ++ m ∷ []) ≡ []
 drop_last t m = drop_all (length t + 1) (t ++ m ∷ []) (omega (arith, length_push t m))
 
-still : (q a e : Bool) → (q && not (a || (e || false))) ≡ ((q && not a) && not e)
-still q a e = grind arith
-
 pub is_waiting_before : (t : Trace) (m : Moment) (x : ℕ) → x < length t
     → is_waiting (t ++ m ∷ []) x ≡ (is_waiting t x && not (ends_in (name t x) m.1))
 unfolding is_waiting
-is_waiting_before t m x h =
-    search (arith, moment_before t m x h, name_before t m x h, drop_before t m x h, not, list_any-append, still)
-
-and_true : (b : Bool) → (b && true) ≡ b
-and_true b = grind arith
+is_waiting_before t m x h = grind (arith, moment_before, name_before, drop_before, list_any-append)
 
 pub is_waiting_last : (t : Trace) (m : Moment) → is_waiting (t ++ m ∷ []) (length t) ≡ queues m.1
 unfolding is_waiting
-is_waiting_last t m = search (arith, moment_last t m, drop_last t m, and_true (queues m.1), not)
+is_waiting_last t m = grind (arith, moment_last, drop_last)
 
 -- What waits after one more moment: what waited and isn't ended by it, and what it queues.
 pub waiting_more : (t : Trace) (m : Moment) → waiting (t ++ m ∷ [])
@@ -103,18 +84,7 @@ done_last t m = ap (count_by (λ (n : Moment). serves_in (name (t ++ m ∷ []) (
 -- How often a command was passed after one more moment.
 pub passed_more : (t : Trace) (m : Moment) (x : ℕ) → passed (t ++ m ∷ []) x ≡ passed t x + passed_at t m x
 unfolding passed
-passed_more t m x = search (
-  arith,
-  range_below 0 (length t),
-  take_at t (m ∷ []) (length t) refl,
-  moment_last t m,
-  positions_more t m,
-  sum_on,
-  every_weaker,
-  take-append-le,
-  moment_before,
-  sum_by_push,
-)
+passed_more t m x = grind (arith, range_below, take_at, moment_last, positions_more, sum_on, every_weaker, take-append-le, moment_before, sum_by_push)
 
 -- ---- ends
 -- The ends after one more moment: those before, and those that it makes.

@@ -1,5 +1,5 @@
 -- What comes from the host of one connection leaves the account of the other's as it was.
-use Rattle.mscp_controller.proofs.Basics.{◌≡◌, ◌≢◌, ℕ, Bool, true, false, not, [], ◌∷◌, ◌++◌, length, ap, ◌∙◌, append-nil, arith, filter, nat_eq, ◌&&◌, cond, Some, true≢false, Connection, Name, same_connection, every_from, every_filter, every_weaker, every_kept, filter_all, one_side, map_on, Event, Entry, Settings, Trace, Moment, comes_by, takes, connection, name, waiting, waiting_by, ends_in, ends_at, balance, outstanding, IsRight, IsUntouched, LeavesOther, command_before, untaken_more, some_same, queues_by, waiting_by_more, waiting_below}
+use Rattle.mscp_controller.proofs.Basics.{◌≡◌, ◌≢◌, ℕ, Bool, true, false, not, [], ◌∷◌, ◌++◌, length, ap, ◌∙◌, append-nil, arith, filter, cond, Some, true≢false, Connection, Name, same_connection, every_from, every_filter, every_weaker, every_kept, filter_all, one_side, map_on, Event, Entry, Settings, Trace, Moment, comes_by, takes, connection, name, waiting, waiting_by, ends_in, ends_at, balance, outstanding, IsRight, IsUntouched, LeavesOther, command_before, untaken_more, some_same, queues_by, waiting_by_more, waiting_below}
 use Rattle.mscp_controller.proofs.Promise.Room.{Room}
 
 -- they are two
@@ -14,13 +14,9 @@ record IsForeign (c : Settings) (via : Connection) (t : Trace) (m : Moment) : Ty
   kept : (n : Name) → same_connection n.connection via ≡ true → ends_in n m.1 ≡ false
 
 -- a command of the other connection isn't aborted
-unaborted : (own via : Connection) (n : Name) (other : ℕ) → same_connection own via ≡ false
-    → same_connection n.connection via ≡ true → (same_connection own n.connection && nat_eq other n.reference) ≡ false
-unaborted own via n other e h = search (arith, one_side n.connection via h)
-
 foreign_sent : (c : Settings) (own via : Connection) (t : Trace) (event : Event) (entry : Entry) → comes_by event
     ≡ Some own → same_connection own via ≡ false → IsRight c t event entry → IsForeign c via t (event, entry)
-foreign_sent c own via t event entry h6 h7 h8 = grind (arith, some_same, unaborted, true≢false)
+foreign_sent c own via t event entry h6 h7 h8 = grind (arith, some_same, true≢false, one_side)
 
 module _ (c : Settings) (via : Connection) (t : Trace) (m : Moment) where
   same_waits : IsForeign c via t m → waiting_by via (t ++ m ∷ []) ≡ waiting_by via t

@@ -53,8 +53,7 @@ module _ (c : Settings) (t : Trace) (m : Moment) (s : Service) (k : Block) (y : 
       → s.started ≡ true → (x : ℕ) → x < y → is_unstarted t x ≡ true → passed (t ++ m ∷ []) x ≡ passed t x + charge t y
   passed_front st e x h u =
       let a = st.serves.among in
-      let own : starts_behind t m x y ≡ true = ap (λ b. b && starts_in (name t y) m.1) (lt-ltb x y h)
-      ∙ starts_own t m s y st.serves.is st.serves.same e in
+      let own : starts_behind t m x y ≡ true = grind (arith, lt-ltb, starts_own) in
       let one : starters t m x ≡ y ∷ [] = starters_at t m x ∙ (ap (filter (starts_behind t m x)) a.at.is ∙ filter_one
       (starts_behind t m x) front y back (behind_other t m s x y st.serves.is st.serves.same front a.before)
       own (behind_other t m s x y st.serves.is st.serves.same back a.behind)) in

@@ -1,5 +1,5 @@
 -- Each legal trace keeps its promise.
-use Rattle.mscp_controller.proofs.Bridge.Basics.{◌≡◌, ◌≢◌, ℕ, zero, suc, ◌+◌, ◌<◌, ◌≤◌, Bool, true, false, cond, List, [], ◌∷◌, ◌++◌, take, get_or, length, sym, ◌∙◌, subst, append-nil, arith, filter, Some, Contains, false≢true, AllByRecursion, range_with_len, All-contains, All-from_recursion, Settings, IsValid, bound, Trace, Moment, moment, positions, Service, service_in, WhenStarted, name, weight, is_waiting, waiting, done, left, steps_after, service_name, passed, is_free, figure, figure_of, answer, IsRight, IsLegal, IsFreeStart, LeavesOther, Promise, TellsFigure, every_weaker, every_append, every_both, shaped, ends_more, alone, figure_of_one, cut_of, waits_below, step_right, startable_of, startable_parts, Steady, Known, known, more_at}
+use Rattle.mscp_controller.proofs.Bridge.Basics.{◌≡◌, ◌≢◌, ℕ, suc, ◌+◌, ◌<◌, ◌≤◌, Bool, true, false, cond, List, [], ◌∷◌, ◌++◌, take, get_or, length, sym, ◌∙◌, subst, append-nil, arith, filter, Some, Contains, false≢true, AllByRecursion, range_with_len, All-contains, All-from_recursion, Settings, IsValid, bound, Trace, Moment, moment, positions, Service, service_in, WhenStarted, name, weight, is_waiting, waiting, done, left, steps_after, service_name, passed, is_free, figure, figure_of, answer, IsRight, IsLegal, IsFreeStart, LeavesOther, Promise, TellsFigure, every_weaker, every_append, every_both, shaped, ends_more, alone, figure_of_one, cut_of, waits_below, step_right, startable_of, startable_parts, Steady, Known, known, more_at}
 use Rattle.mscp_controller.proofs.Promise.Alone.{oldest_starts, one_served}
 use Rattle.mscp_controller.proofs.Promise.Falls.{figure_gone, figure_left, every_split}
 use Rattle.mscp_controller.proofs.Promise.Falling.{falling}
@@ -31,12 +31,11 @@ there y x xs h = let l = h.1 in (suc h.0, omega arith, h.2)
 
 kept_in : (p : ℕ → Bool) (xs : List ℕ) (x k : ℕ) → k < length xs → get_or xs k x ≡ x → p x ≡ true
     → Contains (filter p xs) x
-kept_in p [] x k l is e = absurd (omega arith)
-kept_in p (y ∷ ys) x zero l is e = search arith
 kept_in p (y ∷ ys) x (suc k) l is e =
     let rest = kept_in p ys x k (omega arith) is e in
     elim (p y) as (λ b. Contains (cond b (y ∷ filter p ys) (filter p ys)) x)
     [ true ↦ there y x (filter p ys) rest | false ↦ rest ]
+kept_in p o x k l is e = grind arith
 
 in_range : (a n i : ℕ) → i < n → Contains (range_with_len a n) (a + i)
 in_range a (suc n) (suc i) h =

@@ -1,11 +1,8 @@
 -- A command that is queued is no longer than may be, and leaves a credit.
-use Rattle.mscp_controller.proofs.Common.{◌≡◌, ◌≢◌, ℕ, ◌<◌, ◌≤◌, Bool, true, false, not, ◌&&◌, List, [], ◌∷◌, ◌++◌, length, sym, subst, arith, nat_eq, if◌then◌else◌, Option, None, is_none, AllByRecursion, ltb-false, eqb-false, true≢false, false≢true, Command, Order, command_of, Connection, Settings, order_fault, fault_of, is_immediate, is_queued, order_weight, Trace, Moment, command, weight, waiting, balance, IsRight, every_kept, every_append}
+use Rattle.mscp_controller.proofs.Common.{◌≡◌, ℕ, ◌<◌, ◌≤◌, true, false, not, List, [], ◌∷◌, ◌++◌, length, sym, subst, arith, None, AllByRecursion, ltb-false, eqb-false, true≢false, false≢true, Command, command_of, Connection, Settings, fault_of, is_immediate, is_queued, order_weight, Trace, Moment, command, weight, waiting, balance, IsRight, every_kept, every_append}
 use Rattle.mscp_controller.proofs.Promise.Grows.{command_before, command_last, waiting_more}
 use Rattle.mscp_controller.proofs.Promise.Waits.{waiting_below}
-use Rattle.mscp_controller.proofs.Promise.Arrivals.{Queues, queued_right, if_none}
-
-none_of : {X : Type 0} (o : Option X) → is_none o ≡ true → o ≡ None
-none_of o h1 = grind (arith, false≢true)
+use Rattle.mscp_controller.proofs.Promise.Arrivals.{Queues, queued_right}
 
 -- an order that isn't refused and isn't immediate
 pub record IsOpen (c : Settings) (k : Command) : Type 0 where
@@ -13,7 +10,7 @@ pub record IsOpen (c : Settings) (k : Command) : Type 0 where
   pub sound : fault_of c k ≡ None
 
 pub queued_open : (c : Settings) (k : Command) → is_queued c k ≡ true → IsOpen c k
-queued_open c k h = search (arith, false≢true, none_of)
+queued_open c k h = grind (arith, false≢true)
 
 -- ---- lengths
 -- no waiting command is longer than the longest
@@ -23,7 +20,7 @@ Short c t xs = AllByRecursion (λ x. weight t x ≤ c.longest) xs
 -- a queued command is no longer than the longest
 pub queued_short : (c : Settings) (k : Command) → 1 ≤ c.longest → is_queued c k ≡ true
     → order_weight k.order ≤ c.longest
-queued_short c k l q = search (arith, queued_open, true≢false, if_none, ltb-false)
+queued_short c k l q = grind (arith, queued_open, true≢false, ltb-false)
 
 -- ---- what holds of each command that is queued
 same_each : (P : Command → Type 0) (t : Trace) (m : Moment) (xs : List ℕ) → AllByRecursion (λ x. x < length t) xs
@@ -45,15 +42,7 @@ short_more c t m l r h = each_queued c (λ k. order_weight k.order ≤ c.longest
 
 -- ---- credits
 -- a message that isn't too short has its own order
-long_enough : (c : Settings) (u : ℕ) (short : Bool) (byte : ℕ) (o : Order)
-    → is_immediate (if short then Order.Invalid byte 0x0001 else o) ≡ false
-    → order_fault c u (if short then Order.Invalid byte 0x0001 else o) ≡ None → is_immediate o ≡ false
-long_enough c u short byte o h5 h6 = grind (arith, true≢false)
-
-two_of : (n : ℕ) (immediate : Bool) → immediate ≡ false → n ≢ 0 → (nat_eq n 1 && not immediate) ≡ false → 2 ≤ n
-two_of n immediate h2 h3 h4 = grind (arith, true≢false, eqb-false)
-
 -- Where a command is queued, two credits are free.
 pub two_free : (c : Settings) (via : Connection) (t : Trace) (b : List ℕ) → Queues c via t b → 2 ≤ balance c via t
 unfolding command_of
-two_free c via t b q = search (arith, two_of, queued_open, long_enough)
+two_free c via t b q = grind (arith, queued_open, true≢false, eqb-false)

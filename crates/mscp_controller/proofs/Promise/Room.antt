@@ -1,5 +1,5 @@
 -- The commands and the untaken ends of each connection never exceed its credits, and one credit of it is kept.
-use Rattle.mscp_controller.proofs.Basics.{◌≡◌, ℕ, ◌+◌, ◌<◌, ◌≤◌, Bool, true, false, not, List, [], ◌∷◌, ◌++◌, length, refl, ap, sym, subst, ◌∙◌, arith, append-nil, filter, if◌then◌else◌, count_by, slice_get, Option, Some, None, is_some, option_map, option_to_list, Ok, Err, AllByRecursion, length-append, length-map, length-drop, filter-append, true≢false, false≢true, ArrayVec, Command, Order, command_of, end_bytes, Connection, Name, name_on, same_connection, same_name, is_same, one_side, own_side, same_is, fewer, every_weaker, every_filter, every_from, filter_filter, filter_on, Sent, Event, Entry, Settings, credits_of, room_of, fault_of, is_queued, Trace, Moment, collect, sent_bytes, takes, Service, service_in, command, name, reference, waiting, waiting_by, aborts, aborted, aborted_unless, answer, ends_at, named, ends, untaken, balance, aborted_reference, arrival, IsRight, Report, ends_more, taken_more, Queues, arrives, queued_right, taken_when, two_free, kept_own, step_right, queues_by, waiting_by_length, Steady}
+use Rattle.mscp_controller.proofs.Basics.{◌≡◌, ℕ, ◌+◌, ◌<◌, ◌≤◌, Bool, true, false, not, List, [], ◌∷◌, ◌++◌, length, refl, ap, sym, subst, ◌∙◌, arith, append-nil, filter, if◌then◌else◌, count_by, slice_get, Option, Some, is_some, option_map, option_to_list, Ok, Err, AllByRecursion, length-append, length-map, length-drop, filter-append, true≢false, false≢true, ArrayVec, Command, Order, command_of, end_bytes, Connection, Name, name_on, same_connection, same_name, is_same, one_side, own_side, same_is, fewer, every_weaker, every_filter, every_from, filter_filter, filter_on, Sent, Event, Entry, Settings, credits_of, room_of, fault_of, is_queued, Trace, Moment, collect, sent_bytes, takes, Service, service_in, command, name, reference, waiting, waiting_by, aborts, aborted, aborted_unless, answer, ends_at, ends, untaken, balance, aborted_reference, arrival, IsRight, Report, ends_more, taken_more, Queues, arrives, queued_right, taken_when, two_free, kept_own, step_right, queues_by, waiting_by_length, Steady}
 
 -- each connection's ends that were taken were there, its commands and untaken ends have credits, and one is kept
 pub record Room (c : Settings) (t : Trace) : Type 0 where
@@ -40,15 +40,10 @@ named_rest via t q other a (y ∷ ys) e first =
     omega (arith, two, ap length (sym (named_by via t other) ∙ e))
 
 -- an order that names none aborts none
-rest_of : (via : Connection) (t : Trace) (q : ℕ) (o : Order) (f : Option ℕ) (a : Option ℕ) → named via t o ≡ []
-    → length (filter (λ x. not (aborts (name t x) (Answer via q a))) (waiting_by via t))
-    + length (aborted_unless via t o f) ≤ length (waiting_by via t)
-rest_of via t q o f a h6 = search (arith, fewer)
-
 aborted_rest : (via : Connection) (t : Trace) (q : ℕ) (o : Order) (f : Option ℕ) (a : Option ℕ) → a
     ≡ option_map (reference t) (slice_get (aborted_unless via t o f) 0) → length (filter (λ x. not (aborts (name t x)
     (Answer via q a))) (waiting_by via t)) + length (aborted_unless via t o f) ≤ length (waiting_by via t)
-aborted_rest via t q o f a h6 = search (arith, named_rest, rest_of, fewer)
+aborted_rest via t q o f a h6 = grind (arith, named_rest, fewer)
 
 answered_length : (c : Settings) (via : Connection) (t : Trace) (b : List ℕ)
     → length (answer c via t b) ≡ length (aborted c via t (command_of b)) + 1
@@ -75,18 +70,9 @@ module _ (c : Settings) (via : Connection) (t : Trace) where
   unfolding balance
   balance_two h = omega (arith, h)
 
-is_answer : Sent → Bool
-is_answer (Sent.Queued r) = false
-is_answer (Sent.Answered r a) = true
-
-aborted_of : Sent → Option ℕ
-aborted_of (Sent.Queued r) = None
-aborted_of (Sent.Answered r a) = a
-
 taken_as_answer : (c : Settings) (via : Connection) (t : Trace) (command : Command) (q : Bool) (r : ℕ) (a : Option ℕ)
     → Sent.Answered r a ≡ taken_when c via t command q → a ≡ aborted_reference c via t command
-unfolding is_answer aborted_of
-taken_as_answer c via t command q r a h7 = grind (arith, true≢false, is_answer, aborted_of)
+taken_as_answer c via t command q r a h7 = grind (arith, true≢false)
 
 -- ---- a step
 served_fits : (c : Settings) (via : Connection) (t : Trace) (m : Moment) (s : Service) → Room c t → Steady c t
@@ -110,10 +96,7 @@ module _ (c : Settings) (via : Connection) (t : Trace) where
       let is = taken_as_answer c via t (command_of b) (is_queued c (command_of b)) q a k.is in
       let rest = aborted_rest via t q (command_of b).order (fault_of c (command_of b)) a is in
       let more = waiting_by_length via t m in
-      record {
-        room = omega (arith, balance_some c via t k.taken.free, rest, more, ap length e ∙ answered_length c via t b);
-        spare = omega (arith, h.spare via, rest, more);
-      }
+      grind (arith, balance_some, answered_length, b, k, rest, more)
 
 -- what a message leaves of the credits of a connection, its own or the other
 sent_fits : (c : Settings) (via own : Connection) (t : Trace) (b : ArrayVec ℕ) (sent : Sent)

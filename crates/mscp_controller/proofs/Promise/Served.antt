@@ -1,5 +1,5 @@
 -- What waits after a step, and how often each command was served.
-use Rattle.mscp_controller.proofs.Common.{◌≡◌, ◌≢◌, ℕ, ◌+◌, ◌<◌, Bool, true, false, cond, not, ◌&&◌, List, [], ◌∷◌, ◌++◌, length, refl, ap, sym, ◌∙◌, subst, arith, append-nil, filter, Option, Some, None, is_some, AllByRecursion, filter-append, false≢true, Block, Event, Entry, Settings, Trace, Moment, queues, Service, service_in, name, waiting, done, service_is, service_name, service_ends, ends_in, IsRight, IsServed, Name, name_on, is_differ, is_same, every_weaker, every_both, every_parts, filter_all, Report}
+use Rattle.mscp_controller.proofs.Common.{◌≡◌, ◌≢◌, ℕ, ◌+◌, ◌<◌, Bool, true, false, cond, not, List, [], ◌∷◌, ◌++◌, length, subst, arith, append-nil, Some, is_some, AllByRecursion, filter-append, false≢true, Block, Event, Entry, Settings, Trace, Moment, queues, Service, service_in, name, waiting, done, service_name, service_ends, ends_in, IsRight, IsServed, Name, name_on, is_differ, is_same, every_weaker, every_both, every_parts, filter_all}
 use Rattle.mscp_controller.proofs.Promise.Grows.{done_before, waiting_more}
 use Rattle.mscp_controller.proofs.Promise.Waits.{Cut, cut, waits_below, waiting_below}
 use Rattle.mscp_controller.proofs.Promise.Apart.{Apart}
@@ -8,33 +8,18 @@ use Rattle.mscp_controller.proofs.Promise.Among.{Alone, alone}
 -- ---- what a moment that serves says of the others
 pub ends_served : (r : Name) (entry : Entry) (s : Service) → service_in entry ≡ Some s
     → ends_in r entry ≡ service_ends r (Some s)
-ends_served r (Entry.Stepped report) s e = ap (service_ends r) e
-ends_served r _ s e = absurd (false≢true (ap is_some e))
+ends_served r o s e = grind (arith, false≢true)
 
 pub queues_served : (entry : Entry) (s : Service) → service_in entry ≡ Some s → queues entry ≡ false
-queues_served (Entry.Stepped report) s e = refl
-queues_served _ s e = absurd (false≢true (ap is_some e))
-
-some_value : {X : Type 0} → X → Option X → X
-some_value d None = d
-some_value d (Some x) = x
+queues_served o s e = grind (arith, false≢true)
 
 pub some_same : {X : Type 0} (x y : X) → Some x ≡ Some y → x ≡ y
-unfolding some_value
-some_same x y e = ap (some_value x) e
+some_same x y e = grind arith
 
 -- A right moment that serves is a step of a command that may be served.
 pub served_right : (c : Settings) (t : Trace) (event : Event) (entry : Entry) (s : Service)
     → service_in entry ≡ Some s → IsRight c t event entry → (k : Block) × (y : ℕ) × IsServed c t k s y
-served_right c t (Event.Step k) (Entry.Stepped (Report.Served via reference unit lbn started seek ended)) s e h =
-    (k, h.0, subst (λ (s : Service). IsServed c t k s h.0) (some_same _ s e) h.1)
-served_right c t event (Entry.Stepped Report.Idle) s e h = absurd (false≢true (ap is_some e))
-served_right c t event (Entry.Sent to sent) s e h = absurd (false≢true (ap is_some e))
-served_right c t event (Entry.Taken to taken) s e h = absurd (false≢true (ap is_some e))
-served_right c t event (Entry.Looked list) s e h = absurd (false≢true (ap is_some e))
-served_right c t (Event.Take from) (Entry.Stepped (Report.Served via r u lbn q seek e')) s e h = absurd h
-served_right c t Event.Look (Entry.Stepped (Report.Served via r u lbn q seek e')) s e h = absurd h
-served_right c t (Event.Send from b) (Entry.Stepped (Report.Served via r u lbn q seek e')) s e h = absurd h
+served_right c t event o s e h = grind (arith, some_same, false≢true)
 
 -- ---- a step of y
 -- a moment that serves y, which waits among front and back
@@ -59,27 +44,22 @@ below_parts t y front back k =
 
 kept_other : (t : Trace) (m : Moment) (s : Service) (y x : ℕ) → service_in m.1 ≡ Some s → service_name s ≡ name t y
     → name t x ≢ name t y → not (ends_in (name t x) m.1) ≡ true
-kept_other t m s y x e r n = ap not (ends_served (name t x) m.1 s e
-    ∙ ap (λ b. b && is_some s.ended) (is_differ (service_name s) (name t x) (λ h. n (sym h ∙ r))))
+kept_other t m s y x e r n = grind (arith, ends_served, is_differ)
 
 pub kept_own : (t : Trace) (m : Moment) (s : Service) (y : ℕ) → service_in m.1 ≡ Some s → service_name s ≡ name t y
     → not (ends_in (name t y) m.1) ≡ not (is_some s.ended)
-kept_own t m s y e r = ap not (ends_served (name t y) m.1 s e
-    ∙ ap (λ b. b && is_some s.ended) (is_same (service_name s) (name t y) r))
+kept_own t m s y e r = grind (arith, ends_served, is_same)
 
 done_other : (t : Trace) (m : Moment) (s : Service) (y x : ℕ) → service_in m.1 ≡ Some s
     → service_name s ≡ name t y → x < length t → name t x ≢ name t y → done (t ++ m ∷ []) x ≡ done t x
-done_other t m s y x e r l n = done_before t m x l ∙ (ap (λ o. done t x + cond (service_is (name t x) o) 1 0) e
-    ∙ (ap (λ b. done t x + cond b 1 0) (is_differ (service_name s) (name t x) (λ h. n (sym h ∙ r))) ∙ omega arith))
+done_other t m s y x e r l n = grind (arith, done_before, is_differ)
 
 done_own : (t : Trace) (m : Moment) (s : Service) (y : ℕ)
     → service_in m.1 ≡ Some s → service_name s ≡ name t y → y < length t → done (t ++ m ∷ []) y ≡ done t y + 1
-done_own t m s y e r l = done_before t m y l ∙ (ap (λ o. done t y + cond (service_is (name t y) o) 1 0) e
-    ∙ ap (λ b. done t y + cond b 1 0) (is_same (service_name s) (name t y) r))
+done_own t m s y e r l = grind (arith, done_before, is_same)
 
 cond_not : (y : ℕ) (back : List ℕ) (b : Bool) → cond (not b) (y ∷ back) back ≡ cond b [] (y ∷ []) ++ back
-cond_not y back true = refl
-cond_not y back false = refl
+cond_not y back o = grind arith
 
 pub changes : (t : Trace) (m : Moment) (s : Service) (y : ℕ) (front back : List ℕ)
     → Serves t m s y front back → Changes t (t ++ m ∷ []) s y front back
@@ -91,13 +71,7 @@ changes t m s y front back v =
     let still : (x : ℕ) → (name t x ≢ name t y) × (x < length t)
     → done (t ++ m ∷ []) x ≡ done t x = λ x h. done_other t m s y x v.is v.same h.1 h.0 in
     record {
-      waits = waiting_more t m ∙ (ap (λ b. filter keep (waiting t) ++ cond b (length t ∷ []) []) (queues_served m.1
-          s v.is) ∙ (append-nil (filter keep (waiting t)) ∙ (ap (filter keep) a.at.is ∙ (filter-append keep
-          front (y ∷ back) ∙ (ap (λ l. l ++ cond (keep y) (y ∷ filter keep back) (filter keep back))
-          (filter_all keep front (every_weaker (λ x. name t x ≢ name t y) (λ x. keep x ≡ true) other front a.before))
-          ∙ (ap (λ l. front ++ cond (keep y) (y ∷ l) l) (filter_all keep back (every_weaker (λ x. name t x ≢ name t y)
-          (λ x. keep x ≡ true) other back a.behind)) ∙ (ap (λ b. front ++ cond b (y ∷ back) back)
-          (kept_own t m s y v.is v.same) ∙ ap (λ l. front ++ l) (cond_not y back (is_some s.ended)))))))));
+      waits = grind (arith, waiting_more, queues_served, append-nil, filter-append, filter_all, every_weaker, kept_own, cond_not, a, keep, other);
       front_done = every_weaker (λ x. (name t x ≢ name t y) × (x < length t)) (λ x. done (t ++ m ∷ []) x ≡ done t x)
           still front (every_both (λ x. name t x ≢ name t y) (λ x. x < length t) front a.before below.0);
       own_done = done_own t m s y v.is v.same below.1.0;

@@ -1,38 +1,15 @@
 -- Each end that a legal trace makes has the body of its endcode.
-use Rattle.mscp_controller.proofs.Common.{◌≡◌, ℕ, zero, suc, ◌+◌, ◌<◌, Bool, List, [], ◌∷◌, ◌++◌, map, length, take, refl, sym, subst, arith, find, flat_map, nat_eq, if◌then◌else◌, slice_index, All, Option, Some, None, option_to_list, AllByRecursion, range_with_len, eqb-true, flat_map-cons, All-from_recursion, Opcode, Command, Order, row_of, opcode_of, opcodes, command_of, order_with, parameters, End, IsOfKind, kind_of_body, kind_of_code, invalid_length, Block, endcode, IsCoded, aborted_end, aborted_kind, ended_kind, refused_kind, every_append, found_is, Connection, Settings, unit_shape, answer_body, own_end, own_end_with, Moment, Trace, moment, positions, collect, sent_bytes, command, good, unit, is_online, aborted, answer, ends_at, outcome, ends, IsLegal, IsRight, end_of}
+use Rattle.mscp_controller.proofs.Common.{ℕ, zero, suc, ◌+◌, ◌<◌, List, [], ◌∷◌, map, length, take, arith, flat_map, All, option_to_list, AllByRecursion, range_with_len, eqb-true, flat_map-cons, All-from_recursion, command_of, IsOfKind, Block, IsCoded, aborted_end, aborted_kind, ended_kind, refused_kind, every_append, found_is, Connection, Settings, Moment, Trace, moment, positions, collect, sent_bytes, command, good, answer, ends_at, outcome, ends, IsLegal, IsRight, end_of}
 
 -- ---- what a message asks for has an endcode
-coded_parameters : (o : Opcode) (b : List ℕ) → IsCoded (parameters o b)
-coded_parameters o b = grind arith
-
 -- a message that is too short has the endcode of its opcode
-coded_short : (o : Opcode) → IsCoded (Order.Invalid (row_of o).byte invalid_length)
-coded_short o = grind arith
-
-coded_with : (b : List ℕ) (found : Option Opcode) → find (λ o. nat_eq (row_of o).byte (slice_index b 8)) opcodes
-    ≡ found → IsCoded (order_with found b)
-coded_with b None e = refl
-coded_with b (Some o) e = search (arith, coded_short o, coded_parameters o b, eqb-true, found_is)
-
 pub coded : (b : List ℕ) → IsCoded (command_of b).order
 unfolding command_of
-coded b = coded_with b (opcode_of (slice_index b 8)) refl
+coded b = grind (arith, eqb-true, found_is)
 
 command_coded : (t : Trace) (x : ℕ) → IsCoded (command t x).order
 unfolding command
 command_coded t x = coded (sent_bytes (moment t x).0)
-
--- ---- the end of an answered command
-answer_kind : (c : Settings) (figure number : ℕ) (o : Order) → IsCoded o
-    → kind_of_code (endcode o) ≡ Some (kind_of_body (answer_body c figure number o))
-answer_kind c figure number o h4 = grind (arith, refused_kind)
-
-module _ (c : Settings) (online : Bool) (figure : ℕ) (sent : Command) where
-  answered_kind : (fault : Option ℕ) → IsCoded sent.order → IsOfKind (own_end_with c online figure sent fault)
-  answered_kind fault h5 = grind (arith, refused_kind, answer_kind)
-
-  pub own_kind : IsCoded sent.order → IsOfKind (own_end c online figure sent)
-  own_kind h = answered_kind _ h
 
 -- ---- the ends of a moment
 aborted_kinds : (t : Trace) (xs : List ℕ) → AllByRecursion IsOfKind (map (λ x. aborted_end (command t x) (good t x)) xs)
@@ -41,35 +18,24 @@ aborted_kinds t (x ∷ xs) = (aborted_kind (command t x) (good t x) (command_cod
 
 answer_kinds : (c : Settings) (via : Connection) (t : Trace) (b : List ℕ) → AllByRecursion IsOfKind (answer c via t b)
 unfolding answer
-answer_kinds c via t b = every_append IsOfKind (map (λ x. aborted_end (command t x) (good t x)) (aborted c via t
-    (command_of b))) _ (aborted_kinds t (aborted c via t (command_of b))) (own_kind c _ _ (command_of b) (coded b), tt)
+answer_kinds c via t b = grind (arith, every_append, aborted_kinds, coded, refused_kind)
 
 outcome_kind : (c : Settings) (t : Trace) (k : Block) (y : ℕ) → IsOfKind (outcome c t k y)
 unfolding outcome
-outcome_kind c t k y = ended_kind (unit_shape c (command t y).unit) (is_online t (unit t y)) (command t y) (good t y) k
-    (command_coded t y)
+outcome_kind c t k y = grind (arith, ended_kind, command_coded)
 
 end_kinds : (c : Settings) (t : Trace) (k : Block) (y : ℕ) → AllByRecursion IsOfKind (option_to_list (end_of c t k y))
 end_kinds c t k y = search (arith, outcome_kind c t k y)
 
-sent_kinds : (c : Settings) (via : Connection) (t : Trace) (b : List ℕ) (answered : Bool)
-    → AllByRecursion IsOfKind ((if answered then answer c via t b else []) ++ [])
-sent_kinds c via t b answered = grind (arith, every_append, answer_kinds)
-
-served_kinds : (here : Bool) (ended : Option End) → AllByRecursion IsOfKind (option_to_list ended)
-    → AllByRecursion IsOfKind (if here then option_to_list ended else [])
-served_kinds here ended h2 = grind arith
-
 moment_kinds : (c : Settings) (via : Connection) (t : Trace) (m : Moment) → IsRight c t m.0 m.1
     → AllByRecursion IsOfKind (ends_at c via t m)
-moment_kinds c via t m h4 = grind (arith, sent_kinds, served_kinds, end_kinds)
+moment_kinds c via t m h4 = grind (arith, end_kinds, every_append, answer_kinds)
 
 -- ---- all ends
 every_flat : {X A : Type 0} (P : A → Type 0) (f : X → List A)
     → (xs : List X) → AllByRecursion (λ x. AllByRecursion P (f x)) xs → AllByRecursion P (flat_map f xs)
 every_flat P f [] h = tt
-every_flat P f (x ∷ xs) h = subst (AllByRecursion P)
-    (sym (flat_map-cons f x xs)) (every_append P (f x) (flat_map f xs) h.0 (every_flat P f xs h.1))
+every_flat P f (x ∷ xs) h = grind (arith, every_flat P f xs h.1, flat_map-cons, every_append)
 
 every_range : (P : ℕ → Type 0) (a n : ℕ) → ((i : ℕ) → i < a + n → P i) → AllByRecursion P (range_with_len a n)
 every_range P a zero h = tt

@@ -38,8 +38,7 @@ flat_none f (x ∷ xs) h = ap (λ l. l ++ flat_map f xs) h.0 ∙ flat_none f xs 
 
 flat_one : {X : Type 0} (f : ℕ → List X) (xs : List ℕ) (y : ℕ) (ys : List ℕ) → AllByRecursion (λ x. f x ≡ []) xs
     → AllByRecursion (λ x. f x ≡ []) ys → flat_map f (xs ++ y ∷ ys) ≡ f y
-flat_one f xs y ys h k =
-    search (arith, flat_map-append f xs (y ∷ ys), flat_none f xs h, flat_none f ys k, append-nil (f y))
+flat_one f xs y ys h k = grind (arith, flat_map-append, flat_none, append-nil)
 
 if_same : {X : Type 0} (b : Bool) (x : X) → (if b then x else x) ≡ x
 if_same b x = grind arith
@@ -61,8 +60,7 @@ states_step t m s y u front back a e r = search
 states_none : (t : Trace) (u : ℕ) (xs : List ℕ) → flat_map (given t u None) xs ≡ []
 unfolding given
 states_none t u [] = refl
-states_none t u (x ∷ xs) = ap (λ l. l ++ flat_map (given t u None) xs) (if_same (nat_eq (unit t x) u) [])
-    ∙ states_none t u xs
+states_none t u (x ∷ xs) = grind (arith, states_none t u xs, given, if_same)
 
 pub is_online_kept : (t : Trace) (m : Moment) (u : ℕ) → service_in m.1 ≡ None
     → is_online (t ++ m ∷ []) u ≡ is_online t u

@@ -13,8 +13,7 @@ sum_kept f p (x ∷ xs) = search (arith, sum_kept f p xs, sum_by-cons f x xs, su
 
 sum_kept_of : (f : ℕ → ℕ) (p q : ℕ → Bool) (xs : List ℕ) → sum_by f (filter p (filter q xs)) ≤ sum_by f (filter p xs)
 sum_kept_of f p q [] = omega arith
-sum_kept_of f p q (x ∷ xs) =
-    search (arith, sum_kept_of f p q xs, sum_by-cons f x (filter p xs), sum_by-cons f x (filter p (filter q xs)))
+sum_kept_of f p q (x ∷ xs) = grind (arith, sum_kept_of f p q xs, sum_by-cons)
 
 working_same : (t t' : Trace) (xs : List ℕ) → AllByRecursion (λ x. record_of t' x ≡ record_of t x) xs
     → working t' xs ≡ working t xs
@@ -40,9 +39,7 @@ module _ (c : Settings) (t : Trace) (m : Moment) (h : Leaves t m) (d : done (t +
       let new : List ℕ = cond (queues m.1) (length t ∷ []) [] in
       let same = every_parts (λ z. record_of t' z ≡ record_of t z) A (x ∷ B)
       (subst (λ l. AllByRecursion (λ z. record_of t' z ≡ record_of t z) l) q h) in
-      let e' : waiting t' ≡ filter keep A ++ x ∷ (filter keep B ++ new) = waiting_more t m
-      ∙ (ap (λ l. filter keep l ++ new) q ∙ (ap (λ l. l ++ new) (filter-append keep A (x ∷ B) ∙ ap (λ b. filter keep
-      A ++ cond b (x ∷ filter keep B) (filter keep B)) k) ∙ append_assoc (filter keep A) (x ∷ filter keep B) new)) in
+      let e' : waiting t' ≡ filter keep A ++ x ∷ (filter keep B ++ new) = grind (arith, waiting_more, filter-append, append_assoc, t, keep, new) in
       let S = sum_by (left t) A + working t B + (c.budget - passed t x) + left t x in
       let S' =
       sum_by (left t') (filter keep A) + working t' (filter keep B ++ new) + (c.budget - passed t' x) + left t' x in

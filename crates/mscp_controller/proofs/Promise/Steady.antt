@@ -1,5 +1,5 @@
 -- What is true after every part of a legal run, from the definitions alone.
-use Rattle.mscp_controller.proofs.Common.{◌≡◌, ◌⊎◌, inl, inr, ⊎_elim, ℕ, ◌<◌, Bool, true, false, cond, not, ◌||◌, List, [], ◌∷◌, ◌++◌, length, refl, ap, sym, subst, arith, append-nil, filter, Option, Some, None, is_some, AllByRecursion, ltb-true, or_cases, true≢false, false≢true, Command, some_steps, Block, Settings, order_weight, Trace, Moment, Service, service_in, name, order, weight, waiting, done, left, in_service, ends_in, is_startable, IsRight, end_of, Pairs, every_weaker, every_kept, every_append, every_parts, every_both, pairs_filter, pairs_append, pairs_middle}
+use Rattle.mscp_controller.proofs.Common.{◌≡◌, ◌⊎◌, inl, inr, ⊎_elim, ℕ, ◌<◌, Bool, true, false, cond, not, ◌||◌, List, [], ◌∷◌, ◌++◌, length, refl, ap, subst, arith, append-nil, filter, Option, Some, None, is_some, AllByRecursion, ltb-true, or_cases, true≢false, false≢true, Command, some_steps, Block, Settings, order_weight, Trace, Moment, Service, service_in, name, order, weight, waiting, done, left, in_service, ends_in, is_startable, IsRight, end_of, Pairs, every_weaker, every_kept, every_append, every_parts, every_both, pairs_filter, pairs_append, pairs_middle}
 use Rattle.mscp_controller.proofs.Promise.Grows.{command_before, done_before, done_last, waiting_more}
 use Rattle.mscp_controller.proofs.Promise.Waits.{waiting_below}
 use Rattle.mscp_controller.proofs.Promise.Apart.{Apart, apart_more}
@@ -116,16 +116,7 @@ stepped c t m s k y front back r h st =
     let idle = idle_others c t y front back w h.single st.served.next in
     let own : (b : Bool) → is_some s.ended ≡ b
     → Unfinished t' (cond b [] (y ∷ [])) = search (arith, weight_before t m y below.1.0, more_left) in
-    record {
-      apart = apart_more c t m r h.apart;
-      unfinished = subst (Unfinished t') (sym ch.waits) (every_append (λ x. done t' x < weight t' x)
-          front (cond (is_some s.ended) [] (y ∷ []) ++ back) (unfinished_same t m front below.0 ch.front_done parts.0)
-          (every_append (λ x. done t' x < weight t' x) (cond (is_some s.ended) [] (y ∷ []))
-          back (own (is_some s.ended) refl) (unfinished_same t m back below.1.1 ch.back_done parts.1.1)));
-      single = subst (Single t') (sym ch.waits)
-          (single_of t' front (cond (is_some s.ended) [] (y ∷ []) ++ back) (idle_same t t' front ch.front_done idle.0)
-          (single_own t' y back (idle_same t t' back ch.back_done idle.1) (is_some s.ended)));
-    }
+    grind (arith, apart_more, every_append, unfinished_same, single_of, idle_same, single_own, t, ch, below, parts, idle, own)
 
 -- Each right moment keeps it.
 pub steady_more : (c : Settings) (t : Trace) (m : Moment) → IsRight c t m.0 m.1 → Steady c t → Steady c (t ++ m ∷ [])

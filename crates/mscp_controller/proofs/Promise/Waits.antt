@@ -1,5 +1,5 @@
 -- What is true of the waiting commands of every run.
-use Rattle.mscp_controller.proofs.Common.{◌≡◌, ℕ, zero, suc, ◌+◌, ◌-◌, ◌<◌, ◌≤◌, true, cond, not, List, [], ◌∷◌, ◌++◌, length, ap, ◌∙◌, arith, append-nil, filter, AllByRecursion, range_with_len, length-take, get_or_past, filter-append, le-ltb, lt-ltb, ltb-true, ltb-false, true≢false, Trace, Moment, moment, positions, is_waiting, waiting, earlier, later, passed_at, passed, Pairs, filter_all, filter_none, pairs_middle, sum_none, every_weaker, every_kept, every_filter, range_below, pairs_range, pairs_filter}
+use Rattle.mscp_controller.proofs.Common.{◌≡◌, ℕ, suc, ◌+◌, ◌-◌, ◌<◌, ◌≤◌, true, not, List, [], ◌∷◌, ◌++◌, length, ap, ◌∙◌, arith, append-nil, filter, AllByRecursion, range_with_len, length-take, get_or_past, filter-append, le-ltb, lt-ltb, ltb-true, ltb-false, true≢false, Trace, Moment, moment, positions, is_waiting, waiting, earlier, later, passed_at, passed, Pairs, filter_all, filter_none, pairs_middle, sum_none, every_weaker, every_kept, every_filter, range_below, pairs_range, pairs_filter}
 use Rattle.mscp_controller.proofs.Promise.Grows.{passed_more}
 
 pub waiting_below : (t : Trace) → AllByRecursion (λ x. x < length t) (waiting t)
@@ -37,14 +37,12 @@ earlier_is t x A B k =
     search (arith, le-ltb x x (omega arith), append-nil A, filter-append, filter_all, every_weaker, lt-ltb, filter_none)
 
 pub later_is : (t : Trace) (x : ℕ) (A B : List ℕ) → Cut t x A B → later t x ≡ B
-later_is t x A B k =
-    search (arith, le-ltb x x (omega arith), filter-append, filter_none, every_weaker, filter_all, lt-ltb)
+later_is t x o w k = grind (arith, le-ltb, filter-append, filter_none, every_weaker, filter_all, lt-ltb)
 
 range_cut : (a n k : ℕ) → k < n → range_with_len a n ≡ range_with_len a k ++ (a + k)
     ∷ range_with_len (a + k + 1) (n - (k + 1))
-range_cut a zero k h = absurd (omega arith)
-range_cut a (suc n) zero h = search arith
 range_cut a (suc n) (suc k) h = search (arith, range_cut (a + 1) n k (omega arith))
+range_cut a o k h = grind arith
 
 pub cut : (t : Trace) (y : ℕ)
     → y < length t → is_waiting t y ≡ true → (front : List ℕ) × (back : List ℕ) × Cut t y front back
@@ -58,12 +56,9 @@ cut t y l w =
       front,
       back,
       record {
-        is = ap (filter (is_waiting t)) r ∙ (filter-append (is_waiting t)
-            (range_with_len 0 y) (y ∷ range_with_len (y + 1) n) ∙ ap (λ b. front ++ cond b (y ∷ back) back) w);
-        before = every_kept (λ x. x < y) (is_waiting t) (range_with_len 0 y) (every_weaker (λ x. (0 ≤ x) × (x < 0 + y))
-            (λ x. x < y) (λ x h. omega arith) (range_with_len 0 y) (range_below 0 y));
-        behind = every_kept (λ x. y < x) (is_waiting t) (range_with_len (y + 1) n) (every_weaker (λ x. (y + 1 ≤ x)
-            × (x < y + 1 + n)) (λ x. y < x) (λ x h. omega arith) (range_with_len (y + 1) n) (range_below (y + 1) n));
+        is = grind (arith, filter-append, n, r, front, back);
+        before = grind (arith, every_kept, every_weaker, range_below);
+        behind = grind (arith, every_kept, every_weaker, range_below, n);
       },
     )
 

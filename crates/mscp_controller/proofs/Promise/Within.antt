@@ -1,5 +1,5 @@
 -- The figure of each command that waits, and the steps that it has seen, stay within the bound.
-use Rattle.mscp_controller.proofs.Basics.{◌≡◌, ℕ, ◌+◌, ◌*◌, ◌<◌, ◌≤◌, Bool, true, false, cond, not, List, [], ◌∷◌, ◌++◌, get_or, length, refl, ap, sym, ◌∙◌, subst, arith, append-nil, filter, sum_by, Contains, AllByRecursion, All-from_recursion, recursion_from_All, Contains-get_or, sum_by-le, Connection, First, Second, Settings, bound, room, Trace, Moment, connection_of, queues, is_step, sent_bytes, connection, name, weight, waiting, done, left, steps_after, ends_in, passed, figure, balance, IsRight, fewer, every_weaker, every_kept, every_append, every_parts, every_both, waiting_more, done_last, steps_more, steps_last, waiting_below, passed_last, queued_right, Short, two_free, sides_length}
+use Rattle.mscp_controller.proofs.Basics.{◌≡◌, ℕ, ◌+◌, ◌*◌, ◌<◌, ◌≤◌, Bool, true, false, cond, not, List, [], ◌∷◌, ◌++◌, get_or, length, refl, ap, arith, append-nil, filter, sum_by, Contains, AllByRecursion, All-from_recursion, recursion_from_All, Contains-get_or, sum_by-le, Connection, First, Second, Settings, bound, room, Trace, Moment, queues, is_step, connection, name, weight, waiting, done, left, steps_after, ends_in, passed, figure, balance, IsRight, fewer, every_weaker, every_kept, every_append, every_parts, every_both, waiting_more, done_last, steps_more, steps_last, waiting_below, passed_last, queued_right, Short, two_free, sides_length}
 use Rattle.mscp_controller.proofs.Promise.Falls.{figure_idle}
 use Rattle.mscp_controller.proofs.Promise.Falling.{Falling}
 use Rattle.mscp_controller.proofs.Promise.Room.{Room, balance_two}
@@ -62,15 +62,7 @@ within_more c t m r space f short w =
     let front : AllByRecursion New kept = every_kept New keep (waiting t) (stay (is_step m.0) refl) in
     let split : (b : Bool) → queues m.1 ≡ b → AllByRecursion New (waiting t') =
     λ b. elim b as (λ b. queues m.1 ≡ b → AllByRecursion New (waiting t')) [
-      | true ↦ λ e.
-          let is : waiting t' ≡ kept ++ n ∷ [] = waiting_more t m ∙ ap (λ b. kept ++ cond b (n ∷ []) []) e in
-          let via = connection_of m.0 in
-          let one = room_for_one c via t space (two_free c via t (sent_bytes m.0) (queued_right c t m.0 m.1 e r)) in
-          let few : length kept + 1 ≤ room c = omega (arith, one, fewer keep (waiting t)) in
-          let new = new_figure c t' kept n is (done_last t m) (passed_last t m) (subst (Short c t') is short) few in
-          subst (AllByRecursion New) (sym is) (every_append New kept (n ∷ []) front
-          (omega (arith, new, steps_last t m), tt))
-      | false ↦ λ e. subst (AllByRecursion New) (sym
-          (waiting_more t m ∙ (ap (λ b. kept ++ cond b (n ∷ []) []) e ∙ append-nil kept))) front
+      | true ↦ λ e. grind (arith, waiting_more, room_for_one, two_free, queued_right, fewer, new_figure, done_last, passed_last, every_append, steps_last, t, n, keep, kept, front)
+      | false ↦ λ e. grind (arith, waiting_more, append-nil, t, n, kept, front)
     ] in
     split (queues m.1) refl

@@ -1,5 +1,5 @@
 -- An abort and a command that arrives keep the match of the host of their connection and the controller.
-use Rattle.mscp_sim.proofs.Common.{◌≡◌, ⊎_elim, ℕ, ◌+◌, Bool, true, false, ◌&&◌, List, [], ◌∷◌, ◌++◌, map, refl, ap, sym, ◌∙◌, subst, arith, append-nil, find, nat_eq, Some, option_map, option_to_list, AllByRecursion, eq-eqb, length-append, map-append, filter-append, Connection, Name, name_on, own_side, same_is, and-false, Command, Order, End, opcode_byte, Record, aborted_record, fresh_record, has_name, name_of, without, every_append, every_from, filter_filter, filter_on, Found, find_cases, find_none, find_first, Holdings, aborting, more_ends, numbers_ended, outstanding_of, queued, waiting_on, with_end, Both, of, of_more, Submission, Account, is_code_of, Flight, HasOwnEndcode, IsAwaited, IsKnown, Matches, commands, opcode_found, references, times}
+use Rattle.mscp_sim.proofs.Common.{◌≡◌, ⊎_elim, ℕ, ◌+◌, Bool, true, false, ◌&&◌, List, [], ◌∷◌, ◌++◌, map, refl, ap, sym, ◌∙◌, arith, append-nil, find, nat_eq, Some, AllByRecursion, eq-eqb, length-append, map-append, filter-append, Connection, Name, name_on, own_side, same_is, and-false, Command, Order, End, opcode_byte, Record, fresh_record, has_name, name_of, without, every_append, every_from, filter_filter, filter_on, Found, find_cases, find_none, find_first, Holdings, aborting, numbers_ended, outstanding_of, queued, waiting_on, with_end, of, of_more, Submission, Account, is_code_of, Flight, HasOwnEndcode, IsAwaited, IsKnown, Matches, commands, references, times}
 use Rattle.mscp_packet.specs.declared.command.Order.TheVariants as orders
 use Rattle.mscp_sim.proofs.TwoEnds.Counting.{opcode_new}
 use Rattle.mscp_sim.proofs.TwoEnds.Matching.{Adds, Ends, Pushes, awaited_more, counted_numbers, ends_match, known_more, stays, times_called, times_ends}
@@ -57,19 +57,7 @@ aborts_found {K} via a h told n front x back f m =
     ∙ front_kept via n front x back f.before f.passed (none_out via n back none)) in
     let found : find (has_name (name_on via n)) h.waiting ≡ Some x =
     search (arith, find_on via n h.waiting, find_first (has_name (name_on via n)) front x back f.before f.passed) in
-    let ends : Ends via h (aborting via h (orders.Abort n)) = record {
-      front = commands front;
-      own = command;
-      back = commands back;
-      end = aborted_record x;
-      waited = cut;
-      left = ap commands out ∙ map-append (λ (r : Record). r.command) front back;
-      ends = ap (λ o. of via (more_ends via h.untaken (option_to_list (option_map aborted_record o)))) found
-          ∙ of_more via h.untaken (aborted_record x ∷ []);
-      reference = refl;
-      code = refl;
-      settings = refl;
-    } in
+    let ends : Ends via h (aborting via h (orders.Abort n)) = grind (arith, map-append, of_more, command, cut, out, found) in
     search (arith, ends_match, ends)
 
 aborts_none : {K : Type 0} (via : Connection) (a : Account) (h : Holdings K) (told : Flight) (n : ℕ)
@@ -78,16 +66,13 @@ aborts_none : {K : Type 0} (via : Connection) (a : Account) (h : Holdings K) (to
 aborts_none {K} via a h told n none m = grind (arith, find_on, find_none, out_on, all_kept, of_more, append-nil, stays)
 
 -- no end is made
-no_more : (via : Connection) (us : Both (List End)) → of via (more_ends via us []) ≡ of via us
-no_more via us = of_more via us [] ∙ append-nil (of via us)
-
 pub aborting_matches : {K : Type 0} (via : Connection) (a : Account) (h : Holdings K) (told : Flight) (order : Order)
     → Matches via a h told → Matches via a (aborting via h order) told
 aborting_matches via a h told (orders.Abort n) m =
     ⊎_elim (λ none. aborts_none via a h told n none m)
     (λ some. aborts_found via a h told n some.0 some.1 some.2 some.3 m)
     (find_cases (has_name (name_on via n)) (waiting_on via h.waiting))
-aborting_matches via a h told order m = stays via a h (aborting via h order) told refl (no_more via h.untaken) refl m
+aborting_matches via a h told order m = grind (arith, stays, of_more, append-nil)
 
 -- ---- a command arrives
 
@@ -113,11 +98,7 @@ pub queued_pushes : {K : Type 0} (via : Connection) (a a' : Account) (h : Holdin
 queued_pushes {K} via a a' h told s c x m =
     let ws = waiting_on via h.waiting in
     let cs : commands (waiting_on via (queued via h c).waiting) ≡ commands ws ++ c ∷ [] = more_called via h.waiting c in
-    let own : IsKnown (a.outstanding ++ s ∷ []) c = (
-      subst (λ n. opcode_found (a.outstanding ++ s ∷ []) n ≡ Some (opcode_byte c.order)) x.reference
-          (opcode_new a.outstanding s (new_to_host via a h told s.reference m x.adds.new) ∙ ap Some x.opcode),
-      x.coded,
-    ) in
+    let own : IsKnown (a.outstanding ++ s ∷ []) c = grind (arith, opcode_new, new_to_host) in
     record {
       adds = x.adds;
       counts = λ r.
@@ -141,12 +122,7 @@ pub ended_pushes : {K : Type 0} (via : Connection) (a a' : Account) (h : Holding
 ended_pushes {K} via a a' h told s e adds reference code m =
     let us = of via h.untaken in
     let ended : of via (with_end via h e).untaken ≡ us ++ e ∷ [] = of_more via h.untaken (e ∷ []) in
-    let own : IsAwaited (a.outstanding ++ s ∷ []) e = record {
-      opcode = s.opcode;
-      found = subst (λ n. opcode_found (a.outstanding ++ s ∷ []) n ≡ Some s.opcode) (sym reference)
-          (opcode_new a.outstanding s (new_to_host via a h told s.reference m adds.new));
-      code = code;
-    } in
+    let own : IsAwaited (a.outstanding ++ s ∷ []) e = grind (arith, opcode_new, new_to_host) in
     record {
       adds = adds;
       counts = λ r.

@@ -1,5 +1,5 @@
 -- Where a step lies between two polls about one command, the second is told less.
-use Rattle.mscp_sim.proofs.Common.{◌≡◌, inl, inr, ⊎_elim, ℕ, zero, suc, ◌+◌, ◌-◌, ◌<◌, ◌≤◌, Bool, true, [], ◌∷◌, ◌++◌, take, length, refl, ap, sym, ◌∙◌, subst, arith, append-nil, option_or, not, ◌&&◌, if◌then◌else◌, Option, Some, None, is_some, option_to_list, unwrap_or, and_parts, cases_lt, false≢true, true≢false, Connection, Name, name_on, same_connection, own_side, Settings, Moment, Trace, connection_of, is_step, queues, Both, queues_by, sent_command, figure, figure_of, Promise, Account, History, asked_for, asks_about, end_heard, figure_from, figure_in, handed_over, is_end_of, is_it, is_outstanding, is_poll, is_sent, last_told, moment, reference, reference_found, told_at, Stands, found_before, found_out, last_then, out_below, out_new, out_old, was_out, it_is, Turn, Talk, accounts_at, history, said, trace_of, IsHeard, IsStepTurn, StepsSincePolls}
+use Rattle.mscp_sim.proofs.Common.{◌≡◌, inl, inr, ⊎_elim, ℕ, zero, suc, ◌+◌, ◌-◌, ◌<◌, ◌≤◌, true, [], ◌∷◌, ◌++◌, take, length, refl, ap, sym, ◌∙◌, subst, arith, append-nil, option_or, not, ◌&&◌, Option, Some, None, is_some, option_to_list, unwrap_or, and_parts, cases_lt, false≢true, true≢false, Connection, Name, name_on, same_connection, own_side, Settings, Moment, Trace, connection_of, is_step, queues, Both, queues_by, sent_command, figure, figure_of, Promise, Account, History, asked_for, asks_about, end_heard, figure_from, figure_in, handed_over, is_end_of, is_it, is_outstanding, is_poll, is_sent, last_told, moment, reference, reference_found, told_at, Stands, found_before, found_out, last_then, out_below, out_new, out_old, was_out, it_is, Turn, Talk, accounts_at, history, said, trace_of, IsHeard, IsStepTurn, StepsSincePolls}
 use Rattle.mscp_host.specs.Histories as host
 use Rattle.mscp_sim.proofs.TwoEnds.Figured.{AtMost, contains_waiting, most_moment, part_of, waits_at}
 use Rattle.mscp_sim.proofs.TwoEnds.Parts.{moment_is, own_part}
@@ -220,7 +220,6 @@ module _ (c : Settings) (via : Connection) (talk : Talk) (known : AllKnown c tal
       let poll : q ≡ st.poll = ap (λ o. unwrap_or o q) (sym f ∙ st.is_told.handed) in
       let at = (and_parts (is_poll (moment h q)) _ a).1 in
       let at' = (and_parts (is_poll (moment h st.poll)) _ st.is_told.about).1 in
-      let command : i ≡ st.command = ap (λ o. unwrap_or o i) (sym (it_is i (asked_for h q) at)
-      ∙ (ap (asked_for h) poll ∙ it_is st.command (asked_for h st.poll) at')) in
+      let command : i ≡ st.command = grind (arith, it_is, poll, at, at) in
       never_reset j l st (subst (λ k. StepsSincePolls via talk k st.poll) command
       (subst (StepsSincePolls via talk i) poll steps))

@@ -1,5 +1,5 @@
 -- How often a reference number stands in a list, and the submission of a reference number.
-use Rattle.mscp_sim.proofs.Common.{◌≡◌, ℕ, ◌+◌, Bool, false, List, [], ◌∷◌, ◌++◌, length, refl, ap, sym, ◌∙◌, arith, find, nat_eq, nat_lt, ◌||◌, Some, is_some, AllByRecursion, list_any, eqb-true, eq-eqb, false≢true, nat_tests, Submission, has_reference, with_told, IsSmall, opcode_found, references, times}
+use Rattle.mscp_sim.proofs.Common.{◌≡◌, ℕ, ◌+◌, Bool, false, List, [], ◌∷◌, ◌++◌, length, refl, ap, ◌∙◌, arith, find, nat_eq, nat_lt, ◌||◌, Some, is_some, AllByRecursion, list_any, eqb-true, eq-eqb, false≢true, nat_tests, Submission, has_reference, with_told, IsSmall, opcode_found, references, times}
 use Rattle.mscp_host.specs.Accounts.{without}
 
 -- ---- how often
@@ -12,10 +12,6 @@ times_append r (x ∷ xs) ys = search (arith, times_append r xs ys)
 pub any_times : (r : ℕ) (xs : List ℕ) → list_any (λ x. nat_eq x r) xs ≡ nat_lt 0 (times r xs)
 any_times r [] = refl
 any_times r (x ∷ xs) = search (arith, any_times r xs, nat_tests)
-
-pub any_alike : (r : ℕ) (xs ys : List ℕ) → times r xs ≡ times r ys
-    → list_any (λ x. nat_eq x r) xs ≡ list_any (λ x. nat_eq x r) ys
-any_alike r xs ys e = any_times r xs ∙ (ap (nat_lt 0) e ∙ sym (any_times r ys))
 
 pub has_any : (r : ℕ) (xs : List Submission) → list_any (has_reference r) xs
     ≡ list_any (λ x. nat_eq x r) (references xs)

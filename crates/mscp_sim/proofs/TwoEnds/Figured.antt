@@ -1,5 +1,5 @@
 -- The figures of the waiting commands of one name: nothing raises them, and a step lowers them.
-use Rattle.mscp_sim.proofs.Common.{◌≡◌, ◌↔◌, Bool, map, ◌⊎◌, ⊎_elim, ℕ, suc, ◌+◌, ◌-◌, ◌<◌, ◌≤◌, true, List, [], ◌∷◌, ◌++◌, length, refl, ap, sym, ◌∙◌, subst, arith, find, not, ◌&&◌, Contains, Option, Some, is_some, and_parts, cases_lt, false≢true, list_any, length-append, take_all, take-append_seam, Name, name_on, same_name, same_is, Settings, Moment, Trace, connection_of, is_step, queues, ends_in, is_waiting, name, sent_command, waiting, figure, figure_found, figure_of, Promise, command_last, connection_last, name_before, is_waiting_before, is_waiting_last, moment_last, cut, waiting_waits, waits_below, any_map, found}
+use Rattle.mscp_sim.proofs.Common.{◌≡◌, Bool, map, ◌⊎◌, ⊎_elim, ℕ, suc, ◌+◌, ◌-◌, ◌<◌, ◌≤◌, true, List, [], ◌∷◌, ◌++◌, length, refl, ap, sym, ◌∙◌, subst, arith, find, not, ◌&&◌, Contains, is_some, and_parts, cases_lt, false≢true, list_any, length-append, take_all, take-append_seam, Name, name_on, same_name, same_is, Settings, Moment, Trace, connection_of, is_step, queues, ends_in, is_waiting, name, sent_command, waiting, figure, figure_of, Promise, command_last, connection_last, name_before, is_waiting_before, is_waiting_last, moment_last, cut, waiting_waits, waits_below, any_map, found}
 
 contains_in : (A : List ℕ) (x : ℕ) (B : List ℕ) → Contains (A ++ x ∷ B) x
 contains_in [] x B = (0, omega arith, refl)
@@ -59,13 +59,9 @@ pub record Waits (c : Settings) (t : Trace) (n : Name) : Type 0 where
   pub named : name t command ≡ n
   pub figure : figure_of c t n ≡ figure c t command
 
-waits_of : (c : Settings) (t : Trace) (n : Name) (o : Option ℕ) → find (λ x. same_name (name t x) n) (waiting t) ≡ o
-    → figure_of c t n ≡ figure_found c t o → 1 ≤ figure_found c t o → Waits c t n
-waits_of c t n o h4 h5 h6 = grind (arith, found, waiting_waits, same_is)
-
 pub waits_at : (c : Settings) (t : Trace) (n : Name) → 1 ≤ figure_of c t n → Waits c t n
 unfolding figure_of
-waits_at c t n l = waits_of c t n (find (λ x. same_name (name t x) n) (waiting t)) refl refl l
+waits_at c t n l = grind (arith, found, waiting_waits, same_is)
 
 -- ---- a name that waits
 
@@ -73,16 +69,8 @@ any_find : {X : Type 0} (q : X → Bool) (xs : List X) → list_any q xs ≡ is_
 any_find q [] = refl
 any_find q (x ∷ xs) = search (arith, any_find q xs)
 
-some_is : (o : Option ℕ) → is_some o ≡ true → (x : ℕ) × (o ≡ Some x)
-some_is o h1 = search (arith, false≢true)
-
 -- the figure of a name that waits is at least 1
 pub some_figure : (c : Settings) (t : Trace) (n : Name) → Promise c t
     → list_any (λ m. same_name m n) (map (name t) (waiting t)) ≡ true → 1 ≤ figure_of c t n
 unfolding figure_of
-some_figure c t n p e =
-    let q : ℕ → Bool = λ x. same_name (name t x) n in
-    let x = some_is (find q (waiting t)) (sym (any_find q (waiting t))
-    ∙ (sym (any_map (name t) (λ m. same_name m n) (waiting t)) ∙ e)) in
-    let waits = (found (λ y. is_waiting t y ≡ true) q (waiting t) x.0 (waiting_waits t) x.1).0 in
-    search (arith, figure, take_all, contains_waiting)
+some_figure c t n p e = grind (arith, any_find, any_map, found, waiting_waits, take_all, contains_waiting, false≢true)

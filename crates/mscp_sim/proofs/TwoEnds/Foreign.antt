@@ -1,5 +1,5 @@
 -- What comes by one connection leaves all that the other's host and the controller keep of each other.
-use Rattle.mscp_sim.proofs.Common.{◌≡◌, ℕ, Bool, true, false, not, ◌&&◌, List, [], ◌∷◌, ◌++◌, refl, ap, append-nil, arith, Option, Some, None, and-false, true≢false, filter-append, Command, Order, End, Connection, same_connection, Record, fresh_record, every_from, filter_filter, filter_on, one_side, other_side, SendFault, Holdings, aborting, after_message, after_take, answered_end, held_unless, queued, waiting_on, with_end, Account, Flight, Matches, commands}
+use Rattle.mscp_sim.proofs.Common.{◌≡◌, ℕ, false, List, [], ◌∷◌, ◌++◌, append-nil, arith, Option, Some, None, and-false, true≢false, filter-append, Command, Order, Connection, same_connection, Record, fresh_record, every_from, filter_filter, filter_on, one_side, other_side, SendFault, Holdings, aborting, after_message, after_take, held_unless, waiting_on, Account, Flight, Matches}
 use Rattle.mscp_sim.proofs.TwoEnds.Matching.{stays}
 use Rattle.mscp_sim.proofs.TwoEnds.Sides.{of_other}
 
@@ -10,33 +10,17 @@ still_behind : (via other : Connection) (rs : List Record) (c : Command) → sam
     → waiting_on other (rs ++ fresh_record via c ∷ []) ≡ waiting_on other rs
 still_behind via other rs c d = search (arith, append-nil (waiting_on other rs), filter-append)
 
-apart_and : (here there n : Bool) → (there ≡ true → here ≡ false) → (not (here && n) && there) ≡ there
-apart_and here there n h3 = grind (arith, true≢false, and-false, not)
-
 -- ---- a message
 
 foreign_abort : {K : Type 0} (via other : Connection) (a : Account) (h : Holdings K) (told : Flight) (order : Order)
     → same_connection via other ≡ false → Matches other a h told → Matches other a (aborting via h order) told
-foreign_abort via other a h told order h6 h7 =
-    grind (arith, stays, other_side, not, filter_filter, filter_on, every_from, apart_and, one_side, of_other)
-
-foreign_end : {K : Type 0} (via other : Connection) (a : Account) (h : Holdings K) (told : Flight) (end : End)
-    → same_connection via other ≡ false → Matches other a h told → Matches other a (with_end via h end) told
-foreign_end via other a h told end d m = grind (arith, stays, of_other)
+foreign_abort via other a h told order h6 h7 = grind (arith, stays, other_side, filter_filter, filter_on, every_from, one_side, of_other, true≢false, and-false)
 
 foreign_unless : {K : Type 0} (via other : Connection) (a : Account) (h : Holdings K) (told : Flight) (c : Command)
     (o : Option SendFault) → same_connection via other ≡ false → Matches other a h told
     → Matches other a (held_unless via h c o) told
 foreign_unless via other a h told c (Some fault) d m = m
-foreign_unless {K} via other a h told c None d m =
-    search (
-      arith,
-      stays other a h (queued via h c) told (ap commands (still_behind via other h.waiting c d)) refl refl m,
-      still_behind via other h.waiting c d,
-      foreign_end via other a (aborting via h c.order) told (answered_end via h
-          c) d (foreign_abort via other a h told c.order d m),
-      foreign_abort via other a h told c.order d m,
-    )
+foreign_unless {K} via other a h told c None d m = grind (arith, stays, still_behind, foreign_abort, of_other)
 
 pub foreign_message : {K : Type 0} (via other : Connection) (a : Account) (h : Holdings K) (told : Flight) (b : List ℕ)
     → same_connection via other ≡ false → Matches other a h told → Matches other a (after_message via h b) told

@@ -1,5 +1,5 @@
 -- An end that is handed over: the host takes it, and the match is kept.
-use Rattle.mscp_sim.proofs.Common.{◌≡◌, ℕ, ◌+◌, Bool, true, false, cond, List, [], ◌∷◌, ◌++◌, drop, length, refl, ap, sym, ◌∙◌, subst, arith, find, nat_eq, ◌&&◌, if◌then◌else◌, Option, Some, None, option_map, slice_get, unwrap_or, Ok, AllByRecursion, list_any, eqb-true, eq-eqb, false≢true, true≢false, nat_tests, Command, End, EndBody, opcode_byte, IsEnd, every_weaker, every_both, Connection, of, put, Holdings, numbers_ended, outstanding_of, waiting_on, Submission, Watch, Account, answered, end_in, has_reference, heard, is_about_polled, news_with, outstanding_with, received, told_in, watch_after, with_told, heard_ok, Flight, HasFlight, IsAwaited, IsFlight, IsKnown, Matches, commands, times}
+use Rattle.mscp_sim.proofs.Common.{◌≡◌, ℕ, ◌+◌, Bool, true, false, cond, List, [], ◌∷◌, ◌++◌, length, refl, ap, sym, subst, arith, find, nat_eq, ◌&&◌, if◌then◌else◌, Option, Some, None, option_map, slice_get, unwrap_or, Ok, AllByRecursion, eqb-true, eq-eqb, false≢true, true≢false, nat_tests, Command, End, EndBody, opcode_byte, IsEnd, every_weaker, every_both, Connection, of, put, Holdings, numbers_ended, outstanding_of, waiting_on, Submission, Watch, Account, answered, end_in, has_reference, heard, is_about_polled, news_with, outstanding_with, received, told_in, watch_after, with_told, heard_ok, Flight, HasFlight, IsAwaited, IsFlight, IsKnown, Matches, commands, times}
 use Rattle.mscp_host.specs.Accounts.{without}
 use Rattle.mscp_packet.specs.declared.end.EndBody.TheVariants as bodies
 use Rattle.mscp_sim.proofs.TwoEnds.Counting.{length_without, opcode_told, opcode_without, references_told, small_told, small_without, times_append, times_without}
@@ -55,18 +55,7 @@ first_is e us w told f z s =
     let cases : (front : List End) → Goal front =
     λ front. elim front as Goal [
       | [] ↦ λ q p. (q, ap (λ xs. unwrap_or (slice_get xs 0) f.end) (sym p))
-      | g ∷ gs ↦ λ q p.
-          let tail : us ≡ gs ++ f.end ∷ f.back = ap (drop 1) p in
-          let named : f.end.reference ≡ e.reference = f.reference ∙ s in
-          let counts : times e.reference (numbers_ended us) ≡ times e.reference (numbers_ended (gs ++ f.end ∷ f.back)) =
-          ap (λ xs. times e.reference (numbers_ended xs)) tail in
-          let some : times e.reference (numbers_ended (gs ++ f.end ∷ f.back)) ≡ times e.reference (numbers_ended gs)
-          + (1 + times e.reference (numbers_ended f.back)) =
-          times_ends e.reference gs (f.end ∷ f.back)
-          ∙ ap (λ n. times e.reference (numbers_ended gs) + n)
-          (subst (λ k. times k (f.end.reference ∷ numbers_ended f.back) ≡ 1 + times k (numbers_ended f.back)) named
-          (times_own f.end.reference (numbers_ended f.back))) in
-          absurd (omega (arith, z, counts, some))
+      | g ∷ gs ↦ λ q p. grind (arith, times_ends, times_own)
     ] in
     search (arith, cases)
 
@@ -119,29 +108,8 @@ flight_rest : (e : End) (us : List End) (w w' : Watch) (told : Flight) (f : IsFl
 flight_rest e us w w' told f n r p s =
     let cases : (front : List End) → f.front ≡ front → e ∷ us ≡ front ++ f.end ∷ f.back → IsFlight us w' told =
     λ front. elim front as (λ front. f.front ≡ front → e ∷ us ≡ front ++ f.end ∷ f.back → IsFlight us w' told) [
-      | [] ↦ λ q k.
-          let same : e ≡ f.end = ap (λ xs. unwrap_or (slice_get xs 0) f.end) k in
-          let named : w.reference ≡ e.reference = sym (ap (λ (x : End). x.reference) same ∙ f.reference) in
-          absurd (true≢false (sym (eq-eqb w.reference e.reference named) ∙ n))
-      | g ∷ gs ↦ λ q k.
-          let first : e ≡ g = ap (λ xs. unwrap_or (slice_get xs 0) e) k in
-          record {
-            front = gs;
-            end = f.end;
-            back = f.back;
-            split = ap (drop 1) k;
-            reference = f.reference ∙ sym r;
-            code = f.code;
-            body = f.body ∙ ap (λ x. bodies.Status x told.figure) (sym p);
-            ended = λ st wa.
-                let was = s st in
-                let any = subst (λ xs. list_any (λ (x : End). nat_eq x.reference w.polled) xs ≡ true) q
-                (f.ended was.0 wa) in
-                let other : nat_eq g.reference w.polled ≡ false =
-                ap (λ (x : End). nat_eq x.reference w.polled) (sym first) ∙ was.1 in
-                let rest = rw other at any in
-                subst (λ x. list_any (λ (y : End). nat_eq y.reference x) gs ≡ true) (sym p) rest;
-          }
+      | [] ↦ λ q k. grind (arith, true≢false, eq-eqb)
+      | g ∷ gs ↦ λ q k. grind arith
     ] in
     search (arith, cases)
 
@@ -190,8 +158,7 @@ taken_out {K} via a h told e us m u =
           }) us
           (every_both (IsAwaited a.outstanding) (λ x. nat_eq n x.reference ≡ false) us ends.1
           (other_ends n us apart.1)));
-      flight = subst (λ xs. HasFlight xs (watch_after a.watch n) told) (sym left)
-          (flight_after e us a.watch told (subst (λ xs. HasFlight xs a.watch told) u m.flight));
+      flight = grind (arith, flight_after, n, left);
     }
 
 pub received_match : {K : Type 0} (via : Connection) (a : Account) (h : Holdings K) (told : Flight) (e : End)

@@ -1,5 +1,5 @@
 -- What the host of a connection and a controller keep of each other stays so, whatever comes.
-use Rattle.mscp_sim.proofs.Common.{◌≡◌, ℕ, suc, ◌+◌, ◌≤◌, List, [], ◌∷◌, ◌++◌, map, length, refl, ap, sym, ◌∙◌, subst, arith, append_assoc, Option, AllByRecursion, eqb-true, length-append, map-append, Command, End, endcode, Record, every_append, every_parts, every_weaker, Connection, of, Holdings, numbers, numbers_ended, outstanding_of, waiting_on, Submission, Watch, Account, Flight, HasFlight, IsAwaited, IsKnown, IsSmall, Matches, commands, times}
+use Rattle.mscp_sim.proofs.Common.{◌≡◌, ℕ, suc, ◌+◌, List, [], ◌∷◌, ◌++◌, map, length, refl, ap, sym, ◌∙◌, subst, arith, append_assoc, Option, AllByRecursion, eqb-true, length-append, map-append, Command, End, endcode, Record, every_append, every_parts, every_weaker, Connection, of, Holdings, numbers, numbers_ended, outstanding_of, waiting_on, Submission, Watch, Account, Flight, HasFlight, IsAwaited, IsKnown, IsSmall, Matches, commands, times}
 use Rattle.mscp_sim.proofs.TwoEnds.Counting.{times_append, opcode_pushed}
 
 -- ---- names

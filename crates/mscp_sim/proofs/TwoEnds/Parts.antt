@@ -1,5 +1,5 @@
 -- What each host did in a turn is a moment of its own history.
-use Rattle.mscp_sim.proofs.Common.{◌≡◌, ℕ, ◌<◌, Bool, true, false, length, ◌∙◌, arith, if◌then◌else◌, Option, Some, Result, false≢true, true≢false, get_or-map, ArrayVec, Command, Connection, Both, of, own_side, Moment, HostFault, News, Account, submits, Other, news_heard, Answers, Turn, Heard, Said, Talk, heard_by, history, said, submits_in, IsHeard, IsSubmitted}
+use Rattle.mscp_sim.proofs.Common.{◌≡◌, ℕ, ◌<◌, length, arith, Option, Some, Result, false≢true, true≢false, get_or-map, ArrayVec, Command, Connection, Both, of, own_side, Moment, HostFault, News, Account, submits, Other, news_heard, Answers, Turn, Heard, Said, Talk, heard_by, history, said, submits_in, IsHeard, IsSubmitted}
 use Rattle.mscp_host.specs.Histories as host
 use Rattle.mscp_sim.specs.declared.conversing.Heard.TheVariants as hears
 use Rattle.mscp_sim.proofs.TwoEnds.Sides.{each_side, of_other, of_put}
@@ -28,10 +28,6 @@ answers old new s t h1 = search (arith, each_side, own_side, of_put, of_other, s
 pub news_of : (via : Connection) (t : Turn) (heard : Heard) (m : Option Moment) (n : News)
     → news_heard (heard_by via t heard m) ≡ Some n → heard ≡ hears.News n
 news_of via t heard m n e = grind (arith, false≢true)
-
-abbrev pub is_news : Heard → Bool
-is_news (hears.News n) = true
-is_news heard = false
 
 pub said_news : (old new : Both Account) (s : Said) (t : Turn) (n : News) → IsHeard old t s new → s.heard ≡ hears.News n
     → (via : Connection) × (news_heard (heard_by via t s.heard s.moment) ≡ Some n)

@@ -1,9 +1,9 @@
 -- What a host sends the controller takes in, and the match is kept.
-use Rattle.mscp_sim.proofs.Common.{◌≡◌, ℕ, ◌-◌, ◌<◌, ◌^◌, Bool, true, false, List, [], ◌∷◌, ◌++◌, refl, ap, sym, ◌∙◌, subst, arith, append-nil, find, nat_eq, not, ◌&&◌, ◌||◌, if◌then◌else◌, slice_index, Option, Some, None, Ok, list_any, list_any-append, eq-eqb, true_from_ne_false, true≢false, nat_tests, Command, End, HasCommandRange, IsCommand, IsValidOrder, command_bytes, command_of, opcode_byte, num, command_bytes_are_messages, command_read, opcode_kept, four, Connection, name_on, figure_of_name, credit_fault, fault_of, holds, is_queued, refusal, of_more, Holdings, aborting, after_message, answer_to_message, answered_end, arrives, balance_of, numbers, numbers_ended, with_end, outstanding_of, queued, taken_as, waiting_on, of, Submission, Watch, own_end_with, Settings, endcode, any_map, found, none_any, Account, balance, has_reference, is_code_of, is_immediate, poll_of, submission_of, submitted, watching, Flight, HasFlight, IsSmall, Matches, times}
+use Rattle.mscp_sim.proofs.Common.{◌≡◌, ℕ, ◌<◌, ◌^◌, Bool, true, false, List, [], ◌∷◌, ◌++◌, refl, sym, ◌∙◌, subst, arith, append-nil, find, nat_eq, not, ◌&&◌, ◌||◌, if◌then◌else◌, slice_index, Option, Some, None, Ok, list_any, list_any-append, eq-eqb, true_from_ne_false, true≢false, nat_tests, Command, End, HasCommandRange, IsCommand, IsValidOrder, command_bytes, command_of, opcode_byte, num, command_bytes_are_messages, command_read, opcode_kept, four, Connection, name_on, figure_of_name, fault_of, holds, is_queued, refusal, of_more, Holdings, aborting, after_message, answer_to_message, answered_end, arrives, balance_of, numbers, numbers_ended, with_end, outstanding_of, queued, taken_as, waiting_on, of, Submission, Watch, own_end_with, Settings, endcode, any_map, found, none_any, Account, balance, has_reference, is_code_of, is_immediate, poll_of, submission_of, submitted, watching, Flight, HasFlight, IsSmall, Matches, times}
 use Rattle.mscp_packet.specs.declared.command.Order.TheVariants as orders
 use Rattle.mscp_host.specs.Accounts as host
 use Rattle.mscp_sim.proofs.TwoEnds.Codes.{coded}
-use Rattle.mscp_sim.proofs.TwoEnds.Counting.{any_alike, any_times, has_any}
+use Rattle.mscp_sim.proofs.TwoEnds.Counting.{any_times, has_any}
 use Rattle.mscp_sim.proofs.TwoEnds.Matching.{Adds, flight_on, pushes_match}
 use Rattle.mscp_sim.proofs.TwoEnds.Arriving.{Arrives, aborting_matches, ended_pushes, queued_pushes}
 
@@ -26,13 +26,9 @@ same_opcode c k = opcode_kept (command_bytes c) (command_of (command_bytes c)).o
 
 -- ---- what one refuses, the other refuses
 
-same_balance : {K : Type 0} (via : Connection) (a : Account) (h : Holdings K) (told : Flight) → Matches via a h told
-    → balance_of via h ≡ balance a
-same_balance via a h told m = λ i. sym m.credits i - sym m.many i
-
 same_holds : {K : Type 0} (via : Connection) (a : Account) (h : Holdings K) (told : Flight) (r : ℕ)
     → Matches via a h told → holds (outstanding_of via h) r ≡ list_any (has_reference r) a.outstanding
-same_holds via a h told r m = grind (arith, any_alike, has_any)
+same_holds via a h told r m = grind (arith, has_any, any_times)
 
 -- why the host would refuse, where it doesn't
 pub record Free (a : Account) (opcode reference : ℕ) : Type 0 where
@@ -43,16 +39,11 @@ pub record Free (a : Account) (opcode reference : ℕ) : Type 0 where
 pub free : (a : Account) (opcode reference : ℕ) → host.refusal a opcode reference ≡ None → Free a opcode reference
 free a opcode reference e = grind (arith, true≢false)
 
-unrefused : {K : Type 0} (via : Connection) (a : Account) (h : Holdings K) (told : Flight) (opcode reference : ℕ)
-    → Matches via a h told → Free a opcode reference
-    → credit_fault (balance_of via h) (outstanding_of via h) opcode reference ≡ None
-unrefused via a h told opcode reference m f = grind (arith, same_balance, same_holds)
-
 -- the controller takes in what the host sends
 taken_in : {K : Type 0} (via : Connection) (a : Account) (h : Holdings K) (told : Flight) (c : Command)
     → Matches via a h told → Carries c → Free a (opcode_byte c.order) c.reference
     → refusal (balance_of via h) (outstanding_of via h) (command_bytes c) ≡ None
-taken_in via a h told c m k f = search (arith, unrefused via a h told (opcode_byte c.order) c.reference m f, nat_tests)
+taken_in via a h told c m k f = grind (arith, nat_tests, same_holds)
 
 -- ---- what both keep then
 
@@ -92,8 +83,7 @@ arrives_ended {K} via a a' h told told' s c x m f =
     let h1 : Holdings K = aborting via h c.order in
     let e = answered_end via h c in
     let m1 = aborting_matches via a h told c.order m in
-    let code : is_code_of e.code s.opcode ≡ true = ap (is_code_of e.code) x.opcode
-    ∙ (ap (λ q. is_code_of q (opcode_byte c.order)) (own_code_of h.settings _ _ c (fault_of h.settings c)) ∙ x.coded) in
+    let code : is_code_of e.code s.opcode ≡ true = grind (arith, own_code_of, e) in
     let own : e.reference ≡ s.reference = own_reference_of h.settings _ _ c (fault_of h.settings c) ∙ sym x.reference in
     let adds : Adds via a a' h1 s = search (arith, new_still via a h h1 told s.reference m m1 x.adds.new) in
     pushes_match via a a' h1 (with_end via h1 e) s told told' (ended_pushes via a a' h1 told s e adds own code m1) m1 f

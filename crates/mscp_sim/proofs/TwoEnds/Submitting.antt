@@ -1,5 +1,5 @@
 -- What a turn in which the host submits, or polls, leaves.
-use Rattle.mscp_sim.proofs.Common.{◌≡◌, ℕ, ◌<◌, ◌^◌, Bool, true, false, List, refl, ap, sym, ◌∙◌, subst, arith, Option, Some, None, is_some, is_ok, Result, Ok, Err, if◌then◌else◌, false≢true, true≢false, ArrayVec, Command, command_bytes, command_of, opcode_byte, Connection, Sent, SendFault, Holdings, after_message, answer_to_message, taken_as, HostFault, Poll, Submission, Account, asks, asks_unless, oldest, poll_of, polls_oldest, submits, submits_unless, watching, Flight, MatchOn, Matches}
+use Rattle.mscp_sim.proofs.Common.{◌≡◌, ℕ, ◌<◌, ◌^◌, true, List, refl, ap, sym, ◌∙◌, subst, arith, Option, Some, None, is_ok, Result, Ok, Err, false≢true, true≢false, ArrayVec, Command, command_bytes, command_of, opcode_byte, Connection, Sent, SendFault, Holdings, after_message, answer_to_message, taken_as, HostFault, Poll, Submission, Account, asks_unless, oldest, poll_of, polls_oldest, submits, submits_unless, Flight, MatchOn, Matches}
 use Rattle.mscp_host.specs.Accounts.{refusal}
 use Rattle.mscp_host.specs.declared.news.Poll.TheVariants as polls
 use Rattle.mscp_sim.proofs.TwoEnds.Sending.{carries, polled_match, same_reference, submitted_match, told_now}
@@ -7,10 +7,6 @@ use Rattle.mscp_sim.proofs.TwoEnds.Sending.{carries, polled_match, same_referenc
 -- ---- what was answered
 
 -- the host asks
-abbrev pub is_ask : Result Poll HostFault → Bool
-is_ask (Ok (polls.Ask b)) = true
-is_ask p = false
-
 abbrev asked_or : Result Poll HostFault → ArrayVec ℕ → List ℕ
 asked_or (Ok (polls.Ask b)) other = b.items
 asked_or p other = other.items
@@ -69,30 +65,15 @@ module _ {K : Type 0} (via : Connection) (a : Account) (h : Holdings K) where
         oldest = x.oldest;
         named = ap (λ q. (command_of q).reference) message ∙ same_reference c (carries c x.small);
         taken = subst (λ q. answer_to_message via h q ≡ Ok (taken_as via h (command_of q))) (sym message) y.taken;
-        match = subst (λ (y : Account). Matches via y (after_message via h b.items) (told_now via h s))
-            (ap (λ p. p.1) e)
-            (subst (λ q. Matches via (watching a r s) (after_message via h q) (told_now via h s))
-            (sym message) y.match);
+        match = grind (arith, message, y);
       }
-
-  asks_idle : (r : ℕ) (q : Bool) (b : ArrayVec ℕ) (a' : Account) → r < 2 ^ 32 → MatchOn via a h
-      → (if q then (Ok polls.Busy, a) else asks a r (oldest a)) ≡ (Ok (polls.Ask b), a') → Asks r b.items a'
-  asks_idle r q b a' l m e = grind (arith, false≢true, asks_when)
 
   pub asks_match : (r : ℕ) (b : ArrayVec ℕ) (a' : Account) → r < 2 ^ 32 → MatchOn via a h
       → polls_oldest a r ≡ (Ok (polls.Ask b), a') → Asks r b.items a'
-  asks_match r b a' l m e = asks_idle r (is_some a.watch) b a' l m e
+  asks_match r b a' l m e = grind (arith, false≢true, asks_when)
 
 -- ---- where the host sends nothing, nothing changes
 
 module _ (a : Account) where
-  submits_still : (c : Command) (o : Option HostFault) (fault : HostFault) (a' : Account)
-      → submits_unless a c o ≡ (Err fault, a') → a' ≡ a
-  submits_still c o fault a' e = grind (arith, true≢false)
-
   pub submits_kept : (c : Command) (fault : HostFault) (a' : Account) → submits a c ≡ (Err fault, a') → a' ≡ a
-  submits_kept c fault a' e = submits_still c _ fault a' e
-
-  pub polled_kept : (r : ℕ) (p : Result Poll HostFault) (a' : Account) → is_ask p ≡ false
-      → polls_oldest a r ≡ (p, a') → a' ≡ a
-  polled_kept r p a' n e = search (arith, true≢false)
+  submits_kept c fault a' e = grind (arith, true≢false)

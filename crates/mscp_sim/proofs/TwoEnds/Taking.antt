@@ -1,24 +1,12 @@
 -- What a turn in which an end is handed over leaves, and one in which there is none.
-use Rattle.mscp_sim.proofs.Common.{◌≡◌, ℕ, List, [], ◌∷◌, drop, refl, ap, sym, ◌∙◌, subst, arith, option_map, Option, Some, None, is_some, slice_get, unwrap_or, Ok, false≢true, true≢false, ArrayVec, End, end_bytes, IsEnd, Moment, Connection, of, put, Holdings, after_take, end_taken, Account, answered, heard, news_with, received, Flight, Matches}
+use Rattle.mscp_sim.proofs.Common.{◌≡◌, ℕ, List, [], ◌∷◌, drop, refl, ap, sym, ◌∙◌, subst, option_map, Option, Some, None, is_some, slice_get, unwrap_or, Ok, false≢true, ArrayVec, End, end_bytes, IsEnd, Moment, Connection, of, put, Holdings, after_take, end_taken, Account, answered, heard, news_with, received, Flight, Matches}
 use Rattle.mscp_drive.specs.declared.event.Event.TheVariants as events
 use Rattle.mscp_controller.specs.declared.entry.Entry.TheVariants as entries
 use Rattle.mscp_sim.proofs.TwoEnds.Handing.{first_heard, received_match}
-use Rattle.mscp_sim.proofs.TwoEnds.Sides.{put_own}
 
 -- an end as bytes
 abbrev end_of : Option End → Option (ArrayVec ℕ)
 end_of o = option_map (λ e. record { items = end_bytes e }) o
-
-none_of : (o : Option End) → end_of o ≡ None → o ≡ None
-none_of o h1 = grind (arith, true≢false)
-
-none_when : {K : Type 0} (via : Connection) (a : Account) (h : Holdings K) (told : Flight) (us : List End)
-    → of via h.untaken ≡ us → end_taken via h ≡ None → Matches via a h told → Matches via a (after_take via h) told
-none_when via a h told us h1 h2 h3 = search (arith, put_own, none_of, true≢false)
-
-pub taken_none : {K : Type 0} (via : Connection) (a : Account) (h : Holdings K) (told : Flight) → end_taken via h ≡ None
-    → Matches via a h told → Matches via a (after_take via h) told
-taken_none via a h told e m = none_when via a h told (of via h.untaken) refl e m
 
 -- the end that was handed over
 pub record Handed {K : Type 0} (via : Connection) (a : Account) (h : Holdings K) (told : Flight)

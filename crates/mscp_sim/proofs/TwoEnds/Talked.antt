@@ -1,5 +1,5 @@
 -- A whole talk: what is heard in each turn.
-use Rattle.mscp_sim.proofs.Common.{◌≡◌, ⊎_elim, ℕ, ◌+◌, ◌<◌, ◌≤◌, true, false, List, [], ◌∷◌, ◌++◌, map, take, drop, length, refl, ap, sym, ◌∙◌, subst, arith, zip, Option, Some, None, is_some, option_to_list, cases_eq, false≢true, drop-drop, length-drop, get_or-drop, End, Connection, First, Second, one_side, Choice, Both, of, IsLegal, IsPicked, IsSweeping, Settings, IsValid, credits_of, AnsweredCalls, ControllersKeepThePromise, KeepsPromise, Promise, Moment, Trace, Holdings, RunsKeepThePromise, Account, fresh, end_heard, figure_in, handed_over, is_end_of, reference, Stands, found_before, found_out, start, Turn, Heard, Flight, Match, Matches, Said, Talk, heard_by, history, said, trace_of, Converses, AnswersTurn, Says, AreTwoEnds}
+use Rattle.mscp_sim.proofs.Common.{◌≡◌, ⊎_elim, ℕ, ◌+◌, ◌<◌, ◌≤◌, true, false, List, [], ◌∷◌, ◌++◌, map, take, drop, length, refl, ap, sym, ◌∙◌, subst, arith, zip, Option, Some, None, is_some, option_to_list, cases_eq, false≢true, drop-drop, length-drop, get_or-drop, End, Connection, First, Second, one_side, Choice, Both, of, IsLegal, IsPicked, IsSweeping, Settings, IsValid, credits_of, AnsweredCalls, ControllersKeepThePromise, KeepsPromise, Promise, Moment, Trace, Holdings, RunsKeepThePromise, Account, fresh, end_heard, handed_over, is_end_of, reference, Stands, found_before, found_out, start, Turn, Heard, Flight, Match, Matches, Said, Talk, heard_by, history, said, trace_of, Converses, AnswersTurn, Says, AreTwoEnds}
 use Rattle.mscp_controller.specs.Holdings as holdings
 use Rattle.mscp_sim.specs.declared.conversing.Turn.TheVariants as turns
 use Rattle.mscp_sim.specs.declared.conversing.Heard.TheVariants as hears
@@ -166,8 +166,7 @@ two_ends {K} c picks picker old new ts v runs law n g =
       picked = subst (IsPicked c picks) whole run.picked;
       swept = λ w. subst (IsSweeping c) whole (run.swept w);
       says = λ j l. (known j l).tells.says;
-      figures = λ via j i p l h about. ap (λ m. figure_in (end_heard m)) (moment_is via talk j l)
-          ∙ (((known j l).tells.on via).figures i p h about).0;
+      figures = grind (arith, moment_is, talk, h, known);
       resets = λ j l. (known j l).tells.resets;
       no_lost = λ j l. (known j l).tells.no_lost;
       falls = λ via j i q l h a b e.

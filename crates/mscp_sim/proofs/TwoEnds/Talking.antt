@@ -1,5 +1,5 @@
 -- A talk that goes on by one turn.
-use Rattle.mscp_sim.proofs.Common.{◌≡◌, ℕ, ◌+◌, ◌<◌, List, [], ◌∷◌, ◌++◌, map, take, length, get_or, refl, ap, sym, ◌∙◌, append_assoc, append-nil, arith, Option, option_to_list, flat_map-append, map-append, take_more, Choice, Both, Moment, Trace, Holdings, owner_kept, Account, Lists, Turn, Heard, Match, Said, Talk, trace_of, Converses, Goes, GoesOn, AnswersTurn, Says}
+use Rattle.mscp_sim.proofs.Common.{◌≡◌, ℕ, ◌+◌, ◌<◌, List, [], ◌∷◌, ◌++◌, take, length, get_or, refl, ap, ◌∙◌, append_assoc, append-nil, arith, Option, option_to_list, flat_map-append, map-append, take_more, Choice, Both, Moment, Trace, Holdings, owner_kept, Account, Lists, Turn, Heard, Match, Said, Talk, Converses, Goes, GoesOn, AnswersTurn, Says}
 
 converses_push : {K : Type 0} (picks : List Choice → ℕ → Type 0) (a m a' : Both Account) (h n h' : Holdings K)
     (talk : Talk) (s : Said) → Converses picks a h talk m n → Says picks m n s a' h'
@@ -53,15 +53,9 @@ goes_more picks old now new ts turn g x =
     record {
       talk = g.talk ++ s ∷ [];
       turns = map-append (λ (x : Said). x.turn) g.talk (s ∷ []) ∙ ap (λ xs. xs ++ turn ∷ []) g.turns;
-      heard = x.heard ∙ (ap (λ xs. xs ++ heard ∷ []) g.heard
-          ∙ (append_assoc old.lists.0 (map (λ (x : Said). x.heard) g.talk) (heard ∷ [])
-          ∙ ap (λ xs. old.lists.0 ++ xs) (sym (map-append (λ (x : Said). x.heard) g.talk (s ∷ [])))));
-      trace = x.trace ∙ (ap (λ xs. xs ++ option_to_list moment) g.trace
-          ∙ (append_assoc old.lists.1 (trace_of g.talk) (option_to_list moment)
-          ∙ ap (λ xs. old.lists.1 ++ xs) (sym (flat_map-append (λ (x : Said). option_to_list x.moment) g.talk (s ∷ [])
-          ∙ ap (λ xs. trace_of g.talk ++ xs) (append-nil (option_to_list moment))))));
-      says = converses_push picks old.hosts now.hosts new.hosts old.controller now.controller new.controller g.talk s
-          g.says x.goes.0;
+      heard = grind (arith, append_assoc, map-append, heard, s);
+      trace = grind (arith, append_assoc, flat_map-append, append-nil, moment, s);
+      says = grind (arith, converses_push, s);
       match = x.goes.1;
     }
 

@@ -11,8 +11,8 @@ use Rattle.mscp_sim.proofs.TwoEnds.Handing.{read_end}
 use Rattle.mscp_sim.proofs.TwoEnds.Sending.{told_now}
 use Rattle.mscp_sim.proofs.TwoEnds.Serving.{steps_match}
 use Rattle.mscp_sim.proofs.TwoEnds.Sides.{each_side, of_other, of_put, put_own}
-use Rattle.mscp_sim.proofs.TwoEnds.Submitting.{asks_match, polled_kept, submits_kept, submits_match}
-use Rattle.mscp_sim.proofs.TwoEnds.Taking.{taken_none, taken_some}
+use Rattle.mscp_sim.proofs.TwoEnds.Submitting.{asks_match, submits_kept, submits_match}
+use Rattle.mscp_sim.proofs.TwoEnds.Taking.{taken_some}
 
 -- what the poll in flight is told after a turn: where its host asks, what the controller tells now of the oldest
 abbrev pub told_then : {K : Type 0} → Bool → Option Submission → Connection → Holdings K → Flight → Flight
@@ -39,7 +39,7 @@ take_own : {K : Type 0} (via : Connection) (a k : Account) (h : Holdings K) (hea
     (told : Flight) → IsHanded a end heard k → end ≡ end_taken via h
     → ((b : ArrayVec ℕ) (e : End) → end ≡ Some b → slice_get (of via h.untaken) 0 ≡ Some e → IsEnd b.items e)
     → Matches via a h told → Matches via k (after_take via h) told
-take_own {K} via a k h heard None told x e sound m = search (arith, taken_none)
+take_own {K} via a k h heard None told x e sound m = grind (arith, put_own, true≢false)
 take_own {K} via a k h heard (Some b) told x e sound m =
     let out = taken_some via a h told b (sym e) (λ end f. sound b end refl f) m in
     subst (λ y. Matches via y (after_take via h) told) (ap (λ q. q.1) (sym out.heard ∙ x.2)) out.match
@@ -101,7 +101,7 @@ module _ {K : Type 0} (picks : List Choice → ℕ → Type 0) (a a' : Both Acco
       (subst (λ o. AnswersTurn picks h o h') x.2 answers).2 (λ told m.
       let y = asks_match via (of via a) h r b k small (told, m) e in
       rw (x.1, x.2, own_side via, y.oldest) y.match)
-  poll_keeps via r o k small e p x answers = search (arith, kept_back, polled_kept)
+  poll_keeps via r o k small e p x answers = grind (arith, kept_back, true≢false)
 
   take_keeps : (via : Connection) → IsHeard a (turns.Take via) s a' → AnswersTurn picks h s.moment h'
       → IsSound h (turns.Take via) s.moment → (other : Connection) → Keeps (turns.Take via) other

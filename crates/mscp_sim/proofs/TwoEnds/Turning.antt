@@ -1,5 +1,5 @@
 -- One turn of a talk: what is heard is what the rules of a host say of what the talk says so far.
-use Rattle.mscp_sim.proofs.Common.{◌≡◌, ◌↔◌, ℕ, ◌+◌, ◌<◌, ◌≤◌, Bool, true, false, List, [], ◌∷◌, map, take, length, refl, ap, sym, ◌∙◌, subst, arith, ◌≢◌, nat_eq, Option, Some, option_map, list_any, and_parts, eqb-true, eq-eqb, false≢true, true_from_ne_false, End, Connection, First, Second, Settings, credits_of, Both, of, Choice, names, name_on, same_name, Record, AnsweredCalls, name, sent_command, waiting, KeepsPromise, figure_of, Promise, Moment, Trace, Holdings, numbers, waiting_on, queues_by, Submission, Account, oldest, History, asked_for, asks_about, end_heard, figure_in, found_stands, handed_over, in_flight, is_end_of, is_it, is_outstanding, is_poll, is_sent, moment, news_heard, reference, reference_found, reference_in, submission_at, watch_at, Answers, Stands, found_out, oldest_is, it_is, losses_if, resets_if, IsApart, flies, flight_back, flight_new, step, Flight, HasFlight, IsFlight, Match, Matches, Talk, account_at, accounts_at, figure_told, history, said, trace_of, Says, IsHeard}
+use Rattle.mscp_sim.proofs.Common.{◌≡◌, ◌↔◌, ℕ, ◌+◌, ◌<◌, ◌≤◌, Bool, true, false, List, [], ◌∷◌, map, take, length, refl, ap, sym, ◌∙◌, subst, arith, ◌≢◌, nat_eq, Option, Some, option_map, list_any, and_parts, eqb-true, eq-eqb, false≢true, true_from_ne_false, End, Connection, First, Second, Settings, credits_of, Both, of, Choice, names, name_on, same_name, Record, AnsweredCalls, name, sent_command, waiting, KeepsPromise, figure_of, Promise, Moment, Trace, Holdings, numbers, waiting_on, queues_by, Submission, Account, oldest, History, asked_for, asks_about, end_heard, figure_in, found_stands, handed_over, in_flight, is_end_of, is_it, is_outstanding, is_poll, is_sent, moment, news_heard, reference, reference_found, reference_in, submission_at, watch_at, Answers, Stands, found_out, oldest_is, it_is, losses_if, resets_if, IsApart, flies, flight_back, flight_new, step, Flight, IsFlight, Match, Matches, Talk, account_at, accounts_at, figure_told, history, said, trace_of, Says, IsHeard}
 use Rattle.mscp_controller.specs.Holdings.{fresh}
 use Rattle.mscp_host.proofs.Stepping.{Goes}
 use Rattle.mscp_host.specs.declared.news.News.TheVariants as news
@@ -134,9 +134,7 @@ answer_is {K} {c} {via} {talk} {j} {a} {h} s e rest u i p f named about =
     let w = watch_at (history via talk) j p in
     let es = e ∷ rest in
     let m = subst (λ (x : Account). Matches via x h s.told) s.account s.match in
-    let flight : IsFlight es w s.told = subst (λ w. HasFlight es w s.told)
-    (ap (option_map (watch_at (history via talk) j)) f)
-    (subst (λ xs. HasFlight xs (account_at c via talk j).watch s.told) u m.flight) in
+    let flight : IsFlight es w s.told = grind (arith, w, es, m) in
     let first = first_is e rest w s.told flight (alone via (account_at c via talk j) h s.told e rest m u).1 named in
     let told = s.flight p f in
     let code = ap (λ (x : End). x.code) (sym first.1) ∙ flight.code in
@@ -168,8 +166,7 @@ module _ {K : Type 0} {c : Settings} {picks : List Choice → ℕ → Type 0} {p
       let tells = λ (via : Connection). (on via).tells in
       record {
         tells = record {
-          says = subst (λ a. IsHeard a (said talk j).turn (said talk j) (accounts_at c talk (j + 1))) old
-              (subst (IsHeard x.hosts (said talk j).turn (said talk j)) new x.says.0);
+          says = grind (arith, old, new);
           resets = resets_of c talk j x.hosts a' x.inside x.says.0 tells;
           no_lost = never_lost c talk j x.hosts a' x.inside x.says.0 tells;
           on = tells;

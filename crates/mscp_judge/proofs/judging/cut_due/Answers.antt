@@ -1,4 +1,4 @@
-use Rattle.mscp_judge.proofs.Common.{◌++◌, ◌-◌, refl, length, ap, ◌∙◌, arith, length-drop, Decides-eqb, take_all, starts_is, due}
+use Rattle.mscp_judge.proofs.Common.{refl, length, ap, arith, length-drop, Decides-eqb, take_all, starts_is, due}
 use Rattle.mscp_judge.proofs.Passing.{answers_bytes}
 use Rattle.mscp_judge.proofs.judging.cut_due.Goals as goal
 

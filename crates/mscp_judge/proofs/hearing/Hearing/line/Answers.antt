@@ -1,4 +1,4 @@
-use Rattle.mscp_judge.proofs.Common.{sym, ◌∙◌, arith, err_from_is_err_and, words}
+use Rattle.mscp_judge.proofs.Common.{sym, ◌∙◌, arith, err_from_is_err_and}
 use Rattle.mscp_judge.proofs.Listening.{answers, asks, asks_wrong, skipped, wrong_words}
 use Rattle.mscp_judge.proofs.Reading.{unless}
 use Rattle.mscp_judge.proofs.hearing.Hearing.line.Goals as goal

@@ -1,4 +1,4 @@
-use Rattle.mscp_judge.proofs.Common.{◌++◌, [], ◌∷◌, subst, sym, arith, IsTold, telling, due_rule, due, IsOpen}
+use Rattle.mscp_judge.proofs.Common.{◌++◌, [], ◌∷◌, subst, sym, arith, IsTold, telling, IsOpen}
 use Rattle.mscp_judge.proofs.Coming.{ready_due}
 use Rattle.mscp_judge.proofs.Righting.{stands_open_held}
 use Rattle.mscp_judge.proofs.judge.Judge.tell_due.Goals as goal

@@ -1,4 +1,4 @@
-use Rattle.mscp_sim.proofs.Common.{◌∙◌, arith, length-append, ends, goes_on, goes_wrong}
+use Rattle.mscp_sim.proofs.Common.{arith, length-append, ends, goes_on, goes_wrong}
 use Rattle.mscp_sim.proofs.reading.events.read_events.Goals as goal
 
 pub loop-request-preserved : goal.loop-request-preserved
