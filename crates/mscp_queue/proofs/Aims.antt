@@ -56,9 +56,7 @@ module _ {ds : List Drive} {rs : List Record} {own : List Target} (shown : CanBe
 
       split : (p : ℕ) → (x : IsBelow ds cs (n + 1) p) → (x.drive ≡ n) ⊎ (x.drive ≢ n)
           → IsBelow ds cs n p ⊎ IsClearOn cs (drive_in ds n).unit.number p
-      split p x (inl e) = inr (subst (λ k. IsClearOn cs (drive_in ds k).unit.number p) e x.clear)
-      split p x (inr d) =
-          inl (record { drive = x.drive; below = (let l = x.below in omega (arith, l, d)); clear = x.clear })
+      split p x h3 = grind arith
 
   -- each that nobody keeps back is on a drive
   all_below : (place : ℕ) → IsClear cs place → IsBelow ds cs (length ds) place

@@ -98,10 +98,7 @@ step_of {budget} {clock} {ss} {place} a l unfinished front back affordable = rec
     may = by (is_unstarted y.item) refl
       where
         by : (b : Bool) → is_unstarted y.item ≡ b → MayPass budget n (take place (told budget clock ss))
-        by true e = subst (λ k. MayPass budget k (take place (told budget clock ss)))
-            (sym (ap (λ b. cond b y.item.weight 0) e)) (affordable e)
-        by false e = subst (λ k. MayPass budget k (take place (told budget clock ss)))
-            (sym (ap (λ b. cond b y.item.weight 0) e)) (told_within budget clock ss place a)
+        by h1 e = grind (arith, y, affordable, told_within)
 
 -- a step at a place, and then the clock may be set back
 pub step_timed : {budget clock total now : ℕ} {ss ss' new : List Slot} {place : ℕ}
@@ -139,8 +136,7 @@ seen_step {budget} {clock} {now} {ss} {ss'} {new} {rs} {place} step below w char
 
 pub seen_own : (by : ℕ) {budget clock : ℕ} {ss ss' new : List Slot} {place : ℕ} → IsStep budget clock ss ss' place
     → new ≡ map (lowered_by by) ss' → targets new ≡ targets ss
-seen_own by {ss' = ss'} step fell =
-    ap targets fell ∙ (map_map (lowered_by by) (λ (s : Slot). s.target) ss' ∙ step.own)
+seen_own by step fell = grind (arith, by, map_map)
 
 -- the same as it is found out of what callers see
 pub step_at : {budget clock total : ℕ} {ss new : List Slot} {rs : List Record} {place : ℕ}
@@ -172,9 +168,7 @@ pub affordable : {budget : ℕ} (clock : ℕ) (ss : List Slot) {now : Waiters} (
     → All (λ r. r.passed + (record_at now.waiting place).weight ≤ now.budget) (take place now.waiting))
     → is_unstarted (record_at now.waiting place) ≡ true
     → All (λ r. r.passed + (record_at now.waiting place).weight ≤ budget) (take place now.waiting)
-affordable {budget} clock ss {now} place view h e =
-    subst (λ b. All (λ (r : Record). r.passed + (record_at now.waiting place).weight ≤ b) (take place now.waiting))
-    (sym (ap (λ (w : Waiters). w.budget) view)) (h e)
+affordable clock ss place view h e = grind arith
 
 -- ---- what a step and its end leave
 module _ (n place : ℕ) (rs ws : List Record)

@@ -5,10 +5,7 @@ use Rattle.mscp_queue.specs.Starts.{Start}
 -- the same places at the same costs
 pub best_same : {P Q : ℕ → Type 0} {c d : ℕ → ℕ} {s : Start} → ((p : ℕ) → P p → Q p × (c p ≡ d p))
     → ((p : ℕ) → Q p → P p) → IsBest P c s → IsBest Q d s
-best_same {P} {Q} {c} {d} {s} f g h = record {
-  is = ⊎_elim (λ e. inl e) (λ x. inr ((f s.place x.0).0, x.1 ∙ (f s.place x.0).1)) h.is;
-  each = λ p q. let a = h.each p (g p q) in (a.0, subst (λ n. IsAhead s n p) (f p (g p q)).1 a.1);
-}
+best_same f g h = grind (arith, ⊎_elim)
 
 -- of no places
 pub best_none : {P : ℕ → Type 0} {c : ℕ → ℕ} (s : Start) → s.place ≡ 64 → ((p : ℕ) → P p → ⊥) → IsBest P c s

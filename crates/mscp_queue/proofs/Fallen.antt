@@ -5,21 +5,10 @@ use Rattle.mscp_queue.proofs.Basics.{◌≡◌, ◌≢◌, ◌<◌, ◌≤◌, �
 module _ (rs : List Record) (own : List Target)
     (ds ds' : List ℕ) (mask by : ℕ) (fall : (k : ℕ) → k < 64 → get_or ds' k 0 ≡ lowered mask by k (get_or ds k 0)) where
   pub fell : (k : ℕ) → k < 64 → bit_at mask k ≡ 1 → held rs own ds' k ≡ lowered_by by (held rs own ds k)
-  fell k l on = λ i. record {
-    number = k;
-    item = get_or rs k no_record;
-    target = get_or own k no_target;
-    due = (fall k l ∙ ap (λ b. if b then get_or ds k 0 - by else get_or ds k 0) (eq-eqb (bit_at mask k) 1 on)) i;
-  }
+  fell k l on = grind (arith, by, eq-eqb)
 
   pub stayed : (k : ℕ) → k < 64 → bit_at mask k ≡ 0 → held rs own ds' k ≡ held rs own ds k
-  stayed k l off = λ i. record {
-    number = k;
-    item = get_or rs k no_record;
-    target = get_or own k no_target;
-    due = (fall k l ∙ ap (λ b. if b then get_or ds k 0 - by else get_or ds k 0)
-        (ne_eqb (bit_at mask k) 1 (λ e. omega (arith, e, off)))) i;
-  }
+  stayed k l off = grind (arith, off, by, ne_eqb)
 
 -- each slot of the order holds what a function makes of what it held
 pub each_held : {X Y : Type 0} (f : ℕ → X) (g : ℕ → Y) (h : X → Y) (order : List ℕ)
@@ -29,8 +18,7 @@ each_held f g h (s ∷ order) a e = (λ i. e s a.0 (ap (λ b. b || has s order) 
     i ∷ each_held f g h order a.2 (λ k l there. e k l (ap (λ b. nat_eq k s || b) there ∙ or_true (nat_eq k s))) i)
   where
     or_true : (b : Bool) → (b || true) ≡ true
-    or_true true = refl
-    or_true false = refl
+    or_true h1 = grind arith
 
 -- what holds of each slot that is shown holds of the slot of each number
 pub of_shown : {X : Type 0} (P : X → Type 0) (f : ℕ → X) (order : List ℕ) (k : ℕ) → AllByRecursion P (map f order)
@@ -39,8 +27,7 @@ of_shown P f [] k h e = let bad = ap bit e in absurd (omega (arith, bad))
 of_shown P f (s ∷ order) k h e = by (nat_eq k s) (eqb-true k s) (of_shown P f order k h.1) e
   where
     by : (b : Bool) → (b ≡ true → k ≡ s) → (has k order ≡ true → P (f k)) → (b || has k order) ≡ true → P (f k)
-    by true same rest e = subst (λ k. P (f k)) (sym (same refl)) h.0
-    by false same rest e = rest e
+    by h1 same rest e = grind arith
 
 waits_bit : (order : List ℕ) (waiting k : ℕ) → IsMaskOf waiting (λ k. has k order) → k < 64 → bit_at waiting k ≡ 1
     → has k order ≡ true
@@ -68,9 +55,7 @@ has_back k (x ∷ front) n back e = search (arith, nat_eq k x, has_back k front 
 not_front : (k : ℕ) (front : List ℕ) (n : ℕ) (back : List ℕ) → AreSlots (front ++ n ∷ back) → has k back ≡ true
     → has k front ≡ false
 not_front k [] n back a e = refl
-not_front k (x ∷ front) n back a e =
-    let other : k ≢ x = λ f. on_off (ap bit (sym (has_back x front n back (ap (λ k. has k back) (sym f) ∙ e)) ∙ a.1)) in
-    ap (λ b. b || has k front) (ne_eqb k x other) ∙ not_front k front n back a.2 e
+not_front k (x ∷ front) n back a e = grind (arith, on_off, has_back, ne_eqb, not_front k front n back a.2 e)
 
 pub slots_front : (front : List ℕ) (n : ℕ) (back : List ℕ) → AreSlots (front ++ n ∷ back) → AreSlots front
 slots_front [] n back a = tt
@@ -81,8 +66,7 @@ slots_front (x ∷ front) n back a = (a.0, in_part x front (n ∷ back) a.1, slo
     in_part x (y ∷ front) back e = or_off (nat_eq x y) (has x (front ++ back)) (has x front) (in_part x front back) e
       where
         or_off : (a b c : Bool) → (b ≡ false → c ≡ false) → (a || b) ≡ false → (a || c) ≡ false
-        or_off true b c h e = e
-        or_off false b c h e = h e
+        or_off h1 b c h e = grind arith
 
 slots_back : (front : List ℕ) (n : ℕ) (back : List ℕ) → AreSlots (front ++ n ∷ back) → AreSlots back
 slots_back [] n back a = a.2
@@ -116,8 +100,7 @@ module _ (kinds : ℕ → Kind) (front : List ℕ) (n : ℕ)
 
   other_is : (k : ℕ) → k < 64 → k ≢ n
       → bit_at mask k ≡ min (bit_at m.waiting k) (1 - bit_at (get_or m.earlier n 0) k)
-  other_is k l d = is k l
-      ∙ ap (λ b. cond b 0 (min (bit_at m.waiting k) (1 - bit_at (get_or m.earlier n 0) k))) (ne_eqb k n d)
+  other_is k l d = grind (arith, ne_eqb)
 
   pub front_off : (k : ℕ) → k < 64 → has k front ≡ true → bit_at mask k ≡ 0
   front_off k l there =
@@ -146,8 +129,7 @@ module _ (kinds : ℕ → Kind) (front : List ℕ) (n : ℕ)
           ∙ or_assoc (nat_eq k x) (has k front) (nat_eq k n || has k back)
         where
           or_assoc : (a b c : Bool) → (a || (b || c)) ≡ ((a || b) || c)
-          or_assoc true b c = refl
-          or_assoc false b c = refl
+          or_assoc h1 b c = grind arith
 
   pub back_is : (k : ℕ) → k < 64 → has k back ≡ true → bit_at mask k ≡ 1
   back_is k l there =
@@ -259,9 +241,7 @@ of_unit_behind {rs} {own} {order} {m} {place} {n} {drive} ds now kept view insid
     (sym (kept.masks.of_units drive k l) ∙ units k l bits.0 bits.1 bits.2) ∙ there)))
   where
     own_drive : {k drive : ℕ} (b : Bool) → (b ≡ true → k ≡ drive) → (a : Bool) → bit (a && b) ≡ 1 → k ≡ drive
-    own_drive true same a e = same refl
-    own_drive false same true e = absurd (omega (arith, e))
-    own_drive false same false e = absurd (omega (arith, e))
+    own_drive h1 same h3 e = grind arith
 
     each : (back : List ℕ) → AreSlots back
         → ((k : ℕ) → k < 64 → has k back ≡ true → (held rs own ds k).target.drive ≡ (slot_at now place).target.drive)
@@ -273,5 +253,4 @@ of_unit_behind {rs} {own} {order} {m} {place} {n} {drive} ds now kept view insid
     )
       where
         or_true : (b : Bool) → (b || true) ≡ true
-        or_true true = refl
-        or_true false = refl
+        or_true h1 = grind arith

@@ -25,14 +25,7 @@ off_one a k d = omega (arith, bit_at-lt a k, d)
 -- at first all are left
 pub narrows_first : {drive : ℕ} {m : Masks} (unit left : ℕ) → unit ≡ slice_index_or m.units drive 0
     → left ≡ bit_and unit m.sequential → Narrows drive m unit left unit
-narrows_first {drive} {m} unit left own is = record {
-  own = own;
-  of_left = λ s l e. both_set unit m.sequential s (ap (λ n. bit_at n s) (sym is) ∙ e);
-  to = λ k l e. e;
-  each = λ k l e s b u q off d.
-      let on = ap (λ n. bit_at n s) is ∙ set_both unit m.sequential s u q in absurd (omega (arith, on, off));
-  from = λ k l e h. e;
-}
+narrows_first unit left own is = grind (arith, own, both_set, set_both)
 
 -- one more
 pub narrows_more : {drive : ℕ} {m : Masks} {unit left narrowed : ℕ} (slot left' own narrowed' : ℕ)
@@ -64,9 +57,7 @@ narrows_more {drive} {m} {unit} {left} {narrowed} slot left' own narrowed' h low
     was s l e = ⊎_elim (λ f. ap (bit_at left) f ∙ on) (λ f. sym (kept s l f) ∙ e) (same_or s slot)
 
     below : (s : ℕ) → s < 64 → bit_at left s ≡ 0 → bit_at left' s ≡ 0
-    below s l off = ⊎_elim
-        (λ f. let bad = ap (bit_at left) f ∙ on in absurd (omega (arith, bad, off)))
-        (λ f. kept s l f ∙ off) (same_or s slot)
+    below s l off = grind (arith, ⊎_elim, kept, same_or)
 
     here : (k : ℕ) → k < 64 → k ≡ slot → bit_at own k ≡ 1
     here k l f = more k l ∙ ap (λ b. cond b 1 (bit_at (slice_index_or m.earlier slot 0) k)) (eq-eqb k slot f)
@@ -104,9 +95,7 @@ front_alone {drive} {m} {narrowed} transfers h is none = record {
     by : (j : ℕ) → j < 64 → IsInFront drive m j
         → bit_at transfers j ≡ min (bit_at narrowed j) (1 - bit_at m.sequential j) → bit_at narrowed j ≡ 1
         → bit_at m.sequential j ≡ 1
-    by j b f e on =
-        let zero = ap (λ n. bit_at n j) none ∙ bit_at-zero j in
-        omega (arith, e, on, zero, bit_at-lt m.sequential j)
+    by j b f e on = grind (arith, bit_at-zero, bit_at-lt)
 
 pub front_free : {drive : ℕ} {m : Masks} {narrowed : ℕ} (transfers : ℕ) → IsNarrowed drive m narrowed
     → ((k : ℕ) → k < 64 → bit_at transfers k ≡ min (bit_at narrowed k) (1 - bit_at m.sequential k))

@@ -22,42 +22,32 @@ closed_none : (gone : ℕ) → place_closed gone 64 ≡ 64
 closed_none gone = by (nat_lt gone 64)
   where
     by : (b : Bool) → (if b && false then 64 - 1 else 64) ≡ 64
-    by true = refl
-    by false = refl
+    by h1 = grind arith
 
 closed_below : (gone p : ℕ) → p ≤ gone → place_closed gone p ≡ p
 closed_below gone p l = ap (λ b. if b && nat_lt p 64 then p - 1 else p) (le-ltb gone p l)
 
 closed_above : (gone p : ℕ) → gone < p → p < 64 → place_closed gone p ≡ p - 1
-closed_above gone p l few = ap (λ b. if b && nat_lt p 64 then p - 1 else p) (lt-ltb gone p l)
-    ∙ ap (λ b. if b then p - 1 else p) (lt-ltb p 64 few)
+closed_above gone p l few = grind (arith, lt-ltb)
 
 -- those places are each other's
 up_closed : (gone p : ℕ) → p ≢ gone → p < 64 → up gone (place_closed gone p) ≡ p
 up_closed gone p d few = by (lt_or p gone)
   where
     by : (p < gone) ⊎ (gone ≤ p) → up gone (place_closed gone p) ≡ p
-    by (inl l) = ap (up gone) (closed_below gone p (omega (arith, l))) ∙ up_below gone p l
-    by (inr l) = ap (up gone) (closed_above gone p (omega (arith, l, d)) few)
-        ∙ (up_above gone (p - 1) (omega (arith, l, d)) ∙ omega (arith, l, d))
+    by h1 = grind (arith, closed_below, up_below, closed_above, up_above)
 
 closed_least : (gone p q : ℕ) → p ≢ gone → p < 64 → p ≤ up gone q → place_closed gone p ≤ q
 closed_least gone p q d few l = by (lt_or p gone) (lt_or q gone)
   where
     by : (p < gone) ⊎ (gone ≤ p) → (q < gone) ⊎ (gone ≤ q) → place_closed gone p ≤ q
-    by (inl a) (inl b) = omega (arith, closed_below gone p (omega (arith, a)), l, up_below gone q b)
-    by (inl a) (inr b) = omega (arith, closed_below gone p (omega (arith, a)), a, b)
-    by (inr a) (inl b) = absurd (omega (arith, a, b, l, up_below gone q b))
-    by (inr a) (inr b) = omega (arith, closed_above gone p (omega (arith, a, d)) few, l, up_above gone q b)
+    by h1 h2 = grind (arith, closed_below, up_below, closed_above, up_above)
 
 up_more : (gone z q : ℕ) → z < q → up gone z < up gone q
 up_more gone z q l = by (lt_or z gone) (lt_or q gone)
   where
     by : (z < gone) ⊎ (gone ≤ z) → (q < gone) ⊎ (gone ≤ q) → up gone z < up gone q
-    by (inl a) (inl b) = omega (arith, up_below gone z a, up_below gone q b, l)
-    by (inl a) (inr b) = omega (arith, up_below gone z a, up_above gone q b, l)
-    by (inr a) (inl b) = absurd (omega (arith, a, b, l))
-    by (inr a) (inr b) = omega (arith, up_above gone z a, up_above gone q b, l)
+    by h1 h2 = grind (arith, up_below, up_above)
 
 -- ---- the commands without that at a place
 module _ (cs : List Command) (gone : ℕ) (l : gone < length cs) (few : length cs ≤ 64) where
@@ -88,8 +78,7 @@ module _ (cs : List Command) (gone : ℕ) (l : gone < length cs) (few : length c
   up_inside q k = by (lt_or q gone)
     where
       by : (q < gone) ⊎ (gone ≤ q) → up gone q < length cs
-      by (inl b) = omega (arith, up_below gone q b, b, l)
-      by (inr b) = omega (arith, up_above gone q b, k, long)
+      by h1 = grind (arith, up_below, up_above, long)
 
   -- those to another unit than it
   module _ (number : ℕ) (other : (command_at cs gone).unit ≢ number) where
@@ -97,9 +86,7 @@ module _ (cs : List Command) (gone : ℕ) (l : gone < length cs) (few : length c
     not_gone p h e = other (ap (λ k. (command_at cs k).unit) (sym e) ∙ h.unit)
 
     free_of : (q : ℕ) → (command_at cs q).unit ≡ number → not (bars (command_at cs gone) (command_at cs q)) ≡ true
-    free_of q e = ap (λ b. not (b && (is_sequential (command_at cs gone).order || is_sequential
-        (command_at cs q).order)))
-        (ne_eqb (command_at cs gone).unit (command_at cs q).unit (λ f. other (f ∙ e)))
+    free_of q e = grind (arith, ne_eqb)
 
     from_left : (q : ℕ) → IsClearOn left number q → IsClearOn cs number (up gone q)
     from_left q h = record {
@@ -189,17 +176,14 @@ module _ (cs : List Command) (gone : ℕ) (l : gone < length cs) (few : length c
         small p a = by (lt_or gone p)
           where
             by : (gone < p) ⊎ (p ≤ gone) → place_closed gone p < 64
-            by (inl b) = omega (arith, closed_above gone p b a, a)
-            by (inr b) = omega (arith, closed_below gone p b, a)
+            by h1 = grind (arith, closed_above, closed_below)
 
         there : IsClearOn cs number s.place → IsClearOn left number (place_closed gone s.place)
         there x = to_left (place_closed gone s.place) (by (lt_or gone s.place))
             (subst (IsClearOn cs number) (sym (back x)) x)
           where
             by : (gone < s.place) ⊎ (s.place ≤ gone) → place_closed gone s.place < length left
-            by (inl b) = (let i = x.inside in
-                omega (arith, closed_above gone s.place b (h.each s.place x).0, i, long, b))
-            by (inr b) = omega (arith, closed_below gone s.place b, not_gone s.place x, b, long, l)
+            by h1 = grind (arith, closed_above, long, closed_below, not_gone)
 
         ahead : (q : ℕ) → (s.place < 64) × IsAhead s (cost_at d cs (up gone q)) (up gone q) → IsAhead t
             (cost_at d left q) q
@@ -231,11 +215,7 @@ known_was at k gone moves was now off starts on = by (same_or k at)
     closed_known moves s e = grind (arith, not, eq-eqb, ltb-true)
 
     by : (k ≡ at) ⊎ (k ≢ at) → (k ≢ at) × (knows was k ≡ true)
-    by (inl e) = absurd (false≢true (sym off ∙ (ap (knows now) (sym e) ∙ on)))
-    by (inr d) = (
-      d,
-      closed_known moves (start_in was k) (ap (λ (s : Start). not (nat_eq s.place 255)) (sym (starts d)) ∙ on),
-    )
+    by h1 = grind (arith, false≢true, closed_known)
 
 -- if nobody stands behind the place, no best start is behind it
 unmoved : (cs : List Command) (gone number : ℕ) {c : ℕ → ℕ} (s : Start) → IsBest (IsClearOn cs number) c s
@@ -270,15 +250,12 @@ module _ {ds : List Drive} {cs : List Command} (units : IsUnitList (units_of ds)
   }
     where
       last_stays : {s : Start} (ends : Bool) → s ≡ closed gone s → s ≡ cond ends (closed gone s) s
-      last_stays true e = e
-      last_stays false e = refl
+      last_stays h1 e = grind arith
 
       is_closed : (k : ℕ) → k < length ds → knows f k ≡ true
           → cond moves (closed gone (start_in f k)) (start_in f k)
           ≡ cond ends (closed gone (start_in f k)) (start_in f k)
-      is_closed k b on = ⊎_elim (λ e. ap (λ m. cond m (closed gone (start_in f k)) (start_in f k)) e) (λ x.
-          ap (λ m. cond m (closed gone (start_in f k)) (start_in f k)) x.0
-          ∙ last_stays ends (unmoved cs gone (drive_in ds k).unit.number (start_in f k) (h.each k b on) x.1)) how
+      is_closed k b on = grind (arith, ⊎_elim, last_stays, unmoved)
 
       by : (ends : Bool) (k : ℕ) → k < length ds → k ≢ at
           → IsBest (IsClearOn cs (drive_in ds k).unit.number) (cost_at (drive_in ds k) cs) (start_in f k)

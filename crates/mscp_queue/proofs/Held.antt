@@ -113,8 +113,7 @@ kept_passed budget longest n us r h l = search arith
 front_kept : (budget longest n : ℕ) (us : List Shape) (A : List Record) → AllByRecursion (IsKept budget longest us) A
     → AllByRecursion (λ r. r.passed + n ≤ budget) A → AllByRecursion (IsKept budget longest us) (map (passed_by n) A)
 front_kept budget longest n us [] h l = tt
-front_kept budget longest n us (r ∷ rs) h l =
-    search (arith, kept_passed budget longest n us r h.0 l.0, front_kept budget longest n us rs h.1 l.1)
+front_kept budget longest n us (r ∷ rs) h l = grind (arith, kept_passed, front_kept budget longest n us rs h.1 l.1)
 
 kept_advanced : (budget longest : ℕ) (us : List Shape) (r : Record) → IsKept budget longest us r
     → r.done + 1 < r.weight → IsKept budget longest us (advanced r)

@@ -73,14 +73,11 @@ name_found rs name place (Some other) a l e h = search (arith, found_at (has_nam
 -- the place that is known of what was begun is where its name stands, and there alone
 pub known_place : (rs : List Record) (begun : Option ℕ) → AreApart (names rs)
     → ((place : ℕ) → begun ≡ Some place → place < length rs) → begun ≡ place_begun rs (begun_name rs begun)
-known_place rs None a l = refl
-known_place rs (Some place) a l = sym (name_found rs (name_of (record_at rs place)) place
-    (position (has_name (name_of (record_at rs place))) rs) a (l place refl) refl refl)
+known_place rs h2 a l = grind (arith, name_found)
 
 pub known_alone : (rs : List Record) (begun : Option ℕ) → AreApart (names rs)
     → ((place : ℕ) → begun ≡ Some place → place < length rs) → IfSome begun (IsAlone rs)
-known_alone rs None a l = tt
-known_alone rs (Some place) a l = λ other inside e. once rs other place a inside (l place refl) e
+known_alone rs h2 a l = grind (arith, once)
 
 -- the record at the place that is known of what was begun is next
 pub known_next : (picks : List Choice → ℕ → Type 0) (budget : ℕ) (ds : List Drive) (rs : List Record) (place : ℕ)
@@ -193,10 +190,7 @@ begun_left rs new (Some place) gone a l e h = by (place_without (Some place) gon
       where
         where_gone : (b c : Bool) → nat_lt place gone ≡ b → nat_lt gone place ≡ c
             → (if b then Some place else if c then Some (place - 1) else None) ≡ None → place ≡ gone
-        where_gone true c p q e = absurd (true≢false (ap is_some e))
-        where_gone false true p q e = absurd (true≢false (ap is_some e))
-        where_gone false false p q e = let a = ltb-false place gone p in let b =
-            ltb-false gone place q in omega (arith, a, b)
+        where_gone h1 h2 p q e = grind (arith, true≢false, ltb-false)
 
 -- one that is served waits for its next step, or none is
 pub some_without : (rs new : List Record) (known : Option ℕ) (gone : ℕ) → gone < length rs → new ≡ take gone rs ++ drop
@@ -215,10 +209,7 @@ some_without rs new (Some place) gone l e one h idle s = by (place_without (Some
 
     where_gone : (b c : Bool) → nat_lt place gone ≡ b → nat_lt gone place ≡ c
         → (if b then Some place else if c then Some (place - 1) else None) ≡ None → place ≡ gone
-    where_gone true c p q e = absurd (true≢false (ap is_some e))
-    where_gone false true p q e = absurd (true≢false (ap is_some e))
-    where_gone false false p q e = let a = ltb-false place gone p in let b =
-        ltb-false gone place q in omega (arith, a, b)
+    where_gone h1 h2 p q e = grind (arith, true≢false, ltb-false)
 
     by : (o : Option ℕ) → place_without (Some place) gone ≡ o → is_some o ≡ false → All (λ r. r.done ≡ 0) new
     by (Some k) n f = absurd (true≢false f)

@@ -41,8 +41,7 @@ module _ (n : ℕ) (on sq : ℕ → Bool) where
       lt_or a b = grind arith
 
       by : (s : ℕ) → on s ≡ true → sq s ≡ true → s ≢ p → (s < p) ⊎ (p ≤ s) → p < s
-      by s u q d (inl b) = absurd (h.none s b u (inl q))
-      by s u q d (inr b) = omega (arith, b, d)
+      by s u q d h5 = grind arith
 
   pub opens_fence : (p : ℕ) → p < n → Opens p → (sq p ≡ false) ⊎ Fence
   opens_fence p l h = by (sq p) refl
@@ -52,9 +51,7 @@ module _ (n : ℕ) (on sq : ℕ → Bool) where
       by true e = inr (λ j b f. all j f (sq j) refl)
         where
           all : (j : ℕ) → In j → (c : Bool) → sq j ≡ c → sq j ≡ true
-          all j f true g = g
-          all j f false g = absurd (h.none j (f.each p l h.own e
-              (λ k. false≢true (sym g ∙ (ap sq (sym k) ∙ e)))) f.own (inr e))
+          all j f h3 g = grind (arith, false≢true)
 
 -- ---- what a list of tests says
 pub all_at : {X : Type 0} (test : X → Bool) (xs : List X) (i : ℕ) (d : X) → list_all test xs ≡ true → i < length xs
@@ -73,10 +70,7 @@ fence_off zd rd at zs rs e h = by (nat_eq zd rd) refl zs rs h
   where
     by : (b : Bool) → nat_eq zd rd ≡ b → (zs rs : Bool) → (nat_eq zd at ≡ true → (zs ≡ true) ⊎ (rs ≡ true) → ⊥)
         → not (b && (zs || rs)) ≡ true
-    by false f zs rs h = refl
-    by true f true rs h = absurd (h (eq-eqb zd at (eqb-true zd rd f ∙ eqb-true rd at e)) (inl refl))
-    by true f false true h = absurd (h (eq-eqb zd at (eqb-true zd rd f ∙ eqb-true rd at e)) (inr refl))
-    by true f false false h = refl
+    by h1 f h3 h4 h = grind (arith, eq-eqb, eqb-true)
 
 off_fence : (zd rd at : ℕ) (zs rs : Bool) → nat_eq rd at ≡ true → not (nat_eq zd rd && (zs || rs)) ≡ true
     → nat_eq zd at ≡ true → (zs ≡ true) ⊎ (rs ≡ true) → ⊥
@@ -84,9 +78,7 @@ off_fence zd rd at zs rs e h f o = by zs rs o (ap (λ b. not (b && (zs || rs)))
     (sym (eq-eqb zd rd (eqb-true zd at f ∙ sym (eqb-true rd at e)))) ∙ h)
   where
     by : (zs rs : Bool) → (zs ≡ true) ⊎ (rs ≡ true) → not (true && (zs || rs)) ≡ true → ⊥
-    by true rs o h = false≢true h
-    by false true o h = false≢true h
-    by false false o h = ⊎_elim false≢true false≢true o
+    by h1 h2 o h = grind (arith, false≢true, ⊎_elim)
 
 -- ---- by the masks
 module _ (kinds : ℕ → Kind) (order : List ℕ) (m : Masks) (masks : AreMasks kinds order m) (at : ℕ) where
@@ -127,13 +119,7 @@ module _ (kinds : ℕ → Kind) (order : List ℕ) (m : Masks) (masks : AreMasks
       long = length-take-le p order (omega (arith, l))
 
       none : p ≤ q → (b : Bool) → has (number q) (take p order) ≡ b → b ≡ nat_lt q p
-      none g false e = sym (le-ltb q p g)
-      none g true e =
-          let r = placed (take p order) (number q) e in
-          let inside : r.0 < p = omega (arith, r.1, long) in
-          let same = one_place order q r.0 masks.apart k (omega (arith, inside, l))
-          (r.2 ∙ get_or-take p order r.0 0 inside) in
-          absurd (omega (arith, same, inside, g))
+      none g h2 e = grind (arith, le-ltb, placed, long, one_place, get_or-take)
 
       by : (q < p) ⊎ (p ≤ q) → has (number q) (take p order) ≡ nat_lt q p
       by (inl g) = ap (λ k. has k (take p order)) (sym (get_or-take p order q 0 g))
@@ -146,12 +132,10 @@ module _ (kinds : ℕ → Kind) (order : List ℕ) (m : Masks) (masks : AreMasks
   there k l e = placed order k (by (has k order) (sym (masks.of_units at k l) ∙ e))
     where
       by : (b : Bool) → bit (b && nat_eq (kinds k).drive at) ≡ 1 → b ≡ true
-      by true f = refl
-      by false f = absurd (omega (arith, f))
+      by h1 f = grind arith
 
   off : (b : Bool) → bit b ≡ 0 → b ≡ false
-  off true e = absurd (omega (arith, e))
-  off false e = refl
+  off h1 e = grind arith
 
   abbrev Inside : ℕ → Type 0
   Inside = In (length order) on sq
@@ -176,15 +160,7 @@ module _ (kinds : ℕ → Kind) (order : List ℕ) (m : Masks) (masks : AreMasks
       by : (k : ℕ) → (s : ℕ) × (s < length order) × (k ≡ number s)
           → bit_at (slice_index_or m.units at 0) k ≡ 1 → bit_at m.sequential k ≡ 1 → k ≢ number p
           → bit_at (slice_index_or m.earlier k 0) (number p) ≡ 1
-      by k t u q d =
-          let s = t.0 in
-          let e = t.2 in
-          let first = h.each s t.1 (one_bit (on s) (sym (unit_bit s t.1)
-          ∙ (ap (bit_at (slice_index_or m.units at 0)) (sym e) ∙ u)))
-          (one_bit (sq s) (sym (seq_bit s t.1) ∙ (ap (bit_at m.sequential) (sym e) ∙ q)))
-          (λ f. d (e ∙ ap number f)) in
-          ap (λ n. bit_at (slice_index_or m.earlier n 0) (number p)) e
-          ∙ (early_bit s p t.1 l ∙ ap bit (lt-ltb p s first))
+      by k t u q d = grind (arith, one_bit, unit_bit, seq_bit, early_bit, lt-ltb)
 
   abbrev Alone : Type 0
   Alone = (j : ℕ) → j < length order → Inside j → sq j ≡ true
@@ -193,10 +169,7 @@ module _ (kinds : ℕ → Kind) (order : List ℕ) (m : Masks) (masks : AreMasks
   fence_to h j l f = one_bit (sq j) (sym (seq_bit j l) ∙ h (number j) (low j l) (front_in j l f))
 
   fence_from : Alone → IsFence at m
-  fence_from h k l f =
-      let t = there k l f.unit in
-      ap (bit_at m.sequential) t.2 ∙ (seq_bit t.0 t.1
-      ∙ ap bit (h t.0 t.1 (in_front t.0 t.1 (subst (IsInFront at m) t.2 f))))
+  fence_from h k l f = grind (arith, there, seq_bit, in_front)
 
   abbrev ks : List Kind
   ks = map kinds order
@@ -228,13 +201,7 @@ module _ (kinds : ℕ → Kind) (order : List ℕ) (m : Masks) (masks : AreMasks
   pub front_open : (front p : ℕ) → IsFront at m front → p < length order → bit_at front (number p) ≡ 1
       → IsOpenOn ks at p
   front_open front p h l e =
-      let t = h.to (number p) (low p l) e in
-      let o = in_opens (length order) on sq p l (in_front p l t.0) (λ q. fence_to (t.1 (seq_bit p l ∙ ap bit q))) in
-      record {
-        inside = omega (arith, l, length-map order kinds);
-        drive = ap (λ (k : Kind). k.drive) (kind_is p l) ∙ eqb-true (kinds (number p)).drive at o.own;
-        free = unfenced p l o;
-      }
+      grind (arith, low, in_opens, in_front, fence_to, seq_bit, length-map, kind_is, eqb-true, unfenced)
 
   pub open_front : (front p : ℕ) → IsFront at m front → IsOpenOn ks at p → bit_at front (number p) ≡ 1
   open_front front p h e =

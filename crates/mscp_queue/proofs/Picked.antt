@@ -20,16 +20,14 @@ module _ (budget : ℕ) (ds : List Drive) (rs : List Record) (may : MayAllPass b
   many = length-map rs (λ (r : Record). r.command)
 
   open_is : (place : ℕ) → place < length rs → is_open_at budget rs place ≡ is_clear cs place
-  open_is place l = and_true (is_free (record_at rs place) (take place rs))
-      (is_affordable budget (record_at rs place) (take place rs)) (may place l) ∙ sym (clear_is rs place l)
+  open_is place l = grind (arith, and_true, clear_is)
 
   -- what a picker sees that the start at a place costs
   abbrev C : ℕ → ℕ
   C place = (choice_of (drive_at ds rs place) (record_at rs place)).cost
 
   cost_same : (place : ℕ) → place < length rs → C place ≡ cost_of ds cs place
-  cost_same place l = ap (λ (c : Command). order_cost (Rattle.mscp_queue.specs.Drives.drive_of ds c.unit).unit
-      (Rattle.mscp_queue.specs.Drives.drive_of ds c.unit).head c.order) (sym (command_is rs place l))
+  cost_same place l = grind (arith, command_is)
 
   module _ (place : ℕ) (h : IsFirstOf ds cs place) where
     inside : place < length rs
@@ -78,8 +76,7 @@ module _ (budget : ℕ) (ds : List Drive) (rs : List Record) (may : MayAllPass b
     below k x = let l = x.inside in omega (arith, l, many)
 
     numbers : costs (view_of budget ds rs) ≡ map C A ++ C place ∷ map C B
-    numbers = map_map (λ place. choice_of (drive_at ds rs place) (record_at rs place)) (λ (c : Choice). c.cost)
-        (open_places budget rs) ∙ (ap (map C) cut ∙ map-append C A (place ∷ B))
+    numbers = grind (arith, map_map, cut, map-append)
 
     least : (k : ℕ) → IsClear cs k → C place ≤ C k
     least k x = by (h.each k x)
@@ -89,8 +86,7 @@ module _ (budget : ℕ) (ds : List Drive) (rs : List Record) (may : MayAllPass b
 
         by : (cost_of ds cs place < cost_of ds cs k) ⊎ ((cost_of ds cs place ≡ cost_of ds cs k) × (place ≤ k))
             → C place ≤ C k
-        by (inl l) = omega (arith, l, cost_same place inside, same)
-        by (inr e) = let f = e.0 in omega (arith, f, cost_same place inside, same)
+        by h1 = grind (arith, cost_same, inside, same)
 
     less : (k : ℕ) → IsClear cs k → k < place → C place < C k
     less k x b = by (h.each k x)
@@ -100,8 +96,7 @@ module _ (budget : ℕ) (ds : List Drive) (rs : List Record) (may : MayAllPass b
 
         by : (cost_of ds cs place < cost_of ds cs k) ⊎ ((cost_of ds cs place ≡ cost_of ds cs k) × (place ≤ k))
             → C place < C k
-        by (inl l) = omega (arith, l, cost_same place inside, same)
-        by (inr e) = absurd (let f = e.1 in omega (arith, f, b))
+        by h1 = grind (arith, cost_same, inside, same)
 
     pub swept : IsSweep (view_of budget ds rs) (length A)
     swept =
@@ -128,12 +123,7 @@ module _ (budget : ℕ) (ds : List Drive) (rs : List Record) (may : MayAllPass b
 
     pub picked : (i : ℕ) × (i < length (open_places budget rs)) × (get_or (open_places budget rs) i 0 ≡ place)
         × IsSweep (view_of budget ds rs) i
-    picked = (
-      length A,
-      omega (arith, ap length cut, length-append A (place ∷ B)),
-      ap (λ ps. get_or ps (length A) 0) cut ∙ get_or_at A place B 0 (length A) refl,
-      swept,
-    )
+    picked = grind (arith, cut, length-append, get_or_at, swept)
 
     pub place_inside : place < length rs
     place_inside = inside

@@ -6,8 +6,7 @@ use Rattle.std.proofs.lemmas.Nat.Bits.{bit_at_or}
 use Rattle.mscp_queue.proofs.Common.{IsAbove, IsBelow, IsIn, IsNearest, IsSooner, AreRanged, AreRanges, no_target, bit_at_and, bit_at-lt, range_at}
 
 pub of_bit : (b : Bool) → bit b ≡ 1 → b ≡ true
-of_bit true e = refl
-of_bit false e = absurd (omega (arith, e))
+of_bit h1 e = grind arith
 
 -- ---- a slot is in another range from now on
 pub ranged_set : {ranges masks : List ℕ} (slot range v w : ℕ) → AreRanged ranges masks → length ranges ≡ 64
@@ -33,8 +32,7 @@ ranged_set {ranges} {masks} slot range v w h long many low few off on = record {
     there k d = get_or-set_other ranges slot k range 0 d
 
     below : (k : ℕ) → (k ≡ slot) ⊎ (k ≢ slot) → range_at (set ranges slot range) k < 64
-    below k (inl e) = subst (λ n. n < 64) (sym (ap (range_at (set ranges slot range)) e ∙ here)) few
-    below k (inr d) = subst (λ n. n < 64) (sym (there k d)) (h.low k)
+    below k h2 = grind (arith, here, there)
 
     -- without it
     gone : (r k : ℕ) → r < 64 → k < 64 → (r ≡ old) ⊎ (r ≢ old)
@@ -47,35 +45,24 @@ ranged_set {ranges} {masks} slot range v w h long many low few off on = record {
       where
         none : (k ≡ slot) ⊎ (k ≢ slot) → bit_at (get_or masks r 0) k ≡ cond (nat_eq k slot) 0 (bit_at
             (get_or masks r 0) k)
-        none (inl e) = h.each r k a b ∙ (ap bit (ne_eqb (range_at ranges k) r
-            (λ f. d (sym f ∙ ap (range_at ranges) e)))
-            ∙ ap (λ b. cond b 0 (bit_at (get_or masks r 0) k)) (sym (eq-eqb k slot e)))
-        none (inr f) = ap (λ b. cond b 0 (bit_at (get_or masks r 0) k)) (sym (ne_eqb k slot f))
+        none h1 = grind (arith, ne_eqb, eq-eqb)
 
     by : (r k : ℕ) → r < 64 → k < 64 → (k ≡ slot) ⊎ (k ≢ slot) → (r ≡ range) ⊎ (r ≢ range)
         → bit_at (get_or (set first range w) r 0) k ≡ bit (nat_eq (range_at (set ranges slot range) k) r)
-    by r k a b (inl e) (inl f) =
-        ap (λ n. bit_at n k) (ap (λ i. get_or (set first range w) i 0) f
-        ∙ get_or-set_same first range w 0 (omega (arith, few, many, length-set masks old v)))
-        ∙ (on k b ∙ (ap (λ b. cond b 1 (bit_at (get_or first range 0) k)) (eq-eqb k slot e)
-        ∙ ap bit (sym (eq-eqb (range_at (set ranges slot range) k) r
-        (ap (range_at (set ranges slot range)) e ∙ (here ∙ sym f))))))
-    by r k a b (inl e) (inr d) =
-        ap (λ n. bit_at n k) (get_or-set_other first range r w 0 d)
-        ∙ (gone r k a b (same_or r old) ∙ (ap (λ b. cond b 0 (bit_at (get_or masks r 0) k)) (eq-eqb k slot e)
-        ∙ ap bit (sym (ne_eqb (range_at (set ranges slot range) k) r
-        (λ f. d (sym f ∙ (ap (range_at (set ranges slot range)) e ∙ here)))))))
-    by r k a b (inr d) (inl f) =
-        ap (λ n. bit_at n k) (ap (λ i. get_or (set first range w) i 0) f
-        ∙ get_or-set_same first range w 0 (omega (arith, few, many, length-set masks old v)))
-        ∙ (on k b ∙ (ap (λ b. cond b 1 (bit_at (get_or first range 0) k)) (ne_eqb k slot d)
-        ∙ (gone range k few b (same_or range old)
-        ∙ (ap (λ b. cond b 0 (bit_at (get_or masks range 0) k)) (ne_eqb k slot d)
-        ∙ (h.each range k few b ∙ (λ i. bit (nat_eq (sym (there k d) i) (sym f i))))))))
-    by r k a b (inr d) (inr g) =
-        ap (λ n. bit_at n k) (get_or-set_other first range r w 0 g)
-        ∙ (gone r k a b (same_or r old) ∙ (ap (λ b. cond b 0 (bit_at (get_or masks r 0) k)) (ne_eqb k slot d)
-        ∙ (h.each r k a b ∙ ap (λ n. bit (nat_eq n r)) (sym (there k d)))))
+    by r k a b h5 h6 = grind (
+      arith,
+      first,
+      get_or-set_same,
+      length-set,
+      old,
+      eq-eqb,
+      here,
+      get_or-set_other,
+      gone,
+      same_or,
+      ne_eqb,
+      there,
+    )
 
 -- ---- the slots in a range
 pub is_here : {ranges masks : List ℕ} (mask range k : ℕ) → AreRanged ranges masks → range < 64 → k < 64
@@ -85,8 +72,7 @@ is_here {ranges} {masks} mask range k h l b =
     ∙ by (nat_eq (range_at ranges k) range))
   where
     by : (c : Bool) → min (bit_at mask k) (bit c) ≡ cond c (bit_at mask k) 0
-    by true = omega (arith, bit_at-lt mask k)
-    by false = omega arith
+    by h1 = grind (arith, bit_at-lt)
 
 -- what is told of one range
 abbrev pub IsHere : List ℕ → ℕ → ℕ → ℕ → Type 0
@@ -99,13 +85,11 @@ here_to ranges mask range found k h x = by (nat_eq (range_at ranges k) range) re
   where
     by : (b : Bool) → nat_eq (range_at ranges k) range ≡ b → cond b (bit_at mask k) 0 ≡ 1
         → IsIn mask k × (range_at ranges k ≡ range)
-    by true e on = ((x.0, on), eqb-true (range_at ranges k) range e)
-    by false e on = absurd (omega (arith, on))
+    by h1 e on = grind (arith, eqb-true)
 
 pub here_from : (ranges : List ℕ) (mask range found k : ℕ) → IsHere ranges mask range found → IsIn mask k
     → range_at ranges k ≡ range → IsIn found k
-here_from ranges mask range found k h x e =
-    (x.0, h k x.0 ∙ (ap (λ b. cond b (bit_at mask k) 0) (eq-eqb (range_at ranges k) range e) ∙ x.1))
+here_from ranges mask range found k h x e = grind (arith, eq-eqb)
 
 -- a mask that isn't 0 has a slot
 pub some_in : (mask : ℕ) → mask ≢ 0 → mask < 2 ^ 64 → (j : ℕ) × IsIn mask j
@@ -138,10 +122,7 @@ found_above {ranges} {mask} {range} {other} {found} l h here d small = record {
 
 pub none_above : {ranges : List ℕ} {mask range : ℕ} → ((k : ℕ) → range_at ranges k < 64)
     → ((k : ℕ) → IsIn mask k → range < range_at ranges k → 64 ≤ range_at ranges k) → IsAbove ranges mask range 0
-none_above {ranges} {mask} {range} low h = record {
-  to = λ k x. absurd (none_in 0 k refl x);
-  from = λ k x a. absurd (let l = low k in let m = h k x a in omega (arith, l, m));
-}
+none_above low h = grind (arith, none_in)
 
 -- ---- the next below
 pub found_below : {ranges : List ℕ} {mask range other found : ℕ} → other < range
@@ -163,10 +144,7 @@ found_below {ranges} {mask} {range} {other} {found} l h here d small = record {
 
 pub none_below : {ranges : List ℕ} {mask range : ℕ}
     → ((k : ℕ) → IsIn mask k → range_at ranges k < range → ⊥) → IsBelow ranges mask range 0
-none_below {ranges} {mask} {range} h = record {
-  to = λ k x. absurd (none_in 0 k refl x);
-  from = λ k x a. absurd (h k x a);
-}
+none_below h = grind (arith, none_in)
 
 -- ---- the nearest to a head
 or_to : (a b k : ℕ) → IsIn (bit_or a b) k → IsIn a k ⊎ IsIn b k
@@ -209,13 +187,7 @@ module _ {ranges : List ℕ} {mask range : ℕ} (at over : ℕ) (here : IsHere r
     where
       first : (k : ℕ) → range_at ranges k < range → (j : ℕ) × IsIn (bit_or at over) j → (j : ℕ)
           × IsIn (bit_or at over) j × IsSooner true range (range_at ranges j) (range_at ranges k)
-      first k l s = (
-        s.0,
-        s.1,
-        ⊎_elim
-            (λ y. let t = here_to ranges mask range at s.0 here y in inr (l, (let e = t.1 in omega (arith, e, l))))
-            (λ y. let t = above.to s.0 y in inr (l, (let e = t.1 in omega (arith, e, l)))) (or_to at over s.0 s.1),
-      )
+      first k l s = grind (arith, ⊎_elim, here_to, here, or_to)
 
       by : (k : ℕ) → IsIn mask k → (range_at ranges k < range) ⊎ ((range_at ranges k ≡ range)
           ⊎ (range < range_at ranges k)) → IsIn (bit_or at over) k ⊎ ((j : ℕ) × IsIn (bit_or at over) j
@@ -253,21 +225,12 @@ module _ {ranges : List ℕ} {mask range : ℕ} (at under : ℕ) (here : IsHere 
     where
       first : (k : ℕ) → range < range_at ranges k → (j : ℕ) × IsIn (bit_or at under) j → (j : ℕ)
           × IsIn (bit_or at under) j × IsSooner false range (range_at ranges j) (range_at ranges k)
-      first k l s = (
-        s.0,
-        s.1,
-        ⊎_elim
-            (λ y. let t = here_to ranges mask range at s.0 here y in inr (l, (let e = t.1 in omega (arith, e, l))))
-            (λ y. let t = below.to s.0 y in inr (l, (let e = t.1 in omega (arith, e, l)))) (or_to at under s.0 s.1),
-      )
+      first k l s = grind (arith, ⊎_elim, here_to, here, below, or_to)
 
       by : (k : ℕ) → IsIn mask k → (range_at ranges k < range) ⊎ ((range_at ranges k ≡ range)
           ⊎ (range < range_at ranges k)) → IsIn (bit_or at under) k ⊎ ((j : ℕ) × IsIn (bit_or at under) j
           × IsSooner false range (range_at ranges j) (range_at ranges k))
-      by k x (inl l) = ⊎_elim (λ y. inl (or_from at under k (inr y)))
-          (λ y. inr (y.0, or_from at under y.0 (inr y.1), inl ((below.to y.0 y.1).1, y.2))) (below.from k x l)
-      by k x (inr (inl e)) = inl (or_from at under k (inl (here_from ranges mask range at k here x e)))
-      by k x (inr (inr l)) = inr (first k l (some_in (bit_or at under) d small))
+      by k x h3 = grind (arith, ⊎_elim, or_from, below, here_from, here, first, some_in)
 
 module _ {ranges : List ℕ} {mask range : ℕ} (at over under : ℕ) (here : IsHere ranges mask range at)
     (above : IsAbove ranges mask range over) (below : IsBelow ranges mask range under) where
@@ -304,10 +267,7 @@ ranged_none ranges masks none first rest = record {
 }
   where
     by : (r k : ℕ) → k < 64 → (r ≡ 0) ⊎ (r ≢ 0) → bit_at (get_or masks r 0) k ≡ bit (nat_eq (range_at ranges k) r)
-    by r k b (inl e) = ap (λ i. bit_at (get_or masks i 0) k) e
-        ∙ (first k b ∙ ap bit (sym (eq-eqb (range_at ranges k) r (none k ∙ sym e))))
-    by r k b (inr d) = ap (λ n. bit_at n k) (rest r (omega (arith, d)))
-        ∙ (bit_at-zero k ∙ ap bit (sym (ne_eqb (range_at ranges k) r (λ e. d (sym e ∙ none k)))))
+    by r k b h4 = grind (arith, first, eq-eqb, none, bit_at-zero, ne_eqb)
 
 -- a slot has another target, and its range
 pub ranges_pushed : (own : List Target) (ranges new : List ℕ) (n : ℕ) (a : Target) → length own ≡ 64
@@ -316,9 +276,4 @@ pub ranges_pushed : (own : List Target) (ranges new : List ℕ) (n : ℕ) (a : T
 ranges_pushed own ranges new n a long many low h e k l = by (same_or k n)
   where
     by : (k ≡ n) ⊎ (k ≢ n) → get_or new k 0 ≡ (get_or (set own n a) k no_target).range
-    by (inl f) = ap (λ xs. get_or xs k 0) e ∙ (ap (λ k. get_or (set ranges n a.range) k 0) f
-        ∙ (get_or-set_same ranges n a.range 0 (omega (arith, low, many))
-        ∙ ap (λ (b : Target). b.range) (sym (ap (λ k. get_or (set own n a) k no_target) f
-        ∙ get_or-set_same own n a no_target (omega (arith, low, long))))))
-    by (inr d) = ap (λ xs. get_or xs k 0) e ∙ (get_or-set_other ranges n k a.range 0 d
-        ∙ (h k l ∙ ap (λ (b : Target). b.range) (sym (get_or-set_other own n k a no_target d))))
+    by h1 = grind (arith, get_or-set_same, get_or-set_other)

@@ -78,18 +78,7 @@ module _ (budget : ℕ) (us : List Shape) where
   are_due before [] rs e = tt
   are_due before (s ∷ ss) [] e = absurd (nil_not_cons (sym e))
   are_due before (s ∷ ss) (r ∷ rs) e =
-      let item : s.item ≡ bare r = ap (λ (c : Content). c.item) (head_same e) in
-      let due : s.due ≡ due_of budget before (sum_by left_if_serving rs) r = ap (λ (c : Content). c.due)
-      (head_same e) in
-      let left : left_of s.item ≡ left_of r = ap (λ (q : Record). left_of q) item in
-      let serving = serving_of (before + left_of r) ss rs (tail_same e) in (
-        record {
-          bare = ap (λ (q : Record). q.passed) item;
-          least = omega (arith, due, left, serving);
-          most = omega (arith, due, left, serving);
-        },
-        subst (λ n. AreDue budget (before + n) ss) (sym left) (are_due (before + left_of r) ss rs (tail_same e)),
-      )
+      grind (arith, head_same, serving_of, tail_same, are_due (before + left_of r) ss rs (tail_same e))
 
   pub told_are : (before : ℕ) (ss : List Slot) (rs : List Record) → contents ss ≡ contents_of budget us before rs
       → AllByRecursion (λ r. r.passed ≤ budget) rs → told budget before ss ≡ rs
@@ -97,16 +86,7 @@ module _ (budget : ℕ) (us : List Shape) where
   told_are before [] (r ∷ rs) e p = absurd (nil_not_cons e)
   told_are before (s ∷ ss) [] e p = absurd (nil_not_cons (sym e))
   told_are before (s ∷ ss) (r ∷ rs) e p =
-      let item : s.item ≡ bare r = ap (λ (c : Content). c.item) (head_same e) in
-      let due : s.due ≡ due_of budget before (sum_by left_if_serving rs) r = ap (λ (c : Content). c.due)
-      (head_same e) in
-      let left : left_of s.item ≡ left_of r = ap (λ (q : Record). left_of q) item in
-      let serving = serving_of (before + left_of r) ss rs (tail_same e) in
-      let within = p.0 in
-      let passed : (last_end before (left_in_service ss) s + budget) - s.due ≡ r.passed =
-      omega (arith, due, left, serving, within) in
-      let rest = ap (λ n. told budget (before + n) ss) left ∙ told_are (before + left_of r) ss rs (tail_same e) p.1 in
-      λ i. with_passed (passed i) (item i) ∷ rest i
+      grind (arith, head_same, serving_of, tail_same, told_are (before + left_of r) ss rs (tail_same e) p.1)
 
   -- at the end they are all
   pub contents_all : (cs : List Content) (before n : ℕ) (rs : List Record) → length rs ≤ n
@@ -147,8 +127,7 @@ pub ready_restored : {room budget longest : ℕ} {w : Waiters} {rs : List Record
     → ArePassedInOrder rs → w ≡ record { budget = budget; waiting = rs; targets = targets_of (units_of ds) rs }
     → (begun_name rs place ≡ begun) × ((k : ℕ) → place ≡ Some k → k < length rs)
     → serving ≡ position is_in_service rs → IsReady room longest w ds place serving
-ready_restored {room} {budget} {longest} {w} {rs} {ds} {begun} {place} {serving} h o e b s =
-    search (arith, idle_where, position-Some)
+ready_restored h o e b s = grind (arith, idle_where, position-Some)
 
 -- and what one knows it was
 pub held_seen : {room budget longest : ℕ} {rs : List Record} {ds : List Drive} {begun : Option Name} {serving : Bool}

@@ -65,8 +65,7 @@ module _ {at : ℕ} {d : Drive} {order : List ℕ} {ks : List Kind} {own : List 
   -- what is done now was, or is that
   done_or : (p : ℕ) → p < length order → bit_at left' (get_or order p 0) ≡ 0
       → (p ≡ q) ⊎ (bit_at left (get_or order p 0) ≡ 0)
-  done_or p l off = ⊎_elim (λ e. inl (one p q l k (e ∙ is)))
-      (λ e. inr (sym (kept (get_or order p 0) (lows p l) e) ∙ off)) (same_or (get_or order p 0) slot)
+  done_or p l off = grind (arith, off, ⊎_elim, kept, lows, same_or)
 
   -- it comes first
   pub seeks_better : (cost < least) ⊎ ((cost ≡ least) × (q < h.place)) → cost < 2 ^ 33
@@ -147,13 +146,11 @@ module _ {rs : List Record} {own : List Target} {order : List ℕ} {m : Masks} (
       }
     where
       has_it : (b : Bool) → bit (b && nat_eq (kind_at rs own n).drive at) ≡ 1 → b ≡ true
-      has_it true e = refl
-      has_it false e = absurd (omega (arith, e))
+      has_it h1 e = grind arith
 
   pub opens_front : {at front : ℕ} (p : ℕ) → IsFront at m front → IsOpenOn (kinds now) at p
       → bit_at front (get_or order p 0) ≡ 1
-  opens_front {at} {front} p h o = open_front (kind_at rs own) order m kept.masks at front p h
-      (subst (λ ks. IsOpenOn ks at p) (sym kinds_are) o)
+  opens_front p h o = grind (arith, open_front, kept, kinds_are)
 
   target_is : (q n : ℕ) → q < length order → n ≡ get_or order q 0
       → get_or own n no_target ≡ get_or (targets now) q no_target
@@ -163,8 +160,7 @@ module _ {rs : List Record} {own : List Target} {order : List ℕ} {m : Masks} (
       ∙ sym (get_or-map (λ (s : Slot). s.target) now q no_slot no_target inside)
 
   kind_is : (q n : ℕ) → q < length order → n ≡ get_or order q 0 → kind_there (kinds now) q ≡ kind_at rs own n
-  kind_is q n l e = ap (λ ks. kind_there ks q) (sym kinds_are)
-      ∙ (get_or-map (kind_at rs own) order q 0 no_kind l ∙ ap (kind_at rs own) (sym e))
+  kind_is q n l e = grind (arith, kinds_are, get_or-map)
 
   -- the cylinder of its first block is one of the unit's
   pub within : {at : ℕ} (d : Drive) (n : ℕ) → AreOnDrive at d (targets now) → (f : IsFound order (kinds now) at n)
@@ -193,8 +189,7 @@ module _ {rs : List Record} {own : List Target} {order : List ℕ} {m : Masks} (
       is ∙ (λ i. cost_on d (same i) (t i).cylinder)
     where
       of_bit : (b : Bool) → nat_eq (bit b) 1 ≡ b
-      of_bit true = refl
-      of_bit false = refl
+      of_bit h1 = grind arith
 
 -- ---- a range that the head comes to sooner costs less
 range_rises : (a b w : ℕ) → a ≤ b → min (a / (w + 1)) 63 ≤ min (b / (w + 1)) 63
@@ -211,20 +206,15 @@ range_less u a b l = by (lt_or a b)
     lt_or a b = grind arith
 
     by : (a < b) ⊎ (b ≤ a) → a < b
-    by (inl m) = m
-    by (inr m) = absurd (let r = range_rises b a (last_cylinder u / 64) m in omega (arith, r, l))
+    by h1 = grind (arith, range_rises)
 
 costs_less : (last head a b : ℕ) (up : Bool) → head ≤ last → a ≤ last → b ≤ last → IsSooner up head a b
     → sweep_cost last head up a < sweep_cost last head up b
-costs_less last head a b true h l m s = grind (arith, s)
-costs_less last head a b false h l m s = grind (arith, s)
+costs_less last head a b h5 h l m s = grind arith
 
 sooner_there : (u : Shape) (head a b : ℕ) (up : Bool)
     → IsSooner up (range_of u head) (range_of u a) (range_of u b) → IsSooner up head a b
-sooner_there u head a b true s = ⊎_elim (λ e. inl (range_less u head a e.0, range_less u a b e.1))
-    (λ e. inr (range_less u b head e.0, range_less u b a e.1)) s
-sooner_there u head a b false s = ⊎_elim (λ e. inl (range_less u a head e.0, range_less u b a e.1))
-    (λ e. inr (range_less u head b e.0, range_less u a b e.1)) s
+sooner_there u head a b h5 s = grind (arith, ⊎_elim, range_less)
 
 -- so what is open is among the nearest, or costs more than one of them
 module _ {rs : List Record} {own : List Target} {order : List ℕ} {m : Masks} {ranges buckets : List ℕ} (ds : List ℕ)
@@ -264,11 +254,7 @@ module _ {rs : List Record} {own : List Target} {order : List ℕ} {m : Masks} {
       }
     where
       off : bit_at 0 k ≡ bit_at (bit_and front m.sequential) k → bit_at m.sequential k ≡ 0
-      off e = zero (bit_at front k) (bit_at m.sequential k) (x.1) (bit_at-lt m.sequential k)
-          (sym (e ∙ bit_at_and front m.sequential k) ∙ bit_at-zero k)
-        where
-          zero : (a b : ℕ) → a ≡ 1 → b < 2 → min a b ≡ 0 → b ≡ 0
-          zero a b e l f = omega (arith, e, l, f)
+      off e = grind (arith, bit_at-lt, bit_at_and, bit_at-zero)
 
   pub among : {at front near : ℕ} (d : Drive) (p : ℕ) → IsFront at m front → IsNearOf m.sequential d ranges front near
       → AreOnDrive at d (targets now) → d.head.cylinder ≤ last_cylinder d.unit → IsOpenOn (kinds now) at p
@@ -303,12 +289,7 @@ module _ {rs : List Record} {own : List Target} {order : List ℕ} {m : Masks} {
 pub number_sought : {at : ℕ} {d : Drive} {order : List ℕ} {ks : List Kind} {own : List Target}
     {front left best least : ℕ} (h : Seeks at d order ks own front left best least)
     → ((q : ℕ) → q < length order → get_or order q 0 < 64) → IsNumber order h.place best
-number_sought {order = order} h lows = record {
-  low = subst (λ n. n < 64) (sym h.number) (lows h.place h.inside);
-  taken = ap (λ n. has n order) h.number ∙ slot_has order h.place h.inside;
-  inside = h.inside;
-  is = h.number;
-}
+number_sought h lows = grind (arith, lows, slot_has)
 
 -- none is left: it is the best
 pub sought : {at : ℕ} {d : Drive} {order : List ℕ} {ks : List Kind} {own : List Target} {front left best least : ℕ}
@@ -329,11 +310,9 @@ sought {at} {d} {order} {ks} {own} {front} {left} {best} {least} s h few opens o
   where
     ahead : (p : ℕ) → (least < cost_there d ks own p) ⊎ ((least ≡ cost_there d ks own p) × (h.place ≤ p))
         → IsAhead s (cost_there d ks own p) p
-    ahead p done = ⊎_elim (λ e. inl (omega (arith, e, cost)))
-        (λ e. inr (cost ∙ e.0, (let r = e.1 in omega (arith, r, place)))) done
+    ahead p done = grind (arith, ⊎_elim)
 
     further : (p q : ℕ) → cost_there d ks own q < cost_there d ks own p
         → (least < cost_there d ks own q) ⊎ ((least ≡ cost_there d ks own q) × (h.place ≤ q))
         → IsAhead s (cost_there d ks own p) p
-    further p q l done = ⊎_elim (λ e. inl (omega (arith, e, cost, l)))
-        (λ e. inl (let f = e.0 in omega (arith, f, cost, l))) done
+    further p q l done = grind (arith, ⊎_elim)

@@ -98,8 +98,7 @@ pub looks_more : {budget : ℕ} {ds : List Drive} {rs : List Record} {place : �
     {choices choices' : List Choice} (b : Bool) → b ≡ is_open_at budget rs place → places' ≡ places ++ cond
     b (place ∷ []) [] → choices' ≡ choices ++ cond b (choice_of (drive_at ds rs place) (record_at rs place) ∷ []) []
     → Looks budget ds rs place places choices → Looks budget ds rs (place + 1) places' choices'
-looks_more {budget} {ds} {rs} {place} {places} {places'} {choices} {choices'} b is put shown h =
-    search (arith, filter-append, range_more, appended, map-append, append-nil)
+looks_more b is put shown h = grind (arith, filter-append, range_more, appended, map-append, append-nil)
 
 pub looks_none : (budget : ℕ) (ds : List Drive) (rs : List Record) (places : List ℕ)
     (choices : List Choice) → places ≡ [] → choices ≡ [] → Looks budget ds rs 0 places choices
@@ -121,8 +120,7 @@ shut_is budget unspent ds rs own place h o e l (inl spent) q p m =
     search (arith, oldest_affords budget unspent r rs q o (omega (arith, p)) (omega (arith, m)) e)
   where
     and_false : (b : Bool) → (b && false) ≡ false
-    and_false true = refl
-    and_false false = refl
+    and_false h1 = grind arith
 shut_is budget unspent ds rs own place h o e l (inr fence) q p m =
     let us = units_of ds in
     let r = record_at rs q in
@@ -180,12 +178,4 @@ few_places budget rs = search (arith, fewer, length-range_with_len)
 -- so the oldest may be picked, if the first place of any view may
 pub first_picked : (picks : List Choice → ℕ → Type 0) (budget : ℕ) (ds : List Drive) (rs : List Record) → 0 < length rs
     → ((view : List Choice) → 0 < length view → length view ≤ length rs → picks view 0) → IsPick picks budget ds rs 0
-first_picked picks budget ds rs some first =
-    let long : length (view_of budget ds rs) ≡ length (open_places budget rs) = search (arith, length-map) in
-    let opens = some_place budget rs some in
-    let few = few_places budget rs in (
-      0,
-      opens,
-      first_place budget rs some,
-      first (view_of budget ds rs) (omega (arith, long, opens)) (omega (arith, long, few)),
-    )
+first_picked picks budget ds rs some first = grind (arith, length-map, some_place, few_places, first_place)

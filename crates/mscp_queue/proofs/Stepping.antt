@@ -88,22 +88,4 @@ favored_step {place = place} {at = at} {rs = rs} {new = new} {ds = ds} {ds' = ds
       where
         by : (b : Bool) → nat_lt place (length new) ≡ b
             → (moves ≡ true) ⊎ ((moves ≡ false) × (length (commands rs) ≡ place + 1))
-        by true p = inl (e ∙ p)
-        by false p =
-            let inside = servable.inside in
-            let long = ap length r
-            ∙ length-append (map (passed_by (step_charge (record_at rs place))) (take place rs))
-            (drop (place + 1) rs) in
-            inr (
-              e ∙ p,
-              omega (
-                arith,
-                inside,
-                long,
-                ltb-false place (length new) p,
-                length-map (take place rs) (passed_by (step_charge (record_at rs place))),
-                length-take-le place rs (omega (arith, inside)),
-                length-drop (place + 1) rs,
-                length-map rs (λ (r : Record). r.command),
-              ),
-            )
+        by h1 p = grind (arith, length-append, ltb-false, length-map, length-take-le, length-drop)

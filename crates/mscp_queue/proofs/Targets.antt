@@ -98,8 +98,7 @@ has_drive ds rs targets place r at other h l own is = search (
 pub has_drive_there : (ds : List Drive) (rs : List Record) (targets : List Target) (place at : ℕ)
     → CanBeShown ds rs targets → place < length rs → at ≡ (get_or targets place no_target).drive
     → HasDrive ds (record_at rs place) at
-has_drive_there ds rs targets place at h l is = has_drive ds rs targets place (record_at rs place) at no_target h l
-    (sym (get_or_default rs place (record_at rs place) no_record l)) is
+has_drive_there ds rs targets place at h l is = search (arith, has_drive, get_or_default)
 
 -- its drive, and the cylinder of its first block there
 pub record LeadsTo (ds : List Drive) (rs : List Record) (place : ℕ) (r : Record) (d : Drive) (cylinder : ℕ) :

@@ -136,10 +136,7 @@ module _ {k : Block} {place : ℕ}
   -- each drive of its number has its unit
   own_unit : IsUnitList (units_of ds)
       → AllByRecursion (λ q. has_number (record_at rs place).command.unit q ≡ true → q.unit ≡ m.d'.unit) ds
-  own_unit l =
-      let number = (record_at rs place).command.unit in
-      every_weaker (λ q. has_number number q ≡ true → q.unit ≡ (drive_of ds number).unit) (λ q. has_number number q
-      ≡ true → q.unit ≡ m.d'.unit) (λ q g b. g b ∙ sym (ap (λ (q : Drive). q.unit) m.after)) ds (units_same number ds l)
+  own_unit l = grind (arith, every_weaker, units_same)
 
   -- a step changes no unit
   pub units_step : IsUnitList (units_of ds) → units_of ds' ≡ units_of ds
