@@ -72,8 +72,7 @@ module _ {ds : List Drive} {rs : List Record} {own : List Target} (shown : CanBe
       → IsFirstOf ds cs s.place
   best_first s h some = ⊎_elim (λ e. absurd (let l = low in omega (arith, e, l))) (λ x. record {
     is = record { inside = x.0.clear.inside; clear = x.0.clear.clear };
-    each = λ other o. let a = (h.each other (all_below other o)).1 in
-        subst (λ n. (n < cost_of ds cs other) ⊎ ((n ≡ cost_of ds cs other) × (s.place ≤ other))) x.1 a;
+    each = grind (arith, all_below);
   }) h.is
     where
       low : s.place < 64

@@ -61,9 +61,7 @@ step_of {budget} {clock} {ss} {place} a l unfinished front back affordable = rec
         sum_by-cons left_of y.item (items B),
         unfinished,
       );
-  waiting = ap (told budget (clock + 1)) new
-      ∙ (told_stepped budget n y z B back (charge_is y.item) unfinished refl refl clock F due front
-      ∙ (λ i. stepped n (long i) (told budget clock (sym is i))));
+  waiting = grind (arith, new, told_stepped, n, y, z, charge_is, due, long, is);
   own = ap targets new ∙ (own_append F (z ∷ B) ∙ (sym (own_append F (y ∷ B)) ∙ ap targets (sym is)));
 }
   where

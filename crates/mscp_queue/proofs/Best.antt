@@ -33,13 +33,7 @@ best_of_two {P} {Q} {c} {one} {other} s true h k e f =
     let t = before other one (best_known h) (sym e) in
     subst (IsBest (λ p. P p ⊎ Q p) c) (sym f) (record {
       is = ⊎_elim (λ x. absurd (t.0 x)) (λ x. inr (inr x.0, x.1)) k.is;
-      each = λ p x. ⊎_elim
-          (λ y. let a = h.each p y in (
-            below k.is t.0,
-            ⊎_elim (λ z. absurd (omega (arith, z, a.0)))
-                (λ z. ahead_of other one (c p) p z a.1) t.1,
-          ))
-          (λ y. k.each p y) x;
+      each = grind (arith, ⊎_elim, below, ahead_of);
     })
   where
     below : (other.place ≡ 64) ⊎ (Q other.place × (other.cost ≡ c other.place)) → (other.place ≡ 64 → ⊥)
@@ -49,9 +43,7 @@ best_of_two {P} {Q} {c} {one} {other} s false h k e f =
     let t = not_before other one (best_known k) (sym e) in
     subst (IsBest (λ p. P p ⊎ Q p) c) (sym f) (record {
       is = ⊎_elim (λ x. inl x) (λ x. inr (inl x.0, x.1)) h.is;
-      each = λ p x. ⊎_elim (λ y. h.each p y)
-          (λ y. let a = k.each p y in ⊎_elim (λ z. absurd (omega (arith, z, a.0)))
-          (λ z. (below h.is z.0, ahead_of one other (c p) p z.1 a.1)) t) x;
+      each = grind (arith, ⊎_elim, below, ahead_of);
     })
   where
     below : (one.place ≡ 64) ⊎ (P one.place × (one.cost ≡ c one.place)) → (one.place ≡ 64 → ⊥) → one.place < 64

@@ -57,10 +57,8 @@ pub searches_on : {name : Name} {rs : List Record} {bucket left : ℕ} (slot lef
     → slot < 64 → IsSet false slot left left' → has_name name (get_or rs slot no_record) ≡ false
     → Searches name rs bucket left'
 searches_on {name} {rs} {bucket} {left} slot left' h low set miss = record {
-  of_bucket = λ k l on. ⊎_elim (λ e. let off = here k l e in absurd (omega (arith, on, off)))
-      (λ d. h.of_bucket k l (sym (kept k l d) ∙ on)) (same_or k slot);
-  seen = λ k l on off. ⊎_elim (λ e. ap (λ k. has_name name (get_or rs k no_record)) e ∙ miss)
-      (λ d. h.seen k l on (sym (kept k l d) ∙ off)) (same_or k slot);
+  of_bucket = grind (arith, ⊎_elim, here, kept, same_or);
+  seen = grind (arith, ⊎_elim, kept, same_or);
 }
   where
     kept : (k : ℕ) → k < 64 → k ≢ slot → bit_at left' k ≡ bit_at left k

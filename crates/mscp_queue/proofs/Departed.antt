@@ -61,10 +61,7 @@ masks_without : (kinds : ℕ → Kind) (order : List ℕ) (m m' : Masks) (n : �
 masks_without kinds order m m' n masks low l = record {
   apart = slots_left order n masks.apart;
   of_waiting = search (arith, set_mask, has_gone, has_kept);
-  of_sequential =
-      set_mask m.sequential m'.sequential n false _ _ l.ordered masks.of_sequential
-      (ap (λ b. b && (kinds n).sequential) (has_gone n order))
-      (λ k d. ap (λ b. b && (kinds k).sequential) (has_kept k n order d));
+  of_sequential = grind (arith, set_mask, has_gone, has_kept);
   of_units = classes_without (λ k. (kinds k).drive) order m.units m'.units n masks.of_units low l.own l.units;
   of_earlier = earlier_kept kinds order m m' n (kinds n).drive masks l
       (set_mask m.waiting m'.waiting n false _ _ l.waits masks.of_waiting (has_gone n order)

@@ -118,14 +118,7 @@ module _ (budget : ℕ) where
       let p : (last_end a (left_in_service (map (lowered_by n) ss)) (lowered_by n s) + budget) - (s.due - n)
       ≡ (last_end (a + n) (left_in_service ss) s + budget) - s.due = omega (arith, serving, least) in
       record {
-        dues = (
-          record {
-            bare = d.0.bare;
-            least = omega (arith, serving, least);
-            most = omega (arith, serving, most, least);
-          },
-          rest.dues,
-        );
+        dues = grind arith;
         same = λ i. with_passed (p i) s.item ∷ (rest.same ∙ ap (λ k. told budget k ss) (sym e)) i;
       }
 

@@ -36,15 +36,8 @@ narrows_more {drive} {m} {unit} {left} {narrowed} slot left' own narrowed' h low
   own = h.own;
   of_left = λ s l e. h.of_left s l (was s l e);
   to = λ k l e. h.to k l (parts k e).0;
-  each = λ k l e s b u q off d. ⊎_elim
-      (λ f. subst (λ n. bit_at (slice_index_or m.earlier n 0) k ≡ 1) (sym f)
-      (other k l (λ g. d (f ∙ sym g)) ∙ (parts k e).1))
-      (λ f. h.each k l (parts k e).0 s b u q (sym (kept s b f) ∙ off) d) (same_or s slot);
-  from = λ k l u all. ap (λ n. bit_at n k) is
-      ∙ set_both narrowed own k (h.from k l u (λ s b v q off d. all s b v q (below s b off) d))
-      (⊎_elim (λ f. here k l f) (λ f. sym (other k l f) ∙ all slot low (h.of_left slot low on).0
-      (h.of_left slot low on).1 (gone slot low ∙ ap (λ b. cond b 0 (bit_at left slot)) (eq-eqb slot slot refl))
-      (λ g. f (sym g))) (same_or k slot));
+  each = grind (arith, ⊎_elim, other, parts, kept, same_or);
+  from = grind (arith, set_both, own, below, ⊎_elim, here, other, eq-eqb, same_or);
 }
   where
     parts : (k : ℕ) → bit_at narrowed' k ≡ 1 → (bit_at narrowed k ≡ 1) × (bit_at own k ≡ 1)
@@ -101,11 +94,8 @@ pub front_free : {drive : ℕ} {m : Masks} {narrowed : ℕ} (transfers : ℕ) �
     → ((k : ℕ) → k < 64 → bit_at transfers k ≡ min (bit_at narrowed k) (1 - bit_at m.sequential k))
     → transfers ≢ 0 → transfers < 2 ^ 64 → IsFront drive m transfers
 front_free {drive} {m} {narrowed} transfers h is some small = record {
-  to = λ k l e.
-      let p = parts k l e in (h.to k l p.0, λ q. absurd (omega (arith, p.1, q)));
-  from = λ k l f o. ⊎_elim
-      (λ q. let on = h.from k l f in omega (arith, is k l, on, q))
-      (λ fence. absurd (no_fence fence)) o;
+  to = grind (arith, parts);
+  from = grind (arith, ⊎_elim, no_fence);
 }
   where
     parts : (k : ℕ) → k < 64 → bit_at transfers k ≡ 1 → (bit_at narrowed k ≡ 1) × (bit_at m.sequential k ≡ 0)

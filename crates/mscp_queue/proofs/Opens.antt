@@ -143,9 +143,7 @@ module _ (kinds : ℕ → Kind) (order : List ℕ) (m : Masks) (masks : AreMasks
   in_front : (p : ℕ) → p < length order → IsInFront at m (number p) → Inside p
   in_front p l h = record {
     own = one_bit (on p) (sym (unit_bit p l) ∙ h.unit);
-    each = λ s b u q d. before s b (one_bit (nat_lt p s) (sym (early_bit s p b l)
-        ∙ h.each (number s) (low s b) (unit_bit s b ∙ ap bit u) (seq_bit s b ∙ ap bit q)
-        (λ e. d (one_place order s p masks.apart b l e))));
+    each = grind (arith, before, one_bit, early_bit, low, unit_bit, seq_bit, one_place);
   }
     where
       before : (s : ℕ) → s < length order → nat_lt p s ≡ true → p < s

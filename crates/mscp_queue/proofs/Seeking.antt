@@ -299,13 +299,7 @@ pub sought : {at : ℕ} {d : Drive} {order : List ℕ} {ks : List Kind} {own : L
     → s.place ≡ h.place → s.cost ≡ least → IsBest (IsOpenOn ks at) (cost_there d ks own) s
 sought {at} {d} {order} {ks} {own} {front} {left} {best} {least} s h few opens on lows none place cost = record {
   is = inr (subst (IsOpenOn ks at) (sym place) opens, cost ∙ (h.cost ∙ ap (cost_there d ks own) (sym place)));
-  each = λ p o.
-      let t = on p o in
-      let inside = h.inside in (
-        omega (arith, place, inside, few),
-        ⊎_elim (λ e. ahead p (h.done p t.0 e (none (get_or order p 0) (lows p t.0))))
-            (λ e. further p e.0 e.3 (h.done e.0 e.1 e.2 (none (get_or order e.0 0) (lows e.0 e.1)))) t.1,
-      );
+  each = grind (arith, ⊎_elim, ahead, lows, further);
 }
   where
     ahead : (p : ℕ) → (least < cost_there d ks own p) ⊎ ((least ≡ cost_there d ks own p) × (h.place ≤ p))

@@ -49,9 +49,7 @@ step_made {room} {budget} {longest} {place} {at} {rs} {new} {ds} {ls} {begun} {s
           (head_kept room budget longest r.command.unit rs ds begun serving held));
       ended = some ∙ ap (λ (q : Plan). is_some q.ended) planned;
       records = records;
-      drives = refilled ds (set ls at d') (length-set ls at d' ∙ ap length lent)
-          ∙ (ap (λ l. set l at d') lent
-          ∙ set_replaced ds at r.command.unit d' d held.units kept.waitable.known found.placed);
+      drives = grind (arith, refilled, length-set, set_replaced);
     }
 
 -- and the best starts that are known stay so

@@ -42,8 +42,7 @@ next_turn room budget longest place rs ds begun serving k d h n =
           record {
             before = idle.0;
             behind = idle.1.1;
-            affordable =
-                front_affordable budget rs place (n.opens e);
+            affordable = grind (arith, front_affordable);
             left = left;
           }
       | false ↦ λ e.
@@ -53,8 +52,7 @@ next_turn room budget longest place rs ds begun serving k d h n =
           record {
             before = idle.0;
             behind = idle.1;
-            affordable = every_weaker (IsKept budget longest (units_of ds)) (λ z. z.passed + 0 ≤ budget)
-                (λ z q. let p = q.passed in omega arith) A kept;
+            affordable = grind (arith, every_weaker);
             left = left;
           }
     ] in

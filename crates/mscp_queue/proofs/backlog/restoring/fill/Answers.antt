@@ -17,12 +17,7 @@ returns-clause-timed c =
     (sum_by left_of) (take_all c.loop-place.place c.args.records.now c.loop-place-test.false))
 
 pub returns-clause-told : goal.returns-clause-told
-returns-clause-told c =
-    let us = units_of c.args.drives.now in
-    told_are c.args.budget us 0 c.loop-place.slots c.args.records.now
-    (contents_all c.args.budget us (contents c.loop-place.slots) c.loop-place.before c.loop-place.place
-    c.args.records.now c.loop-place-test.false c.loop-place.invariant.slots)
-    (recursion_from_All (λ (r : Record). r.passed ≤ c.args.budget) c.args.records.now c.requires.passed)
+returns-clause-told c = search (arith, told_are, contents_all, recursion_from_All)
 
 pub returns-clause-targets : goal.returns-clause-targets
 returns-clause-targets c = search (arith, targets_are, contents_all)

@@ -33,12 +33,7 @@ serve-requires-clause-affordable g c = (can_serve c.args.block.now
     c.self.invariant.ready.held ((next_in g.K.Picker.picks c.self.view_is c.requires).servable)).affordable
 
 pub serve-requires-2-clause-place : goal.serve-requires-2-clause-place
-serve-requires-2-clause-place g c =
-    let inside = ((next_in g.K.Picker.picks c.self.view_is c.requires).servable).inside in
-    let held = c.self.invariant.ready.held in
-    let fits = held.fits in
-    let few = held.few in
-    omega (arith, inside, fits, few)
+serve-requires-2-clause-place g c = search (arith, next_in)
 
 pub serve-requires-2-clause-drive : goal.serve-requires-2-clause-drive
 serve-requires-2-clause-drive g c =

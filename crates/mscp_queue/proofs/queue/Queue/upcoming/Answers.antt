@@ -17,7 +17,6 @@ returns-clause-unit g c = search (
   of_unit,
   c.self.invariant.ready.held.each,
   c.self.invariant.ready.waits,
-  c.args.self.now.drives,
   c.upcoming_at.ensures,
   c.self.view_is,
 )

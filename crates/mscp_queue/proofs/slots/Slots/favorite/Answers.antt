@@ -60,10 +60,7 @@ cost-cost-requires-clause-target c = λ e.
 
 pub starts_before-requires-clause-other : goal.starts_before-requires-clause-other
 starts_before-requires-clause-other c =
-    let s = c.self.inside in
-    let h = c.loop-slot.invariant in
-    subst (λ n. n < 64) (sym h.number) (lows s.dues c.args.self.now c.self.invariant.kept c.self.view_is h.place
-    h.inside)
+    search (arith, lows, c.self.inside, c.loop-slot.invariant, c.self.invariant.kept, c.self.view_is)
 
 pub loop-slot-smaller-then-starts_before : goal.loop-slot-smaller-then-starts_before
 loop-slot-smaller-then-starts_before c = less_left c.loop-slot.left _ c.in-Some-lowest_set.slot
@@ -124,11 +121,7 @@ loop-slot-preserved c =
     (sym c.starts_before.ensures ∙ c.if-starts_before.false))
 
 pub place-requires : goal.place-requires
-place-requires c =
-    let s = c.self.inside in
-    let h = c.loop-slot.invariant in
-    subst (λ n. n < 64) (sym h.number) (lows s.dues c.args.self.now c.self.invariant.kept c.self.view_is h.place
-    h.inside)
+place-requires c = search (arith, lows)
 
 pub of-requires-clause-cost : goal.of-requires-clause-cost
 of-requires-clause-cost c = (let small = c.loop-slot.invariant.small in omega (arith, small))

@@ -29,8 +29,7 @@ invariant_of-self c = record {
 }
 
 pub returns-clause-lowest : goal.returns-clause-lowest
-returns-clause-lowest c = lowest_untaken
-    c.self.inside.dues c.args.self.now c.self.invariant.kept c.lowest_free-slot.ensures c.self.view_is
+returns-clause-lowest c = search (arith, lowest_untaken)
 
 pub returns-clause-after : goal.returns-clause-after
 returns-clause-after c = search (arith, shown_pushed)
