@@ -173,16 +173,14 @@ module _ (n place : ℕ) (rs ws : List Record)
     (r : Record) (l : place < length rs) (e : ws ≡ map (passed_by n) (take place rs) ++ r ∷ drop (place + 1) rs) where
   pub front_idle : All (λ r. r.done ≡ 0) (take place rs) → All (λ r. r.done ≡ 0) (take place ws)
   front_idle h =
-      let long : length (map (passed_by n) (take place rs)) ≡ place = length-map (take place rs) (passed_by n)
-      ∙ length-take-le place rs (omega (arith, l)) in
+      let long : length (map (passed_by n) (take place rs)) ≡ place = grind (arith, length-map, n, length-take-le) in
       let at = at_place ws (map (passed_by n) (take place rs)) r (drop (place + 1) rs) place no_record e long in
       let P : Record → Type 0 = λ r. r.done ≡ 0 in
       search (arith, at, P, All-from_recursion, passed_idle, recursion_from_All)
 
   pub back_idle : All (λ r. r.done ≡ 0) (drop (place + 1) rs) → All (λ r. r.done ≡ 0) (drop (place + 1) ws)
   back_idle h =
-      let long : length (map (passed_by n) (take place rs)) ≡ place = length-map (take place rs) (passed_by n)
-      ∙ length-take-le place rs (omega (arith, l)) in
+      let long : length (map (passed_by n) (take place rs)) ≡ place = grind (arith, length-map, n, length-take-le) in
       let at = at_place ws (map (passed_by n) (take place rs)) r (drop (place + 1) rs) place no_record e long in
       subst (All (λ (r : Record). r.done ≡ 0)) (sym at.behind) h
 
@@ -190,7 +188,6 @@ pub ended_at : (n place : ℕ) (rs ws new : List Record) (r : Record) → place 
     → ws ≡ map (passed_by n) (take place rs) ++ r ∷ drop (place + 1) rs → new ≡ take place ws ++ drop (place + 1) ws
     → new ≡ map (passed_by n) (take place rs) ++ drop (place + 1) rs
 ended_at n place rs ws new r l e gone =
-    let long : length (map (passed_by n) (take place rs)) ≡ place = length-map (take place rs) (passed_by n)
-    ∙ length-take-le place rs (omega (arith, l)) in
+    let long : length (map (passed_by n) (take place rs)) ≡ place = grind (arith, length-map, n, length-take-le) in
     let at = at_place ws (map (passed_by n) (take place rs)) r (drop (place + 1) rs) place no_record e long in
     gone ∙ (λ i. at.before i ++ at.behind i)

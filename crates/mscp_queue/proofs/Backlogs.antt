@@ -208,8 +208,7 @@ module _ {budget clock total : ℕ} {ss : List Slot} {now : Waiters} {place : �
       let r = record_at now.waiting place in
       let item : (slot_at ss place).item ≡ bare r = item_at t w l in
       let done = ap (λ (q : Record). q.done) item in
-      let on : is_in_service r ≡ true = lt-ltb 0 r.done (positive r.done (eqb-false r.done 0
-      (ap (λ n. nat_eq n 0) (sym done) ∙ e))) in
+      let on : is_in_service r ≡ true = grind (arith, lt-ltb, positive, eqb-false) in
       ap (λ (q : Record). left_of q) item ∙ sym (ap (λ b. cond b (left_of r) (sum_by left_of (take place now.waiting)
       + sum_by left_of (filter is_in_service (drop (place + 1) now.waiting)) + (now.budget - r.passed) + left_of r)) on)
     where

@@ -28,8 +28,7 @@ servable : (budget : ℕ) (rs front : List Record) (r : Record) (back : List Rec
     → has_name name r ≡ true → Among budget rs front r back → IsStillServable budget rs name
 servable budget rs front r back name own m =
     let at = at_place rs front r back (length front) no_record m.is refl in
-    let fresh : is_unstarted (record_at rs (length front)) ≡ true → is_unstarted r ≡ true =
-    λ e. ap is_unstarted (sym at.item) ∙ e in
+    let fresh : is_unstarted (record_at rs (length front)) ≡ true → is_unstarted r ≡ true = grind arith in
     let all : IsServable budget rs (length front) = record {
       inside = omega (arith, ap length m.is, length-append front (r ∷ back));
       idle = λ e. All-from_recursion (λ z. z.done ≡ 0) rs (m.idle (fresh e));

@@ -11,8 +11,7 @@ pub buckets_pushed : (rs : List Record) (order old new next : List ℕ) (n refer
     → IsPut true n reference old new → next ≡ order ++ n ∷ [] → AreBuckets (set rs n r) next new
 buckets_pushed rs order old new next n reference r h free low long is put e =
     let item : get_or (set rs n r) n no_record ≡ r = get_or-set_same rs n r no_record (omega (arith, low, long)) in
-    let own : bucket_of reference ≡ bucket_at (set rs n r) n =
-    ap bucket_of (is ∙ sym (ap (λ (q : Record). q.command.reference) item)) in
+    let own : bucket_of reference ≡ bucket_at (set rs n r) n = grind arith in
     subst (λ o. AreBuckets (set rs n r) o new) (sym e)
     (classes_pushed (bucket_at rs) (bucket_at (set rs n r)) order old new n h free low
     (λ k d. ap (λ (q : Record). bucket_of q.command.reference) (get_or-set_other rs n k r no_record d))

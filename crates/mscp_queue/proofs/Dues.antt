@@ -238,8 +238,7 @@ module _ (budget : ℕ) where
       let front = sum_by left_of (take k rs) in
       let served = sum_by left_of (filter is_in_service (drop (k + 1) rs)) in
       let off : is_in_service r ≡ false = ap (λ (q : Record). is_in_service q) (sym (told_item a ss k d l)) ∙ idle in
-      let f : figure_at budget rs k ≡ front + served + (budget - r.passed) + left_of r =
-      ap (λ t. cond t (left_of r) (front + served + (budget - r.passed) + left_of r)) off in
+      let f : figure_at budget rs k ≡ front + served + (budget - r.passed) + left_of r = grind arith in
       let more : sum_by left_of (take (k + 1) rs) ≡ front + (left_of r + 0) =
       ap (sum_by left_of) (take_more rs k no_record (omega (arith, l, told_long a ss)))
       ∙ (sum_by-append left_of (take k rs) (r ∷ []) ∙ ap (λ n. front + n) (sum_by-cons left_of r [])) in
@@ -249,8 +248,4 @@ module _ (budget : ℕ) where
   pub unspent_tells : (a : ℕ) (ss : List Slot) → AreDue budget a ss → 0 < length ss → AreIdle (told budget a ss)
       → (slot_at ss 0).due ≡ a + left_of (slot_at ss 0).item + (budget - (record_at (told budget a ss) 0).passed)
   unspent_tells a [] d l i = absurd (omega (arith, l))
-  unspent_tells a (s ∷ ss) d l i =
-      let least = d.0.least in
-      let most = d.0.most in
-      let rs = told budget (a + left_of s.item) ss in
-      omega (arith, least, most, told_serving (a + left_of s.item) ss, idle_serving rs i.1)
+  unspent_tells a (s ∷ ss) d l i = grind (arith, told_serving, idle_serving)

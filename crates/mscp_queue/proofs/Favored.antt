@@ -63,12 +63,7 @@ module _ {ds : List Drive} {rs : List Record} {own : List Target} (shown : CanBe
   -- each first block there is on a cylinder of it
   pub all_on_drive : AreOnDrive at d own
   all_on_drive place other l e =
-      let below : place < length rs = omega (
-        arith,
-        l,
-        ap length shown.targeted,
-        length-map rs (λ (r : Record). target_of (units_of ds) r.command),
-      ) in
+      let below : place < length rs = grind (arith, length-map) in
       let a = get_or_default own place other no_target l in
       let t = (leads place below (ap (λ (a : Target). a.drive) (sym a) ∙ e)).targeted in
       subst (λ (a : Target). (a.cylinder ≤ last_cylinder d.unit) × (a.range ≡ range_of d.unit a.cylinder)) (sym a) (

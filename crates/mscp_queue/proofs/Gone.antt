@@ -64,9 +64,7 @@ module _ (cs : List Command) (gone : ℕ) (l : gone < length cs) (few : length c
   left_at q = by (lt_or q gone)
     where
       by : (q < gone) ⊎ (gone ≤ q) → command_at left q ≡ command_at cs (up gone q)
-      by (inl b) = get_or_append_left (take gone cs) (drop (gone + 1) cs) no_record.command q (omega
-          (arith, b, front_long))
-          ∙ (get_or-take gone cs q no_record.command b ∙ ap (command_at cs) (sym (up_below gone q b)))
+      by (inl b) = grind (arith, get_or_append_left, front_long, get_or-take, up_below)
       by (inr b) = get_or-append_right (take gone cs) (drop (gone + 1) cs) gone q no_record.command front_long b
           ∙ (get_or-drop (gone + 1) cs (q - gone) no_record.command
           ∙ ap (command_at cs) (there ∙ sym (up_above gone q b)))
@@ -104,10 +102,7 @@ module _ (cs : List Command) (gone : ℕ) (l : gone < length cs) (few : length c
       where
         by : (y : ℕ) → y < up gone q → (y ≡ gone) ⊎ (y ≢ gone)
             → not (bars (command_at (take (up gone q) cs) y) (command_at cs (up gone q))) ≡ true
-        by y b (inl e) =
-            ap (λ c. not (bars c (command_at cs (up gone q)))) (get_or-take (up gone q) cs y no_record.command b
-            ∙ ap (command_at cs) e)
-            ∙ free_of (up gone q) (ap (λ (c : Command). c.unit) (sym (left_at q)) ∙ h.unit)
+        by y b (inl e) = grind (arith, get_or-take, free_of, left_at)
         by y b (inr d) =
             let k = up_inside q h.inside in
             let small : y < 64 = omega (arith, b, k, few) in
@@ -115,8 +110,7 @@ module _ (cs : List Command) (gone : ℕ) (l : gone < length cs) (few : length c
             let is : up gone z ≡ y = up_closed gone y d small in
             let under : z < q = less z (subst (λ n. n < up gone q) (sym is) b) in
             let inside = h.inside in
-            let there : z < length (take q left) =
-            omega (arith, under, length-take-le q left (omega (arith, inside))) in
+            let there : z < length (take q left) = grind (arith, length-take-le) in
             ap (λ c. not (bars c (command_at cs (up gone q)))) (get_or-take (up gone q) cs y no_record.command b
             ∙ (ap (command_at cs) (sym is) ∙ sym (left_at z)))
             ∙ ((λ i. not (bars (sym (get_or-take q left z no_record.command under) i) (sym (left_at q) i)))
@@ -145,8 +139,7 @@ module _ (cs : List Command) (gone : ℕ) (l : gone < length cs) (few : length c
         by z b =
             let more = up_more gone z q b in
             let inside = h.inside in
-            let there : up gone z < length (take (up gone q) cs) =
-            omega (arith, more, length-take-le (up gone q) cs (omega (arith, inside))) in
+            let there : up gone z < length (take (up gone q) cs) = grind (arith, length-take-le) in
             (λ i. not (bars ((get_or-take q left z no_record.command b ∙ (left_at z
             ∙ sym (get_or-take (up gone q) cs (up gone z) no_record.command more))) i) (left_at q i)))
             ∙ all_at (λ one. not (bars one (command_at cs (up gone q)))) (take (up gone q) cs) (up gone z)
@@ -265,6 +258,4 @@ module _ {ds : List Drive} {cs : List Command} (units : IsUnitList (units_of ds)
       by true k b d best is = best_gone cs gone l few (drive_in ds k).unit.number (other_unit ds cs gone at k
           units placed b d) (drive_in ds k)
           (start_in f k) (start_in g k) best (ap (λ (s : Start). s.cost) is) (ap (λ (s : Start). s.place) is)
-      by false k b d best is = subst
-          (IsBest (IsClearOn cs (drive_in ds k).unit.number) (cost_at (drive_in ds k) cs))
-          (sym is) best
+      by false k b d best is = grind arith

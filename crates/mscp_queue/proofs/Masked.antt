@@ -155,8 +155,7 @@ many_taken (suc n) order h =
 -- so where fewer than all wait, a bit is clear
 pub some_free : (m : ℕ) (order : List ℕ) → IsMaskOf m (λ k. has k order) → length order < 64 → m ≢ 18446744073709551615
 some_free m order is few = λ e.
-    let all : (k : ℕ) → k < 64 → has k order ≡ true =
-    λ k l. on (has k order) (sym (is k l) ∙ ap (λ m. bit_at m k) e ∙ full k l) in
+    let all : (k : ℕ) → k < 64 → has k order ≡ true = grind (arith, full) in
     let many = many_taken 64 order all in
     omega (arith, many, few)
   where

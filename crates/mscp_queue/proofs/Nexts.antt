@@ -117,10 +117,7 @@ serving_is_next picks budget ds rs begun place one l h still =
     }
   where
     here : (k : ℕ) → IsServable budget rs k → ((record_at rs k).done ≡ 0) ⊎ (0 < (record_at rs k).done) → k ≡ place
-    here k s (inl e) =
-        let idle = s.idle (eq-eqb (record_at rs k).done 0 e) place no_record l in
-        let some = ltb-true 0 (record_at rs place).done h in
-        absurd (omega (arith, idle, some))
+    here k s (inl e) = grind (arith, eq-eqb, ltb-true)
     here k s (inr some) =
         ap (λ o. unwrap_or o place) (sym (serving_found rs k one s.inside (lt-ltb 0 (record_at rs k).done some))
         ∙ serving_found rs place one l h)
@@ -179,8 +176,7 @@ begun_left rs new (Some place) gone a l e h = by (place_without (Some place) gon
         → (if same_name name (name_of (record_at rs gone)) then None else Some name) ≡ begun_name new o
     by (Some k) s =
         let m = moved rs gone place k l (h place refl) s in
-        let differ : same_name name (name_of (record_at rs gone)) ≡ false =
-        is_differ name (name_of (record_at rs gone)) (λ n. m.0 (once rs place gone a (h place refl) l n)) in
+        let differ : same_name name (name_of (record_at rs gone)) ≡ false = grind (arith, is_differ, name, once) in
         ap (λ b. if b then None else Some name) differ
         ∙ ap (λ (r : Record). Some (name_of r)) (sym (ap (λ zs. record_at zs k) e ∙ m.2))
     by None s =
@@ -215,8 +211,7 @@ some_without rs new (Some place) gone l e one h idle s = by (place_without (Some
     by (Some k) n f = absurd (true≢false f)
     by None n f =
         let here = where_gone (nat_lt place gone) (nat_lt gone place) refl refl n in
-        let serves : is_in_service (record_at rs gone) ≡ true = ap (λ k. is_in_service (record_at rs k)) (sym here)
-        ∙ (h place refl).1 in
+        let serves : is_in_service (record_at rs gone) ≡ true = grind (arith, here) in
         let others = others_idle (take gone rs) (record_at rs gone) (drop (gone + 1) rs)
         (subst (λ zs. length (filter is_in_service zs) ≤ 1) (cut_at no_record rs gone l) one)
         (ltb-true 0 (record_at rs gone).done serves) in

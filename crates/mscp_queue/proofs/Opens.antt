@@ -48,10 +48,7 @@ module _ (n : ℕ) (on sq : ℕ → Bool) where
     where
       by : (b : Bool) → sq p ≡ b → (sq p ≡ false) ⊎ Fence
       by false e = inl e
-      by true e = inr (λ j b f. all j f (sq j) refl)
-        where
-          all : (j : ℕ) → In j → (c : Bool) → sq j ≡ c → sq j ≡ true
-          all j f h3 g = grind (arith, false≢true)
+      by true e = grind (arith, false≢true)
 
 -- ---- what a list of tests says
 pub all_at : {X : Type 0} (test : X → Bool) (xs : List X) (i : ℕ) (d : X) → list_all test xs ≡ true → i < length xs
@@ -188,8 +185,7 @@ module _ (kinds : ℕ → Kind) (order : List ℕ) (m : Masks) (masks : AreMasks
     own = own;
     none = λ z under u o.
         let inside : z < length order = omega (arith, under, l) in
-        let long : z < length (take p ks) =
-        omega (arith, under, length-take-le p ks (omega (arith, l, length-map order kinds))) in
+        let long : z < length (take p ks) = grind (arith, length-take-le, length-map) in
         off_fence (kinds (number z)).drive (kinds (number p)).drive at (sq z) (sq p) own
         ((λ i. not (keeps_back (sym (get_or-take p ks z no_kind under ∙ kind_is z inside) i) (sym (kind_is p l) i)))
         ∙ all_at (λ z. not (keeps_back z (get_or ks p no_kind))) (take p ks) z no_kind e long) u o;

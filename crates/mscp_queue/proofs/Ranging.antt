@@ -37,10 +37,7 @@ ranged_set {ranges} {masks} slot range v w h long many low few off on = record {
     -- without it
     gone : (r k : ℕ) → r < 64 → k < 64 → (r ≡ old) ⊎ (r ≢ old)
         → bit_at (get_or first r 0) k ≡ cond (nat_eq k slot) 0 (bit_at (get_or masks r 0) k)
-    gone r k a b (inl e) =
-        ap (λ n. bit_at n k) (ap (λ i. get_or first i 0) e
-        ∙ get_or-set_same masks old v 0 (let l = h.low slot in omega (arith, many, l)))
-        ∙ (off k b ∙ ap (λ i. cond (nat_eq k slot) 0 (bit_at (get_or masks i 0) k)) (sym e))
+    gone r k a b (inl e) = grind (arith, first, get_or-set_same, old)
     gone r k a b (inr d) = ap (λ n. bit_at n k) (get_or-set_other masks old r v 0 d) ∙ none (same_or k slot)
       where
         none : (k ≡ slot) ⊎ (k ≢ slot) → bit_at (get_or masks r 0) k ≡ cond (nat_eq k slot) 0 (bit_at
@@ -194,8 +191,7 @@ module _ {ranges : List ℕ} {mask range : ℕ} (at over : ℕ) (here : IsHere r
           × IsSooner true range (range_at ranges j) (range_at ranges k))
       by k x (inl l) = inr (first k l (some_in (bit_or at over) d small))
       by k x (inr (inl e)) = inl (or_from at over k (inl (here_from ranges mask range at k here x e)))
-      by k x (inr (inr l)) = ⊎_elim (λ y. inl (or_from at over k (inr y)))
-          (λ y. inr (y.0, or_from at over y.0 (inr y.1), inl ((above.to y.0 y.1).1, y.2))) (above.from k x l)
+      by k x (inr (inr l)) = grind (arith, ⊎_elim, or_from)
 
 module _ {ranges : List ℕ} {mask range : ℕ} (at over under : ℕ) (here : IsHere ranges mask range at)
     (above : IsAbove ranges mask range over) (below : IsBelow ranges mask range under) where

@@ -166,8 +166,7 @@ module _ {rs : List Record} {own : List Target} {order : List ℕ} {m : Masks} (
   pub within : {at : ℕ} (d : Drive) (n : ℕ) → AreOnDrive at d (targets now) → (f : IsFound order (kinds now) at n)
       → (get_or own n no_target).cylinder ≤ last_cylinder d.unit
   within {at} d n on f =
-      let inside : f.place < length (targets now) =
-      omega (arith, f.inside, long_shown rs own ds order now view, length-map now (λ (s : Slot). s.target)) in
+      let inside : f.place < length (targets now) = grind (arith, long_shown, length-map) in
       let t = target_is f.place n f.inside f.number in
       subst (λ (a : Target). a.cylinder ≤ last_cylinder d.unit) (sym t) ((on f.place no_target inside
       (ap (λ (a : Target). a.drive) (sym t) ∙ (ap (λ (k : Kind). k.drive) (sym (kind_is f.place n f.inside f.number))
@@ -181,11 +180,8 @@ module _ {rs : List Record} {own : List Target} {order : List ℕ} {m : Masks} (
       let t = target_is f.place n f.inside f.number in
       let k = kind_is f.place n f.inside f.number in
       let taken : has n order ≡ true = ap (λ k. has k order) f.number ∙ slot_has order f.place f.inside in
-      let bits : bit_at m.sequential n ≡ bit (kind_at rs own n).sequential =
-      kept.masks.of_sequential n low ∙ ap (λ b. bit (b && (kind_at rs own n).sequential)) taken in
-      let same : sequential ≡ (kind_there (kinds now) f.place).sequential =
-      told ∙ (ap (λ b. nat_eq b 1) bits ∙ (of_bit (kind_at rs own n).sequential
-      ∙ ap (λ (k : Kind). k.sequential) (sym k))) in
+      let bits : bit_at m.sequential n ≡ bit (kind_at rs own n).sequential = grind (arith, kept) in
+      let same : sequential ≡ (kind_there (kinds now) f.place).sequential = grind (arith, of_bit) in
       is ∙ (λ i. cost_on d (same i) (t i).cylinder)
     where
       of_bit : (b : Bool) → nat_eq (bit b) 1 ≡ b
@@ -237,10 +233,8 @@ module _ {rs : List Record} {own : List Target} {order : List ℕ} {m : Masks} {
   lies {at} {front} d k h on none x =
       let f = found ds now kept_are view k h x.0 x.1 in
       let t = target_is ds now kept_are view f.place k f.inside f.number in
-      let there : f.place < length (targets now) =
-      omega (arith, f.inside, long_shown rs own ds order now view, length-map now (λ (s : Slot). s.target)) in
-      let drive : (get_or (targets now) f.place no_target).drive ≡ at = ap (λ (a : Target). a.drive) (sym t)
-      ∙ (ap (λ (k : Kind). k.drive) (sym (kind_is ds now kept_are view f.place k f.inside f.number)) ∙ f.opens.drive) in
+      let there : f.place < length (targets now) = grind (arith, long_shown, length-map) in
+      let drive : (get_or (targets now) f.place no_target).drive ≡ at = grind (arith, kind_is) in
       let both = on f.place no_target there drive in
       let zero : bit_at m.sequential k ≡ 0 = off (ap (λ n. bit_at n k) (sym none)) in
       record {

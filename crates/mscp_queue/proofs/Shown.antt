@@ -121,8 +121,7 @@ kept_pushed {rs}
     let kinds' = kind_at rs' own' in
     let low = free.low in
     let item : get_or rs' n no_record ≡ r = get_or-set_same rs n r no_record (omega (arith, low, kept.records_64)) in
-    let target : get_or own' n no_target
-    ≡ a = get_or-set_same own n a no_target (omega (arith, low, kept.targets_64)) in
+    let target : get_or own' n no_target ≡ a = grind (arith, get_or-set_same) in
     let none = untaken kept free in
     let others : (k : ℕ) → k ≢ n → kinds' k ≡ kinds k = search (arith, get_or-set_other) in
     let came : HasCome n (kinds' n).drive (kinds' n).sequential m m' = search arith in
@@ -176,13 +175,7 @@ pub item_set : {rs : List Record} {own : List Target} {order : List ℕ}
 item_set {rs} {own} {order} {m} {place} {n} {r} ds now f other kept view inside h e =
     let g = held (set rs n r) own ds in
     let same : (k : ℕ) → k ≢ get_or order place 0 → g k ≡ held rs own ds k = search (arith, get_or-set_other) in
-    let there : g n ≡ with_item f (held rs own ds n) = λ i. record {
-      number = n;
-      item = (get_or-set_same rs n r no_record (omega (arith, h.low, kept.records_64))
-          ∙ e ∙ ap f (get_or_default rs n other no_record (omega (arith, h.low, kept.records_64)))) i;
-      target = get_or own n no_target;
-      due = get_or ds n 0;
-    } in
+    let there : g n ≡ with_item f (held rs own ds n) = grind (arith, get_or-set_same, get_or_default) in
     set_at_number (held rs own ds) g order place kept.masks.apart h.inside same ∙ ((λ i. set (view i) place (g (sym h.is
     i))) ∙ ap (λ s. set now place s) (there ∙ ap (with_item f) (slot_is rs own ds order now place n view inside h.is)))
 

@@ -32,8 +32,7 @@ free_is ds rs own place h l =
     let r = record_at rs place in
     let Known : Record → Type 0 = λ z. is_known us z.command.unit ≡ true in
     let known : All Known rs = λ i other m. (h.inside i other m).0 in
-    let same : (z : Record)
-    → Known z → not (keeps_back (k z) (k r)) ≡ not (fences r z) = search (arith, not, same_unit) in
+    let same : (z : Record) → Known z → not (keeps_back (k z) (k r)) ≡ not (fences r z) = grind (arith, same_unit) in
     ap (λ ks. is_unfenced_at ks place) (ap (kinds_of rs) h.targeted ∙ kinds_targeted us rs)
     ∙ ((λ i. list_all (λ z. not (keeps_back z (get_or-map k rs place no_record no_kind l i))) (take-map k place rs i))
     ∙ (all_shown (λ z. not (keeps_back z (k r))) k (take place rs) ∙ all_on (λ z. not (keeps_back (k z) (k r)))
@@ -126,14 +125,12 @@ shut_is budget unspent ds rs own place h o e l (inr fence) q p m =
     let r = record_at rs q in
     let z = record_at rs place in
     let of : Record → Target = λ r. target_of us r.command in
-    let targeted : (k : ℕ) → k < length rs → get_or own k no_target ≡ of (record_at rs k) = λ k n.
-    ap (λ xs. get_or xs k no_target) h.targeted ∙ get_or-map of rs k no_record no_target n in
+    let targeted : (k : ℕ) → k < length rs → get_or own k no_target ≡ of (record_at rs k) = grind (arith, get_or-map) in
     let long : length own ≡ length rs = ap length h.targeted ∙ length-map rs of in
     let k = q - (place + 1) in
     let at : place + 1 + k ≡ q = omega (arith, p) in
     let behind = fence.1 k no_target (omega (arith, length-drop (place + 1) own, long, m, p)) in
-    let drives : unit_place us r.command.unit ≡ unit_place us z.command.unit =
-    search (arith, get_or-drop (place + 1) own k no_target) in
+    let drives : unit_place us r.command.unit ≡ unit_place us z.command.unit = grind (arith, get_or-drop) in
     let units : nat_eq z.command.unit r.command.unit ≡ true =
     sym (same_unit ds z.command.unit r.command.unit (h.inside place no_record l).0 (h.inside q no_record m).0)
     ∙ eq-eqb (unit_place us z.command.unit) (unit_place us r.command.unit) (sym drives) in

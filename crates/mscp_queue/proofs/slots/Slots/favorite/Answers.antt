@@ -14,8 +14,7 @@ returns-in_default c =
     let now = c.args.self.now in
     let long = long_shown s.records s.targets s.dues s.order.items now c.self.view_is in
     best_none c.none.result c.none.ensures (λ p o.
-    let inside : p < length s.order.items =
-    (let l = o.inside in omega (arith, l, long, length-map now kind_of)) in
+    let inside : p < length s.order.items = grind (arith, length-map) in
     let lows = lows s.dues now c.self.invariant.kept c.self.view_is in
     ⊎_elim (λ on. let off = c.in_default.ensures.none (get_or s.order.items p 0) (lows p inside) in
     omega (arith, on, off))
