@@ -13,21 +13,7 @@ pub record IsStep (budget clock : ℕ) (ss new : List Slot) (place : ℕ) : Type
 
 -- all that is left of a command is in service already, or is what its step costs
 charge_is : (r : Record) → left_of r ≡ left_if_serving r + step_charge r
-charge_is r = by (is_unstarted r) refl
-  where
-    by : (b : Bool) → is_unstarted r ≡ b → left_of r ≡ left_if_serving r + step_charge r
-    by true e =
-        let zero_done : r.done ≡ 0 = eqb-true r.done 0 e in
-        let none = idle_left r (ap (λ n. nat_lt 0 n) zero_done) in
-        let charge : step_charge r ≡ r.weight = ap (λ b. cond b r.weight 0) e in
-        omega (arith, none, charge, zero_done)
-    by false e =
-        let some = serving_left r (lt-ltb 0 r.done (positive r.done (eqb-false r.done 0 e))) in
-        let charge : step_charge r ≡ 0 = ap (λ b. cond b r.weight 0) e in
-        omega (arith, some, charge)
-      where
-        positive : (n : ℕ) → (n ≡ 0 → ⊥) → 0 < n
-        positive n d = grind (arith, d)
+charge_is r = grind (arith, eqb-true, idle_left, serving_left, lt-ltb, eqb-false)
 
 set_mid : (A : List Slot) (y : Slot) (B : List Slot) (place : ℕ) → length A ≡ place
     → set (A ++ y ∷ B) place (with_item advanced (slot_at (A ++ y ∷ B) place)) ≡ A ++ with_item advanced y ∷ B
@@ -93,25 +79,13 @@ step_of {budget} {clock} {ss} {place} a l unfinished front back affordable = rec
     new = ap (λ zs. set zs place (with_item advanced (slot_at zs place))) is ∙ set_mid F y B place long
 
     may : MayPass budget n (take place (told budget clock ss))
-    may = by (is_unstarted y.item) refl
-      where
-        by : (b : Bool) → is_unstarted y.item ≡ b → MayPass budget n (take place (told budget clock ss))
-        by h1 e = grind (arith, y, affordable, told_within)
+    may = grind (arith, y, n, told_within)
 
 -- a step at a place, and then the clock may be set back
 pub step_timed : {budget clock total now : ℕ} {ss ss' new : List Slot} {place : ℕ}
     → AreTimed budget clock total ss → IsStep budget clock ss ss' place → now < 1099511627776
     → now ≤ clock + 1 → new ≡ map (lowered_by (clock + 1 - now)) ss' → AreTimed budget now (total - 1) new
-step_timed {budget} {clock} {total} {now} {ss} {ss'} {new} {place} t step early below fell =
-    let e : clock + 1 ≡ now + (clock + 1 - now) = omega (arith, below) in
-    let kept = fallen budget now (clock + 1 - now) ss' (at_same budget ss' e step.dues) in
-    let left = ap (λ zs. sum_by left_of (items zs)) fell ∙ ap (sum_by left_of) (items_fallen (clock + 1 - now) ss') in
-    record {
-      dues = subst (AreDue budget now) (sym fell) kept.dues;
-      left = omega (arith, left, step.left, t.left);
-      early = early;
-      fits = t.fits;
-    }
+step_timed t step early below fell = grind (arith, fallen, at_same, items_fallen)
 
 pub step_late : {budget clock : ℕ} {ss new : List Slot} {place : ℕ} → IsStep budget clock ss new place
     → All (λ s. clock + 1 ≤ s.due) new

@@ -37,10 +37,7 @@ pub some_is : {budget clock total : ℕ} {ss : List Slot} {rs : List Record} (na
     → AreTimed budget clock total ss → told budget clock ss ≡ rs
     → IfSome o (λ place. (place < length ss) × (has_name name (slot_at ss place).item ≡ true))
     → IfSome o (λ place. (place < length rs) × (has_name name (record_at rs place) ≡ true))
-some_is name None t w some = tt
-some_is {budget} {clock} {total} {ss} {rs} name (Some place) t w some =
-    let l : place < length rs = let m = some.0 in omega (arith, m, ap length w, told_long budget clock ss) in
-    (l, ap (λ (r : Record). has_name name r) (sym (item_at t w l)) ∙ some.1)
+some_is h1 h2 h3 h4 h5 = grind (arith, told_long, item_at)
 
 module _ (budget clock : ℕ) (ss : List Slot) (rs : List Record) (place : ℕ) (w : told budget clock ss ≡ rs) where
   -- nobody in front of a place, or behind it, is in service
@@ -204,16 +201,7 @@ module _ {budget clock total : ℕ} {ss : List Slot} {now : Waiters} {place : �
 
   pub figure_left : is_unstarted (slot_at ss place).item ≡ false
       → left_of (slot_at ss place).item ≡ figure_at now.budget now.waiting place
-  figure_left e =
-      let r = record_at now.waiting place in
-      let item : (slot_at ss place).item ≡ bare r = item_at t w l in
-      let done = ap (λ (q : Record). q.done) item in
-      let on : is_in_service r ≡ true = grind (arith, lt-ltb, positive, eqb-false) in
-      ap (λ (q : Record). left_of q) item ∙ sym (ap (λ b. cond b (left_of r) (sum_by left_of (take place now.waiting)
-      + sum_by left_of (filter is_in_service (drop (place + 1) now.waiting)) + (now.budget - r.passed) + left_of r)) on)
-    where
-      positive : (n : ℕ) → (n ≡ 0 → ⊥) → 0 < n
-      positive n d = grind (arith, d)
+  figure_left e = grind (arith, item_at, w, lt-ltb, eqb-false)
 
   -- by how many blocks the command at the place was passed
   pub passed_is : (record_at now.waiting place).passed + (slot_at ss place).due

@@ -29,22 +29,4 @@ best_known {P} {c} {s} h = ⊎_elim (λ e. omega (arith, e)) (λ x. let l = (h.e
 
 pub best_of_two : {P Q : ℕ → Type 0} {c : ℕ → ℕ} {one other : Start} (s : Start) (b : Bool) → IsBest P c one
     → IsBest Q c other → b ≡ comes_before other one → s ≡ cond b other one → IsBest (λ p. P p ⊎ Q p) c s
-best_of_two {P} {Q} {c} {one} {other} s true h k e f =
-    let t = before other one (best_known h) (sym e) in
-    subst (IsBest (λ p. P p ⊎ Q p) c) (sym f) (record {
-      is = ⊎_elim (λ x. absurd (t.0 x)) (λ x. inr (inr x.0, x.1)) k.is;
-      each = grind (arith, ⊎_elim, below, ahead_of);
-    })
-  where
-    below : (other.place ≡ 64) ⊎ (Q other.place × (other.cost ≡ c other.place)) → (other.place ≡ 64 → ⊥)
-        → other.place < 64
-    below o d = ⊎_elim (λ z. absurd (d z)) (λ z. (k.each other.place z.0).0) o
-best_of_two {P} {Q} {c} {one} {other} s false h k e f =
-    let t = not_before other one (best_known k) (sym e) in
-    subst (IsBest (λ p. P p ⊎ Q p) c) (sym f) (record {
-      is = ⊎_elim (λ x. inl x) (λ x. inr (inl x.0, x.1)) h.is;
-      each = grind (arith, ⊎_elim, below, ahead_of);
-    })
-  where
-    below : (one.place ≡ 64) ⊎ (P one.place × (one.cost ≡ c one.place)) → (one.place ≡ 64 → ⊥) → one.place < 64
-    below o d = ⊎_elim (λ z. absurd (d z)) (λ z. (h.each one.place z.0).0) o
+best_of_two s h7 h k e f = grind (arith, before, best_known, ⊎_elim, ahead_of, not_before)

@@ -37,11 +37,7 @@ buckets_left rs order old new rest place n reference h apart at is put e =
 pub buckets_kept : (rs : List Record) (order buckets : List ℕ) (n : ℕ) (r : Record) → AreBuckets rs order buckets
     → n < 64 → length rs ≡ 64 → r.command.reference ≡ (get_or rs n no_record).command.reference
     → AreBuckets (set rs n r) order buckets
-buckets_kept rs order buckets n r h low long same u k l =
-    h u k l ∙ ap (λ c. bit (has k order && nat_eq c u)) (by (same_or k n))
-  where
-    by : (k ≡ n) ⊎ (k ≢ n) → bucket_at rs k ≡ bucket_at (set rs n r) k
-    by h1 = grind (arith, get_or-set_same, get_or-set_other)
+buckets_kept rs order buckets n r h low long same u k l = grind (arith, same_or, get_or-set_same, get_or-set_other)
 
 -- ---- a search
 -- what is left of a bucket has slots of it, and of the others none has a command of this name
@@ -55,16 +51,7 @@ searches_first name rs bucket = grind arith
 pub searches_on : {name : Name} {rs : List Record} {bucket left : ℕ} (slot left' : ℕ) → Searches name rs bucket left
     → slot < 64 → IsSet false slot left left' → has_name name (get_or rs slot no_record) ≡ false
     → Searches name rs bucket left'
-searches_on {name} {rs} {bucket} {left} slot left' h low set miss = record {
-  of_bucket = grind (arith, ⊎_elim, here, kept, same_or);
-  seen = grind (arith, ⊎_elim, kept, same_or);
-}
-  where
-    kept : (k : ℕ) → k < 64 → k ≢ slot → bit_at left' k ≡ bit_at left k
-    kept k l d = set k l ∙ ap (λ b. cond b 0 (bit_at left k)) (ne_eqb k slot d)
-
-    here : (k : ℕ) → k < 64 → k ≡ slot → bit_at left' k ≡ 0
-    here k l e = set k l ∙ ap (λ b. cond b 0 (bit_at left k)) (eq-eqb k slot e)
+searches_on slot left' h low set miss = grind (arith, ⊎_elim, same_or, ne_eqb, eq-eqb)
 
 module _ {rs : List Record} {own : List Target} {order : List ℕ} {m : Masks} {ranges buckets : List ℕ} (ds : List ℕ)
     (now : List Slot) (slotted : AreSlotted rs own order m ranges buckets) (view : shown rs own ds order ≡ now)

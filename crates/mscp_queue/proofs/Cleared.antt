@@ -25,16 +25,7 @@ module _ {p n : ℕ} {old xs : List ℕ} (r : ℕ) (room : n < 64) (was : AreCle
 
 -- the slots of a mask with no bit from n on are the first
 low_slot : (mask n k : ℕ) → mask / 2 ^ n ≡ 0 → bit_at mask k ≡ 1 → k < n
-low_slot mask n k none on = by (split k)
-  where
-    split : (k : ℕ) → (k < n) ⊎ (n ≤ k)
-    split k = grind arith
-
-    small : mask < 2 ^ n
-    small = grind (arith, div-lt_iff_lt-mul, pow_pos)
-
-    by : (k < n) ⊎ (n ≤ k) → k < n
-    by h1 = grind (arith, bit_at_above, small)
+low_slot mask n k none on = grind (arith, div-lt_iff_lt-mul, pow_pos, bit_at_above)
 
 -- so it is enough that a bit is cleared in the first masks
 pub taken_cleared : {p n : ℕ} {old xs : List ℕ} (mask k : ℕ) → AreCleared p n old xs → mask / 2 ^ n ≡ 0

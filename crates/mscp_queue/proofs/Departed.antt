@@ -4,10 +4,7 @@ use Rattle.mscp_queue.proofs.Masked.{eq_false, eq_true, has_gone, has_kept, if_n
 
 slots_left : (order : List ℕ) (n : ℕ) → AreSlots order → AreSlots (without n order)
 slots_left [] n a = tt
-slots_left (s ∷ order) n a = by (slots_left order n a.2) (same_or s n)
-  where
-    by : AreSlots (without n order) → (s ≡ n) ⊎ (s ≢ n) → AreSlots (if_not (nat_eq s n) s (without n order))
-    by h h2 = grind (arith, eq_true, eq_false, has_kept)
+slots_left (s ∷ order) n a = grind (arith, same_or, eq_true, eq_false, has_kept, slots_left order n a.2)
 
 module _ (earlier earlier' : ℕ → ℕ) (n : ℕ) where
   cleared : (s : ℕ) (front : List ℕ) → IsSet false n (earlier s) (earlier' s) → IsMaskOf (earlier s) (λ k. has k front)
@@ -46,15 +43,7 @@ pub classes_without : (f : ℕ → ℕ) (order old new : List ℕ) (n : ℕ) →
     → IsSet false n (slice_index_or old (f n) 0) (slice_index_or new (f n) 0)
     → ((u : ℕ) → u ≢ f n → slice_index_or new u 0 ≡ slice_index_or old u 0) → AreClasses f (without n order) new
 classes_without f order old new n h low own others u =
-    set_mask (slice_index_or old u 0) (slice_index_or new u 0) n false _ _ (cleared_at (same_or (f n) u)) (h u)
-    (ap (λ b. b && nat_eq (f n) u) (has_gone n order))
-    (λ k d. ap (λ b. b && nat_eq (f k) u) (has_kept k n order d))
-  where
-    both_false : (b : Bool) → (b && false) ≡ false
-    both_false h1 = grind arith
-
-    cleared_at : (f n ≡ u) ⊎ (f n ≢ u) → IsSet false n (slice_index_or old u 0) (slice_index_or new u 0)
-    cleared_at h1 = grind (arith, unit_set, eq_false, both_false)
+    grind (arith, set_mask, same_or, has_gone, has_kept, unit_set, eq_false)
 
 masks_without : (kinds : ℕ → Kind) (order : List ℕ) (m m' : Masks) (n : ℕ) → AreMasks kinds order m → n < 64
     → HasLeft n (kinds n).drive m m' → AreMasks kinds (without n order) m'

@@ -24,10 +24,7 @@ each_held f g h (s ∷ order) a e = (λ i. e s a.0 (ap (λ b. b || has s order) 
 pub of_shown : {X : Type 0} (P : X → Type 0) (f : ℕ → X) (order : List ℕ) (k : ℕ) → AllByRecursion P (map f order)
     → has k order ≡ true → P (f k)
 of_shown P f [] k h e = let bad = ap bit e in absurd (omega (arith, bad))
-of_shown P f (s ∷ order) k h e = by (nat_eq k s) (eqb-true k s) (of_shown P f order k h.1) e
-  where
-    by : (b : Bool) → (b ≡ true → k ≡ s) → (has k order ≡ true → P (f k)) → (b || has k order) ≡ true → P (f k)
-    by h1 same rest e = grind arith
+of_shown P f (s ∷ order) k h e = grind (arith, eqb-true, of_shown P f order k h.1)
 
 waits_bit : (order : List ℕ) (waiting k : ℕ) → IsMaskOf waiting (λ k. has k order) → k < 64 → bit_at waiting k ≡ 1
     → has k order ≡ true
@@ -63,10 +60,7 @@ slots_front (x ∷ front) n back a = (a.0, in_part x front (n ∷ back) a.1, slo
   where
     in_part : (x : ℕ) (front back : List ℕ) → has x (front ++ back) ≡ false → has x front ≡ false
     in_part x [] back e = refl
-    in_part x (y ∷ front) back e = or_off (nat_eq x y) (has x (front ++ back)) (has x front) (in_part x front back) e
-      where
-        or_off : (a b c : Bool) → (b ≡ false → c ≡ false) → (a || b) ≡ false → (a || c) ≡ false
-        or_off h1 b c h e = grind arith
+    in_part x (y ∷ front) back e = grind (arith, in_part x front back)
 
 slots_back : (front : List ℕ) (n : ℕ) (back : List ℕ) → AreSlots (front ++ n ∷ back) → AreSlots back
 slots_back [] n back a = a.2
@@ -103,16 +97,7 @@ module _ (kinds : ℕ → Kind) (front : List ℕ) (n : ℕ)
   other_is k l d = grind (arith, ne_eqb)
 
   pub front_off : (k : ℕ) → k < 64 → has k front ≡ true → bit_at mask k ≡ 0
-  front_off k l there =
-      let d : k ≢ n = λ e. no (ap bit (sym there ∙ ap (λ k. has k front) e ∙ once.0)) in
-      let e = in_earlier k l ∙ ap bit there in
-      other_is k l d ∙ none (bit_at m.waiting k) (bit_at (get_or m.earlier n 0) k) e
-    where
-      no : bit true ≡ bit false → ⊥
-      no e = omega (arith, e)
-
-      none : (a b : ℕ) → b ≡ 1 → min a (1 - b) ≡ 0
-      none a b e = omega (arith, e)
+  front_off k l there = grind (arith, once, in_earlier, other_is)
 
   -- a slot that isn't taken
   pub gone_off : (k : ℕ) → k < 64 → has k front ≡ false → k ≢ n → has k back ≡ false → bit_at mask k ≡ 0
@@ -125,25 +110,10 @@ module _ (kinds : ℕ → Kind) (front : List ℕ) (n : ℕ)
       has_in : (k : ℕ) (front : List ℕ) (n : ℕ) (back : List ℕ)
           → has k (front ++ n ∷ back) ≡ (has k front || (nat_eq k n || has k back))
       has_in k [] n back = refl
-      has_in k (x ∷ front) n back = ap (λ b. nat_eq k x || b) (has_in k front n back)
-          ∙ or_assoc (nat_eq k x) (has k front) (nat_eq k n || has k back)
-        where
-          or_assoc : (a b c : Bool) → (a || (b || c)) ≡ ((a || b) || c)
-          or_assoc h1 b c = grind arith
+      has_in k (x ∷ front) n back = grind (arith, has_in k front n back)
 
   pub back_is : (k : ℕ) → k < 64 → has k back ≡ true → bit_at mask k ≡ 1
-  back_is k l there =
-      let d : k ≢ n = λ e. no (ap bit (sym there ∙ ap (λ k. has k back) e ∙ once.1)) in
-      let in_all : has k (front ++ n ∷ back) ≡ true = has_back k front n back there in
-      let w = masks.of_waiting k l ∙ ap bit in_all in
-      let e = in_earlier k l ∙ ap bit (not_front k front n back masks.apart there) in
-      other_is k l d ∙ some (bit_at m.waiting k) (bit_at (get_or m.earlier n 0) k) w e
-    where
-      no : bit true ≡ bit false → ⊥
-      no e = omega (arith, e)
-
-      some : (a b : ℕ) → a ≡ 1 → b ≡ 0 → min a (1 - b) ≡ 1
-      some a b w e = omega (arith, w, e)
+  back_is k l there = grind (arith, once, has_back, masks, in_earlier, not_front, other_is)
 
 -- the dues behind a place
 module _ {rs : List Record} {own : List Target} {order : List ℕ} {m : Masks} {place n : ℕ} (ds ds' : List ℕ)

@@ -20,12 +20,7 @@ module _ (test : ℕ → Bool) where
   -- where each of some slots fails a test, no slot is one of them and passes it
   none_has : (xs : List ℕ) → list_all (λ t. not (test t)) xs ≡ true → (k : ℕ) → (has k xs && test k) ≡ false
   none_has [] e k = refl
-  none_has (x ∷ xs) e k = by (nat_eq k x) (eqb-true k x) (test x) refl e (none_has xs)
-    where
-      by : (b : Bool) → (b ≡ true → k ≡ x) → (c : Bool) → test x ≡ c → (not c && list_all (λ t. not (test t)) xs) ≡ true
-          → (list_all (λ t. not (test t)) xs ≡ true → (k : ℕ) → (has k xs && test k) ≡ false)
-          → ((b || has k xs) && test k) ≡ false
-      by h1 h h3 f e i = grind arith
+  none_has (x ∷ xs) e k = grind (arith, eqb-true, none_has xs)
 
   has_none : (xs : List ℕ) → ((k : ℕ) → has k xs ≡ true → test k ≡ false) → list_all (λ t. not (test t)) xs ≡ true
   has_none [] h = refl
@@ -54,11 +49,7 @@ module _ (m : ℕ) (front : List ℕ) (test : ℕ → Bool) (small : m < 2 ^ 64)
       ∙ ap bit (none_has test front e k) in omega (arith, f))
 
   zero_to : m ≡ 0 → list_all (λ t. not (test t)) front ≡ true
-  zero_to e = has_none test front (λ k h. off
-      (test k) (sym (ap bit (ap (λ b. b && test k) h)) ∙ sym (is k (low k h)) ∙ ap (λ m. bit_at m k) e ∙ bit_at-zero k))
-    where
-      off : (b : Bool) → bit b ≡ 0 → b ≡ false
-      off h1 e = grind arith
+  zero_to e = grind (arith, has_none, low, bit_at-zero)
 
 -- two masks joined
 joined : (a b : ℕ) (p q r : ℕ → Bool) → IsMaskOf a p → IsMaskOf b q → ((k : ℕ) → (p k && q k) ≡ r k)

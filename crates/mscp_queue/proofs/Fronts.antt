@@ -65,30 +65,13 @@ less_left left left' n low on set le = search (arith, eq-eqb n n refl)
 -- in the end all were looked at
 pub narrowed_all : {drive : ℕ} {m : Masks} {unit left narrowed : ℕ} → Narrows drive m unit left narrowed
     → ((n : ℕ) → n < 64 → bit_at left n ≡ 0) → IsNarrowed drive m narrowed
-narrowed_all {drive} {m} {unit} {left} {narrowed} h off = record {
-  to = λ k l e. record {
-    unit = sym (own k) ∙ h.to k l e;
-    each = λ s b u q d. h.each k l e s b (own s ∙ u) q (off s b) d;
-  };
-  from = λ k l f. h.from k l (own k ∙ f.unit) (λ s b u q o d. f.each s b (sym (own s) ∙ u) q d);
-}
-  where
-    own : (k : ℕ) → bit_at unit k ≡ bit_at (slice_index_or m.units drive 0) k
-    own k = ap (λ n. bit_at n k) h.own
+narrowed_all h off = grind arith
 
 -- ---- the transfers of them, if there is one
 pub front_alone : {drive : ℕ} {m : Masks} {narrowed : ℕ} (transfers : ℕ) → IsNarrowed drive m narrowed
     → ((k : ℕ) → k < 64 → bit_at transfers k ≡ min (bit_at narrowed k) (1 - bit_at m.sequential k))
     → transfers ≡ 0 → IsFront drive m narrowed
-front_alone {drive} {m} {narrowed} transfers h is none = record {
-  to = λ k l e. (h.to k l e, λ q j b f. by j b f (is j b) (h.from j b f));
-  from = λ k l f o. h.from k l f;
-}
-  where
-    by : (j : ℕ) → j < 64 → IsInFront drive m j
-        → bit_at transfers j ≡ min (bit_at narrowed j) (1 - bit_at m.sequential j) → bit_at narrowed j ≡ 1
-        → bit_at m.sequential j ≡ 1
-    by j b f e on = grind (arith, bit_at-zero, bit_at-lt)
+front_alone transfers h is none = grind (arith, bit_at-zero, bit_at-lt)
 
 pub front_free : {drive : ℕ} {m : Masks} {narrowed : ℕ} (transfers : ℕ) → IsNarrowed drive m narrowed
     → ((k : ℕ) → k < 64 → bit_at transfers k ≡ min (bit_at narrowed k) (1 - bit_at m.sequential k))
@@ -102,10 +85,7 @@ front_free {drive} {m} {narrowed} transfers h is some small = record {
     parts k l e = omega (arith, is k l, e, bit_at-lt narrowed k, bit_at-lt m.sequential k)
 
     positive : 0 < transfers
-    positive = by transfers some
-      where
-        by : (n : ℕ) → n ≢ 0 → 0 < n
-        by n d = grind (arith, d)
+    positive = grind arith
 
     no_fence : IsFence drive m → ⊥
     no_fence fence =

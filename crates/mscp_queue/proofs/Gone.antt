@@ -19,10 +19,7 @@ up_above : (gone q : ℕ) → gone ≤ q → up gone q ≡ q + 1
 up_above gone q l = ap (λ b. if b then q else q + 1) (le-ltb q gone l)
 
 closed_none : (gone : ℕ) → place_closed gone 64 ≡ 64
-closed_none gone = by (nat_lt gone 64)
-  where
-    by : (b : Bool) → (if b && false then 64 - 1 else 64) ≡ 64
-    by h1 = grind arith
+closed_none gone = grind arith
 
 closed_below : (gone p : ℕ) → p ≤ gone → place_closed gone p ≡ p
 closed_below gone p l = ap (λ b. if b && nat_lt p 64 then p - 1 else p) (le-ltb gone p l)
@@ -32,22 +29,13 @@ closed_above gone p l few = grind (arith, lt-ltb)
 
 -- those places are each other's
 up_closed : (gone p : ℕ) → p ≢ gone → p < 64 → up gone (place_closed gone p) ≡ p
-up_closed gone p d few = by (lt_or p gone)
-  where
-    by : (p < gone) ⊎ (gone ≤ p) → up gone (place_closed gone p) ≡ p
-    by h1 = grind (arith, closed_below, up_below, closed_above, up_above)
+up_closed gone p d few = grind (arith, lt_or, closed_below, up_below, closed_above, up_above)
 
 closed_least : (gone p q : ℕ) → p ≢ gone → p < 64 → p ≤ up gone q → place_closed gone p ≤ q
-closed_least gone p q d few l = by (lt_or p gone) (lt_or q gone)
-  where
-    by : (p < gone) ⊎ (gone ≤ p) → (q < gone) ⊎ (gone ≤ q) → place_closed gone p ≤ q
-    by h1 h2 = grind (arith, closed_below, up_below, closed_above, up_above)
+closed_least gone p q d few l = grind (arith, lt_or, closed_below, up_below, closed_above, up_above)
 
 up_more : (gone z q : ℕ) → z < q → up gone z < up gone q
-up_more gone z q l = by (lt_or z gone) (lt_or q gone)
-  where
-    by : (z < gone) ⊎ (gone ≤ z) → (q < gone) ⊎ (gone ≤ q) → up gone z < up gone q
-    by h1 h2 = grind (arith, up_below, up_above)
+up_more gone z q l = grind (arith, lt_or, up_below, up_above)
 
 -- ---- the commands without that at a place
 module _ (cs : List Command) (gone : ℕ) (l : gone < length cs) (few : length cs ≤ 64) where
@@ -73,10 +61,7 @@ module _ (cs : List Command) (gone : ℕ) (l : gone < length cs) (few : length c
           there = omega (arith, b)
 
   up_inside : (q : ℕ) → q < length left → up gone q < length cs
-  up_inside q k = by (lt_or q gone)
-    where
-      by : (q < gone) ⊎ (gone ≤ q) → up gone q < length cs
-      by h1 = grind (arith, up_below, up_above, long)
+  up_inside q k = grind (arith, lt_or, up_below, up_above, long)
 
   -- those to another unit than it
   module _ (number : ℕ) (other : (command_at cs gone).unit ≢ number) where
@@ -117,15 +102,7 @@ module _ (cs : List Command) (gone : ℕ) (l : gone < length cs) (few : length c
             ∙ all_at (λ one. not (bars one (command_at left q))) (take q left) z no_record.command h.clear there)
           where
             less : (z : ℕ) → up gone z < up gone q → z < q
-            less z a = less_by (lt_or z q)
-              where
-                less_by : (z < q) ⊎ (q ≤ z) → z < q
-                less_by (inl b) = b
-                less_by (inr b) = absurd (at_most b (same_or q z))
-                  where
-                    at_most : q ≤ z → (q ≡ z) ⊎ (q ≢ z) → ⊥
-                    at_most b (inl e) = (let f = ap (up gone) e in omega (arith, f, a))
-                    at_most b (inr d) = (let f = up_more gone q z (omega (arith, b, d)) in omega (arith, f, a))
+            less z a = grind (arith, lt_or, same_or, up_more)
 
     to_left : (q : ℕ) → q < length left → IsClearOn cs number (up gone q) → IsClearOn left number q
     to_left q k h = record {
@@ -201,26 +178,12 @@ other_unit ds cs gone at k units placed b d e = d (sym (place_is ds k (command_a
 known_was : (at k gone : ℕ) (moves : Bool) (was now : Favorites) → knows now at ≡ false
     → (k ≢ at → start_in now k ≡ cond moves (closed gone (start_in was k)) (start_in was k)) → knows now k ≡ true
     → (k ≢ at) × (knows was k ≡ true)
-known_was at k gone moves was now off starts on = by (same_or k at)
-  where
-    closed_known : (moves : Bool) (s : Start) → not (nat_eq (cond moves (closed gone s) s).place 255) ≡ true
-        → not (nat_eq s.place 255) ≡ true
-    closed_known moves s e = grind (arith, not, eq-eqb, ltb-true)
-
-    by : (k ≡ at) ⊎ (k ≢ at) → (k ≢ at) × (knows was k ≡ true)
-    by h1 = grind (arith, false≢true, closed_known)
+known_was at k gone moves was now off starts on = grind (arith, same_or, eq-eqb, ltb-true, false≢true)
 
 -- if nobody stands behind the place, no best start is behind it
 unmoved : (cs : List Command) (gone number : ℕ) {c : ℕ → ℕ} (s : Start) → IsBest (IsClearOn cs number) c s
     → length cs ≡ gone + 1 → s ≡ closed gone s
-unmoved cs gone number s h last = λ i. record {
-  cost = s.cost;
-  place = place_stays gone s.place (⊎_elim (λ e. inl e)
-      (λ x. inr (let b = x.0.inside in omega (arith, b, last))) h.is) i;
-}
-  where
-    place_stays : (gone p : ℕ) → (p ≡ 64) ⊎ (p ≤ gone) → p ≡ place_closed gone p
-    place_stays gone p h = grind (arith, not, eq-eqb, ltb-false)
+unmoved cs gone number s h last = grind (arith, ⊎_elim, eq-eqb, ltb-false)
 
 module _ {ds : List Drive} {cs : List Command} (units : IsUnitList (units_of ds)) (gone at : ℕ) (l : gone < length cs)
     (few : length cs ≤ 64) (placed : at ≡ drive_place ds (command_at cs gone).unit) where

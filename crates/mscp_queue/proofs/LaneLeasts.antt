@@ -64,8 +64,7 @@ low_whole costs mask n j x none few h = record { below = λ i l on. by i on (com
         (sym (bit_from mask (8 * n) (k - 8 * n)) ∙ (ap (λ m. bit_at m (k - 8 * n)) none ∙ bit_at-zero (k - 8 * n)))
 
     by : (i : ℕ) → bit_at mask (8 * i + j) ≡ 1 → (i < n) ⊎ (n ≤ i) → x ≤ get_or costs (8 * i + j) 0
-    by i on (inl under) = h.below i under on
-    by i on (inr over) = let zero_bit = off (8 * i + j) (omega (arith, over)) in absurd (omega (arith, on, zero_bit))
+    by i on h3 = grind (arith, off)
 
     kept : FoundLow costs mask j n x → FoundLow costs mask j 8 x
     kept h1 = grind arith

@@ -30,18 +30,11 @@ has_last n (x ∷ xs) = search (arith, nat_eq n x, has_last n xs)
 
 pub has_kept : (k n : ℕ) (xs : List ℕ) → k ≢ n → has k (without n xs) ≡ has k xs
 has_kept k n [] e = refl
-has_kept k n (x ∷ xs) e = by (has_kept k n xs e) (same_or x n)
-  where
-    by : has k (without n xs) ≡ has k xs → (x ≡ n) ⊎ (x ≢ n)
-        → has k (if_not (nat_eq x n) x (without n xs)) ≡ (nat_eq k x || has k xs)
-    by h h2 = grind (arith, eq_true, eq_false)
+has_kept k n (x ∷ xs) e = grind (arith, same_or, eq_true, eq_false, has_kept k n xs e)
 
 pub has_gone : (n : ℕ) (xs : List ℕ) → has n (without n xs) ≡ false
 has_gone n [] = refl
-has_gone n (x ∷ xs) = by (has_gone n xs) (same_or x n)
-  where
-    by : has n (without n xs) ≡ false → (x ≡ n) ⊎ (x ≢ n) → has n (if_not (nat_eq x n) x (without n xs)) ≡ false
-    by h h2 = grind (arith, eq_true, eq_false)
+has_gone n (x ∷ xs) = grind (arith, same_or, eq_true, eq_false, has_gone n xs)
 
 pub without_append : (n : ℕ) (xs ys : List ℕ) → without n (xs ++ ys) ≡ without n xs ++ without n ys
 without_append n [] ys = refl
@@ -51,10 +44,7 @@ without_append n (x ∷ xs) ys = search (arith, without_append n xs ys, nat_eq x
 module _ (m m' n : ℕ) (on : Bool) (old new : ℕ → Bool) (set : IsSet on n m m')
     (is : IsMaskOf m old) (at : new n ≡ on) (other : (k : ℕ) → k ≢ n → new k ≡ old k) where
   pub set_mask : IsMaskOf m' new
-  set_mask k l = by (same_or k n)
-    where
-      by : (k ≡ n) ⊎ (k ≢ n) → bit_at m' k ≡ bit (new k)
-      by h1 = grind (arith, eq_true, eq_false)
+  set_mask k l = grind (arith, same_or, eq_true, eq_false)
 
 -- ---- a push
 differ : (b : Bool) → b ≡ true → b ≡ false → bit true ≡ bit false
@@ -138,19 +128,11 @@ many_taken (suc n) order h =
   where
     no_more : (n : ℕ) (xs : List ℕ) → length (without n xs) ≤ length xs
     no_more n [] = omega arith
-    no_more n (x ∷ xs) = by (no_more n xs) (nat_eq x n)
-      where
-        by : length (without n xs) ≤ length xs → (b : Bool) → length (if_not b x (without n xs)) ≤ length (x ∷ xs)
-        by h h2 = grind arith
+    no_more n (x ∷ xs) = grind (arith, no_more n xs)
 
     one_gone : (n : ℕ) (xs : List ℕ) → has n xs ≡ true → length (without n xs) < length xs
     one_gone n [] e = let bad = ap bit e in absurd (omega (arith, bad))
-    one_gone n (x ∷ xs) e = by (one_gone n xs) (no_more n xs) (same_or x n)
-      where
-        by : (has n xs ≡ true → length (without n xs) < length xs) → length (without n xs) ≤ length xs → (x ≡ n)
-            ⊎ (x ≢ n)
-            → length (if_not (nat_eq x n) x (without n xs)) < length (x ∷ xs)
-        by h m h3 = grind (arith, eq_true, eq_false)
+    one_gone n (x ∷ xs) e = grind (arith, no_more, same_or, eq_true, eq_false, one_gone n xs)
 
 -- so where fewer than all wait, a bit is clear
 pub some_free : (m : ℕ) (order : List ℕ) → IsMaskOf m (λ k. has k order) → length order < 64 → m ≢ 18446744073709551615

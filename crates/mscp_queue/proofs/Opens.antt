@@ -20,28 +20,10 @@ module _ (n : ℕ) (on sq : ℕ → Bool) where
   Fence = (j : ℕ) → j < n → In j → sq j ≡ true
 
   pub in_opens : (p : ℕ) → p < n → In p → (sq p ≡ true → Fence) → Opens p
-  in_opens p l h fence = record {
-    own = h.own;
-    none = λ z b u o. ⊎_elim
-        (λ q. behind z b u q)
-        (λ q. behind z b u (fence q z (omega (arith, b, l)) (record {
-          own = u;
-          each = λ s c v r d. ⊎_elim (λ e. subst (λ k. z < k) (sym e) b)
-              (λ e. let f = h.each s c v r e in omega (arith, f, b)) (same_or s p);
-        }))) o;
-  }
-    where
-      behind : (z : ℕ) → z < p → on z ≡ true → sq z ≡ true → ⊥
-      behind z b u q = let f = h.each z (omega (arith, b, l)) u q (λ e. omega (arith, e, b)) in omega (arith, f, b)
+  in_opens p l h fence = grind (arith, ⊎_elim, same_or)
 
   pub opens_in : (p : ℕ) → p < n → Opens p → In p
-  opens_in p l h = record { own = h.own; each = λ s b u q d. by s u q d (lt_or s p) }
-    where
-      lt_or : (a b : ℕ) → (a < b) ⊎ (b ≤ a)
-      lt_or a b = grind arith
-
-      by : (s : ℕ) → on s ≡ true → sq s ≡ true → s ≢ p → (s < p) ⊎ (p ≤ s) → p < s
-      by s u q d h5 = grind arith
+  opens_in p l h = grind arith
 
   pub opens_fence : (p : ℕ) → p < n → Opens p → (sq p ≡ false) ⊎ Fence
   opens_fence p l h = by (sq p) refl
@@ -63,19 +45,11 @@ at_all test (x ∷ xs) d h =
 
 fence_off : (zd rd at : ℕ) (zs rs : Bool) → nat_eq rd at ≡ true
     → (nat_eq zd at ≡ true → (zs ≡ true) ⊎ (rs ≡ true) → ⊥) → not (nat_eq zd rd && (zs || rs)) ≡ true
-fence_off zd rd at zs rs e h = by (nat_eq zd rd) refl zs rs h
-  where
-    by : (b : Bool) → nat_eq zd rd ≡ b → (zs rs : Bool) → (nat_eq zd at ≡ true → (zs ≡ true) ⊎ (rs ≡ true) → ⊥)
-        → not (b && (zs || rs)) ≡ true
-    by h1 f h3 h4 h = grind (arith, eq-eqb, eqb-true)
+fence_off zd rd at zs rs e h = grind (arith, eq-eqb, eqb-true)
 
 off_fence : (zd rd at : ℕ) (zs rs : Bool) → nat_eq rd at ≡ true → not (nat_eq zd rd && (zs || rs)) ≡ true
     → nat_eq zd at ≡ true → (zs ≡ true) ⊎ (rs ≡ true) → ⊥
-off_fence zd rd at zs rs e h f o = by zs rs o (ap (λ b. not (b && (zs || rs)))
-    (sym (eq-eqb zd rd (eqb-true zd at f ∙ sym (eqb-true rd at e)))) ∙ h)
-  where
-    by : (zs rs : Bool) → (zs ≡ true) ⊎ (rs ≡ true) → not (true && (zs || rs)) ≡ true → ⊥
-    by h1 h2 o h = grind (arith, false≢true, ⊎_elim)
+off_fence zd rd at zs rs e h f o = grind (arith, eq-eqb, eqb-true, false≢true, ⊎_elim)
 
 -- ---- by the masks
 module _ (kinds : ℕ → Kind) (order : List ℕ) (m : Masks) (masks : AreMasks kinds order m) (at : ℕ) where
@@ -126,10 +100,7 @@ module _ (kinds : ℕ → Kind) (order : List ℕ) (m : Masks) (masks : AreMasks
   -- a slot of the unit stands at a place
   there : (k : ℕ) → k < 64 → bit_at (slice_index_or m.units at 0) k ≡ 1
       → (p : ℕ) × (p < length order) × (k ≡ number p)
-  there k l e = placed order k (by (has k order) (sym (masks.of_units at k l) ∙ e))
-    where
-      by : (b : Bool) → bit (b && nat_eq (kinds k).drive at) ≡ 1 → b ≡ true
-      by h1 f = grind arith
+  there k l e = grind (arith, placed)
 
   off : (b : Bool) → bit b ≡ 0 → b ≡ false
   off h1 e = grind arith
@@ -138,24 +109,10 @@ module _ (kinds : ℕ → Kind) (order : List ℕ) (m : Masks) (masks : AreMasks
   Inside = In (length order) on sq
 
   in_front : (p : ℕ) → p < length order → IsInFront at m (number p) → Inside p
-  in_front p l h = record {
-    own = one_bit (on p) (sym (unit_bit p l) ∙ h.unit);
-    each = grind (arith, before, one_bit, early_bit, low, unit_bit, seq_bit, one_place);
-  }
-    where
-      before : (s : ℕ) → s < length order → nat_lt p s ≡ true → p < s
-      before s b e = grind (arith, e)
+  in_front p l h = grind (arith, one_bit, unit_bit, early_bit, low, seq_bit, one_place)
 
   front_in : (p : ℕ) → p < length order → Inside p → IsInFront at m (number p)
-  front_in p l h = record {
-    unit = unit_bit p l ∙ ap bit h.own;
-    each = λ k b u q d. by k (there k b u) u q d;
-  }
-    where
-      by : (k : ℕ) → (s : ℕ) × (s < length order) × (k ≡ number s)
-          → bit_at (slice_index_or m.units at 0) k ≡ 1 → bit_at m.sequential k ≡ 1 → k ≢ number p
-          → bit_at (slice_index_or m.earlier k 0) (number p) ≡ 1
-      by k t u q d = grind (arith, one_bit, unit_bit, seq_bit, early_bit, lt-ltb)
+  front_in p l h = grind (arith, unit_bit, there, one_bit, seq_bit, early_bit, lt-ltb)
 
   abbrev Alone : Type 0
   Alone = (j : ℕ) → j < length order → Inside j → sq j ≡ true

@@ -58,14 +58,7 @@ module _ (budget : ℕ) (ds : List Drive) (rs : List Record) (may : MayAllPass b
 
     -- each of those places is of a command that nobody keeps back
     each_clear : AllByRecursion (IsClear cs) (A ++ place ∷ B)
-    each_clear = subst (AllByRecursion (IsClear cs)) cut
-        (every_weaker (λ k. ((0 ≤ k) × (k < 0 + length rs)) × (is_open_at budget rs k ≡ true)) (IsClear cs)
-        (λ k x. clear k (omega (arith, x.0.1)) x.1)
-        (open_places budget rs) (every_filter (λ k. (0 ≤ k) × (k < 0 + length rs)) (is_open_at budget rs) all
-        (range_below 0 (length rs))))
-      where
-        clear : (k : ℕ) → k < length rs → is_open_at budget rs k ≡ true → IsClear cs k
-        clear k l e = record { inside = omega (arith, l, many); clear = sym (open_is k l) ∙ e }
+    each_clear = grind (arith, cut, every_weaker, every_filter, range_below, many, open_is)
 
     -- and those in front stand before it
     in_front : AllByRecursion (λ k. k < place) A
@@ -79,24 +72,10 @@ module _ (budget : ℕ) (ds : List Drive) (rs : List Record) (may : MayAllPass b
     numbers = grind (arith, map_map, cut, map-append)
 
     least : (k : ℕ) → IsClear cs k → C place ≤ C k
-    least k x = by (h.each k x)
-      where
-        same : C k ≡ cost_of ds cs k
-        same = cost_same k (below k x)
-
-        by : (cost_of ds cs place < cost_of ds cs k) ⊎ ((cost_of ds cs place ≡ cost_of ds cs k) × (place ≤ k))
-            → C place ≤ C k
-        by h1 = grind (arith, cost_same, inside, same)
+    least k x = grind (arith, cost_same, below, inside)
 
     less : (k : ℕ) → IsClear cs k → k < place → C place < C k
-    less k x b = by (h.each k x)
-      where
-        same : C k ≡ cost_of ds cs k
-        same = cost_same k (below k x)
-
-        by : (cost_of ds cs place < cost_of ds cs k) ⊎ ((cost_of ds cs place ≡ cost_of ds cs k) × (place ≤ k))
-            → C place < C k
-        by h1 = grind (arith, cost_same, inside, same)
+    less k x b = grind (arith, cost_same, below, inside)
 
     pub swept : IsSweep (view_of budget ds rs) (length A)
     swept =

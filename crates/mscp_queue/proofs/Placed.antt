@@ -129,7 +129,4 @@ position_any p xs =
     some_any : {X : Type 0} (p : X → Bool) (front : List X) (x : X) (back : List X) → p x ≡ true
         → list_any p (front ++ x ∷ back) ≡ true
     some_any p [] x back e = ap (λ b. b || list_any p back) e
-    some_any p (y ∷ ys) x back e = ap (λ b. p y || b) (some_any p ys x back e) ∙ or_true (p y)
-      where
-        or_true : (b : Bool) → (b || true) ≡ true
-        or_true h1 = grind arith
+    some_any p (y ∷ ys) x back e = grind (arith, some_any p ys x back e)

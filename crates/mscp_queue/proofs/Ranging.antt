@@ -14,62 +14,13 @@ pub ranged_set : {ranges masks : List ℕ} (slot range v w : ℕ) → AreRanged 
     → IsSet false slot (get_or masks (range_at ranges slot) 0) v
     → IsSet true slot (get_or (set masks (range_at ranges slot) v) range 0) w
     → AreRanged (set ranges slot range) (set (set masks (range_at ranges slot) v) range w)
-ranged_set {ranges} {masks} slot range v w h long many low few off on = record {
-  low = λ k. below k (same_or k slot);
-  each = λ r k a b. by r k a b (same_or k slot) (same_or r range);
-}
-  where
-    old : ℕ
-    old = range_at ranges slot
-
-    first : List ℕ
-    first = set masks old v
-
-    here : range_at (set ranges slot range) slot ≡ range
-    here = get_or-set_same ranges slot range 0 (omega (arith, low, long))
-
-    there : (k : ℕ) → k ≢ slot → range_at (set ranges slot range) k ≡ range_at ranges k
-    there k d = get_or-set_other ranges slot k range 0 d
-
-    below : (k : ℕ) → (k ≡ slot) ⊎ (k ≢ slot) → range_at (set ranges slot range) k < 64
-    below k h2 = grind (arith, here, there)
-
-    -- without it
-    gone : (r k : ℕ) → r < 64 → k < 64 → (r ≡ old) ⊎ (r ≢ old)
-        → bit_at (get_or first r 0) k ≡ cond (nat_eq k slot) 0 (bit_at (get_or masks r 0) k)
-    gone r k a b (inl e) = grind (arith, first, get_or-set_same, old)
-    gone r k a b (inr d) = ap (λ n. bit_at n k) (get_or-set_other masks old r v 0 d) ∙ none (same_or k slot)
-      where
-        none : (k ≡ slot) ⊎ (k ≢ slot) → bit_at (get_or masks r 0) k ≡ cond (nat_eq k slot) 0 (bit_at
-            (get_or masks r 0) k)
-        none h1 = grind (arith, ne_eqb, eq-eqb)
-
-    by : (r k : ℕ) → r < 64 → k < 64 → (k ≡ slot) ⊎ (k ≢ slot) → (r ≡ range) ⊎ (r ≢ range)
-        → bit_at (get_or (set first range w) r 0) k ≡ bit (nat_eq (range_at (set ranges slot range) k) r)
-    by r k a b h5 h6 = grind (
-      arith,
-      first,
-      get_or-set_same,
-      length-set,
-      old,
-      eq-eqb,
-      here,
-      get_or-set_other,
-      gone,
-      same_or,
-      ne_eqb,
-      there,
-    )
+ranged_set slot range v w h long many low few off on =
+    grind (arith, same_or, get_or-set_same, get_or-set_other, ne_eqb, eq-eqb, length-set)
 
 -- ---- the slots in a range
 pub is_here : {ranges masks : List ℕ} (mask range k : ℕ) → AreRanged ranges masks → range < 64 → k < 64
     → bit_at (bit_and mask (get_or masks range 0)) k ≡ cond (nat_eq (range_at ranges k) range) (bit_at mask k) 0
-is_here {ranges} {masks} mask range k h l b =
-    bit_at_and mask (get_or masks range 0) k ∙ (ap (min (bit_at mask k)) (h.each range k l b)
-    ∙ by (nat_eq (range_at ranges k) range))
-  where
-    by : (c : Bool) → min (bit_at mask k) (bit c) ≡ cond c (bit_at mask k) 0
-    by h1 = grind (arith, bit_at-lt)
+is_here mask range k h l b = grind (arith, bit_at_and, bit_at-lt)
 
 -- what is told of one range
 abbrev pub IsHere : List ℕ → ℕ → ℕ → ℕ → Type 0
@@ -78,11 +29,7 @@ IsHere ranges mask range found =
 
 pub here_to : (ranges : List ℕ) (mask range found k : ℕ) → IsHere ranges mask range found → IsIn found k
     → IsIn mask k × (range_at ranges k ≡ range)
-here_to ranges mask range found k h x = by (nat_eq (range_at ranges k) range) refl (sym (h k x.0) ∙ x.1)
-  where
-    by : (b : Bool) → nat_eq (range_at ranges k) range ≡ b → cond b (bit_at mask k) 0 ≡ 1
-        → IsIn mask k × (range_at ranges k ≡ range)
-    by h1 e on = grind (arith, eqb-true)
+here_to ranges mask range found k h x = grind (arith, eqb-true)
 
 pub here_from : (ranges : List ℕ) (mask range found k : ℕ) → IsHere ranges mask range found → IsIn mask k
     → range_at ranges k ≡ range → IsIn found k
@@ -145,26 +92,10 @@ none_below h = grind (arith, none_in)
 
 -- ---- the nearest to a head
 or_to : (a b k : ℕ) → IsIn (bit_or a b) k → IsIn a k ⊎ IsIn b k
-or_to a b k x = by (bit_at-lt a k) (bit_at-lt b k)
-  where
-    by : bit_at a k < 2 → bit_at b k < 2 → IsIn a k ⊎ IsIn b k
-    by l m = ⊎_elim (λ e. inl (x.0, e)) (λ e. inr (x.0, e)) (one_of l m)
-      where
-        one_of : bit_at a k < 2 → bit_at b k < 2 → (bit_at a k ≡ 1) ⊎ (bit_at b k ≡ 1)
-        one_of l m = ones (bit_at a k) (bit_at b k) l m (sym (bit_at_or a b k) ∙ x.1)
-          where
-            ones : (p q : ℕ) → p < 2 → q < 2 → max p q ≡ 1 → (p ≡ 1) ⊎ (q ≡ 1)
-            ones p q l m e = grind arith
+or_to a b k x = grind (arith, bit_at-lt, ⊎_elim, bit_at_or)
 
 or_from : (a b k : ℕ) → IsIn a k ⊎ IsIn b k → IsIn (bit_or a b) k
-or_from a b k (inl x) = (x.0, bit_at_or a b k ∙ one (bit_at a k) (bit_at b k) x.1 (bit_at-lt b k))
-  where
-    one : (p q : ℕ) → p ≡ 1 → q < 2 → max p q ≡ 1
-    one p q e l = omega (arith, e, l)
-or_from a b k (inr x) = (x.0, bit_at_or a b k ∙ one (bit_at a k) (bit_at b k) x.1 (bit_at-lt a k))
-  where
-    one : (p q : ℕ) → q ≡ 1 → p < 2 → max p q ≡ 1
-    one p q e l = omega (arith, e, l)
+or_from a b k h4 = grind (arith, bit_at_or, bit_at-lt)
 
 -- a range is below another, or that, or above it
 order_of : (a b : ℕ) → (a < b) ⊎ ((a ≡ b) ⊎ (b < a))
@@ -257,19 +188,10 @@ zeros n k = let none : ℕ = 0 in alike n k none
 pub ranged_none : (ranges masks : List ℕ) → ((k : ℕ) → range_at ranges k ≡ 0)
     → ((k : ℕ) → k < 64 → bit_at (get_or masks 0 0) k ≡ 1) → ((r : ℕ) → 0 < r → get_or masks r 0 ≡ 0)
     → AreRanged ranges masks
-ranged_none ranges masks none first rest = record {
-  low = λ k. omega (arith, none k);
-  each = λ r k a b. by r k b (same_or r 0);
-}
-  where
-    by : (r k : ℕ) → k < 64 → (r ≡ 0) ⊎ (r ≢ 0) → bit_at (get_or masks r 0) k ≡ bit (nat_eq (range_at ranges k) r)
-    by r k b h4 = grind (arith, first, eq-eqb, none, bit_at-zero, ne_eqb)
+ranged_none ranges masks none first rest = grind (arith, same_or, eq-eqb, bit_at-zero, ne_eqb)
 
 -- a slot has another target, and its range
 pub ranges_pushed : (own : List Target) (ranges new : List ℕ) (n : ℕ) (a : Target) → length own ≡ 64
     → length ranges ≡ 64
     → n < 64 → AreRanges own ranges → new ≡ set ranges n a.range → AreRanges (set own n a) new
-ranges_pushed own ranges new n a long many low h e k l = by (same_or k n)
-  where
-    by : (k ≡ n) ⊎ (k ≢ n) → get_or new k 0 ≡ (get_or (set own n a) k no_target).range
-    by h1 = grind (arith, get_or-set_same, get_or-set_other)
+ranges_pushed own ranges new n a long many low h e k l = grind (arith, same_or, get_or-set_same, get_or-set_other)

@@ -31,24 +31,7 @@ pub seeks_first : {at : ℕ} {d : Drive} {order : List ℕ} {ks : List Kind} {ow
     → ((q : ℕ) → q < length order → get_or order q 0 < 64)
     → ((a b : ℕ) → a < length order → b < length order → get_or order a 0 ≡ get_or order b 0 → a ≡ b)
     → Seeks at d order ks own front left best least
-seeks_first {at} {d} {order} {ks} {own} {front} left best least p l is low on set cost small lows one =
-    record {
-      of_left = λ n b e. ⊎_elim (λ f. ap (bit_at front) f ∙ on) (λ f. sym (kept n b f) ∙ e) (same_or n best);
-      place = p;
-      inside = l;
-      number = is;
-      on = on;
-      cost = cost;
-      small = small;
-      done = λ q k f off. ⊎_elim
-          (λ e. let r = one q p k l (e ∙ is) in
-          inr (cost ∙ ap (cost_there d ks own) (sym r), omega (arith, r)))
-          (λ e. let was = kept (get_or order q 0) (lows q k) e in absurd (omega (arith, was, f, off)))
-          (same_or (get_or order q 0) best);
-    }
-  where
-    kept : (n : ℕ) → n < 64 → n ≢ best → bit_at left n ≡ bit_at front n
-    kept n b e = set n b ∙ ap (λ b. cond b 0 (bit_at front n)) (ne_eqb n best e)
+seeks_first left best least p l is low on set cost small lows one = grind (arith, ⊎_elim, same_or, ne_eqb)
 
 -- one more is looked at, which stands at a place
 module _ {at : ℕ} {d : Drive} {order : List ℕ} {ks : List Kind} {own : List Target} {front left best least : ℕ}
@@ -176,33 +159,14 @@ module _ {rs : List Record} {own : List Target} {order : List ℕ} {m : Masks} (
   pub cost_found : {at : ℕ} (d : Drive) (n cost : ℕ) (sequential : Bool) → (f : IsFound order (kinds now) at n) → n < 64
       → sequential ≡ nat_eq (bit_at m.sequential n) 1 → cost ≡ cost_on d sequential (get_or own n no_target).cylinder
       → cost ≡ cost_there d (kinds now) (targets now) f.place
-  cost_found {at} d n cost sequential f low told is =
-      let t = target_is f.place n f.inside f.number in
-      let k = kind_is f.place n f.inside f.number in
-      let taken : has n order ≡ true = ap (λ k. has k order) f.number ∙ slot_has order f.place f.inside in
-      let bits : bit_at m.sequential n ≡ bit (kind_at rs own n).sequential = grind (arith, kept) in
-      let same : sequential ≡ (kind_there (kinds now) f.place).sequential = grind (arith, of_bit) in
-      is ∙ (λ i. cost_on d (same i) (t i).cylinder)
-    where
-      of_bit : (b : Bool) → nat_eq (bit b) 1 ≡ b
-      of_bit h1 = grind arith
+  cost_found d n cost sequential f low told is = grind (arith, target_is, kind_is, slot_has, kept)
 
 -- ---- a range that the head comes to sooner costs less
 range_rises : (a b w : ℕ) → a ≤ b → min (a / (w + 1)) 63 ≤ min (b / (w + 1)) 63
-range_rises a b w l = least (a / (w + 1)) (b / (w + 1))
-    (le-div (a / (w + 1)) b (w + 1) (omega arith) (omega (arith, l, div-mul-le_self a (w + 1))))
-  where
-    least : (p q : ℕ) → p ≤ q → min p 63 ≤ min q 63
-    least p q l = omega (arith, l)
+range_rises a b w l = grind (arith, le-div, div-mul-le_self)
 
 range_less : (u : Shape) (a b : ℕ) → range_of u a < range_of u b → a < b
-range_less u a b l = by (lt_or a b)
-  where
-    lt_or : (a b : ℕ) → (a < b) ⊎ (b ≤ a)
-    lt_or a b = grind arith
-
-    by : (a < b) ⊎ (b ≤ a) → a < b
-    by h1 = grind (arith, range_rises)
+range_less u a b l = grind (arith, range_rises)
 
 costs_less : (last head a b : ℕ) (up : Bool) → head ≤ last → a ≤ last → b ≤ last → IsSooner up head a b
     → sweep_cost last head up a < sweep_cost last head up b
@@ -291,16 +255,4 @@ pub sought : {at : ℕ} {d : Drive} {order : List ℕ} {ks : List Kind} {own : L
     → ((p : ℕ) → IsOpenOn ks at p → (p < length order) × IsAmong d order ks own front p)
     → ((q : ℕ) → q < length order → get_or order q 0 < 64) → ((n : ℕ) → n < 64 → bit_at left n ≡ 0)
     → s.place ≡ h.place → s.cost ≡ least → IsBest (IsOpenOn ks at) (cost_there d ks own) s
-sought {at} {d} {order} {ks} {own} {front} {left} {best} {least} s h few opens on lows none place cost = record {
-  is = inr (subst (IsOpenOn ks at) (sym place) opens, cost ∙ (h.cost ∙ ap (cost_there d ks own) (sym place)));
-  each = grind (arith, ⊎_elim, ahead, lows, further);
-}
-  where
-    ahead : (p : ℕ) → (least < cost_there d ks own p) ⊎ ((least ≡ cost_there d ks own p) × (h.place ≤ p))
-        → IsAhead s (cost_there d ks own p) p
-    ahead p done = grind (arith, ⊎_elim)
-
-    further : (p q : ℕ) → cost_there d ks own q < cost_there d ks own p
-        → (least < cost_there d ks own q) ⊎ ((least ≡ cost_there d ks own q) × (h.place ≤ q))
-        → IsAhead s (cost_there d ks own p) p
-    further p q l done = grind (arith, ⊎_elim)
+sought s h few opens on lows none place cost = grind (arith, ⊎_elim)

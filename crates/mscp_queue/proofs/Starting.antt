@@ -67,17 +67,7 @@ oldest_affords budget unspent r (q ∷ qs) (suc k) o p l e = by (nat_le r.weight
         (lt-leb (q.passed + r.weight) budget over))
       where
         over_of : (a b : ℕ) → nat_le a b ≡ false → b < a
-        over_of a b f = by_cases (le_or a b)
-          where
-            le_or : (a b : ℕ) → (a ≤ b) ⊎ (b < a)
-            le_or a b = grind arith
-
-            true_false : true ≡ false → ⊥
-            true_false x = true≢false x
-
-            by_cases : (a ≤ b) ⊎ (b < a) → b < a
-            by_cases (inl l) = absurd (true_false (sym (le-leb a b l) ∙ f))
-            by_cases (inr l) = l
+        over_of a b f = grind (arith, true≢false, le-leb)
 oldest_affords budget unspent r rs place h5 h6 h7 h8 = grind arith
 
 -- ---- places found one by one

@@ -25,10 +25,7 @@ cylinder_within u block h = search (arith, le-div, div-mul-le_self)
 
 -- the range of a target is one of 64
 pub range_low : (units : List Shape) (command : Command) (a : Target) → a ≡ target_of units command → a.range < 64
-range_low units command a e = subst (λ (a : Target). a.range < 64) (sym e) (low _)
-  where
-    low : (n : ℕ) → min n 63 < 64
-    low n = omega arith
+range_low units command a e = grind arith
 
 -- ---- a target
 -- a target as it is found
