@@ -45,9 +45,6 @@ pub record Searches (name : Name) (rs : List Record) (bucket left : ℕ) : Type 
   pub of_bucket : (k : ℕ) → k < 64 → bit_at left k ≡ 1 → bit_at bucket k ≡ 1
   pub seen : (k : ℕ) → k < 64 → bit_at bucket k ≡ 1 → bit_at left k ≡ 0 → has_name name (get_or rs k no_record) ≡ false
 
-pub searches_first : (name : Name) (rs : List Record) (bucket : ℕ) → Searches name rs bucket bucket
-searches_first name rs bucket = grind arith
-
 pub searches_on : {name : Name} {rs : List Record} {bucket left : ℕ} (slot left' : ℕ) → Searches name rs bucket left
     → slot < 64 → IsSet false slot left left' → has_name name (get_or rs slot no_record) ≡ false
     → Searches name rs bucket left'

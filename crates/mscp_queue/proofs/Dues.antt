@@ -33,10 +33,6 @@ pub items_fallen : (n : ℕ) (ss : List Slot) → items (map (lowered_by n) ss) 
 items_fallen n [] = refl
 items_fallen n (s ∷ ss) = ap (λ rs. s.item ∷ rs) (items_fallen n ss)
 
-pub item_there : (ss : List Slot) (k : ℕ) → k < length ss → (slot_at ss k).item ≡ get_or (items ss) k no_record
-item_there (s ∷ ss) (suc k) l = item_there ss k (omega (arith, l))
-item_there ss k h2 = grind arith
-
 pub lowered_none : (n : ℕ) (ss : List Slot) → n ≡ 0 → ss ≡ map (lowered_by n) ss
 lowered_none n [] e = refl
 lowered_none n (s ∷ ss) e = search (arith, lowered_none n ss e)
@@ -64,10 +60,6 @@ module _ (budget : ℕ) where
   pub told_long : (a : ℕ) (ss : List Slot) → length (told budget a ss) ≡ length ss
   told_long a [] = refl
   told_long a (s ∷ ss) = ap suc (told_long (a + left_of s.item) ss)
-
-  pub told_bare : (a : ℕ) (ss : List Slot) → AreDue budget a ss → map bare (told budget a ss) ≡ items ss
-  told_bare a [] d = refl
-  told_bare a (s ∷ ss) d = grind (arith, told_bare (a + left_of s.item) ss d.1)
 
   pub told_item : (a : ℕ) (ss : List Slot) (k : ℕ) → AreDue budget a ss → k < length ss
       → (slot_at ss k).item ≡ bare (record_at (told budget a ss) k)

@@ -19,9 +19,6 @@ both_set a b k e = omega (arith, bit_at_and a b k, e, bit_at-lt a k, bit_at-lt b
 set_both : (a b k : ℕ) → bit_at a k ≡ 1 → bit_at b k ≡ 1 → bit_at (bit_and a b) k ≡ 1
 set_both a b k e f = omega (arith, bit_at_and a b k, e, f)
 
-off_one : (a k : ℕ) → bit_at a k ≢ 1 → bit_at a k ≡ 0
-off_one a k d = omega (arith, bit_at-lt a k, d)
-
 -- at first all are left
 pub narrows_first : {drive : ℕ} {m : Masks} (unit left : ℕ) → unit ≡ slice_index_or m.units drive 0
     → left ≡ bit_and unit m.sequential → Narrows drive m unit left unit

@@ -5,9 +5,6 @@ use Rattle.std.proofs.lemmas.Nat.{or_lt}
 use Rattle.std.proofs.lemmas.Nat.Bits.{bit_at_or}
 use Rattle.mscp_queue.proofs.Common.{IsAbove, IsBelow, IsIn, IsNearest, IsSooner, AreRanged, AreRanges, no_target, bit_at_and, bit_at-lt, range_at}
 
-pub of_bit : (b : Bool) → bit b ≡ 1 → b ≡ true
-of_bit h1 e = grind arith
-
 -- ---- a slot is in another range from now on
 pub ranged_set : {ranges masks : List ℕ} (slot range v w : ℕ) → AreRanged ranges masks → length ranges ≡ 64
     → length masks ≡ 64 → slot < 64 → range < 64

@@ -43,10 +43,6 @@ content s = record { item = s.item; target = s.target; due = s.due }
 abbrev pub contents : List Slot → List Content
 contents ss = map content ss
 
--- one more of them
-pub contents_more : (ss : List Slot) (n : ℕ) (c : Content) → contents (ss ++ filled n c ∷ []) ≡ contents ss ++ c ∷ []
-contents_more ss n c = map-append content ss (filled n c ∷ [])
-
 module _ (budget : ℕ) (us : List Shape) where
   items_of : (before : ℕ) (ss : List Slot) (rs : List Record) → contents ss ≡ contents_of budget us before rs
       → items ss ≡ map bare rs

@@ -107,9 +107,6 @@ shut_is budget unspent ds rs own place h o e l (inl spent) q p m =
     let some = (h.weighs q no_record m).0 in
     let over : nat_le r.weight unspent ≡ false = lt-leb r.weight unspent (omega (arith, some, spent)) in
     search (arith, oldest_affords budget unspent r rs q o (omega (arith, p)) (omega (arith, m)) e)
-  where
-    and_false : (b : Bool) → (b && false) ≡ false
-    and_false h1 = grind arith
 shut_is budget unspent ds rs own place h o e l (inr fence) q p m =
     let us = units_of ds in
     let r = record_at rs q in
