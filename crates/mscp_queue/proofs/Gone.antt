@@ -53,12 +53,7 @@ module _ (cs : List Command) (gone : ℕ) (l : gone < length cs) (few : length c
     where
       by : (q < gone) ⊎ (gone ≤ q) → command_at left q ≡ command_at cs (up gone q)
       by (inl b) = grind (arith, get_or_append_left, front_long, get_or-take, up_below)
-      by (inr b) = get_or-append_right (take gone cs) (drop (gone + 1) cs) gone q no_record.command front_long b
-          ∙ (get_or-drop (gone + 1) cs (q - gone) no_record.command
-          ∙ ap (command_at cs) (there ∙ sym (up_above gone q b)))
-        where
-          there : gone + 1 + (q - gone) ≡ q + 1
-          there = omega (arith, b)
+      by (inr b) = grind (arith, get_or-append_right, front_long, get_or-drop, up_above)
 
   up_inside : (q : ℕ) → q < length left → up gone q < length cs
   up_inside q k = grind (arith, lt_or, up_below, up_above, long)
@@ -196,13 +191,7 @@ module _ {ds : List Drive} {cs : List Command} (units : IsUnitList (units_of ds)
       → start_in g k ≡ cond moves (closed gone (start_in f k)) (start_in f k))
       → AreFavored ds' cs' g
   favored_served {ds'} {cs'} {f} {g} ends moves how h same drives left off starts = record {
-    each = λ k b on.
-        let inside : k < length ds = omega (arith, b, same) in
-        let was = known_was at k gone moves f g off (starts k inside) on in
-        subst (λ d. IsBest (IsClearOn cs' d.unit.number) (cost_at d cs') (start_in g k)) (sym (drives k was.0))
-        (subst (λ cs'. IsBest (IsClearOn cs' (drive_in ds k).unit.number) (cost_at (drive_in ds k) cs') (start_in g k))
-        (sym left) (by ends k inside was.0 (h.each k inside was.1)
-        (starts k inside was.0 ∙ is_closed k inside was.1)));
+    each = grind (arith, known_was, by, is_closed);
   }
     where
       last_stays : {s : Start} (ends : Bool) → s ≡ closed gone s → s ≡ cond ends (closed gone s) s

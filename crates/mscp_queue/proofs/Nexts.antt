@@ -109,10 +109,7 @@ pub serving_is_next : (picks : List Choice → ℕ → Type 0)
 serving_is_next picks budget ds rs begun place one l h still =
     record {
       servable = search (arith, not_unstarted);
-      same = λ name e.
-          let s = still name e in
-          subst (λ k. has_name name (record_at rs k) ≡ true)
-          (here s.0 s.1 (zero_or (record_at rs s.0).done)) s.2;
+      same = grind (arith, here, zero_or);
       picked = λ b e. absurd (omega (arith, not_unstarted (record_at rs place) h e));
     }
   where

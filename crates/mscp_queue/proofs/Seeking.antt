@@ -61,9 +61,7 @@ module _ {at : ℕ} {d : Drive} {order : List ℕ} {ks : List Kind} {own : List 
     on = h.of_left slot low on;
     cost = costs;
     small = small;
-    done = λ p l f off. ⊎_elim
-        (λ e. inr (costs ∙ ap (cost_there d ks own) (sym e), omega (arith, e)))
-        (λ e. by (cost_there d ks own p) p (h.done p l f e)) (done_or p l off);
+    done = grind (arith, ⊎_elim, by, done_or);
   }
     where
       by : (c p : ℕ) → (least < c) ⊎ ((least ≡ c) × (h.place ≤ p)) → (cost < c) ⊎ ((cost ≡ c) × (q ≤ p))
@@ -79,10 +77,7 @@ module _ {at : ℕ} {d : Drive} {order : List ℕ} {ks : List Kind} {own : List 
     on = h.on;
     cost = h.cost;
     small = h.small;
-    done = λ p l f off. ⊎_elim
-        (λ e. subst (λ c. (least < c) ⊎ ((least ≡ c) × (h.place ≤ p))) (costs ∙ ap (cost_there d ks own) (sym e))
-        (subst (λ r. (least < cost) ⊎ ((least ≡ cost) × (h.place ≤ r))) (sym e) worse))
-        (λ e. h.done p l f e) (done_or p l off);
+    done = grind (arith, ⊎_elim, done_or);
   }
 
 -- whether it comes first is told by its cost, and by who came earlier

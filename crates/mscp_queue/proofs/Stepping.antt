@@ -82,8 +82,4 @@ favored_step {place = place} {at = at} {rs = rs} {new = new} {ds = ds} {ds' = ds
         ++ (cond ends [] (advanced (record_at rs place) ∷ []) ++ drop (place + 1) rs)
         → (moves ≡ ends) ⊎ ((moves ≡ false) × (length (commands rs) ≡ place + 1))
     moves_or false e r = inl e
-    moves_or true e r = by (nat_lt place (length new)) refl
-      where
-        by : (b : Bool) → nat_lt place (length new) ≡ b
-            → (moves ≡ true) ⊎ ((moves ≡ false) × (length (commands rs) ≡ place + 1))
-        by h1 p = grind (arith, length-append, ltb-false, length-map, length-take-le, length-drop)
+    moves_or true e r = grind (arith, length-append, ltb-false, length-map, length-take-le, length-drop)
