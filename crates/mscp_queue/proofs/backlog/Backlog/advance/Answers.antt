@@ -10,11 +10,8 @@ overflow_sub-self c =
     let item = item_at c.self.invariant w c.requires.place in
     omega (arith, low, ap (λ (r : Record). left_of r) item, c.requires.unfinished)
 
-pub advance-requires-clause-place : goal.advance-requires-clause-place
-advance-requires-clause-place c = search (arith, place_in)
-
-pub advance-requires-clause-unfinished : goal.advance-requires-clause-unfinished
-advance-requires-clause-unfinished c = search (arith, item_at)
+pub advance-requires : goal.advance-requires
+advance-requires c = search (arith, place_in, item_at)
 
 pub set_back-self-inside-requires-clause-due : goal.set_back-self-inside-requires-clause-due
 set_back-self-inside-requires-clause-due c =

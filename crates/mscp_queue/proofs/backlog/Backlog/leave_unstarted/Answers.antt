@@ -8,11 +8,8 @@ overflow_sub-self c = search (arith, left_low, place_in)
 pub item-requires : goal.item-requires
 item-requires c = search (arith, place_in)
 
-pub lower_behind-requires-clause-place : goal.lower_behind-requires-clause-place
-lower_behind-requires-clause-place c = search (arith, place_in)
-
-pub lower_behind-requires-clause-enough : goal.lower_behind-requires-clause-enough
-lower_behind-requires-clause-enough c = search (arith, behind_enough_at, place_in, item_at)
+pub lower_behind-requires : goal.lower_behind-requires
+lower_behind-requires c = search (arith, place_in, behind_enough_at, item_at)
 
 pub remove-requires : goal.remove-requires
 remove-requires c = still_there c.self.inside.slots _ c.args.place c.from-left.result

@@ -2,11 +2,8 @@ use Rattle.mscp_queue.proofs.Basics.{ap, ◌≤◌, ◌∙◌, arith, sum_by, ta
 use Rattle.mscp_queue.proofs.Restored.{contents, contents_all, targets_are, timed, told_are}
 use Rattle.mscp_queue.proofs.backlog.restoring.fill.Goals as goal
 
-pub push-requires-clause-drive : goal.push-requires-clause-drive
-push-requires-clause-drive c = search (arith, place_inside)
-
-pub push-requires-clause-range : goal.push-requires-clause-range
-push-requires-clause-range c = search (arith, range_low)
+pub push-requires : goal.push-requires
+push-requires c = search (arith, place_inside, range_low)
 
 pub returns-clause-timed : goal.returns-clause-timed
 returns-clause-timed c =

@@ -24,8 +24,5 @@ invariant_of-self c = record {
       c.come-2.ensures c.push.ensures.items;
 }
 
-pub returns-clause-lowest : goal.returns-clause-lowest
-returns-clause-lowest c = search (arith, lowest_untaken)
-
-pub returns-clause-after : goal.returns-clause-after
-returns-clause-after c = search (arith, shown_pushed)
+pub returns : goal.returns
+returns c = search (arith, lowest_untaken, shown_pushed)
