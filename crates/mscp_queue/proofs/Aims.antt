@@ -1,5 +1,5 @@
 -- The best starts of the drives, one after the other, are the best of all.
-use Rattle.mscp_queue.proofs.Basics.{◌≡◌, ◌≢◌, ◌⊎◌, inl, inr, ⊎_elim, ℕ, ◌+◌, ◌<◌, ◌≤◌, Bool, true, cond, List, length, get_or, refl, ap, sym, ◌∙◌, subst, arith, get_or_default, length-map, Command, Drive, IsUnitList, CanBeShown, is_known, units_of, drive_place, fresh_drive, known_at, place_is, pairs_rise, same_or, Record, no_record, Target}
+use Rattle.mscp_queue.proofs.Basics.{◌≡◌, ◌≢◌, ◌⊎◌, ⊎_elim, ℕ, ◌+◌, ◌<◌, Bool, true, cond, List, length, get_or, refl, ap, sym, ◌∙◌, arith, get_or_default, length-map, Command, Drive, IsUnitList, CanBeShown, is_known, units_of, drive_place, fresh_drive, known_at, place_is, pairs_rise, same_or, Record, no_record, Target}
 use Rattle.mscp_queue.proofs.Common.{IsBest, IsClear, IsClearOn, IsFirstOf, command_at, commands, comes_before, cost_at, cost_of, drive_in, one_block}
 use Rattle.mscp_queue.specs.Starts.{Start}
 use Rattle.mscp_queue.proofs.Best.{best_none, best_of_two, best_same}

@@ -1,6 +1,6 @@
 -- The best starts once a command came, behind all that wait.
 use Rattle.mscp_queue.proofs.Basics.{◌≡◌, ◌≢◌, ◌⊎◌, inl, inr, ⊎_elim, ℕ, ◌+◌, ◌<◌, ◌≤◌, true, false, List, take, length, get_or, refl, ap, sym, ◌∙◌, subst, arith, ext_get_or, false≢true, get_or-take, get_or_default, length-map, length-take-le, Command, Drive, Target, IsUnitList, CanBeShown, is_known, units_of, drive_place, fresh_drive, known_at, place_is, pairs_rise, same_or, Record, no_record, record_at, drive_at, order_cost}
-use Rattle.mscp_queue.proofs.Common.{AreFavored, IsBest, IsClearOn, IsLearned, bars, comes_before, cond, command_at, commands, cost_at, drive_in, is_clear, knows, list_all, nat_eq, not, one_block, start_in}
+use Rattle.mscp_queue.proofs.Common.{AreFavored, IsBest, IsClearOn, IsLearned, comes_before, cond, command_at, commands, cost_at, drive_in, is_clear, knows, nat_eq, not, one_block, start_in}
 use Rattle.mscp_queue.specs.declared.favorites.Favorites.{Favorites}
 use Rattle.mscp_queue.specs.Starts.{Start}
 use Rattle.mscp_queue.proofs.Best.{best_of_two, best_same}

@@ -1,5 +1,5 @@
 -- What a step makes of the waiting commands, their dues, and what is left of all.
-use Rattle.mscp_queue.proofs.Basics.{◌≡◌, ◌<◌, ◌≤◌, ◌+◌, ◌-◌, ℕ, suc, Bool, true, false, cond, List, ◌∷◌, ◌++◌, map, take, drop, set, length, sym, subst, ap, ◌∙◌, refl, arith, All, nat_eq, nat_lt, sum_by, AllByRecursion, eqb-false, eqb-true, lt-ltb, get_or_at, length-map, length-take-le, map-append, set_at, All-from_recursion, recursion_from_All, sum_by-append, sum_by-cons, Slot, AreDue, AreTimed, Waiters, Record, advanced, is_unstarted, left_if_serving, left_of, no_record, passed_by, record_at, step_charge, targets, items, lowered_by, slot_at, told, with_item, due_stepped, fallen, idle_left, items_append, items_fallen, late, serving_left, stepped, told_back, told_front, told_item, told_stepped, told_within, AreIdle, passed_idle}
+use Rattle.mscp_queue.proofs.Basics.{◌≡◌, ◌<◌, ◌≤◌, ◌+◌, ◌-◌, ℕ, suc, true, List, ◌∷◌, ◌++◌, map, take, drop, set, length, sym, subst, ap, ◌∙◌, refl, arith, All, nat_eq, sum_by, AllByRecursion, eqb-false, eqb-true, lt-ltb, get_or_at, length-map, length-take-le, map-append, set_at, All-from_recursion, recursion_from_All, sum_by-append, sum_by-cons, Slot, AreDue, AreTimed, Waiters, Record, advanced, is_unstarted, left_if_serving, left_of, no_record, passed_by, record_at, step_charge, targets, items, lowered_by, slot_at, told, with_item, due_stepped, fallen, idle_left, items_append, items_fallen, late, serving_left, stepped, told_back, told_front, told_item, told_stepped, told_within, AreIdle, passed_idle}
 use Rattle.mscp_queue.proofs.Placed.{at_place, map_map}
 use Rattle.mscp_queue.proofs.Dues.{MayPass, at_same}
 use Rattle.mscp_queue.proofs.Backlogs.{cut}

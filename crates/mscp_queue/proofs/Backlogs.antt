@@ -1,5 +1,5 @@
 -- What a leave makes of the waiting commands, their dues, and what is left of all.
-use Rattle.mscp_queue.proofs.Basics.{Name, has_name, list_any, IfSome, Option, Some, None, ◌||◌, cond, left_if_serving, passes, told_most, unspent_tells, eqb-false, eqb-true, figure_at, filter, is_unstarted, lt-ltb, nat_eq, nat_lt, tells, ◌≡◌, ◌<◌, ◌≤◌, ◌+◌, ◌-◌, ℕ, suc, true, false, not, List, [], ◌∷◌, ◌++◌, map, take, drop, get_or, length, append_assoc, sym, subst, ap, ◌∙◌, refl, arith, All, sum_by, AllByRecursion, drop-map, get_or-map, length-append, length-take-le, map-append, take-map, take_more, All-from_recursion, recursion_from_All, sum_by-append, sum_by-cons, Target, Slot, AreDue, AreTimed, Waiters, Record, bare, record_at, told, is_in_service, left_of, no_target, targets, is_unfenced, is_unfenced_at, items, kind_of, kinds_of, lowered_by, no_slot, slot_at, abort_enough, due_aborted, due_ended, end_enough, items_append, items_fallen, AreIdle, all_shown, told_aborted, told_back, told_ended, told_front, told_item, told_left, told_long}
+use Rattle.mscp_queue.proofs.Basics.{Name, has_name, list_any, IfSome, Option, ◌||◌, left_if_serving, passes, told_most, unspent_tells, eqb-false, eqb-true, figure_at, is_unstarted, lt-ltb, tells, ◌≡◌, ◌<◌, ◌≤◌, ◌+◌, ◌-◌, ℕ, suc, true, false, not, List, [], ◌∷◌, ◌++◌, map, take, drop, get_or, length, append_assoc, sym, subst, ap, ◌∙◌, refl, arith, All, sum_by, AllByRecursion, drop-map, get_or-map, length-append, length-take-le, map-append, take-map, take_more, All-from_recursion, recursion_from_All, sum_by-append, sum_by-cons, Target, Slot, AreDue, AreTimed, Waiters, Record, bare, record_at, told, is_in_service, left_of, no_target, targets, is_unfenced, is_unfenced_at, items, kind_of, kinds_of, lowered_by, no_slot, slot_at, abort_enough, due_aborted, due_ended, end_enough, items_append, items_fallen, AreIdle, all_shown, told_aborted, told_back, told_ended, told_front, told_item, told_left, told_long}
 use Rattle.mscp_queue.proofs.Placed.{at_place, cut_at, map_map}
 
 pub cut : (ss : List Slot) (place : ℕ) → place < length ss

@@ -1,6 +1,6 @@
 -- Why what was begun stays lawful: what comes later and what is aborted takes nothing from an earlier command's
 -- freedom, and passes rise at starts alone.
-use Rattle.mscp_queue.proofs.Common.{◌≡◌, ℕ, ◌+◌, Bool, true, false, cond, not, ◌&&◌, List, [], ◌∷◌, ◌++◌, take, drop, length, refl, ap, sym, ◌∙◌, subst, append_assoc, arith, All, filter, Option, Some, AllByRecursion, list_all, range_with_len, and_parts, false≢true, length-append, All-from_recursion, filter-append, recursion_from_All, Drive, Choice, IsStillServable, Name, Record, has_name, is_unstarted, name_of, no_record, record_at, without, same_name, IsServable, begun_without, IsPick, is_open, is_open_at, open_places}
+use Rattle.mscp_queue.proofs.Common.{◌≡◌, ℕ, ◌+◌, Bool, true, false, cond, not, ◌&&◌, List, [], ◌∷◌, ◌++◌, take, drop, length, refl, ap, ◌∙◌, subst, append_assoc, arith, All, filter, Option, Some, AllByRecursion, list_all, range_with_len, and_parts, false≢true, length-append, All-from_recursion, filter-append, recursion_from_All, Drive, Choice, IsStillServable, Name, Record, has_name, is_unstarted, name_of, no_record, record_at, without, same_name, IsServable, begun_without, IsPick, is_open, is_open_at, open_places}
 use Rattle.mscp_queue.proofs.Named.{same_is}
 use Rattle.mscp_queue.proofs.Lists.{every_append, every_filter, every_from, every_kept, every_weaker}
 use Rattle.mscp_queue.proofs.Placed.{at_place, cut_at}

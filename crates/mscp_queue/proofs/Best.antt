@@ -1,5 +1,5 @@
 -- The first of the cheapest of some starts.
-use Rattle.mscp_queue.proofs.Common.{◌≡◌, ◌⊎◌, inl, inr, ⊎_elim, ℕ, ◌<◌, ◌≤◌, Bool, true, false, cond, sym, ◌∙◌, subst, arith, eqb-true, eqb-false, ltb-true, ltb-false, IsAhead, IsBest, comes_before}
+use Rattle.mscp_queue.proofs.Common.{◌≡◌, ◌⊎◌, inl, ⊎_elim, ℕ, ◌≤◌, Bool, true, false, cond, arith, eqb-true, eqb-false, ltb-true, ltb-false, IsAhead, IsBest, comes_before}
 use Rattle.mscp_queue.specs.Starts.{Start}
 
 -- the same places at the same costs

@@ -1,6 +1,6 @@
 -- The buckets stay those of the waiting commands, and a command is found by its number.
-use Rattle.mscp_queue.proofs.Basics.{◌≡◌, ◌≢◌, ◌<◌, ◌+◌, ◌⊎◌, ⊎_elim, inl, inr, ℕ, suc, Bool, true, false, cond, ◌&&◌, ◌||◌, nat_eq, List, [], ◌∷◌, ◌++◌, set, take, drop, remove, get_or, length, sym, subst, ap, ◌∙◌, refl, arith, bit_at, eq-eqb, get_or-set_other, get_or-set_same, list_any, one_bit, same_or, true≢false, Masks, AreSlots, Record, and_parts, ne_eqb, slot_low, has_name, AreApart, IfSome, Option, Some, None, is_some, name_of, names, no_record, position, position_any, record_at, Slot, shown, IsNumber, cut_order, same_is}
-use Rattle.mscp_queue.proofs.Common.{and_right, IfNone, AreBuckets, AreSlotted, IsPut, IsSet, Name, Target, bit, bucket_at, bucket_of, has, items}
+use Rattle.mscp_queue.proofs.Basics.{◌≡◌, ◌<◌, ◌+◌, ⊎_elim, ℕ, suc, Bool, true, false, ◌||◌, nat_eq, List, [], ◌∷◌, ◌++◌, set, take, drop, remove, get_or, length, sym, subst, ap, ◌∙◌, refl, arith, bit_at, eq-eqb, get_or-set_other, get_or-set_same, list_any, one_bit, same_or, true≢false, Masks, AreSlots, Record, and_parts, ne_eqb, slot_low, has_name, AreApart, IfSome, Option, Some, None, is_some, name_of, names, no_record, position, position_any, record_at, Slot, shown, IsNumber, cut_order, same_is}
+use Rattle.mscp_queue.proofs.Common.{and_right, IfNone, AreBuckets, AreSlotted, IsPut, IsSet, Name, Target, bucket_at, bucket_of, has, items}
 use Rattle.mscp_queue.proofs.Masked.{classes_pushed}
 use Rattle.mscp_queue.proofs.Departed.{classes_without, order_left}
 use Rattle.mscp_queue.proofs.Nexts.{name_found}

@@ -1,5 +1,5 @@
 -- One mask of many is cleared.
-use Rattle.mscp_queue.proofs.Common.{◌≡◌, ◌≢◌, ◌<◌, ◌≤◌, ◌+◌, ◌/◌, ◌^◌, ◌⊎◌, inl, inr, ℕ, List, length, get_or, set, false, subst, sym, ◌∙◌, arith, length-set, bit_at, bit_at_above, get_or-set_same, get_or-set_other, IsSet}
+use Rattle.mscp_queue.proofs.Common.{◌≡◌, ◌≢◌, ◌<◌, ◌≤◌, ◌+◌, ◌/◌, ◌^◌, ◌⊎◌, ℕ, List, length, get_or, set, false, arith, length-set, bit_at, bit_at_above, get_or-set_same, get_or-set_other, IsSet}
 use Rattle.std.proofs.Math.Nat.{div-lt_iff_lt-mul}
 use Rattle.std.proofs.lemmas.Nat.{pow_pos}
 

@@ -1,5 +1,5 @@
 -- How many bits of a mask are set: as many as there are slots in it.
-use Rattle.mscp_queue.proofs.Basics.{◌≡◌, ◌≢◌, ◌<◌, ◌≤◌, ◌+◌, ◌^◌, ◌%◌, ◌/◌, ◌⊎◌, inl, inr, ℕ, zero, suc, true, false, ◌||◌, nat_eq, List, [], ◌∷◌, count_ones, length, get_or, take, drop, sym, subst, ap, ◌∙◌, refl, arith, bit_at, eq-eqb, ne_eqb, length-take-le, bit_at-suc, bit_at_lowest, slice_index_or, Masks, AreEarlier, AreMasks, AreSlots, IsMaskOf, Kind, bit, has, earlier_at, same_or, slot_has, IsNumber, cut_order}
+use Rattle.mscp_queue.proofs.Basics.{◌≡◌, ◌≢◌, ◌<◌, ◌≤◌, ◌+◌, ◌^◌, ◌%◌, ◌/◌, ◌⊎◌, inl, inr, ℕ, zero, suc, true, ◌||◌, nat_eq, List, [], ◌∷◌, count_ones, length, get_or, take, drop, sym, subst, ap, ◌∙◌, refl, arith, bit_at, eq-eqb, ne_eqb, length-take-le, bit_at-suc, bit_at_lowest, slice_index_or, Masks, AreEarlier, AreMasks, AreSlots, IsMaskOf, Kind, bit, has, earlier_at, same_or, slot_has, IsNumber, cut_order}
 use lib.Count.{ones_step, ones-le}
 use native.Mathlib.Nat.{pow-suc}
 use Rattle.mscp_queue.proofs.Fallen.{slots_front}

@@ -1,5 +1,5 @@
 -- The masks stay those of the slots where a command leaves: at an end or an abort.
-use Rattle.mscp_queue.proofs.Common.{◌≡◌, ◌≢◌, ◌<◌, ◌⊎◌, inl, inr, ℕ, Bool, true, false, ◌&&◌, ◌||◌, nat_eq, List, [], ◌∷◌, ◌++◌, sym, subst, ap, ◌∙◌, refl, arith, eqb-true, slice_index_or, append-nil, Masks, AreClasses, AreEarlier, AreMasks, AreSlots, HasLeft, IsMaskOf, IsSet, Kind, bit, has}
+use Rattle.mscp_queue.proofs.Common.{◌≡◌, ◌≢◌, ◌<◌, ◌⊎◌, ℕ, Bool, true, false, ◌||◌, nat_eq, List, [], ◌∷◌, ◌++◌, sym, subst, ap, ◌∙◌, refl, arith, eqb-true, slice_index_or, append-nil, Masks, AreClasses, AreEarlier, AreMasks, AreSlots, HasLeft, IsMaskOf, IsSet, Kind, bit, has}
 use Rattle.mscp_queue.proofs.Masked.{eq_false, eq_true, has_gone, has_kept, if_not, not_behind, not_here, off, same_or, set_mask, unit_set, without, without_append}
 
 slots_left : (order : List ℕ) (n : ℕ) → AreSlots order → AreSlots (without n order)

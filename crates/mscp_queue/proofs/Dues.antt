@@ -1,5 +1,5 @@
 -- Each event keeps the dues, and makes of what is told of the slots what it should.
-use Rattle.mscp_queue.proofs.Common.{◌≡◌, ◌<◌, ◌≤◌, ◌+◌, ◌-◌, ℕ, zero, suc, true, false, cond, List, [], ◌∷◌, ◌++◌, map, take, drop, get_or, length, sym, subst, ap, ◌∙◌, refl, arith, filter, nat_lt, sum_by, AllByRecursion, lt-ltb, take_more, sum_by-append, sum_by-cons, Slot, AreDue, IsDue, bare, figure_at, last_end, left_in_service, told, Record, advanced, is_in_service, left_if_serving, left_of, no_record, passed_by, record_at, items, lowered_by, slot_at}
+use Rattle.mscp_queue.proofs.Common.{◌≡◌, ◌<◌, ◌≤◌, ◌+◌, ◌-◌, ℕ, zero, suc, true, false, cond, List, [], ◌∷◌, ◌++◌, map, take, drop, length, sym, subst, ap, ◌∙◌, refl, arith, filter, nat_lt, sum_by, AllByRecursion, lt-ltb, take_more, sum_by-append, sum_by-cons, Slot, AreDue, IsDue, bare, figure_at, last_end, left_in_service, told, Record, advanced, is_in_service, left_if_serving, left_of, no_record, passed_by, record_at, items, lowered_by, slot_at}
 use Rattle.mscp_queue.proofs.Held.{AreIdle}
 
 idle_of : (r : Record) → r.done ≡ 0 → is_in_service r ≡ false

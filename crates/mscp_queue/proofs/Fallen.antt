@@ -1,5 +1,5 @@
 -- What slots show once dues fell: of all, or of those behind a place.
-use Rattle.mscp_queue.proofs.Basics.{◌≡◌, ◌≢◌, ◌<◌, ◌≤◌, ◌+◌, ◌-◌, ◌⊎◌, inl, inr, ℕ, Bool, true, false, cond, ◌&&◌, ◌||◌, min, nat_eq, List, [], ◌∷◌, ◌++◌, map, take, drop, get_or, length, append_assoc, sym, subst, ap, ◌∙◌, refl, arith, All, if◌then◌else◌, bit_at, AllByRecursion, eq-eqb, eqb-true, ne_eqb, drop-map, map-append, map-id, take-map, take_more, All-from_recursion, recursion_from_All, Target, Masks, Slot, lowered, AreMasks, AreSlots, IsBehind, IsMaskOf, Kind, bit, has, Record, no_record, no_target, AreKept, held, kind_at, lowered_by, shown, slot_at, earlier_at, once_in, one_bit, same_or, IsNumber, cut_order, slot_is}
+use Rattle.mscp_queue.proofs.Basics.{◌≡◌, ◌≢◌, ◌<◌, ◌≤◌, ◌+◌, ◌-◌, ◌⊎◌, inl, inr, ℕ, Bool, true, false, cond, ◌&&◌, ◌||◌, min, nat_eq, List, [], ◌∷◌, ◌++◌, map, take, drop, get_or, length, append_assoc, sym, subst, ap, ◌∙◌, refl, arith, All, bit_at, AllByRecursion, eq-eqb, eqb-true, ne_eqb, drop-map, map-append, map-id, take-map, take_more, All-from_recursion, recursion_from_All, Target, Masks, Slot, lowered, AreMasks, AreSlots, IsBehind, IsMaskOf, Kind, bit, has, Record, no_target, AreKept, held, kind_at, lowered_by, shown, slot_at, earlier_at, once_in, one_bit, same_or, IsNumber, cut_order, slot_is}
 
 -- what a lowered due leaves of a slot
 module _ (rs : List Record) (own : List Target)

@@ -1,11 +1,10 @@
 -- The best starts that a queue keeps are those that the slots tell.
-use Rattle.mscp_queue.proofs.Basics.{◌≡◌, ⊎_elim, ℕ, ◌<◌, ◌≤◌, Bool, true, false, not, ◌||◌, List, map, take, get_or, length, refl, ap, sym, ◌∙◌, subst, arith, list_all, nat_eq, false≢true, get_or-map, get_or_default, length-map, take-map, all_shown, Command, Order, cylinder_of, first_block, is_move, is_sequential, order_cost, Drive, Kind, Record, Target, CanBeShown, IsUnitList, is_known, units_of, no_record, no_target, record_at, target_of, unit_place, AreOnDrive, same_or, drive_of, fresh_drive, known_at, place_is, pairs_rise, place_same, cylinder_within, is_free, leads_to, LeadsTo, kinds_of, no_kind, own_target}
-use Rattle.mscp_queue.proofs.Common.{AreFavored, IsBest, IsClearOn, IsLearned, IsOpenOn, KnowsNothing, bars, command_at, commands, cost_at, cost_on, cost_there, drive_in, is_clear, kind_there, last_cylinder, one_block, range_of, start_in}
+use Rattle.mscp_queue.proofs.Basics.{◌≡◌, ⊎_elim, ℕ, ◌<◌, ◌≤◌, Bool, true, false, not, ◌||◌, List, map, take, get_or, length, refl, ap, sym, ◌∙◌, subst, arith, nat_eq, false≢true, get_or-map, get_or_default, length-map, take-map, all_shown, Command, Order, cylinder_of, first_block, is_move, is_sequential, order_cost, Drive, Kind, Record, Target, CanBeShown, IsUnitList, is_known, units_of, no_record, no_target, record_at, unit_place, AreOnDrive, same_or, drive_of, known_at, place_is, pairs_rise, place_same, cylinder_within, is_free, leads_to, LeadsTo, kinds_of, no_kind, own_target}
+use Rattle.mscp_queue.proofs.Common.{AreFavored, IsBest, IsClearOn, IsLearned, IsOpenOn, KnowsNothing, command_at, commands, cost_at, cost_on, cost_there, drive_in, is_clear, kind_there, last_cylinder, range_of, start_in}
 use Rattle.mscp_queue.proofs.Turns.{found_unit}
 use Rattle.mscp_queue.specs.Starts.{Start}
 use Rattle.mscp_queue.specs.declared.favorites.Favorites.{Favorites}
 use Rattle.std.proofs.Math.Nat.{zero-div}
-use Rattle.mscp_drive.specs.Shape.{cylinder_blocks}
 use Rattle.mscp_queue.proofs.Best.{best_same}
 use Rattle.mscp_queue.proofs.Starting.{free_is, kind_in, kinds_targeted}
 

@@ -1,5 +1,5 @@
 -- Which slots of a unit are in front of its sequential commands.
-use Rattle.mscp_queue.proofs.Common.{◌≡◌, ◌≢◌, ⊎_elim, ℕ, ◌<◌, ◌≤◌, ◌-◌, ◌^◌, true, false, bit_and, min, cond, refl, ap, sym, ◌∙◌, subst, arith, slice_index_or, bit_at, w64, trailing_zeros, bit_at_and, bit_at-lt, bit_at-zero, bit_at-trailing_zeros, eq-eqb, ne_eqb, Masks, IsFence, IsFront, IsInFront, IsNarrowed, IsSet}
+use Rattle.mscp_queue.proofs.Common.{◌≡◌, ◌≢◌, ⊎_elim, ℕ, ◌<◌, ◌≤◌, ◌-◌, ◌^◌, true, false, bit_and, min, cond, refl, ap, sym, ◌∙◌, arith, slice_index_or, bit_at, w64, trailing_zeros, bit_at_and, bit_at-lt, bit_at-zero, bit_at-trailing_zeros, eq-eqb, ne_eqb, Masks, IsFence, IsFront, IsNarrowed, IsSet}
 use Rattle.mscp_queue.proofs.Masked.{same_or}
 
 -- of the sequential commands of a unit all but those left were looked at

@@ -1,5 +1,5 @@
 -- The best starts once a drive served a command, or one was aborted.
-use Rattle.mscp_queue.proofs.Basics.{◌≡◌, ◌≢◌, ◌⊎◌, inl, inr, ⊎_elim, ℕ, ◌+◌, ◌-◌, ◌<◌, ◌≤◌, Bool, true, false, false≢true, not, cond, if◌then◌else◌, ◌&&◌, ◌||◌, ◌++◌, List, take, drop, length, refl, ap, sym, ◌∙◌, subst, arith, nat_eq, nat_lt, eq-eqb, ltb-true, ne_eqb, get_or-drop, get_or-take, get_or_append_left, get_or_default, length-take-le, length-append, length-drop, Command, Drive, IsUnitList, units_of, is_sequential, no_record, drive_place, fresh_drive, pairs_rise, place_is, same_or, order_cost}
+use Rattle.mscp_queue.proofs.Basics.{◌≡◌, ◌≢◌, ◌⊎◌, inl, inr, ⊎_elim, ℕ, ◌+◌, ◌-◌, ◌<◌, ◌≤◌, Bool, true, false, false≢true, not, cond, if◌then◌else◌, ◌&&◌, ◌++◌, List, take, drop, length, refl, ap, sym, ◌∙◌, subst, arith, nat_lt, eq-eqb, ltb-true, ne_eqb, get_or-drop, get_or-take, get_or_append_left, get_or_default, length-take-le, length-append, length-drop, Command, Drive, IsUnitList, units_of, no_record, drive_place, fresh_drive, pairs_rise, place_is, same_or, order_cost}
 use Rattle.mscp_queue.proofs.Common.{AreFavored, IsAhead, IsBest, IsClearOn, bars, command_at, cost_at, drive_in, lt-ltb, ltb-false, le-ltb, get_or-append_right, knows, closed, one_block, place_closed, start_in}
 use Rattle.mscp_queue.specs.declared.favorites.Favorites.{Favorites}
 use Rattle.mscp_queue.specs.Starts.{Start}

@@ -1,5 +1,5 @@
 -- Eight of sixty-four numbers, and what a write to them leaves.
-use Rattle.mscp_queue.proofs.Common.{◌≡◌, ◌⊎◌, inl, inr, ℕ, ◌+◌, ◌-◌, ◌/◌, ◌%◌, ◌^◌, ◌<◌, ◌≤◌, List, ◌++◌, length, get_or, cond, nat_eq, take, drop, sym, ap, subst, ◌∙◌, arith, bit_at, chunk, put_chunk, shr-shr, bit_at-zero, get_or-take, get_or-drop, get_or_append_left, get_or-append_right, length-take-le, length-append, length-drop, put_chunk_whole, get_or-chunk, HasLanes, lowered}
+use Rattle.mscp_queue.proofs.Common.{◌≡◌, ◌⊎◌, inl, inr, ℕ, ◌+◌, ◌-◌, ◌/◌, ◌%◌, ◌^◌, ◌<◌, ◌≤◌, List, length, get_or, cond, nat_eq, take, drop, sym, ap, subst, ◌∙◌, arith, bit_at, chunk, put_chunk, shr-shr, bit_at-zero, get_or-take, get_or-drop, get_or_append_left, get_or-append_right, length-take-le, length-append, length-drop, put_chunk_whole, get_or-chunk, HasLanes, lowered}
 use borrow.Rule.Slice.PartMut.{mid_of, put_mid}
 
 -- a store over the whole of eight numbers

@@ -1,7 +1,7 @@
 -- A command that leaves, as it ends or is aborted, keeps the dues of the others.
-use Rattle.mscp_queue.proofs.Common.{◌≡◌, ◌≤◌, ◌+◌, ◌-◌, ℕ, suc, true, false, List, [], ◌∷◌, ◌++◌, map, take, drop, length, sym, subst, ap, ◌∙◌, arith, sum_by, AllByRecursion, Slot, AreDue, IsDue, last_end, left_in_service, told, Record, is_in_service, left_if_serving, left_of, items, lowered_by}
+use Rattle.mscp_queue.proofs.Common.{◌≡◌, ◌≤◌, ◌+◌, ℕ, suc, true, false, List, [], ◌∷◌, ◌++◌, map, take, drop, length, arith, sum_by, AllByRecursion, Slot, AreDue, left_in_service, told, Record, is_in_service, left_if_serving, left_of, items, lowered_by}
 use Rattle.mscp_queue.proofs.Held.{AreIdle}
-use Rattle.mscp_queue.proofs.Dues.{fallen, fallen_enough, idle_left, idle_serving, items_append, items_fallen, serving_cons, serving_left, serving_mid, with_passed}
+use Rattle.mscp_queue.proofs.Dues.{fallen, fallen_enough, idle_left, idle_serving, items_append, items_fallen, serving_cons, serving_left, serving_mid}
 
 serving_without : (front : List Record) (x : Record) (back : List Record) → is_in_service x ≡ false
     → sum_by left_if_serving (front ++ x ∷ back) ≡ sum_by left_if_serving (front ++ back)

@@ -1,5 +1,5 @@
 -- A list that a function changes element by element, in place.
-use Rattle.mscp_queue.proofs.Common.{◌≡◌, ℕ, suc, ◌≤◌, ◌+◌, ◌<◌, List, [], ◌∷◌, ◌++◌, map, length, take, drop, set, get_or, append_assoc, ap, sym, ◌∙◌, arith, remove, refill, drop_at, length-append, length-map, length-take-le, take_at, drop_more, get_or_at, map-append, set_at, take_more}
+use Rattle.mscp_queue.proofs.Common.{◌≡◌, ℕ, suc, ◌+◌, ◌<◌, List, [], ◌∷◌, ◌++◌, map, length, take, drop, set, get_or, append_assoc, ap, sym, ◌∙◌, arith, remove, refill, drop_at, length-append, length-map, length-take-le, take_at, drop_more, get_or_at, map-append, set_at, take_more}
 
 -- One more element is what a function makes of it.
 pub mapped_more : {X : Type 0} (f : X → X) (xs ys : List X) (i : ℕ) (item x : X)

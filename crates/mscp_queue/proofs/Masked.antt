@@ -1,5 +1,5 @@
 -- The masks stay those of the slots: where a command comes, leaves, or has a step.
-use Rattle.mscp_queue.proofs.Common.{◌≡◌, ◌≢◌, ◌<◌, ◌≤◌, ◌+◌, zero, suc, length, get_or, ◌⊎◌, inl, inr, ℕ, Bool, true, false, cond, ◌&&◌, ◌||◌, nat_eq, List, [], ◌∷◌, ◌++◌, sym, subst, ap, ◌∙◌, refl, arith, slice_index_or, bit_at, bit_at_ones, eq-eqb, eqb-false, eqb-true, ne_eqb, append_assoc, append-nil, Masks, AreClasses, AreEarlier, AreMasks, AreSlots, HasCome, IsMaskOf, IsSet, Kind, bit, has}
+use Rattle.mscp_queue.proofs.Common.{◌≡◌, ◌≢◌, ◌<◌, ◌≤◌, ◌+◌, zero, suc, length, get_or, ◌⊎◌, ℕ, Bool, true, false, cond, ◌&&◌, ◌||◌, nat_eq, List, [], ◌∷◌, ◌++◌, sym, subst, ap, ◌∙◌, refl, arith, slice_index_or, bit_at, bit_at_ones, eq-eqb, eqb-false, eqb-true, ne_eqb, append_assoc, append-nil, Masks, AreClasses, AreEarlier, AreMasks, AreSlots, HasCome, IsMaskOf, IsSet, Kind, bit, has}
 
 -- the slots without one
 abbrev pub if_not : Bool → ℕ → List ℕ → List ℕ

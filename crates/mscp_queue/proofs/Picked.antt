@@ -1,5 +1,5 @@
 -- Where each may pass those in front of it, the first of the cheapest starts is what the sweep picks of the view.
-use Rattle.mscp_queue.proofs.Basics.{◌≡◌, ◌⊎◌, inl, inr, ℕ, ◌+◌, ◌<◌, ◌≤◌, Bool, true, cond, ◌&&◌, List, [], ◌∷◌, ◌++◌, map, take, drop, get_or, length, refl, ap, sym, ◌∙◌, subst, arith, filter, filter-append, AllByRecursion, All-from_recursion, range_with_len, get_or_at, length-append, length-map, length-range_with_len, map-append, map_map, cut_at, every_weaker, every_parts, range_below, Choice, Command, Drive, Record, record_at, drive_at, choice_of, is_affordable, is_free, is_open_at, open_places, order_cost}
+use Rattle.mscp_queue.proofs.Basics.{◌≡◌, ℕ, ◌+◌, ◌<◌, ◌≤◌, Bool, true, cond, ◌&&◌, List, [], ◌∷◌, ◌++◌, map, take, drop, get_or, length, refl, ap, sym, ◌∙◌, subst, arith, filter, filter-append, AllByRecursion, All-from_recursion, range_with_len, get_or_at, length-append, length-map, length-range_with_len, map-append, map_map, cut_at, every_weaker, every_parts, range_below, Command, Drive, Record, record_at, drive_at, choice_of, is_open_at, open_places}
 use Rattle.mscp_queue.proofs.Lists.{every_both, every_filter, pairs_filter, pairs_middle, pairs_range}
 use Rattle.mscp_queue.proofs.Common.{get_or-range_with_len, take_at, Pairs, IsClear, IsFirstOf, IsSweep, MayAllPass, commands, cost_of, costs, is_clear, view_of}
 use Rattle.mscp_queue.proofs.Favored.{clear_is, command_is}

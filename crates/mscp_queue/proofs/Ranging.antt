@@ -1,9 +1,9 @@
 -- The ranges of slots, and the nearest of them.
-use Rattle.mscp_queue.proofs.Basics.{◌≡◌, ◌≢◌, ◌⊎◌, inl, inr, ⊎_elim, ℕ, zero, suc, ◌<◌, ◌≤◌, ◌^◌, Bool, true, false, cond, min, nat_eq, List, set, get_or, length, refl, ap, sym, ◌∙◌, subst, arith, bit, bit_and, bit_at, bit_at-zero, bit_at-trailing_zeros, w64, trailing_zeros, eq-eqb, ne_eqb, get_or-set_other, get_or-set_same, length-set, IsSet, Target, same_or, eqb-true}
-use Rattle.std.specs.Prelude.{bit_or, max, replicate}
+use Rattle.mscp_queue.proofs.Basics.{◌≡◌, ◌≢◌, ◌⊎◌, inl, inr, ⊎_elim, ℕ, zero, suc, ◌<◌, ◌≤◌, ◌^◌, true, false, cond, nat_eq, List, set, get_or, length, refl, ap, sym, ◌∙◌, arith, bit_and, bit_at, bit_at-zero, bit_at-trailing_zeros, w64, trailing_zeros, eq-eqb, ne_eqb, get_or-set_other, get_or-set_same, length-set, IsSet, Target, same_or, eqb-true}
+use Rattle.std.specs.Prelude.{bit_or, replicate}
 use Rattle.std.proofs.lemmas.Nat.{or_lt}
 use Rattle.std.proofs.lemmas.Nat.Bits.{bit_at_or}
-use Rattle.mscp_queue.proofs.Common.{IsAbove, IsBelow, IsIn, IsNearest, IsSooner, AreRanged, AreRanges, no_target, bit_at_and, bit_at-lt, range_at}
+use Rattle.mscp_queue.proofs.Common.{IsAbove, IsBelow, IsIn, IsNearest, IsSooner, AreRanged, AreRanges, bit_at_and, bit_at-lt, range_at}
 
 -- ---- a slot is in another range from now on
 pub ranged_set : {ranges masks : List ℕ} (slot range v w : ℕ) → AreRanged ranges masks → length ranges ≡ 64

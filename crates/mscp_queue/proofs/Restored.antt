@@ -1,5 +1,5 @@
 -- A queue as it was: its waiting commands in their slots, and what it knows of them.
-use Rattle.mscp_queue.proofs.Common.{All, ◌≡◌, ◌+◌, ◌-◌, ◌<◌, ◌≤◌, ◌^◌, ℕ, suc, Bool, true, false, List, [], ◌∷◌, ◌++◌, drop, get_or, length, append-nil, refl, map, map-append, sym, subst, ap, ◌∙◌, arith, Content, filled, sum_by, sum_by-cons, is_some, unwrap_or, Option, Some, None, IfNone, IfSome, list_any, position, false≢true, ltb-false, true≢false, drop_all, position-Some, Drive, Name, ArePassedInOrder, IsHeld, IsReady, IsStillServable, begun_name, units_of, Waiters, Slot, Shape, target_of, targets_of, AllByRecursion, AreDue, AreTimed, bare, due_of, last_end, left_in_service, told, Record, has_name, is_in_service, left_if_serving, left_of, no_record, targets, items}
+use Rattle.mscp_queue.proofs.Common.{All, ◌≡◌, ◌+◌, ◌<◌, ◌≤◌, ◌^◌, ℕ, suc, Bool, true, false, List, [], ◌∷◌, ◌++◌, drop, get_or, length, append-nil, refl, map, sym, ap, ◌∙◌, arith, Content, sum_by, sum_by-cons, is_some, unwrap_or, Option, Some, None, IfNone, IfSome, list_any, position, false≢true, ltb-false, true≢false, drop_all, position-Some, Drive, Name, ArePassedInOrder, IsHeld, IsReady, IsStillServable, begun_name, units_of, Waiters, Slot, Shape, target_of, targets_of, AllByRecursion, AreDue, AreTimed, bare, due_of, left_in_service, told, Record, has_name, is_in_service, left_if_serving, left_of, no_record, targets, items}
 use Rattle.mscp_queue.proofs.Named.{same_is}
 use Rattle.mscp_queue.proofs.Placed.{position_any}
 

@@ -1,7 +1,7 @@
 -- The first of the cheapest starts on a drive, slot by slot.
-use Rattle.mscp_queue.proofs.Basics.{◌≡◌, ◌≢◌, ◌⊎◌, inl, inr, ⊎_elim, ℕ, ◌+◌, ◌/◌, ◌<◌, ◌≤◌, ◌^◌, Bool, true, false, cond, ◌&&◌, ◌||◌, List, Drive, Kind, Masks, Record, Slot, Target, map, nat_eq, nat_lt, last_cylinder, get_or, length, refl, ap, sym, ◌∙◌, subst, arith, bit, bit_at, has, eq-eqb, eqb-true, eqb-false, ltb-true, get_or-map, length-map, map_map, ne_eqb, no_target, same_or, held, kind_of, kind_at, long_shown, no_kind, shown, slot_has, slot_is, slot_low, targets, AreKept, AreOnDrive, IsNumber, IsSet}
+use Rattle.mscp_queue.proofs.Basics.{◌≡◌, ◌≢◌, ◌⊎◌, inl, inr, ⊎_elim, ℕ, ◌+◌, ◌/◌, ◌<◌, ◌≤◌, ◌^◌, Bool, true, false, cond, ◌&&◌, ◌||◌, List, Drive, Kind, Masks, Record, Slot, Target, map, nat_eq, nat_lt, last_cylinder, get_or, length, refl, ap, sym, ◌∙◌, subst, arith, bit, bit_at, has, eq-eqb, eqb-true, eqb-false, ltb-true, get_or-map, length-map, map_map, ne_eqb, no_target, same_or, held, kind_of, kind_at, long_shown, shown, slot_has, slot_is, slot_low, targets, AreKept, AreOnDrive, IsNumber, IsSet}
 use Rattle.std.specs.Prelude.{min}
-use Rattle.mscp_queue.proofs.Common.{AreSlotted, IsAhead, IsBest, IsFront, IsIn, IsNearOf, IsOpenOn, IsSooner, bit_and, bit_at-zero, bit_at_and, bit_at-lt, cost_on, cost_there, div-mul-le_self, kind_there, kinds, le-div, ltb-false, no_slot, range_of, Shape, sweep_cost}
+use Rattle.mscp_queue.proofs.Common.{AreSlotted, IsBest, IsFront, IsIn, IsNearOf, IsOpenOn, IsSooner, bit_and, bit_at-zero, bit_at_and, bit_at-lt, cost_on, cost_there, div-mul-le_self, kind_there, kinds, le-div, ltb-false, no_slot, range_of, Shape, sweep_cost}
 use Rattle.mscp_queue.proofs.Counted.{one_place, placed}
 use Rattle.mscp_queue.specs.Starts.{Start}
 use Rattle.mscp_queue.proofs.Opens.{early_bit, front_open, open_front}

@@ -1,5 +1,5 @@
 -- What slots show once one of them holds something else.
-use Rattle.mscp_queue.proofs.Common.{◌≡◌, ◌≢◌, ◌<◌, ◌+◌, ◌^◌, ◌⊎◌, inl, inr, ℕ, zero, suc, Bool, true, false, not, ◌&&◌, nat_eq, List, [], ◌∷◌, ◌++◌, map, set, take, drop, get_or, length, sym, subst, ap, ◌∙◌, refl, arith, remove, slice_index_or, list_all, drop-map, get_or_default, get_or-map, get_or-set_same, get_or-set_other, length-map, length-set, map-append, take-map, Target, Slot, Masks, AreMasks, AreSlots, HasCome, HasLeft, IsLowestFree, IsLowestUntaken, Content, filled, numbers, fences, has, keeps_back, is_sequential, Record, advanced, no_record, no_target, AreKept, held, is_unfenced, kind_at, kind_of, shown, slot_at, with_item}
+use Rattle.mscp_queue.proofs.Common.{◌≡◌, ◌≢◌, ◌<◌, ◌+◌, ◌^◌, ◌⊎◌, ℕ, zero, suc, Bool, true, false, not, ◌&&◌, nat_eq, List, [], ◌∷◌, ◌++◌, map, set, take, drop, get_or, length, sym, subst, ap, ◌∙◌, refl, arith, remove, slice_index_or, list_all, drop-map, get_or_default, get_or-map, get_or-set_same, get_or-set_other, length-map, length-set, map-append, take-map, Target, Slot, Masks, AreMasks, AreSlots, HasCome, HasLeft, IsLowestFree, IsLowestUntaken, Content, filled, numbers, fences, has, keeps_back, is_sequential, Record, advanced, no_record, no_target, AreKept, held, is_unfenced, kind_at, kind_of, shown, slot_at, with_item}
 use Rattle.mscp_queue.proofs.Freed.{free_tells}
 use Rattle.mscp_queue.proofs.Departed.{masks_left}
 use Rattle.mscp_queue.proofs.Masked.{has_other, masks_pushed, not_behind, not_here, off_bit, one_bit, same_or, slot_has, slot_low}

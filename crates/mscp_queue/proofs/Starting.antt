@@ -1,6 +1,6 @@
 -- The places that may start, found one after the other.
-use Rattle.mscp_queue.proofs.Basics.{append-nil, ◌≡◌, ◌⊎◌, inl, inr, ℕ, zero, suc, ◌+◌, ◌-◌, ◌<◌, ◌≤◌, Bool, true, false, cond, not, ◌&&◌, List, [], ◌∷◌, ◌++◌, map, take, get_or, length, refl, ap, sym, ◌∙◌, arith, All, filter, nat_eq, nat_le, AllByRecursion, list_all, range_with_len, eq-eqb, le-leb, leb-true, lt-leb, true≢false, get_or-map, get_or-drop, get_or-take, length-append, length-drop, length-map, length-range_with_len, length-take-le, map-append, take-map, All-from_recursion, All-take, filter-append, recursion_from_All, Shape, one_block, Target, Drive, Choice, target_of, targets_of, no_target, unit_place, fresh_drive, ArePassedInOrder, CanBeShown, IsPick, IsShut, is_known, units_of, Kind, keeps_back, is_sequential, Record, drive_at, no_record, record_at, is_unfenced_at, kinds_of, no_kind, choice_of, choices_at, is_affordable, is_free, is_open_at, open_places, place_same, apart_by_place, every_kept, every_weaker, fewer, range_below, range_more, all_shown}
-use Rattle.mscp_queue.specs.Views.{fences, view_of}
+use Rattle.mscp_queue.proofs.Basics.{append-nil, ◌≡◌, inl, inr, ℕ, zero, suc, ◌+◌, ◌-◌, ◌<◌, ◌≤◌, Bool, true, false, cond, not, ◌&&◌, List, [], ◌∷◌, ◌++◌, map, take, get_or, length, refl, ap, sym, ◌∙◌, arith, All, filter, nat_eq, nat_le, AllByRecursion, list_all, range_with_len, eq-eqb, le-leb, leb-true, lt-leb, true≢false, get_or-map, get_or-drop, get_or-take, length-append, length-drop, length-map, length-range_with_len, length-take-le, map-append, take-map, All-from_recursion, All-take, filter-append, recursion_from_All, Shape, one_block, Target, Drive, Choice, target_of, targets_of, no_target, unit_place, fresh_drive, ArePassedInOrder, CanBeShown, IsPick, IsShut, is_known, units_of, Kind, keeps_back, is_sequential, Record, drive_at, no_record, record_at, is_unfenced_at, kinds_of, no_kind, choice_of, choices_at, is_affordable, is_free, is_open_at, open_places, place_same, apart_by_place, every_kept, every_weaker, fewer, range_below, range_more, all_shown}
+use Rattle.mscp_queue.specs.Views.{fences}
 
 -- ---- who is free
 all_on : {X : Type 0} (p q : X → Bool) (xs : List X) → AllByRecursion (λ x. p x ≡ q x) xs

@@ -1,5 +1,5 @@
 -- A step of the record at a place, as it is planned and written.
-use Rattle.mscp_queue.proofs.Basics.{◌≡◌, ◌≢◌, ℕ, ◌+◌, ◌<◌, Bool, true, false, cond, ◌⊎◌, inl, inr, nat_lt, ltb-false, length-append, length-drop, length-take-le, List, [], ◌∷◌, ◌++◌, map, take, drop, set, get_or, length, refl, ap, sym, ◌∙◌, subst, arith, is_some, Option, Some, refill, length-set, Order, Block, Drive, Name, Plan, Choice, Command, IsOnUnit, IsHeld, Line, fresh_drive, get_or-set_other, length-map, drive_place, Record, advanced, drive_at, no_record, passed_by, record_at, step_charge, IsNext, IsServable, drive_after, plan_of, state_left, touched, cylinder_within, set_replaced, refilled, StepMade, head_kept, touched_inside}
+use Rattle.mscp_queue.proofs.Basics.{◌≡◌, ◌≢◌, ℕ, ◌+◌, ◌<◌, Bool, true, false, cond, ◌⊎◌, inl, nat_lt, ltb-false, length-append, length-drop, length-take-le, List, [], ◌∷◌, ◌++◌, map, take, drop, set, get_or, length, refl, ap, sym, ◌∙◌, subst, arith, is_some, Option, Some, refill, length-set, Order, Block, Drive, Name, Plan, Choice, Command, IsOnUnit, IsHeld, Line, fresh_drive, get_or-set_other, length-map, drive_place, Record, advanced, drive_at, no_record, passed_by, record_at, step_charge, IsNext, IsServable, drive_after, plan_of, state_left, touched, cylinder_within, set_replaced, refilled, StepMade, head_kept, touched_inside}
 use Rattle.mscp_queue.proofs.Common.{AreFavored, commands, drive_in, closed, knows, one_block, start_in}
 use Rattle.mscp_queue.specs.declared.favorites.Favorites.{Favorites}
 use Rattle.mscp_queue.proofs.Favored.{command_is}

@@ -1,6 +1,5 @@
 -- The target of a command is where its drive and its first block are found.
 use Rattle.mscp_queue.proofs.Common.{◌≡◌, ℕ, ◌+◌, ◌<◌, ◌≤◌, true, cond, not, List, [], ◌∷◌, ◌++◌, map, take, drop, get_or, length, refl, ap, sym, ◌∙◌, subst, arith, All, nat_eq, unwrap_or, position, div-mul-le_self, le-div, drop-map, get_or-map, get_or_default, map-append, take-map, Command, Shape, cylinder_of, last_cylinder, Target, Drive, Connection, IsTargeted, range_of, target_of, targets_of, unit_place, IsOnUnit, drive_of, has_number, CanBeShown, HasBlocks, is_known, units_of, first_block, Record, advanced, drive_at, fresh_record, no_record, no_target, passed_by, record_at}
-use Rattle.std.specs.Prelude.{min}
 use Rattle.mscp_queue.proofs.Drives.{drive_place, known_at, known_inside}
 use Rattle.mscp_queue.proofs.Placed.{cut_at, map_map}
 use Rattle.mscp_queue.proofs.Held.{some_steps}

@@ -1,5 +1,5 @@
 -- What is told of the step that is begun is told again.
-use Rattle.mscp_queue.proofs.Basics.{◌≡◌, ℕ, ◌+◌, ◌<◌, Bool, true, false, List, length, refl, ap, arith, option_map, IfSome, Some, None, if◌then◌else◌, position, and_parts, false≢true, lt-ltb, Order, Shape, Drive, Upcoming, drive_of, AreApart, IsInside, IsKept, IsOfUnit, is_known, names, first_block, order_weight, touches, Record, drive_at, has_name, name_of, record_at, has_block, upcoming_begun, upcoming_of, inside_of}
+use Rattle.mscp_queue.proofs.Basics.{◌≡◌, ℕ, ◌+◌, ◌<◌, Bool, true, List, length, refl, ap, arith, option_map, IfSome, Some, None, if◌then◌else◌, position, and_parts, false≢true, lt-ltb, Order, Shape, Drive, Upcoming, drive_of, AreApart, IsInside, IsKept, IsOfUnit, is_known, names, first_block, order_weight, touches, Record, drive_at, has_name, name_of, record_at, has_block, upcoming_begun, upcoming_of, inside_of}
 use Rattle.mscp_queue.proofs.Aborts.{aborts_at}
 use Rattle.mscp_queue.proofs.Nexts.{name_found}
 

@@ -1,4 +1,4 @@
-use Rattle.mscp_queue.proofs.Common.{◌≡◌, length, arith, sym, subst, ◌∙◌, refl, IsBest, IsFirstOf, commands, cost_of}
+use Rattle.mscp_queue.proofs.Common.{◌≡◌, length, arith, sym, subst, ◌∙◌, IsBest, IsFirstOf, commands, cost_of}
 use Rattle.mscp_queue.proofs.Aims.{IsBelow, below_more, best_first, none_below}
 use Rattle.mscp_queue.proofs.start.best_place.Goals as goal
 

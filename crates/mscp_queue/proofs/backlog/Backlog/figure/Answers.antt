@@ -1,4 +1,4 @@
-use Rattle.mscp_queue.proofs.Common.{◌≡◌, ◌+◌, ◌∙◌, ap, sym, arith, Waiters, Record, figure_at, left_of, is_unstarted}
+use Rattle.mscp_queue.proofs.Common.{◌≡◌, ◌+◌, ap, arith, Waiters, figure_at}
 use Rattle.mscp_queue.proofs.Sums.{figure_small}
 use Rattle.mscp_queue.proofs.Backlogs.{figure_is, figure_left, place_in}
 use Rattle.mscp_queue.proofs.backlog.Backlog.figure.Goals as goal

@@ -1,4 +1,4 @@
-use Rattle.mscp_queue.proofs.Common.{◌∙◌, arith}
+use Rattle.mscp_queue.proofs.Common.{arith}
 use Rattle.mscp_queue.proofs.Backlogs.{long_is, unfenced_kinds}
 use Rattle.mscp_queue.proofs.backlog.Backlog.is_free.Goals as goal
 

@@ -1,4 +1,4 @@
-use Rattle.mscp_queue.proofs.Common.{◌++◌, ◌∷◌, [], ◌+◌, cond, map, take, drop, ap, sym, ◌∙◌, arith, advanced, passed_by, record_at, step_charge}
+use Rattle.mscp_queue.proofs.Common.{arith}
 use Rattle.mscp_queue.proofs.BacklogSteps.{back_idle, ended_at, front_idle}
 use Rattle.mscp_queue.proofs.backlog.Backlog.serve.Goals as goal
 

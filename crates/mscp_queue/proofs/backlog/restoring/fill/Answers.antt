@@ -1,4 +1,4 @@
-use Rattle.mscp_queue.proofs.Basics.{ap, ◌≤◌, ◌∙◌, arith, sum_by, take_all, recursion_from_All, Record, units_of, left_of, place_inside, range_low}
+use Rattle.mscp_queue.proofs.Basics.{ap, ◌∙◌, arith, sum_by, take_all, recursion_from_All, units_of, left_of, place_inside, range_low}
 use Rattle.mscp_queue.proofs.Restored.{contents, contents_all, targets_are, timed, told_are}
 use Rattle.mscp_queue.proofs.backlog.restoring.fill.Goals as goal
 

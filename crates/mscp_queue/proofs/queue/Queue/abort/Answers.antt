@@ -1,4 +1,4 @@
-use Rattle.mscp_queue.proofs.Basics.{◌≡◌, ◌<◌, length, ap, sym, subst, ◌∙◌, arith, begun_name, Line, aborting, name_on, name_of, record_at}
+use Rattle.mscp_queue.proofs.Basics.{ap, sym, ◌∙◌, arith, begun_name, Line, aborting, name_on}
 use Rattle.mscp_queue.proofs.Aborts.{aborts_at, aborts_none, none_aborted}
 use Rattle.mscp_queue.proofs.Nexts.{named_at}
 use Rattle.mscp_queue.proofs.queue.Queue.abort.Goals as goal

@@ -70,9 +70,6 @@ returns-clause-after g c =
       picker = q.picker;
     }) ∙ ap (λ (l : Line K). aborting (name_of (record_at l.waiting place)) l) c.self.view_is
 
-pub serve-requires-clause-place : goal.serve-requires-clause-place
-serve-requires-clause-place g c = search arith
-
 pub serve-requires-clause-drive : goal.serve-requires-clause-drive
 serve-requires-clause-drive g c =
     let K = g.row.K.Denot in

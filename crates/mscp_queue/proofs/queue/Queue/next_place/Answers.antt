@@ -1,4 +1,4 @@
-use Rattle.mscp_queue.proofs.Common.{◌≡◌, ◌<◌, length, ap, subst, sym, arith, Some, begun_name, Line, name_of, record_at, IsNext}
+use Rattle.mscp_queue.proofs.Common.{◌≡◌, ap, subst, sym, arith, Some, begun_name, Line, name_of, record_at, IsNext}
 use Rattle.mscp_queue.proofs.Nexts.{known_next, nobody_found, picked_next, serving_is_next}
 use Rattle.mscp_queue.proofs.Ready.{can_be_shown}
 use Rattle.mscp_queue.proofs.Starting.{first_picked}

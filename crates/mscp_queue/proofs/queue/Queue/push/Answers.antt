@@ -1,4 +1,4 @@
-use Rattle.mscp_queue.proofs.Basics.{◌≡◌, ◌-◌, ◌<◌, ◌++◌, ◌∷◌, [], false, length, take, ap, subst, sym, ◌∙◌, arith, list_any, length-append, length-map, map-append, Command, IsUnitList, target_of, CanBeShown, IsWaitable, units_of, Line, name_on, Record, has_name, place_inside, range_low, held_small}
+use Rattle.mscp_queue.proofs.Basics.{◌≡◌, ◌<◌, ◌++◌, ◌∷◌, [], false, length, ap, subst, sym, ◌∙◌, arith, list_any, length-append, length-map, map-append, Command, target_of, CanBeShown, IsWaitable, units_of, Line, name_on, Record, has_name, place_inside, range_low, held_small}
 use Rattle.mscp_queue.proofs.Common.{AreFavored, commands, take_at}
 use Rattle.mscp_queue.proofs.Ready.{can_be_shown, ready_pushed}
 use Rattle.mscp_queue.proofs.queue.Queue.push.Goals as goal
@@ -33,9 +33,6 @@ favor_last-requires-clause-waiting g c =
       waiting = (e.waiting ∙ ap (λ (r : Record). c.self.inside.backlog.waiting ++ r ∷ []) c.new-record.ensures) i;
       targets = e.targets i;
     })))
-
-pub favor_last-requires-clause-units : goal.favor_last-requires-clause-units
-favor_last-requires-clause-units g c = search arith
 
 -- but for the last they are those of before
 pub favor_last-requires-clause-favored : goal.favor_last-requires-clause-favored

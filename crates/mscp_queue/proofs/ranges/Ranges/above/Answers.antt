@@ -1,4 +1,4 @@
-use Rattle.mscp_queue.proofs.Common.{◌<◌, ◌≢◌, ℕ, arith, subst, range_at}
+use Rattle.mscp_queue.proofs.Common.{arith}
 use Rattle.mscp_queue.proofs.Ranging.{found_above, here_from, none_above, none_in}
 use Rattle.mscp_queue.proofs.ranges.Ranges.above.Goals as goal
 

@@ -1,4 +1,4 @@
-use Rattle.mscp_queue.proofs.Common.{◌-◌, ◌≢◌, arith, range_at}
+use Rattle.mscp_queue.proofs.Common.{arith}
 use Rattle.mscp_queue.proofs.Ranging.{found_below, here_from, none_below, none_in}
 use Rattle.mscp_queue.proofs.ranges.Ranges.below.Goals as goal
 

@@ -1,4 +1,4 @@
-use Rattle.mscp_queue.proofs.Common.{◌≡◌, arith, false, true, get_or, length, set, subst, sym, AreRanged, IsSet, range_at}
+use Rattle.mscp_queue.proofs.Common.{arith}
 use Rattle.mscp_queue.proofs.Ranging.{ranged_set}
 use Rattle.mscp_queue.proofs.ranges.Ranges.set.Goals as goal
 

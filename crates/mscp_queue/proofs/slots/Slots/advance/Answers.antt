@@ -1,4 +1,4 @@
-use Rattle.mscp_queue.proofs.Basics.{◌∙◌, ap, arith, get_or_default, Record, advanced, no_record, item_at, item_set, kept_advanced, number_of}
+use Rattle.mscp_queue.proofs.Basics.{arith, get_or_default, item_at, item_set, kept_advanced, number_of}
 use Rattle.mscp_queue.proofs.Bucketed.{buckets_kept}
 use Rattle.mscp_queue.proofs.slots.Slots.advance.Goals as goal
 

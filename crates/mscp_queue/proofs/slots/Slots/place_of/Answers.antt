@@ -1,4 +1,4 @@
-use Rattle.mscp_queue.proofs.Basics.{◌≡◌, ◌<◌, true, length, ap, sym, subst, ◌∙◌, arith, get_or_default, item_at, long_shown, no_record, slot_at}
+use Rattle.mscp_queue.proofs.Basics.{◌≡◌, ◌<◌, true, length, ap, sym, subst, ◌∙◌, arith, get_or_default, item_at, long_shown, slot_at}
 use Rattle.mscp_queue.proofs.Common.{has_name}
 use Rattle.mscp_queue.proofs.Bucketed.{none_named, number_in, searches_on}
 use Rattle.mscp_queue.proofs.Counted.{place_counted}

@@ -1,4 +1,4 @@
-use Rattle.mscp_queue.proofs.Basics.{length, length-set, ap, Command, ◌∙◌, arith, some_free, kept_pushed, long_shown, shown_pushed}
+use Rattle.mscp_queue.proofs.Basics.{length-set, ap, Command, arith, some_free, kept_pushed, long_shown, shown_pushed}
 use Rattle.mscp_queue.proofs.Bucketed.{buckets_pushed}
 use Rattle.mscp_queue.proofs.Shown.{lowest_untaken, untaken}
 use Rattle.mscp_queue.proofs.Ranging.{ranges_pushed}
