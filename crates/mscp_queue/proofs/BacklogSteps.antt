@@ -36,17 +36,7 @@ step_of {budget} {clock} {ss} {place} a l unfinished front back affordable = rec
       let p = ap (sum_by left_of) (ap items new ∙ items_append F (z ∷ B)) in
       let q = ap (λ zs. sum_by left_of (items zs)) is in
       let r = ap (sum_by left_of) (items_append F (y ∷ B)) in
-      omega (
-        arith,
-        p,
-        q,
-        r,
-        sum_by-append left_of (items F) (z.item ∷ items B),
-        sum_by-append left_of (items F) (y.item ∷ items B),
-        sum_by-cons left_of z.item (items B),
-        sum_by-cons left_of y.item (items B),
-        unfinished,
-      );
+      omega (arith, p, q, r, sum_by-append, sum_by-cons, unfinished);
   waiting = grind (arith, new, told_stepped, n, y, z, charge_is, due, long, is);
   own = ap targets new ∙ (own_append F (z ∷ B) ∙ (sym (own_append F (y ∷ B)) ∙ ap targets (sym is)));
 }

@@ -46,12 +46,7 @@ module _ (budget : ℕ) (ds : List Drive) (rs : List Record) (may : MayAllPass b
     cut =
         let zero_plus : 0 + place ≡ place = omega arith in
         let here : get_or all place 0 ≡ place = get_or-range_with_len 0 (length rs) place 0 inside ∙ zero_plus in
-        ap (filter (is_open_at budget rs)) (cut_at 0 all place (omega (
-          arith,
-          inside,
-          length-range_with_len 0
-              (length rs),
-        )))
+        ap (filter (is_open_at budget rs)) (cut_at 0 all place (omega (arith, inside, length-range_with_len)))
         ∙ (filter-append (is_open_at budget rs) (take place all) (get_or all place 0 ∷ drop (place + 1) all)
         ∙ (λ i. A ++ (cond (is_open_at budget rs (here i)) (here i ∷ B) B))
         ∙ ap (λ b. A ++ cond b (place ∷ B) B) (open_is place inside ∙ h.is.clear))
