@@ -33,7 +33,7 @@ pub record Aborts (gone : Name) (rs : List Record) (place : ℕ) : Type 0 where
 
 pub aborts_at : (gone : Name) (rs : List Record) (place : ℕ)
     → AreApart (names rs) → position (has_name gone) rs ≡ Some place → Aborts gone rs place
-aborts_at gone rs place apart h = search (
+aborts_at gone rs place apart h = grind (
   arith,
   false≢true,
   position_none,
@@ -44,7 +44,6 @@ aborts_at gone rs place apart h = search (
   find_first,
   removed_at,
   find_cases,
-  not,
   filter_all,
   every_weaker,
   filter-append,

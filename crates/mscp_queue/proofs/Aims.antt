@@ -1,5 +1,5 @@
 -- The best starts of the drives, one after the other, are the best of all.
-use Rattle.mscp_queue.proofs.Basics.{◌≡◌, ◌≢◌, ◌⊎◌, inl, inr, ⊎_elim, ℕ, ◌+◌, ◌<◌, ◌≤◌, Bool, true, cond, List, length, get_or, refl, ap, sym, ◌∙◌, subst, arith, get_or_default, length-map, Command, Drive, IsUnitList, CanBeShown, is_known, units_of, drive_place, fresh_drive, known_at, place_is, pairs_rise, same_or, Record, no_record, Target}
+use Rattle.mscp_queue.proofs.Basics.{◌≡◌, ◌≢◌, ◌⊎◌, ⊎_elim, ℕ, ◌+◌, ◌<◌, Bool, true, cond, List, length, get_or, refl, ap, sym, ◌∙◌, arith, get_or_default, length-map, Command, Drive, IsUnitList, CanBeShown, is_known, units_of, drive_place, fresh_drive, known_at, place_is, pairs_rise, same_or, Record, no_record, Target}
 use Rattle.mscp_queue.proofs.Common.{IsBest, IsClear, IsClearOn, IsFirstOf, command_at, commands, comes_before, cost_at, cost_of, drive_in, one_block}
 use Rattle.mscp_queue.specs.Starts.{Start}
 use Rattle.mscp_queue.proofs.Best.{best_none, best_of_two, best_same}
@@ -56,9 +56,7 @@ module _ {ds : List Drive} {rs : List Record} {own : List Target} (shown : CanBe
 
       split : (p : ℕ) → (x : IsBelow ds cs (n + 1) p) → (x.drive ≡ n) ⊎ (x.drive ≢ n)
           → IsBelow ds cs n p ⊎ IsClearOn cs (drive_in ds n).unit.number p
-      split p x (inl e) = inr (subst (λ k. IsClearOn cs (drive_in ds k).unit.number p) e x.clear)
-      split p x (inr d) =
-          inl (record { drive = x.drive; below = (let l = x.below in omega (arith, l, d)); clear = x.clear })
+      split p x h3 = grind arith
 
   -- each that nobody keeps back is on a drive
   all_below : (place : ℕ) → IsClear cs place → IsBelow ds cs (length ds) place
@@ -74,8 +72,7 @@ module _ {ds : List Drive} {rs : List Record} {own : List Target} (shown : CanBe
       → IsFirstOf ds cs s.place
   best_first s h some = ⊎_elim (λ e. absurd (let l = low in omega (arith, e, l))) (λ x. record {
     is = record { inside = x.0.clear.inside; clear = x.0.clear.clear };
-    each = λ other o. let a = (h.each other (all_below other o)).1 in
-        subst (λ n. (n < cost_of ds cs other) ⊎ ((n ≡ cost_of ds cs other) × (s.place ≤ other))) x.1 a;
+    each = grind (arith, all_below);
   }) h.is
     where
       low : s.place < 64

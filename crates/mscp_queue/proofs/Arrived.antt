@@ -1,6 +1,6 @@
 -- The best starts once a command came, behind all that wait.
 use Rattle.mscp_queue.proofs.Basics.{◌≡◌, ◌≢◌, ◌⊎◌, inl, inr, ⊎_elim, ℕ, ◌+◌, ◌<◌, ◌≤◌, true, false, List, take, length, get_or, refl, ap, sym, ◌∙◌, subst, arith, ext_get_or, false≢true, get_or-take, get_or_default, length-map, length-take-le, Command, Drive, Target, IsUnitList, CanBeShown, is_known, units_of, drive_place, fresh_drive, known_at, place_is, pairs_rise, same_or, Record, no_record, record_at, drive_at, order_cost}
-use Rattle.mscp_queue.proofs.Common.{AreFavored, IsBest, IsClearOn, IsLearned, bars, comes_before, cond, command_at, commands, cost_at, drive_in, is_clear, knows, list_all, nat_eq, not, one_block, start_in}
+use Rattle.mscp_queue.proofs.Common.{AreFavored, IsBest, IsClearOn, IsLearned, comes_before, cond, command_at, commands, cost_at, drive_in, is_clear, knows, nat_eq, not, one_block, start_in}
 use Rattle.mscp_queue.specs.declared.favorites.Favorites.{Favorites}
 use Rattle.mscp_queue.specs.Starts.{Start}
 use Rattle.mscp_queue.proofs.Best.{best_of_two, best_same}
@@ -24,9 +24,7 @@ module _ (cs : List Command) (n : ℕ) (long : length cs ≡ n + 1) where
   front_at p l = get_or-take n cs p no_record.command l
 
   front_clear : (p : ℕ) → p < n → is_clear (take n cs) p ≡ is_clear cs p
-  front_clear p l =
-      λ i. list_all (λ one. not (bars one (front_at p l i))) (take_take no_record.command p n cs (omega (arith, l))
-      (omega (arith, long)) i)
+  front_clear p l = grind (arith, front_at, take_take)
 
   to_all : (number p : ℕ) → IsClearOn (take n cs) number p → IsClearOn cs number p
   to_all number p h =
@@ -71,14 +69,10 @@ module _ (cs : List Command) (n : ℕ) (long : length cs ≡ n + 1) where
       (λ p x. to_front number p x.0 (λ e. let l = x.1 in omega (arith, e, l))) h) refl refl)
     where
       alone : IsBest (λ p. p ≡ n) (cost_at d cs) t
-      alone = record {
-        is = inr (place, cost ∙ ap (cost_at d cs) (sym place));
-        each = λ p e. (omega (arith, place, few), inr (cost ∙ ap (cost_at d cs) (sym e), omega (arith, place, e)));
-      }
+      alone = grind arith
 
       split : (p : ℕ) → IsClearOn cs number p → (p ≡ n) ⊎ (p ≢ n) → (p ≡ n) ⊎ (IsClearOn cs number p × (p < n))
-      split p x (inl e) = inl e
-      split p x (inr d) = inr (x, (let b = x.inside in omega (arith, b, long, d)))
+      split p x h3 = grind arith
 
 -- ---- so each best start that is known stays one, once that of the drive that the last leads to was looked at
 module _ {ds : List Drive} {rs : List Record} {own : List Target} (shown : CanBeShown ds rs own)
@@ -133,8 +127,7 @@ module _ {ds : List Drive} {rs : List Record} {own : List Target} (shown : CanBe
       there = ap (λ i. get_or ds i (fresh_drive one_block)) is ∙ (known_at ds unit (fresh_drive one_block) known).drive
 
       number : unit ≡ (drive_in ds at).unit.number
-      number = sym (known_at ds unit (fresh_drive one_block) known).number
-          ∙ ap (λ i. (get_or ds i (fresh_drive one_block)).unit.number) (sym is)
+      number = grind (arith, known_at, known)
 
       own_clear : IsClearOn cs (drive_in ds at).unit.number n
       own_clear = record {

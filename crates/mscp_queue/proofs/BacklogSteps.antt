@@ -1,5 +1,5 @@
 -- What a step makes of the waiting commands, their dues, and what is left of all.
-use Rattle.mscp_queue.proofs.Basics.{◌≡◌, ◌<◌, ◌≤◌, ◌+◌, ◌-◌, ℕ, suc, Bool, true, false, cond, List, ◌∷◌, ◌++◌, map, take, drop, set, length, sym, subst, ap, ◌∙◌, refl, arith, All, nat_eq, nat_lt, sum_by, AllByRecursion, eqb-false, eqb-true, lt-ltb, get_or_at, length-map, length-take-le, map-append, set_at, All-from_recursion, recursion_from_All, sum_by-append, sum_by-cons, Slot, AreDue, AreTimed, Waiters, Record, advanced, is_unstarted, left_if_serving, left_of, no_record, passed_by, record_at, step_charge, targets, items, lowered_by, slot_at, told, with_item, due_stepped, fallen, idle_left, items_append, items_fallen, late, serving_left, stepped, told_back, told_front, told_item, told_stepped, told_within, AreIdle, passed_idle}
+use Rattle.mscp_queue.proofs.Basics.{◌≡◌, ◌<◌, ◌≤◌, ◌+◌, ◌-◌, ℕ, suc, true, List, ◌∷◌, ◌++◌, map, take, drop, set, length, sym, subst, ap, ◌∙◌, refl, arith, All, nat_eq, sum_by, AllByRecursion, eqb-false, eqb-true, lt-ltb, get_or_at, length-map, length-take-le, map-append, set_at, All-from_recursion, recursion_from_All, sum_by-append, sum_by-cons, Slot, AreDue, AreTimed, Waiters, Record, advanced, is_unstarted, left_if_serving, left_of, no_record, passed_by, record_at, step_charge, targets, items, lowered_by, slot_at, told, with_item, due_stepped, fallen, idle_left, items_append, items_fallen, late, serving_left, stepped, told_back, told_front, told_item, told_stepped, told_within, AreIdle, passed_idle}
 use Rattle.mscp_queue.proofs.Placed.{at_place, map_map}
 use Rattle.mscp_queue.proofs.Dues.{MayPass, at_same}
 use Rattle.mscp_queue.proofs.Backlogs.{cut}
@@ -13,21 +13,7 @@ pub record IsStep (budget clock : ℕ) (ss new : List Slot) (place : ℕ) : Type
 
 -- all that is left of a command is in service already, or is what its step costs
 charge_is : (r : Record) → left_of r ≡ left_if_serving r + step_charge r
-charge_is r = by (is_unstarted r) refl
-  where
-    by : (b : Bool) → is_unstarted r ≡ b → left_of r ≡ left_if_serving r + step_charge r
-    by true e =
-        let zero_done : r.done ≡ 0 = eqb-true r.done 0 e in
-        let none = idle_left r (ap (λ n. nat_lt 0 n) zero_done) in
-        let charge : step_charge r ≡ r.weight = ap (λ b. cond b r.weight 0) e in
-        omega (arith, none, charge, zero_done)
-    by false e =
-        let some = serving_left r (lt-ltb 0 r.done (positive r.done (eqb-false r.done 0 e))) in
-        let charge : step_charge r ≡ 0 = ap (λ b. cond b r.weight 0) e in
-        omega (arith, some, charge)
-      where
-        positive : (n : ℕ) → (n ≡ 0 → ⊥) → 0 < n
-        positive n d = grind (arith, d)
+charge_is r = grind (arith, eqb-true, idle_left, serving_left, lt-ltb, eqb-false)
 
 set_mid : (A : List Slot) (y : Slot) (B : List Slot) (place : ℕ) → length A ≡ place
     → set (A ++ y ∷ B) place (with_item advanced (slot_at (A ++ y ∷ B) place)) ≡ A ++ with_item advanced y ∷ B
@@ -50,20 +36,8 @@ step_of {budget} {clock} {ss} {place} a l unfinished front back affordable = rec
       let p = ap (sum_by left_of) (ap items new ∙ items_append F (z ∷ B)) in
       let q = ap (λ zs. sum_by left_of (items zs)) is in
       let r = ap (sum_by left_of) (items_append F (y ∷ B)) in
-      omega (
-        arith,
-        p,
-        q,
-        r,
-        sum_by-append left_of (items F) (z.item ∷ items B),
-        sum_by-append left_of (items F) (y.item ∷ items B),
-        sum_by-cons left_of z.item (items B),
-        sum_by-cons left_of y.item (items B),
-        unfinished,
-      );
-  waiting = ap (told budget (clock + 1)) new
-      ∙ (told_stepped budget n y z B back (charge_is y.item) unfinished refl refl clock F due front
-      ∙ (λ i. stepped n (long i) (told budget clock (sym is i))));
+      omega (arith, p, q, r, sum_by-append, sum_by-cons, unfinished);
+  waiting = grind (arith, new, told_stepped, n, y, z, charge_is, due, long, is);
   own = ap targets new ∙ (own_append F (z ∷ B) ∙ (sym (own_append F (y ∷ B)) ∙ ap targets (sym is)));
 }
   where
@@ -95,28 +69,13 @@ step_of {budget} {clock} {ss} {place} a l unfinished front back affordable = rec
     new = ap (λ zs. set zs place (with_item advanced (slot_at zs place))) is ∙ set_mid F y B place long
 
     may : MayPass budget n (take place (told budget clock ss))
-    may = by (is_unstarted y.item) refl
-      where
-        by : (b : Bool) → is_unstarted y.item ≡ b → MayPass budget n (take place (told budget clock ss))
-        by true e = subst (λ k. MayPass budget k (take place (told budget clock ss)))
-            (sym (ap (λ b. cond b y.item.weight 0) e)) (affordable e)
-        by false e = subst (λ k. MayPass budget k (take place (told budget clock ss)))
-            (sym (ap (λ b. cond b y.item.weight 0) e)) (told_within budget clock ss place a)
+    may = grind (arith, y, n, told_within)
 
 -- a step at a place, and then the clock may be set back
 pub step_timed : {budget clock total now : ℕ} {ss ss' new : List Slot} {place : ℕ}
     → AreTimed budget clock total ss → IsStep budget clock ss ss' place → now < 1099511627776
     → now ≤ clock + 1 → new ≡ map (lowered_by (clock + 1 - now)) ss' → AreTimed budget now (total - 1) new
-step_timed {budget} {clock} {total} {now} {ss} {ss'} {new} {place} t step early below fell =
-    let e : clock + 1 ≡ now + (clock + 1 - now) = omega (arith, below) in
-    let kept = fallen budget now (clock + 1 - now) ss' (at_same budget ss' e step.dues) in
-    let left = ap (λ zs. sum_by left_of (items zs)) fell ∙ ap (sum_by left_of) (items_fallen (clock + 1 - now) ss') in
-    record {
-      dues = subst (AreDue budget now) (sym fell) kept.dues;
-      left = omega (arith, left, step.left, t.left);
-      early = early;
-      fits = t.fits;
-    }
+step_timed t step early below fell = grind (arith, fallen, at_same, items_fallen)
 
 pub step_late : {budget clock : ℕ} {ss new : List Slot} {place : ℕ} → IsStep budget clock ss new place
     → All (λ s. clock + 1 ≤ s.due) new
@@ -139,8 +98,7 @@ seen_step {budget} {clock} {now} {ss} {ss'} {new} {rs} {place} step below w char
 
 pub seen_own : (by : ℕ) {budget clock : ℕ} {ss ss' new : List Slot} {place : ℕ} → IsStep budget clock ss ss' place
     → new ≡ map (lowered_by by) ss' → targets new ≡ targets ss
-seen_own by {ss' = ss'} step fell =
-    ap targets fell ∙ (map_map (lowered_by by) (λ (s : Slot). s.target) ss' ∙ step.own)
+seen_own by step fell = grind (arith, by, map_map)
 
 -- the same as it is found out of what callers see
 pub step_at : {budget clock total : ℕ} {ss new : List Slot} {rs : List Record} {place : ℕ}
@@ -172,25 +130,21 @@ pub affordable : {budget : ℕ} (clock : ℕ) (ss : List Slot) {now : Waiters} (
     → All (λ r. r.passed + (record_at now.waiting place).weight ≤ now.budget) (take place now.waiting))
     → is_unstarted (record_at now.waiting place) ≡ true
     → All (λ r. r.passed + (record_at now.waiting place).weight ≤ budget) (take place now.waiting)
-affordable {budget} clock ss {now} place view h e =
-    subst (λ b. All (λ (r : Record). r.passed + (record_at now.waiting place).weight ≤ b) (take place now.waiting))
-    (sym (ap (λ (w : Waiters). w.budget) view)) (h e)
+affordable clock ss place view h e = grind arith
 
 -- ---- what a step and its end leave
 module _ (n place : ℕ) (rs ws : List Record)
     (r : Record) (l : place < length rs) (e : ws ≡ map (passed_by n) (take place rs) ++ r ∷ drop (place + 1) rs) where
   pub front_idle : All (λ r. r.done ≡ 0) (take place rs) → All (λ r. r.done ≡ 0) (take place ws)
   front_idle h =
-      let long : length (map (passed_by n) (take place rs)) ≡ place = length-map (take place rs) (passed_by n)
-      ∙ length-take-le place rs (omega (arith, l)) in
+      let long : length (map (passed_by n) (take place rs)) ≡ place = grind (arith, length-map, n, length-take-le) in
       let at = at_place ws (map (passed_by n) (take place rs)) r (drop (place + 1) rs) place no_record e long in
       let P : Record → Type 0 = λ r. r.done ≡ 0 in
       search (arith, at, P, All-from_recursion, passed_idle, recursion_from_All)
 
   pub back_idle : All (λ r. r.done ≡ 0) (drop (place + 1) rs) → All (λ r. r.done ≡ 0) (drop (place + 1) ws)
   back_idle h =
-      let long : length (map (passed_by n) (take place rs)) ≡ place = length-map (take place rs) (passed_by n)
-      ∙ length-take-le place rs (omega (arith, l)) in
+      let long : length (map (passed_by n) (take place rs)) ≡ place = grind (arith, length-map, n, length-take-le) in
       let at = at_place ws (map (passed_by n) (take place rs)) r (drop (place + 1) rs) place no_record e long in
       subst (All (λ (r : Record). r.done ≡ 0)) (sym at.behind) h
 
@@ -198,7 +152,6 @@ pub ended_at : (n place : ℕ) (rs ws new : List Record) (r : Record) → place 
     → ws ≡ map (passed_by n) (take place rs) ++ r ∷ drop (place + 1) rs → new ≡ take place ws ++ drop (place + 1) ws
     → new ≡ map (passed_by n) (take place rs) ++ drop (place + 1) rs
 ended_at n place rs ws new r l e gone =
-    let long : length (map (passed_by n) (take place rs)) ≡ place = length-map (take place rs) (passed_by n)
-    ∙ length-take-le place rs (omega (arith, l)) in
+    let long : length (map (passed_by n) (take place rs)) ≡ place = grind (arith, length-map, n, length-take-le) in
     let at = at_place ws (map (passed_by n) (take place rs)) r (drop (place + 1) rs) place no_record e long in
     gone ∙ (λ i. at.before i ++ at.behind i)

@@ -1,5 +1,5 @@
 -- What a leave makes of the waiting commands, their dues, and what is left of all.
-use Rattle.mscp_queue.proofs.Basics.{Name, has_name, list_any, IfSome, Option, Some, None, ◌||◌, cond, left_if_serving, passes, told_most, unspent_tells, eqb-false, eqb-true, figure_at, filter, is_unstarted, lt-ltb, nat_eq, nat_lt, tells, ◌≡◌, ◌<◌, ◌≤◌, ◌+◌, ◌-◌, ℕ, suc, true, false, not, List, [], ◌∷◌, ◌++◌, map, take, drop, get_or, length, append_assoc, sym, subst, ap, ◌∙◌, refl, arith, All, sum_by, AllByRecursion, drop-map, get_or-map, length-append, length-take-le, map-append, take-map, take_more, All-from_recursion, recursion_from_All, sum_by-append, sum_by-cons, Target, Slot, AreDue, AreTimed, Waiters, Record, bare, record_at, told, is_in_service, left_of, no_target, targets, is_unfenced, is_unfenced_at, items, kind_of, kinds_of, lowered_by, no_slot, slot_at, abort_enough, due_aborted, due_ended, end_enough, items_append, items_fallen, AreIdle, all_shown, told_aborted, told_back, told_ended, told_front, told_item, told_left, told_long}
+use Rattle.mscp_queue.proofs.Basics.{Name, has_name, list_any, IfSome, Option, ◌||◌, left_if_serving, passes, told_most, unspent_tells, eqb-false, eqb-true, figure_at, is_unstarted, lt-ltb, tells, ◌≡◌, ◌<◌, ◌≤◌, ◌+◌, ◌-◌, ℕ, suc, true, false, not, List, [], ◌∷◌, ◌++◌, map, take, drop, get_or, length, append_assoc, sym, subst, ap, ◌∙◌, refl, arith, All, sum_by, AllByRecursion, drop-map, get_or-map, length-append, length-take-le, map-append, take-map, take_more, All-from_recursion, recursion_from_All, sum_by-append, sum_by-cons, Target, Slot, AreDue, AreTimed, Waiters, Record, bare, record_at, told, is_in_service, left_of, no_target, targets, is_unfenced, is_unfenced_at, items, kind_of, kinds_of, lowered_by, no_slot, slot_at, abort_enough, due_aborted, due_ended, end_enough, items_append, items_fallen, AreIdle, all_shown, told_aborted, told_back, told_ended, told_front, told_item, told_left, told_long}
 use Rattle.mscp_queue.proofs.Placed.{at_place, cut_at, map_map}
 
 pub cut : (ss : List Slot) (place : ℕ) → place < length ss
@@ -31,28 +31,21 @@ place_in budget clock ss w l = omega (arith, l, ap length w, told_long budget cl
 
 pub item_at : {budget clock total : ℕ} {ss : List Slot} {rs : List Record} {place : ℕ} → AreTimed budget clock total ss
     → told budget clock ss ≡ rs → place < length rs → (slot_at ss place).item ≡ bare (record_at rs place)
-item_at {budget} {clock} {total} {ss} {rs} {place} t w l =
-    told_item budget clock ss place t.dues (place_in budget clock ss w l)
-    ∙ ap (λ rs. bare (record_at rs place)) w
+item_at t w l = grind (arith, w, told_item, place_in)
 
 pub some_is : {budget clock total : ℕ} {ss : List Slot} {rs : List Record} (name : Name) (o : Option ℕ)
     → AreTimed budget clock total ss → told budget clock ss ≡ rs
     → IfSome o (λ place. (place < length ss) × (has_name name (slot_at ss place).item ≡ true))
     → IfSome o (λ place. (place < length rs) × (has_name name (record_at rs place) ≡ true))
-some_is name None t w some = tt
-some_is {budget} {clock} {total} {ss} {rs} name (Some place) t w some =
-    let l : place < length rs = let m = some.0 in omega (arith, m, ap length w, told_long budget clock ss) in
-    (l, ap (λ (r : Record). has_name name r) (sym (item_at t w l)) ∙ some.1)
+some_is h1 h2 h3 h4 h5 = grind (arith, told_long, item_at)
 
 module _ (budget clock : ℕ) (ss : List Slot) (rs : List Record) (place : ℕ) (w : told budget clock ss ≡ rs) where
   -- nobody in front of a place, or behind it, is in service
   pub front_of : All (λ r. r.done ≡ 0) (take place rs) → AreIdle (items (take place ss))
-  front_of h = told_front budget clock ss place (subst (λ zs. AreIdle (take place zs)) (sym w)
-      (recursion_from_All (λ (r : Record). r.done ≡ 0) (take place rs) h))
+  front_of h = grind (arith, told_front, w, recursion_from_All)
 
   pub back_of : All (λ r. r.done ≡ 0) (drop place rs) → AreIdle (items (drop place ss))
-  back_of h = told_back budget clock ss place (subst (λ zs. AreIdle (drop place zs)) (sym w)
-      (recursion_from_All (λ (r : Record). r.done ≡ 0) (drop place rs) h))
+  back_of h = grind (arith, told_back, w, recursion_from_All)
 
 left_with : (front : List Slot) (y : Slot) (back : List Slot)
     → sum_by left_of (items (front ++ y ∷ back)) ≡ sum_by left_of (items (front ++ back)) + left_of y.item
@@ -79,8 +72,7 @@ pub leave_timed : {budget clock total : ℕ} {ss ss' new : List Slot} {place n :
     → AreTimed budget clock total ss → place < length ss → is_in_service (slot_at ss place).item ≡ true
     → AreIdle (items (take place ss)) → AreIdle (items (drop (place + 1) ss)) → n ≡ left_of (slot_at ss place).item
     → ss' ≡ take place ss ++ drop (place + 1) ss → new ≡ map (lowered_by n) ss' → AreTimed budget clock (total - n) new
-leave_timed {budget} {clock} {total} {ss} {ss'} {new} {place} {n} t l serving front back e gone fell =
-    search (arith, cut ss place l, left_at ss place l, items_fallen, due_ended)
+leave_timed t l serving front back e gone fell = grind (arith, cut, left_at, items_fallen, due_ended)
 
 pub leave_enough : {budget clock total : ℕ} {ss ss' : List Slot} {place n : ℕ}
     → AreTimed budget clock total ss → place < length ss → is_in_service (slot_at ss place).item ≡ true
@@ -100,17 +92,7 @@ pub leave_told : {budget clock total : ℕ} {ss ss' new : List Slot} {rs : List 
     → AreIdle (items (take place ss)) → AreIdle (items (drop (place + 1) ss)) → n ≡ left_of (slot_at ss place).item
     → told budget clock ss ≡ rs → ss' ≡ take place ss ++ drop (place + 1) ss → new ≡ map (lowered_by n) ss'
     → told budget clock new ≡ take place rs ++ drop (place + 1) rs
-leave_told {budget} {clock} {total} {ss} {ss'} {new} {rs} {place} {n} t l serving front back e w gone fell =
-    let F = take place ss in
-    let y = slot_at ss place in
-    let B = drop (place + 1) ss in
-    let is = cut ss place l in
-    let long = length-take-le place ss (omega (arith, l)) in
-    let next : suc place ≡ place + 1 = omega arith in
-    ap (told budget clock) (fell ∙ (λ i. map (lowered_by (e i)) (gone i)))
-    ∙ (told_ended budget y B back serving clock F (subst (AreDue budget clock) is t.dues) front
-    ∙ (λ i. take (long i) (told budget clock (sym is i)) ++ drop (suc (long i)) (told budget clock (sym is i)))
-    ∙ (λ i. take place (w i) ++ drop (next i) (w i)))
+leave_told t l serving front back e w gone fell = grind (arith, w, cut, length-take-le, told_ended)
 
 pub seen_left : {X : Type 0} (f : Slot → X) (n : ℕ) (ss ss' new : List Slot) (place : ℕ) (xs : List X)
     → ((s : Slot) → f (lowered_by n s) ≡ f s) → map f ss ≡ xs → ss' ≡ take place ss ++ drop (place + 1) ss
@@ -130,12 +112,7 @@ behind_enough_at {budget} {clock} {total} {ss} {place} {n} t l idle e =
 
 pub still_there : (ss new : List Slot) (place n : ℕ) → place < length ss
     → new ≡ take (place + 1) ss ++ map (lowered_by n) (drop (place + 1) ss) → place < length new
-still_there ss new place n l fell = omega (
-  arith,
-  ap length fell,
-  length-append (take (place + 1) ss) (map (lowered_by n) (drop (place + 1) ss)),
-  length-take-le (place + 1) ss (omega (arith, l)),
-)
+still_there ss new place n l fell = grind (arith, length-append, length-take-le)
 
 -- what is left of slots whose dues fell behind a place, once the one at the place is taken out
 gone_behind : (ss ss' new : List Slot) (place n : ℕ) → place < length ss
@@ -220,36 +197,20 @@ module _ {budget clock total : ℕ} {ss : List Slot} {now : Waiters} {place : �
 
   pub figure_is : is_unstarted (slot_at ss place).item ≡ true
       → (slot_at ss place).due ≡ clock + figure_at now.budget now.waiting place
-  figure_is e =
-      let done : (slot_at ss place).item.done ≡ 0 = eqb-true (slot_at ss place).item.done 0 e in
-      tells budget clock ss place t.dues (place_in budget clock ss w l) (ap (λ n. nat_lt 0 n) done)
-      ∙ ap (λ (k : Waiters). clock + figure_at k.budget k.waiting place) view
+  figure_is e = grind (arith, eqb-true, tells, place_in, w)
 
   pub figure_left : is_unstarted (slot_at ss place).item ≡ false
       → left_of (slot_at ss place).item ≡ figure_at now.budget now.waiting place
-  figure_left e =
-      let r = record_at now.waiting place in
-      let item : (slot_at ss place).item ≡ bare r = item_at t w l in
-      let done = ap (λ (q : Record). q.done) item in
-      let on : is_in_service r ≡ true = lt-ltb 0 r.done (positive r.done (eqb-false r.done 0
-      (ap (λ n. nat_eq n 0) (sym done) ∙ e))) in
-      ap (λ (q : Record). left_of q) item ∙ sym (ap (λ b. cond b (left_of r) (sum_by left_of (take place now.waiting)
-      + sum_by left_of (filter is_in_service (drop (place + 1) now.waiting)) + (now.budget - r.passed) + left_of r)) on)
-    where
-      positive : (n : ℕ) → (n ≡ 0 → ⊥) → 0 < n
-      positive n d = grind (arith, d)
+  figure_left e = grind (arith, item_at, w, lt-ltb, eqb-false)
 
   -- by how many blocks the command at the place was passed
   pub passed_is : (record_at now.waiting place).passed + (slot_at ss place).due
       ≡ clock + sum_by left_of (take (place + 1) now.waiting) + sum_by left_if_serving (drop (place + 1) now.waiting)
       + now.budget
-  passed_is = subst (λ (k : Waiters). (record_at k.waiting place).passed + (slot_at ss place).due
-      ≡ clock + sum_by left_of (take (place + 1) k.waiting) + sum_by left_if_serving (drop (place + 1) k.waiting)
-      + k.budget) view (passes budget clock ss place t.dues (place_in budget clock ss w l))
+  passed_is = grind (arith, passes, place_in, w)
 
   pub passed_low : (record_at now.waiting place).passed ≤ now.budget
-  passed_low = subst (λ (k : Waiters). (record_at k.waiting place).passed ≤ k.budget) view
-      (told_most budget clock ss place t.dues (place_in budget clock ss w l))
+  passed_low = grind (arith, told_most, place_in, w)
 
 -- what the oldest has left of its budget, if nobody is in service
 pub unspent_is : {budget clock total : ℕ} {ss : List Slot} {now : Waiters} → AreTimed budget clock total ss
@@ -257,10 +218,4 @@ pub unspent_is : {budget clock total : ℕ} {ss : List Slot} {now : Waiters} →
     → All (λ r. r.done ≡ 0) now.waiting
     → ((slot_at ss 0).due ≡ clock + left_of (slot_at ss 0).item + (now.budget - (record_at now.waiting 0).passed))
     × (now.budget < 4294967296)
-unspent_is {budget} {clock} {total} {ss} {now} t view some idle = (
-  unspent_tells budget clock ss t.dues (omega (arith, some, long_is budget clock ss view))
-      (subst AreIdle (sym (ap (λ (w : Waiters). w.waiting) view))
-      (recursion_from_All (λ (r : Record). r.done ≡ 0) now.waiting idle))
-      ∙ ap (λ (k : Waiters). clock + left_of (slot_at ss 0).item + (k.budget - (record_at k.waiting 0).passed)) view,
-  subst (λ (k : Waiters). k.budget < 4294967296) view t.fits,
-)
+unspent_is t view some idle = grind (arith, unspent_tells, long_is, w, recursion_from_All)

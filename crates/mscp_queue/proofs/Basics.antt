@@ -3,7 +3,7 @@ pub use Rattle.mscp_queue.proofs.Common.{All, All-from_recursion, All-take, AllB
 pub use Rattle.mscp_queue.proofs.Placed.{Found, cut_at, find_cases, find_first, find_none, map_map, position_any, position_first, position_none}
 pub use Rattle.mscp_queue.proofs.Masked.{after_bit, not_last, one_bit, same_or, slot_has, slot_low, some_free}
 pub use Rattle.mscp_queue.proofs.Named.{is_differ, is_same, same_is}
-pub use Rattle.mscp_queue.proofs.Mapped.{behind_read, behind_set, mapped_more, refilled, removed_at}
+pub use Rattle.mscp_queue.proofs.Mapped.{mapped_more, refilled, removed_at}
 pub use Rattle.mscp_queue.proofs.Freed.{earlier_at}
 pub use Rattle.mscp_queue.proofs.Lists.{every_append, every_from, every_kept, every_of, every_parts, every_weaker, fewer, filter_all, filter_none, filter_one, pairs_append, pairs_cut, range_below, range_more}
 pub use Rattle.mscp_queue.proofs.Sums.{figure_small, figures_more, held_small}
@@ -13,7 +13,7 @@ pub use Rattle.mscp_queue.proofs.Begun.{picked_opens, still_aborted, still_begun
 pub use Rattle.mscp_queue.proofs.Shown.{IsNumber, all_shown, cut_order, item_at, item_set, kept_advanced, kept_left, kept_pushed, long_shown, number_of, shown_left, shown_pushed, slot_is, unfenced_at}
 pub use Rattle.mscp_queue.proofs.Held.{AreIdle, held_fresh, held_pushed, held_renewed, others_idle, passed_idle, renewed}
 pub use Rattle.mscp_queue.proofs.Turns.{StepMade, head_kept, held_step, inside_of, next_turn, pairs_rise, touched_inside, units_step}
-pub use Rattle.mscp_queue.proofs.Dues.{due_pushed, due_stepped, fallen, idle_left, item_there, items_append, items_fallen, late, lowered_none, passes, serving_left, stepped, tells, told_back, told_bare, told_front, told_item, told_left, told_most, told_long, told_pushed, told_stepped, told_within, unspent_tells}
+pub use Rattle.mscp_queue.proofs.Dues.{due_pushed, due_stepped, fallen, idle_left, items_append, items_fallen, late, lowered_none, passes, serving_left, stepped, tells, told_back, told_front, told_item, told_left, told_most, told_long, told_pushed, told_stepped, told_within, unspent_tells}
 pub use Rattle.mscp_queue.proofs.Leaving.{abort_enough, due_aborted, due_ended, end_enough, told_aborted, told_ended}
 pub use Rattle.mscp_queue.proofs.Drives.{apart_by_place, drive_place, known_at, place_is, set_replaced}
 pub use Rattle.mscp_queue.proofs.Targets.{LeadsTo, cylinder_within, has_drive, has_drive_there, leads_to, led, led_inside, own_blocks, own_target, place_inside, place_same, range_low, target_made, targets_cut, targets_kept, targets_pushed}

@@ -1,6 +1,6 @@
 -- Why what was begun stays lawful: what comes later and what is aborted takes nothing from an earlier command's
 -- freedom, and passes rise at starts alone.
-use Rattle.mscp_queue.proofs.Common.{◌≡◌, ℕ, ◌+◌, Bool, true, false, cond, not, ◌&&◌, List, [], ◌∷◌, ◌++◌, take, drop, length, refl, ap, sym, ◌∙◌, subst, append_assoc, arith, All, filter, Option, Some, AllByRecursion, list_all, range_with_len, and_parts, false≢true, length-append, All-from_recursion, filter-append, recursion_from_All, Drive, Choice, IsStillServable, Name, Record, has_name, is_unstarted, name_of, no_record, record_at, without, same_name, IsServable, begun_without, IsPick, is_open, is_open_at, open_places}
+use Rattle.mscp_queue.proofs.Common.{◌≡◌, ℕ, ◌+◌, Bool, true, false, cond, not, ◌&&◌, List, [], ◌∷◌, ◌++◌, take, drop, length, refl, ap, ◌∙◌, subst, append_assoc, arith, All, filter, Option, Some, AllByRecursion, list_all, range_with_len, and_parts, false≢true, length-append, All-from_recursion, filter-append, recursion_from_All, Drive, Choice, IsStillServable, Name, Record, has_name, is_unstarted, name_of, no_record, record_at, without, same_name, IsServable, begun_without, IsPick, is_open, is_open_at, open_places}
 use Rattle.mscp_queue.proofs.Named.{same_is}
 use Rattle.mscp_queue.proofs.Lists.{every_append, every_filter, every_from, every_kept, every_weaker}
 use Rattle.mscp_queue.proofs.Placed.{at_place, cut_at}
@@ -28,8 +28,7 @@ servable : (budget : ℕ) (rs front : List Record) (r : Record) (back : List Rec
     → has_name name r ≡ true → Among budget rs front r back → IsStillServable budget rs name
 servable budget rs front r back name own m =
     let at = at_place rs front r back (length front) no_record m.is refl in
-    let fresh : is_unstarted (record_at rs (length front)) ≡ true → is_unstarted r ≡ true =
-    λ e. ap is_unstarted (sym at.item) ∙ e in
+    let fresh : is_unstarted (record_at rs (length front)) ≡ true → is_unstarted r ≡ true = grind arith in
     let all : IsServable budget rs (length front) = record {
       inside = omega (arith, ap length m.is, length-append front (r ∷ back));
       idle = λ e. All-from_recursion (λ z. z.done ≡ 0) rs (m.idle (fresh e));

@@ -1,14 +1,11 @@
 -- The first of the cheapest of some starts.
-use Rattle.mscp_queue.proofs.Common.{◌≡◌, ◌⊎◌, inl, inr, ⊎_elim, ℕ, ◌<◌, ◌≤◌, Bool, true, false, cond, sym, ◌∙◌, subst, arith, eqb-true, eqb-false, ltb-true, ltb-false, IsAhead, IsBest, comes_before}
+use Rattle.mscp_queue.proofs.Common.{◌≡◌, ◌⊎◌, inl, ⊎_elim, ℕ, ◌≤◌, Bool, true, false, cond, arith, eqb-true, eqb-false, ltb-true, ltb-false, IsAhead, IsBest, comes_before}
 use Rattle.mscp_queue.specs.Starts.{Start}
 
 -- the same places at the same costs
 pub best_same : {P Q : ℕ → Type 0} {c d : ℕ → ℕ} {s : Start} → ((p : ℕ) → P p → Q p × (c p ≡ d p))
     → ((p : ℕ) → Q p → P p) → IsBest P c s → IsBest Q d s
-best_same {P} {Q} {c} {d} {s} f g h = record {
-  is = ⊎_elim (λ e. inl e) (λ x. inr ((f s.place x.0).0, x.1 ∙ (f s.place x.0).1)) h.is;
-  each = λ p q. let a = h.each p (g p q) in (a.0, subst (λ n. IsAhead s n p) (f p (g p q)).1 a.1);
-}
+best_same f g h = grind (arith, ⊎_elim)
 
 -- of no places
 pub best_none : {P : ℕ → Type 0} {c : ℕ → ℕ} (s : Start) → s.place ≡ 64 → ((p : ℕ) → P p → ⊥) → IsBest P c s
@@ -32,30 +29,4 @@ best_known {P} {c} {s} h = ⊎_elim (λ e. omega (arith, e)) (λ x. let l = (h.e
 
 pub best_of_two : {P Q : ℕ → Type 0} {c : ℕ → ℕ} {one other : Start} (s : Start) (b : Bool) → IsBest P c one
     → IsBest Q c other → b ≡ comes_before other one → s ≡ cond b other one → IsBest (λ p. P p ⊎ Q p) c s
-best_of_two {P} {Q} {c} {one} {other} s true h k e f =
-    let t = before other one (best_known h) (sym e) in
-    subst (IsBest (λ p. P p ⊎ Q p) c) (sym f) (record {
-      is = ⊎_elim (λ x. absurd (t.0 x)) (λ x. inr (inr x.0, x.1)) k.is;
-      each = λ p x. ⊎_elim
-          (λ y. let a = h.each p y in (
-            below k.is t.0,
-            ⊎_elim (λ z. absurd (omega (arith, z, a.0)))
-                (λ z. ahead_of other one (c p) p z a.1) t.1,
-          ))
-          (λ y. k.each p y) x;
-    })
-  where
-    below : (other.place ≡ 64) ⊎ (Q other.place × (other.cost ≡ c other.place)) → (other.place ≡ 64 → ⊥)
-        → other.place < 64
-    below o d = ⊎_elim (λ z. absurd (d z)) (λ z. (k.each other.place z.0).0) o
-best_of_two {P} {Q} {c} {one} {other} s false h k e f =
-    let t = not_before other one (best_known k) (sym e) in
-    subst (IsBest (λ p. P p ⊎ Q p) c) (sym f) (record {
-      is = ⊎_elim (λ x. inl x) (λ x. inr (inl x.0, x.1)) h.is;
-      each = λ p x. ⊎_elim (λ y. h.each p y)
-          (λ y. let a = k.each p y in ⊎_elim (λ z. absurd (omega (arith, z, a.0)))
-          (λ z. (below h.is z.0, ahead_of one other (c p) p z.1 a.1)) t) x;
-    })
-  where
-    below : (one.place ≡ 64) ⊎ (P one.place × (one.cost ≡ c one.place)) → (one.place ≡ 64 → ⊥) → one.place < 64
-    below o d = ⊎_elim (λ z. absurd (d z)) (λ z. (h.each one.place z.0).0) o
+best_of_two s h7 h k e f = grind (arith, before, best_known, ⊎_elim, ahead_of, not_before)

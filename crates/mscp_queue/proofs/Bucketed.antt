@@ -1,6 +1,6 @@
 -- The buckets stay those of the waiting commands, and a command is found by its number.
-use Rattle.mscp_queue.proofs.Basics.{◌≡◌, ◌≢◌, ◌<◌, ◌+◌, ◌⊎◌, ⊎_elim, inl, inr, ℕ, suc, Bool, true, false, cond, ◌&&◌, ◌||◌, nat_eq, List, [], ◌∷◌, ◌++◌, set, take, drop, remove, get_or, length, sym, subst, ap, ◌∙◌, refl, arith, bit_at, eq-eqb, get_or-set_other, get_or-set_same, list_any, one_bit, same_or, true≢false, Masks, AreSlots, Record, and_parts, ne_eqb, slot_low, has_name, AreApart, IfSome, Option, Some, None, is_some, name_of, names, no_record, position, position_any, record_at, Slot, shown, IsNumber, cut_order, same_is}
-use Rattle.mscp_queue.proofs.Common.{and_right, IfNone, AreBuckets, AreSlotted, IsPut, IsSet, Name, Target, bit, bucket_at, bucket_of, has, items}
+use Rattle.mscp_queue.proofs.Basics.{◌≡◌, ◌<◌, ◌+◌, ⊎_elim, ℕ, suc, Bool, true, false, ◌||◌, nat_eq, List, [], ◌∷◌, ◌++◌, set, take, drop, remove, get_or, length, sym, subst, ap, ◌∙◌, refl, arith, bit_at, eq-eqb, get_or-set_other, get_or-set_same, list_any, one_bit, same_or, true≢false, Masks, AreSlots, Record, and_parts, ne_eqb, slot_low, has_name, AreApart, IfSome, Option, Some, None, is_some, name_of, names, no_record, position, position_any, record_at, Slot, shown, IsNumber, cut_order, same_is}
+use Rattle.mscp_queue.proofs.Common.{and_right, IfNone, AreBuckets, AreSlotted, IsPut, IsSet, Name, Target, bucket_at, bucket_of, has, items}
 use Rattle.mscp_queue.proofs.Masked.{classes_pushed}
 use Rattle.mscp_queue.proofs.Departed.{classes_without, order_left}
 use Rattle.mscp_queue.proofs.Nexts.{name_found}
@@ -11,8 +11,7 @@ pub buckets_pushed : (rs : List Record) (order old new next : List ℕ) (n refer
     → IsPut true n reference old new → next ≡ order ++ n ∷ [] → AreBuckets (set rs n r) next new
 buckets_pushed rs order old new next n reference r h free low long is put e =
     let item : get_or (set rs n r) n no_record ≡ r = get_or-set_same rs n r no_record (omega (arith, low, long)) in
-    let own : bucket_of reference ≡ bucket_at (set rs n r) n =
-    ap bucket_of (is ∙ sym (ap (λ (q : Record). q.command.reference) item)) in
+    let own : bucket_of reference ≡ bucket_at (set rs n r) n = grind arith in
     subst (λ o. AreBuckets (set rs n r) o new) (sym e)
     (classes_pushed (bucket_at rs) (bucket_at (set rs n r)) order old new n h free low
     (λ k d. ap (λ (q : Record). bucket_of q.command.reference) (get_or-set_other rs n k r no_record d))
@@ -38,14 +37,7 @@ buckets_left rs order old new rest place n reference h apart at is put e =
 pub buckets_kept : (rs : List Record) (order buckets : List ℕ) (n : ℕ) (r : Record) → AreBuckets rs order buckets
     → n < 64 → length rs ≡ 64 → r.command.reference ≡ (get_or rs n no_record).command.reference
     → AreBuckets (set rs n r) order buckets
-buckets_kept rs order buckets n r h low long same u k l =
-    h u k l ∙ ap (λ c. bit (has k order && nat_eq c u)) (by (same_or k n))
-  where
-    by : (k ≡ n) ⊎ (k ≢ n) → bucket_at rs k ≡ bucket_at (set rs n r) k
-    by (inl e) = ap (bucket_at rs) e ∙ (ap bucket_of (sym same)
-        ∙ (ap (λ (q : Record). bucket_of q.command.reference)
-        (sym (get_or-set_same rs n r no_record (omega (arith, low, long)))) ∙ ap (bucket_at (set rs n r)) (sym e)))
-    by (inr d) = ap (λ (q : Record). bucket_of q.command.reference) (sym (get_or-set_other rs n k r no_record d))
+buckets_kept rs order buckets n r h low long same u k l = grind (arith, same_or, get_or-set_same, get_or-set_other)
 
 -- ---- a search
 -- what is left of a bucket has slots of it, and of the others none has a command of this name
@@ -53,38 +45,17 @@ pub record Searches (name : Name) (rs : List Record) (bucket left : ℕ) : Type 
   pub of_bucket : (k : ℕ) → k < 64 → bit_at left k ≡ 1 → bit_at bucket k ≡ 1
   pub seen : (k : ℕ) → k < 64 → bit_at bucket k ≡ 1 → bit_at left k ≡ 0 → has_name name (get_or rs k no_record) ≡ false
 
-pub searches_first : (name : Name) (rs : List Record) (bucket : ℕ) → Searches name rs bucket bucket
-searches_first name rs bucket = record {
-  of_bucket = λ k l on. on;
-  seen = λ k l on off. absurd (omega (arith, on, off));
-}
-
 pub searches_on : {name : Name} {rs : List Record} {bucket left : ℕ} (slot left' : ℕ) → Searches name rs bucket left
     → slot < 64 → IsSet false slot left left' → has_name name (get_or rs slot no_record) ≡ false
     → Searches name rs bucket left'
-searches_on {name} {rs} {bucket} {left} slot left' h low set miss = record {
-  of_bucket = λ k l on. ⊎_elim (λ e. let off = here k l e in absurd (omega (arith, on, off)))
-      (λ d. h.of_bucket k l (sym (kept k l d) ∙ on)) (same_or k slot);
-  seen = λ k l on off. ⊎_elim (λ e. ap (λ k. has_name name (get_or rs k no_record)) e ∙ miss)
-      (λ d. h.seen k l on (sym (kept k l d) ∙ off)) (same_or k slot);
-}
-  where
-    kept : (k : ℕ) → k < 64 → k ≢ slot → bit_at left' k ≡ bit_at left k
-    kept k l d = set k l ∙ ap (λ b. cond b 0 (bit_at left k)) (ne_eqb k slot d)
-
-    here : (k : ℕ) → k < 64 → k ≡ slot → bit_at left' k ≡ 0
-    here k l e = set k l ∙ ap (λ b. cond b 0 (bit_at left k)) (eq-eqb k slot e)
+searches_on slot left' h low set miss = grind (arith, ⊎_elim, same_or, ne_eqb, eq-eqb)
 
 module _ {rs : List Record} {own : List Target} {order : List ℕ} {m : Masks} {ranges buckets : List ℕ} (ds : List ℕ)
     (now : List Slot) (slotted : AreSlotted rs own order m ranges buckets) (view : shown rs own ds order ≡ now)
     (name : Name) (left : ℕ) (h : Searches name rs (get_or buckets (bucket_of name.reference) 0) left) where
   -- a slot that is left stands at a place
   pub number_in : (slot : ℕ) → slot < 64 → bit_at left slot ≡ 1 → (place : ℕ) × IsNumber order place slot
-  number_in slot low on =
-      let bits = sym (slotted.bucketed (bucket_of name.reference) slot low) ∙ h.of_bucket slot low on in
-      let taken = and_parts (has slot order) (nat_eq (bucket_at rs slot) (bucket_of name.reference)) (one_bit _ bits) in
-      let at = placed order slot taken.0 in
-      (at.0, record { low = low; taken = taken.0; inside = at.1; is = at.2 })
+  number_in slot low on = grind (arith, and_parts, one_bit, placed)
 
   -- in the end no command has the name
   pub none_named : ((k : ℕ) → k < 64 → bit_at left k ≡ 0) → list_any (has_name name) (items now) ≡ false
@@ -99,19 +70,10 @@ module _ {rs : List Record} {own : List Target} {order : List ℕ} {m : Masks} {
           ∙ any_off xs (λ k there. e k (ap (λ b. nat_eq k s || b) there ∙ or_true (nat_eq k s)))
         where
           or_true : (b : Bool) → (b || true) ≡ true
-          or_true true = refl
-          or_true false = refl
+          or_true h1 = grind arith
 
       each : (k : ℕ) → has k order ≡ true → has_name name (get_or rs k no_record) ≡ false
-      each k there =
-          let at = placed order k there in
-          let low : k < 64 = subst (λ k. k < 64) (sym at.2) (slot_low order at.0 slotted.kept.masks.apart at.1) in
-          ⊎_elim
-          (λ e. h.seen k low (slotted.bucketed (bucket_of name.reference) k low
-          ∙ ap bit ((λ i. there i && eq-eqb (bucket_at rs k) (bucket_of name.reference) e i))) (off k low))
-          (λ d. and_right _ _ (ne_eqb (get_or rs k no_record).command.reference name.reference
-          (λ f. d (ap bucket_of f))))
-          (same_or (bucket_at rs k) (bucket_of name.reference))
+      each k there = grind (arith, placed, slot_low, ⊎_elim, eq-eqb, and_right, ne_eqb, same_or)
 
 -- ---- among names that stand once
 -- a place of a command of this name is that of the first one, and where there is none there is no first
@@ -124,5 +86,4 @@ found_place name rs None apart some none =
     sym (no_place (position (has_name name) rs) (position_any (has_name name) rs ∙ none))
   where
     no_place : (o : Option ℕ) → is_some o ≡ false → o ≡ None
-    no_place None e = refl
-    no_place (Some place) e = absurd (true≢false e)
+    no_place h1 e = grind (arith, true≢false)

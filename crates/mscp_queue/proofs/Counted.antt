@@ -1,5 +1,5 @@
 -- How many bits of a mask are set: as many as there are slots in it.
-use Rattle.mscp_queue.proofs.Basics.{◌≡◌, ◌≢◌, ◌<◌, ◌≤◌, ◌+◌, ◌^◌, ◌%◌, ◌/◌, ◌⊎◌, inl, inr, ℕ, zero, suc, true, false, ◌||◌, nat_eq, List, [], ◌∷◌, count_ones, length, get_or, take, drop, sym, subst, ap, ◌∙◌, refl, arith, bit_at, eq-eqb, ne_eqb, length-take-le, bit_at-suc, bit_at_lowest, slice_index_or, Masks, AreEarlier, AreMasks, AreSlots, IsMaskOf, Kind, bit, has, earlier_at, same_or, slot_has, IsNumber, cut_order}
+use Rattle.mscp_queue.proofs.Basics.{◌≡◌, ◌≢◌, ◌<◌, ◌≤◌, ◌+◌, ◌^◌, ◌%◌, ◌/◌, ◌⊎◌, inl, inr, ℕ, zero, suc, true, ◌||◌, nat_eq, List, [], ◌∷◌, count_ones, length, get_or, take, drop, sym, subst, ap, ◌∙◌, refl, arith, bit_at, eq-eqb, ne_eqb, length-take-le, bit_at-suc, bit_at_lowest, slice_index_or, Masks, AreEarlier, AreMasks, AreSlots, IsMaskOf, Kind, bit, has, earlier_at, same_or, slot_has, IsNumber, cut_order}
 use lib.Count.{ones_step, ones-le}
 use native.Mathlib.Nat.{pow-suc}
 use Rattle.mscp_queue.proofs.Fallen.{slots_front}
@@ -29,8 +29,7 @@ total_one : (w s : ℕ) → s < w → total w (λ k. bit (nat_eq k s)) ≡ 1
 unfolding total
 total_one zero s l = absurd (omega (arith, l))
 total_one (suc w) zero l = search (arith, total_none w, total_on, nat_eq, ne_eqb)
-total_one (suc w) (suc s) l =
-    search (arith, nat_eq 0 (suc s), total_one w s (omega (arith, l)), ne_eqb, total_on, same_or, nat_eq, eq-eqb)
+total_one (suc w) (suc s) l = grind (arith, ne_eqb, total_on, same_or, eq-eqb, total_one w s (omega (arith, l)))
 
 -- slots that stand once are as many as there are
 total_has : (w : ℕ) (xs : List ℕ) → 64 ≤ w → AreSlots xs → total w (λ k. bit (has k xs)) ≡ length xs
@@ -42,13 +41,7 @@ total_has w (s ∷ xs) l a =
     omega (arith, both, total_one w s (omega (arith, l, a.0)), total_has w xs l a.2)
   where
     by : (k : ℕ) → (k ≡ s) ⊎ (k ≢ s) → bit (nat_eq k s || has k xs) ≡ bit (nat_eq k s) + bit (has k xs)
-    by k (inl e) =
-        let gone : has k xs ≡ false = ap (λ k. has k xs) e ∙ a.1 in
-        (λ i. bit (eq-eqb k s e i || gone i)) ∙ sym (λ i. bit (eq-eqb k s e i) + bit (gone i))
-    by k (inr d) =
-        let off = ne_eqb k s d in
-        let same : bit (has k xs) ≡ 0 + bit (has k xs) = omega arith in
-        ap (λ b. bit (b || has k xs)) off ∙ (same ∙ ap (λ b. bit b + bit (has k xs)) (sym off))
+    by k h2 = grind (arith, eq-eqb, ne_eqb)
 
 -- ---- the bits of a number
 total_bits : (w m : ℕ) → m < 2 ^ w → count_ones m ≡ total w (bit_at m)

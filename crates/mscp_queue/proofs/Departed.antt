@@ -1,18 +1,10 @@
 -- The masks stay those of the slots where a command leaves: at an end or an abort.
-use Rattle.mscp_queue.proofs.Common.{◌≡◌, ◌≢◌, ◌<◌, ◌⊎◌, inl, inr, ℕ, Bool, true, false, ◌&&◌, ◌||◌, nat_eq, List, [], ◌∷◌, ◌++◌, sym, subst, ap, ◌∙◌, refl, arith, eqb-true, slice_index_or, append-nil, Masks, AreClasses, AreEarlier, AreMasks, AreSlots, HasLeft, IsMaskOf, IsSet, Kind, bit, has}
+use Rattle.mscp_queue.proofs.Common.{◌≡◌, ◌≢◌, ◌<◌, ◌⊎◌, ℕ, Bool, true, false, ◌||◌, nat_eq, List, [], ◌∷◌, ◌++◌, sym, subst, ap, ◌∙◌, refl, arith, eqb-true, slice_index_or, append-nil, Masks, AreClasses, AreEarlier, AreMasks, AreSlots, HasLeft, IsMaskOf, IsSet, Kind, bit, has}
 use Rattle.mscp_queue.proofs.Masked.{eq_false, eq_true, has_gone, has_kept, if_not, not_behind, not_here, off, same_or, set_mask, unit_set, without, without_append}
 
 slots_left : (order : List ℕ) (n : ℕ) → AreSlots order → AreSlots (without n order)
 slots_left [] n a = tt
-slots_left (s ∷ order) n a = by (slots_left order n a.2) (same_or s n)
-  where
-    by : AreSlots (without n order) → (s ≡ n) ⊎ (s ≢ n) → AreSlots (if_not (nat_eq s n) s (without n order))
-    by h (inl f) = subst (λ b. AreSlots (if_not b s (without n order))) (sym (eq_true s n f)) h
-    by h (inr d) = subst (λ b. AreSlots (if_not b s (without n order))) (sym (eq_false s n d)) (
-      a.0,
-      has_kept s n order d ∙ a.1,
-      h,
-    )
+slots_left (s ∷ order) n a = grind (arith, same_or, eq_true, eq_false, has_kept, slots_left order n a.2)
 
 module _ (earlier earlier' : ℕ → ℕ) (n : ℕ) where
   cleared : (s : ℕ) (front : List ℕ) → IsSet false n (earlier s) (earlier' s) → IsMaskOf (earlier s) (λ k. has k front)
@@ -27,24 +19,14 @@ module _ (earlier earlier' : ℕ → ℕ) (n : ℕ) where
       clear k (ap (λ b. nat_eq k s || b) there ∙ or_true (nat_eq k s))) a.1) (same_or s n)
     where
       or_true : (b : Bool) → (b || true) ≡ true
-      or_true true = refl
-      or_true false = refl
+      or_true h1 = grind arith
 
       ends : (b : Bool) → nat_eq s n ≡ b → without n (front ++ s ∷ []) ≡ without n front ++ if_not b s []
       ends b e = without_append n front (s ∷ []) ∙ ap (λ b. without n front ++ if_not b s []) e
 
       by : AreEarlier earlier' (without n (front ++ s ∷ [])) (without n order) → (s ≡ n) ⊎ (s ≢ n)
           → AreEarlier earlier' (without n front) (if_not (nat_eq s n) s (without n order))
-      by rest (inl f) =
-          subst (λ b. AreEarlier earlier' (without n front) (if_not b s (without n order))) (sym (eq_true s n f))
-          (subst (λ xs. AreEarlier earlier' xs (without n order)) (ends true (eq_true s n f)
-          ∙ append-nil (without n front)) rest)
-      by rest (inr d) =
-          subst (λ b. AreEarlier earlier' (without n front) (if_not b s (without n order))) (sym (eq_false s n d)) (
-            cleared s front (clear s (ap (λ b. b || has s order) (eq_true s s refl)) d) a.0,
-            subst (λ xs. AreEarlier earlier' xs (without n order))
-                (ends false (eq_false s n d)) rest,
-          )
+      by rest h2 = grind (arith, eq_true, ends, append-nil, eq_false, cleared)
 
 slot_low : (order : List ℕ) (k : ℕ) → AreSlots order → has k order ≡ true → k < 64
 slot_low [] k a e = let bad = ap bit e in absurd (omega (arith, bad))
@@ -61,30 +43,14 @@ pub classes_without : (f : ℕ → ℕ) (order old new : List ℕ) (n : ℕ) →
     → IsSet false n (slice_index_or old (f n) 0) (slice_index_or new (f n) 0)
     → ((u : ℕ) → u ≢ f n → slice_index_or new u 0 ≡ slice_index_or old u 0) → AreClasses f (without n order) new
 classes_without f order old new n h low own others u =
-    set_mask (slice_index_or old u 0) (slice_index_or new u 0) n false _ _ (cleared_at (same_or (f n) u)) (h u)
-    (ap (λ b. b && nat_eq (f n) u) (has_gone n order))
-    (λ k d. ap (λ b. b && nat_eq (f k) u) (has_kept k n order d))
-  where
-    both_false : (b : Bool) → (b && false) ≡ false
-    both_false true = refl
-    both_false false = refl
-
-    cleared_at : (f n ≡ u) ⊎ (f n ≢ u) → IsSet false n (slice_index_or old u 0) (slice_index_or new u 0)
-    cleared_at (inl e) = subst (λ v. IsSet false n (slice_index_or old v 0) (slice_index_or new v 0)) e own
-    cleared_at (inr d) =
-        unit_set _ _ n false (λ e. let bad = ap bit e in absurd (omega (arith, bad)))
-        (λ e. others u (λ f. d (sym f)))
-        (h u n low ∙ ap (λ b. bit (has n order && b)) (eq_false (f n) u d) ∙ ap bit (both_false (has n order)))
+    grind (arith, set_mask, same_or, has_gone, has_kept, unit_set, eq_false)
 
 masks_without : (kinds : ℕ → Kind) (order : List ℕ) (m m' : Masks) (n : ℕ) → AreMasks kinds order m → n < 64
     → HasLeft n (kinds n).drive m m' → AreMasks kinds (without n order) m'
 masks_without kinds order m m' n masks low l = record {
   apart = slots_left order n masks.apart;
   of_waiting = search (arith, set_mask, has_gone, has_kept);
-  of_sequential =
-      set_mask m.sequential m'.sequential n false _ _ l.ordered masks.of_sequential
-      (ap (λ b. b && (kinds n).sequential) (has_gone n order))
-      (λ k d. ap (λ b. b && (kinds k).sequential) (has_kept k n order d));
+  of_sequential = grind (arith, set_mask, has_gone, has_kept);
   of_units = classes_without (λ k. (kinds k).drive) order m.units m'.units n masks.of_units low l.own l.units;
   of_earlier = earlier_kept kinds order m m' n (kinds n).drive masks l
       (set_mask m.waiting m'.waiting n false _ _ l.waits masks.of_waiting (has_gone n order)
@@ -94,9 +60,7 @@ masks_without kinds order m m' n masks low l = record {
 -- ---- the order without a slot
 without_none : (n : ℕ) (xs : List ℕ) → has n xs ≡ false → without n xs ≡ xs
 without_none n [] e = refl
-without_none n (x ∷ xs) e =
-    ap (λ b. if_not b x (without n xs)) (eq_false x n (not_here n x xs e))
-    ∙ ap (λ xs. x ∷ xs) (without_none n xs (not_behind n x xs e))
+without_none n (x ∷ xs) e = grind (arith, eq_false, not_here, not_behind, without_none n xs (not_behind n x xs e))
 
 -- a slot stands once
 pub once_in : (front : List ℕ) (n : ℕ) (back : List ℕ) → AreSlots (front ++ n ∷ back)
@@ -114,11 +78,7 @@ once_in (s ∷ front) n back a =
 -- without a slot that stands once
 pub order_left : (front back : List ℕ) (n : ℕ) → AreSlots (front ++ n ∷ back)
     → without n (front ++ n ∷ back) ≡ front ++ back
-order_left front back n apart =
-    let once = once_in front n back apart in
-    without_append n front (n ∷ back)
-    ∙ ((λ i. without_none n front once.0 i ++ if_not (eq_true n n refl i) n (without n back))
-    ∙ ap (λ ys. front ++ ys) (without_none n back once.1))
+order_left front back n apart = grind (arith, once_in, without_append, without_none, eq_true)
 
 pub masks_left : (kinds : ℕ → Kind) (front back : List ℕ) (m m' : Masks) (n : ℕ)
     → AreMasks kinds (front ++ n ∷ back) m → n < 64 → HasLeft n (kinds n).drive m m'

@@ -63,10 +63,7 @@ set_is (x ∷ ds) zero n new p l d e num =
   where
     others : (qs : List Drive) → AllByRecursion (λ q. x.unit.number < q.unit.number) qs → replaced n new qs ≡ qs
     others [] h = refl
-    others (q ∷ qs) h =
-        let own : x.unit.number ≡ n = ap (λ (q : Drive). q.unit.number) (sym e) ∙ num in
-        (λ i. (ap (λ b. if b then new else q) (ne_eqb q.unit.number n (λ s. omega (arith, s, own, h.0))) i)
-        ∷ others qs h.1 i)
+    others (q ∷ qs) h = grind (arith, ne_eqb, others qs h.1)
 set_is (x ∷ ds) (suc at) n new p l d e num =
     let below : at < length ds = omega (arith, l) in
     let up = every_mapped (λ (q : Drive). q.unit) (Lower x.unit) ds p.0 in

@@ -1,5 +1,5 @@
 -- Each event keeps the dues, and makes of what is told of the slots what it should.
-use Rattle.mscp_queue.proofs.Common.{◌≡◌, ◌<◌, ◌≤◌, ◌+◌, ◌-◌, ℕ, zero, suc, true, false, cond, List, [], ◌∷◌, ◌++◌, map, take, drop, get_or, length, sym, subst, ap, ◌∙◌, refl, arith, filter, nat_lt, sum_by, AllByRecursion, lt-ltb, take_more, sum_by-append, sum_by-cons, Slot, AreDue, IsDue, bare, figure_at, last_end, left_in_service, told, Record, advanced, is_in_service, left_if_serving, left_of, no_record, passed_by, record_at, items, lowered_by, slot_at}
+use Rattle.mscp_queue.proofs.Common.{◌≡◌, ◌<◌, ◌≤◌, ◌+◌, ◌-◌, ℕ, zero, suc, true, false, cond, List, [], ◌∷◌, ◌++◌, map, take, drop, length, sym, subst, ap, ◌∙◌, refl, arith, filter, nat_lt, sum_by, AllByRecursion, lt-ltb, take_more, sum_by-append, sum_by-cons, Slot, AreDue, IsDue, bare, figure_at, last_end, left_in_service, told, Record, advanced, is_in_service, left_if_serving, left_of, no_record, passed_by, record_at, items, lowered_by, slot_at}
 use Rattle.mscp_queue.proofs.Held.{AreIdle}
 
 idle_of : (r : Record) → r.done ≡ 0 → is_in_service r ≡ false
@@ -27,21 +27,11 @@ items_append (x ∷ xs) ys = ap (λ rs. x.item ∷ rs) (items_append xs ys)
 pub serving_mid : (front : List Record) (z : Record) (back : List Record)
     → AreIdle front → AreIdle back → sum_by left_if_serving (front ++ z ∷ back) ≡ left_if_serving z
 serving_mid [] z back i j = search (arith, serving_cons z back, idle_serving back j)
-serving_mid (r ∷ front) z back i j = search (
-  arith,
-  serving_cons r (front ++ z ∷ back),
-  idle_left r (idle_of r i.0),
-  idle_of r i.0,
-  serving_mid front z back i.1 j,
-)
+serving_mid (r ∷ front) z back i j = grind (arith, serving_cons, idle_left, idle_of, serving_mid front z back i.1 j)
 
 pub items_fallen : (n : ℕ) (ss : List Slot) → items (map (lowered_by n) ss) ≡ items ss
 items_fallen n [] = refl
 items_fallen n (s ∷ ss) = ap (λ rs. s.item ∷ rs) (items_fallen n ss)
-
-pub item_there : (ss : List Slot) (k : ℕ) → k < length ss → (slot_at ss k).item ≡ get_or (items ss) k no_record
-item_there (s ∷ ss) (suc k) l = item_there ss k (omega (arith, l))
-item_there ss k h2 = grind arith
 
 pub lowered_none : (n : ℕ) (ss : List Slot) → n ≡ 0 → ss ≡ map (lowered_by n) ss
 lowered_none n [] e = refl
@@ -71,11 +61,6 @@ module _ (budget : ℕ) where
   told_long a [] = refl
   told_long a (s ∷ ss) = ap suc (told_long (a + left_of s.item) ss)
 
-  pub told_bare : (a : ℕ) (ss : List Slot) → AreDue budget a ss → map bare (told budget a ss) ≡ items ss
-  told_bare a [] d = refl
-  told_bare a (s ∷ ss) d =
-      λ i. with_passed (sym d.0.bare i) s.item ∷ told_bare (a + left_of s.item) ss d.1 i
-
   pub told_item : (a : ℕ) (ss : List Slot) (k : ℕ) → AreDue budget a ss → k < length ss
       → (slot_at ss k).item ≡ bare (record_at (told budget a ss) k)
   told_item a [] k d l = absurd (omega (arith, l))
@@ -84,14 +69,11 @@ module _ (budget : ℕ) where
 
   pub told_left : (a : ℕ) (ss : List Slot) → sum_by left_of (told budget a ss) ≡ sum_by left_of (items ss)
   told_left a [] = refl
-  told_left a (s ∷ ss) = sum_by-cons left_of (first_told a s ss) (told budget (a + left_of s.item) ss)
-      ∙ (ap (λ n. left_of s.item + n) (told_left (a + left_of s.item) ss) ∙ sym (sum_by-cons left_of s.item (items ss)))
+  told_left a (s ∷ ss) = search (arith, sum_by-cons, told_left (a + left_of s.item) ss)
 
   pub told_serving : (a : ℕ) (ss : List Slot) → sum_by left_if_serving (told budget a ss) ≡ left_in_service ss
   told_serving a [] = refl
-  told_serving a (s ∷ ss) = serving_cons (first_told a s ss) (told budget (a + left_of s.item) ss)
-      ∙ (ap (λ n. left_if_serving s.item + n) (told_serving (a + left_of s.item) ss)
-      ∙ sym (serving_cons s.item (items ss)))
+  told_serving a (s ∷ ss) = grind (arith, serving_cons, told_serving (a + left_of s.item) ss)
 
   pub told_front : (a : ℕ) (ss : List Slot) (place : ℕ) → AreIdle (take place (told budget a ss))
       → AreIdle (items (take place ss))
@@ -128,14 +110,7 @@ module _ (budget : ℕ) where
       let p : (last_end a (left_in_service (map (lowered_by n) ss)) (lowered_by n s) + budget) - (s.due - n)
       ≡ (last_end (a + n) (left_in_service ss) s + budget) - s.due = omega (arith, serving, least) in
       record {
-        dues = (
-          record {
-            bare = d.0.bare;
-            least = omega (arith, serving, least);
-            most = omega (arith, serving, most, least);
-          },
-          rest.dues,
-        );
+        dues = grind arith;
         same = λ i. with_passed (p i) s.item ∷ (rest.same ∙ ap (λ k. told budget k ss) (sym e)) i;
       }
 
@@ -150,8 +125,7 @@ module _ (budget : ℕ) where
   -- ---- a push
   serving_pushed : (ss : List Slot) (x : Slot) → x.item.done ≡ 0 → left_in_service (ss ++ x ∷ []) ≡ left_in_service ss
   serving_pushed [] x idle = serving_cons x.item [] ∙ omega (arith, idle_left x.item (idle_of x.item idle))
-  serving_pushed (s ∷ ss) x idle = serving_cons s.item (items (ss ++ x ∷ []))
-      ∙ ap (λ n. left_if_serving s.item + n) (serving_pushed ss x idle) ∙ sym (serving_cons s.item (items ss))
+  serving_pushed (s ∷ ss) x idle = grind (arith, serving_cons, serving_pushed ss x idle)
 
   pub due_pushed : (a : ℕ) (ss : List Slot) (x : Slot) → AreDue budget a ss → x.item.passed ≡ 0 → x.item.done ≡ 0
       → x.due ≡ a + sum_by left_of (items ss) + budget + left_of x.item → AreDue budget a (ss ++ x ∷ [])
@@ -166,9 +140,7 @@ module _ (budget : ℕ) where
   pub told_pushed : (a : ℕ) (ss : List Slot) (x : Slot) → x.item.passed ≡ 0 → x.item.done ≡ 0
       → x.due ≡ a + sum_by left_of (items ss) + budget + left_of x.item
       → told budget a (ss ++ x ∷ []) ≡ told budget a ss ++ x.item ∷ []
-  told_pushed a [] x bare idle n =
-      let p : (last_end a 0 x + budget) - x.due ≡ x.item.passed = omega (arith, n, bare) in
-      λ i. with_passed (p i) x.item ∷ []
+  told_pushed a [] x bare idle n = grind arith
   told_pushed a (s ∷ ss) x bare idle n =
       let n' : x.due ≡ a + left_of s.item + sum_by left_of (items ss) + budget + left_of x.item =
       omega (arith, sum_by-cons left_of s.item (items ss), n) in
@@ -186,8 +158,7 @@ module _ (budget : ℕ) where
   told_within a [] zero d = tt
   told_within a [] (suc place) d = tt
   told_within a (s ∷ ss) zero d = tt
-  told_within a (s ∷ ss) (suc place) d =
-      let least = d.0.least in (omega (arith, least), told_within (a + left_of s.item) ss place d.1)
+  told_within a (s ∷ ss) (suc place) d = grind (arith, told_within (a + left_of s.item) ss place d.1)
 
   module _ (n : ℕ) (y z : Slot) (back : List Slot) (j : AreIdle (items back)) (charge : left_of y.item
       ≡ left_if_serving y.item + n) (unfinished : y.item.done < y.item.weight) (step : z.item ≡ advanced y.item)
@@ -199,12 +170,10 @@ module _ (budget : ℕ) where
     less = let e = ap (λ (r : Record). left_of r) step in omega (arith, e, unfinished)
 
     before : (front : List Slot) → AreIdle (items front) → left_in_service (front ++ y ∷ back) ≡ left_if_serving y.item
-    before front i = ap (sum_by left_if_serving) (items_append front (y ∷ back))
-        ∙ serving_mid (items front) y.item (items back) i j
+    before front i = grind (arith, items_append, serving_mid)
 
     after : (front : List Slot) → AreIdle (items front) → left_in_service (front ++ z ∷ back) ≡ left_of z.item
-    after front i = ap (sum_by left_if_serving) (items_append front (z ∷ back))
-        ∙ serving_mid (items front) z.item (items back) i j ∙ serving_left z.item busy
+    after front i = grind (arith, items_append, serving_mid, serving_left, busy)
 
     there : (a : ℕ) → a + 1 + left_of z.item ≡ a + left_of y.item
     there a = omega (arith, less)
@@ -212,46 +181,14 @@ module _ (budget : ℕ) where
     pub due_stepped : (a : ℕ) (front : List Slot) → AreDue budget a (front ++ y ∷ back) → AreIdle (items front)
         → MayPass n (take (length front) (told budget a (front ++ y ∷ back)))
         → AreDue budget (a + 1) (front ++ z ∷ back)
-    due_stepped a [] d i m =
-        let least = d.0.least in
-        let most = d.0.most in
-        let none = idle_serving (items back) j in
-        let bare = ap (λ (r : Record). r.passed) step ∙ d.0.bare in (
-          record {
-            bare = bare;
-            least = omega (arith, least, none, less, due);
-            most = omega (arith, most, none, less, due);
-          },
-          at_same back (sym (there a)) d.1,
-        )
+    due_stepped a [] d i m = grind (arith, idle_serving, less, at_same, there)
     due_stepped a (x ∷ front) d i m =
-        let least = d.0.least in
-        let most = d.0.most in
-        let may = m.0 in
-        let e : a + left_of x.item + 1 ≡ a + 1 + left_of x.item = omega arith in (
-          record {
-            bare = d.0.bare;
-            least = omega (arith, least, most, may, before front i.1, after front i.1, less, charge);
-            most = omega (arith, most, before front i.1, after front i.1, less, charge);
-          },
-          at_same (front ++ z ∷ back) e (due_stepped (a + left_of x.item) front d.1 i.1 m.1),
-        )
+        grind (arith, before, after, less, at_same, due_stepped (a + left_of x.item) front d.1 i.1 m.1)
 
     pub told_stepped : (a : ℕ) (front : List Slot) → AreDue budget a (front ++ y ∷ back) → AreIdle (items front)
         → told budget (a + 1) (front ++ z ∷ back) ≡ stepped n (length front) (told budget a (front ++ y ∷ back))
-    told_stepped a [] d i =
-        let none = idle_serving (items back) j in
-        let p : (last_end (a + 1) (left_in_service back) z + budget) - z.due
-        ≡ (last_end a (left_in_service back) y + budget) - y.due = omega (arith, none, less, due) in
-        λ k. with_passed (p k) (step k) ∷ told budget (there a k) back
-    told_stepped a (x ∷ front) d i =
-        let most = d.0.most in
-        let p : (last_end (a + 1) (left_in_service (front ++ z ∷ back)) x + budget) - x.due
-        ≡ (last_end a (left_in_service (front ++ y ∷ back)) x + budget) - x.due + n =
-        omega (arith, most, before front i.1, after front i.1, less, charge) in
-        let e : a + 1 + left_of x.item ≡ a + left_of x.item + 1 = omega arith in
-        let rest = ap (λ k. told budget k (front ++ z ∷ back)) e ∙ told_stepped (a + left_of x.item) front d.1 i.1 in
-        λ k. with_passed (p k) x.item ∷ rest k
+    told_stepped a [] d i = grind (arith, idle_serving, less, there)
+    told_stepped a (x ∷ front) d i = grind (arith, before, after, less, told_stepped (a + left_of x.item) front d.1 i.1)
 
   -- ---- what a due tells
   pub late : (a : ℕ) (ss : List Slot) → AreDue budget a ss → AllByRecursion (λ s. a ≤ s.due) ss
@@ -270,14 +207,7 @@ module _ (budget : ℕ) where
       ≡ a + sum_by left_of (take (k + 1) (told budget a ss))
       + sum_by left_if_serving (drop (k + 1) (told budget a ss)) + budget
   passes a [] k d l = absurd (omega (arith, l))
-  passes a (s ∷ ss) zero d l =
-      let most = d.0.most in
-      omega (
-        arith,
-        most,
-        told_serving (a + left_of s.item) ss,
-        sum_by-cons left_of (first_told a s ss) [],
-      )
+  passes a (s ∷ ss) zero d l = grind (arith, told_serving, sum_by-cons)
   passes a (s ∷ ss) (suc k) d l =
       let h = passes (a + left_of s.item) ss k d.1 (omega (arith, l)) in
       let rs = told budget (a + left_of s.item) ss in
@@ -300,8 +230,7 @@ module _ (budget : ℕ) where
       let front = sum_by left_of (take k rs) in
       let served = sum_by left_of (filter is_in_service (drop (k + 1) rs)) in
       let off : is_in_service r ≡ false = ap (λ (q : Record). is_in_service q) (sym (told_item a ss k d l)) ∙ idle in
-      let f : figure_at budget rs k ≡ front + served + (budget - r.passed) + left_of r =
-      ap (λ t. cond t (left_of r) (front + served + (budget - r.passed) + left_of r)) off in
+      let f : figure_at budget rs k ≡ front + served + (budget - r.passed) + left_of r = grind arith in
       let more : sum_by left_of (take (k + 1) rs) ≡ front + (left_of r + 0) =
       ap (sum_by left_of) (take_more rs k no_record (omega (arith, l, told_long a ss)))
       ∙ (sum_by-append left_of (take k rs) (r ∷ []) ∙ ap (λ n. front + n) (sum_by-cons left_of r [])) in
@@ -311,8 +240,4 @@ module _ (budget : ℕ) where
   pub unspent_tells : (a : ℕ) (ss : List Slot) → AreDue budget a ss → 0 < length ss → AreIdle (told budget a ss)
       → (slot_at ss 0).due ≡ a + left_of (slot_at ss 0).item + (budget - (record_at (told budget a ss) 0).passed)
   unspent_tells a [] d l i = absurd (omega (arith, l))
-  unspent_tells a (s ∷ ss) d l i =
-      let least = d.0.least in
-      let most = d.0.most in
-      let rs = told budget (a + left_of s.item) ss in
-      omega (arith, least, most, told_serving (a + left_of s.item) ss, idle_serving rs i.1)
+  unspent_tells a (s ∷ ss) d l i = grind (arith, told_serving, idle_serving)

@@ -1,25 +1,14 @@
 -- What slots show once dues fell: of all, or of those behind a place.
-use Rattle.mscp_queue.proofs.Basics.{◌≡◌, ◌≢◌, ◌<◌, ◌≤◌, ◌+◌, ◌-◌, ◌⊎◌, inl, inr, ℕ, Bool, true, false, cond, ◌&&◌, ◌||◌, min, nat_eq, List, [], ◌∷◌, ◌++◌, map, take, drop, get_or, length, append_assoc, sym, subst, ap, ◌∙◌, refl, arith, All, if◌then◌else◌, bit_at, AllByRecursion, eq-eqb, eqb-true, ne_eqb, drop-map, map-append, map-id, take-map, take_more, All-from_recursion, recursion_from_All, Target, Masks, Slot, lowered, AreMasks, AreSlots, IsBehind, IsMaskOf, Kind, bit, has, Record, no_record, no_target, AreKept, held, kind_at, lowered_by, shown, slot_at, earlier_at, once_in, one_bit, same_or, IsNumber, cut_order, slot_is}
+use Rattle.mscp_queue.proofs.Basics.{◌≡◌, ◌≢◌, ◌<◌, ◌≤◌, ◌+◌, ◌-◌, ◌⊎◌, inl, inr, ℕ, Bool, true, false, cond, ◌&&◌, ◌||◌, min, nat_eq, List, [], ◌∷◌, ◌++◌, map, take, drop, get_or, length, append_assoc, sym, subst, ap, ◌∙◌, refl, arith, All, bit_at, AllByRecursion, eq-eqb, eqb-true, ne_eqb, drop-map, map-append, map-id, take-map, take_more, All-from_recursion, recursion_from_All, Target, Masks, Slot, lowered, AreMasks, AreSlots, IsBehind, IsMaskOf, Kind, bit, has, Record, no_target, AreKept, held, kind_at, lowered_by, shown, slot_at, earlier_at, once_in, one_bit, same_or, IsNumber, cut_order, slot_is}
 
 -- what a lowered due leaves of a slot
 module _ (rs : List Record) (own : List Target)
     (ds ds' : List ℕ) (mask by : ℕ) (fall : (k : ℕ) → k < 64 → get_or ds' k 0 ≡ lowered mask by k (get_or ds k 0)) where
   pub fell : (k : ℕ) → k < 64 → bit_at mask k ≡ 1 → held rs own ds' k ≡ lowered_by by (held rs own ds k)
-  fell k l on = λ i. record {
-    number = k;
-    item = get_or rs k no_record;
-    target = get_or own k no_target;
-    due = (fall k l ∙ ap (λ b. if b then get_or ds k 0 - by else get_or ds k 0) (eq-eqb (bit_at mask k) 1 on)) i;
-  }
+  fell k l on = grind (arith, by, eq-eqb)
 
   pub stayed : (k : ℕ) → k < 64 → bit_at mask k ≡ 0 → held rs own ds' k ≡ held rs own ds k
-  stayed k l off = λ i. record {
-    number = k;
-    item = get_or rs k no_record;
-    target = get_or own k no_target;
-    due = (fall k l ∙ ap (λ b. if b then get_or ds k 0 - by else get_or ds k 0)
-        (ne_eqb (bit_at mask k) 1 (λ e. omega (arith, e, off)))) i;
-  }
+  stayed k l off = grind (arith, off, by, ne_eqb)
 
 -- each slot of the order holds what a function makes of what it held
 pub each_held : {X Y : Type 0} (f : ℕ → X) (g : ℕ → Y) (h : X → Y) (order : List ℕ)
@@ -29,18 +18,13 @@ each_held f g h (s ∷ order) a e = (λ i. e s a.0 (ap (λ b. b || has s order) 
     i ∷ each_held f g h order a.2 (λ k l there. e k l (ap (λ b. nat_eq k s || b) there ∙ or_true (nat_eq k s))) i)
   where
     or_true : (b : Bool) → (b || true) ≡ true
-    or_true true = refl
-    or_true false = refl
+    or_true h1 = grind arith
 
 -- what holds of each slot that is shown holds of the slot of each number
 pub of_shown : {X : Type 0} (P : X → Type 0) (f : ℕ → X) (order : List ℕ) (k : ℕ) → AllByRecursion P (map f order)
     → has k order ≡ true → P (f k)
 of_shown P f [] k h e = let bad = ap bit e in absurd (omega (arith, bad))
-of_shown P f (s ∷ order) k h e = by (nat_eq k s) (eqb-true k s) (of_shown P f order k h.1) e
-  where
-    by : (b : Bool) → (b ≡ true → k ≡ s) → (has k order ≡ true → P (f k)) → (b || has k order) ≡ true → P (f k)
-    by true same rest e = subst (λ k. P (f k)) (sym (same refl)) h.0
-    by false same rest e = rest e
+of_shown P f (s ∷ order) k h e = grind (arith, eqb-true, of_shown P f order k h.1)
 
 waits_bit : (order : List ℕ) (waiting k : ℕ) → IsMaskOf waiting (λ k. has k order) → k < 64 → bit_at waiting k ≡ 1
     → has k order ≡ true
@@ -68,9 +52,7 @@ has_back k (x ∷ front) n back e = search (arith, nat_eq k x, has_back k front 
 not_front : (k : ℕ) (front : List ℕ) (n : ℕ) (back : List ℕ) → AreSlots (front ++ n ∷ back) → has k back ≡ true
     → has k front ≡ false
 not_front k [] n back a e = refl
-not_front k (x ∷ front) n back a e =
-    let other : k ≢ x = λ f. on_off (ap bit (sym (has_back x front n back (ap (λ k. has k back) (sym f) ∙ e)) ∙ a.1)) in
-    ap (λ b. b || has k front) (ne_eqb k x other) ∙ not_front k front n back a.2 e
+not_front k (x ∷ front) n back a e = grind (arith, on_off, has_back, ne_eqb, not_front k front n back a.2 e)
 
 pub slots_front : (front : List ℕ) (n : ℕ) (back : List ℕ) → AreSlots (front ++ n ∷ back) → AreSlots front
 slots_front [] n back a = tt
@@ -78,11 +60,7 @@ slots_front (x ∷ front) n back a = (a.0, in_part x front (n ∷ back) a.1, slo
   where
     in_part : (x : ℕ) (front back : List ℕ) → has x (front ++ back) ≡ false → has x front ≡ false
     in_part x [] back e = refl
-    in_part x (y ∷ front) back e = or_off (nat_eq x y) (has x (front ++ back)) (has x front) (in_part x front back) e
-      where
-        or_off : (a b c : Bool) → (b ≡ false → c ≡ false) → (a || b) ≡ false → (a || c) ≡ false
-        or_off true b c h e = e
-        or_off false b c h e = h e
+    in_part x (y ∷ front) back e = grind (arith, in_part x front back)
 
 slots_back : (front : List ℕ) (n : ℕ) (back : List ℕ) → AreSlots (front ++ n ∷ back) → AreSlots back
 slots_back [] n back a = a.2
@@ -116,20 +94,10 @@ module _ (kinds : ℕ → Kind) (front : List ℕ) (n : ℕ)
 
   other_is : (k : ℕ) → k < 64 → k ≢ n
       → bit_at mask k ≡ min (bit_at m.waiting k) (1 - bit_at (get_or m.earlier n 0) k)
-  other_is k l d = is k l
-      ∙ ap (λ b. cond b 0 (min (bit_at m.waiting k) (1 - bit_at (get_or m.earlier n 0) k))) (ne_eqb k n d)
+  other_is k l d = grind (arith, ne_eqb)
 
   pub front_off : (k : ℕ) → k < 64 → has k front ≡ true → bit_at mask k ≡ 0
-  front_off k l there =
-      let d : k ≢ n = λ e. no (ap bit (sym there ∙ ap (λ k. has k front) e ∙ once.0)) in
-      let e = in_earlier k l ∙ ap bit there in
-      other_is k l d ∙ none (bit_at m.waiting k) (bit_at (get_or m.earlier n 0) k) e
-    where
-      no : bit true ≡ bit false → ⊥
-      no e = omega (arith, e)
-
-      none : (a b : ℕ) → b ≡ 1 → min a (1 - b) ≡ 0
-      none a b e = omega (arith, e)
+  front_off k l there = grind (arith, once, in_earlier, other_is)
 
   -- a slot that isn't taken
   pub gone_off : (k : ℕ) → k < 64 → has k front ≡ false → k ≢ n → has k back ≡ false → bit_at mask k ≡ 0
@@ -142,26 +110,10 @@ module _ (kinds : ℕ → Kind) (front : List ℕ) (n : ℕ)
       has_in : (k : ℕ) (front : List ℕ) (n : ℕ) (back : List ℕ)
           → has k (front ++ n ∷ back) ≡ (has k front || (nat_eq k n || has k back))
       has_in k [] n back = refl
-      has_in k (x ∷ front) n back = ap (λ b. nat_eq k x || b) (has_in k front n back)
-          ∙ or_assoc (nat_eq k x) (has k front) (nat_eq k n || has k back)
-        where
-          or_assoc : (a b c : Bool) → (a || (b || c)) ≡ ((a || b) || c)
-          or_assoc true b c = refl
-          or_assoc false b c = refl
+      has_in k (x ∷ front) n back = grind (arith, has_in k front n back)
 
   pub back_is : (k : ℕ) → k < 64 → has k back ≡ true → bit_at mask k ≡ 1
-  back_is k l there =
-      let d : k ≢ n = λ e. no (ap bit (sym there ∙ ap (λ k. has k back) e ∙ once.1)) in
-      let in_all : has k (front ++ n ∷ back) ≡ true = has_back k front n back there in
-      let w = masks.of_waiting k l ∙ ap bit in_all in
-      let e = in_earlier k l ∙ ap bit (not_front k front n back masks.apart there) in
-      other_is k l d ∙ some (bit_at m.waiting k) (bit_at (get_or m.earlier n 0) k) w e
-    where
-      no : bit true ≡ bit false → ⊥
-      no e = omega (arith, e)
-
-      some : (a b : ℕ) → a ≡ 1 → b ≡ 0 → min a (1 - b) ≡ 1
-      some a b w e = omega (arith, w, e)
+  back_is k l there = grind (arith, once, has_back, masks, in_earlier, not_front, other_is)
 
 -- the dues behind a place
 module _ {rs : List Record} {own : List Target} {order : List ℕ} {m : Masks} {place n : ℕ} (ds ds' : List ℕ)
@@ -259,9 +211,7 @@ of_unit_behind {rs} {own} {order} {m} {place} {n} {drive} ds now kept view insid
     (sym (kept.masks.of_units drive k l) ∙ units k l bits.0 bits.1 bits.2) ∙ there)))
   where
     own_drive : {k drive : ℕ} (b : Bool) → (b ≡ true → k ≡ drive) → (a : Bool) → bit (a && b) ≡ 1 → k ≡ drive
-    own_drive true same a e = same refl
-    own_drive false same true e = absurd (omega (arith, e))
-    own_drive false same false e = absurd (omega (arith, e))
+    own_drive h1 same h3 e = grind arith
 
     each : (back : List ℕ) → AreSlots back
         → ((k : ℕ) → k < 64 → has k back ≡ true → (held rs own ds k).target.drive ≡ (slot_at now place).target.drive)
@@ -273,5 +223,4 @@ of_unit_behind {rs} {own} {order} {m} {place} {n} {drive} ds now kept view insid
     )
       where
         or_true : (b : Bool) → (b || true) ≡ true
-        or_true true = refl
-        or_true false = refl
+        or_true h1 = grind arith

@@ -1,11 +1,10 @@
 -- The best starts that a queue keeps are those that the slots tell.
-use Rattle.mscp_queue.proofs.Basics.{◌≡◌, ⊎_elim, ℕ, ◌<◌, ◌≤◌, Bool, true, false, not, ◌||◌, List, map, take, get_or, length, refl, ap, sym, ◌∙◌, subst, arith, list_all, nat_eq, false≢true, get_or-map, get_or_default, length-map, take-map, all_shown, Command, Order, cylinder_of, first_block, is_move, is_sequential, order_cost, Drive, Kind, Record, Target, CanBeShown, IsUnitList, is_known, units_of, no_record, no_target, record_at, target_of, unit_place, AreOnDrive, same_or, drive_of, fresh_drive, known_at, place_is, pairs_rise, place_same, cylinder_within, is_free, leads_to, LeadsTo, kinds_of, no_kind, own_target}
-use Rattle.mscp_queue.proofs.Common.{AreFavored, IsBest, IsClearOn, IsLearned, IsOpenOn, KnowsNothing, bars, command_at, commands, cost_at, cost_on, cost_there, drive_in, is_clear, kind_there, last_cylinder, one_block, range_of, start_in}
+use Rattle.mscp_queue.proofs.Basics.{◌≡◌, ⊎_elim, ℕ, ◌<◌, ◌≤◌, Bool, true, false, not, ◌||◌, List, map, take, get_or, length, refl, ap, sym, ◌∙◌, subst, arith, nat_eq, false≢true, get_or-map, get_or_default, length-map, take-map, all_shown, Command, Order, cylinder_of, first_block, is_move, is_sequential, order_cost, Drive, Kind, Record, Target, CanBeShown, IsUnitList, is_known, units_of, no_record, no_target, record_at, unit_place, AreOnDrive, same_or, drive_of, known_at, place_is, pairs_rise, place_same, cylinder_within, is_free, leads_to, LeadsTo, kinds_of, no_kind, own_target}
+use Rattle.mscp_queue.proofs.Common.{AreFavored, IsBest, IsClearOn, IsLearned, IsOpenOn, KnowsNothing, command_at, commands, cost_at, cost_on, cost_there, drive_in, is_clear, kind_there, last_cylinder, range_of, start_in}
 use Rattle.mscp_queue.proofs.Turns.{found_unit}
 use Rattle.mscp_queue.specs.Starts.{Start}
 use Rattle.mscp_queue.specs.declared.favorites.Favorites.{Favorites}
 use Rattle.std.proofs.Math.Nat.{zero-div}
-use Rattle.mscp_drive.specs.Shape.{cylinder_blocks}
 use Rattle.mscp_queue.proofs.Best.{best_same}
 use Rattle.mscp_queue.proofs.Starting.{free_is, kind_in, kinds_targeted}
 
@@ -16,9 +15,7 @@ command_is rs place l = get_or-map (λ (r : Record). r.command) rs place no_reco
 
 pub clear_is : (rs : List Record) (place : ℕ) → place < length rs
     → is_clear (commands rs) place ≡ is_free (record_at rs place) (take place rs)
-clear_is rs place l =
-    (λ i. list_all (λ one. not (bars one (command_is rs place l i))) (take-map (λ (r : Record). r.command) place rs i))
-    ∙ all_shown (λ one. not (bars one (record_at rs place).command)) (λ (r : Record). r.command) (take place rs)
+clear_is rs place l = grind (arith, command_is, take-map, all_shown)
 
 -- what its start costs on a drive that its target leads to
 pub cost_is : (d : Drive) (o : Order) (to : ℕ) → (is_sequential o || is_move o) ≡ true
@@ -65,12 +62,7 @@ module _ {ds : List Drive} {rs : List Record} {own : List Target} (shown : CanBe
   -- each first block there is on a cylinder of it
   pub all_on_drive : AreOnDrive at d own
   all_on_drive place other l e =
-      let below : place < length rs = omega (
-        arith,
-        l,
-        ap length shown.targeted,
-        length-map rs (λ (r : Record). target_of (units_of ds) r.command),
-      ) in
+      let below : place < length rs = grind (arith, length-map) in
       let a = get_or_default own place other no_target l in
       let t = (leads place below (ap (λ (a : Target). a.drive) (sym a) ∙ e)).targeted in
       subst (λ (a : Target). (a.cylinder ≤ last_cylinder d.unit) × (a.range ≡ range_of d.unit a.cylinder)) (sym a) (
@@ -91,11 +83,7 @@ module _ {ds : List Drive} {rs : List Record} {own : List Target} (shown : CanBe
           → (is_move (record_at rs place).command.order ≡ true
           → first_block (record_at rs place).command.order < d.unit.size)
           → cylinder_of d.unit (first_block (record_at rs place).command.order) ≤ last_cylinder d.unit
-      by true e h = cylinder_within d.unit (first_block (record_at rs place).command.order) (h e)
-      by false e h =
-          let none = ap (cylinder_of d.unit) (no_move (record_at rs place).command.order e)
-          ∙ zero-div (cylinder_blocks d.unit) in
-          omega (arith, none)
+      by h1 e h = grind (arith, cylinder_within, no_move, zero-div)
 
   pub to : (place : ℕ) → IsOpenOn ks at place → IsClearOn (commands rs) d.unit.number place
       × (cost_there d ks own place ≡ cost_at d (commands rs) place)
@@ -135,8 +123,7 @@ module _ {ds : List Drive} {rs : List Record} {own : List Target} (shown : CanBe
   -- so the best that the slots tell is the best of the commands
   pub favored : {s : Start} → IsBest (IsOpenOn ks at) (cost_there d ks own) s
       → IsBest (IsClearOn (commands rs) (drive_in ds at).unit.number) (cost_at (drive_in ds at) (commands rs)) s
-  favored {s} h = subst (λ d. IsBest (IsClearOn (commands rs) d.unit.number) (cost_at d (commands rs)) s)
-      (found ∙ get_or_default ds at d (fresh_drive one_block) inside) (best_same to from h)
+  favored h = grind (arith, get_or_default, best_same, to, from)
 
 -- ---- a start is learned
 pub favored_more : {ds : List Drive} {cs : List Command} {f g : Favorites} (at : ℕ) (s : Start) → AreFavored ds cs f
@@ -155,6 +142,4 @@ favored_more {ds} {cs} {f} {g} at s h best learned = record {
 
 -- nothing is known
 pub none_known : (ds : List Drive) (cs : List Command) (f : Favorites) → KnowsNothing f → AreFavored ds cs f
-none_known ds cs f e = record {
-  each = λ k l on. absurd (false≢true (sym (e k) ∙ on));
-}
+none_known ds cs f e = grind (arith, false≢true)

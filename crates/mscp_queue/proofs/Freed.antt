@@ -20,15 +20,7 @@ module _ (test : ℕ → Bool) where
   -- where each of some slots fails a test, no slot is one of them and passes it
   none_has : (xs : List ℕ) → list_all (λ t. not (test t)) xs ≡ true → (k : ℕ) → (has k xs && test k) ≡ false
   none_has [] e k = refl
-  none_has (x ∷ xs) e k = by (nat_eq k x) (eqb-true k x) (test x) refl e (none_has xs)
-    where
-      by : (b : Bool) → (b ≡ true → k ≡ x) → (c : Bool) → test x ≡ c → (not c && list_all (λ t. not (test t)) xs) ≡ true
-          → (list_all (λ t. not (test t)) xs ≡ true → (k : ℕ) → (has k xs && test k) ≡ false)
-          → ((b || has k xs) && test k) ≡ false
-      by true h true f e i = let bad = ap bit e in absurd (omega (arith, bad))
-      by true h false f e i = ap test (h refl) ∙ f
-      by false h true f e i = let bad = ap bit e in absurd (omega (arith, bad))
-      by false h false f e i = i e k
+  none_has (x ∷ xs) e k = grind (arith, eqb-true, none_has xs)
 
   has_none : (xs : List ℕ) → ((k : ℕ) → has k xs ≡ true → test k ≡ false) → list_all (λ t. not (test t)) xs ≡ true
   has_none [] h = refl
@@ -36,8 +28,7 @@ module _ (test : ℕ → Bool) where
       (eq-eqb x x refl))) ∙ has_none xs (λ k e. h k (ap (λ b. nat_eq k x || b) e ∙ or_true (nat_eq k x)))
     where
       or_true : (b : Bool) → (b || true) ≡ true
-      or_true true = refl
-      or_true false = refl
+      or_true h1 = grind arith
 
 -- a mask with no bit is 0
 no_bit : (m : ℕ) → m < 2 ^ 64 → ((k : ℕ) → k < 64 → bit_at m k ≢ 1) → m ≡ 0
@@ -58,12 +49,7 @@ module _ (m : ℕ) (front : List ℕ) (test : ℕ → Bool) (small : m < 2 ^ 64)
       ∙ ap bit (none_has test front e k) in omega (arith, f))
 
   zero_to : m ≡ 0 → list_all (λ t. not (test t)) front ≡ true
-  zero_to e = has_none test front (λ k h. off
-      (test k) (sym (ap bit (ap (λ b. b && test k) h)) ∙ sym (is k (low k h)) ∙ ap (λ m. bit_at m k) e ∙ bit_at-zero k))
-    where
-      off : (b : Bool) → bit b ≡ 0 → b ≡ false
-      off true e = absurd (omega (arith, e))
-      off false e = refl
+  zero_to e = grind (arith, has_none, low, bit_at-zero)
 
 -- two masks joined
 joined : (a b : ℕ) (p q r : ℕ → Bool) → IsMaskOf a p → IsMaskOf b q → ((k : ℕ) → (p k && q k) ≡ r k)

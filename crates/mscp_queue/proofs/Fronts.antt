@@ -1,5 +1,5 @@
 -- Which slots of a unit are in front of its sequential commands.
-use Rattle.mscp_queue.proofs.Common.{◌≡◌, ◌≢◌, ⊎_elim, ℕ, ◌<◌, ◌≤◌, ◌-◌, ◌^◌, true, false, bit_and, min, cond, refl, ap, sym, ◌∙◌, subst, arith, slice_index_or, bit_at, w64, trailing_zeros, bit_at_and, bit_at-lt, bit_at-zero, bit_at-trailing_zeros, eq-eqb, ne_eqb, Masks, IsFence, IsFront, IsInFront, IsNarrowed, IsSet}
+use Rattle.mscp_queue.proofs.Common.{◌≡◌, ◌≢◌, ⊎_elim, ℕ, ◌<◌, ◌≤◌, ◌-◌, ◌^◌, true, false, bit_and, min, cond, refl, ap, sym, ◌∙◌, arith, slice_index_or, bit_at, w64, trailing_zeros, bit_at_and, bit_at-lt, bit_at-zero, bit_at-trailing_zeros, eq-eqb, ne_eqb, Masks, IsFence, IsFront, IsNarrowed, IsSet}
 use Rattle.mscp_queue.proofs.Masked.{same_or}
 
 -- of the sequential commands of a unit all but those left were looked at
@@ -19,20 +19,10 @@ both_set a b k e = omega (arith, bit_at_and a b k, e, bit_at-lt a k, bit_at-lt b
 set_both : (a b k : ℕ) → bit_at a k ≡ 1 → bit_at b k ≡ 1 → bit_at (bit_and a b) k ≡ 1
 set_both a b k e f = omega (arith, bit_at_and a b k, e, f)
 
-off_one : (a k : ℕ) → bit_at a k ≢ 1 → bit_at a k ≡ 0
-off_one a k d = omega (arith, bit_at-lt a k, d)
-
 -- at first all are left
 pub narrows_first : {drive : ℕ} {m : Masks} (unit left : ℕ) → unit ≡ slice_index_or m.units drive 0
     → left ≡ bit_and unit m.sequential → Narrows drive m unit left unit
-narrows_first {drive} {m} unit left own is = record {
-  own = own;
-  of_left = λ s l e. both_set unit m.sequential s (ap (λ n. bit_at n s) (sym is) ∙ e);
-  to = λ k l e. e;
-  each = λ k l e s b u q off d.
-      let on = ap (λ n. bit_at n s) is ∙ set_both unit m.sequential s u q in absurd (omega (arith, on, off));
-  from = λ k l e h. e;
-}
+narrows_first unit left own is = grind (arith, own, both_set, set_both)
 
 -- one more
 pub narrows_more : {drive : ℕ} {m : Masks} {unit left narrowed : ℕ} (slot left' own narrowed' : ℕ)
@@ -43,15 +33,8 @@ narrows_more {drive} {m} {unit} {left} {narrowed} slot left' own narrowed' h low
   own = h.own;
   of_left = λ s l e. h.of_left s l (was s l e);
   to = λ k l e. h.to k l (parts k e).0;
-  each = λ k l e s b u q off d. ⊎_elim
-      (λ f. subst (λ n. bit_at (slice_index_or m.earlier n 0) k ≡ 1) (sym f)
-      (other k l (λ g. d (f ∙ sym g)) ∙ (parts k e).1))
-      (λ f. h.each k l (parts k e).0 s b u q (sym (kept s b f) ∙ off) d) (same_or s slot);
-  from = λ k l u all. ap (λ n. bit_at n k) is
-      ∙ set_both narrowed own k (h.from k l u (λ s b v q off d. all s b v q (below s b off) d))
-      (⊎_elim (λ f. here k l f) (λ f. sym (other k l f) ∙ all slot low (h.of_left slot low on).0
-      (h.of_left slot low on).1 (gone slot low ∙ ap (λ b. cond b 0 (bit_at left slot)) (eq-eqb slot slot refl))
-      (λ g. f (sym g))) (same_or k slot));
+  each = grind (arith, ⊎_elim, other, parts, kept, same_or);
+  from = grind (arith, set_both, own, below, ⊎_elim, here, other, eq-eqb, same_or);
 }
   where
     parts : (k : ℕ) → bit_at narrowed' k ≡ 1 → (bit_at narrowed k ≡ 1) × (bit_at own k ≡ 1)
@@ -64,9 +47,7 @@ narrows_more {drive} {m} {unit} {left} {narrowed} slot left' own narrowed' h low
     was s l e = ⊎_elim (λ f. ap (bit_at left) f ∙ on) (λ f. sym (kept s l f) ∙ e) (same_or s slot)
 
     below : (s : ℕ) → s < 64 → bit_at left s ≡ 0 → bit_at left' s ≡ 0
-    below s l off = ⊎_elim
-        (λ f. let bad = ap (bit_at left) f ∙ on in absurd (omega (arith, bad, off)))
-        (λ f. kept s l f ∙ off) (same_or s slot)
+    below s l off = grind (arith, ⊎_elim, kept, same_or)
 
     here : (k : ℕ) → k < 64 → k ≡ slot → bit_at own k ≡ 1
     here k l f = more k l ∙ ap (λ b. cond b 1 (bit_at (slice_index_or m.earlier slot 0) k)) (eq-eqb k slot f)
@@ -81,52 +62,27 @@ less_left left left' n low on set le = search (arith, eq-eqb n n refl)
 -- in the end all were looked at
 pub narrowed_all : {drive : ℕ} {m : Masks} {unit left narrowed : ℕ} → Narrows drive m unit left narrowed
     → ((n : ℕ) → n < 64 → bit_at left n ≡ 0) → IsNarrowed drive m narrowed
-narrowed_all {drive} {m} {unit} {left} {narrowed} h off = record {
-  to = λ k l e. record {
-    unit = sym (own k) ∙ h.to k l e;
-    each = λ s b u q d. h.each k l e s b (own s ∙ u) q (off s b) d;
-  };
-  from = λ k l f. h.from k l (own k ∙ f.unit) (λ s b u q o d. f.each s b (sym (own s) ∙ u) q d);
-}
-  where
-    own : (k : ℕ) → bit_at unit k ≡ bit_at (slice_index_or m.units drive 0) k
-    own k = ap (λ n. bit_at n k) h.own
+narrowed_all h off = grind arith
 
 -- ---- the transfers of them, if there is one
 pub front_alone : {drive : ℕ} {m : Masks} {narrowed : ℕ} (transfers : ℕ) → IsNarrowed drive m narrowed
     → ((k : ℕ) → k < 64 → bit_at transfers k ≡ min (bit_at narrowed k) (1 - bit_at m.sequential k))
     → transfers ≡ 0 → IsFront drive m narrowed
-front_alone {drive} {m} {narrowed} transfers h is none = record {
-  to = λ k l e. (h.to k l e, λ q j b f. by j b f (is j b) (h.from j b f));
-  from = λ k l f o. h.from k l f;
-}
-  where
-    by : (j : ℕ) → j < 64 → IsInFront drive m j
-        → bit_at transfers j ≡ min (bit_at narrowed j) (1 - bit_at m.sequential j) → bit_at narrowed j ≡ 1
-        → bit_at m.sequential j ≡ 1
-    by j b f e on =
-        let zero = ap (λ n. bit_at n j) none ∙ bit_at-zero j in
-        omega (arith, e, on, zero, bit_at-lt m.sequential j)
+front_alone transfers h is none = grind (arith, bit_at-zero, bit_at-lt)
 
 pub front_free : {drive : ℕ} {m : Masks} {narrowed : ℕ} (transfers : ℕ) → IsNarrowed drive m narrowed
     → ((k : ℕ) → k < 64 → bit_at transfers k ≡ min (bit_at narrowed k) (1 - bit_at m.sequential k))
     → transfers ≢ 0 → transfers < 2 ^ 64 → IsFront drive m transfers
 front_free {drive} {m} {narrowed} transfers h is some small = record {
-  to = λ k l e.
-      let p = parts k l e in (h.to k l p.0, λ q. absurd (omega (arith, p.1, q)));
-  from = λ k l f o. ⊎_elim
-      (λ q. let on = h.from k l f in omega (arith, is k l, on, q))
-      (λ fence. absurd (no_fence fence)) o;
+  to = grind (arith, parts);
+  from = grind (arith, ⊎_elim, no_fence);
 }
   where
     parts : (k : ℕ) → k < 64 → bit_at transfers k ≡ 1 → (bit_at narrowed k ≡ 1) × (bit_at m.sequential k ≡ 0)
     parts k l e = omega (arith, is k l, e, bit_at-lt narrowed k, bit_at-lt m.sequential k)
 
     positive : 0 < transfers
-    positive = by transfers some
-      where
-        by : (n : ℕ) → n ≢ 0 → 0 < n
-        by n d = grind (arith, d)
+    positive = grind arith
 
     no_fence : IsFence drive m → ⊥
     no_fence fence =

@@ -1,5 +1,5 @@
 -- The best starts once a drive served a command, or one was aborted.
-use Rattle.mscp_queue.proofs.Basics.{◌≡◌, ◌≢◌, ◌⊎◌, inl, inr, ⊎_elim, ℕ, ◌+◌, ◌-◌, ◌<◌, ◌≤◌, Bool, true, false, false≢true, not, cond, if◌then◌else◌, ◌&&◌, ◌||◌, ◌++◌, List, take, drop, length, refl, ap, sym, ◌∙◌, subst, arith, nat_eq, nat_lt, eq-eqb, ltb-true, ne_eqb, get_or-drop, get_or-take, get_or_append_left, get_or_default, length-take-le, length-append, length-drop, Command, Drive, IsUnitList, units_of, is_sequential, no_record, drive_place, fresh_drive, pairs_rise, place_is, same_or, order_cost}
+use Rattle.mscp_queue.proofs.Basics.{◌≡◌, ◌≢◌, ◌⊎◌, inl, inr, ⊎_elim, ℕ, ◌+◌, ◌-◌, ◌<◌, ◌≤◌, Bool, true, false, false≢true, not, cond, if◌then◌else◌, ◌&&◌, ◌++◌, List, take, drop, length, refl, ap, sym, ◌∙◌, subst, arith, nat_lt, eq-eqb, ltb-true, ne_eqb, get_or-drop, get_or-take, get_or_append_left, get_or_default, length-take-le, length-append, length-drop, Command, Drive, IsUnitList, units_of, no_record, drive_place, fresh_drive, pairs_rise, place_is, same_or, order_cost}
 use Rattle.mscp_queue.proofs.Common.{AreFavored, IsAhead, IsBest, IsClearOn, bars, command_at, cost_at, drive_in, lt-ltb, ltb-false, le-ltb, get_or-append_right, knows, closed, one_block, place_closed, start_in}
 use Rattle.mscp_queue.specs.declared.favorites.Favorites.{Favorites}
 use Rattle.mscp_queue.specs.Starts.{Start}
@@ -19,45 +19,23 @@ up_above : (gone q : ℕ) → gone ≤ q → up gone q ≡ q + 1
 up_above gone q l = ap (λ b. if b then q else q + 1) (le-ltb q gone l)
 
 closed_none : (gone : ℕ) → place_closed gone 64 ≡ 64
-closed_none gone = by (nat_lt gone 64)
-  where
-    by : (b : Bool) → (if b && false then 64 - 1 else 64) ≡ 64
-    by true = refl
-    by false = refl
+closed_none gone = grind arith
 
 closed_below : (gone p : ℕ) → p ≤ gone → place_closed gone p ≡ p
 closed_below gone p l = ap (λ b. if b && nat_lt p 64 then p - 1 else p) (le-ltb gone p l)
 
 closed_above : (gone p : ℕ) → gone < p → p < 64 → place_closed gone p ≡ p - 1
-closed_above gone p l few = ap (λ b. if b && nat_lt p 64 then p - 1 else p) (lt-ltb gone p l)
-    ∙ ap (λ b. if b then p - 1 else p) (lt-ltb p 64 few)
+closed_above gone p l few = grind (arith, lt-ltb)
 
 -- those places are each other's
 up_closed : (gone p : ℕ) → p ≢ gone → p < 64 → up gone (place_closed gone p) ≡ p
-up_closed gone p d few = by (lt_or p gone)
-  where
-    by : (p < gone) ⊎ (gone ≤ p) → up gone (place_closed gone p) ≡ p
-    by (inl l) = ap (up gone) (closed_below gone p (omega (arith, l))) ∙ up_below gone p l
-    by (inr l) = ap (up gone) (closed_above gone p (omega (arith, l, d)) few)
-        ∙ (up_above gone (p - 1) (omega (arith, l, d)) ∙ omega (arith, l, d))
+up_closed gone p d few = grind (arith, lt_or, closed_below, up_below, closed_above, up_above)
 
 closed_least : (gone p q : ℕ) → p ≢ gone → p < 64 → p ≤ up gone q → place_closed gone p ≤ q
-closed_least gone p q d few l = by (lt_or p gone) (lt_or q gone)
-  where
-    by : (p < gone) ⊎ (gone ≤ p) → (q < gone) ⊎ (gone ≤ q) → place_closed gone p ≤ q
-    by (inl a) (inl b) = omega (arith, closed_below gone p (omega (arith, a)), l, up_below gone q b)
-    by (inl a) (inr b) = omega (arith, closed_below gone p (omega (arith, a)), a, b)
-    by (inr a) (inl b) = absurd (omega (arith, a, b, l, up_below gone q b))
-    by (inr a) (inr b) = omega (arith, closed_above gone p (omega (arith, a, d)) few, l, up_above gone q b)
+closed_least gone p q d few l = grind (arith, lt_or, closed_below, up_below, closed_above, up_above)
 
 up_more : (gone z q : ℕ) → z < q → up gone z < up gone q
-up_more gone z q l = by (lt_or z gone) (lt_or q gone)
-  where
-    by : (z < gone) ⊎ (gone ≤ z) → (q < gone) ⊎ (gone ≤ q) → up gone z < up gone q
-    by (inl a) (inl b) = omega (arith, up_below gone z a, up_below gone q b, l)
-    by (inl a) (inr b) = omega (arith, up_below gone z a, up_above gone q b, l)
-    by (inr a) (inl b) = absurd (omega (arith, a, b, l))
-    by (inr a) (inr b) = omega (arith, up_above gone z a, up_above gone q b, l)
+up_more gone z q l = grind (arith, lt_or, up_below, up_above)
 
 -- ---- the commands without that at a place
 module _ (cs : List Command) (gone : ℕ) (l : gone < length cs) (few : length cs ≤ 64) where
@@ -74,22 +52,11 @@ module _ (cs : List Command) (gone : ℕ) (l : gone < length cs) (few : length c
   left_at q = by (lt_or q gone)
     where
       by : (q < gone) ⊎ (gone ≤ q) → command_at left q ≡ command_at cs (up gone q)
-      by (inl b) = get_or_append_left (take gone cs) (drop (gone + 1) cs) no_record.command q (omega
-          (arith, b, front_long))
-          ∙ (get_or-take gone cs q no_record.command b ∙ ap (command_at cs) (sym (up_below gone q b)))
-      by (inr b) = get_or-append_right (take gone cs) (drop (gone + 1) cs) gone q no_record.command front_long b
-          ∙ (get_or-drop (gone + 1) cs (q - gone) no_record.command
-          ∙ ap (command_at cs) (there ∙ sym (up_above gone q b)))
-        where
-          there : gone + 1 + (q - gone) ≡ q + 1
-          there = omega (arith, b)
+      by (inl b) = grind (arith, get_or_append_left, front_long, get_or-take, up_below)
+      by (inr b) = grind (arith, get_or-append_right, front_long, get_or-drop, up_above)
 
   up_inside : (q : ℕ) → q < length left → up gone q < length cs
-  up_inside q k = by (lt_or q gone)
-    where
-      by : (q < gone) ⊎ (gone ≤ q) → up gone q < length cs
-      by (inl b) = omega (arith, up_below gone q b, b, l)
-      by (inr b) = omega (arith, up_above gone q b, k, long)
+  up_inside q k = grind (arith, lt_or, up_below, up_above, long)
 
   -- those to another unit than it
   module _ (number : ℕ) (other : (command_at cs gone).unit ≢ number) where
@@ -97,9 +64,7 @@ module _ (cs : List Command) (gone : ℕ) (l : gone < length cs) (few : length c
     not_gone p h e = other (ap (λ k. (command_at cs k).unit) (sym e) ∙ h.unit)
 
     free_of : (q : ℕ) → (command_at cs q).unit ≡ number → not (bars (command_at cs gone) (command_at cs q)) ≡ true
-    free_of q e = ap (λ b. not (b && (is_sequential (command_at cs gone).order || is_sequential
-        (command_at cs q).order)))
-        (ne_eqb (command_at cs gone).unit (command_at cs q).unit (λ f. other (f ∙ e)))
+    free_of q e = grind (arith, ne_eqb)
 
     from_left : (q : ℕ) → IsClearOn left number q → IsClearOn cs number (up gone q)
     from_left q h = record {
@@ -117,10 +82,7 @@ module _ (cs : List Command) (gone : ℕ) (l : gone < length cs) (few : length c
       where
         by : (y : ℕ) → y < up gone q → (y ≡ gone) ⊎ (y ≢ gone)
             → not (bars (command_at (take (up gone q) cs) y) (command_at cs (up gone q))) ≡ true
-        by y b (inl e) =
-            ap (λ c. not (bars c (command_at cs (up gone q)))) (get_or-take (up gone q) cs y no_record.command b
-            ∙ ap (command_at cs) e)
-            ∙ free_of (up gone q) (ap (λ (c : Command). c.unit) (sym (left_at q)) ∙ h.unit)
+        by y b (inl e) = grind (arith, get_or-take, free_of, left_at)
         by y b (inr d) =
             let k = up_inside q h.inside in
             let small : y < 64 = omega (arith, b, k, few) in
@@ -128,23 +90,14 @@ module _ (cs : List Command) (gone : ℕ) (l : gone < length cs) (few : length c
             let is : up gone z ≡ y = up_closed gone y d small in
             let under : z < q = less z (subst (λ n. n < up gone q) (sym is) b) in
             let inside = h.inside in
-            let there : z < length (take q left) =
-            omega (arith, under, length-take-le q left (omega (arith, inside))) in
+            let there : z < length (take q left) = grind (arith, length-take-le) in
             ap (λ c. not (bars c (command_at cs (up gone q)))) (get_or-take (up gone q) cs y no_record.command b
             ∙ (ap (command_at cs) (sym is) ∙ sym (left_at z)))
             ∙ ((λ i. not (bars (sym (get_or-take q left z no_record.command under) i) (sym (left_at q) i)))
             ∙ all_at (λ one. not (bars one (command_at left q))) (take q left) z no_record.command h.clear there)
           where
             less : (z : ℕ) → up gone z < up gone q → z < q
-            less z a = less_by (lt_or z q)
-              where
-                less_by : (z < q) ⊎ (q ≤ z) → z < q
-                less_by (inl b) = b
-                less_by (inr b) = absurd (at_most b (same_or q z))
-                  where
-                    at_most : q ≤ z → (q ≡ z) ⊎ (q ≢ z) → ⊥
-                    at_most b (inl e) = (let f = ap (up gone) e in omega (arith, f, a))
-                    at_most b (inr d) = (let f = up_more gone q z (omega (arith, b, d)) in omega (arith, f, a))
+            less z a = grind (arith, lt_or, same_or, up_more)
 
     to_left : (q : ℕ) → q < length left → IsClearOn cs number (up gone q) → IsClearOn left number q
     to_left q k h = record {
@@ -158,8 +111,7 @@ module _ (cs : List Command) (gone : ℕ) (l : gone < length cs) (few : length c
         by z b =
             let more = up_more gone z q b in
             let inside = h.inside in
-            let there : up gone z < length (take (up gone q) cs) =
-            omega (arith, more, length-take-le (up gone q) cs (omega (arith, inside))) in
+            let there : up gone z < length (take (up gone q) cs) = grind (arith, length-take-le) in
             (λ i. not (bars ((get_or-take q left z no_record.command b ∙ (left_at z
             ∙ sym (get_or-take (up gone q) cs (up gone z) no_record.command more))) i) (left_at q i)))
             ∙ all_at (λ one. not (bars one (command_at cs (up gone q)))) (take (up gone q) cs) (up gone z)
@@ -189,17 +141,14 @@ module _ (cs : List Command) (gone : ℕ) (l : gone < length cs) (few : length c
         small p a = by (lt_or gone p)
           where
             by : (gone < p) ⊎ (p ≤ gone) → place_closed gone p < 64
-            by (inl b) = omega (arith, closed_above gone p b a, a)
-            by (inr b) = omega (arith, closed_below gone p b, a)
+            by h1 = grind (arith, closed_above, closed_below)
 
         there : IsClearOn cs number s.place → IsClearOn left number (place_closed gone s.place)
         there x = to_left (place_closed gone s.place) (by (lt_or gone s.place))
             (subst (IsClearOn cs number) (sym (back x)) x)
           where
             by : (gone < s.place) ⊎ (s.place ≤ gone) → place_closed gone s.place < length left
-            by (inl b) = (let i = x.inside in
-                omega (arith, closed_above gone s.place b (h.each s.place x).0, i, long, b))
-            by (inr b) = omega (arith, closed_below gone s.place b, not_gone s.place x, b, long, l)
+            by h1 = grind (arith, closed_above, long, closed_below, not_gone)
 
         ahead : (q : ℕ) → (s.place < 64) × IsAhead s (cost_at d cs (up gone q)) (up gone q) → IsAhead t
             (cost_at d left q) q
@@ -224,30 +173,12 @@ other_unit ds cs gone at k units placed b d e = d (sym (place_is ds k (command_a
 known_was : (at k gone : ℕ) (moves : Bool) (was now : Favorites) → knows now at ≡ false
     → (k ≢ at → start_in now k ≡ cond moves (closed gone (start_in was k)) (start_in was k)) → knows now k ≡ true
     → (k ≢ at) × (knows was k ≡ true)
-known_was at k gone moves was now off starts on = by (same_or k at)
-  where
-    closed_known : (moves : Bool) (s : Start) → not (nat_eq (cond moves (closed gone s) s).place 255) ≡ true
-        → not (nat_eq s.place 255) ≡ true
-    closed_known moves s e = grind (arith, not, eq-eqb, ltb-true)
-
-    by : (k ≡ at) ⊎ (k ≢ at) → (k ≢ at) × (knows was k ≡ true)
-    by (inl e) = absurd (false≢true (sym off ∙ (ap (knows now) (sym e) ∙ on)))
-    by (inr d) = (
-      d,
-      closed_known moves (start_in was k) (ap (λ (s : Start). not (nat_eq s.place 255)) (sym (starts d)) ∙ on),
-    )
+known_was at k gone moves was now off starts on = grind (arith, same_or, eq-eqb, ltb-true, false≢true)
 
 -- if nobody stands behind the place, no best start is behind it
 unmoved : (cs : List Command) (gone number : ℕ) {c : ℕ → ℕ} (s : Start) → IsBest (IsClearOn cs number) c s
     → length cs ≡ gone + 1 → s ≡ closed gone s
-unmoved cs gone number s h last = λ i. record {
-  cost = s.cost;
-  place = place_stays gone s.place (⊎_elim (λ e. inl e)
-      (λ x. inr (let b = x.0.inside in omega (arith, b, last))) h.is) i;
-}
-  where
-    place_stays : (gone p : ℕ) → (p ≡ 64) ⊎ (p ≤ gone) → p ≡ place_closed gone p
-    place_stays gone p h = grind (arith, not, eq-eqb, ltb-false)
+unmoved cs gone number s h last = grind (arith, ⊎_elim, eq-eqb, ltb-false)
 
 module _ {ds : List Drive} {cs : List Command} (units : IsUnitList (units_of ds)) (gone at : ℕ) (l : gone < length cs)
     (few : length cs ≤ 64) (placed : at ≡ drive_place ds (command_at cs gone).unit) where
@@ -260,25 +191,16 @@ module _ {ds : List Drive} {cs : List Command} (units : IsUnitList (units_of ds)
       → start_in g k ≡ cond moves (closed gone (start_in f k)) (start_in f k))
       → AreFavored ds' cs' g
   favored_served {ds'} {cs'} {f} {g} ends moves how h same drives left off starts = record {
-    each = λ k b on.
-        let inside : k < length ds = omega (arith, b, same) in
-        let was = known_was at k gone moves f g off (starts k inside) on in
-        subst (λ d. IsBest (IsClearOn cs' d.unit.number) (cost_at d cs') (start_in g k)) (sym (drives k was.0))
-        (subst (λ cs'. IsBest (IsClearOn cs' (drive_in ds k).unit.number) (cost_at (drive_in ds k) cs') (start_in g k))
-        (sym left) (by ends k inside was.0 (h.each k inside was.1)
-        (starts k inside was.0 ∙ is_closed k inside was.1)));
+    each = grind (arith, known_was, by, is_closed);
   }
     where
       last_stays : {s : Start} (ends : Bool) → s ≡ closed gone s → s ≡ cond ends (closed gone s) s
-      last_stays true e = e
-      last_stays false e = refl
+      last_stays h1 e = grind arith
 
       is_closed : (k : ℕ) → k < length ds → knows f k ≡ true
           → cond moves (closed gone (start_in f k)) (start_in f k)
           ≡ cond ends (closed gone (start_in f k)) (start_in f k)
-      is_closed k b on = ⊎_elim (λ e. ap (λ m. cond m (closed gone (start_in f k)) (start_in f k)) e) (λ x.
-          ap (λ m. cond m (closed gone (start_in f k)) (start_in f k)) x.0
-          ∙ last_stays ends (unmoved cs gone (drive_in ds k).unit.number (start_in f k) (h.each k b on) x.1)) how
+      is_closed k b on = grind (arith, ⊎_elim, last_stays, unmoved)
 
       by : (ends : Bool) (k : ℕ) → k < length ds → k ≢ at
           → IsBest (IsClearOn cs (drive_in ds k).unit.number) (cost_at (drive_in ds k) cs) (start_in f k)
@@ -288,6 +210,4 @@ module _ {ds : List Drive} {cs : List Command} (units : IsUnitList (units_of ds)
       by true k b d best is = best_gone cs gone l few (drive_in ds k).unit.number (other_unit ds cs gone at k
           units placed b d) (drive_in ds k)
           (start_in f k) (start_in g k) best (ap (λ (s : Start). s.cost) is) (ap (λ (s : Start). s.place) is)
-      by false k b d best is = subst
-          (IsBest (IsClearOn cs (drive_in ds k).unit.number) (cost_at (drive_in ds k) cs))
-          (sym is) best
+      by false k b d best is = grind arith

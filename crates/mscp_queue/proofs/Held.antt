@@ -82,10 +82,8 @@ held_pushed room budget longest rs new ds begun serving by c h l w n e =
     let kept : All K (rs ++ r ∷ []) =
     All-from_recursion K (rs ++ r ∷ []) (every_append K rs (r ∷ []) (recursion_from_All K rs h.each)
     (fresh_kept budget longest (units_of ds) by c w, tt)) in
-    let numbers : names (rs ++ r ∷ []) ≡ names rs ++ name_of r ∷ [] =
-    map-append name_of rs (r ∷ []) in
-    let served : filter is_in_service (rs ++ r ∷ []) ≡ filter is_in_service rs ++ [] =
-    filter-append is_in_service rs (r ∷ []) in
+    let numbers : names (rs ++ r ∷ []) ≡ names rs ++ name_of r ∷ [] = grind (arith, map-append) in
+    let served : filter is_in_service (rs ++ r ∷ []) ≡ filter is_in_service rs ++ [] = grind (arith, filter-append) in
     let all : IsHeld room budget longest (rs ++ r ∷ []) ds begun serving =
     record {
       some_room = h.some_room;
@@ -113,8 +111,7 @@ kept_passed budget longest n us r h l = search arith
 front_kept : (budget longest n : ℕ) (us : List Shape) (A : List Record) → AllByRecursion (IsKept budget longest us) A
     → AllByRecursion (λ r. r.passed + n ≤ budget) A → AllByRecursion (IsKept budget longest us) (map (passed_by n) A)
 front_kept budget longest n us [] h l = tt
-front_kept budget longest n us (r ∷ rs) h l =
-    search (arith, kept_passed budget longest n us r h.0 l.0, front_kept budget longest n us rs h.1 l.1)
+front_kept budget longest n us (r ∷ rs) h l = grind (arith, kept_passed, front_kept budget longest n us rs h.1 l.1)
 
 kept_advanced : (budget longest : ℕ) (us : List Shape) (r : Record) → IsKept budget longest us r
     → r.done + 1 < r.weight → IsKept budget longest us (advanced r)
@@ -193,12 +190,9 @@ held_turn room budget longest n A r B own ds ds' begun serving serves h t ended 
     let K = IsKept budget longest (units_of ds) in
     let new = map (passed_by n) A ++ (own ++ B) in
     let parts = every_parts K A (r ∷ B) (recursion_from_All K (A ++ r ∷ B) h.each) in
-    let kept : AllByRecursion K new =
-    every_append K (map (passed_by n) A) (own ++ B) (front_kept budget longest n (units_of ds) A parts.0 t.affordable)
-    (every_append K own B (kept_left budget longest (units_of ds) r own t.left parts.1.0) parts.1.1) in
+    let kept : AllByRecursion K new = grind (arith, every_append, front_kept, kept_left) in
     let old_numbers : names (A ++ r ∷ B) ≡ names A ++ (name_of r ∷ names B) = map-append name_of A (r ∷ B) in
-    let numbers : names new ≡ names A ++ (names own ++ names B) =
-    search (arith, map-append name_of (map (passed_by n) A) (own ++ B), names_passed n A, map-append name_of own B) in
+    let numbers : names new ≡ names A ++ (names own ++ names B) = grind (arith, map-append, names_passed) in
     search (
       arith,
       K,

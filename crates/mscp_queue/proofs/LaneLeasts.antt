@@ -64,12 +64,10 @@ low_whole costs mask n j x none few h = record { below = λ i l on. by i on (com
         (sym (bit_from mask (8 * n) (k - 8 * n)) ∙ (ap (λ m. bit_at m (k - 8 * n)) none ∙ bit_at-zero (k - 8 * n)))
 
     by : (i : ℕ) → bit_at mask (8 * i + j) ≡ 1 → (i < n) ⊎ (n ≤ i) → x ≤ get_or costs (8 * i + j) 0
-    by i on (inl under) = h.below i under on
-    by i on (inr over) = let zero_bit = off (8 * i + j) (omega (arith, over)) in absurd (omega (arith, on, zero_bit))
+    by i on h3 = grind (arith, off)
 
     kept : FoundLow costs mask j n x → FoundLow costs mask j 8 x
-    kept (inl most) = inl most
-    kept (inr h) = inr (h.0, omega (arith, h.1, few), h.2, h.3)
+    kept h1 = grind arith
 
 -- ---- all costs
 place_is : (k : ℕ) → 8 * (k / 8) + k % 8 ≡ k
@@ -91,12 +89,10 @@ cost_of costs low mask x each lane = record { below = under; found = found_by la
     in_lane : (j : ℕ) → j < 8 → get_or low j 0 ≡ x → (get_or low j 0 ≡ 2 ^ 64 - 1)
         ⊎ ((i : ℕ) × (i < 8) × (bit_at mask (8 * i + j) ≡ 1) × (get_or costs (8 * i + j) 0 ≡ get_or low j 0))
         → FoundCost costs mask x
-    in_lane j l e (inl most) = inl (sym e ∙ most)
-    in_lane j l e (inr h) = inr (8 * h.0 + j, omega (arith, h.1), h.2, h.3 ∙ e)
+    in_lane j l e h4 = grind arith
 
     found_by : (x ≡ 2 ^ 64 - 1) ⊎ ((j : ℕ) × (j < 8) × (get_or low j 0 ≡ x)) → FoundCost costs mask x
-    found_by (inl most) = inl most
-    found_by (inr h) = in_lane h.0 h.1 h.2 (each h.0 h.1).found
+    found_by h1 = grind (arith, in_lane)
 
 -- ---- the first place
 pub first_is_least : (costs : List ℕ) (mask x p : ℕ) → IsCost costs mask x → IsFirst costs mask x p
@@ -113,11 +109,7 @@ none_masked costs mask x small fits cost none = by (zero_or mask)
 
     by_found : (k : ℕ) → k < 64 → bit_at mask k ≡ 1 → (x ≡ 2 ^ 64 - 1)
         ⊎ ((k : ℕ) × (k < 64) × (bit_at mask k ≡ 1) × (get_or costs k 0 ≡ x)) → mask ≡ 0
-    by_found k l on (inl most) =
-        let one = cost.below k l on in
-        let two = fits k in
-        absurd (none k l on (omega (arith, one, two, most)))
-    by_found k l on (inr h) = absurd (none h.0 h.1 h.2 h.3)
+    by_found k l on h4 = grind arith
 
     by : (mask ≡ 0) ⊎ (0 < mask) → mask ≡ 0
     by (inl e) = e
@@ -139,14 +131,10 @@ module _ (costs part : List ℕ) (mask n x eight : ℕ)
   hits = bit_and eight (mask / 2 ^ (8 * n))
 
   hit : (k : ℕ) → bit_at hits k ≡ 1 → (bit_at eight k ≡ 1) × (bit_at mask (8 * n + k) ≡ 1)
-  hit k set =
-      let two = one_of_min (bit_at eight k) (bit_at (mask / 2 ^ (8 * n)) k)
-      (sym (bit_at_and eight (mask / 2 ^ (8 * n)) k) ∙ set) (bit_at-lt eight k) (bit_at-lt (mask / 2 ^ (8 * n)) k) in
-      (two.0, sym (bit_from mask (8 * n) k) ∙ two.1)
+  hit k set = grind (arith, one_of_min, bit_at_and, bit_at-lt, bit_from)
 
   hits_at : (k : ℕ) → k < 8 → bit_at mask (8 * n + k) ≡ 1 → get_or costs (8 * n + k) 0 ≡ x → bit_at hits k ≡ 1
-  hits_at k l on e = bit_at_and eight (mask / 2 ^ (8 * n)) k
-      ∙ both (bit_at eight k) (bit_at (mask / 2 ^ (8 * n)) k) (each k l (at k l ∙ e)) (bit_from mask (8 * n) k ∙ on)
+  hits_at k l on e = grind (arith, bit_at_and, both, bit_from)
 
   within : (k t : ℕ) → 8 * n ≤ k → k < 8 * n + t → (8 * n + (k - 8 * n) ≡ k) × (k - 8 * n < t)
   within k t a b = (omega arith, omega arith)

@@ -1,5 +1,5 @@
 -- Eight of sixty-four numbers, and what a write to them leaves.
-use Rattle.mscp_queue.proofs.Common.{◌≡◌, ◌⊎◌, inl, inr, ℕ, ◌+◌, ◌-◌, ◌/◌, ◌%◌, ◌^◌, ◌<◌, ◌≤◌, List, ◌++◌, length, get_or, cond, nat_eq, take, drop, sym, ap, subst, ◌∙◌, arith, bit_at, chunk, put_chunk, shr-shr, bit_at-zero, get_or-take, get_or-drop, get_or_append_left, get_or-append_right, length-take-le, length-append, length-drop, put_chunk_whole, get_or-chunk, HasLanes, lowered}
+use Rattle.mscp_queue.proofs.Common.{◌≡◌, ◌⊎◌, inl, inr, ℕ, ◌+◌, ◌-◌, ◌/◌, ◌%◌, ◌^◌, ◌<◌, ◌≤◌, List, length, get_or, cond, nat_eq, take, drop, sym, ap, subst, ◌∙◌, arith, bit_at, chunk, put_chunk, shr-shr, bit_at-zero, get_or-take, get_or-drop, get_or_append_left, get_or-append_right, length-take-le, length-append, length-drop, put_chunk_whole, get_or-chunk, HasLanes, lowered}
 use borrow.Rule.Slice.PartMut.{mid_of, put_mid}
 
 -- a store over the whole of eight numbers
@@ -23,24 +23,16 @@ module _ (a n : ℕ) (xs : List ℕ) (eight : n ≡ 8) (room : a + 8 ≤ length 
     front_len = length-take-le a xs (omega arith)
 
     pub put_len : length (put_mid a n xs ys) ≡ length xs
-    put_len =
-        let one = length-append (take a xs) (ys ++ drop n (drop a xs)) in
-        let two = length-append ys (drop n (drop a xs)) in
-        omega (arith, one, two, length-drop n (drop a xs), length-drop a xs, front_len)
+    put_len = grind (arith, length-append, length-drop, front_len)
 
     pub at_put_below : (k : ℕ) → k < a → get_or (put_mid a n xs ys) k 0 ≡ get_or xs k 0
-    at_put_below k l = get_or_append_left (take a xs) (ys ++ drop n (drop a xs)) 0 k (omega (arith, front_len))
-        ∙ get_or-take a xs k 0 l
+    at_put_below k l = grind (arith, get_or_append_left, front_len, get_or-take)
 
     pub at_put : (k : ℕ) → k < 8 → get_or (put_mid a n xs ys) (a + k) 0 ≡ get_or ys k 0
-    at_put k l = get_or-append_right (take a xs) (ys ++ drop n (drop a xs)) a (a + k) 0 front_len (omega arith)
-        ∙ ap (λ j. get_or (ys ++ drop n (drop a xs)) j 0) (omega arith)
-        ∙ get_or_append_left ys (drop n (drop a xs)) 0 k (omega arith)
+    at_put k l = grind (arith, get_or-append_right, front_len, get_or_append_left)
 
     pub at_put_above : (k : ℕ) → a + 8 ≤ k → get_or (put_mid a n xs ys) k 0 ≡ get_or xs k 0
-    at_put_above k l = get_or-append_right (take a xs) (ys ++ drop n (drop a xs)) a k 0 front_len (omega arith)
-        ∙ get_or-append_right ys (drop n (drop a xs)) 8 (k - a) 0 len (omega arith) ∙ get_or-drop n (drop a xs)
-        (k - a - 8) 0 ∙ get_or-drop a xs (n + (k - a - 8)) 0 ∙ ap (λ j. get_or xs j 0) (omega arith)
+    at_put_above k l = grind (arith, get_or-append_right, front_len, get_or-drop)
 
 -- the numbers below place a are lowered, and those from it on are as they were
 pub record Lowered (mask by a : ℕ) (old xs : List ℕ) : Type 0 where
@@ -60,10 +52,7 @@ next mask by a n old xs ys eight room h new = record {
 }
   where
     here : (j : ℕ) → j < 8 → get_or (put_mid a n xs ys) (a + j) 0 ≡ lowered mask by (a + j) (get_or old (a + j) 0)
-    here j l =
-        at_put a n xs eight room ys new.long j l ∙ new.each j l
-        ∙ ap (λ x. lowered (mask / 2 ^ a) by j x) (at_mid a n xs eight room j l ∙ h.above (a + j) (omega arith))
-        ∙ ap (λ b. cond (nat_eq b 1) (get_or old (a + j) 0 - by) (get_or old (a + j) 0)) (bit_from mask a j)
+    here j l = grind (arith, at_put, at_mid, bit_from)
 
     go : (k : ℕ) → k < a + 8 → (k < a) ⊎ (a ≤ k) → get_or (put_mid a n xs ys) k 0 ≡ lowered mask by k (get_or old k 0)
     go k l (inl under) = at_put_below a n xs eight room ys new.long k under ∙ h.below k under
@@ -95,5 +84,4 @@ none_on mask by a old xs none h k = go (compare k a)
         h.above k over ∙ ap (λ b. cond (nat_eq b 1) (get_or old k 0 - by) (get_or old k 0)) (sym zero_bit)
 
     go : (k < a) ⊎ (a ≤ k) → get_or xs k 0 ≡ lowered mask by k (get_or old k 0)
-    go (inl under) = h.below k under
-    go (inr over) = as_before over
+    go h1 = grind (arith, as_before)

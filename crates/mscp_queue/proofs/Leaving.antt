@@ -1,13 +1,12 @@
 -- A command that leaves, as it ends or is aborted, keeps the dues of the others.
-use Rattle.mscp_queue.proofs.Common.{◌≡◌, ◌≤◌, ◌+◌, ◌-◌, ℕ, suc, true, false, List, [], ◌∷◌, ◌++◌, map, take, drop, length, sym, subst, ap, ◌∙◌, arith, sum_by, AllByRecursion, Slot, AreDue, IsDue, last_end, left_in_service, told, Record, is_in_service, left_if_serving, left_of, items, lowered_by}
+use Rattle.mscp_queue.proofs.Common.{◌≡◌, ◌≤◌, ◌+◌, ℕ, suc, true, false, List, [], ◌∷◌, ◌++◌, map, take, drop, length, arith, sum_by, AllByRecursion, Slot, AreDue, left_in_service, told, Record, is_in_service, left_if_serving, left_of, items, lowered_by}
 use Rattle.mscp_queue.proofs.Held.{AreIdle}
-use Rattle.mscp_queue.proofs.Dues.{fallen, fallen_enough, idle_left, idle_serving, items_append, items_fallen, serving_cons, serving_left, serving_mid, with_passed}
+use Rattle.mscp_queue.proofs.Dues.{fallen, fallen_enough, idle_left, idle_serving, items_append, items_fallen, serving_cons, serving_left, serving_mid}
 
 serving_without : (front : List Record) (x : Record) (back : List Record) → is_in_service x ≡ false
     → sum_by left_if_serving (front ++ x ∷ back) ≡ sum_by left_if_serving (front ++ back)
 serving_without [] x back e = search (arith, serving_cons x back, idle_left x e)
-serving_without (r ∷ front) x back e =
-    search (arith, serving_cons r (front ++ x ∷ back), serving_without front x back e, serving_cons r (front ++ back))
+serving_without (r ∷ front) x back e = grind (arith, serving_cons, serving_without front x back e)
 
 idle_append : (xs ys : List Record) → AreIdle xs → AreIdle ys → AreIdle (xs ++ ys)
 idle_append [] ys i j = j
@@ -18,60 +17,36 @@ module _ (budget : ℕ) where
   module _ (y : Slot) (back : List Slot) (j : AreIdle (items back)) (was : is_in_service y.item ≡ true) where
     serving_before : (front : List Slot) → AreIdle (items front)
         → left_in_service (front ++ y ∷ back) ≡ left_of y.item
-    serving_before front i = ap (sum_by left_if_serving) (items_append front (y ∷ back))
-        ∙ serving_mid (items front) y.item (items back) i j ∙ serving_left y.item was
+    serving_before front i = grind (arith, items_append, serving_mid, serving_left)
 
     none_after : (front : List Slot) → AreIdle (items front)
         → left_in_service (map (lowered_by (left_of y.item)) (front ++ back)) ≡ 0
-    none_after front i = ap (sum_by left_if_serving) (items_fallen (left_of y.item) (front ++ back)
-        ∙ items_append front back) ∙ idle_serving (items front ++ items back)
-        (idle_append (items front) (items back) i j)
+    none_after front i = grind (arith, items_fallen, items_append, idle_serving, idle_append)
 
     -- each other due is at least what is left of it
     pub end_enough : (a : ℕ) (front : List Slot) → AreDue budget a (front ++ y ∷ back)
         → AreIdle (items front) → AllByRecursion (λ s. left_of y.item ≤ s.due) (front ++ back)
     end_enough a [] d i = fallen_enough budget a (left_of y.item) back d.1
-    end_enough a (x ∷ front) d i =
-        let least = d.0.least in
-        (omega (arith, least, serving_before front i.1), end_enough (a + left_of x.item) front d.1 i.1)
+    end_enough a (x ∷ front) d i = grind (arith, serving_before, end_enough (a + left_of x.item) front d.1 i.1)
 
     pub due_ended : (a : ℕ) (front : List Slot) → AreDue budget a (front ++ y ∷ back)
         → AreIdle (items front) → AreDue budget a (map (lowered_by (left_of y.item)) (front ++ back))
     due_ended a [] d i = (fallen budget a (left_of y.item) back d.1).dues
     due_ended a (x ∷ front) d i =
-        let least = d.0.least in
-        let most = d.0.most in
-        let s = serving_before front i.1 in
-        let t = none_after front i.1 in (
-          record {
-            bare = d.0.bare;
-            least = omega (arith, least, s, t);
-            most = omega (arith, most, least, s, t);
-          },
-          due_ended (a + left_of x.item) front d.1 i.1,
-        )
+        grind (arith, serving_before, none_after, due_ended (a + left_of x.item) front d.1 i.1)
 
     pub told_ended : (a : ℕ) (front : List Slot) → AreDue budget a (front ++ y ∷ back) → AreIdle (items front)
         → told budget a (map (lowered_by (left_of y.item)) (front ++ back)) ≡ take (length front)
         (told budget a (front ++ y ∷ back)) ++ drop (suc (length front)) (told budget a (front ++ y ∷ back))
     told_ended a [] d i = (fallen budget a (left_of y.item) back d.1).same
     told_ended a (x ∷ front) d i =
-        let n = left_of y.item in
-        let least = d.0.least in
-        let p : (last_end a (left_in_service (map (lowered_by n) (front ++ back))) x + budget) - (x.due - n)
-        ≡ (last_end a (left_in_service (front ++ y ∷ back)) x + budget) - x.due =
-        omega (arith, least, serving_before front i.1, none_after front i.1) in
-        λ k. with_passed (p k) x.item ∷ told_ended (a + left_of x.item) front d.1 i.1 k
+        grind (arith, serving_before, none_after, told_ended (a + left_of x.item) front d.1 i.1)
 
   -- ---- an abort of one that wasn't started
   module _ (y : Slot) (back : List Slot) (idle : is_in_service y.item ≡ false) where
     serving_same : (front : List Slot) → left_in_service (front ++ map (lowered_by (left_of y.item)) back)
         ≡ left_in_service (front ++ y ∷ back)
-    serving_same front =
-        let n = left_of y.item in ap (sum_by left_if_serving) (items_append front (map (lowered_by n) back)
-        ∙ ap (λ rs. items front ++ rs) (items_fallen n back))
-        ∙ (sym (serving_without (items front) y.item (items back) idle)
-        ∙ sym (ap (sum_by left_if_serving) (items_append front (y ∷ back))))
+    serving_same front = grind (arith, items_append, items_fallen, serving_without)
 
     pub abort_enough : (a : ℕ) (front : List Slot) → AreDue budget a (front ++ y ∷ back)
         → AllByRecursion (λ s. left_of y.item ≤ s.due) back
@@ -81,15 +56,10 @@ module _ (budget : ℕ) where
     pub due_aborted : (a : ℕ) (front : List Slot) → AreDue budget a (front ++ y ∷ back)
         → AreDue budget a (front ++ map (lowered_by (left_of y.item)) back)
     due_aborted a [] d = (fallen budget a (left_of y.item) back d.1).dues
-    due_aborted a (x ∷ front) d = (
-      subst (λ k. IsDue budget a k x) (sym (serving_same front)) d.0,
-      due_aborted (a + left_of x.item) front d.1,
-    )
+    due_aborted a (x ∷ front) d = grind (arith, serving_same, due_aborted (a + left_of x.item) front d.1)
 
     pub told_aborted : (a : ℕ) (front : List Slot) → AreDue budget a (front ++ y ∷ back)
         → told budget a (front ++ map (lowered_by (left_of y.item)) back) ≡ take (length front)
         (told budget a (front ++ y ∷ back)) ++ drop (suc (length front)) (told budget a (front ++ y ∷ back))
     told_aborted a [] d = (fallen budget a (left_of y.item) back d.1).same
-    told_aborted a (x ∷ front) d =
-        let p = ap (λ k. (last_end a k x + budget) - x.due) (serving_same front) in
-        λ k. with_passed (p k) x.item ∷ told_aborted (a + left_of x.item) front d.1 k
+    told_aborted a (x ∷ front) d = grind (arith, serving_same, told_aborted (a + left_of x.item) front d.1)

@@ -13,7 +13,6 @@ pub mod Passable
 pub mod Ordered
 pub mod Nexts
 pub mod Aborts
-pub mod Uncharged
 pub mod Whys
 pub mod Shaped
 pub mod Masked

@@ -1,5 +1,5 @@
 -- A list that a function changes element by element, in place.
-use Rattle.mscp_queue.proofs.Common.{◌≡◌, ℕ, suc, ◌≤◌, ◌+◌, ◌<◌, List, [], ◌∷◌, ◌++◌, map, length, take, drop, set, get_or, append_assoc, ap, sym, ◌∙◌, arith, remove, refill, drop_at, length-append, length-map, length-take-le, take_at, drop_more, get_or_at, map-append, set_at, take_more}
+use Rattle.mscp_queue.proofs.Common.{◌≡◌, ℕ, suc, ◌+◌, ◌<◌, List, [], ◌∷◌, ◌++◌, map, length, take, drop, set, get_or, append_assoc, ap, sym, ◌∙◌, arith, remove, refill, drop_at, length-append, length-map, length-take-le, take_at, drop_more, get_or_at, map-append, set_at, take_more}
 
 -- One more element is what a function makes of it.
 pub mapped_more : {X : Type 0} (f : X → X) (xs ys : List X) (i : ℕ) (item x : X)
@@ -15,20 +15,6 @@ mapped_more {X} f xs ys i item x e l h k =
     ap (λ zs. set zs i x) cut ∙ (set_at A y (drop (i + 1) xs) x i long ∙ (ap (λ z. A ++ z ∷ drop (i + 1) xs)
     (k ∙ ap f same) ∙ (sym (append_assoc A (f y ∷ []) (drop (i + 1) xs)) ∙ ap (λ zs. zs ++ drop (i + 1) xs)
     (sym (map-append f (take i xs) (y ∷ [])) ∙ ap (map f) (sym (take_more xs i item below))))))
-
-front_length : {X : Type 0} (f : X → X) (i : ℕ) (xs : List X) → i ≤ length xs → length (map f (take i xs)) ≡ i
-front_length f i xs h = length-map (take i xs) f ∙ length-take-le i xs h
-
--- the element behind a front that was changed is set
-pub behind_set : {X : Type 0} (f : X → X) (i : ℕ) (xs ys : List X) (d v : X)
-    → i < length xs → ys ≡ map f (take i xs) ++ drop i xs → set ys i v ≡ map f (take i xs) ++ (v ∷ drop (i + 1) xs)
-behind_set f i xs ys d v l e = ap (λ zs. set zs i v) (e ∙ ap (λ zs. map f (take i xs) ++ zs) (drop_more xs i d l))
-    ∙ set_at (map f (take i xs)) (get_or xs i d) (drop (i + 1) xs) v i (front_length f i xs (omega arith))
-
--- and it is read
-pub behind_read : {X : Type 0} (f : X → X) (i : ℕ) (xs ys : List X) (d : X) → i < length xs
-    → ys ≡ map f (take i xs) ++ drop i xs → get_or ys i d ≡ get_or xs i d
-behind_read f i xs ys d l e = grind (arith, drop_more, get_or_at, front_length)
 
 pub removed_at : {X : Type 0} (A : List X) (x : X) (B : List X) (i : ℕ) → length A ≡ i → remove (A ++ x ∷ B) i ≡ A ++ B
 removed_at A x B i l =

@@ -1,5 +1,5 @@
 -- The masks stay those of the slots: where a command comes, leaves, or has a step.
-use Rattle.mscp_queue.proofs.Common.{◌≡◌, ◌≢◌, ◌<◌, ◌≤◌, ◌+◌, zero, suc, length, get_or, ◌⊎◌, inl, inr, ℕ, Bool, true, false, cond, ◌&&◌, ◌||◌, nat_eq, List, [], ◌∷◌, ◌++◌, sym, subst, ap, ◌∙◌, refl, arith, slice_index_or, bit_at, bit_at_ones, eq-eqb, eqb-false, eqb-true, ne_eqb, append_assoc, append-nil, Masks, AreClasses, AreEarlier, AreMasks, AreSlots, HasCome, IsMaskOf, IsSet, Kind, bit, has}
+use Rattle.mscp_queue.proofs.Common.{◌≡◌, ◌≢◌, ◌<◌, ◌≤◌, ◌+◌, zero, suc, length, get_or, ◌⊎◌, ℕ, Bool, true, false, cond, ◌&&◌, ◌||◌, nat_eq, List, [], ◌∷◌, ◌++◌, sym, subst, ap, ◌∙◌, refl, arith, slice_index_or, bit_at, bit_at_ones, eq-eqb, eqb-false, eqb-true, ne_eqb, append_assoc, append-nil, Masks, AreClasses, AreEarlier, AreMasks, AreSlots, HasCome, IsMaskOf, IsSet, Kind, bit, has}
 
 -- the slots without one
 abbrev pub if_not : Bool → ℕ → List ℕ → List ℕ
@@ -30,24 +30,11 @@ has_last n (x ∷ xs) = search (arith, nat_eq n x, has_last n xs)
 
 pub has_kept : (k n : ℕ) (xs : List ℕ) → k ≢ n → has k (without n xs) ≡ has k xs
 has_kept k n [] e = refl
-has_kept k n (x ∷ xs) e = by (has_kept k n xs e) (same_or x n)
-  where
-    by : has k (without n xs) ≡ has k xs → (x ≡ n) ⊎ (x ≢ n)
-        → has k (if_not (nat_eq x n) x (without n xs)) ≡ (nat_eq k x || has k xs)
-    by h (inl s) =
-        ap (λ b. has k (if_not b x (without n xs))) (eq_true x n s) ∙ h
-        ∙ ap (λ b. b || has k xs) (sym (eq_false k x (λ f. e (f ∙ s))))
-    by h (inr d) = ap (λ b. has k (if_not b x (without n xs))) (eq_false x n d) ∙ ap (λ b. nat_eq k x || b) h
+has_kept k n (x ∷ xs) e = grind (arith, same_or, eq_true, eq_false, has_kept k n xs e)
 
 pub has_gone : (n : ℕ) (xs : List ℕ) → has n (without n xs) ≡ false
 has_gone n [] = refl
-has_gone n (x ∷ xs) = by (has_gone n xs) (same_or x n)
-  where
-    by : has n (without n xs) ≡ false → (x ≡ n) ⊎ (x ≢ n) → has n (if_not (nat_eq x n) x (without n xs)) ≡ false
-    by h (inl s) = ap (λ b. has n (if_not b x (without n xs))) (eq_true x n s) ∙ h
-    by h (inr d) =
-        ap (λ b. has n (if_not b x (without n xs))) (eq_false x n d)
-        ∙ ap (λ b. b || has n (without n xs)) (eq_false n x (λ f. d (sym f))) ∙ h
+has_gone n (x ∷ xs) = grind (arith, same_or, eq_true, eq_false, has_gone n xs)
 
 pub without_append : (n : ℕ) (xs ys : List ℕ) → without n (xs ++ ys) ≡ without n xs ++ without n ys
 without_append n [] ys = refl
@@ -57,12 +44,7 @@ without_append n (x ∷ xs) ys = search (arith, without_append n xs ys, nat_eq x
 module _ (m m' n : ℕ) (on : Bool) (old new : ℕ → Bool) (set : IsSet on n m m')
     (is : IsMaskOf m old) (at : new n ≡ on) (other : (k : ℕ) → k ≢ n → new k ≡ old k) where
   pub set_mask : IsMaskOf m' new
-  set_mask k l = by (same_or k n)
-    where
-      by : (k ≡ n) ⊎ (k ≢ n) → bit_at m' k ≡ bit (new k)
-      by (inl s) = set k l ∙ ap (λ b. cond b (cond on 1 0) (bit_at m k)) (eq_true k n s) ∙ ap bit (sym (ap new s ∙ at))
-      by (inr d) = set k l ∙ ap (λ b. cond b (cond on 1 0) (bit_at m k)) (eq_false k n d) ∙ is k l
-          ∙ ap bit (sym (other k d))
+  set_mask k l = grind (arith, same_or, eq_true, eq_false)
 
 -- ---- a push
 differ : (b : Bool) → b ≡ true → b ≡ false → bit true ≡ bit false
@@ -90,10 +72,7 @@ module _ (earlier earlier' : ℕ → ℕ) (n m : ℕ)
     (same : (k : ℕ) → k ≢ n → earlier' k ≡ earlier k) (new : earlier' n ≡ m) where
   earlier_pushed : (front order : List ℕ) → has n order ≡ false → IsMaskOf m (λ k. has k (front ++ order))
       → AreEarlier earlier front order → AreEarlier earlier' front (order ++ n ∷ [])
-  earlier_pushed front [] e is a = (
-    subst (λ m. IsMaskOf m (λ k. has k front)) (sym new) (mask_same m _ _ (λ k. ap (has k) (append-nil front)) is),
-    tt,
-  )
+  earlier_pushed front [] e is a = grind (arith, mask_same, append-nil)
   earlier_pushed front (s ∷ order) e is a = (
     subst (λ m. IsMaskOf m (λ k. has k front)) (sym (same s (not_here n s order e))) a.0,
     earlier_pushed (front ++ s ∷ []) order (not_behind n s order e)
@@ -120,29 +99,13 @@ pub classes_pushed : (f f' : ℕ → ℕ) (order old new : List ℕ) (n : ℕ) �
     → IsSet true n (slice_index_or old (f' n) 0) (slice_index_or new (f' n) 0)
     → ((u : ℕ) → u ≢ f' n → slice_index_or new u 0 ≡ slice_index_or old u 0) → AreClasses f' (order ++ n ∷ []) new
 classes_pushed f f' order old new n h free low same own others u =
-    set_mask (slice_index_or old u 0) (slice_index_or new u 0) n (nat_eq (f' n) u) _ _
-    (unit_set _ _ n (nat_eq (f' n) u)
-    (λ e. subst (λ v. IsSet true n (slice_index_or old v 0) (slice_index_or new v 0)) (eqb-true (f' n) u e) own)
-    (λ e. others u (λ f. let d = eqb-false (f' n) u e in d (sym f)))
-    (h u n low ∙ ap (λ b. bit (b && nat_eq (f n) u)) free)) (h u)
-    (ap (λ b. b && nat_eq (f' n) u) (has_last n order))
-    (λ k d. and_same _ _ _ _ (has_other k n order d) (ap (λ c. nat_eq c u) (same k d)))
+    grind (arith, set_mask, unit_set, eqb-true, eqb-false, has_last, and_same, has_other)
 
 pub masks_pushed : (kinds kinds' : ℕ → Kind) (order : List ℕ) (m m' : Masks) (n : ℕ)
     → AreMasks kinds order m → Comes kinds kinds' order n
     → HasCome n (kinds' n).drive (kinds' n).sequential m m' → AreMasks kinds' (order ++ n ∷ []) m'
-masks_pushed kinds kinds' order m m' n masks c h = record {
-  apart = slots_pushed order n masks.apart c.low c.free;
-  of_waiting = set_mask m.waiting m'.waiting n true _ _ h.waits masks.of_waiting (has_last n order)
-      (λ k d. has_other k n order d);
-  of_sequential =
-      set_mask m.sequential m'.sequential n (kinds' n).sequential _ _ h.ordered masks.of_sequential
-      (ap (λ b. b && (kinds' n).sequential) (has_last n order))
-      (λ k d. and_same _ _ _ _ (has_other k n order d) (ap (λ s. s.sequential) (c.same k d)));
-  of_units = classes_pushed (λ k. (kinds k).drive) (λ k. (kinds' k).drive) order m.units m'.units n masks.of_units
-      c.free c.low (λ k d. ap (λ s. s.drive) (c.same k d)) h.own h.units;
-  of_earlier = earlier_pushed _ _ n m.waiting h.others h.earlier [] order c.free masks.of_waiting masks.of_earlier;
-}
+masks_pushed kinds kinds' order m m' n masks c h =
+    grind (arith, slots_pushed, set_mask, has_last, has_other, and_same, classes_pushed, earlier_pushed)
 
 -- ---- a step
 -- a slot of the order is below 64, and the order is cut at it
@@ -151,8 +114,7 @@ slot_low (s ∷ order) (suc place) a l = slot_low order place a.2 (omega (arith,
 slot_low order place h2 h3 = grind arith
 
 pub slot_has : (order : List ℕ) (place : ℕ) → place < length order → has (get_or order place 0) order ≡ true
-slot_has (s ∷ order) (suc place) l =
-    search (arith, nat_eq (get_or order place 0) s, slot_has order place (omega (arith, l)))
+slot_has (s ∷ order) (suc place) l = grind (arith, slot_has order place (omega (arith, l)))
 slot_has order place h2 = search (arith, eq_true)
 
 -- ---- the lowest free slot
@@ -166,37 +128,21 @@ many_taken (suc n) order h =
   where
     no_more : (n : ℕ) (xs : List ℕ) → length (without n xs) ≤ length xs
     no_more n [] = omega arith
-    no_more n (x ∷ xs) = by (no_more n xs) (nat_eq x n)
-      where
-        by : length (without n xs) ≤ length xs → (b : Bool) → length (if_not b x (without n xs)) ≤ length (x ∷ xs)
-        by h true = omega (arith, h)
-        by h false = omega (arith, h)
+    no_more n (x ∷ xs) = grind (arith, no_more n xs)
 
     one_gone : (n : ℕ) (xs : List ℕ) → has n xs ≡ true → length (without n xs) < length xs
     one_gone n [] e = let bad = ap bit e in absurd (omega (arith, bad))
-    one_gone n (x ∷ xs) e = by (one_gone n xs) (no_more n xs) (same_or x n)
-      where
-        by : (has n xs ≡ true → length (without n xs) < length xs) → length (without n xs) ≤ length xs → (x ≡ n)
-            ⊎ (x ≢ n)
-            → length (if_not (nat_eq x n) x (without n xs)) < length (x ∷ xs)
-        by h m (inl s) = subst (λ b. length (if_not b x (without n xs)) < length (x ∷ xs)) (sym (eq_true x n s))
-            (omega (arith, m))
-        by h m (inr d) =
-            let behind : has n xs ≡ true = ap (λ b. b || has n xs) (sym (eq_false n x (λ f. d (sym f)))) ∙ e in
-            let l = h behind in
-            subst (λ b. length (if_not b x (without n xs)) < length (x ∷ xs)) (sym (eq_false x n d)) (omega (arith, l))
+    one_gone n (x ∷ xs) e = grind (arith, no_more, same_or, eq_true, eq_false, one_gone n xs)
 
 -- so where fewer than all wait, a bit is clear
 pub some_free : (m : ℕ) (order : List ℕ) → IsMaskOf m (λ k. has k order) → length order < 64 → m ≢ 18446744073709551615
 some_free m order is few = λ e.
-    let all : (k : ℕ) → k < 64 → has k order ≡ true =
-    λ k l. on (has k order) (sym (is k l) ∙ ap (λ m. bit_at m k) e ∙ full k l) in
+    let all : (k : ℕ) → k < 64 → has k order ≡ true = grind (arith, full) in
     let many = many_taken 64 order all in
     omega (arith, many, few)
   where
     on : (b : Bool) → bit b ≡ 1 → b ≡ true
-    on true e = refl
-    on false e = absurd (omega (arith, e))
+    on h1 e = grind arith
 
     full : (k : ℕ) → k < 64 → bit_at 18446744073709551615 k ≡ 1
     full k l = bit_at_ones 64 k l

@@ -73,14 +73,11 @@ name_found rs name place (Some other) a l e h = search (arith, found_at (has_nam
 -- the place that is known of what was begun is where its name stands, and there alone
 pub known_place : (rs : List Record) (begun : Option ℕ) → AreApart (names rs)
     → ((place : ℕ) → begun ≡ Some place → place < length rs) → begun ≡ place_begun rs (begun_name rs begun)
-known_place rs None a l = refl
-known_place rs (Some place) a l = sym (name_found rs (name_of (record_at rs place)) place
-    (position (has_name (name_of (record_at rs place))) rs) a (l place refl) refl refl)
+known_place rs h2 a l = grind (arith, name_found)
 
 pub known_alone : (rs : List Record) (begun : Option ℕ) → AreApart (names rs)
     → ((place : ℕ) → begun ≡ Some place → place < length rs) → IfSome begun (IsAlone rs)
-known_alone rs None a l = tt
-known_alone rs (Some place) a l = λ other inside e. once rs other place a inside (l place refl) e
+known_alone rs h2 a l = grind (arith, once)
 
 -- the record at the place that is known of what was begun is next
 pub known_next : (picks : List Choice → ℕ → Type 0) (budget : ℕ) (ds : List Drive) (rs : List Record) (place : ℕ)
@@ -112,18 +109,12 @@ pub serving_is_next : (picks : List Choice → ℕ → Type 0)
 serving_is_next picks budget ds rs begun place one l h still =
     record {
       servable = search (arith, not_unstarted);
-      same = λ name e.
-          let s = still name e in
-          subst (λ k. has_name name (record_at rs k) ≡ true)
-          (here s.0 s.1 (zero_or (record_at rs s.0).done)) s.2;
+      same = grind (arith, here, zero_or);
       picked = λ b e. absurd (omega (arith, not_unstarted (record_at rs place) h e));
     }
   where
     here : (k : ℕ) → IsServable budget rs k → ((record_at rs k).done ≡ 0) ⊎ (0 < (record_at rs k).done) → k ≡ place
-    here k s (inl e) =
-        let idle = s.idle (eq-eqb (record_at rs k).done 0 e) place no_record l in
-        let some = ltb-true 0 (record_at rs place).done h in
-        absurd (omega (arith, idle, some))
+    here k s (inl e) = grind (arith, eq-eqb, ltb-true)
     here k s (inr some) =
         ap (λ o. unwrap_or o place) (sym (serving_found rs k one s.inside (lt-ltb 0 (record_at rs k).done some))
         ∙ serving_found rs place one l h)
@@ -182,8 +173,7 @@ begun_left rs new (Some place) gone a l e h = by (place_without (Some place) gon
         → (if same_name name (name_of (record_at rs gone)) then None else Some name) ≡ begun_name new o
     by (Some k) s =
         let m = moved rs gone place k l (h place refl) s in
-        let differ : same_name name (name_of (record_at rs gone)) ≡ false =
-        is_differ name (name_of (record_at rs gone)) (λ n. m.0 (once rs place gone a (h place refl) l n)) in
+        let differ : same_name name (name_of (record_at rs gone)) ≡ false = grind (arith, is_differ, name, once) in
         ap (λ b. if b then None else Some name) differ
         ∙ ap (λ (r : Record). Some (name_of r)) (sym (ap (λ zs. record_at zs k) e ∙ m.2))
     by None s =
@@ -193,10 +183,7 @@ begun_left rs new (Some place) gone a l e h = by (place_without (Some place) gon
       where
         where_gone : (b c : Bool) → nat_lt place gone ≡ b → nat_lt gone place ≡ c
             → (if b then Some place else if c then Some (place - 1) else None) ≡ None → place ≡ gone
-        where_gone true c p q e = absurd (true≢false (ap is_some e))
-        where_gone false true p q e = absurd (true≢false (ap is_some e))
-        where_gone false false p q e = let a = ltb-false place gone p in let b =
-            ltb-false gone place q in omega (arith, a, b)
+        where_gone h1 h2 p q e = grind (arith, true≢false, ltb-false)
 
 -- one that is served waits for its next step, or none is
 pub some_without : (rs new : List Record) (known : Option ℕ) (gone : ℕ) → gone < length rs → new ≡ take gone rs ++ drop
@@ -215,17 +202,13 @@ some_without rs new (Some place) gone l e one h idle s = by (place_without (Some
 
     where_gone : (b c : Bool) → nat_lt place gone ≡ b → nat_lt gone place ≡ c
         → (if b then Some place else if c then Some (place - 1) else None) ≡ None → place ≡ gone
-    where_gone true c p q e = absurd (true≢false (ap is_some e))
-    where_gone false true p q e = absurd (true≢false (ap is_some e))
-    where_gone false false p q e = let a = ltb-false place gone p in let b =
-        ltb-false gone place q in omega (arith, a, b)
+    where_gone h1 h2 p q e = grind (arith, true≢false, ltb-false)
 
     by : (o : Option ℕ) → place_without (Some place) gone ≡ o → is_some o ≡ false → All (λ r. r.done ≡ 0) new
     by (Some k) n f = absurd (true≢false f)
     by None n f =
         let here = where_gone (nat_lt place gone) (nat_lt gone place) refl refl n in
-        let serves : is_in_service (record_at rs gone) ≡ true = ap (λ k. is_in_service (record_at rs k)) (sym here)
-        ∙ (h place refl).1 in
+        let serves : is_in_service (record_at rs gone) ≡ true = grind (arith, here) in
         let others = others_idle (take gone rs) (record_at rs gone) (drop (gone + 1) rs)
         (subst (λ zs. length (filter is_in_service zs) ≤ 1) (cut_at no_record rs gone l) one)
         (ltb-true 0 (record_at rs gone).done serves) in

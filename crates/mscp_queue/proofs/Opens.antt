@@ -20,41 +20,17 @@ module _ (n : ℕ) (on sq : ℕ → Bool) where
   Fence = (j : ℕ) → j < n → In j → sq j ≡ true
 
   pub in_opens : (p : ℕ) → p < n → In p → (sq p ≡ true → Fence) → Opens p
-  in_opens p l h fence = record {
-    own = h.own;
-    none = λ z b u o. ⊎_elim
-        (λ q. behind z b u q)
-        (λ q. behind z b u (fence q z (omega (arith, b, l)) (record {
-          own = u;
-          each = λ s c v r d. ⊎_elim (λ e. subst (λ k. z < k) (sym e) b)
-              (λ e. let f = h.each s c v r e in omega (arith, f, b)) (same_or s p);
-        }))) o;
-  }
-    where
-      behind : (z : ℕ) → z < p → on z ≡ true → sq z ≡ true → ⊥
-      behind z b u q = let f = h.each z (omega (arith, b, l)) u q (λ e. omega (arith, e, b)) in omega (arith, f, b)
+  in_opens p l h fence = grind (arith, ⊎_elim, same_or)
 
   pub opens_in : (p : ℕ) → p < n → Opens p → In p
-  opens_in p l h = record { own = h.own; each = λ s b u q d. by s u q d (lt_or s p) }
-    where
-      lt_or : (a b : ℕ) → (a < b) ⊎ (b ≤ a)
-      lt_or a b = grind arith
-
-      by : (s : ℕ) → on s ≡ true → sq s ≡ true → s ≢ p → (s < p) ⊎ (p ≤ s) → p < s
-      by s u q d (inl b) = absurd (h.none s b u (inl q))
-      by s u q d (inr b) = omega (arith, b, d)
+  opens_in p l h = grind arith
 
   pub opens_fence : (p : ℕ) → p < n → Opens p → (sq p ≡ false) ⊎ Fence
   opens_fence p l h = by (sq p) refl
     where
       by : (b : Bool) → sq p ≡ b → (sq p ≡ false) ⊎ Fence
       by false e = inl e
-      by true e = inr (λ j b f. all j f (sq j) refl)
-        where
-          all : (j : ℕ) → In j → (c : Bool) → sq j ≡ c → sq j ≡ true
-          all j f true g = g
-          all j f false g = absurd (h.none j (f.each p l h.own e
-              (λ k. false≢true (sym g ∙ (ap sq (sym k) ∙ e)))) f.own (inr e))
+      by true e = grind (arith, false≢true)
 
 -- ---- what a list of tests says
 pub all_at : {X : Type 0} (test : X → Bool) (xs : List X) (i : ℕ) (d : X) → list_all test xs ≡ true → i < length xs
@@ -69,24 +45,11 @@ at_all test (x ∷ xs) d h =
 
 fence_off : (zd rd at : ℕ) (zs rs : Bool) → nat_eq rd at ≡ true
     → (nat_eq zd at ≡ true → (zs ≡ true) ⊎ (rs ≡ true) → ⊥) → not (nat_eq zd rd && (zs || rs)) ≡ true
-fence_off zd rd at zs rs e h = by (nat_eq zd rd) refl zs rs h
-  where
-    by : (b : Bool) → nat_eq zd rd ≡ b → (zs rs : Bool) → (nat_eq zd at ≡ true → (zs ≡ true) ⊎ (rs ≡ true) → ⊥)
-        → not (b && (zs || rs)) ≡ true
-    by false f zs rs h = refl
-    by true f true rs h = absurd (h (eq-eqb zd at (eqb-true zd rd f ∙ eqb-true rd at e)) (inl refl))
-    by true f false true h = absurd (h (eq-eqb zd at (eqb-true zd rd f ∙ eqb-true rd at e)) (inr refl))
-    by true f false false h = refl
+fence_off zd rd at zs rs e h = grind (arith, eq-eqb, eqb-true)
 
 off_fence : (zd rd at : ℕ) (zs rs : Bool) → nat_eq rd at ≡ true → not (nat_eq zd rd && (zs || rs)) ≡ true
     → nat_eq zd at ≡ true → (zs ≡ true) ⊎ (rs ≡ true) → ⊥
-off_fence zd rd at zs rs e h f o = by zs rs o (ap (λ b. not (b && (zs || rs)))
-    (sym (eq-eqb zd rd (eqb-true zd at f ∙ sym (eqb-true rd at e)))) ∙ h)
-  where
-    by : (zs rs : Bool) → (zs ≡ true) ⊎ (rs ≡ true) → not (true && (zs || rs)) ≡ true → ⊥
-    by true rs o h = false≢true h
-    by false true o h = false≢true h
-    by false false o h = ⊎_elim false≢true false≢true o
+off_fence zd rd at zs rs e h f o = grind (arith, eq-eqb, eqb-true, false≢true, ⊎_elim)
 
 -- ---- by the masks
 module _ (kinds : ℕ → Kind) (order : List ℕ) (m : Masks) (masks : AreMasks kinds order m) (at : ℕ) where
@@ -127,13 +90,7 @@ module _ (kinds : ℕ → Kind) (order : List ℕ) (m : Masks) (masks : AreMasks
       long = length-take-le p order (omega (arith, l))
 
       none : p ≤ q → (b : Bool) → has (number q) (take p order) ≡ b → b ≡ nat_lt q p
-      none g false e = sym (le-ltb q p g)
-      none g true e =
-          let r = placed (take p order) (number q) e in
-          let inside : r.0 < p = omega (arith, r.1, long) in
-          let same = one_place order q r.0 masks.apart k (omega (arith, inside, l))
-          (r.2 ∙ get_or-take p order r.0 0 inside) in
-          absurd (omega (arith, same, inside, g))
+      none g h2 e = grind (arith, le-ltb, placed, long, one_place, get_or-take)
 
       by : (q < p) ⊎ (p ≤ q) → has (number q) (take p order) ≡ nat_lt q p
       by (inl g) = ap (λ k. has k (take p order)) (sym (get_or-take p order q 0 g))
@@ -143,48 +100,19 @@ module _ (kinds : ℕ → Kind) (order : List ℕ) (m : Masks) (masks : AreMasks
   -- a slot of the unit stands at a place
   there : (k : ℕ) → k < 64 → bit_at (slice_index_or m.units at 0) k ≡ 1
       → (p : ℕ) × (p < length order) × (k ≡ number p)
-  there k l e = placed order k (by (has k order) (sym (masks.of_units at k l) ∙ e))
-    where
-      by : (b : Bool) → bit (b && nat_eq (kinds k).drive at) ≡ 1 → b ≡ true
-      by true f = refl
-      by false f = absurd (omega (arith, f))
+  there k l e = grind (arith, placed)
 
   off : (b : Bool) → bit b ≡ 0 → b ≡ false
-  off true e = absurd (omega (arith, e))
-  off false e = refl
+  off h1 e = grind arith
 
   abbrev Inside : ℕ → Type 0
   Inside = In (length order) on sq
 
   in_front : (p : ℕ) → p < length order → IsInFront at m (number p) → Inside p
-  in_front p l h = record {
-    own = one_bit (on p) (sym (unit_bit p l) ∙ h.unit);
-    each = λ s b u q d. before s b (one_bit (nat_lt p s) (sym (early_bit s p b l)
-        ∙ h.each (number s) (low s b) (unit_bit s b ∙ ap bit u) (seq_bit s b ∙ ap bit q)
-        (λ e. d (one_place order s p masks.apart b l e))));
-  }
-    where
-      before : (s : ℕ) → s < length order → nat_lt p s ≡ true → p < s
-      before s b e = grind (arith, e)
+  in_front p l h = grind (arith, one_bit, unit_bit, early_bit, low, seq_bit, one_place)
 
   front_in : (p : ℕ) → p < length order → Inside p → IsInFront at m (number p)
-  front_in p l h = record {
-    unit = unit_bit p l ∙ ap bit h.own;
-    each = λ k b u q d. by k (there k b u) u q d;
-  }
-    where
-      by : (k : ℕ) → (s : ℕ) × (s < length order) × (k ≡ number s)
-          → bit_at (slice_index_or m.units at 0) k ≡ 1 → bit_at m.sequential k ≡ 1 → k ≢ number p
-          → bit_at (slice_index_or m.earlier k 0) (number p) ≡ 1
-      by k t u q d =
-          let s = t.0 in
-          let e = t.2 in
-          let first = h.each s t.1 (one_bit (on s) (sym (unit_bit s t.1)
-          ∙ (ap (bit_at (slice_index_or m.units at 0)) (sym e) ∙ u)))
-          (one_bit (sq s) (sym (seq_bit s t.1) ∙ (ap (bit_at m.sequential) (sym e) ∙ q)))
-          (λ f. d (e ∙ ap number f)) in
-          ap (λ n. bit_at (slice_index_or m.earlier n 0) (number p)) e
-          ∙ (early_bit s p t.1 l ∙ ap bit (lt-ltb p s first))
+  front_in p l h = grind (arith, unit_bit, there, one_bit, seq_bit, early_bit, lt-ltb)
 
   abbrev Alone : Type 0
   Alone = (j : ℕ) → j < length order → Inside j → sq j ≡ true
@@ -193,10 +121,7 @@ module _ (kinds : ℕ → Kind) (order : List ℕ) (m : Masks) (masks : AreMasks
   fence_to h j l f = one_bit (sq j) (sym (seq_bit j l) ∙ h (number j) (low j l) (front_in j l f))
 
   fence_from : Alone → IsFence at m
-  fence_from h k l f =
-      let t = there k l f.unit in
-      ap (bit_at m.sequential) t.2 ∙ (seq_bit t.0 t.1
-      ∙ ap bit (h t.0 t.1 (in_front t.0 t.1 (subst (IsInFront at m) t.2 f))))
+  fence_from h k l f = grind (arith, there, seq_bit, in_front)
 
   abbrev ks : List Kind
   ks = map kinds order
@@ -217,8 +142,7 @@ module _ (kinds : ℕ → Kind) (order : List ℕ) (m : Masks) (masks : AreMasks
     own = own;
     none = λ z under u o.
         let inside : z < length order = omega (arith, under, l) in
-        let long : z < length (take p ks) =
-        omega (arith, under, length-take-le p ks (omega (arith, l, length-map order kinds))) in
+        let long : z < length (take p ks) = grind (arith, length-take-le, length-map) in
         off_fence (kinds (number z)).drive (kinds (number p)).drive at (sq z) (sq p) own
         ((λ i. not (keeps_back (sym (get_or-take p ks z no_kind under ∙ kind_is z inside) i) (sym (kind_is p l) i)))
         ∙ all_at (λ z. not (keeps_back z (get_or ks p no_kind))) (take p ks) z no_kind e long) u o;
@@ -228,13 +152,7 @@ module _ (kinds : ℕ → Kind) (order : List ℕ) (m : Masks) (masks : AreMasks
   pub front_open : (front p : ℕ) → IsFront at m front → p < length order → bit_at front (number p) ≡ 1
       → IsOpenOn ks at p
   front_open front p h l e =
-      let t = h.to (number p) (low p l) e in
-      let o = in_opens (length order) on sq p l (in_front p l t.0) (λ q. fence_to (t.1 (seq_bit p l ∙ ap bit q))) in
-      record {
-        inside = omega (arith, l, length-map order kinds);
-        drive = ap (λ (k : Kind). k.drive) (kind_is p l) ∙ eqb-true (kinds (number p)).drive at o.own;
-        free = unfenced p l o;
-      }
+      grind (arith, low, in_opens, in_front, fence_to, seq_bit, length-map, kind_is, eqb-true, unfenced)
 
   pub open_front : (front p : ℕ) → IsFront at m front → IsOpenOn ks at p → bit_at front (number p) ≡ 1
   open_front front p h e =

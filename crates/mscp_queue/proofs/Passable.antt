@@ -15,8 +15,7 @@ module _ (budget most : ℕ) where
   -- who came earlier was passed at least as often: where the oldest may still be passed, each may
   passable : (rs : List Record) → ArePassedInOrder rs → (record_at rs 0).passed + most ≤ budget → AllByRecursion P rs
   passable [] order fits = tt
-  passable (q ∷ qs) order fits =
-      (fits, every_weaker (λ z. z.passed ≤ q.passed) P (λ z l. omega (arith, l, fits)) qs order.0)
+  passable (q ∷ qs) order fits = grind (arith, every_weaker)
 
   pub may_all_pass : (rs : List Record) → ArePassedInOrder rs → All (λ r. r.weight ≤ most) rs
       → (record_at rs 0).passed + most ≤ budget → MayAllPass budget rs

@@ -1,5 +1,5 @@
 -- Where each may pass those in front of it, the first of the cheapest starts is what the sweep picks of the view.
-use Rattle.mscp_queue.proofs.Basics.{◌≡◌, ◌⊎◌, inl, inr, ℕ, ◌+◌, ◌<◌, ◌≤◌, Bool, true, cond, ◌&&◌, List, [], ◌∷◌, ◌++◌, map, take, drop, get_or, length, refl, ap, sym, ◌∙◌, subst, arith, filter, filter-append, AllByRecursion, All-from_recursion, range_with_len, get_or_at, length-append, length-map, length-range_with_len, map-append, map_map, cut_at, every_weaker, every_parts, range_below, Choice, Command, Drive, Record, record_at, drive_at, choice_of, is_affordable, is_free, is_open_at, open_places, order_cost}
+use Rattle.mscp_queue.proofs.Basics.{◌≡◌, ℕ, ◌+◌, ◌<◌, ◌≤◌, Bool, true, cond, ◌&&◌, List, [], ◌∷◌, ◌++◌, map, take, drop, get_or, length, refl, ap, sym, ◌∙◌, subst, arith, filter, filter-append, AllByRecursion, All-from_recursion, range_with_len, get_or_at, length-append, length-map, length-range_with_len, map-append, map_map, cut_at, every_weaker, every_parts, range_below, Command, Drive, Record, record_at, drive_at, choice_of, is_open_at, open_places}
 use Rattle.mscp_queue.proofs.Lists.{every_both, every_filter, pairs_filter, pairs_middle, pairs_range}
 use Rattle.mscp_queue.proofs.Common.{get_or-range_with_len, take_at, Pairs, IsClear, IsFirstOf, IsSweep, MayAllPass, commands, cost_of, costs, is_clear, view_of}
 use Rattle.mscp_queue.proofs.Favored.{clear_is, command_is}
@@ -20,16 +20,14 @@ module _ (budget : ℕ) (ds : List Drive) (rs : List Record) (may : MayAllPass b
   many = length-map rs (λ (r : Record). r.command)
 
   open_is : (place : ℕ) → place < length rs → is_open_at budget rs place ≡ is_clear cs place
-  open_is place l = and_true (is_free (record_at rs place) (take place rs))
-      (is_affordable budget (record_at rs place) (take place rs)) (may place l) ∙ sym (clear_is rs place l)
+  open_is place l = grind (arith, and_true, clear_is)
 
   -- what a picker sees that the start at a place costs
   abbrev C : ℕ → ℕ
   C place = (choice_of (drive_at ds rs place) (record_at rs place)).cost
 
   cost_same : (place : ℕ) → place < length rs → C place ≡ cost_of ds cs place
-  cost_same place l = ap (λ (c : Command). order_cost (Rattle.mscp_queue.specs.Drives.drive_of ds c.unit).unit
-      (Rattle.mscp_queue.specs.Drives.drive_of ds c.unit).head c.order) (sym (command_is rs place l))
+  cost_same place l = grind (arith, command_is)
 
   module _ (place : ℕ) (h : IsFirstOf ds cs place) where
     inside : place < length rs
@@ -48,26 +46,14 @@ module _ (budget : ℕ) (ds : List Drive) (rs : List Record) (may : MayAllPass b
     cut =
         let zero_plus : 0 + place ≡ place = omega arith in
         let here : get_or all place 0 ≡ place = get_or-range_with_len 0 (length rs) place 0 inside ∙ zero_plus in
-        ap (filter (is_open_at budget rs)) (cut_at 0 all place (omega (
-          arith,
-          inside,
-          length-range_with_len 0
-              (length rs),
-        )))
+        ap (filter (is_open_at budget rs)) (cut_at 0 all place (omega (arith, inside, length-range_with_len)))
         ∙ (filter-append (is_open_at budget rs) (take place all) (get_or all place 0 ∷ drop (place + 1) all)
         ∙ (λ i. A ++ (cond (is_open_at budget rs (here i)) (here i ∷ B) B))
         ∙ ap (λ b. A ++ cond b (place ∷ B) B) (open_is place inside ∙ h.is.clear))
 
     -- each of those places is of a command that nobody keeps back
     each_clear : AllByRecursion (IsClear cs) (A ++ place ∷ B)
-    each_clear = subst (AllByRecursion (IsClear cs)) cut
-        (every_weaker (λ k. ((0 ≤ k) × (k < 0 + length rs)) × (is_open_at budget rs k ≡ true)) (IsClear cs)
-        (λ k x. clear k (omega (arith, x.0.1)) x.1)
-        (open_places budget rs) (every_filter (λ k. (0 ≤ k) × (k < 0 + length rs)) (is_open_at budget rs) all
-        (range_below 0 (length rs))))
-      where
-        clear : (k : ℕ) → k < length rs → is_open_at budget rs k ≡ true → IsClear cs k
-        clear k l e = record { inside = omega (arith, l, many); clear = sym (open_is k l) ∙ e }
+    each_clear = grind (arith, cut, every_weaker, every_filter, range_below, many, open_is)
 
     -- and those in front stand before it
     in_front : AllByRecursion (λ k. k < place) A
@@ -78,30 +64,13 @@ module _ (budget : ℕ) (ds : List Drive) (rs : List Record) (may : MayAllPass b
     below k x = let l = x.inside in omega (arith, l, many)
 
     numbers : costs (view_of budget ds rs) ≡ map C A ++ C place ∷ map C B
-    numbers = map_map (λ place. choice_of (drive_at ds rs place) (record_at rs place)) (λ (c : Choice). c.cost)
-        (open_places budget rs) ∙ (ap (map C) cut ∙ map-append C A (place ∷ B))
+    numbers = grind (arith, map_map, cut, map-append)
 
     least : (k : ℕ) → IsClear cs k → C place ≤ C k
-    least k x = by (h.each k x)
-      where
-        same : C k ≡ cost_of ds cs k
-        same = cost_same k (below k x)
-
-        by : (cost_of ds cs place < cost_of ds cs k) ⊎ ((cost_of ds cs place ≡ cost_of ds cs k) × (place ≤ k))
-            → C place ≤ C k
-        by (inl l) = omega (arith, l, cost_same place inside, same)
-        by (inr e) = let f = e.0 in omega (arith, f, cost_same place inside, same)
+    least k x = grind (arith, cost_same, below, inside)
 
     less : (k : ℕ) → IsClear cs k → k < place → C place < C k
-    less k x b = by (h.each k x)
-      where
-        same : C k ≡ cost_of ds cs k
-        same = cost_same k (below k x)
-
-        by : (cost_of ds cs place < cost_of ds cs k) ⊎ ((cost_of ds cs place ≡ cost_of ds cs k) × (place ≤ k))
-            → C place < C k
-        by (inl l) = omega (arith, l, cost_same place inside, same)
-        by (inr e) = absurd (let f = e.1 in omega (arith, f, b))
+    less k x b = grind (arith, cost_same, below, inside)
 
     pub swept : IsSweep (view_of budget ds rs) (length A)
     swept =
@@ -128,12 +97,7 @@ module _ (budget : ℕ) (ds : List Drive) (rs : List Record) (may : MayAllPass b
 
     pub picked : (i : ℕ) × (i < length (open_places budget rs)) × (get_or (open_places budget rs) i 0 ≡ place)
         × IsSweep (view_of budget ds rs) i
-    picked = (
-      length A,
-      omega (arith, ap length cut, length-append A (place ∷ B)),
-      ap (λ ps. get_or ps (length A) 0) cut ∙ get_or_at A place B 0 (length A) refl,
-      swept,
-    )
+    picked = grind (arith, cut, length-append, get_or_at, swept)
 
     pub place_inside : place < length rs
     place_inside = inside

@@ -11,8 +11,7 @@ map_map f g (x ∷ xs) = ap (λ ys. g (f x) ∷ ys) (map_map f g xs)
 
 pub sum_by_map : {X Y : Type 0} (f : X → Y) (g : Y → ℕ) (xs : List X) → sum_by g (map f xs) ≡ sum_by (λ x. g (f x)) xs
 sum_by_map f g [] = refl
-sum_by_map f g (x ∷ xs) = sum_by-cons g (f x) (map f xs)
-    ∙ (ap (λ n. g (f x) + n) (sum_by_map f g xs) ∙ sym (sum_by-cons (λ y. g (f y)) x xs))
+sum_by_map f g (x ∷ xs) = search (arith, sum_by-cons, sum_by_map f g xs)
 
 pub filter_map_of : {X Y : Type 0} (f : X → Y) (p : Y → Bool) (xs : List X)
     → filter p (map f xs) ≡ map f (filter (λ x. p (f x)) xs)
@@ -130,8 +129,4 @@ position_any p xs =
     some_any : {X : Type 0} (p : X → Bool) (front : List X) (x : X) (back : List X) → p x ≡ true
         → list_any p (front ++ x ∷ back) ≡ true
     some_any p [] x back e = ap (λ b. b || list_any p back) e
-    some_any p (y ∷ ys) x back e = ap (λ b. p y || b) (some_any p ys x back e) ∙ or_true (p y)
-      where
-        or_true : (b : Bool) → (b || true) ≡ true
-        or_true true = refl
-        or_true false = refl
+    some_any p (y ∷ ys) x back e = grind (arith, some_any p ys x back e)

@@ -1,13 +1,9 @@
 -- The ranges of slots, and the nearest of them.
-use Rattle.mscp_queue.proofs.Basics.{◌≡◌, ◌≢◌, ◌⊎◌, inl, inr, ⊎_elim, ℕ, zero, suc, ◌<◌, ◌≤◌, ◌^◌, Bool, true, false, cond, min, nat_eq, List, set, get_or, length, refl, ap, sym, ◌∙◌, subst, arith, bit, bit_and, bit_at, bit_at-zero, bit_at-trailing_zeros, w64, trailing_zeros, eq-eqb, ne_eqb, get_or-set_other, get_or-set_same, length-set, IsSet, Target, same_or, eqb-true}
-use Rattle.std.specs.Prelude.{bit_or, max, replicate}
+use Rattle.mscp_queue.proofs.Basics.{◌≡◌, ◌≢◌, ◌⊎◌, inl, inr, ⊎_elim, ℕ, zero, suc, ◌<◌, ◌≤◌, ◌^◌, true, false, cond, nat_eq, List, set, get_or, length, refl, ap, sym, ◌∙◌, arith, bit_and, bit_at, bit_at-zero, bit_at-trailing_zeros, w64, trailing_zeros, eq-eqb, ne_eqb, get_or-set_other, get_or-set_same, length-set, IsSet, Target, same_or, eqb-true}
+use Rattle.std.specs.Prelude.{bit_or, replicate}
 use Rattle.std.proofs.lemmas.Nat.{or_lt}
 use Rattle.std.proofs.lemmas.Nat.Bits.{bit_at_or}
-use Rattle.mscp_queue.proofs.Common.{IsAbove, IsBelow, IsIn, IsNearest, IsSooner, AreRanged, AreRanges, no_target, bit_at_and, bit_at-lt, range_at}
-
-pub of_bit : (b : Bool) → bit b ≡ 1 → b ≡ true
-of_bit true e = refl
-of_bit false e = absurd (omega (arith, e))
+use Rattle.mscp_queue.proofs.Common.{IsAbove, IsBelow, IsIn, IsNearest, IsSooner, AreRanged, AreRanges, bit_at_and, bit_at-lt, range_at}
 
 -- ---- a slot is in another range from now on
 pub ranged_set : {ranges masks : List ℕ} (slot range v w : ℕ) → AreRanged ranges masks → length ranges ≡ 64
@@ -15,78 +11,13 @@ pub ranged_set : {ranges masks : List ℕ} (slot range v w : ℕ) → AreRanged 
     → IsSet false slot (get_or masks (range_at ranges slot) 0) v
     → IsSet true slot (get_or (set masks (range_at ranges slot) v) range 0) w
     → AreRanged (set ranges slot range) (set (set masks (range_at ranges slot) v) range w)
-ranged_set {ranges} {masks} slot range v w h long many low few off on = record {
-  low = λ k. below k (same_or k slot);
-  each = λ r k a b. by r k a b (same_or k slot) (same_or r range);
-}
-  where
-    old : ℕ
-    old = range_at ranges slot
-
-    first : List ℕ
-    first = set masks old v
-
-    here : range_at (set ranges slot range) slot ≡ range
-    here = get_or-set_same ranges slot range 0 (omega (arith, low, long))
-
-    there : (k : ℕ) → k ≢ slot → range_at (set ranges slot range) k ≡ range_at ranges k
-    there k d = get_or-set_other ranges slot k range 0 d
-
-    below : (k : ℕ) → (k ≡ slot) ⊎ (k ≢ slot) → range_at (set ranges slot range) k < 64
-    below k (inl e) = subst (λ n. n < 64) (sym (ap (range_at (set ranges slot range)) e ∙ here)) few
-    below k (inr d) = subst (λ n. n < 64) (sym (there k d)) (h.low k)
-
-    -- without it
-    gone : (r k : ℕ) → r < 64 → k < 64 → (r ≡ old) ⊎ (r ≢ old)
-        → bit_at (get_or first r 0) k ≡ cond (nat_eq k slot) 0 (bit_at (get_or masks r 0) k)
-    gone r k a b (inl e) =
-        ap (λ n. bit_at n k) (ap (λ i. get_or first i 0) e
-        ∙ get_or-set_same masks old v 0 (let l = h.low slot in omega (arith, many, l)))
-        ∙ (off k b ∙ ap (λ i. cond (nat_eq k slot) 0 (bit_at (get_or masks i 0) k)) (sym e))
-    gone r k a b (inr d) = ap (λ n. bit_at n k) (get_or-set_other masks old r v 0 d) ∙ none (same_or k slot)
-      where
-        none : (k ≡ slot) ⊎ (k ≢ slot) → bit_at (get_or masks r 0) k ≡ cond (nat_eq k slot) 0 (bit_at
-            (get_or masks r 0) k)
-        none (inl e) = h.each r k a b ∙ (ap bit (ne_eqb (range_at ranges k) r
-            (λ f. d (sym f ∙ ap (range_at ranges) e)))
-            ∙ ap (λ b. cond b 0 (bit_at (get_or masks r 0) k)) (sym (eq-eqb k slot e)))
-        none (inr f) = ap (λ b. cond b 0 (bit_at (get_or masks r 0) k)) (sym (ne_eqb k slot f))
-
-    by : (r k : ℕ) → r < 64 → k < 64 → (k ≡ slot) ⊎ (k ≢ slot) → (r ≡ range) ⊎ (r ≢ range)
-        → bit_at (get_or (set first range w) r 0) k ≡ bit (nat_eq (range_at (set ranges slot range) k) r)
-    by r k a b (inl e) (inl f) =
-        ap (λ n. bit_at n k) (ap (λ i. get_or (set first range w) i 0) f
-        ∙ get_or-set_same first range w 0 (omega (arith, few, many, length-set masks old v)))
-        ∙ (on k b ∙ (ap (λ b. cond b 1 (bit_at (get_or first range 0) k)) (eq-eqb k slot e)
-        ∙ ap bit (sym (eq-eqb (range_at (set ranges slot range) k) r
-        (ap (range_at (set ranges slot range)) e ∙ (here ∙ sym f))))))
-    by r k a b (inl e) (inr d) =
-        ap (λ n. bit_at n k) (get_or-set_other first range r w 0 d)
-        ∙ (gone r k a b (same_or r old) ∙ (ap (λ b. cond b 0 (bit_at (get_or masks r 0) k)) (eq-eqb k slot e)
-        ∙ ap bit (sym (ne_eqb (range_at (set ranges slot range) k) r
-        (λ f. d (sym f ∙ (ap (range_at (set ranges slot range)) e ∙ here)))))))
-    by r k a b (inr d) (inl f) =
-        ap (λ n. bit_at n k) (ap (λ i. get_or (set first range w) i 0) f
-        ∙ get_or-set_same first range w 0 (omega (arith, few, many, length-set masks old v)))
-        ∙ (on k b ∙ (ap (λ b. cond b 1 (bit_at (get_or first range 0) k)) (ne_eqb k slot d)
-        ∙ (gone range k few b (same_or range old)
-        ∙ (ap (λ b. cond b 0 (bit_at (get_or masks range 0) k)) (ne_eqb k slot d)
-        ∙ (h.each range k few b ∙ (λ i. bit (nat_eq (sym (there k d) i) (sym f i))))))))
-    by r k a b (inr d) (inr g) =
-        ap (λ n. bit_at n k) (get_or-set_other first range r w 0 g)
-        ∙ (gone r k a b (same_or r old) ∙ (ap (λ b. cond b 0 (bit_at (get_or masks r 0) k)) (ne_eqb k slot d)
-        ∙ (h.each r k a b ∙ ap (λ n. bit (nat_eq n r)) (sym (there k d)))))
+ranged_set slot range v w h long many low few off on =
+    grind (arith, same_or, get_or-set_same, get_or-set_other, ne_eqb, eq-eqb, length-set)
 
 -- ---- the slots in a range
 pub is_here : {ranges masks : List ℕ} (mask range k : ℕ) → AreRanged ranges masks → range < 64 → k < 64
     → bit_at (bit_and mask (get_or masks range 0)) k ≡ cond (nat_eq (range_at ranges k) range) (bit_at mask k) 0
-is_here {ranges} {masks} mask range k h l b =
-    bit_at_and mask (get_or masks range 0) k ∙ (ap (min (bit_at mask k)) (h.each range k l b)
-    ∙ by (nat_eq (range_at ranges k) range))
-  where
-    by : (c : Bool) → min (bit_at mask k) (bit c) ≡ cond c (bit_at mask k) 0
-    by true = omega (arith, bit_at-lt mask k)
-    by false = omega arith
+is_here mask range k h l b = grind (arith, bit_at_and, bit_at-lt)
 
 -- what is told of one range
 abbrev pub IsHere : List ℕ → ℕ → ℕ → ℕ → Type 0
@@ -95,17 +26,11 @@ IsHere ranges mask range found =
 
 pub here_to : (ranges : List ℕ) (mask range found k : ℕ) → IsHere ranges mask range found → IsIn found k
     → IsIn mask k × (range_at ranges k ≡ range)
-here_to ranges mask range found k h x = by (nat_eq (range_at ranges k) range) refl (sym (h k x.0) ∙ x.1)
-  where
-    by : (b : Bool) → nat_eq (range_at ranges k) range ≡ b → cond b (bit_at mask k) 0 ≡ 1
-        → IsIn mask k × (range_at ranges k ≡ range)
-    by true e on = ((x.0, on), eqb-true (range_at ranges k) range e)
-    by false e on = absurd (omega (arith, on))
+here_to ranges mask range found k h x = grind (arith, eqb-true)
 
 pub here_from : (ranges : List ℕ) (mask range found k : ℕ) → IsHere ranges mask range found → IsIn mask k
     → range_at ranges k ≡ range → IsIn found k
-here_from ranges mask range found k h x e =
-    (x.0, h k x.0 ∙ (ap (λ b. cond b (bit_at mask k) 0) (eq-eqb (range_at ranges k) range e) ∙ x.1))
+here_from ranges mask range found k h x e = grind (arith, eq-eqb)
 
 -- a mask that isn't 0 has a slot
 pub some_in : (mask : ℕ) → mask ≢ 0 → mask < 2 ^ 64 → (j : ℕ) × IsIn mask j
@@ -138,10 +63,7 @@ found_above {ranges} {mask} {range} {other} {found} l h here d small = record {
 
 pub none_above : {ranges : List ℕ} {mask range : ℕ} → ((k : ℕ) → range_at ranges k < 64)
     → ((k : ℕ) → IsIn mask k → range < range_at ranges k → 64 ≤ range_at ranges k) → IsAbove ranges mask range 0
-none_above {ranges} {mask} {range} low h = record {
-  to = λ k x. absurd (none_in 0 k refl x);
-  from = λ k x a. absurd (let l = low k in let m = h k x a in omega (arith, l, m));
-}
+none_above low h = grind (arith, none_in)
 
 -- ---- the next below
 pub found_below : {ranges : List ℕ} {mask range other found : ℕ} → other < range
@@ -163,33 +85,14 @@ found_below {ranges} {mask} {range} {other} {found} l h here d small = record {
 
 pub none_below : {ranges : List ℕ} {mask range : ℕ}
     → ((k : ℕ) → IsIn mask k → range_at ranges k < range → ⊥) → IsBelow ranges mask range 0
-none_below {ranges} {mask} {range} h = record {
-  to = λ k x. absurd (none_in 0 k refl x);
-  from = λ k x a. absurd (h k x a);
-}
+none_below h = grind (arith, none_in)
 
 -- ---- the nearest to a head
 or_to : (a b k : ℕ) → IsIn (bit_or a b) k → IsIn a k ⊎ IsIn b k
-or_to a b k x = by (bit_at-lt a k) (bit_at-lt b k)
-  where
-    by : bit_at a k < 2 → bit_at b k < 2 → IsIn a k ⊎ IsIn b k
-    by l m = ⊎_elim (λ e. inl (x.0, e)) (λ e. inr (x.0, e)) (one_of l m)
-      where
-        one_of : bit_at a k < 2 → bit_at b k < 2 → (bit_at a k ≡ 1) ⊎ (bit_at b k ≡ 1)
-        one_of l m = ones (bit_at a k) (bit_at b k) l m (sym (bit_at_or a b k) ∙ x.1)
-          where
-            ones : (p q : ℕ) → p < 2 → q < 2 → max p q ≡ 1 → (p ≡ 1) ⊎ (q ≡ 1)
-            ones p q l m e = grind arith
+or_to a b k x = grind (arith, bit_at-lt, ⊎_elim, bit_at_or)
 
 or_from : (a b k : ℕ) → IsIn a k ⊎ IsIn b k → IsIn (bit_or a b) k
-or_from a b k (inl x) = (x.0, bit_at_or a b k ∙ one (bit_at a k) (bit_at b k) x.1 (bit_at-lt b k))
-  where
-    one : (p q : ℕ) → p ≡ 1 → q < 2 → max p q ≡ 1
-    one p q e l = omega (arith, e, l)
-or_from a b k (inr x) = (x.0, bit_at_or a b k ∙ one (bit_at a k) (bit_at b k) x.1 (bit_at-lt a k))
-  where
-    one : (p q : ℕ) → q ≡ 1 → p < 2 → max p q ≡ 1
-    one p q e l = omega (arith, e, l)
+or_from a b k h4 = grind (arith, bit_at_or, bit_at-lt)
 
 -- a range is below another, or that, or above it
 order_of : (a b : ℕ) → (a < b) ⊎ ((a ≡ b) ⊎ (b < a))
@@ -209,21 +112,14 @@ module _ {ranges : List ℕ} {mask range : ℕ} (at over : ℕ) (here : IsHere r
     where
       first : (k : ℕ) → range_at ranges k < range → (j : ℕ) × IsIn (bit_or at over) j → (j : ℕ)
           × IsIn (bit_or at over) j × IsSooner true range (range_at ranges j) (range_at ranges k)
-      first k l s = (
-        s.0,
-        s.1,
-        ⊎_elim
-            (λ y. let t = here_to ranges mask range at s.0 here y in inr (l, (let e = t.1 in omega (arith, e, l))))
-            (λ y. let t = above.to s.0 y in inr (l, (let e = t.1 in omega (arith, e, l)))) (or_to at over s.0 s.1),
-      )
+      first k l s = grind (arith, ⊎_elim, here_to, here, or_to)
 
       by : (k : ℕ) → IsIn mask k → (range_at ranges k < range) ⊎ ((range_at ranges k ≡ range)
           ⊎ (range < range_at ranges k)) → IsIn (bit_or at over) k ⊎ ((j : ℕ) × IsIn (bit_or at over) j
           × IsSooner true range (range_at ranges j) (range_at ranges k))
       by k x (inl l) = inr (first k l (some_in (bit_or at over) d small))
       by k x (inr (inl e)) = inl (or_from at over k (inl (here_from ranges mask range at k here x e)))
-      by k x (inr (inr l)) = ⊎_elim (λ y. inl (or_from at over k (inr y)))
-          (λ y. inr (y.0, or_from at over y.0 (inr y.1), inl ((above.to y.0 y.1).1, y.2))) (above.from k x l)
+      by k x (inr (inr l)) = grind (arith, ⊎_elim, or_from)
 
 module _ {ranges : List ℕ} {mask range : ℕ} (at over under : ℕ) (here : IsHere ranges mask range at)
     (above : IsAbove ranges mask range over) (below : IsBelow ranges mask range under) where
@@ -253,21 +149,12 @@ module _ {ranges : List ℕ} {mask range : ℕ} (at under : ℕ) (here : IsHere 
     where
       first : (k : ℕ) → range < range_at ranges k → (j : ℕ) × IsIn (bit_or at under) j → (j : ℕ)
           × IsIn (bit_or at under) j × IsSooner false range (range_at ranges j) (range_at ranges k)
-      first k l s = (
-        s.0,
-        s.1,
-        ⊎_elim
-            (λ y. let t = here_to ranges mask range at s.0 here y in inr (l, (let e = t.1 in omega (arith, e, l))))
-            (λ y. let t = below.to s.0 y in inr (l, (let e = t.1 in omega (arith, e, l)))) (or_to at under s.0 s.1),
-      )
+      first k l s = grind (arith, ⊎_elim, here_to, here, below, or_to)
 
       by : (k : ℕ) → IsIn mask k → (range_at ranges k < range) ⊎ ((range_at ranges k ≡ range)
           ⊎ (range < range_at ranges k)) → IsIn (bit_or at under) k ⊎ ((j : ℕ) × IsIn (bit_or at under) j
           × IsSooner false range (range_at ranges j) (range_at ranges k))
-      by k x (inl l) = ⊎_elim (λ y. inl (or_from at under k (inr y)))
-          (λ y. inr (y.0, or_from at under y.0 (inr y.1), inl ((below.to y.0 y.1).1, y.2))) (below.from k x l)
-      by k x (inr (inl e)) = inl (or_from at under k (inl (here_from ranges mask range at k here x e)))
-      by k x (inr (inr l)) = inr (first k l (some_in (bit_or at under) d small))
+      by k x h3 = grind (arith, ⊎_elim, or_from, below, here_from, here, first, some_in)
 
 module _ {ranges : List ℕ} {mask range : ℕ} (at over under : ℕ) (here : IsHere ranges mask range at)
     (above : IsAbove ranges mask range over) (below : IsBelow ranges mask range under) where
@@ -298,27 +185,10 @@ zeros n k = let none : ℕ = 0 in alike n k none
 pub ranged_none : (ranges masks : List ℕ) → ((k : ℕ) → range_at ranges k ≡ 0)
     → ((k : ℕ) → k < 64 → bit_at (get_or masks 0 0) k ≡ 1) → ((r : ℕ) → 0 < r → get_or masks r 0 ≡ 0)
     → AreRanged ranges masks
-ranged_none ranges masks none first rest = record {
-  low = λ k. omega (arith, none k);
-  each = λ r k a b. by r k b (same_or r 0);
-}
-  where
-    by : (r k : ℕ) → k < 64 → (r ≡ 0) ⊎ (r ≢ 0) → bit_at (get_or masks r 0) k ≡ bit (nat_eq (range_at ranges k) r)
-    by r k b (inl e) = ap (λ i. bit_at (get_or masks i 0) k) e
-        ∙ (first k b ∙ ap bit (sym (eq-eqb (range_at ranges k) r (none k ∙ sym e))))
-    by r k b (inr d) = ap (λ n. bit_at n k) (rest r (omega (arith, d)))
-        ∙ (bit_at-zero k ∙ ap bit (sym (ne_eqb (range_at ranges k) r (λ e. d (sym e ∙ none k)))))
+ranged_none ranges masks none first rest = grind (arith, same_or, eq-eqb, bit_at-zero, ne_eqb)
 
 -- a slot has another target, and its range
 pub ranges_pushed : (own : List Target) (ranges new : List ℕ) (n : ℕ) (a : Target) → length own ≡ 64
     → length ranges ≡ 64
     → n < 64 → AreRanges own ranges → new ≡ set ranges n a.range → AreRanges (set own n a) new
-ranges_pushed own ranges new n a long many low h e k l = by (same_or k n)
-  where
-    by : (k ≡ n) ⊎ (k ≢ n) → get_or new k 0 ≡ (get_or (set own n a) k no_target).range
-    by (inl f) = ap (λ xs. get_or xs k 0) e ∙ (ap (λ k. get_or (set ranges n a.range) k 0) f
-        ∙ (get_or-set_same ranges n a.range 0 (omega (arith, low, many))
-        ∙ ap (λ (b : Target). b.range) (sym (ap (λ k. get_or (set own n a) k no_target) f
-        ∙ get_or-set_same own n a no_target (omega (arith, low, long))))))
-    by (inr d) = ap (λ xs. get_or xs k 0) e ∙ (get_or-set_other ranges n k a.range 0 d
-        ∙ (h k l ∙ ap (λ (b : Target). b.range) (sym (get_or-set_other own n k a no_target d))))
+ranges_pushed own ranges new n a long many low h e k l = grind (arith, same_or, get_or-set_same, get_or-set_other)

@@ -155,8 +155,7 @@ ready_step {room} {longest} {place} {w} {new} {ds} {ds'} {begun} {serving} {serv
     })
   where
     served_if : (ends : Bool) → not ends ≡ is_some (place_served ends place)
-    served_if true = refl
-    served_if false = refl
+    served_if h1 = grind arith
 
 -- what a step leaves of those that wait
 pub left_is : (k : Block) (place : ℕ) (rs : List Record) (d : Drive) (ends : Bool) → ends

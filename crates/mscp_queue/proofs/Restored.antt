@@ -1,5 +1,5 @@
 -- A queue as it was: its waiting commands in their slots, and what it knows of them.
-use Rattle.mscp_queue.proofs.Common.{All, ◌≡◌, ◌+◌, ◌-◌, ◌<◌, ◌≤◌, ◌^◌, ℕ, suc, Bool, true, false, List, [], ◌∷◌, ◌++◌, drop, get_or, length, append-nil, refl, map, map-append, sym, subst, ap, ◌∙◌, arith, Content, filled, sum_by, sum_by-cons, is_some, unwrap_or, Option, Some, None, IfNone, IfSome, list_any, position, false≢true, ltb-false, true≢false, drop_all, position-Some, Drive, Name, ArePassedInOrder, IsHeld, IsReady, IsStillServable, begun_name, units_of, Waiters, Slot, Shape, target_of, targets_of, AllByRecursion, AreDue, AreTimed, bare, due_of, last_end, left_in_service, told, Record, has_name, is_in_service, left_if_serving, left_of, no_record, targets, items}
+use Rattle.mscp_queue.proofs.Common.{All, ◌≡◌, ◌+◌, ◌<◌, ◌≤◌, ◌^◌, ℕ, suc, Bool, true, false, List, [], ◌∷◌, ◌++◌, drop, get_or, length, append-nil, refl, map, sym, ap, ◌∙◌, arith, Content, sum_by, sum_by-cons, is_some, unwrap_or, Option, Some, None, IfNone, IfSome, list_any, position, false≢true, ltb-false, true≢false, drop_all, position-Some, Drive, Name, ArePassedInOrder, IsHeld, IsReady, IsStillServable, begun_name, units_of, Waiters, Slot, Shape, target_of, targets_of, AllByRecursion, AreDue, AreTimed, bare, due_of, left_in_service, told, Record, has_name, is_in_service, left_if_serving, left_of, no_record, targets, items}
 use Rattle.mscp_queue.proofs.Named.{same_is}
 use Rattle.mscp_queue.proofs.Placed.{position_any}
 
@@ -43,10 +43,6 @@ content s = record { item = s.item; target = s.target; due = s.due }
 abbrev pub contents : List Slot → List Content
 contents ss = map content ss
 
--- one more of them
-pub contents_more : (ss : List Slot) (n : ℕ) (c : Content) → contents (ss ++ filled n c ∷ []) ≡ contents ss ++ c ∷ []
-contents_more ss n c = map-append content ss (filled n c ∷ [])
-
 module _ (budget : ℕ) (us : List Shape) where
   items_of : (before : ℕ) (ss : List Slot) (rs : List Record) → contents ss ≡ contents_of budget us before rs
       → items ss ≡ map bare rs
@@ -78,18 +74,7 @@ module _ (budget : ℕ) (us : List Shape) where
   are_due before [] rs e = tt
   are_due before (s ∷ ss) [] e = absurd (nil_not_cons (sym e))
   are_due before (s ∷ ss) (r ∷ rs) e =
-      let item : s.item ≡ bare r = ap (λ (c : Content). c.item) (head_same e) in
-      let due : s.due ≡ due_of budget before (sum_by left_if_serving rs) r = ap (λ (c : Content). c.due)
-      (head_same e) in
-      let left : left_of s.item ≡ left_of r = ap (λ (q : Record). left_of q) item in
-      let serving = serving_of (before + left_of r) ss rs (tail_same e) in (
-        record {
-          bare = ap (λ (q : Record). q.passed) item;
-          least = omega (arith, due, left, serving);
-          most = omega (arith, due, left, serving);
-        },
-        subst (λ n. AreDue budget (before + n) ss) (sym left) (are_due (before + left_of r) ss rs (tail_same e)),
-      )
+      grind (arith, head_same, serving_of, tail_same, are_due (before + left_of r) ss rs (tail_same e))
 
   pub told_are : (before : ℕ) (ss : List Slot) (rs : List Record) → contents ss ≡ contents_of budget us before rs
       → AllByRecursion (λ r. r.passed ≤ budget) rs → told budget before ss ≡ rs
@@ -97,16 +82,7 @@ module _ (budget : ℕ) (us : List Shape) where
   told_are before [] (r ∷ rs) e p = absurd (nil_not_cons e)
   told_are before (s ∷ ss) [] e p = absurd (nil_not_cons (sym e))
   told_are before (s ∷ ss) (r ∷ rs) e p =
-      let item : s.item ≡ bare r = ap (λ (c : Content). c.item) (head_same e) in
-      let due : s.due ≡ due_of budget before (sum_by left_if_serving rs) r = ap (λ (c : Content). c.due)
-      (head_same e) in
-      let left : left_of s.item ≡ left_of r = ap (λ (q : Record). left_of q) item in
-      let serving = serving_of (before + left_of r) ss rs (tail_same e) in
-      let within = p.0 in
-      let passed : (last_end before (left_in_service ss) s + budget) - s.due ≡ r.passed =
-      omega (arith, due, left, serving, within) in
-      let rest = ap (λ n. told budget (before + n) ss) left ∙ told_are (before + left_of r) ss rs (tail_same e) p.1 in
-      λ i. with_passed (passed i) (item i) ∷ rest i
+      grind (arith, head_same, serving_of, tail_same, told_are (before + left_of r) ss rs (tail_same e) p.1)
 
   -- at the end they are all
   pub contents_all : (cs : List Content) (before n : ℕ) (rs : List Record) → length rs ≤ n
@@ -147,8 +123,7 @@ pub ready_restored : {room budget longest : ℕ} {w : Waiters} {rs : List Record
     → ArePassedInOrder rs → w ≡ record { budget = budget; waiting = rs; targets = targets_of (units_of ds) rs }
     → (begun_name rs place ≡ begun) × ((k : ℕ) → place ≡ Some k → k < length rs)
     → serving ≡ position is_in_service rs → IsReady room longest w ds place serving
-ready_restored {room} {budget} {longest} {w} {rs} {ds} {begun} {place} {serving} h o e b s =
-    search (arith, idle_where, position-Some)
+ready_restored h o e b s = grind (arith, idle_where, position-Some)
 
 -- and what one knows it was
 pub held_seen : {room budget longest : ℕ} {rs : List Record} {ds : List Drive} {begun : Option Name} {serving : Bool}

@@ -1,7 +1,7 @@
 -- The first of the cheapest starts on a drive, slot by slot.
-use Rattle.mscp_queue.proofs.Basics.{◌≡◌, ◌≢◌, ◌⊎◌, inl, inr, ⊎_elim, ℕ, ◌+◌, ◌/◌, ◌<◌, ◌≤◌, ◌^◌, Bool, true, false, cond, ◌&&◌, ◌||◌, List, Drive, Kind, Masks, Record, Slot, Target, map, nat_eq, nat_lt, last_cylinder, get_or, length, refl, ap, sym, ◌∙◌, subst, arith, bit, bit_at, has, eq-eqb, eqb-true, eqb-false, ltb-true, get_or-map, length-map, map_map, ne_eqb, no_target, same_or, held, kind_of, kind_at, long_shown, no_kind, shown, slot_has, slot_is, slot_low, targets, AreKept, AreOnDrive, IsNumber, IsSet}
+use Rattle.mscp_queue.proofs.Basics.{◌≡◌, ◌≢◌, ◌⊎◌, inl, inr, ⊎_elim, ℕ, ◌+◌, ◌/◌, ◌<◌, ◌≤◌, ◌^◌, Bool, true, false, cond, ◌&&◌, ◌||◌, List, Drive, Kind, Masks, Record, Slot, Target, map, nat_eq, nat_lt, last_cylinder, get_or, length, refl, ap, sym, ◌∙◌, subst, arith, bit, bit_at, has, eq-eqb, eqb-true, eqb-false, ltb-true, get_or-map, length-map, map_map, ne_eqb, no_target, same_or, held, kind_of, kind_at, long_shown, shown, slot_has, slot_is, slot_low, targets, AreKept, AreOnDrive, IsNumber, IsSet}
 use Rattle.std.specs.Prelude.{min}
-use Rattle.mscp_queue.proofs.Common.{AreSlotted, IsAhead, IsBest, IsFront, IsIn, IsNearOf, IsOpenOn, IsSooner, bit_and, bit_at-zero, bit_at_and, bit_at-lt, cost_on, cost_there, div-mul-le_self, kind_there, kinds, le-div, ltb-false, no_slot, range_of, Shape, sweep_cost}
+use Rattle.mscp_queue.proofs.Common.{AreSlotted, IsBest, IsFront, IsIn, IsNearOf, IsOpenOn, IsSooner, bit_and, bit_at-zero, bit_at_and, bit_at-lt, cost_on, cost_there, div-mul-le_self, kind_there, kinds, le-div, ltb-false, no_slot, range_of, Shape, sweep_cost}
 use Rattle.mscp_queue.proofs.Counted.{one_place, placed}
 use Rattle.mscp_queue.specs.Starts.{Start}
 use Rattle.mscp_queue.proofs.Opens.{early_bit, front_open, open_front}
@@ -31,24 +31,7 @@ pub seeks_first : {at : ℕ} {d : Drive} {order : List ℕ} {ks : List Kind} {ow
     → ((q : ℕ) → q < length order → get_or order q 0 < 64)
     → ((a b : ℕ) → a < length order → b < length order → get_or order a 0 ≡ get_or order b 0 → a ≡ b)
     → Seeks at d order ks own front left best least
-seeks_first {at} {d} {order} {ks} {own} {front} left best least p l is low on set cost small lows one =
-    record {
-      of_left = λ n b e. ⊎_elim (λ f. ap (bit_at front) f ∙ on) (λ f. sym (kept n b f) ∙ e) (same_or n best);
-      place = p;
-      inside = l;
-      number = is;
-      on = on;
-      cost = cost;
-      small = small;
-      done = λ q k f off. ⊎_elim
-          (λ e. let r = one q p k l (e ∙ is) in
-          inr (cost ∙ ap (cost_there d ks own) (sym r), omega (arith, r)))
-          (λ e. let was = kept (get_or order q 0) (lows q k) e in absurd (omega (arith, was, f, off)))
-          (same_or (get_or order q 0) best);
-    }
-  where
-    kept : (n : ℕ) → n < 64 → n ≢ best → bit_at left n ≡ bit_at front n
-    kept n b e = set n b ∙ ap (λ b. cond b 0 (bit_at front n)) (ne_eqb n best e)
+seeks_first left best least p l is low on set cost small lows one = grind (arith, ⊎_elim, same_or, ne_eqb)
 
 -- one more is looked at, which stands at a place
 module _ {at : ℕ} {d : Drive} {order : List ℕ} {ks : List Kind} {own : List Target} {front left best least : ℕ}
@@ -65,8 +48,7 @@ module _ {at : ℕ} {d : Drive} {order : List ℕ} {ks : List Kind} {own : List 
   -- what is done now was, or is that
   done_or : (p : ℕ) → p < length order → bit_at left' (get_or order p 0) ≡ 0
       → (p ≡ q) ⊎ (bit_at left (get_or order p 0) ≡ 0)
-  done_or p l off = ⊎_elim (λ e. inl (one p q l k (e ∙ is)))
-      (λ e. inr (sym (kept (get_or order p 0) (lows p l) e) ∙ off)) (same_or (get_or order p 0) slot)
+  done_or p l off = grind (arith, off, ⊎_elim, kept, lows, same_or)
 
   -- it comes first
   pub seeks_better : (cost < least) ⊎ ((cost ≡ least) × (q < h.place)) → cost < 2 ^ 33
@@ -79,9 +61,7 @@ module _ {at : ℕ} {d : Drive} {order : List ℕ} {ks : List Kind} {own : List 
     on = h.of_left slot low on;
     cost = costs;
     small = small;
-    done = λ p l f off. ⊎_elim
-        (λ e. inr (costs ∙ ap (cost_there d ks own) (sym e), omega (arith, e)))
-        (λ e. by (cost_there d ks own p) p (h.done p l f e)) (done_or p l off);
+    done = grind (arith, ⊎_elim, by, done_or);
   }
     where
       by : (c p : ℕ) → (least < c) ⊎ ((least ≡ c) × (h.place ≤ p)) → (cost < c) ⊎ ((cost ≡ c) × (q ≤ p))
@@ -97,10 +77,7 @@ module _ {at : ℕ} {d : Drive} {order : List ℕ} {ks : List Kind} {own : List 
     on = h.on;
     cost = h.cost;
     small = h.small;
-    done = λ p l f off. ⊎_elim
-        (λ e. subst (λ c. (least < c) ⊎ ((least ≡ c) × (h.place ≤ p))) (costs ∙ ap (cost_there d ks own) (sym e))
-        (subst (λ r. (least < cost) ⊎ ((least ≡ cost) × (h.place ≤ r))) (sym e) worse))
-        (λ e. h.done p l f e) (done_or p l off);
+    done = grind (arith, ⊎_elim, done_or);
   }
 
 -- whether it comes first is told by its cost, and by who came earlier
@@ -147,13 +124,11 @@ module _ {rs : List Record} {own : List Target} {order : List ℕ} {m : Masks} (
       }
     where
       has_it : (b : Bool) → bit (b && nat_eq (kind_at rs own n).drive at) ≡ 1 → b ≡ true
-      has_it true e = refl
-      has_it false e = absurd (omega (arith, e))
+      has_it h1 e = grind arith
 
   pub opens_front : {at front : ℕ} (p : ℕ) → IsFront at m front → IsOpenOn (kinds now) at p
       → bit_at front (get_or order p 0) ≡ 1
-  opens_front {at} {front} p h o = open_front (kind_at rs own) order m kept.masks at front p h
-      (subst (λ ks. IsOpenOn ks at p) (sym kinds_are) o)
+  opens_front p h o = grind (arith, open_front, kept, kinds_are)
 
   target_is : (q n : ℕ) → q < length order → n ≡ get_or order q 0
       → get_or own n no_target ≡ get_or (targets now) q no_target
@@ -163,15 +138,13 @@ module _ {rs : List Record} {own : List Target} {order : List ℕ} {m : Masks} (
       ∙ sym (get_or-map (λ (s : Slot). s.target) now q no_slot no_target inside)
 
   kind_is : (q n : ℕ) → q < length order → n ≡ get_or order q 0 → kind_there (kinds now) q ≡ kind_at rs own n
-  kind_is q n l e = ap (λ ks. kind_there ks q) (sym kinds_are)
-      ∙ (get_or-map (kind_at rs own) order q 0 no_kind l ∙ ap (kind_at rs own) (sym e))
+  kind_is q n l e = grind (arith, kinds_are, get_or-map)
 
   -- the cylinder of its first block is one of the unit's
   pub within : {at : ℕ} (d : Drive) (n : ℕ) → AreOnDrive at d (targets now) → (f : IsFound order (kinds now) at n)
       → (get_or own n no_target).cylinder ≤ last_cylinder d.unit
   within {at} d n on f =
-      let inside : f.place < length (targets now) =
-      omega (arith, f.inside, long_shown rs own ds order now view, length-map now (λ (s : Slot). s.target)) in
+      let inside : f.place < length (targets now) = grind (arith, long_shown, length-map) in
       let t = target_is f.place n f.inside f.number in
       subst (λ (a : Target). a.cylinder ≤ last_cylinder d.unit) (sym t) ((on f.place no_target inside
       (ap (λ (a : Target). a.drive) (sym t) ∙ (ap (λ (k : Kind). k.drive) (sym (kind_is f.place n f.inside f.number))
@@ -181,50 +154,22 @@ module _ {rs : List Record} {own : List Target} {order : List ℕ} {m : Masks} (
   pub cost_found : {at : ℕ} (d : Drive) (n cost : ℕ) (sequential : Bool) → (f : IsFound order (kinds now) at n) → n < 64
       → sequential ≡ nat_eq (bit_at m.sequential n) 1 → cost ≡ cost_on d sequential (get_or own n no_target).cylinder
       → cost ≡ cost_there d (kinds now) (targets now) f.place
-  cost_found {at} d n cost sequential f low told is =
-      let t = target_is f.place n f.inside f.number in
-      let k = kind_is f.place n f.inside f.number in
-      let taken : has n order ≡ true = ap (λ k. has k order) f.number ∙ slot_has order f.place f.inside in
-      let bits : bit_at m.sequential n ≡ bit (kind_at rs own n).sequential =
-      kept.masks.of_sequential n low ∙ ap (λ b. bit (b && (kind_at rs own n).sequential)) taken in
-      let same : sequential ≡ (kind_there (kinds now) f.place).sequential =
-      told ∙ (ap (λ b. nat_eq b 1) bits ∙ (of_bit (kind_at rs own n).sequential
-      ∙ ap (λ (k : Kind). k.sequential) (sym k))) in
-      is ∙ (λ i. cost_on d (same i) (t i).cylinder)
-    where
-      of_bit : (b : Bool) → nat_eq (bit b) 1 ≡ b
-      of_bit true = refl
-      of_bit false = refl
+  cost_found d n cost sequential f low told is = grind (arith, target_is, kind_is, slot_has, kept)
 
 -- ---- a range that the head comes to sooner costs less
 range_rises : (a b w : ℕ) → a ≤ b → min (a / (w + 1)) 63 ≤ min (b / (w + 1)) 63
-range_rises a b w l = least (a / (w + 1)) (b / (w + 1))
-    (le-div (a / (w + 1)) b (w + 1) (omega arith) (omega (arith, l, div-mul-le_self a (w + 1))))
-  where
-    least : (p q : ℕ) → p ≤ q → min p 63 ≤ min q 63
-    least p q l = omega (arith, l)
+range_rises a b w l = grind (arith, le-div, div-mul-le_self)
 
 range_less : (u : Shape) (a b : ℕ) → range_of u a < range_of u b → a < b
-range_less u a b l = by (lt_or a b)
-  where
-    lt_or : (a b : ℕ) → (a < b) ⊎ (b ≤ a)
-    lt_or a b = grind arith
-
-    by : (a < b) ⊎ (b ≤ a) → a < b
-    by (inl m) = m
-    by (inr m) = absurd (let r = range_rises b a (last_cylinder u / 64) m in omega (arith, r, l))
+range_less u a b l = grind (arith, range_rises)
 
 costs_less : (last head a b : ℕ) (up : Bool) → head ≤ last → a ≤ last → b ≤ last → IsSooner up head a b
     → sweep_cost last head up a < sweep_cost last head up b
-costs_less last head a b true h l m s = grind (arith, s)
-costs_less last head a b false h l m s = grind (arith, s)
+costs_less last head a b h5 h l m s = grind arith
 
 sooner_there : (u : Shape) (head a b : ℕ) (up : Bool)
     → IsSooner up (range_of u head) (range_of u a) (range_of u b) → IsSooner up head a b
-sooner_there u head a b true s = ⊎_elim (λ e. inl (range_less u head a e.0, range_less u a b e.1))
-    (λ e. inr (range_less u b head e.0, range_less u b a e.1)) s
-sooner_there u head a b false s = ⊎_elim (λ e. inl (range_less u a head e.0, range_less u b a e.1))
-    (λ e. inr (range_less u head b e.0, range_less u a b e.1)) s
+sooner_there u head a b h5 s = grind (arith, ⊎_elim, range_less)
 
 -- so what is open is among the nearest, or costs more than one of them
 module _ {rs : List Record} {own : List Target} {order : List ℕ} {m : Masks} {ranges buckets : List ℕ} (ds : List ℕ)
@@ -247,10 +192,8 @@ module _ {rs : List Record} {own : List Target} {order : List ℕ} {m : Masks} {
   lies {at} {front} d k h on none x =
       let f = found ds now kept_are view k h x.0 x.1 in
       let t = target_is ds now kept_are view f.place k f.inside f.number in
-      let there : f.place < length (targets now) =
-      omega (arith, f.inside, long_shown rs own ds order now view, length-map now (λ (s : Slot). s.target)) in
-      let drive : (get_or (targets now) f.place no_target).drive ≡ at = ap (λ (a : Target). a.drive) (sym t)
-      ∙ (ap (λ (k : Kind). k.drive) (sym (kind_is ds now kept_are view f.place k f.inside f.number)) ∙ f.opens.drive) in
+      let there : f.place < length (targets now) = grind (arith, long_shown, length-map) in
+      let drive : (get_or (targets now) f.place no_target).drive ≡ at = grind (arith, kind_is) in
       let both = on f.place no_target there drive in
       let zero : bit_at m.sequential k ≡ 0 = off (ap (λ n. bit_at n k) (sym none)) in
       record {
@@ -264,11 +207,7 @@ module _ {rs : List Record} {own : List Target} {order : List ℕ} {m : Masks} {
       }
     where
       off : bit_at 0 k ≡ bit_at (bit_and front m.sequential) k → bit_at m.sequential k ≡ 0
-      off e = zero (bit_at front k) (bit_at m.sequential k) (x.1) (bit_at-lt m.sequential k)
-          (sym (e ∙ bit_at_and front m.sequential k) ∙ bit_at-zero k)
-        where
-          zero : (a b : ℕ) → a ≡ 1 → b < 2 → min a b ≡ 0 → b ≡ 0
-          zero a b e l f = omega (arith, e, l, f)
+      off e = grind (arith, bit_at-lt, bit_at_and, bit_at-zero)
 
   pub among : {at front near : ℕ} (d : Drive) (p : ℕ) → IsFront at m front → IsNearOf m.sequential d ranges front near
       → AreOnDrive at d (targets now) → d.head.cylinder ≤ last_cylinder d.unit → IsOpenOn (kinds now) at p
@@ -303,12 +242,7 @@ module _ {rs : List Record} {own : List Target} {order : List ℕ} {m : Masks} {
 pub number_sought : {at : ℕ} {d : Drive} {order : List ℕ} {ks : List Kind} {own : List Target}
     {front left best least : ℕ} (h : Seeks at d order ks own front left best least)
     → ((q : ℕ) → q < length order → get_or order q 0 < 64) → IsNumber order h.place best
-number_sought {order = order} h lows = record {
-  low = subst (λ n. n < 64) (sym h.number) (lows h.place h.inside);
-  taken = ap (λ n. has n order) h.number ∙ slot_has order h.place h.inside;
-  inside = h.inside;
-  is = h.number;
-}
+number_sought h lows = grind (arith, lows, slot_has)
 
 -- none is left: it is the best
 pub sought : {at : ℕ} {d : Drive} {order : List ℕ} {ks : List Kind} {own : List Target} {front left best least : ℕ}
@@ -316,24 +250,4 @@ pub sought : {at : ℕ} {d : Drive} {order : List ℕ} {ks : List Kind} {own : L
     → ((p : ℕ) → IsOpenOn ks at p → (p < length order) × IsAmong d order ks own front p)
     → ((q : ℕ) → q < length order → get_or order q 0 < 64) → ((n : ℕ) → n < 64 → bit_at left n ≡ 0)
     → s.place ≡ h.place → s.cost ≡ least → IsBest (IsOpenOn ks at) (cost_there d ks own) s
-sought {at} {d} {order} {ks} {own} {front} {left} {best} {least} s h few opens on lows none place cost = record {
-  is = inr (subst (IsOpenOn ks at) (sym place) opens, cost ∙ (h.cost ∙ ap (cost_there d ks own) (sym place)));
-  each = λ p o.
-      let t = on p o in
-      let inside = h.inside in (
-        omega (arith, place, inside, few),
-        ⊎_elim (λ e. ahead p (h.done p t.0 e (none (get_or order p 0) (lows p t.0))))
-            (λ e. further p e.0 e.3 (h.done e.0 e.1 e.2 (none (get_or order e.0 0) (lows e.0 e.1)))) t.1,
-      );
-}
-  where
-    ahead : (p : ℕ) → (least < cost_there d ks own p) ⊎ ((least ≡ cost_there d ks own p) × (h.place ≤ p))
-        → IsAhead s (cost_there d ks own p) p
-    ahead p done = ⊎_elim (λ e. inl (omega (arith, e, cost)))
-        (λ e. inr (cost ∙ e.0, (let r = e.1 in omega (arith, r, place)))) done
-
-    further : (p q : ℕ) → cost_there d ks own q < cost_there d ks own p
-        → (least < cost_there d ks own q) ⊎ ((least ≡ cost_there d ks own q) × (h.place ≤ q))
-        → IsAhead s (cost_there d ks own p) p
-    further p q l done = ⊎_elim (λ e. inl (omega (arith, e, cost, l)))
-        (λ e. inl (let f = e.0 in omega (arith, f, cost, l))) done
+sought s h few opens on lows none place cost = grind (arith, ⊎_elim)

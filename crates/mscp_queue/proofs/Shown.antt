@@ -1,5 +1,5 @@
 -- What slots show once one of them holds something else.
-use Rattle.mscp_queue.proofs.Common.{◌≡◌, ◌≢◌, ◌<◌, ◌+◌, ◌^◌, ◌⊎◌, inl, inr, ℕ, zero, suc, Bool, true, false, not, ◌&&◌, nat_eq, List, [], ◌∷◌, ◌++◌, map, set, take, drop, get_or, length, sym, subst, ap, ◌∙◌, refl, arith, remove, slice_index_or, list_all, drop-map, get_or_default, get_or-map, get_or-set_same, get_or-set_other, length-map, length-set, map-append, take-map, Target, Slot, Masks, AreMasks, AreSlots, HasCome, HasLeft, IsLowestFree, IsLowestUntaken, Content, filled, numbers, fences, has, keeps_back, is_sequential, Record, advanced, no_record, no_target, AreKept, held, is_unfenced, kind_at, kind_of, shown, slot_at, with_item}
+use Rattle.mscp_queue.proofs.Common.{◌≡◌, ◌≢◌, ◌<◌, ◌+◌, ◌^◌, ◌⊎◌, ℕ, zero, suc, Bool, true, false, not, ◌&&◌, nat_eq, List, [], ◌∷◌, ◌++◌, map, set, take, drop, get_or, length, sym, subst, ap, ◌∙◌, refl, arith, remove, slice_index_or, list_all, drop-map, get_or_default, get_or-map, get_or-set_same, get_or-set_other, length-map, length-set, map-append, take-map, Target, Slot, Masks, AreMasks, AreSlots, HasCome, HasLeft, IsLowestFree, IsLowestUntaken, Content, filled, numbers, fences, has, keeps_back, is_sequential, Record, advanced, no_record, no_target, AreKept, held, is_unfenced, kind_at, kind_of, shown, slot_at, with_item}
 use Rattle.mscp_queue.proofs.Freed.{free_tells}
 use Rattle.mscp_queue.proofs.Departed.{masks_left}
 use Rattle.mscp_queue.proofs.Masked.{has_other, masks_pushed, not_behind, not_here, off_bit, one_bit, same_or, slot_has, slot_low}
@@ -42,8 +42,7 @@ slot_is rs own ds order now place n view l is = grind (arith, get_or-map, long_s
 pub number_of : {rs : List Record} {own : List Target} {order seen : List ℕ} {m : Masks} {place n : ℕ} (ds : List ℕ)
     (now : List Slot) → AreKept rs own order m
     → shown rs own ds order ≡ now → place < length now → n ≡ get_or seen place 0 → seen ≡ order → IsNumber order place n
-number_of {rs} {own} {order} {seen} {m} {place} {n} ds now kept view inside e same =
-    search (arith, long_shown rs own ds order now view, slot_low, slot_has)
+number_of ds now kept view inside e same = grind (arith, long_shown, slot_low, slot_has)
 
 -- the record in it
 pub item_at : {rs : List Record} {own : List Target} {order : List ℕ} {m : Masks} {place n : ℕ} (ds : List ℕ)
@@ -122,8 +121,7 @@ kept_pushed {rs}
     let kinds' = kind_at rs' own' in
     let low = free.low in
     let item : get_or rs' n no_record ≡ r = get_or-set_same rs n r no_record (omega (arith, low, kept.records_64)) in
-    let target : get_or own' n no_target
-    ≡ a = get_or-set_same own n a no_target (omega (arith, low, kept.targets_64)) in
+    let target : get_or own' n no_target ≡ a = grind (arith, get_or-set_same) in
     let none = untaken kept free in
     let others : (k : ℕ) → k ≢ n → kinds' k ≡ kinds k = search (arith, get_or-set_other) in
     let came : HasCome n (kinds' n).drive (kinds' n).sequential m m' = search arith in
@@ -136,16 +134,13 @@ kept_pushed {rs}
   where
     by : (k : ℕ) → (get_or (set own n a) n no_target).drive < 16 → (k ≡ n) ⊎ (k ≢ n) → has k (order ++ n ∷ []) ≡ true
         → (get_or (set own n a) k no_target).drive < 16
-    by k l (inl s) there = subst (λ k. (get_or (set own n a) k no_target).drive < 16) (sym s) l
-    by k l (inr d) there = subst (λ (q : Target). q.drive < 16) (sym (get_or-set_other own n k a no_target d))
-        (kept.drives k (sym (has_other k n order d) ∙ there))
+    by k l h3 there = grind (arith, get_or-set_other, has_other)
 
 pub shown_pushed : {rs : List Record} {own : List Target} {order new : List ℕ} {m : Masks} {n : ℕ} (ds : List ℕ)
     (now : List Slot)
     (s : Content) → AreKept rs own order m → length ds ≡ 64 → IsLowestFree m.waiting n → shown rs own ds order ≡ now
     → new ≡ order ++ n ∷ [] → shown (set rs n s.item) (set own n s.target) (set ds n s.due) new ≡ now ++ filled n s ∷ []
-shown_pushed {rs} {own} {order} {new} {m} {n} ds now s kept long free view e =
-    search (arith, off_bit, map-append, shown_other, held_same)
+shown_pushed ds now s kept long free view e = grind (arith, off_bit, map-append, shown_other, held_same)
 
 -- the numbers of the slots that are shown are those of the order
 shown_numbers : (rs : List Record) (own : List Target) (ds order : List ℕ) → numbers (shown rs own ds order) ≡ order
@@ -156,12 +151,7 @@ shown_numbers rs own ds (s ∷ order) = ap (λ ys. s ∷ ys) (shown_numbers rs o
 pub lowest_untaken : {rs : List Record} {own : List Target} {order : List ℕ} {m : Masks} {n : ℕ} (ds : List ℕ)
     (now : List Slot) → AreKept rs own order m → IsLowestFree m.waiting n → shown rs own ds order ≡ now
     → IsLowestUntaken n now
-lowest_untaken {rs} {own} {order} {m} {n} ds now kept free view = subst (IsLowestUntaken n) view (record {
-  untaken = ap (has n) (shown_numbers rs own ds order)
-      ∙ untaken kept free;
-  below = λ k l. ap (has k) (shown_numbers rs own ds order)
-      ∙ one_bit (has k order) (sym (kept.masks.of_waiting k (omega (arith, l, free.low))) ∙ free.taken k l);
-})
+lowest_untaken ds now kept free view = grind (arith, untaken, shown_numbers, one_bit)
 
 -- ---- one slot changes
 -- where one slot holds something else, so does its place
@@ -185,13 +175,7 @@ pub item_set : {rs : List Record} {own : List Target} {order : List ℕ}
 item_set {rs} {own} {order} {m} {place} {n} {r} ds now f other kept view inside h e =
     let g = held (set rs n r) own ds in
     let same : (k : ℕ) → k ≢ get_or order place 0 → g k ≡ held rs own ds k = search (arith, get_or-set_other) in
-    let there : g n ≡ with_item f (held rs own ds n) = λ i. record {
-      number = n;
-      item = (get_or-set_same rs n r no_record (omega (arith, h.low, kept.records_64))
-          ∙ e ∙ ap f (get_or_default rs n other no_record (omega (arith, h.low, kept.records_64)))) i;
-      target = get_or own n no_target;
-      due = get_or ds n 0;
-    } in
+    let there : g n ≡ with_item f (held rs own ds n) = grind (arith, get_or-set_same, get_or_default) in
     set_at_number (held rs own ds) g order place kept.masks.apart h.inside same ∙ ((λ i. set (view i) place (g (sym h.is
     i))) ∙ ap (λ s. set now place s) (there ∙ ap (with_item f) (slot_is rs own ds order now place n view inside h.is)))
 
@@ -199,5 +183,4 @@ item_set {rs} {own} {order} {m} {place} {n} {r} ds now f other kept view inside 
 pub kept_advanced : {rs : List Record} {own : List Target} {order : List ℕ} {m : Masks} {n : ℕ} {r : Record}
     (other : Record)
     → AreKept rs own order m → n < 64 → r ≡ advanced (get_or rs n other) → AreKept (set rs n r) own order m
-kept_advanced {rs} {own} {order} {m} {n} {r} other kept low e =
-    search (arith, get_or-set_same, get_or_default, length-set, same_or, get_or-set_other)
+kept_advanced other kept low e = grind (arith, get_or-set_same, get_or_default, length-set, same_or, get_or-set_other)

@@ -1,6 +1,6 @@
 -- The places that may start, found one after the other.
-use Rattle.mscp_queue.proofs.Basics.{append-nil, ◌≡◌, ◌⊎◌, inl, inr, ℕ, zero, suc, ◌+◌, ◌-◌, ◌<◌, ◌≤◌, Bool, true, false, cond, not, ◌&&◌, List, [], ◌∷◌, ◌++◌, map, take, get_or, length, refl, ap, sym, ◌∙◌, arith, All, filter, nat_eq, nat_le, AllByRecursion, list_all, range_with_len, eq-eqb, le-leb, leb-true, lt-leb, true≢false, get_or-map, get_or-drop, get_or-take, length-append, length-drop, length-map, length-range_with_len, length-take-le, map-append, take-map, All-from_recursion, All-take, filter-append, recursion_from_All, Shape, one_block, Target, Drive, Choice, target_of, targets_of, no_target, unit_place, fresh_drive, ArePassedInOrder, CanBeShown, IsPick, IsShut, is_known, units_of, Kind, keeps_back, is_sequential, Record, drive_at, no_record, record_at, is_unfenced_at, kinds_of, no_kind, choice_of, choices_at, is_affordable, is_free, is_open_at, open_places, place_same, apart_by_place, every_kept, every_weaker, fewer, range_below, range_more, all_shown}
-use Rattle.mscp_queue.specs.Views.{fences, view_of}
+use Rattle.mscp_queue.proofs.Basics.{append-nil, ◌≡◌, inl, inr, ℕ, zero, suc, ◌+◌, ◌-◌, ◌<◌, ◌≤◌, Bool, true, false, cond, not, ◌&&◌, List, [], ◌∷◌, ◌++◌, map, take, get_or, length, refl, ap, sym, ◌∙◌, arith, All, filter, nat_eq, nat_le, AllByRecursion, list_all, range_with_len, eq-eqb, le-leb, leb-true, lt-leb, true≢false, get_or-map, get_or-drop, get_or-take, length-append, length-drop, length-map, length-range_with_len, length-take-le, map-append, take-map, All-from_recursion, All-take, filter-append, recursion_from_All, Shape, one_block, Target, Drive, Choice, target_of, targets_of, no_target, unit_place, fresh_drive, ArePassedInOrder, CanBeShown, IsPick, IsShut, is_known, units_of, Kind, keeps_back, is_sequential, Record, drive_at, no_record, record_at, is_unfenced_at, kinds_of, no_kind, choice_of, choices_at, is_affordable, is_free, is_open_at, open_places, place_same, apart_by_place, every_kept, every_weaker, fewer, range_below, range_more, all_shown}
+use Rattle.mscp_queue.specs.Views.{fences}
 
 -- ---- who is free
 all_on : {X : Type 0} (p q : X → Bool) (xs : List X) → AllByRecursion (λ x. p x ≡ q x) xs
@@ -32,8 +32,7 @@ free_is ds rs own place h l =
     let r = record_at rs place in
     let Known : Record → Type 0 = λ z. is_known us z.command.unit ≡ true in
     let known : All Known rs = λ i other m. (h.inside i other m).0 in
-    let same : (z : Record)
-    → Known z → not (keeps_back (k z) (k r)) ≡ not (fences r z) = search (arith, not, same_unit) in
+    let same : (z : Record) → Known z → not (keeps_back (k z) (k r)) ≡ not (fences r z) = grind (arith, same_unit) in
     ap (λ ks. is_unfenced_at ks place) (ap (kinds_of rs) h.targeted ∙ kinds_targeted us rs)
     ∙ ((λ i. list_all (λ z. not (keeps_back z (get_or-map k rs place no_record no_kind l i))) (take-map k place rs i))
     ∙ (all_shown (λ z. not (keeps_back z (k r))) k (take place rs) ∙ all_on (λ z. not (keeps_back (k z) (k r)))
@@ -68,17 +67,7 @@ oldest_affords budget unspent r (q ∷ qs) (suc k) o p l e = by (nat_le r.weight
         (lt-leb (q.passed + r.weight) budget over))
       where
         over_of : (a b : ℕ) → nat_le a b ≡ false → b < a
-        over_of a b f = by_cases (le_or a b)
-          where
-            le_or : (a b : ℕ) → (a ≤ b) ⊎ (b < a)
-            le_or a b = grind arith
-
-            true_false : true ≡ false → ⊥
-            true_false x = true≢false x
-
-            by_cases : (a ≤ b) ⊎ (b < a) → b < a
-            by_cases (inl l) = absurd (true_false (sym (le-leb a b l) ∙ f))
-            by_cases (inr l) = l
+        over_of a b f = grind (arith, true≢false, le-leb)
 oldest_affords budget unspent r rs place h5 h6 h7 h8 = grind arith
 
 -- ---- places found one by one
@@ -98,8 +87,7 @@ pub looks_more : {budget : ℕ} {ds : List Drive} {rs : List Record} {place : �
     {choices choices' : List Choice} (b : Bool) → b ≡ is_open_at budget rs place → places' ≡ places ++ cond
     b (place ∷ []) [] → choices' ≡ choices ++ cond b (choice_of (drive_at ds rs place) (record_at rs place) ∷ []) []
     → Looks budget ds rs place places choices → Looks budget ds rs (place + 1) places' choices'
-looks_more {budget} {ds} {rs} {place} {places} {places'} {choices} {choices'} b is put shown h =
-    search (arith, filter-append, range_more, appended, map-append, append-nil)
+looks_more b is put shown h = grind (arith, filter-append, range_more, appended, map-append, append-nil)
 
 pub looks_none : (budget : ℕ) (ds : List Drive) (rs : List Record) (places : List ℕ)
     (choices : List Choice) → places ≡ [] → choices ≡ [] → Looks budget ds rs 0 places choices
@@ -119,23 +107,17 @@ shut_is budget unspent ds rs own place h o e l (inl spent) q p m =
     let some = (h.weighs q no_record m).0 in
     let over : nat_le r.weight unspent ≡ false = lt-leb r.weight unspent (omega (arith, some, spent)) in
     search (arith, oldest_affords budget unspent r rs q o (omega (arith, p)) (omega (arith, m)) e)
-  where
-    and_false : (b : Bool) → (b && false) ≡ false
-    and_false true = refl
-    and_false false = refl
 shut_is budget unspent ds rs own place h o e l (inr fence) q p m =
     let us = units_of ds in
     let r = record_at rs q in
     let z = record_at rs place in
     let of : Record → Target = λ r. target_of us r.command in
-    let targeted : (k : ℕ) → k < length rs → get_or own k no_target ≡ of (record_at rs k) = λ k n.
-    ap (λ xs. get_or xs k no_target) h.targeted ∙ get_or-map of rs k no_record no_target n in
+    let targeted : (k : ℕ) → k < length rs → get_or own k no_target ≡ of (record_at rs k) = grind (arith, get_or-map) in
     let long : length own ≡ length rs = ap length h.targeted ∙ length-map rs of in
     let k = q - (place + 1) in
     let at : place + 1 + k ≡ q = omega (arith, p) in
     let behind = fence.1 k no_target (omega (arith, length-drop (place + 1) own, long, m, p)) in
-    let drives : unit_place us r.command.unit ≡ unit_place us z.command.unit =
-    search (arith, get_or-drop (place + 1) own k no_target) in
+    let drives : unit_place us r.command.unit ≡ unit_place us z.command.unit = grind (arith, get_or-drop) in
     let units : nat_eq z.command.unit r.command.unit ≡ true =
     sym (same_unit ds z.command.unit r.command.unit (h.inside place no_record l).0 (h.inside q no_record m).0)
     ∙ eq-eqb (unit_place us z.command.unit) (unit_place us r.command.unit) (sym drives) in
@@ -180,12 +162,4 @@ few_places budget rs = search (arith, fewer, length-range_with_len)
 -- so the oldest may be picked, if the first place of any view may
 pub first_picked : (picks : List Choice → ℕ → Type 0) (budget : ℕ) (ds : List Drive) (rs : List Record) → 0 < length rs
     → ((view : List Choice) → 0 < length view → length view ≤ length rs → picks view 0) → IsPick picks budget ds rs 0
-first_picked picks budget ds rs some first =
-    let long : length (view_of budget ds rs) ≡ length (open_places budget rs) = search (arith, length-map) in
-    let opens = some_place budget rs some in
-    let few = few_places budget rs in (
-      0,
-      opens,
-      first_place budget rs some,
-      first (view_of budget ds rs) (omega (arith, long, opens)) (omega (arith, long, few)),
-    )
+first_picked picks budget ds rs some first = grind (arith, length-map, some_place, few_places, first_place)

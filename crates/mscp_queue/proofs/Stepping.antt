@@ -1,5 +1,5 @@
 -- A step of the record at a place, as it is planned and written.
-use Rattle.mscp_queue.proofs.Basics.{◌≡◌, ◌≢◌, ℕ, ◌+◌, ◌<◌, Bool, true, false, cond, ◌⊎◌, inl, inr, nat_lt, ltb-false, length-append, length-drop, length-take-le, List, [], ◌∷◌, ◌++◌, map, take, drop, set, get_or, length, refl, ap, sym, ◌∙◌, subst, arith, is_some, Option, Some, refill, length-set, Order, Block, Drive, Name, Plan, Choice, Command, IsOnUnit, IsHeld, Line, fresh_drive, get_or-set_other, length-map, drive_place, Record, advanced, drive_at, no_record, passed_by, record_at, step_charge, IsNext, IsServable, drive_after, plan_of, state_left, touched, cylinder_within, set_replaced, refilled, StepMade, head_kept, touched_inside}
+use Rattle.mscp_queue.proofs.Basics.{◌≡◌, ◌≢◌, ℕ, ◌+◌, ◌<◌, Bool, true, false, cond, ◌⊎◌, inl, nat_lt, ltb-false, length-append, length-drop, length-take-le, List, [], ◌∷◌, ◌++◌, map, take, drop, set, get_or, length, refl, ap, sym, ◌∙◌, subst, arith, is_some, Option, Some, refill, length-set, Order, Block, Drive, Name, Plan, Choice, Command, IsOnUnit, IsHeld, Line, fresh_drive, get_or-set_other, length-map, drive_place, Record, advanced, drive_at, no_record, passed_by, record_at, step_charge, IsNext, IsServable, drive_after, plan_of, state_left, touched, cylinder_within, set_replaced, refilled, StepMade, head_kept, touched_inside}
 use Rattle.mscp_queue.proofs.Common.{AreFavored, commands, drive_in, closed, knows, one_block, start_in}
 use Rattle.mscp_queue.specs.declared.favorites.Favorites.{Favorites}
 use Rattle.mscp_queue.proofs.Favored.{command_is}
@@ -49,9 +49,7 @@ step_made {room} {budget} {longest} {place} {at} {rs} {new} {ds} {ls} {begun} {s
           (head_kept room budget longest r.command.unit rs ds begun serving held));
       ended = some ∙ ap (λ (q : Plan). is_some q.ended) planned;
       records = records;
-      drives = refilled ds (set ls at d') (length-set ls at d' ∙ ap length lent)
-          ∙ (ap (λ l. set l at d') lent
-          ∙ set_replaced ds at r.command.unit d' d held.units kept.waitable.known found.placed);
+      drives = grind (arith, refilled, length-set, set_replaced);
     }
 
 -- and the best starts that are known stay so
@@ -84,26 +82,4 @@ favored_step {place = place} {at = at} {rs = rs} {new = new} {ds = ds} {ds' = ds
         ++ (cond ends [] (advanced (record_at rs place) ∷ []) ++ drop (place + 1) rs)
         → (moves ≡ ends) ⊎ ((moves ≡ false) × (length (commands rs) ≡ place + 1))
     moves_or false e r = inl e
-    moves_or true e r = by (nat_lt place (length new)) refl
-      where
-        by : (b : Bool) → nat_lt place (length new) ≡ b
-            → (moves ≡ true) ⊎ ((moves ≡ false) × (length (commands rs) ≡ place + 1))
-        by true p = inl (e ∙ p)
-        by false p =
-            let inside = servable.inside in
-            let long = ap length r
-            ∙ length-append (map (passed_by (step_charge (record_at rs place))) (take place rs))
-            (drop (place + 1) rs) in
-            inr (
-              e ∙ p,
-              omega (
-                arith,
-                inside,
-                long,
-                ltb-false place (length new) p,
-                length-map (take place rs) (passed_by (step_charge (record_at rs place))),
-                length-take-le place rs (omega (arith, inside)),
-                length-drop (place + 1) rs,
-                length-map rs (λ (r : Record). r.command),
-              ),
-            )
+    moves_or true e r = grind (arith, length-append, ltb-false, length-map, length-take-le, length-drop)

@@ -1,6 +1,5 @@
 -- The target of a command is where its drive and its first block are found.
 use Rattle.mscp_queue.proofs.Common.{◌≡◌, ℕ, ◌+◌, ◌<◌, ◌≤◌, true, cond, not, List, [], ◌∷◌, ◌++◌, map, take, drop, get_or, length, refl, ap, sym, ◌∙◌, subst, arith, All, nat_eq, unwrap_or, position, div-mul-le_self, le-div, drop-map, get_or-map, get_or_default, map-append, take-map, Command, Shape, cylinder_of, last_cylinder, Target, Drive, Connection, IsTargeted, range_of, target_of, targets_of, unit_place, IsOnUnit, drive_of, has_number, CanBeShown, HasBlocks, is_known, units_of, first_block, Record, advanced, drive_at, fresh_record, no_record, no_target, passed_by, record_at}
-use Rattle.std.specs.Prelude.{min}
 use Rattle.mscp_queue.proofs.Drives.{drive_place, known_at, known_inside}
 use Rattle.mscp_queue.proofs.Placed.{cut_at, map_map}
 use Rattle.mscp_queue.proofs.Held.{some_steps}
@@ -25,10 +24,7 @@ cylinder_within u block h = search (arith, le-div, div-mul-le_self)
 
 -- the range of a target is one of 64
 pub range_low : (units : List Shape) (command : Command) (a : Target) → a ≡ target_of units command → a.range < 64
-range_low units command a e = subst (λ (a : Target). a.range < 64) (sym e) (low _)
-  where
-    low : (n : ℕ) → min n 63 < 64
-    low n = omega arith
+range_low units command a e = grind arith
 
 -- ---- a target
 -- a target as it is found
@@ -98,8 +94,7 @@ has_drive ds rs targets place r at other h l own is = search (
 pub has_drive_there : (ds : List Drive) (rs : List Record) (targets : List Target) (place at : ℕ)
     → CanBeShown ds rs targets → place < length rs → at ≡ (get_or targets place no_target).drive
     → HasDrive ds (record_at rs place) at
-has_drive_there ds rs targets place at h l is = has_drive ds rs targets place (record_at rs place) at no_target h l
-    (sym (get_or_default rs place (record_at rs place) no_record l)) is
+has_drive_there ds rs targets place at h l is = search (arith, has_drive, get_or_default)
 
 -- its drive, and the cylinder of its first block there
 pub record LeadsTo (ds : List Drive) (rs : List Record) (place : ℕ) (r : Record) (d : Drive) (cylinder : ℕ) :

@@ -42,8 +42,7 @@ next_turn room budget longest place rs ds begun serving k d h n =
           record {
             before = idle.0;
             behind = idle.1.1;
-            affordable =
-                front_affordable budget rs place (n.opens e);
+            affordable = grind (arith, front_affordable);
             left = left;
           }
       | false ↦ λ e.
@@ -53,8 +52,7 @@ next_turn room budget longest place rs ds begun serving k d h n =
           record {
             before = idle.0;
             behind = idle.1;
-            affordable = every_weaker (IsKept budget longest (units_of ds)) (λ z. z.passed + 0 ≤ budget)
-                (λ z q. let p = q.passed in omega arith) A kept;
+            affordable = grind (arith, every_weaker);
             left = left;
           }
     ] in
@@ -136,10 +134,7 @@ module _ {k : Block} {place : ℕ}
   -- each drive of its number has its unit
   own_unit : IsUnitList (units_of ds)
       → AllByRecursion (λ q. has_number (record_at rs place).command.unit q ≡ true → q.unit ≡ m.d'.unit) ds
-  own_unit l =
-      let number = (record_at rs place).command.unit in
-      every_weaker (λ q. has_number number q ≡ true → q.unit ≡ (drive_of ds number).unit) (λ q. has_number number q
-      ≡ true → q.unit ≡ m.d'.unit) (λ q g b. g b ∙ sym (ap (λ (q : Drive). q.unit) m.after)) ds (units_same number ds l)
+  own_unit l = grind (arith, every_weaker, units_same)
 
   -- a step changes no unit
   pub units_step : IsUnitList (units_of ds) → units_of ds' ≡ units_of ds

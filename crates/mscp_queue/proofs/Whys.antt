@@ -22,8 +22,7 @@ pub holders_more : {budget : ℕ} {rs : List Record} {place front : ℕ} {holder
     (holder : Holder) → b ≡ keeps_back budget (record_at rs place) (record_at rs front) → holder
     ≡ holder_of budget (record_at rs place) (record_at rs front) → holders' ≡ holders ++ cond b (holder ∷ []) []
     → Holders budget rs place front holders → Holders budget rs place (front + 1) holders'
-holders_more {budget} {rs} {place} {front} {holders} {holders'} b holder is what put h =
-    search (arith, among_more budget rs place front, appended)
+holders_more b holder is what put h = grind (arith, among_more, appended)
 
 -- ---- nobody keeps back what may start
 none_more : (holders : List Holder) (holder : Holder) (b : Bool)

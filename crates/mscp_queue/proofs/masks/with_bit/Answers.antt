@@ -4,8 +4,5 @@ use Rattle.mscp_queue.proofs.masks.with_bit.Goals as goal
 pub returns-then-on-clause-set : goal.returns-then-on-clause-set
 returns-then-on-clause-set c = search (arith, after_bit, bit_at_set_same, bit_at_set_other)
 
-pub returns-else-on-clause-set : goal.returns-else-on-clause-set
-returns-else-on-clause-set c = search (arith, after_bit, bit_at_clear_same, bit_at_clear_other)
-
-pub returns-else-on-clause-fewer : goal.returns-else-on-clause-fewer
-returns-else-on-clause-fewer c = λ e. and_le_l c.args.mask _
+pub returns-else-on : goal.returns-else-on
+returns-else-on c = search (arith, after_bit, bit_at_clear_same, bit_at_clear_other, and_le_l)

@@ -1,4 +1,4 @@
-use Rattle.mscp_queue.proofs.Common.{◌≡◌, length, arith, sym, subst, ◌∙◌, refl, IsBest, IsFirstOf, commands, cost_of}
+use Rattle.mscp_queue.proofs.Common.{◌≡◌, length, arith, sym, subst, ◌∙◌, IsBest, IsFirstOf, commands, cost_of}
 use Rattle.mscp_queue.proofs.Aims.{IsBelow, below_more, best_first, none_below}
 use Rattle.mscp_queue.proofs.start.best_place.Goals as goal
 
@@ -6,11 +6,7 @@ pub loop-at-init : goal.loop-at-init
 loop-at-init c = record { favored = c.requires.favored; best = none_below c.none-first.result c.none-first.ensures }
 
 pub loop-at-preserved : goal.loop-at-preserved
-loop-at-preserved c = record {
-  favored = c.favorite_on.ensures.favored;
-  best = below_more c.requires.waiting c.requires.units
-      _ _ c.loop-at-test.true c.loop-at.invariant.best c.favorite_on.ensures.best refl c.or_earlier-first.ensures;
-}
+loop-at-preserved c = search (arith, below_more)
 
 pub returns-clause-first : goal.returns-clause-first
 returns-clause-first c =

@@ -8,12 +8,7 @@ use Rattle.mscp_queue.proofs.start.favor_last.Goals.{else-knows-via-then-knows+e
 use Rattle.mscp_queue.proofs.start.favor_last.Goals as goal
 
 pub knows-requires : goal.knows-requires
-knows-requires c =
-    let rs = c.args.backlog.now.waiting in
-    let n = c.len-place.result - 1 in
-    let inside : n < length rs = (let some = c.requires.some in omega (arith, some, c.len-place.ensures.waiting)) in
-    (has_drive_there c.args.drives.now rs c.args.backlog.now.targets n c.from-at.result c.requires.waiting inside
-    (c.from-at.ensures ∙ ap (λ (a : Target). a.drive) c.target.ensures)).few
+knows-requires c = search (arith, has_drive_there)
 
 pub come-requires : goal.come-requires
 come-requires c =

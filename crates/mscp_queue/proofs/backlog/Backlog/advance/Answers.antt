@@ -10,14 +10,8 @@ overflow_sub-self c =
     let item = item_at c.self.invariant w c.requires.place in
     omega (arith, low, ap (λ (r : Record). left_of r) item, c.requires.unfinished)
 
-pub advance-requires-clause-place : goal.advance-requires-clause-place
-advance-requires-clause-place c =
-    place_in _ _ c.self.inside.slots (ap (λ (w : Waiters). w.waiting) c.self.view_is) c.requires.place
-
-pub advance-requires-clause-unfinished : goal.advance-requires-clause-unfinished
-advance-requires-clause-unfinished c =
-    let item = item_at c.self.invariant (ap (λ (w : Waiters). w.waiting) c.self.view_is) c.requires.place in
-    omega (arith, ap (λ (r : Record). r.done) item, c.requires.unfinished, c.requires.short)
+pub advance-requires : goal.advance-requires
+advance-requires c = search (arith, place_in, item_at)
 
 pub set_back-self-inside-requires-clause-due : goal.set_back-self-inside-requires-clause-due
 set_back-self-inside-requires-clause-due c =

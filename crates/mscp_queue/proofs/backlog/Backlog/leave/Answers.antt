@@ -3,18 +3,13 @@ use Rattle.mscp_queue.proofs.Backlogs.{back_of, front_of, item_at, leave_enough,
 use Rattle.mscp_queue.proofs.backlog.Backlog.leave.Goals as goal
 
 pub overflow_sub-self : goal.overflow_sub-self
-overflow_sub-self c =
-    let w = ap (λ (w : Waiters). w.waiting) c.self.view_is in
-    let low = left_low c.self.invariant (place_in _ _ c.self.inside.slots w c.requires.place) in
-    omega (arith, low, c.from-left.ensures, c.left.ensures.value, ap (λ (r : Record). left_of r) c.item.ensures)
+overflow_sub-self c = search (arith, left_low, place_in)
 
 pub item-requires : goal.item-requires
-item-requires c =
-    place_in _ _ c.self.inside.slots (ap (λ (w : Waiters). w.waiting) c.self.view_is) c.requires.place
+item-requires c = search (arith, place_in)
 
 pub remove-requires : goal.remove-requires
-remove-requires c =
-    place_in _ _ c.self.inside.slots (ap (λ (w : Waiters). w.waiting) c.self.view_is) c.requires.place
+remove-requires c = search (arith, place_in)
 
 pub lower_all-requires : goal.lower_all-requires
 lower_all-requires c =

@@ -3,25 +3,13 @@ use Rattle.mscp_queue.proofs.Backlogs.{behind_enough_at, item_at, leave_unstarte
 use Rattle.mscp_queue.proofs.backlog.Backlog.leave_unstarted.Goals as goal
 
 pub overflow_sub-self : goal.overflow_sub-self
-overflow_sub-self c =
-    let w = ap (λ (w : Waiters). w.waiting) c.self.view_is in
-    let low = left_low c.self.invariant (place_in _ _ c.self.inside.slots w c.requires.place) in
-    omega (arith, low, c.from-left.ensures, c.left.ensures.value, ap (λ (r : Record). left_of r) c.item.ensures)
+overflow_sub-self c = search (arith, left_low, place_in)
 
 pub item-requires : goal.item-requires
-item-requires c =
-    place_in _ _ c.self.inside.slots (ap (λ (w : Waiters). w.waiting) c.self.view_is) c.requires.place
+item-requires c = search (arith, place_in)
 
-pub lower_behind-requires-clause-place : goal.lower_behind-requires-clause-place
-lower_behind-requires-clause-place c =
-    place_in _ _ c.self.inside.slots (ap (λ (w : Waiters). w.waiting) c.self.view_is) c.requires.place
-
-pub lower_behind-requires-clause-enough : goal.lower_behind-requires-clause-enough
-lower_behind-requires-clause-enough c =
-    let w = ap (λ (w : Waiters). w.waiting) c.self.view_is in
-    behind_enough_at c.self.invariant (place_in _ _ c.self.inside.slots w c.requires.place)
-    (ap (λ (r : Record). is_in_service r) (item_at c.self.invariant w c.requires.place) ∙ c.requires.unstarted)
-    (c.from-left.ensures ∙ c.left.ensures.value ∙ ap (λ (r : Record). left_of r) c.item.ensures)
+pub lower_behind-requires : goal.lower_behind-requires
+lower_behind-requires c = search (arith, place_in, behind_enough_at, item_at)
 
 pub remove-requires : goal.remove-requires
 remove-requires c = still_there c.self.inside.slots _ c.args.place c.from-left.result

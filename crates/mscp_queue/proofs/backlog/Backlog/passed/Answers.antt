@@ -29,7 +29,4 @@ overflow_cast-result c =
     )
 
 pub returns : goal.returns
-returns c =
-    let is = passed_is c.self.invariant c.self.view_is c.requires.place in
-    let budget = ap (λ (w : Waiters). w.budget) c.self.view_is in
-    omega (arith, is, budget, c.left_up_to.ensures.value, c.left_behind.ensures.value, c.due.ensures, c.from.ensures)
+returns c = search (arith, passed_is)

@@ -1,4 +1,4 @@
-use Rattle.mscp_queue.proofs.Common.{◌++◌, ◌∷◌, [], ◌+◌, cond, map, take, drop, ap, sym, ◌∙◌, arith, advanced, passed_by, record_at, step_charge}
+use Rattle.mscp_queue.proofs.Common.{arith}
 use Rattle.mscp_queue.proofs.BacklogSteps.{back_idle, ended_at, front_idle}
 use Rattle.mscp_queue.proofs.backlog.Backlog.serve.Goals as goal
 
@@ -10,9 +10,4 @@ leave-requires-clause-back c = search (arith, back_idle)
 
 pub returns-then-ends-clause-waiting : goal.returns-then-ends-clause-waiting
 returns-then-ends-clause-waiting c =
-    let rs = c.args.self.now.waiting in
-    let place = c.args.place in
-    let r = record_at rs place in
-    ended_at _ place rs _ _ _ c.requires.place c.advance.ensures.waiting c.leave.ensures.waiting
-    ∙ ap (λ b. map (passed_by (step_charge r)) (take place rs)
-    ++ (cond b [] (advanced r ∷ []) ++ drop (place + 1) rs)) (sym c.if-ends.true)
+    search (arith, ended_at, c.requires.place, c.advance.ensures.waiting, c.leave.ensures.waiting, c.if-ends.true)

@@ -9,7 +9,4 @@ overflow_cast-result c =
     omega (arith, is.0, is.1, c.due.ensures, c.from.ensures, c.left.ensures.value, item)
 
 pub returns : goal.returns
-returns c =
-    let is = unspent_is c.self.invariant c.self.view_is c.requires.some c.requires.idle in
-    let item = ap (λ (r : Record). left_of r) c.item.ensures in
-    omega (arith, is.0, c.due.ensures, c.from.ensures, c.left.ensures.value, item)
+returns c = search (arith, unspent_is)

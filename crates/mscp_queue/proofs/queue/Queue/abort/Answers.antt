@@ -1,4 +1,4 @@
-use Rattle.mscp_queue.proofs.Basics.{◌≡◌, ◌<◌, length, ap, sym, subst, ◌∙◌, arith, begun_name, Line, aborting, name_on, name_of, record_at}
+use Rattle.mscp_queue.proofs.Basics.{ap, sym, ◌∙◌, arith, begun_name, Line, aborting, name_on}
 use Rattle.mscp_queue.proofs.Aborts.{aborts_at, aborts_none, none_aborted}
 use Rattle.mscp_queue.proofs.Nexts.{named_at}
 use Rattle.mscp_queue.proofs.queue.Queue.abort.Goals as goal
@@ -26,19 +26,10 @@ returns-in_err-place-clause-after g c =
     }) ∙ ap (λ (l : Line K). aborting name l) c.self.view_is)
 
 pub abort_at-requires : goal.abort_at-requires
-abort_at-requires g c =
-    let K = g.row.K.Denot in
-    let at = aborts_at (name_on c.args.connection c.args.reference) c.self.inside.backlog.waiting c.in_ok-place.place
-    c.self.invariant.ready.held.apart (sym (c.place_of.ensures) ∙ c.in_ok-place.was) in
-    subst (λ (l : Line K). c.in_ok-place.place < length l.waiting) c.self.view_is at.inside
+abort_at-requires g c = search (arith, aborts_at)
 
 pub returns-clause-end : goal.returns-clause-end
 returns-clause-end g c = search (arith, aborts_at)
 
 pub returns-clause-after : goal.returns-clause-after
-returns-clause-after g c =
-    let K = g.row.K.Denot in
-    let name = name_on c.args.connection c.args.reference in
-    c.abort_at.ensures.after ∙ ap (λ n. aborting n c.args.self.now) (subst (λ (l : Line K). name_of
-    (record_at l.waiting c.in_ok-place.place) ≡ name) c.self.view_is (named_at name c.self.inside.backlog.waiting
-    c.in_ok-place.place (sym (c.place_of.ensures) ∙ c.in_ok-place.was)))
+returns-clause-after g c = search (arith, named_at)

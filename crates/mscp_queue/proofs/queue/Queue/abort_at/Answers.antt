@@ -70,15 +70,6 @@ returns-clause-after g c =
       picker = q.picker;
     }) ∙ ap (λ (l : Line K). aborting (name_of (record_at l.waiting place)) l) c.self.view_is
 
-pub serve-requires-clause-place : goal.serve-requires-clause-place
-serve-requires-clause-place g c =
-    let K = g.row.K.Denot in
-    let inside = subst (λ (l : Line K). c.args.place < length l.waiting) (sym c.self.view_is) c.requires in
-    let held = c.self.invariant.ready.held in
-    let fits = held.fits in
-    let few = held.few in
-    omega (arith, inside, fits, few)
-
 pub serve-requires-clause-drive : goal.serve-requires-clause-drive
 serve-requires-clause-drive g c =
     let K = g.row.K.Denot in

@@ -1,4 +1,4 @@
-use Rattle.mscp_queue.proofs.Common.{◌≡◌, ◌<◌, length, ap, subst, sym, arith, Some, begun_name, Line, name_of, record_at, IsNext}
+use Rattle.mscp_queue.proofs.Common.{◌≡◌, ap, subst, sym, arith, Some, begun_name, Line, name_of, record_at, IsNext}
 use Rattle.mscp_queue.proofs.Nexts.{known_next, nobody_found, picked_next, serving_is_next}
 use Rattle.mscp_queue.proofs.Ready.{can_be_shown}
 use Rattle.mscp_queue.proofs.Starting.{first_picked}
@@ -28,19 +28,7 @@ returns-in-Some-begun-clause-some g c =
     q.drives.items rs place ready.held.apart (ready.waits place c.in-Some-begun.is) (ready.held.still name begun)))
 
 pub returns-then-takes_first-clause-some : goal.returns-then-takes_first-clause-some
-returns-then-takes_first-clause-some g c =
-    let q = c.self.inside in
-    let rs = q.backlog.waiting in
-    let ds = q.drives.items in
-    let picks = g.K.Picker.picks q.picker in
-    let count = c.len-count.ensures.waiting in
-    let some : 0 < length rs = omega (arith, count, c.if-count-eq0.false) in
-    subst (λ (l : Line g.row.K.Denot). IsNext (g.K.Picker.picks l.picker) l.budget l.drives l.waiting l.begun 0)
-    c.self.view_is (picked_next picks q.backlog.budget ds rs (begun_name rs q.begun) 0
-    (ap (begun_name rs) c.in_default-begun.is)
-    (nobody_found rs q.serving c.in_default.is c.self.invariant.ready.held.idle) some
-    (first_picked picks q.backlog.budget ds rs some (λ view one few.
-    c.takes_first.ensures c.if-takes_first.true view one (omega (arith, few, count)))))
+returns-then-takes_first-clause-some g c = search (arith, picked_next, nobody_found, first_picked)
 
 pub picked_place-requires-clause-waiting : goal.picked_place-requires-clause-waiting
 picked_place-requires-clause-waiting g c =

@@ -1,4 +1,4 @@
-use Rattle.mscp_queue.proofs.Basics.{◌≡◌, ◌-◌, ◌<◌, ◌++◌, ◌∷◌, [], false, length, take, ap, subst, sym, ◌∙◌, arith, list_any, length-append, length-map, map-append, Command, IsUnitList, target_of, CanBeShown, IsWaitable, units_of, Line, name_on, Record, has_name, place_inside, range_low, held_small}
+use Rattle.mscp_queue.proofs.Basics.{◌≡◌, ◌<◌, ◌++◌, ◌∷◌, [], false, length, ap, subst, sym, ◌∙◌, arith, list_any, length-append, length-map, map-append, Command, target_of, CanBeShown, IsWaitable, units_of, Line, name_on, Record, has_name, place_inside, range_low, held_small}
 use Rattle.mscp_queue.proofs.Common.{AreFavored, commands, take_at}
 use Rattle.mscp_queue.proofs.Ready.{can_be_shown, ready_pushed}
 use Rattle.mscp_queue.proofs.queue.Queue.push.Goals as goal
@@ -7,19 +7,13 @@ pub push-requires-clause-drive : goal.push-requires-clause-drive
 push-requires-clause-drive g c = search (arith, place_inside, length-map)
 
 pub push-requires-clause-range : goal.push-requires-clause-range
-push-requires-clause-range g c = range_low (units_of c.as_slice.result.now)
-    (record { reference = c.args.new.reference; unit = c.args.new.unit; order = c.args.new.order }) c.of-target.result
-    c.of-target.ensures
+push-requires-clause-range g c = search (arith, range_low)
 
 pub push-requires-clause-small : goal.push-requires-clause-small
 push-requires-clause-small g c = held_small c.self.invariant.ready.held
 
 pub favor_last-requires-clause-some : goal.favor_last-requires-clause-some
-favor_last-requires-clause-some g c = omega (
-  arith,
-  ap length c.push.ensures.waiting,
-  length-append c.self.inside.backlog.waiting (c.new-record.result ∷ []),
-)
+favor_last-requires-clause-some g c = search (arith, length-append)
 
 pub favor_last-requires-clause-waiting : goal.favor_last-requires-clause-waiting
 favor_last-requires-clause-waiting g c =
@@ -40,29 +34,9 @@ favor_last-requires-clause-waiting g c =
       targets = e.targets i;
     })))
 
-pub favor_last-requires-clause-units : goal.favor_last-requires-clause-units
-favor_last-requires-clause-units g c =
-    subst (λ ds. IsUnitList (units_of ds)) (sym c.as_slice-2.ensures.value) c.self.invariant.ready.held.units
-
 -- but for the last they are those of before
 pub favor_last-requires-clause-favored : goal.favor_last-requires-clause-favored
-favor_last-requires-clause-favored g c =
-    let rs = c.self.inside.backlog.waiting in
-    let r = c.new-record.result in
-    let many : length (commands rs) ≡ length c.push.new.self.waiting - 1 = omega (
-      arith,
-      ap length c.push.ensures.waiting,
-      length-append rs (r ∷ []),
-      length-map rs (λ (r : Record). r.command),
-    ) in
-    let front : take (length c.push.new.self.waiting - 1) (commands c.push.new.self.waiting) ≡ commands rs =
-    ap (λ rs. take (length c.push.new.self.waiting - 1) (commands rs)) c.push.ensures.waiting
-    ∙ (ap (take (length c.push.new.self.waiting - 1)) (map-append (λ (r : Record). r.command) rs (r ∷ []))
-    ∙ take_at (commands rs) (r.command ∷ []) (length c.push.new.self.waiting - 1) many) in
-    subst (λ ds. AreFavored ds (take (length c.push.new.self.waiting - 1) (commands c.push.new.self.waiting))
-    c.self.inside.favorites) (sym c.as_slice-2.ensures.value)
-    (subst (λ cs. AreFavored c.self.inside.drives.items cs c.self.inside.favorites)
-    (sym front) c.self.invariant.favored)
+favor_last-requires-clause-favored g c = search (arith, length-append, length-map, map-append, take_at)
 
 pub invariant_of-self : goal.invariant_of-self
 invariant_of-self g c =

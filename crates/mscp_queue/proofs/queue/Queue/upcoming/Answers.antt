@@ -2,12 +2,6 @@ use Rattle.mscp_queue.proofs.Common.{arith}
 use Rattle.mscp_queue.proofs.Upcomings.{of_unit, told_at}
 use Rattle.mscp_queue.proofs.queue.Queue.upcoming.Goals as goal
 
-pub upcoming_at-requires : goal.upcoming_at-requires
-upcoming_at-requires g c = search arith
-
-pub returns-in_err-place-clause-value : goal.returns-in_err-place-clause-value
-returns-in_err-place-clause-value g c = search arith
-
 pub returns-clause-value : goal.returns-clause-value
 returns-clause-value g c = search (arith, told_at)
 
@@ -17,7 +11,6 @@ returns-clause-unit g c = search (
   of_unit,
   c.self.invariant.ready.held.each,
   c.self.invariant.ready.waits,
-  c.args.self.now.drives,
   c.upcoming_at.ensures,
   c.self.view_is,
 )

@@ -1,15 +1,9 @@
-use Rattle.mscp_queue.proofs.Common.{◌-◌, ◌≢◌, arith, range_at}
+use Rattle.mscp_queue.proofs.Common.{arith}
 use Rattle.mscp_queue.proofs.Ranging.{found_below, here_from, none_below, none_in}
 use Rattle.mscp_queue.proofs.ranges.Ranges.below.Goals as goal
 
 pub loop-down-preserved : goal.loop-down-preserved
-loop-down-preserved c = λ k x a.
-    let r = range_at c.args.self.now k in
-    let l = c.loop-down.invariant k x a in
-    let d : r ≢ c.args.range - 1 - c.loop-down.down = λ e. none_in c.here-there.result k c.if-there-ne0.false
-    (here_from c.args.self.now c.args.mask (c.args.range - 1 - c.loop-down.down) c.here-there.result k
-    c.here-there.ensures x e) in
-    omega (arith, l, d)
+loop-down-preserved c = search (arith, none_in, here_from)
 
 pub returns-then-there-ne0 : goal.returns-then-there-ne0
 returns-then-there-ne0 c =

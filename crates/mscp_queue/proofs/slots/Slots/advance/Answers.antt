@@ -1,4 +1,4 @@
-use Rattle.mscp_queue.proofs.Basics.{◌∙◌, ap, arith, get_or_default, Record, advanced, no_record, item_at, item_set, kept_advanced, number_of}
+use Rattle.mscp_queue.proofs.Basics.{arith, get_or_default, item_at, item_set, kept_advanced, number_of}
 use Rattle.mscp_queue.proofs.Bucketed.{buckets_kept}
 use Rattle.mscp_queue.proofs.slots.Slots.advance.Goals as goal
 
@@ -22,11 +22,7 @@ invariant_of-self c =
     record {
       ranges_64 = c.self.invariant.ranges_64;
       ranged = c.self.invariant.ranged;
-      bucketed = buckets_kept c.self.inside.records c.self.inside.order.items c.self.inside.buckets.slots
-          c.from-slot.result _ c.self.invariant.bucketed n.low c.self.invariant.kept.records_64
-          (ap (λ (r : Record). r.command.reference) (c.advance.ensures
-          ∙ ap advanced (get_or_default c.self.inside.records c.from-slot.result c.index-self-slot.result no_record
-          (omega (arith, n.low, c.self.invariant.kept.records_64)))));
+      bucketed = grind (arith, buckets_kept, get_or_default);
       kept = kept_advanced c.index-self-slot.result c.self.invariant.kept n.low c.advance.ensures;
     }
 

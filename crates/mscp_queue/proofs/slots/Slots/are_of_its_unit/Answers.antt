@@ -6,11 +6,8 @@ pub bounds-self-inside-slot : goal.bounds-self-inside-slot
 bounds-self-inside-slot c = (number_of c.self.inside.dues
     c.args.self.now c.self.invariant.kept c.self.view_is c.requires c.from-slot.ensures c.deref.ensures.0).low
 
-pub is_last_unit-requires-clause-slot : goal.is_last_unit-requires-clause-slot
-is_last_unit-requires-clause-slot c = search (arith, number_of)
-
-pub is_last_unit-requires-clause-drive : goal.is_last_unit-requires-clause-drive
-is_last_unit-requires-clause-drive c = search (arith, number_of)
+pub is_last_unit-requires : goal.is_last_unit-requires
+is_last_unit-requires c = search (arith, number_of)
 
 pub returns : goal.returns
 returns c = search (arith, number_of, of_unit_behind)

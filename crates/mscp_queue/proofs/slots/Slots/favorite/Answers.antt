@@ -14,8 +14,7 @@ returns-in_default c =
     let now = c.args.self.now in
     let long = long_shown s.records s.targets s.dues s.order.items now c.self.view_is in
     best_none c.none.result c.none.ensures (λ p o.
-    let inside : p < length s.order.items =
-    (let l = o.inside in omega (arith, l, long, length-map now kind_of)) in
+    let inside : p < length s.order.items = grind (arith, length-map) in
     let lows = lows s.dues now c.self.invariant.kept c.self.view_is in
     ⊎_elim (λ on. let off = c.in_default.ensures.none (get_or s.order.items p 0) (lows p inside) in
     omega (arith, on, off))
@@ -60,10 +59,7 @@ cost-cost-requires-clause-target c = λ e.
 
 pub starts_before-requires-clause-other : goal.starts_before-requires-clause-other
 starts_before-requires-clause-other c =
-    let s = c.self.inside in
-    let h = c.loop-slot.invariant in
-    subst (λ n. n < 64) (sym h.number) (lows s.dues c.args.self.now c.self.invariant.kept c.self.view_is h.place
-    h.inside)
+    search (arith, lows, c.self.inside, c.loop-slot.invariant, c.self.invariant.kept, c.self.view_is)
 
 pub loop-slot-smaller-then-starts_before : goal.loop-slot-smaller-then-starts_before
 loop-slot-smaller-then-starts_before c = less_left c.loop-slot.left _ c.in-Some-lowest_set.slot
@@ -124,11 +120,7 @@ loop-slot-preserved c =
     (sym c.starts_before.ensures ∙ c.if-starts_before.false))
 
 pub place-requires : goal.place-requires
-place-requires c =
-    let s = c.self.inside in
-    let h = c.loop-slot.invariant in
-    subst (λ n. n < 64) (sym h.number) (lows s.dues c.args.self.now c.self.invariant.kept c.self.view_is h.place
-    h.inside)
+place-requires c = search (arith, lows)
 
 pub of-requires-clause-cost : goal.of-requires-clause-cost
 of-requires-clause-cost c = (let small = c.loop-slot.invariant.small in omega (arith, small))

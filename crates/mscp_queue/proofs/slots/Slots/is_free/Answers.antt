@@ -11,11 +11,8 @@ listed c = search (arith, number_of)
 pub bounds-self-inside-slot-2 : goal.bounds-self-inside-slot-2
 bounds-self-inside-slot-2 c = search (arith, number_of)
 
-pub is_free-requires-clause-slot : goal.is_free-requires-clause-slot
-is_free-requires-clause-slot c = search (arith, number_of)
-
-pub is_free-requires-clause-drive : goal.is_free-requires-clause-drive
-is_free-requires-clause-drive c = search (arith, number_of)
+pub is_free-requires : goal.is_free-requires
+is_free-requires c = search (arith, number_of)
 
 pub returns : goal.returns
 returns c = search (arith, number_of, get_or_default, unfenced_at)

@@ -3,8 +3,7 @@ use Rattle.mscp_queue.proofs.Fallen.{enough_all, lowered_all}
 use Rattle.mscp_queue.proofs.slots.Slots.lower_all.Goals as goal
 
 pub lower-requires : goal.lower-requires
-lower-requires c = enough_all c.self.inside.dues c.args.self.now c.args.by c.self.invariant.kept c.self.view_is
-    c.requires
+lower-requires c = search (arith, enough_all)
 
 pub returns-then-by-gt0 : goal.returns-then-by-gt0
 returns-then-by-gt0 c = search (arith, lowered_all)

@@ -1,4 +1,4 @@
-use Rattle.mscp_queue.proofs.Basics.{◌≡◌, ◌<◌, true, length, ap, sym, subst, ◌∙◌, arith, get_or_default, item_at, long_shown, no_record, slot_at}
+use Rattle.mscp_queue.proofs.Basics.{◌≡◌, ◌<◌, true, length, ap, sym, subst, ◌∙◌, arith, get_or_default, item_at, long_shown, slot_at}
 use Rattle.mscp_queue.proofs.Common.{has_name}
 use Rattle.mscp_queue.proofs.Bucketed.{none_named, number_in, searches_on}
 use Rattle.mscp_queue.proofs.Counted.{place_counted}
@@ -22,13 +22,7 @@ returns-then-has_name-clause-some c =
     )
 
 pub loop-slot-preserved : goal.loop-slot-preserved
-loop-slot-preserved c =
-    let s = c.self.inside in
-    let slot = c.in-Some.ensures.some in
-    searches_on c.in-Some.slot c.with_bit-left.result c.loop-slot.invariant slot.0 c.with_bit-left.ensures.set
-    (ap (has_name c.args.name) (sym (get_or_default s.records c.in-Some.slot c.index-self-slot.result no_record
-    (omega (arith, slot.0, c.self.invariant.kept.records_64)))) ∙ (sym c.has_name.ensures ∙ c.if-has_name.false))
+loop-slot-preserved c = search (arith, searches_on, get_or_default)
 
 pub returns-clause-none : goal.returns-clause-none
-returns-clause-none c = none_named c.self.inside.dues c.args.self.now c.self.invariant c.self.view_is c.args.name
-    c.loop-slot.left c.loop-slot.invariant c.in_default.ensures.none
+returns-clause-none c = search (arith, none_named)

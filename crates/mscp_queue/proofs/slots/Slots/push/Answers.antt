@@ -1,4 +1,4 @@
-use Rattle.mscp_queue.proofs.Basics.{length, length-set, ap, Command, ◌∙◌, arith, some_free, kept_pushed, long_shown, shown_pushed}
+use Rattle.mscp_queue.proofs.Basics.{length-set, ap, Command, arith, some_free, kept_pushed, long_shown, shown_pushed}
 use Rattle.mscp_queue.proofs.Bucketed.{buckets_pushed}
 use Rattle.mscp_queue.proofs.Shown.{lowest_untaken, untaken}
 use Rattle.mscp_queue.proofs.Ranging.{ranges_pushed}
@@ -17,20 +17,12 @@ invariant_of-self c = record {
       (untaken c.self.invariant.kept c.lowest_free-slot.ensures) c.lowest_free-slot.ensures.low
       c.self.invariant.kept.records_64 (ap (λ (k : Command). k.reference) c.command.ensures) c.come.ensures
       c.push.ensures.items;
-  ranges_64 = ap length c.set.ensures ∙ (length-set c.self.inside.ranges c.lowest_free-slot.result
-      c.args.new.target.range
-      ∙ c.self.invariant.ranges_64);
-  ranged = ranges_pushed c.self.inside.targets c.self.inside.ranges c.set.new.self c.lowest_free-slot.result
-      c.args.new.target c.self.invariant.kept.targets_64 c.self.invariant.ranges_64 c.lowest_free-slot.ensures.low
-      c.self.invariant.ranged c.set.ensures;
+  ranges_64 = grind (arith, length-set);
+  ranged = grind (arith, ranges_pushed);
   kept = kept_pushed c.args.new.item c.args.new.target
       c.self.invariant.kept c.lowest_free-slot.ensures c.requires.drive c.from.ensures c.is_sequential.ensures
       c.come-2.ensures c.push.ensures.items;
 }
 
-pub returns-clause-lowest : goal.returns-clause-lowest
-returns-clause-lowest c = lowest_untaken
-    c.self.inside.dues c.args.self.now c.self.invariant.kept c.lowest_free-slot.ensures c.self.view_is
-
-pub returns-clause-after : goal.returns-clause-after
-returns-clause-after c = search (arith, shown_pushed)
+pub returns : goal.returns
+returns c = search (arith, lowest_untaken, shown_pushed)

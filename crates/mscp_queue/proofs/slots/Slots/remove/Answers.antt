@@ -20,12 +20,8 @@ pub bounds-self-inside-slot-2 : goal.bounds-self-inside-slot-2
 bounds-self-inside-slot-2 c = (number_of c.self.inside.dues
     c.args.self.now c.self.invariant.kept c.self.view_is c.requires c.from-slot.ensures c.deref.ensures.0).low
 
-pub leave-requires-2-clause-slot : goal.leave-requires-2-clause-slot
-leave-requires-2-clause-slot c = (number_of c.self.inside.dues
-    c.args.self.now c.self.invariant.kept c.self.view_is c.requires c.from-slot.ensures c.deref.ensures.0).low
-
-pub leave-requires-2-clause-drive : goal.leave-requires-2-clause-drive
-leave-requires-2-clause-drive c = search (arith, number_of)
+pub leave-requires-2 : goal.leave-requires-2
+leave-requires-2 c = search (arith, number_of)
 
 pub invariant_of-self : goal.invariant_of-self
 invariant_of-self c =
