@@ -220,7 +220,8 @@ module _ {credits : ℕ} {h : History} {j : ℕ} {e : End} {p : ℕ} (x : Hears 
       (λ k. record (watch_at h j q) { is_outstanding = stands k })
 
   pub account_received : account_at credits h (j + 1) ≡ received (account_at credits h j) e
-  account_received = grind (arith, apart_with, without_kept, filter_map_of, outs_after, watch_left, answered_is, told_when)
+  account_received =
+      grind (arith, apart_with, without_kept, filter_map_of, outs_after, watch_left, answered_is, told_when)
 
   says_told : (told : ℕ × ℕ)
       → answer_in h e p ≡ Some told → (o : Option ℕ) → asked_for h p ≡ o → (b : Bool) → found_stands h j o ≡ b

@@ -20,7 +20,8 @@ second_none (x ∷ xs) ys e = absurd (omega (arith, ap length e))
 pub all_told : (c : Settings) (marks : List Mark) (h : Holdings Wanted) (due : List ℕ) (owed : List Event)
     (s : Stood c marks h due owed []) (others : List Trace) (more : List Mark)
     → IsLegal c (whole others) → marks ++ more ≡ transcript others → lead more ≡ [] → due ≡ []
-all_told c marks h due owed s others more l e none = search (arith, goes c marks h due owed [] s others more l e, first_none, lead_told)
+all_told c marks h due owed s others more l e none =
+    search (arith, goes c marks h due owed [] s others more l e, first_none, lead_told)
 
 pub no_step : (c : Settings) (marks : List Mark) (h : Holdings Wanted) (due : List ℕ) (k : Block)
     (owed : List Event) (s : Stood c marks h due (events.Step k ∷ owed) []) (others : List Trace) (more : List Mark)

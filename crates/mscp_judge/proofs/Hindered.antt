@@ -17,7 +17,8 @@ is_own c t h n k s = search (arith, served_at t n h.waiting k.agrees.follows.wai
 pub is_another : (c : Settings) (t : Trace) (h : Holdings Wanted) (wanted : Option Named) (served : Named)
     → Follow c t h → IsServing (name_of served) h.waiting → wanted ≢ Some served
     → IsStepRule c t (wanted_name wanted) (rules.InService served)
-is_another c t h wanted served k s differ = search (arith, served_at t (name_of served) h.waiting k.agrees.follows.waits s)
+is_another c t h wanted served k s differ =
+    search (arith, served_at t (name_of served) h.waiting k.agrees.follows.waits s)
 
 -- ---- no command of the name
 

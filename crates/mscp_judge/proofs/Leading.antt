@@ -28,7 +28,8 @@ turn_of c t h h' name event entry v k r =
 pub follow_more : (c : Settings) (t : Trace) (h h' : Holdings Wanted) (name : Option Named) (event : Event)
     (entry : Entry) → IsValid c → Follow c t h → Answers (IsNamed name) (with_picker h name) event entry h'
     → Follow c (t ++ (event, entry) ∷ []) h'
-follow_more c t h h' name event entry v k r = search (arith, turn_of c t h h' name event entry v k r, owner_kept, legal_more)
+follow_more c t h h' name event entry v k r =
+    search (arith, turn_of c t h h' name event entry v k r, owner_kept, legal_more)
 
 follow_on : (c : Settings) (t : Trace) (h h' : Holdings Wanted) (ms : Trace) → IsValid c → Follow c t h → Led h ms h'
     → Follow c (t ++ ms) h'

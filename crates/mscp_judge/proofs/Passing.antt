@@ -62,7 +62,9 @@ answers_told : (before : ℕ) (log : Log) (all : List (List ℕ)) → AllByRecur
     → before + length all ≤ 1000000 → after_lines before log all ≡ Ok (telling log (flat_map line all))
 unfolding after_lines
 answers_told before log [] each few = ap (λ ms. Ok (record log { marks = ms })) (sym (append-nil log.marks))
-answers_told before log (bytes ∷ all) each few = search (arith, answers_told (before + 1) (telling log (line bytes)) all each.1 (omega (arith, few)), tells, append_assoc, told_append)
+answers_told before log (bytes ∷ all) each few = search (arith,
+    answers_told (before + 1) (telling log (line bytes)) all each.1 (omega (arith, few)), tells, append_assoc,
+        told_append)
 
 answers_ahead : (all : List (List ℕ)) (left : List ℕ) → AllByRecursion IsAnswerLine all
     → lines (flat_map line all ++ left) ≡ all ++ lines left
@@ -88,7 +90,10 @@ passed_answers c log before n count rest left bytes judge a is number few stands
 pub passed_idle : {A : Type 0} (c : Settings) (log : Log) (before n : ℕ) (rest left : List ℕ) (judge : Judge A)
     → rest ≡ codes "idle\n" ++ left → n ≡ before + 1 → before < 1000000 → Stands c (telling log (codes "idle\n")) judge
     → Passed c before log rest n left judge
-passed_idle c log before n rest left judge is number few stands = search (arith, passed_answers c log before n 1 rest left (codes "idle\n") judge (record { all = codes "idle" ∷ []; whole = refl; many = refl; each = (idle_answers, tt) }) is number (omega (arith, number, few)) stands)
+passed_idle c log before n rest left judge is number few stands = search (arith,
+    passed_answers c log before n 1 rest left (codes "idle\n") judge
+        (record { all = codes "idle" ∷ []; whole = refl; many = refl; each = (idle_answers,
+            tt) }) is number (omega (arith, number, few)) stands)
 
 -- what was due is told, if it stands next; or else it stays
 pub passed_cut : {A : Type 0} (c : Settings) (log : Log) (before n count : ℕ) (rest left : List ℕ) (old new : Judge A)
@@ -96,6 +101,7 @@ pub passed_cut : {A : Type 0} (c : Settings) (log : Log) (before n count : ℕ) 
     → (is ≡ true → n ≤ 1000000) → (is ≡ true → due new ≡ []) → new ≡ record old { told = new.told }
     → (is ≡ false → left ≡ rest) → (is ≡ false → n ≡ before) → (is ≡ false → new ≡ old) → Stands c log old
     → Passed c before log rest n left new
-passed_cut c log before n count rest left old new true a cut number most told frame same kept untold s = search (arith, passed_answers, told_all)
+passed_cut c log before n count rest left old new true a cut number most told frame same kept untold s =
+    search (arith, passed_answers, told_all)
 passed_cut c log before n count rest left old new false a cut number most told frame same kept untold s =
     passed_none c log before rest n left new (kept refl) (same refl) (subst (Stands c log) (sym (untold refl)) s)

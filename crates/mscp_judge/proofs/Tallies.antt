@@ -39,7 +39,8 @@ queued_figure : (c : Settings) (t : Trace) (h : Holdings Wanted) (event : Event)
     → IsRight c t event entry → h.settings ≡ c
     → h.waiting ≡ map (held_of (t ++ (event, entry) ∷ [])) (waiting (t ++ (event, entry) ∷ [])) → queues entry ≡ true
     → figure_queued h entry ≡ figure_of c (t ++ (event, entry) ∷ []) (name (t ++ (event, entry) ∷ []) (length t))
-queued_figure c t h event entry h5 h6 h7 h8 = grind (arith, queued_right, name_last, figure_of_held, false≢true, arrives, taken_when)
+queued_figure c t h event entry h5 h6 h7 h8 =
+    grind (arith, queued_right, name_last, figure_of_held, false≢true, arrives, taken_when)
 
 -- of no other is one told
 none_queued : (h : Holdings Wanted) (entry : Entry) → figure_queued h entry ≢ 0 → queues entry ≡ true

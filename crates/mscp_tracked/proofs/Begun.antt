@@ -64,7 +64,8 @@ abort_stays : (ds : List Drive) (rs : List Record) (name : Name) (u : Upcoming) 
     (same : Bool) → same_name name (name_on via other) ≡ same → upcoming_begun ds rs (Some name) ≡ Some u
     → Stays u (goes_by u via (option_map (λ r. r.command.reference) (find (has_name (name_on via other)) rs)))
     ds (without (name_on via other) rs) (if same then None else Some name)
-abort_stays ds rs name u via other o e t = grind (arith, named_so, same_is, goes_own, goes_other, find_left, not_gone, found_is)
+abort_stays ds rs name u via other o e t =
+    grind (arith, named_so, same_is, goes_own, goes_other, find_left, not_gone, found_is)
 
 -- a command that comes behind
 -- what became of a message lets go what is begun

@@ -171,7 +171,8 @@ same_ends f via reference cookie (e ∷ es) h =
 other_ends : (f : Name → ℕ) (via other : Connection) (reference cookie : ℕ) (es : List End) → via ≢ other
     → own_ends (sent_with f (name_on via reference) cookie) other es ≡ own_ends f other es
 other_ends f via other reference cookie [] d = refl
-other_ends f via other reference cookie (e ∷ es) d = grind (arith, other_ends f via other reference cookie es d, other_sent, is_differ)
+other_ends f via other reference cookie (e ∷ es) d =
+    grind (arith, other_ends f via other reference cookie es d, other_sent, is_differ)
 
 -- a number that isn't outstanding
 pub unheld : (balance : ℕ) (outstanding b : List ℕ) → refusal balance outstanding b ≡ None
@@ -182,7 +183,8 @@ unheld balance outstanding b h = grind arith
 pub still_own : {K : Type 0} (f : Name → ℕ) (h : Holdings K) (k : Cookies) (via : Connection) (reference cookie : ℕ)
     → holds (outstanding_of via h) reference ≡ false → AreOwn f h k
     → AreOwn (sent_with f (name_on via reference) cookie) h k
-still_own f h k w reference cookie free o = grind (arith, own_still, none_waits, same_ends, holds_either, other_ends, false≢true, or_parts)
+still_own f h k w reference cookie free o =
+    grind (arith, own_still, none_waits, same_ends, holds_either, other_ends, false≢true, or_parts)
 
 own_ended : {K : Type 0} (f : Name → ℕ) (h : Holdings K) (k : Cookies) (via : Connection) (e : End) (cookie : ℕ)
     → cookie ≡ f (name_on via e.reference) → AreOwn f h k → AreOwn f (with_end via h e) (ended via cookie k)

@@ -22,7 +22,8 @@ some_is x y e = ap (λ o. unwrap_or o x) e
 -- what stands at the place of the first that passes is found
 pub found_at : {X : Type 0} (p : X → Bool) (xs : List X) (k : ℕ) (d : X) → position p xs ≡ Some k
     → find p xs ≡ Some (get_or xs k d)
-found_at p xs k d h = grind (arith, true≢false, position_none, some_is, position_first, find_first, get_or_at, find_cases)
+found_at p xs k d h =
+    grind (arith, true≢false, position_none, some_is, position_first, find_first, get_or_at, find_cases)
 
 -- ---- a message
 -- one that isn't refused is a command

@@ -59,7 +59,8 @@ module _ {K : Type 0} (picks : List Choice → ℕ → Type 0) where
 
   past_call : (n : ℕ) (call : Call) (old new : Tracking K) → old.beginnings + 1 < 2 ^ 64
       → AnswersCall picks old call new → IsPast n old → IsPast n new
-  past_call n call old new few a o = grind (arith, count_call, message_unbegun, past_still, step_unbegun, same_ok, true≢false)
+  past_call n call old new few a o =
+      grind (arith, count_call, message_unbegun, past_still, step_unbegun, same_ok, true≢false)
 
   pub past_calls : (n : ℕ) (calls : List Call) (old new : Tracking K) → old.beginnings + length calls < 2 ^ 64
       → AnsweredCalls picks old calls new → IsPast n old → IsPast n new
@@ -170,7 +171,8 @@ module _ {K : Type 0} (picks : List Choice → ℕ → Type 0) where
       → Begins picks late (Some other) after → other.serial ≡ one.serial
       → Leaves one.upcoming one.serial (was_let_go one between) late
       → (other.upcoming ≡ one.upcoming) × (was_let_go one between ≡ false)
-  own_serial one other between late after few a e o = grind (arith, leaves_call, some_is, told_at, false≢true, count_call, true≢false)
+  own_serial one other between late after few a e o =
+      grind (arith, leaves_call, some_is, told_at, false≢true, count_call, true≢false)
 
   has_past : (n : ℕ) (t : Tracking K) → IsPast n t → has_serial n t ≡ false
   has_past n t o = grind (arith, ne_eqb)

@@ -19,7 +19,9 @@ quiet : {K : Type 0} (c : Settings) (picks : PicksThen) (calls : List Call)
     → IsLegal c (history calls) → service_in entry ≡ None → is_step event ≡ false → IsLeft h h' (history calls) entry
     → (h.begun ≡ None → h'.begun ≡ None) → Holds c picks calls h.begun → Turned c picks calls (Plain event entry) h'
 unfolding block_of
-quiet c picks calls event entry h h' turn legal e s left none holds = grind (arith, history_more, waits_below, legal_more, holds_on, command_before, done_kept, connection_before, is_waiting_before, is_online_kept)
+quiet c picks calls event entry h h' turn legal e s left none holds =
+    grind (arith, history_more, waits_below, legal_more, holds_on, command_before, done_kept, connection_before,
+        is_waiting_before, is_online_kept)
 
 -- what is begun after a message
 begun_unless : {K : Type 0} (via : Connection) (h : Holdings K)

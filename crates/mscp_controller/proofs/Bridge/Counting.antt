@@ -45,7 +45,8 @@ count_stepped {K} via picks k old (Report.Served connection reference unit lbn s
 -- the others keep their commands
 pub other_count : (via other : Connection) (n : ℕ) (ws : List Record) → same_connection via other ≡ false
     → length (waiting_on other (without (name_on via n) ws)) ≡ length (waiting_on other ws)
-other_count via other n ws d = grind (arith, other_side, filter_filter, filter_on, every_from, one_side, true≢false, and-false)
+other_count via other n ws d =
+    grind (arith, other_side, filter_filter, filter_on, every_from, one_side, true≢false, and-false)
 
 -- and its own connection one less
 pub own_count : (via : Connection) (n : ℕ) (ws : List Record) → length (without (name_on via n) ws) + 1 ≡ length ws

@@ -57,7 +57,8 @@ aborts_found {K} via a h told n front x back f m =
     ∙ front_kept via n front x back f.before f.passed (none_out via n back none)) in
     let found : find (has_name (name_on via n)) h.waiting ≡ Some x =
     search (arith, find_on via n h.waiting, find_first (has_name (name_on via n)) front x back f.before f.passed) in
-    let ends : Ends via h (aborting via h (orders.Abort n)) = grind (arith, map-append, of_more, command, cut, out, found) in
+    let ends : Ends via h (aborting via h (orders.Abort n)) =
+        grind (arith, map-append, of_more, command, cut, out, found) in
     search (arith, ends_match, ends)
 
 aborts_none : {K : Type 0} (via : Connection) (a : Account) (h : Holdings K) (told : Flight) (n : ℕ)

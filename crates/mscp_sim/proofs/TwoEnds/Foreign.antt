@@ -14,7 +14,8 @@ still_behind via other rs c d = search (arith, append-nil (waiting_on other rs),
 
 foreign_abort : {K : Type 0} (via other : Connection) (a : Account) (h : Holdings K) (told : Flight) (order : Order)
     → same_connection via other ≡ false → Matches other a h told → Matches other a (aborting via h order) told
-foreign_abort via other a h told order h6 h7 = grind (arith, stays, other_side, filter_filter, filter_on, every_from, one_side, of_other, true≢false, and-false)
+foreign_abort via other a h told order h6 h7 =
+    grind (arith, stays, other_side, filter_filter, filter_on, every_from, one_side, of_other, true≢false, and-false)
 
 foreign_unless : {K : Type 0} (via other : Connection) (a : Account) (h : Holdings K) (told : Flight) (c : Command)
     (o : Option SendFault) → same_connection via other ≡ false → Matches other a h told

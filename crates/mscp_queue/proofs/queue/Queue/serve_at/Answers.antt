@@ -99,15 +99,20 @@ returns-clause-served g c =
     let k = c.args.block.now in
     record {
       next = c.requires;
-      told = c.report.ensures ∙ ((λ i. Served (c.record.ensures i).connection (c.record.ensures i).command.reference (c.record.ensures i).command.unit
-          (planned g c i).lbn (is_unstarted (c.record.ensures i)) (planned g c i).seek (planned g c i).ended) ∙ ap (λ (l : Line g.row.K.Denot).
+      told = c.report.ensures
+          ∙ ((λ i. Served (c.record.ensures i).connection (c.record.ensures i).command.reference
+          (c.record.ensures i).command.unit (planned g c i).lbn (is_unstarted (c.record.ensures i))
+          (planned g c i).seek (planned g c i).ended)
+          ∙ ap (λ (l : Line g.row.K.Denot).
           report_of k (drive_at l.drives l.waiting place) (record_at l.waiting place)) c.self.view_is);
       left = (λ i. record {
         room = q.room;
         budget = c.serve.ensures.budget i;
         longest = q.longest;
-        waiting = (c.serve.ensures.waiting ∙ left_is k place rs (drive_at q.drives.items rs place) _ (made g c).ended) i;
-        drives = ((made g c).drives ∙ ap (λ w. replaced (record_at rs place).command.unit w q.drives.items) (made g c).after) i;
+        waiting = (c.serve.ensures.waiting
+            ∙ left_is k place rs (drive_at q.drives.items rs place) _ (made g c).ended) i;
+        drives = ((made g c).drives
+            ∙ ap (λ w. replaced (record_at rs place).command.unit w q.drives.items) (made g c).after) i;
         begun = None;
         picker = q.picker;
       }) ∙ ap (λ (l : Line g.row.K.Denot). served k l place) c.self.view_is;
