@@ -31,8 +31,7 @@ pub enum VolumeFault {
     Size,
 }
 
-/// A unit's volume, and what its host has made of it. The port alone knows whether a unit is online with its volume: to
-/// the controller it is online since its first ONLINE.
+/// A unit's volume, and what its host has made of it.
 #[derive(Clone, Copy, Default)]
 pub struct Volume {
     pub is_there: bool,
