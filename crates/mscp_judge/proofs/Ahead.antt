@@ -11,9 +11,12 @@ numeral_digits w n ok = grind (arith, and_parts, leb-true)
 served_words : (w more : List ℕ) (n : ℕ) → wide w ≡ Ok n → 0 < length w → list_all is_digit w ≡ true
     → name_in (words (codes "serve " ++ (w ++ 32 ∷ more))) ≡ numbered First (wide w)
 unfolding name_in served
-served_words w more n ok some digits = search (arith,
-    word_front (codes "serve") (32 ∷ (w ++ 32 ∷ more)) (omega arith) refl refl, after_space (w ++ 32 ∷ more),
-        word_front w (32 ∷ more) some (solid_digits w digits) refl)
+served_words w more n ok some digits = search (
+  arith,
+  word_front (codes "serve") (32 ∷ (w ++ 32 ∷ more)) (omega arith) refl refl,
+  after_space (w ++ 32 ∷ more),
+  word_front w (32 ∷ more) some (solid_digits w digits) refl,
+)
 
 pub names_ahead : (bytes w more : List ℕ) (n : ℕ) → bytes ≡ codes "serve " ++ (w ++ 32 ∷ more) → wide w ≡ Ok n
     → IsNamedAhead bytes (record { connection = First; reference = n })

@@ -49,8 +49,17 @@ short_line via word rest w apart printed short = search (arith, both_printed, an
 
 answer_line : (via : Connection) (word rest : List ℕ) → IsFirstWord word → IsApart rest → AllPrinted rest
     → length rest ≤ 150 → IsAnswerLine (connection_word via ++ (word ++ rest))
-answer_line via word rest w apart printed few = search (arith, short_line via word rest w apart printed (omega (arith,
-    length-append (connection_word via) (word ++ rest), length-append word rest, few_via via, w.few, few)))
+answer_line via word rest w apart printed few = search (
+  arith,
+  short_line via word rest w apart printed (omega (
+    arith,
+    length-append (connection_word via) (word ++ rest),
+    length-append word rest,
+    few_via via,
+    w.few,
+    few,
+  )),
+)
 
 -- one line, which begins with the word of the connection
 one_line : (via : Connection) (bytes : List ℕ) → IsAnswerLine (connection_word via ++ bytes)

@@ -25,9 +25,14 @@ pub asks_next : (c : Settings) (marks : List Mark) (h : Holdings Wanted) (es : L
     (s : Stood c marks h [] [] []) (others : List Trace) (more : List Mark) → IsLegal c (whole others)
     → (marks ++ Asked es ∷ []) ++ more ≡ transcript others
     → (p : Trace) × (rest : List Trace) × (events_in p ≡ es) × (others ≡ (s.parts ++ s.now ∷ []) ++ p ∷ rest)
-asks_next c marks h es s others more l e = search (arith,
-    goes c marks h [] [] [] s others (Asked es ∷ more) l (sym (append_assoc marks (Asked es ∷ []) more) ∙ e),
-        append-nil s.now, none_asked, asked_parts, parts_more)
+asks_next c marks h es s others more l e = search (
+  arith,
+  goes c marks h [] [] [] s others (Asked es ∷ more) l (sym (append_assoc marks (Asked es ∷ []) more) ∙ e),
+  append-nil s.now,
+  none_asked,
+  asked_parts,
+  parts_more,
+)
 
 pub said_asked : (marks : List Mark) (parts : List Trace) (now : Trace) (es : List Event)
     → marks ++ told [] ≡ transcript parts ++ Asked (events_in now ++ []) ∷ told (answers_in now)

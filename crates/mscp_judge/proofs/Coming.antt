@@ -170,8 +170,10 @@ pub told_so : {A : Type 0} (c : Settings) (log : Log) (line : List ℕ) (old new
     → (begins : BeginsWith (due old) line) → new.controller ≡ old.controller → new.reporter ≡ old.reporter
     → new.peaks ≡ old.peaks → new.owed ≡ old.owed → new.block ≡ old.block → due new ≡ begins.0
     → Stands c (telling log (line ++ 10 ∷ [])) new
-told_so {A} c log line old new s begins h r p w b d = search (arith,
-    told_counted c (marked log) old.controller (due old) (owed old) line begins.0 (totals_of c old) s.counted begins.1)
+told_so {A} c log line old new s begins h r p w b d = search (
+  arith,
+  told_counted c (marked log) old.controller (due old) (owed old) line begins.0 (totals_of c old) s.counted begins.1,
+)
 
 -- what is due behind a line that was told
 pub left_due : (lines line rest : List ℕ) (start place : ℕ) → drop start lines ≡ line ++ 10 ∷ rest

@@ -62,9 +62,13 @@ answers_told : (before : ℕ) (log : Log) (all : List (List ℕ)) → AllByRecur
     → before + length all ≤ 1000000 → after_lines before log all ≡ Ok (telling log (flat_map line all))
 unfolding after_lines
 answers_told before log [] each few = ap (λ ms. Ok (record log { marks = ms })) (sym (append-nil log.marks))
-answers_told before log (bytes ∷ all) each few = search (arith,
-    answers_told (before + 1) (telling log (line bytes)) all each.1 (omega (arith, few)), tells, append_assoc,
-        told_append)
+answers_told before log (bytes ∷ all) each few = search (
+  arith,
+  answers_told (before + 1) (telling log (line bytes)) all each.1 (omega (arith, few)),
+  tells,
+  append_assoc,
+  told_append,
+)
 
 answers_ahead : (all : List (List ℕ)) (left : List ℕ) → AllByRecursion IsAnswerLine all
     → lines (flat_map line all ++ left) ≡ all ++ lines left
@@ -90,10 +94,19 @@ passed_answers c log before n count rest left bytes judge a is number few stands
 pub passed_idle : {A : Type 0} (c : Settings) (log : Log) (before n : ℕ) (rest left : List ℕ) (judge : Judge A)
     → rest ≡ codes "idle\n" ++ left → n ≡ before + 1 → before < 1000000 → Stands c (telling log (codes "idle\n")) judge
     → Passed c before log rest n left judge
-passed_idle c log before n rest left judge is number few stands = search (arith,
-    passed_answers c log before n 1 rest left (codes "idle\n") judge
-        (record { all = codes "idle" ∷ []; whole = refl; many = refl; each = (idle_answers,
-            tt) }) is number (omega (arith, number, few)) stands)
+passed_idle c log before n rest left judge is number few stands = search (
+  arith,
+  passed_answers c log before n 1 rest left (codes "idle\n") judge
+      (record {
+        all = codes "idle" ∷ [];
+        whole = refl;
+        many = refl;
+        each = (
+          idle_answers,
+          tt,
+        );
+      }) is number (omega (arith, number, few)) stands,
+)
 
 -- what was due is told, if it stands next; or else it stays
 pub passed_cut : {A : Type 0} (c : Settings) (log : Log) (before n count : ℕ) (rest left : List ℕ) (old new : Judge A)

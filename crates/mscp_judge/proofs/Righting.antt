@@ -223,9 +223,12 @@ pub open_step : {A : Type 0} (c : Settings) (log : Log) (wanted : Option Named) 
     → IsOpen c log wanted old → due old ≡ [] → 0 < old.owed → Came None old new (events.Step old.block)
     → new.owed ≡ old.owed - 1 → new.block ≡ old.block → AreAnswers (due new) 1 → HasShortLine (due new)
     → IsFirstLine (due new) right → IsRightNext c log wanted right
-open_step c log wanted old new right (held, inl s) none some came w b a short f = search (arith,
-    next_stepped c log None new right (right_step c log None old new held none some came w b)
-        (has_stepped c log None old new s.stands none some came a short) f, owed_some)
+open_step c log wanted old new right (held, inl s) none some came w b a short f = search (
+  arith,
+  next_stepped c log None new right (right_step c log None old new held none some came w b)
+      (has_stepped c log None old new s.stands none some came a short) f,
+  owed_some,
+)
 open_step c log wanted old new right (held, inr s) none some came w b a short f = search (arith, stepped_due)
 
 -- a judge that answered a step for a line is open

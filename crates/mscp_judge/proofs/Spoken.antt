@@ -100,5 +100,11 @@ says_front Second n more h =
 pub line_says : (line X Y : List ℕ) (report : Report) → line ++ 10 ∷ X ≡ step_line report ++ Y
     → Says (name_in (words line)) report
 line_says line X Y Idle e = tt
-line_says line X Y (Served via n unit lbn started seek ended) e = search (arith, served_words n unit lbn seek ended,
-    append_assoc (head via n) (tail unit lbn seek ended) Y, front_of, head_fed, says_front)
+line_says line X Y (Served via n unit lbn started seek ended) e = search (
+  arith,
+  served_words n unit lbn seek ended,
+  append_assoc (head via n) (tail unit lbn seek ended) Y,
+  front_of,
+  head_fed,
+  says_front,
+)

@@ -29,8 +29,24 @@ pub record Last (calls : List Call) (call : Call) (up : Upcoming) (y : ℕ) : Ty
 pub either : (X : Type 0) (calls : List Call) (call : Call) (up : Upcoming) (y j : ℕ) → (IsBegunSince calls up y j
     → steps call ≡ false → X) → (Last calls call up y → X) → IsBegunSince (calls ++ call ∷ []) up y j → X
 either o calls call up y j before last b =
-    grind (arith, length-append, front_same, drop-append-le, list_any-append, shorter, history_more, waits_below,
-        take_at, call_last, get_or_append_left, append-nil, and_parts, is_waiting_before, length_push, append_assoc)
+    grind (
+      arith,
+      length-append,
+      front_same,
+      drop-append-le,
+      list_any-append,
+      shorter,
+      history_more,
+      waits_below,
+      take_at,
+      call_last,
+      get_or_append_left,
+      append-nil,
+      and_parts,
+      is_waiting_before,
+      length_push,
+      append_assoc,
+    )
 
 -- what was begun is begun after a call that is no step, where it still waits
 pub begun_more : (calls : List Call) (call : Call) (up : Upcoming) (y j : ℕ) → IsBegunSince calls up y j
@@ -133,8 +149,18 @@ module _ (c : Settings) (picks : PicksThen) (calls : List Call) (n : Name) (up :
       let j = length calls in
       let same = begin_same calls (Some up) in
       let front : take j calls' ≡ calls = take_at calls (call ∷ []) j refl in
-      let is : IsBegunSince calls' up y j = grind (arith, length-append, call_last, steps, drop_all, call, calls, j,
-          same, front) in
+      let is : IsBegunSince calls' up y j = grind (
+        arith,
+        length-append,
+        call_last,
+        steps,
+        drop_all,
+        call,
+        calls,
+        j,
+        same,
+        front,
+      ) in
       let all : Begun c picks calls' n up y j = record {
         is = is;
         now = e ∙ ap (λ u. foretold u y) (sym same);

@@ -20,8 +20,18 @@ quiet : {K : Type 0} (c : Settings) (picks : PicksThen) (calls : List Call)
     → (h.begun ≡ None → h'.begun ≡ None) → Holds c picks calls h.begun → Turned c picks calls (Plain event entry) h'
 unfolding block_of
 quiet c picks calls event entry h h' turn legal e s left none holds =
-    grind (arith, history_more, waits_below, legal_more, holds_on, command_before, done_kept, connection_before,
-        is_waiting_before, is_online_kept)
+    grind (
+      arith,
+      history_more,
+      waits_below,
+      legal_more,
+      holds_on,
+      command_before,
+      done_kept,
+      connection_before,
+      is_waiting_before,
+      is_online_kept,
+    )
 
 -- what is begun after a message
 begun_unless : {K : Type 0} (via : Connection) (h : Holdings K)

@@ -25,8 +25,19 @@ pub next_held : (c : Settings) (picks : List Choice → ℕ → Type 0) (t : Tra
     (place : ℕ) → Driven c t ds → IsNext picks c.budget ds (map (held_of t) (waiting t)) begun place
     → Next c t place × Chosen c picks t begun place
 next_held c picks t ds begun place d n =
-    grind (arith, length-map, record_held, idle_held, startable_held, eqb-false, lt-ltb, same_is, startable_places,
-        get_or-map, view_held)
+    grind (
+      arith,
+      length-map,
+      record_held,
+      idle_held,
+      startable_held,
+      eqb-false,
+      lt-ltb,
+      same_is,
+      startable_places,
+      get_or-map,
+      view_held,
+    )
 
 -- what is read of the record at a place: it is that of its command, and its drive that of its unit
 pub record Reads (c : Settings) (t : Trace) (ds : List Drive) (ws : List Record) (place : ℕ) : Type 0 where

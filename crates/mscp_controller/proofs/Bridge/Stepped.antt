@@ -178,9 +178,19 @@ turns_at {K} picks h h' t k report place v a s u =
     let right : IsRight c t m.0 m.1 = (y, served_at c t k place n) in
     let known = known_more c v.some_blocks t m right f.known in
     let waits : h'.waiting ≡ map (held_of t') (waiting t') =
-        grind (arith, waiting_served, c, f, n, t, apart, idle, at) in
-    let ends : (via : Connection) → of via h'.untaken ≡ untaken c via t' = grind (arith, of_after, end_held,
-        untaken_more, c, f, y, m, t, told) in
+    grind (arith, waiting_served, c, f, n, t, apart, idle, at) in
+    let ends : (via : Connection) → of via h'.untaken ≡ untaken c via t' = grind (
+      arith,
+      of_after,
+      end_held,
+      untaken_more,
+      c,
+      f,
+      y,
+      m,
+      t,
+      told,
+    ) in
     let drives : h'.drives ≡ replaced (unit t y) (drive_after k (drive_by c t (unit t y)) (held_of t y)) h.drives = ap
     (λ (l : Line K). l.drives) s.left ∙ (λ i. replaced (own i).command.unit (drive_after k (at i) (own i)) h.drives) in
     let driven = driven_served c t m k y (take place W) (drop (place + 1) W) h.drives v.unit_list st right a.driven in

@@ -17,8 +17,19 @@ pub collect_more : {X : Type 0} (seen : Trace → Moment → List X) (t : Trace)
     → collect seen (t ++ m ∷ []) ≡ collect seen t ++ seen t m
 unfolding collect
 collect_more seen t m =
-    grind (arith, range_below, take_at, moment_last, positions_more, append-nil, flat_on, every_weaker,
-        take-append-le, moment_before, flat_map-append)
+    grind (
+      arith,
+      range_below,
+      take_at,
+      moment_last,
+      positions_more,
+      append-nil,
+      flat_on,
+      every_weaker,
+      take-append-le,
+      moment_before,
+      flat_map-append,
+    )
 
 pub last_or-append : {X : Type 0} (xs ys : List X) (d : X) → last_or (xs ++ ys) d ≡ last_or ys (last_or xs d)
 last_or-append [] ys d = refl
@@ -86,8 +97,18 @@ done_last t m = ap (count_by (λ (n : Moment). serves_in (name (t ++ m ∷ []) (
 -- How often a command was passed after one more moment.
 pub passed_more : (t : Trace) (m : Moment) (x : ℕ) → passed (t ++ m ∷ []) x ≡ passed t x + passed_at t m x
 unfolding passed
-passed_more t m x = grind (arith, range_below, take_at, moment_last, positions_more, sum_on, every_weaker,
-    take-append-le, moment_before, sum_by_push)
+passed_more t m x = grind (
+  arith,
+  range_below,
+  take_at,
+  moment_last,
+  positions_more,
+  sum_on,
+  every_weaker,
+  take-append-le,
+  moment_before,
+  sum_by_push,
+)
 
 -- ---- ends
 -- The ends after one more moment: those before, and those that it makes.

@@ -72,8 +72,20 @@ changes t m s y front back v =
     → done (t ++ m ∷ []) x ≡ done t x = λ x h. done_other t m s y x v.is v.same h.1 h.0 in
     record {
       waits =
-          grind (arith, waiting_more, queues_served, append-nil, filter-append, filter_all, every_weaker, kept_own,
-              cond_not, a, keep, other);
+          grind (
+            arith,
+            waiting_more,
+            queues_served,
+            append-nil,
+            filter-append,
+            filter_all,
+            every_weaker,
+            kept_own,
+            cond_not,
+            a,
+            keep,
+            other,
+          );
       front_done = every_weaker (λ x. (name t x ≢ name t y) × (x < length t)) (λ x. done (t ++ m ∷ []) x ≡ done t x)
           still front (every_both (λ x. name t x ≢ name t y) (λ x. x < length t) front a.before below.0);
       own_done = done_own t m s y v.is v.same below.1.0;

@@ -40,7 +40,7 @@ module _ (c : Settings) (t : Trace) (m : Moment) (h : Leaves t m) (d : done (t +
       let same = every_parts (λ z. record_of t' z ≡ record_of t z) A (x ∷ B)
       (subst (λ l. AllByRecursion (λ z. record_of t' z ≡ record_of t z) l) q h) in
       let e' : waiting t' ≡ filter keep A ++ x ∷ (filter keep B ++ new) =
-          grind (arith, waiting_more, filter-append, append_assoc, t, keep, new) in
+      grind (arith, waiting_more, filter-append, append_assoc, t, keep, new) in
       let S = sum_by (left t) A + working t B + (c.budget - passed t x) + left t x in
       let S' =
       sum_by (left t') (filter keep A) + working t' (filter keep B ++ new) + (c.budget - passed t' x) + left t' x in

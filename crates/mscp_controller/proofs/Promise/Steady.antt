@@ -116,8 +116,21 @@ stepped c t m s k y front back r h st =
     let idle = idle_others c t y front back w h.single st.served.next in
     let own : (b : Bool) → is_some s.ended ≡ b
     → Unfinished t' (cond b [] (y ∷ [])) = search (arith, weight_before t m y below.1.0, more_left) in
-    grind (arith, apart_more, every_append, unfinished_same, single_of, idle_same, single_own, t, ch, below, parts,
-        idle, own)
+    grind (
+      arith,
+      apart_more,
+      every_append,
+      unfinished_same,
+      single_of,
+      idle_same,
+      single_own,
+      t,
+      ch,
+      below,
+      parts,
+      idle,
+      own,
+    )
 
 -- Each right moment keeps it.
 pub steady_more : (c : Settings) (t : Trace) (m : Moment) → IsRight c t m.0 m.1 → Steady c t → Steady c (t ++ m ∷ [])

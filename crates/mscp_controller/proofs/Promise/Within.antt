@@ -62,8 +62,24 @@ within_more c t m r space f short w =
     let front : AllByRecursion New kept = every_kept New keep (waiting t) (stay (is_step m.0) refl) in
     let split : (b : Bool) → queues m.1 ≡ b → AllByRecursion New (waiting t') =
     λ b. elim b as (λ b. queues m.1 ≡ b → AllByRecursion New (waiting t')) [
-      | true ↦ λ e. grind (arith, waiting_more, room_for_one, two_free, queued_right, fewer, new_figure, done_last,
-          passed_last, every_append, steps_last, t, n, keep, kept, front)
+      | true ↦ λ e. grind (
+        arith,
+        waiting_more,
+        room_for_one,
+        two_free,
+        queued_right,
+        fewer,
+        new_figure,
+        done_last,
+        passed_last,
+        every_append,
+        steps_last,
+        t,
+        n,
+        keep,
+        kept,
+        front,
+      )
       | false ↦ λ e. grind (arith, waiting_more, append-nil, t, n, kept, front)
     ] in
     split (queues m.1) refl

@@ -58,7 +58,7 @@ aborts_found {K} via a h told n front x back f m =
     let found : find (has_name (name_on via n)) h.waiting ≡ Some x =
     search (arith, find_on via n h.waiting, find_first (has_name (name_on via n)) front x back f.before f.passed) in
     let ends : Ends via h (aborting via h (orders.Abort n)) =
-        grind (arith, map-append, of_more, command, cut, out, found) in
+    grind (arith, map-append, of_more, command, cut, out, found) in
     search (arith, ends_match, ends)
 
 aborts_none : {K : Type 0} (via : Connection) (a : Account) (h : Holdings K) (told : Flight) (n : ℕ)
