@@ -355,7 +355,7 @@ L1:;
     return 8ull;
 }
 
-/* mscp_c::mscp_balance, crates/mscp_c/src/seeing.rt:158 */
+/* mscp_c::mscp_balance, crates/mscp_c/src/seeing.rt:137 */
 static u64 export_mscp_balance(u64 v0, u32 v1)
 {
     u32 v3 = 0;
@@ -402,7 +402,7 @@ L1:;
     return v0;
 }
 
-/* mscp_queue::picker::SweepPicker::pick, crates/mscp_queue/src/picker.rt:116 */
+/* mscp_queue::picker::SweepPicker::pick, crates/mscp_queue/src/picker.rt:125 */
 APART u64 SweepPicker_pick(u64 v0)
 {
     ROOM(frame, 512);
@@ -584,7 +584,7 @@ L1:;
     return v1;
 }
 
-/* mscp_queue::start::show_each, crates/mscp_queue/src/start.rt:109 */
+/* mscp_queue::start::show_each, crates/mscp_queue/src/start.rt:114 */
 static void start_show_each(u64 v0, u64 v1, u64 v2, u64 v3)
 {
     ROOM(frame, 80);
@@ -741,170 +741,154 @@ L1:;
     return;
 }
 
-/* mscp_queue::start::best_place, crates/mscp_queue/src/start.rt:197 */
-static u64 start_best_place(u64 v0, u64 v1, u64 v2, u64 v3)
+/* mscp_queue::start::seek_favorite, crates/mscp_queue/src/start.rt:167 */
+static u64 start_seek_favorite(u64 v0, u64 v1, u64 v2, u64 v3)
 {
-    u32 v18 = 0, v19 = 0, v20 = 0, v22 = 0, v23 = 0;
-    u64 v4 = 0, v5 = 0, v6 = 0, v7 = 0, v8 = 0, v9 = 0, v10 = 0, v11 = 0, v12 = 0, v13 = 0, v14 = 0, v15 = 0, v16 = 0,
-        v17 = 0, v21 = 0, v24 = 0, v25 = 0, v26 = 0, v27 = 0;
-    if ((u32)(v2 == 0) == 0) goto L2;
-    return 64ull;
-L2:;
-    v4 = v0 + 4112ull;
-    v5 = v0 + 4128ull;
-    v6 = v0 + 2048ull;
-    v7 = v0 + 4120ull;
+    u32 v9 = 0, v10 = 0, v11 = 0, v13 = 0, v14 = 0;
+    u64 v4 = 0, v5 = 0, v6 = 0, v7 = 0, v8 = 0, v12 = 0, v15 = 0, v16 = 0, v17 = 0, v18 = 0, v19 = 0;
+    v4 = v1 + (v2 << 6);
+    v5 = l8_8(v0 + 3408ull);
+    v6 = v2 << 3;
+    v1 = l8_8((v0 + v6) + 3416ull);
+    v7 = v5 & v1;
+    v2 = ctz64(v7);
+    if (v2 > 63ull) goto L2;
     v8 = v0 + 3544ull;
-    v9 = v0 + 3416ull;
-    v10 = 0ull;
-    v11 = 0xFFFFFFFFFFFFFF40ull;
 L3:;
-    v12 = v10 << 3;
-    v13 = v3 + v12;
-    v14 = l8(v13);
-    if ((v14 & 255ull) != 255ull) goto L4;
-    v15 = v1 + (v10 << 6);
-    v16 = l8_8(v0 + 3408ull);
-    v12 = l8_8(v9 + v12);
-    v17 = v16 & v12;
-    v14 = ctz64(v17);
-    if (v14 > 63ull) goto L5;
-L6:;
-    v12 = ((l8_8(v8 + (v14 << 3))) | (1ull << (v14 & 63))) & v12;
-    v17 = v17 & (rotl64(0xFFFFFFFFFFFFFFFEull, (v14 & 63)));
-    v14 = ctz64(v17);
-    if (v14 < 64ull) goto L6;
+    v1 = ((l8_8(v8 + (v2 << 3))) | (1ull << (v2 & 63))) & v1;
+    v7 = v7 & (rotl64(0xFFFFFFFFFFFFFFFEull, (v2 & 63)));
+    v2 = ctz64(v7);
+    if (v2 < 64ull) goto L3;
+L2:;
+    v9 = l1(v4 + 56);
+    v10 = l4(v4 + 52);
+    v11 = l4(v4 + 40);
+    v2 = v1 & (v5 ^ 0xFFFFFFFFFFFFFFFFull);
+    v2 = (v2 == 0) ? v1 : v2;
+    if ((v2 & v5) == 0ull) goto L5;
+    v12 = v2;
+    goto L4;
 L5:;
-    v18 = l1(v15 + 56);
-    v19 = l4(v15 + 52);
-    v20 = l4(v15 + 40);
-    v14 = v12 & (v16 ^ 0xFFFFFFFFFFFFFFFFull);
-    v14 = (v14 == 0) ? v12 : v14;
-    if ((v14 & v16) == 0ull) goto L8;
-    v21 = v14;
-    goto L7;
-L8:;
-    if (pop64(v14) >= 6ull) goto L9;
-    v21 = v14;
-    goto L7;
+    if (pop64(v2) >= 6ull) goto L6;
+    v12 = v2;
+    goto L4;
+L6:;
+    v13 = v11 >> 6;
+    v14 = div32(v10, v13 + 1u);
+    v15 = (u64)((v14 < 63u) ? v14 : 63u);
+    v1 = v15 << 3;
+    v12 = (l8_8((v0 + v1) + 4120ull)) & v2;
+    if ((v9 & 1u) == 0) goto L7;
+    v4 = v0 + 4128ull;
 L9:;
-    v22 = v20 >> 6;
-    v23 = div32(v19, v22 + 1u);
-    v24 = (u64)((v23 < 63u) ? v23 : 63u);
-    v25 = v24 << 3;
-    v21 = l8_8(v7 + v25) & v14;
-    if ((v18 & 1u) == 0) goto L10;
-    v12 = v25;
-L12:;
-    v17 = v12 + 8ull;
-    if (v17 != 512ull) goto L13;
-    v17 = 0ull;
-    goto L11;
-L13:;
-    v15 = v5 + v12;
-    v12 = v17;
-    v17 = l8_8(v15) & v14;
-    if (v17 == 0) goto L12;
-L11:;
-    v21 = v17 | v21;
-    if (v21 != 0ull) goto L7;
-    if (v22 < v19) goto L14;
-    v21 = 0ull;
-    goto L7;
-L14:;
-    v12 = v4 + v25;
-L15:;
-    v21 = l8_8(v12) & v14;
-    if ((u32)(v21 == 0) == 0) goto L7;
-    v12 = v12 + 0xFFFFFFFFFFFFFFF8ull;
-    v24 = v24 + 0xFFFFFFFFFFFFFFFFull;
-    if ((u32)(v24 == 0) == 0) goto L15;
-    v21 = 0ull;
-    goto L7;
+    v7 = v1 + 8ull;
+    if (v7 != 512ull) goto L10;
+    v7 = 0ull;
+    goto L8;
 L10:;
-    if (v22 >= v19) goto L16;
-    v17 = v24 + 0xFFFFFFFFFFFFFFFFull;
-    v12 = v4 + (v24 << 3);
-L18:;
-    v15 = l8_8(v12) & v14;
-    if (v15 != 0ull) goto L17;
-    v12 = v12 + 0xFFFFFFFFFFFFFFF8ull;
-    v23 = v17 != 0ull;
-    v17 = v17 + 0xFFFFFFFFFFFFFFFFull;
-    if (v23) goto L18;
-L17:;
-    v21 = v15 | v21;
-L16:;
-    if (v21 != 0ull) goto L7;
-    v12 = v24 << 3;
-L19:;
-    v17 = v12 + 8ull;
-    if (v17 != 512ull) goto L20;
-    v21 = 0ull;
-    goto L7;
-L20:;
-    v15 = v5 + v12;
-    v12 = v17;
-    v21 = l8_8(v15) & v14;
-    if (v21 == 0) goto L19;
+    v8 = v4 + v1;
+    v1 = v7;
+    v7 = l8_8(v8) & v2;
+    if (v7 == 0) goto L9;
+L8:;
+    v12 = v7 | v12;
+    if (v12 != 0ull) goto L4;
+    if (v13 < v10) goto L11;
+    v12 = 0ull;
+    goto L4;
+L11:;
+    v1 = ((v15 << 3) + v0) + 4112ull;
+L12:;
+    v12 = l8_8(v1) & v2;
+    if ((u32)(v12 == 0) == 0) goto L4;
+    v1 = v1 + 0xFFFFFFFFFFFFFFF8ull;
+    v15 = v15 + 0xFFFFFFFFFFFFFFFFull;
+    if ((u32)(v15 == 0) == 0) goto L12;
+    v12 = 0ull;
+    goto L4;
 L7:;
-    v14 = 0xFFFFFFFFFFFFFF40ull;
-    v25 = ctz64(v21);
-    if (v25 > 63ull) goto L21;
-    v24 = 0ull;
-    v14 = 1ull << (v25 & 63);
-    if ((v14 & v16) != 0ull) goto L22;
-    v23 = l4_4((v6 + (v25 * 12ull)) + 4ull);
-    v12 = (u64)v23;
-    v17 = (u64)v19;
-    if ((v18 & 1u) == 0) goto L23;
-    v24 = (v19 > v23) ? ((((u64)v20) << 1) - (v17 + v12)) : (v12 - v17);
-    goto L22;
-L23:;
-    v24 = ((v23 > v19) ? v12 : (0ull - v12)) + v17;
-L22:;
-    v17 = v21 & (v14 ^ 0xFFFFFFFFFFFFFFFFull);
-    v12 = ctz64(v17);
-    if (v12 > 63ull) goto L24;
-    v26 = ((u64)v20) << 1;
-    v27 = (u64)v19;
-L25:;
-    v15 = 1ull << (v12 & 63);
-    v21 = v15 ^ 0xFFFFFFFFFFFFFFFFull;
-    v14 = 0ull;
-    if ((v15 & v16) != 0ull) goto L26;
-    v23 = l4_4((v6 + (v12 * 12ull)) + 4ull);
-    v14 = (u64)v23;
-    if ((v18 & 1u) == 0) goto L27;
-    v14 = (v19 > v23) ? (v26 - (v27 + v14)) : (v14 - v27);
-    goto L26;
-L27:;
-    v14 = ((v23 > v19) ? v14 : (0ull - v14)) + v27;
-L26:;
-    v17 = v17 & v21;
-    if (v14 >= v24) goto L29;
-    v24 = v14;
-    v25 = v12;
-    goto L28;
-L29:;
-    if (v14 != v24) goto L28;
-    v25 = (((l8_8(v8 + (v25 << 3))) & v15) == 0) ? v25 : v12;
-L28:;
-    v12 = ctz64(v17);
-    if (v12 < 64ull) goto L25;
-L24:;
-    v14 = (pop64(l8_8(v8 + (v25 << 3)))) | (v24 << 8);
-L21:;
-    s8(v13, v14);
+    if (v13 >= v10) goto L13;
+    v7 = v15 + 0xFFFFFFFFFFFFFFFFull;
+    v1 = ((v15 << 3) + v0) + 4112ull;
+L15:;
+    v8 = l8_8(v1) & v2;
+    if (v8 != 0ull) goto L14;
+    v1 = v1 + 0xFFFFFFFFFFFFFFF8ull;
+    v14 = v7 != 0ull;
+    v7 = v7 + 0xFFFFFFFFFFFFFFFFull;
+    if (v14) goto L15;
+L14:;
+    v12 = v8 | v12;
+L13:;
+    if (v12 != 0ull) goto L4;
+    v1 = v15 << 3;
+    v4 = v0 + 4128ull;
+L16:;
+    v7 = v1 + 8ull;
+    if (v7 != 512ull) goto L17;
+    v12 = 0ull;
+    goto L4;
+L17:;
+    v8 = v4 + v1;
+    v1 = v7;
+    v12 = l8_8(v8) & v2;
+    if (v12 == 0) goto L16;
 L4:;
-    v11 = (v14 < v11) ? v14 : v11;
-    v10 = v10 + 1ull;
-    if (v10 != v2) goto L3;
-    return v11 & 255ull;
+    v2 = 0xFFFFFFFFFFFFFF40ull;
+    v15 = ctz64(v12);
+    if (v15 > 63ull) goto L18;
+    v16 = v0 + 2048ull;
+    v4 = 0ull;
+    v2 = 1ull << (v15 & 63);
+    if ((v2 & v5) != 0ull) goto L19;
+    v14 = l4_4((v16 + (v15 * 12ull)) + 4ull);
+    v1 = (u64)v14;
+    v7 = (u64)v10;
+    if ((v9 & 1u) == 0) goto L20;
+    v4 = (v10 > v14) ? ((((u64)v11) << 1) - (v7 + v1)) : (v1 - v7);
+    goto L19;
+L20:;
+    v4 = ((v14 > v10) ? v1 : (0ull - v1)) + v7;
+L19:;
+    v7 = v12 & (v2 ^ 0xFFFFFFFFFFFFFFFFull);
+    v1 = ctz64(v7);
+    if (v1 > 63ull) goto L21;
+    v17 = v0 + 3544ull;
+    v18 = ((u64)v11) << 1;
+    v19 = (u64)v10;
+L22:;
+    v8 = 1ull << (v1 & 63);
+    v12 = v8 ^ 0xFFFFFFFFFFFFFFFFull;
+    v2 = 0ull;
+    if ((v8 & v5) != 0ull) goto L23;
+    v14 = l4_4((v16 + (v1 * 12ull)) + 4ull);
+    v2 = (u64)v14;
+    if ((v9 & 1u) == 0) goto L24;
+    v2 = (v10 > v14) ? (v18 - (v19 + v2)) : (v2 - v19);
+    goto L23;
+L24:;
+    v2 = ((v14 > v10) ? v2 : (0ull - v2)) + v19;
+L23:;
+    v7 = v7 & v12;
+    if (v2 >= v4) goto L26;
+    v4 = v2;
+    v15 = v1;
+    goto L25;
+L26:;
+    if (v2 != v4) goto L25;
+    v15 = (((l8_8(v17 + (v15 << 3))) & v8) == 0) ? v15 : v1;
+L25:;
+    v1 = ctz64(v7);
+    if (v1 < 64ull) goto L22;
+L21:;
+    v2 = (pop64(l8_8((v0 + (v15 << 3)) + 3544ull))) | (v4 << 8);
+L18:;
+    s8(v3 + v6, v2);
+    return v2;
     TRAP();
 }
 
-/* mscp_queue::start::picked_place, crates/mscp_queue/src/start.rt:215 */
+/* mscp_queue::start::picked_place, crates/mscp_queue/src/start.rt:237 */
 static u64 start_picked_place(u64 v0, u64 v1, u64 v2, u32 v3, u64 v4, u64 v5, u64 v6)
 {
     ROOM(frame, 144);
@@ -946,7 +930,7 @@ L6:;
     v3 = v10 - l4_4(v9 + 24ull);
     if ((u32)((l8_8((v0 + (v7 << 3)) + 2816ull)) - (l8_8(v0 + 5152ull) + ((u64)((v3 > v10) ? 0u : v3))))) goto L8;
     v7 = v0 + (v7 * 12ull);
-    v5 = (u64)l1(v7 + 2048ull);
+    v2 = (u64)l1(v7 + 2048ull);
     v12 = l1(v9 + 6ull);
     v13 = l2_2(v9 + 4ull);
     v3 = l4(v7 + 2052ull);
@@ -966,15 +950,15 @@ L12:;
 L11:;
     v11 = 3u;
 L10:;
-    v9 = v1 + (v5 << 6);
-    v10 = l4_4(v9 + 52ull);
-    v1 = (u64)v10;
-    v0 = (u64)v3;
-    if (l1(v9 + 56ull) != 1u) goto L14;
-    v0 = (v10 > v3) ? ((((u64)l4_4(v9 + 40ull)) << 1) - (v1 + v0)) : (v0 - v1);
+    v0 = v1 + (v2 << 6);
+    v10 = l4_4(v0 + 52ull);
+    v2 = (u64)v10;
+    v9 = (u64)v3;
+    if (l1(v0 + 56ull) != 1u) goto L14;
+    v0 = (v10 > v3) ? ((((u64)l4_4(v0 + 40ull)) << 1) - (v2 + v9)) : (v9 - v2);
     goto L13;
 L14:;
-    v0 = ((v3 > v10) ? v0 : (0ull - v0)) + v1;
+    v0 = ((v3 > v10) ? v9 : (0ull - v9)) + v2;
 L13:;
     v10 = v11;
 L9:;
@@ -1002,8 +986,24 @@ L15:;
     goto L1;
     TRAP();
 L2:;
-    t3 = start_best_place(v0, v1, v2, v5);
+    if ((u32)(v2 == 0) == 0) goto L17;
+    v7 = 64ull;
+    goto L1;
+L17:;
+    v4 = 0ull;
+    v9 = 0xFFFFFFFFFFFFFF40ull;
+    v6 = v5;
+L18:;
+    v7 = l8(v6);
+    if (v7 != 0xFFFFFFFFFFFFFFFFull) goto L19;
+    t3 = start_seek_favorite(v0, v1, v4, v5);
     v7 = t3;
+L19:;
+    v9 = (v7 < v9) ? v7 : v9;
+    v6 = v6 + 8ull;
+    v4 = v4 + 1ull;
+    if (v2 != v4) goto L18;
+    v7 = v9 & 255ull;
 L1:;
     return v7;
 }
@@ -1200,7 +1200,7 @@ L1:;
     return v0;
 }
 
-/* mscp_packet::reading::read_end, crates/mscp_packet/src/reading.rt:143 */
+/* mscp_packet::reading::read_end, crates/mscp_packet/src/reading.rt:151 */
 static void reading_read_end(u64 v0, u64 v1, u64 v2)
 {
     u32 v3 = 0, v4 = 0, v6 = 0, v7 = 0, v8 = 0, v9 = 0, v10 = 0, v11 = 0, v12 = 0, v13 = 0, v14 = 0, v15 = 0, v16 = 0;
@@ -1386,7 +1386,7 @@ L1:;
     return;
 }
 
-/* mscp_host::host::Host::hear, crates/mscp_host/src/host.rt:171 */
+/* mscp_host::host::Host::hear, crates/mscp_host/src/host.rt:188 */
 static void Host_hear(u64 v0, u64 v1, u64 v2, u64 v3)
 {
     ROOM(frame, 64);
@@ -2196,7 +2196,7 @@ L1:;
     return v3;
 }
 
-/* mscp_host::host::Host::send, crates/mscp_host/src/host.rt:100 */
+/* mscp_host::host::Host::send, crates/mscp_host/src/host.rt:111 */
 static void Host_send(u64 v0, u64 v1, u64 v2)
 {
     ROOM(frame, 32);
@@ -3283,7 +3283,7 @@ L1:;
     return 1840ull;
 }
 
-/* mscp_packet::reading::read_command, crates/mscp_packet/src/reading.rt:63 */
+/* mscp_packet::reading::read_command, crates/mscp_packet/src/reading.rt:67 */
 static void reading_read_command(u64 v0, u64 v1, u64 v2)
 {
     u32 v3 = 0, v4 = 0, v6 = 0, v7 = 0, v8 = 0, v9 = 0, v10 = 0, v11 = 0, v12 = 0;
@@ -3679,7 +3679,7 @@ L1:;
     return v2;
 }
 
-/* mscp_c::mscp_figure, crates/mscp_c/src/seeing.rt:56 */
+/* mscp_c::mscp_figure, crates/mscp_c/src/seeing.rt:51 */
 static u64 export_mscp_figure(u64 v0, u32 v1, u32 v2)
 {
     u32 v3 = 0;
@@ -3833,7 +3833,7 @@ L2:;
     TRAP();
 }
 
-/* mscp_queue::masks::Masks::leave, crates/mscp_queue/src/masks.rt:194 */
+/* mscp_queue::masks::Masks::leave, crates/mscp_queue/src/masks.rt:201 */
 static void Masks_leave(u64 v0, u64 v1, u64 v2)
 {
     u64 v3 = 0, v4 = 0;
@@ -3981,7 +3981,7 @@ L2:;
     TRAP();
 }
 
-/* mscp_queue::backlog::Backlog::leave, crates/mscp_queue/src/backlog.rt:227 */
+/* mscp_queue::backlog::Backlog::leave, crates/mscp_queue/src/backlog.rt:235 */
 static void Backlog_leave(u64 v0, u64 v1)
 {
     u32 v6 = 0, v7 = 0, v8 = 0;
@@ -4070,7 +4070,7 @@ L7:;
     TRAP();
 }
 
-/* mscp_controller::controller::Controller::finish, crates/mscp_controller/src/controller.rt:323 */
+/* mscp_controller::controller::Controller::finish, crates/mscp_controller/src/controller.rt:337 */
 static void Controller_finish(u64 v0, u64 v1, u32 v2, u32 v3, u32 v4, u32 v5)
 {
     ROOM(frame, 96);
@@ -6285,7 +6285,7 @@ L1:;
     return v4;
 }
 
-/* mscp_c::mscp_is_online, crates/mscp_c/src/seeing.rt:144 */
+/* mscp_c::mscp_is_online, crates/mscp_c/src/seeing.rt:124 */
 static u32 export_mscp_is_online(u64 v0, u32 v1)
 {
     u64 v2 = 0, v3 = 0, v4 = 0;
@@ -7671,7 +7671,7 @@ L2:;
     TRAP();
 }
 
-/* mscp_port::leaving::unit_status_end, crates/mscp_port/src/leaving.rt:70 */
+/* mscp_port::leaving::unit_status_end, crates/mscp_port/src/leaving.rt:71 */
 static void leaving_unit_status_end(u64 v0, u64 v1, u64 v2, u64 v3)
 {
     ROOM(frame, 16);
@@ -7711,7 +7711,7 @@ static void leaving_unit_status_end(u64 v0, u64 v1, u64 v2, u64 v3)
     TRAP();
 }
 
-/* mscp_port::port::Port::part, crates/mscp_port/src/port/checking.rt:53 */
+/* mscp_port::port::Port::part, crates/mscp_port/src/port/checking.rt:54 */
 static void Port_part(u64 v0, u64 v1, u64 v2, u32 v3, u32 v4)
 {
     u32 v5 = 0, v7 = 0, v8 = 0, v9 = 0, v10 = 0, v11 = 0, v13 = 0, v15 = 0;
@@ -9004,7 +9004,7 @@ L1:;
     return v2;
 }
 
-/* mscp_port::port::Port::forget_all, crates/mscp_port/src/port.rt:164 */
+/* mscp_port::port::Port::forget_all, crates/mscp_port/src/port.rt:173 */
 static void Port_forget_all(u64 v0, u32 v1, u32 v2)
 {
     u32 v4 = 0;
@@ -9544,7 +9544,7 @@ L1:;
     return v4;
 }
 
-/* mscp_saved::writing::put_head, crates/mscp_saved/src/writing.rt:184 */
+/* mscp_saved::writing::put_head, crates/mscp_saved/src/writing.rt:187 */
 static void writing_put_head(u64 v0, u64 v1, u32 v2, u32 v3, u64 v4, u32 v5)
 {
     u32 v6 = 0, v7 = 0, v8 = 0;
@@ -9642,7 +9642,7 @@ L11:;
     TRAP();
 }
 
-/* mscp_saved::writing::put_drives, crates/mscp_saved/src/writing.rt:203 */
+/* mscp_saved::writing::put_drives, crates/mscp_saved/src/writing.rt:206 */
 static void writing_put_drives(u64 v0, u64 v1, u64 v2)
 {
     u64 v3 = 0, v4 = 0, v5 = 0;
@@ -9723,7 +9723,7 @@ L2:;
     TRAP();
 }
 
-/* mscp_saved::writing::put_waiting, crates/mscp_saved/src/writing.rt:78 */
+/* mscp_saved::writing::put_waiting, crates/mscp_saved/src/writing.rt:81 */
 static void writing_put_waiting(u64 v0, u64 v1)
 {
     ROOM(frame, 96);
@@ -9852,7 +9852,7 @@ L17:;
     return;
 }
 
-/* mscp_saved::writing::put_ends, crates/mscp_saved/src/writing.rt:254 */
+/* mscp_saved::writing::put_ends, crates/mscp_saved/src/writing.rt:257 */
 static void writing_put_ends(u64 v0, u64 v1, u64 v2)
 {
     ROOM(frame, 64);
@@ -9996,7 +9996,7 @@ L2:;
     TRAP();
 }
 
-/* mscp_saved::writing::save_parts, crates/mscp_saved/src/writing.rt:280 */
+/* mscp_saved::writing::save_parts, crates/mscp_saved/src/writing.rt:283 */
 static void writing_save_parts(u64 v0, u64 v1, u64 v2, u64 v3, u64 v4, u64 v5, u64 v6, u64 v7, u64 v8, u64 v9, u32 v10,
         u64 v11, u32 v12)
 {
@@ -10023,7 +10023,7 @@ L2:;
     TRAP();
 }
 
-/* mscp_saved::restoring::restore_fault, crates/mscp_saved/src/restoring.rt:113 */
+/* mscp_saved::restoring::restore_fault, crates/mscp_saved/src/restoring.rt:114 */
 APART void restoring_restore_fault(u64 v0, u64 v1, u64 v2, u32 v3)
 {
     ROOM(frame, 13392);
@@ -11696,7 +11696,7 @@ L53:;
     TRAP();
 }
 
-/* mscp_port::port::restoring::is_front, crates/mscp_port/src/port/restoring.rt:300 */
+/* mscp_port::port::restoring::is_front, crates/mscp_port/src/port/restoring.rt:296 */
 APART u32 restoring_is_front(u64 v0, u64 v1)
 {
     ROOM(frame, 6272);
@@ -11719,7 +11719,7 @@ L2:;
     TRAP();
 }
 
-/* mscp_port::port::restoring::restore_fault, crates/mscp_port/src/port/restoring.rt:311 */
+/* mscp_port::port::restoring::restore_fault, crates/mscp_port/src/port/restoring.rt:307 */
 static void restoring_restore_fault_2(u64 v0, u64 v1, u64 v2, u32 v3)
 {
     ROOM(frame, 16);
@@ -11787,7 +11787,7 @@ L2:;
     TRAP();
 }
 
-/* mscp_saved::restoring::saved_settings, crates/mscp_saved/src/restoring.rt:146 */
+/* mscp_saved::restoring::saved_settings, crates/mscp_saved/src/restoring.rt:147 */
 APART void restoring_saved_settings(u64 v0, u64 v1)
 {
     ROOM(frame, 2400);
@@ -12428,7 +12428,7 @@ L1:;
     TRAP();
 }
 
-/* mscp_port::port::Port::fill, crates/mscp_port/src/port/restoring.rt:340 */
+/* mscp_port::port::Port::fill, crates/mscp_port/src/port/restoring.rt:336 */
 APART void Port_fill(u64 v0, u64 v1)
 {
     ROOM(frame, 3328);
@@ -12623,7 +12623,7 @@ L13:;
     TRAP();
 }
 
-/* mscp_queue::slots::Slots::push, crates/mscp_queue/src/slots.rt:99 */
+/* mscp_queue::slots::Slots::push, crates/mscp_queue/src/slots.rt:102 */
 static void Slots_push(u64 v0, u64 v1)
 {
     ROOM(frame, 32);
@@ -12885,7 +12885,7 @@ L21:;
     TRAP();
 }
 
-/* mscp_controller::account::Accounts::restore, crates/mscp_controller/src/account/restoring.rt:40 */
+/* mscp_controller::account::Accounts::restore, crates/mscp_controller/src/account/restoring.rt:41 */
 static void Accounts_restore(u64 v0, u64 v1, u64 v2, u64 v3, u64 v4, u64 v5, u64 v6)
 {
     u32 v7 = 0, v8 = 0;
@@ -13147,7 +13147,7 @@ L24:;
     TRAP();
 }
 
-/* mscp_saved::restoring::resume, crates/mscp_saved/src/restoring.rt:159 */
+/* mscp_saved::restoring::resume, crates/mscp_saved/src/restoring.rt:160 */
 APART void restoring_resume(u64 v0, u64 v1, u64 v2)
 {
     ROOM(frame, 10288);
@@ -13183,7 +13183,7 @@ L2:;
     TRAP();
 }
 
-/* mscp_port::port::Port::resume, crates/mscp_port/src/port/restoring.rt:370 */
+/* mscp_port::port::Port::resume, crates/mscp_port/src/port/restoring.rt:366 */
 static void Port_resume(u64 v0, u64 v1, u64 v2)
 {
     u64 t0;
@@ -13195,7 +13195,7 @@ static void Port_resume(u64 v0, u64 v1, u64 v2)
     TRAP();
 }
 
-/* mscp_c::mscp_port_restore_at, crates/mscp_c/src/port_saving.rt:89 */
+/* mscp_c::mscp_port_restore_at, crates/mscp_c/src/port_saving.rt:90 */
 APART u32 export_mscp_port_restore_at(u64 v0, u64 v1, u64 v2)
 {
     ROOM(frame, 816);
@@ -13385,7 +13385,7 @@ L6:;
     TRAP();
 }
 
-/* mscp_saved::writing::save, crates/mscp_saved/src/writing.rt:311 */
+/* mscp_saved::writing::save, crates/mscp_saved/src/writing.rt:314 */
 APART void writing_save(u64 v0, u64 v1, u32 v2)
 {
     ROOM(frame, 3744);
@@ -14117,7 +14117,7 @@ L1:;
     return v1;
 }
 
-/* mscp_port::port::Port::see_slot, crates/mscp_port/src/port/hearing.rt:72 */
+/* mscp_port::port::Port::see_slot, crates/mscp_port/src/port/hearing.rt:82 */
 static void Port_see_slot(u64 v0, u32 v1, u32 v2)
 {
     if (v1 & 255u) goto L2;
@@ -14147,7 +14147,7 @@ L4:;
     TRAP();
 }
 
-/* mscp_port::port::Port::see_header, crates/mscp_port/src/port/hearing.rt:113 */
+/* mscp_port::port::Port::see_header, crates/mscp_port/src/port/hearing.rt:121 */
 static void Port_see_header(u64 v0, u32 v1, u32 v2)
 {
     u32 v4 = 0;
@@ -14177,7 +14177,7 @@ L5:;
     TRAP();
 }
 
-/* mscp_controller::arrival::judge, crates/mscp_controller/src/arrival.rt:51 */
+/* mscp_controller::arrival::judge, crates/mscp_controller/src/arrival.rt:55 */
 static void arrival_judge(u64 v0, u64 v1, u64 v2)
 {
     u32 v3 = 0, v4 = 0, v5 = 0, v7 = 0, v8 = 0, v10 = 0, t0;
@@ -14278,7 +14278,7 @@ L1:;
     return;
 }
 
-/* mscp_queue::backlog::Backlog::take_out, crates/mscp_queue/src/backlog.rt:280 */
+/* mscp_queue::backlog::Backlog::take_out, crates/mscp_queue/src/backlog.rt:289 */
 static void Backlog_take_out(u64 v0, u64 v1)
 {
     u32 v11 = 0;
@@ -14502,611 +14502,536 @@ L2:;
     TRAP();
 }
 
-/* mscp_controller::controller::Controller::send, crates/mscp_controller/src/controller.rt:258 */
-static void Controller_send(u64 v0, u64 v1, u32 v2, u64 v3, u64 v4)
+/* mscp_controller::controller::Controller::arrive, crates/mscp_controller/src/controller.rt:234 */
+static void Controller_arrive(u64 v0, u64 v1, u32 v2, u64 v3)
 {
-    ROOM(frame, 208);
-    u32 v6 = 0, v7 = 0, v8 = 0, v9 = 0, v10 = 0, v11 = 0, v12 = 0, v13 = 0, v14 = 0, v18 = 0, v19 = 0, v24 = 0, v25 =
-        0, v26 = 0, v27 = 0, v28 = 0, v29 = 0, v30 = 0, v31 = 0, v32 = 0, v33 = 0;
-    u64 v5 = 0, v15 = 0, v16 = 0, v17 = 0, v20 = 0, v21 = 0, v22 = 0, v23 = 0, v34 = 0, t0, t1;
-    v5 = A(frame);
-    s8_8(v5 + 32, 0ull);
-    s8_8(v5 + 24, 0ull);
-    s8_8(v5 + 16, 0ull);
-    reading_read_command(v5 + 16ull, v3, v4);
-    if (l1(v5 + 16)) goto L13;
-    v6 = 1u;
-    v7 = l1(v5 + 29);
-    v8 = 1u;
-    v9 = l1(v5 + 28);
-    switch (v9) {
-    case 4: case 5: case 6: case 7: goto L16;
-    case 8: goto L15;
-    default: goto L14;
-    }
-L16:;
-    v8 = 0u;
-    goto L14;
-L15:;
-    v8 = ((v7 + 0xFFFFFFFFu) & 255u) < 4u;
-L14:;
-    v10 = l4_4(v5 + 24);
-    v11 = l4_4(v5 + 20);
-    v12 = 2u;
-    v13 = v2 & 255u;
-    v14 = l4_4(v1 + (v13 ? 4ull : 0ull));
-    v15 = v1 + 8216ull;
-    v16 = v15 + (v13 ? 3088ull : 0ull);
-    v17 = l8_8(v16 + 3080ull);
-    v13 = v14 - (l4_4(v16) + ((u32)v17));
-    v13 = (v13 > v14) ? 0u : v13;
-    v18 = v13;
-    v19 = v13;
-    v14 = v13;
-    switch (v13) {
-    case 0: goto L2;
-    case 1: goto L18;
-    default: goto L17;
-    }
-L18:;
-    if (v8) goto L17;
-    v12 = 3u;
+    ROOM(frame, 192);
+    u32 v5 = 0, v6 = 0, v8 = 0, v9 = 0, v10 = 0, v11 = 0, v12 = 0, v14 = 0, v17 = 0, v18 = 0, v19 = 0, v20 = 0, v21 =
+        0, v23 = 0, v24 = 0, v25 = 0, v26 = 0, v27 = 0, v28 = 0, v29 = 0;
+    u64 v4 = 0, v7 = 0, v13 = 0, v15 = 0, v16 = 0, v22 = 0, v30 = 0, v31 = 0, v32 = 0, t0, t1;
+    v4 = A(frame);
+    s8_8(v4 + 24, 0ull);
+    s8_8(v4 + 72, 0ull);
+    s8_8(v4 + 32, 0ull);
+    s8_8(v4 + 40, 0ull);
+    s8_8(v4 + 48, 0ull);
+    s8_8(v4 + 56, 0ull);
+    s8_8(v4 + 64, 0ull);
+    s8_8(v4 + 80, l8(v3));
+    s8_8(v4 + 88, l8(v3 + 8));
+    s4_4(v4 + 96, l4(v3 + 16));
+    arrival_judge(v4 + 72ull, v1, v4 + 80ull);
+    if (l1(v4 + 72)) goto L9;
+    v5 = l1(v4 + 88);
+    if (((v5 + 0xFFFFFFFCu) & 255u) >= 5u) goto L10;
+    v6 = l4_4(v4 + 76);
+    v7 = v1 + 5984ull;
+    v8 = l4_4(v4 + 96);
+    v9 = l4_4(v4 + 92);
+    v10 = l2_2(v4 + 90);
+    v11 = l1(v4 + 89);
+    v12 = l4_4(v4 + 80);
+    v13 = l8_8(v1 + 7008ull);
+    v14 = l2_2(v4 + 84);
+    v15 = ((u64)v14) & 65535ull;
+    if (v13 <= v15) goto L11;
+    if ((l2_2(v7 + (v15 << 6))) == (v14 & 65535u)) goto L2;
     goto L3;
-L17:;
-    v20 = v5 + 30ull;
-    v21 = v1 + 5448ull;
-    v4 = l8_8(v21 + ((u64)(((((v11 >> 6) + v11) + (v11 >> 12)) << 3) & 504u)));
-    v22 = v1 + 816ull;
+L11:;
+    if ((u32)(v13 == 0) == 0) goto L3;
+    v15 = 0ull;
+    goto L2;
+L10:;
+    v8 = 0u;
+    s2_2(v4 + 168, 0u);
+    s4_4(v4 + 164, 0u);
+    s2_2(v4 + 108, 0u);
+    s4_4(v4 + 104, 0u);
+    switch (v5) {
+    case 1: goto L19;
+    case 2: goto L18;
+    case 3: goto L15;
+    default: goto L20;
+    }
 L20:;
-    v3 = ctz64(v4);
-    if (v3 > 63ull) goto L19;
-    v4 = v4 & (rotl64(0xFFFFFFFFFFFFFFFEull, (v3 & 63)));
-    v23 = v22 + (v3 << 5);
-    if (l1(v23 + 6ull) != (v2 & 255u)) goto L20;
-    if (l4_4(v23) != v11) goto L20;
-L19:;
-    v23 = v17 + 1ull;
-    v4 = v16 + 8ull;
-L22:;
-    v23 = v23 + 0xFFFFFFFFFFFFFFFFull;
-    if (v23 == 0) goto L21;
-    v13 = l4_4(v4);
-    v4 = v4 + 48ull;
-    if (v13 != v11) goto L22;
-    goto L4;
-L21:;
-    v18 = v3 < 64ull;
-    if (v18) goto L4;
-    s1(v5 + 109, v7);
-    s1(v5 + 108, v9);
-    s4_4(v5 + 104, v10);
-    s4_4(v5 + 100, v11);
-    s8_8(v5 + 88, 0ull);
-    s8_8(v5 + 40, 0ull);
-    s8_8(v5 + 48, 0ull);
-    s8_8(v5 + 56, 0ull);
-    s8_8(v5 + 64, 0ull);
-    s8_8(v5 + 72, 0ull);
-    s8_8(v5 + 80, 0ull);
-    s8_2(v5 + 110, l8_2(v20));
-    s2_2(v5 + 118, l2_2(v20 + 8));
-    arrival_judge(v5 + 88ull, v1, v5 + 100ull);
-    if (l1(v5 + 88)) goto L23;
-    if (((v9 + 0xFFFFFFFCu) & 255u) > 4u) goto L24;
-    v13 = l4_4(v5 + 92);
-    v16 = v1 + 5984ull;
-    v14 = l4_4(v5 + 116);
-    v12 = l4_4(v5 + 112);
-    v19 = l2_2(v5 + 110);
-    v23 = l8_8(v1 + 7008ull);
-    v6 = v10 & 65535u;
-    v3 = (u64)v6;
-    if (v23 <= v3) goto L25;
-    if ((l2_2(v16 + (v3 << 6))) == v6) goto L7;
-    goto L8;
-L25:;
-    if ((u32)(v23 == 0) == 0) goto L8;
-    v3 = 0ull;
-    goto L7;
-L24:;
-    v13 = 0u;
-    s2_2(v5 + 184, 0u);
-    s4_4(v5 + 180, 0u);
-    switch (v9) {
-    case 1: goto L33;
-    case 2: goto L32;
-    case 3: goto L29;
-    default: goto L34;
-    }
-L34:;
-    v13 = 0u;
-    s4_4(v5 + 180, 0u);
-    s2_2(v5 + 184, 0u);
+    v8 = 0u;
+    s4_4(v4 + 164, 0u);
+    s2_2(v4 + 168, 0u);
+    v14 = l2_2(v4 + 84);
+    v11 = l4_4(v4 + 80);
     v16 = 0ull;
-    v7 = 1u;
-    v24 = 129u;
-    v25 = 0u;
-    v26 = 0u;
-    v27 = 0u;
-    v19 = l4_4(v5 + 112);
-    v14 = v19;
-    goto L30;
-L33:;
-    v19 = l4_4(v5 + 112);
-    v4 = l8_8(v21 + ((u64)(((((v19 >> 6) + v19) + (v19 >> 12)) << 3) & 504u)));
-L36:;
-    v13 = 0u;
-    v3 = ctz64(v4);
-    if (v3 <= 63ull) goto L37;
-    v14 = 0u;
-    goto L35;
-L37:;
-    v4 = v4 & (rotl64(0xFFFFFFFFFFFFFFFEull, (v3 & 63)));
-    v23 = v22 + (v3 << 5);
-    if (l1(v23 + 6ull) != (v2 & 255u)) goto L36;
-    if (l4_4(v23) != v19) goto L36;
-    v3 = (u64)l1((v1 + (pop64(l8_8((v1 + (v3 << 3)) + 4360ull)))) + 4144ull);
-    v4 = v22 + (v3 << 5);
-    v14 = l4_4(v4 + 24ull);
-    if (v14) goto L38;
-    v14 = (u32)((l8_8((v1 + (v3 << 3)) + 3632ull)) - l8_8(v1 + 5968ull));
-    goto L35;
-L38:;
-    v12 = l4_4(v4 + 20ull);
-    v14 = v12 - v14;
-    v14 = (v14 > v12) ? 0u : v14;
-L35:;
-    v16 = (u64)v14;
-    v7 = 2u;
-    v24 = 130u;
-    v25 = 0u;
-    v26 = 0u;
-    v27 = 0u;
-    goto L31;
-L32:;
-    v4 = v1 + 32ull;
-    v3 = l8_8(v1 + 800ull);
-    v13 = v10 & 65535u;
-    v23 = (u64)v13;
-    if (v3 <= v23) goto L40;
-    v17 = v4 + (v23 * 48ull);
-    if (l2_2(v17) == v13) goto L39;
-L40:;
-    v3 = v3 + 1ull;
-L41:;
-    v3 = v3 + 0xFFFFFFFFFFFFFFFFull;
-    if (v3 == 0) goto L12;
-    v13 = l2_2(v4);
-    v23 = v4 + 48ull;
-    v4 = v23;
-    if (v13 != (v10 & 65535u)) goto L41;
-    v17 = v23 + 0xFFFFFFFFFFFFFFD0ull;
-L39:;
-    v4 = v1 + 5968ull;
-    v3 = l8_8(v1 + 7008ull) + 1ull;
-L43:;
-    v3 = v3 + 0xFFFFFFFFFFFFFFFFull;
-    if ((u32)(v3 == 0) == 0) goto L44;
-    v13 = 4u;
-    goto L42;
-L44:;
-    v23 = v4 + 16ull;
-    v16 = v4 + 64ull;
-    v4 = v16;
-    if (l2_2(v23) != (v10 & 65535u)) goto L43;
-    v13 = (l1(v16) & 1u) ? 0u : 4u;
-L42:;
-    v27 = l2_2(v17 + 6ull);
-    v26 = l4_2(v17 + 2ull);
-    v25 = l4_4(v17 + 24ull);
-    v16 = l8_8(v17 + 16ull);
+    v17 = 1u;
+    v18 = 129u;
     v19 = 0u;
-    v7 = 3u;
-    v24 = 131u;
-L31:;
-    v12 = 0u;
-    s2_2(v5 + 184, 0u);
-    s4_4(v5 + 180, 0u);
-    if (v9) goto L28;
-    v14 = l4_4(v5 + 112);
-L30:;
-    v4 = l8_8(v21 + ((u64)(((((v14 >> 6) + v14) + (v14 >> 12)) << 3) & 504u)));
-L45:;
-    v3 = ctz64(v4);
-    if (v3 <= 63ull) goto L46;
-    v12 = 0u;
+    v20 = 0u;
+    v21 = 0u;
+    v12 = l4_4(v4 + 92);
+    v6 = v12;
+    goto L16;
+L19:;
+    v12 = l4_4(v4 + 92);
+    v3 = l8_8((v1 + ((u64)(((((v12 >> 6) + v12) + (v12 >> 12)) << 3) & 504u))) + 5448ull);
+    v7 = v1 + 816ull;
+L22:;
+    v8 = 0u;
+    v15 = ctz64(v3);
+    if (v15 <= 63ull) goto L23;
+    v14 = 0u;
+    goto L21;
+L23:;
+    v3 = v3 & (rotl64(0xFFFFFFFFFFFFFFFEull, (v15 & 63)));
+    v13 = v7 + (v15 << 5);
+    if (l1(v13 + 6ull) != (v2 & 255u)) goto L22;
+    if (l4_4(v13) != v12) goto L22;
+    v15 = (u64)l1((v1 + (pop64(l8_8((v1 + (v15 << 3)) + 4360ull)))) + 4144ull);
+    v3 = v7 + (v15 << 5);
+    v14 = l4_4(v3 + 24ull);
+    if (v14) goto L24;
+    v14 = (u32)((l8_8((v1 + (v15 << 3)) + 3632ull)) - l8_8(v1 + 5968ull));
+    goto L21;
+L24:;
+    v6 = l4_4(v3 + 20ull);
+    v14 = v6 - v14;
+    v14 = (v14 > v6) ? 0u : v14;
+L21:;
+    v16 = (u64)v14;
+    v17 = 2u;
+    v18 = 130u;
+    v14 = l2_2(v4 + 84);
+    v19 = 0u;
+    v20 = 0u;
+    v21 = 0u;
+    goto L17;
+L18:;
+    v3 = v1 + 32ull;
+    v15 = l8_8(v1 + 800ull);
+    v14 = l2_2(v4 + 84);
+    v13 = ((u64)v14) & 65535ull;
+    if (v15 <= v13) goto L26;
+    v16 = v3 + (v13 * 48ull);
+    if (l2_2(v16) == (v14 & 65535u)) goto L25;
+L26:;
+    v15 = v15 + 1ull;
+L27:;
+    v15 = v15 + 0xFFFFFFFFFFFFFFFFull;
+    if (v15 == 0) goto L8;
+    v6 = l2_2(v3);
+    v13 = v3 + 48ull;
+    v3 = v13;
+    if (v6 != (v14 & 65535u)) goto L27;
+    v16 = v13 + 0xFFFFFFFFFFFFFFD0ull;
+L25:;
+    v3 = v1 + 5968ull;
+    v15 = l8_8(v1 + 7008ull) + 1ull;
+L29:;
+    v15 = v15 + 0xFFFFFFFFFFFFFFFFull;
+    if ((u32)(v15 == 0) == 0) goto L30;
+    v8 = 4u;
     goto L28;
-L46:;
-    v4 = v4 & (rotl64(0xFFFFFFFFFFFFFFFEull, (v3 & 63)));
-    v23 = v22 + (v3 << 5);
-    if (l1(v23 + 6ull) != (v2 & 255u)) goto L45;
-    if (l4_4(v23) != v14) goto L45;
-    v17 = pop64(l8_8((v1 + (v3 << 3)) + 4360ull));
-    v3 = (u64)l1((v1 + v17) + 4144ull);
-    v4 = v22 + (v3 << 5);
-    v28 = l4(v4 + 24);
-    v29 = l4(v4 + 16);
-    v30 = l4(v4 + 12);
-    v31 = l2(v4 + 10);
-    v32 = l1(v4 + 9);
-    v9 = l1(v4 + 8);
-    v33 = l2(v4 + 4);
-    v14 = l4(v4);
-    v4 = (u64)l1((v1 + (v3 * 12ull)) + 2864ull);
-    Backlog_take_out(v22, v17);
-    v15 = v1 + 7056ull;
-    s8(v15 + (v4 << 3), 0xFFFFFFFFFFFFFFFFull);
-    v23 = l8_8(v1 + 7008ull);
-    if (v23 == 0) goto L47;
-    v12 = (u32)v17;
-    v8 = v12 + 0xFFFFFFC0u;
+L30:;
+    v13 = v3 + 16ull;
+    v7 = v3 + 64ull;
+    v3 = v7;
+    if (l2_2(v13) != (v14 & 65535u)) goto L29;
+    v8 = (l1(v7) & 1u) ? 0u : 4u;
+L28:;
+    v21 = l2_2(v16 + 6ull);
+    v20 = l4_2(v16 + 2ull);
+    v19 = l4_4(v16 + 24ull);
+    v16 = l8_8(v16 + 16ull);
+    v12 = 0u;
+    v17 = 3u;
+    v18 = 131u;
+L17:;
+    s4_4(v4 + 164, l4_4(v4 + 104));
+    s2_2(v4 + 168, l2_2(v4 + 108));
+    v11 = l4_4(v4 + 80);
+    if (v5 == 0) goto L31;
+    v5 = 0u;
+    goto L14;
+L31:;
+    v6 = l4_4(v4 + 92);
+L16:;
+    v3 = l8_8((v1 + ((u64)(((((v6 >> 6) + v6) + (v6 >> 12)) << 3) & 504u))) + 5448ull);
+    v7 = v1 + 816ull;
+L32:;
+    v15 = ctz64(v3);
+    if (v15 <= 63ull) goto L33;
+    v5 = 0u;
+    goto L14;
+L33:;
+    v3 = v3 & (rotl64(0xFFFFFFFFFFFFFFFEull, (v15 & 63)));
+    v13 = v7 + (v15 << 5);
+    if (l1(v13 + 6ull) != (v2 & 255u)) goto L32;
+    if (l4_4(v13) != v6) goto L32;
+    v22 = pop64(l8_8((v1 + (v15 << 3)) + 4360ull));
+    v15 = (u64)l1((v1 + v22) + 4144ull);
+    v3 = v7 + (v15 << 5);
+    v23 = l4(v3 + 24);
+    v24 = l4(v3 + 16);
+    v25 = l4(v3 + 12);
+    v26 = l2(v3 + 10);
+    v27 = l1(v3 + 9);
+    v28 = l1(v3 + 8);
+    v29 = l2(v3 + 4);
+    v6 = l4(v3);
+    v3 = (u64)l1((v1 + (v15 * 12ull)) + 2864ull);
+    Backlog_take_out(v7, v22);
+    v30 = v1 + 7056ull;
+    s8(v30 + (v3 << 3), 0xFFFFFFFFFFFFFFFFull);
+    v13 = l8_8(v1 + 7008ull);
+    if (v13 == 0) goto L34;
+    v5 = (u32)v22;
+    v10 = v5 + 0xFFFFFFC0u;
+    v15 = 0ull;
+    if (v13 == 1ull) goto L35;
+    v31 = v13 & 1ull;
+    v3 = v1 + 7064ull;
+    v7 = v13 & 0xFFFFFFFFFFFFFFFEull;
+    v15 = 0ull;
+L36:;
+    v13 = l8(v3);
+    v9 = v10 & 255u;
+    s8(v3, v13 - ((u64)(u32)(((v5 - ((u32)v13)) & 255u) > v9)));
+    v13 = v3 + 0xFFFFFFFFFFFFFFF8ull;
+    t0 = v13;
+    v13 = l8(v13);
+    s8(t0, v13 - ((u64)(u32)(((v5 - ((u32)v13)) & 255u) > v9)));
+    v3 = v3 + 16ull;
+    v15 = v15 + 2ull;
+    if (v7 != v15) goto L36;
+    if (v31 == 0) goto L34;
+L35:;
+    v3 = v30 + (v15 << 3);
+    t1 = v3;
+    v3 = l8(v3);
+    s8(t1, v3 - ((u64)(u32)(((v5 - ((u32)v3)) & 255u) > (v10 & 255u))));
+L34:;
+    v7 = v1 + 7024ull;
+    v15 = 0ull;
+    v13 = 0ull;
     v3 = 0ull;
-    if (v23 == 1ull) goto L48;
-    v20 = v23 & 1ull;
-    v4 = v1 + 7064ull;
-    v22 = v23 & 0xFFFFFFFFFFFFFFFEull;
+    v30 = v1 + 7016ull;
+    if (l1(v30) != 1u) goto L37;
+    v13 = 1ull;
+    v3 = l8(v7);
+    if (v3 < v22) goto L37;
+    v5 = v22 < v3;
+    v3 = v5 ? (v3 + 0xFFFFFFFFFFFFFFFFull) : 0ull;
+    v13 = (u64)v5;
+L37:;
+    s8(v7, v3);
+    s8(v30, v13);
+    v13 = v1 + 7048ull;
     v3 = 0ull;
-L49:;
-    v23 = l8(v4);
-    v6 = v8 & 255u;
-    s8(v4, v23 - ((u64)(u32)(((v12 - ((u32)v23)) & 255u) > v6)));
-    v23 = v4 + 0xFFFFFFFFFFFFFFF8ull;
-    t0 = v23;
-    v23 = l8(v23);
-    s8(t0, v23 - ((u64)(u32)(((v12 - ((u32)v23)) & 255u) > v6)));
-    v4 = v4 + 16ull;
-    v3 = v3 + 2ull;
-    if (v22 != v3) goto L49;
-    if (v20 == 0) goto L47;
-L48:;
-    v4 = v15 + (v3 << 3);
-    t1 = v4;
-    v4 = l8(v4);
-    s8(t1, v4 - ((u64)(u32)(((v12 - ((u32)v4)) & 255u) > (v8 & 255u))));
-L47:;
-    v22 = v1 + 7024ull;
-    v3 = 0ull;
-    v23 = 0ull;
-    v4 = 0ull;
-    v15 = v1 + 7016ull;
-    if (l1(v15) != 1u) goto L50;
-    v23 = 1ull;
-    v4 = l8(v22);
-    if (v4 < v17) goto L50;
-    v12 = v17 < v4;
-    v4 = v12 ? (v4 + 0xFFFFFFFFFFFFFFFFull) : 0ull;
-    v23 = (u64)v12;
-L50:;
-    s8(v22, v4);
-    s8(v15, v23);
-    v23 = v1 + 7048ull;
-    v4 = 0ull;
-    v22 = v1 + 7040ull;
-    if (l1(v22) != 1u) goto L51;
-    v3 = 1ull;
-    v4 = l8(v23);
-    if (v4 < v17) goto L51;
-    v12 = v17 < v4;
-    v4 = v12 ? (v4 + 0xFFFFFFFFFFFFFFFFull) : 0ull;
-    v3 = (u64)v12;
-L51:;
-    s8(v23, v4);
-    s8(v22, v3);
-    s4_4(v5 + 204, v29);
-    s4_4(v5 + 200, v30);
-    s2_2(v5 + 198, v31);
-    s1(v5 + 197, v32);
-    s1(v5 + 196, v9);
-    s2_2(v5 + 194, 0u);
-    s2_2(v5 + 192, v33);
-    s4_4(v5 + 188, v14);
-    s8_8(v5 + 144, 0ull);
-    s8_8(v5 + 136, 0ull);
-    s8_8(v5 + 128, 0ull);
-    s8_8(v5 + 120, 0ull);
-    outcome_moved_body(v5 + 120ull, v5 + 188ull, v28);
-    v6 = 129u;
-    switch (v9) {
-    case 1: goto L59;
-    case 2: goto L58;
-    case 3: goto L57;
-    case 4: goto L56;
-    case 5: goto L55;
-    case 6: goto L54;
-    case 7: goto L53;
-    case 8: goto L60;
-    default: goto L52;
+    v7 = v1 + 7040ull;
+    if (l1(v7) != 1u) goto L38;
+    v15 = 1ull;
+    v3 = l8(v13);
+    if (v3 < v22) goto L38;
+    v5 = v22 < v3;
+    v3 = v5 ? (v3 + 0xFFFFFFFFFFFFFFFFull) : 0ull;
+    v15 = (u64)v5;
+L38:;
+    s8(v13, v3);
+    s8(v7, v15);
+    s4_4(v4 + 188, v24);
+    s4_4(v4 + 184, v25);
+    s2_2(v4 + 182, v26);
+    s1(v4 + 181, v27);
+    s1(v4 + 180, v28);
+    s2_2(v4 + 178, 0u);
+    s2_2(v4 + 176, v29);
+    s4_4(v4 + 172, v6);
+    s8_8(v4 + 128, 0ull);
+    s8_8(v4 + 120, 0ull);
+    s8_8(v4 + 112, 0ull);
+    s8_8(v4 + 104, 0ull);
+    outcome_moved_body(v4 + 104ull, v4 + 172ull, v23);
+    v9 = 129u;
+    switch (v28) {
+    case 1: goto L46;
+    case 2: goto L45;
+    case 3: goto L44;
+    case 4: goto L43;
+    case 5: goto L42;
+    case 6: goto L41;
+    case 7: goto L40;
+    case 8: goto L47;
+    default: goto L39;
     }
-L60:;
-    v6 = ((v31 & 65535u) == 2049u) ? 0xFFFFFF80u : (v32 | 0xFFFFFF80u);
-    goto L52;
-L59:;
-    v6 = 130u;
-    goto L52;
-L58:;
-    v6 = 131u;
-    goto L52;
-L57:;
-    v6 = 132u;
-    goto L52;
-L56:;
-    v6 = 136u;
-    goto L52;
-L55:;
-    v6 = 137u;
-    goto L52;
-L54:;
-    v6 = 138u;
+L47:;
+    v9 = ((v26 & 65535u) == 2049u) ? 0xFFFFFF80u : (v27 | 0xFFFFFF80u);
+    goto L39;
+L46:;
+    v9 = 130u;
+    goto L39;
+L45:;
+    v9 = 131u;
+    goto L39;
+L44:;
+    v9 = 132u;
+    goto L39;
+L43:;
+    v9 = 136u;
+    goto L39;
+L42:;
+    v9 = 137u;
+    goto L39;
+L41:;
+    v9 = 138u;
+    goto L39;
+L40:;
+    v9 = (u32)(698496357008ull >> (((((u64)v27) & 255ull) << 3) & 63));
+L39:;
+    v5 = l4_4(v4 + 108);
+    v15 = l8_8(v4 + 112);
+    v10 = l4_4(v4 + 120);
+    v28 = l4_4(v4 + 124);
+    v27 = l4_4(v4 + 128);
+    v26 = l1(v4 + 104);
+    v23 = l2_2(v4 + 106);
+    if (v2 & 255u) goto L12;
+    v3 = v1 + 8216ull;
+    s4_4(v3, l4_4(v3) + 0xFFFFFFFFu);
+    v13 = l8_8(v1 + 11296ull);
+    v3 = v1 + (v13 * 48ull);
+    s4(v3 + 8224ull, v6);
+    s4(v3 + 8244ull, v5);
+    s4(v3 + 8256ull, v10);
+    s4(v3 + 8260ull, v28);
+    s2(v3 + 8242ull, v23);
+    s2(v3 + 8240ull, v26);
+    v5 = 0u;
+    s1(v3 + 8231ull, 0u);
+    s1(v3 + 8230ull, v9);
+    s2(v3 + 8228ull, v29);
+    s4(v3 + 8234ull, 0u);
+    s2(v3 + 8232ull, 2u);
+    s2(v3 + 8238ull, 0u);
+    s4(v3 + 8268ull, 0u);
+    s4(v3 + 8264ull, v27);
+    s8(v3 + 8248ull, v15);
+    v15 = v13 + 1ull;
+    v2 = 1u;
+    goto L13;
+L15:;
+    s4_4(v4 + 164, 0u);
+    s2_2(v4 + 168, 0u);
+    v16 = l8_8(v1 + 24ull);
+    v5 = l2_2(v1 + 16ull);
+    v14 = l2_2(v4 + 84);
+    v11 = l4_4(v4 + 80);
+    v17 = 4u;
+    v18 = 132u;
+    v12 = 0u;
+    v19 = 0u;
+    v20 = 0u;
+    v21 = 0u;
+L14:;
+    if (v2 & 255u) goto L7;
+    v15 = l8_8(v1 + 11296ull);
+    v2 = 0u;
+    v6 = 0u;
+L13:;
+    v3 = v1 + (v15 * 48ull);
+    s1(v3 + 8231ull, 0u);
+    s1(v3 + 8230ull, v18);
+    s2(v3 + 8228ull, v14);
+    s4(v3 + 8224ull, v11);
+    s4(v3 + 8260ull, v20);
+    s4(v3 + 8256ull, v19);
+    s4(v3 + 8244ull, v12);
+    s2(v3 + 8242ull, v5);
+    s2(v3 + 8240ull, v17);
+    s2(v3 + 8232ull, v8);
+    s4(v3 + 8234ull, l4_4(v4 + 164));
+    s2(v3 + 8238ull, l2_2(v4 + 168));
+    s8(v3 + 8248ull, v16);
+    s4(v3 + 8268ull, 0u);
+    s4(v3 + 8264ull, v21);
+    s8_8(v1 + 11296ull, v15 + 1ull);
+    goto L5;
+L12:;
+    v3 = v1 + 11304ull;
+    s4_4(v3, l4_4(v3) + 0xFFFFFFFFu);
+    v13 = l8_8(v1 + 14384ull);
+    v3 = v1 + (v13 * 48ull);
+    s4(v3 + 11312ull, v6);
+    s4(v3 + 11332ull, v5);
+    s4(v3 + 11344ull, v10);
+    s4(v3 + 11348ull, v28);
+    s2(v3 + 11330ull, v23);
+    s2(v3 + 11328ull, v26);
+    v5 = 0u;
+    s1(v3 + 11319ull, 0u);
+    s1(v3 + 11318ull, v9);
+    s2(v3 + 11316ull, v29);
+    s4(v3 + 11322ull, 0u);
+    s2(v3 + 11320ull, 2u);
+    s2(v3 + 11326ull, 0u);
+    s4(v3 + 11356ull, 0u);
+    s4(v3 + 11352ull, v27);
+    s8(v3 + 11336ull, v15);
+    v15 = v13 + 1ull;
+    v2 = 1u;
+    goto L6;
+L9:;
+    answer_refused_end(v4 + 24ull, v4 + 80ull, l2_2(v4 + 74));
+    if (v2 & 255u) goto L49;
+    v3 = v1 + 11296ull;
+    v15 = l8_8(v3);
+    v1 = v1 + (v15 * 48ull);
+    s8(v1 + 8264ull, l8_8(v4 + 64));
+    s8(v1 + 8256ull, l8_8(v4 + 56));
+    s8(v1 + 8248ull, l8_8(v4 + 48));
+    s8(v1 + 8240ull, l8_8(v4 + 40));
+    s8(v1 + 8232ull, l8_8(v4 + 32));
+    s8(v1 + 8224ull, l8_8(v4 + 24));
+    s8_8(v3, v15 + 1ull);
+    goto L48;
+L49:;
+    v3 = v1 + 14384ull;
+    v15 = l8_8(v3);
+    v1 = v1 + (v15 * 48ull);
+    s8(v1 + 11352ull, l8_8(v4 + 64));
+    s8(v1 + 11344ull, l8_8(v4 + 56));
+    s8(v1 + 11336ull, l8_8(v4 + 48));
+    s8(v1 + 11328ull, l8_8(v4 + 40));
+    s8(v1 + 11320ull, l8_8(v4 + 32));
+    s8(v1 + 11312ull, l8_8(v4 + 24));
+    s8_8(v3, v15 + 1ull);
+L48:;
+    v6 = 0u;
+    v2 = 0u;
+    goto L4;
+L8:;
+    TRAP();
+L7:;
+    v15 = l8_8(v1 + 14384ull);
+    v6 = 0u;
+    v2 = 0u;
+L6:;
+    v3 = v1 + (v15 * 48ull);
+    s1(v3 + 11319ull, 0u);
+    s1(v3 + 11318ull, v18);
+    s2(v3 + 11316ull, v14);
+    s4(v3 + 11312ull, v11);
+    s4(v3 + 11348ull, v20);
+    s4(v3 + 11344ull, v19);
+    s4(v3 + 11332ull, v12);
+    s2(v3 + 11330ull, v5);
+    s2(v3 + 11328ull, v17);
+    s2(v3 + 11320ull, v8);
+    s4(v3 + 11322ull, l4_4(v4 + 164));
+    s2(v3 + 11326ull, l2_2(v4 + 168));
+    s8(v3 + 11336ull, v16);
+    s4(v3 + 11356ull, 0u);
+    s4(v3 + 11352ull, v21);
+    s8_8(v1 + 14384ull, v15 + 1ull);
+L5:;
+    v2 = v2 & 255u;
+L4:;
+    s4(v0, 1u);
+    s4(v0 + 12ull, v6);
+    s4(v0 + 8ull, v2);
+    s4(v0 + 4ull, l4_4(v4 + 80));
+    goto L1;
+L3:;
+    v15 = 0ull;
+    v3 = v7;
+L50:;
+    if (l2_2(v3) == (v14 & 65535u)) goto L2;
+    v3 = v3 + 64ull;
+    v15 = v15 + 1ull;
+    if (v13 != v15) goto L50;
+    v15 = v13;
+L2:;
+    v3 = v7 + (v15 << 6);
+    v17 = l4_4(v3 + 40ull);
+    v3 = l8_8(v3 + 32ull);
+    s1(v4 + 112, v5);
+    s4_4(v4 + 120, v8);
+    v3 = v3 + 1ull;
+    multi3(v4, v3, (u64)(u32)(v3 == 0), (v5 == 7u) ? ((u64)v8) : 0ull, 0ull);
+    s4_4(v4 + 116, v9);
+    s2_2(v4 + 114, v10);
+    s1(v4 + 113, v11);
+    s1(v4 + 111, 0u);
+    s1(v4 + 110, v2);
+    s2_2(v4 + 108, v14);
+    s4_4(v4 + 104, v12);
+    s4_4(v4 + 148, 0u);
+    s2(v4 + 137, 0u);
+    s1(v4 + 136, (u32)v15);
+    s8_8(v4 + 128, 0ull);
+    s1(v4 + 139, 0u);
+    v14 = l4_4(v4 + 8);
+    s4_4(v4 + 140, v14);
+    v14 = div32(v14, (v17 >> 6) + 1u);
+    s1(v4 + 144, (v14 < 63u) ? v14 : 63u);
+    v15 = (u64)l4_4(v1 + 5960ull);
+    v3 = v1 + 5976ull;
+    v13 = l8_8(v3);
+    v16 = l8_8(v1 + 5968ull);
+    s4_4(v4 + 124, v6);
+    s1(v4 + 147, 0u);
+    s2(v4 + 145, 0u);
+    v22 = (u64)v6;
+    s8_8(v4 + 152, v15 + (v13 + (v16 + v22)));
+    v15 = v1 + 816ull;
+    Slots_push(v15, v4 + 104ull);
+    s8_8(v3, l8_8(v3) + v22);
+    v22 = l8_8(v1 + 4208ull) + 0xFFFFFFFFFFFFFFFFull;
+    v3 = (u64)l1((v1 + v22) + 4144ull);
+    v31 = (v1 + (v3 * 12ull)) + 2864ull;
+    v32 = (u64)l1(v31);
+    v13 = v1 + (v32 << 3);
+    v30 = v13 + 7056ull;
+    v16 = l8(v30);
+    if (v16 == 0xFFFFFFFFFFFFFFFFull) goto L51;
+    v13 = l8_8(v13 + 4232ull) & (l8_8((v1 + (v3 << 3)) + 4360ull));
+    if ((((l1((v15 + (v3 << 5)) + 8ull)) + 0xFFFFFFFCu) & 255u) > 2u) goto L53;
+    if ((u32)(v13 == 0) == 0) goto L51;
+    v3 = 0ull;
     goto L52;
 L53:;
-    v6 = (u32)(698496357008ull >> (((((u64)v32) & 255ull) << 3) & 63));
+    if ((l8_8(v1 + 4224ull) & v13) != 0ull) goto L51;
+    v15 = v7 + (v32 << 6);
+    v14 = l4_4(v15 + 52ull);
+    v13 = (u64)v14;
+    v6 = l4(v31 + 4);
+    v3 = (u64)v6;
+    if (l1(v15 + 56ull) != 1u) goto L54;
+    v3 = (v14 > v6) ? ((((u64)l4_4(v15 + 40ull)) << 1) - (v13 + v3)) : (v3 - v13);
+    goto L52;
+L54:;
+    v3 = ((v6 > v14) ? v3 : (0ull - v3)) + v13;
 L52:;
-    v12 = l4_4(v5 + 124);
-    v3 = l8_8(v5 + 128);
-    v8 = l4_4(v5 + 136);
-    v9 = l4_4(v5 + 140);
-    v32 = l4_4(v5 + 144);
-    v31 = l1(v5 + 120);
-    v28 = l2_2(v5 + 122);
-    if (v2 & 255u) goto L26;
-    v4 = v1 + 8216ull;
-    s4_4(v4, l4_4(v4) + 0xFFFFFFFFu);
-    v23 = l8_8(v1 + 11296ull);
-    v4 = v1 + (v23 * 48ull);
-    s4(v4 + 8224ull, v14);
-    s4(v4 + 8244ull, v12);
-    s4(v4 + 8256ull, v8);
-    s4(v4 + 8260ull, v9);
-    s2(v4 + 8242ull, v28);
-    s2(v4 + 8240ull, v31);
-    v12 = 0u;
-    s1(v4 + 8231ull, 0u);
-    s1(v4 + 8230ull, v6);
-    s2(v4 + 8228ull, v33);
-    s4(v4 + 8234ull, 0u);
-    s2(v4 + 8232ull, 2u);
-    s2(v4 + 8238ull, 0u);
-    s4(v4 + 8268ull, 0u);
-    s4(v4 + 8264ull, v32);
-    s8(v4 + 8248ull, v3);
-    v3 = v23 + 1ull;
-    v2 = 1u;
-    goto L27;
-L29:;
-    s4_4(v5 + 180, 0u);
-    s2_2(v5 + 184, 0u);
-    v16 = l8_8(v1 + 24ull);
-    v12 = l2_2(v1 + 16ull);
-    v7 = 4u;
-    v24 = 132u;
-    v19 = 0u;
-    v25 = 0u;
-    v26 = 0u;
-    v27 = 0u;
-L28:;
-    if (v2 & 255u) goto L11;
-    v3 = l8_8(v1 + 11296ull);
-    v2 = 0u;
-    v14 = 0u;
-L27:;
-    v4 = v1 + (v3 * 48ull);
-    s1(v4 + 8231ull, 0u);
-    s1(v4 + 8230ull, v24);
-    s2(v4 + 8228ull, v10);
-    s4(v4 + 8224ull, v11);
-    s4(v4 + 8260ull, v26);
-    s4(v4 + 8256ull, v25);
-    s4(v4 + 8244ull, v19);
-    s2(v4 + 8242ull, v12);
-    s2(v4 + 8240ull, v7);
-    s2(v4 + 8232ull, v13);
-    s4(v4 + 8234ull, l4_4(v5 + 180));
-    s2(v4 + 8238ull, l2_2(v5 + 184));
-    s8(v4 + 8248ull, v16);
-    s4(v4 + 8268ull, 0u);
-    s4(v4 + 8264ull, v27);
-    s8_8(v1 + 11296ull, v3 + 1ull);
-    goto L9;
-L26:;
-    v4 = v1 + 11304ull;
-    s4_4(v4, l4_4(v4) + 0xFFFFFFFFu);
-    v23 = l8_8(v1 + 14384ull);
-    v4 = v1 + (v23 * 48ull);
-    s4(v4 + 11312ull, v14);
-    s4(v4 + 11332ull, v12);
-    s4(v4 + 11344ull, v8);
-    s4(v4 + 11348ull, v9);
-    s2(v4 + 11330ull, v28);
-    s2(v4 + 11328ull, v31);
-    v12 = 0u;
-    s1(v4 + 11319ull, 0u);
-    s1(v4 + 11318ull, v6);
-    s2(v4 + 11316ull, v33);
-    s4(v4 + 11322ull, 0u);
-    s2(v4 + 11320ull, 2u);
-    s2(v4 + 11326ull, 0u);
-    s4(v4 + 11356ull, 0u);
-    s4(v4 + 11352ull, v32);
-    s8(v4 + 11336ull, v3);
-    v3 = v23 + 1ull;
-    v2 = 1u;
-    goto L10;
-L23:;
-    answer_refused_end(v5 + 40ull, v5 + 100ull, l2_2(v5 + 90));
-    if (v2 & 255u) goto L62;
-    v3 = v1 + 11296ull;
-    v23 = l8_8(v3);
-    v4 = v1 + (v23 * 48ull);
-    s8(v4 + 8264ull, l8_8(v5 + 80));
-    s8(v4 + 8256ull, l8_8(v5 + 72));
-    s8(v4 + 8248ull, l8_8(v5 + 64));
-    s8(v4 + 8240ull, l8_8(v5 + 56));
-    s8(v4 + 8232ull, l8_8(v5 + 48));
-    s8(v4 + 8224ull, l8_8(v5 + 40));
-    s8_8(v3, v23 + 1ull);
-    goto L61;
-L62:;
-    v3 = v1 + 14384ull;
-    v23 = l8_8(v3);
-    v4 = v1 + (v23 * 48ull);
-    s8(v4 + 11352ull, l8_8(v5 + 80));
-    s8(v4 + 11344ull, l8_8(v5 + 72));
-    s8(v4 + 11336ull, l8_8(v5 + 64));
-    s8(v4 + 11328ull, l8_8(v5 + 56));
-    s8(v4 + 11320ull, l8_8(v5 + 48));
-    s8(v4 + 11312ull, l8_8(v5 + 40));
-    s8_8(v3, v23 + 1ull);
-L61:;
-    v19 = 0u;
-    v13 = 1u;
-    goto L6;
-L13:;
-    s1(v0, 1u);
-    s8(v0 + 4ull, 0ull);
-    s1(v0 + 1ull, l1(v5 + 17));
-    s8(v0 + 12ull, 0ull);
-    goto L1;
-L12:;
-    TRAP();
-L11:;
-    v3 = l8_8(v1 + 14384ull);
-    v14 = 0u;
-    v2 = 0u;
-L10:;
-    v4 = v1 + (v3 * 48ull);
-    s1(v4 + 11319ull, 0u);
-    s1(v4 + 11318ull, v24);
-    s2(v4 + 11316ull, v10);
-    s4(v4 + 11312ull, v11);
-    s4(v4 + 11348ull, v26);
-    s4(v4 + 11344ull, v25);
-    s4(v4 + 11332ull, v19);
-    s2(v4 + 11330ull, v12);
-    s2(v4 + 11328ull, v7);
-    s2(v4 + 11320ull, v13);
-    s4(v4 + 11322ull, l4_4(v5 + 180));
-    s2(v4 + 11326ull, l2_2(v5 + 184));
-    s8(v4 + 11336ull, v16);
-    s4(v4 + 11356ull, 0u);
-    s4(v4 + 11352ull, v27);
-    s8_8(v1 + 14384ull, v3 + 1ull);
-L9:;
-    v19 = v2 & 255u;
-    v13 = 1u;
-    goto L5;
-L8:;
-    v3 = 0ull;
-    v4 = v16;
-L63:;
-    if (l2_2(v4) == (v10 & 65535u)) goto L7;
-    v4 = v4 + 64ull;
-    v3 = v3 + 1ull;
-    if (v23 != v3) goto L63;
-    v3 = v23;
-L7:;
-    v4 = v16 + (v3 << 6);
-    v6 = l4_4(v4 + 40ull);
-    v4 = l8_8(v4 + 32ull);
-    s1(v5 + 128, v9);
-    s4_4(v5 + 136, v14);
-    v4 = v4 + 1ull;
-    multi3(v5, v4, (u64)(u32)(v4 == 0), (v9 == 7u) ? ((u64)v14) : 0ull, 0ull);
-    s4_4(v5 + 132, v12);
-    s2_2(v5 + 130, v19);
-    s1(v5 + 129, v7);
-    s1(v5 + 127, 0u);
-    s1(v5 + 126, v2);
-    s2_2(v5 + 124, v10);
-    s4_4(v5 + 120, v11);
-    s4_4(v5 + 164, 0u);
-    s2(v5 + 153, 0u);
-    s1(v5 + 152, (u32)v3);
-    s8_8(v5 + 144, 0ull);
-    s1(v5 + 155, 0u);
-    v14 = l4_4(v5 + 8);
-    s4_4(v5 + 156, v14);
-    v14 = div32(v14, (v6 >> 6) + 1u);
-    s1(v5 + 160, (v14 < 63u) ? v14 : 63u);
-    v3 = (u64)l4_4(v1 + 5960ull);
-    v4 = v1 + 5976ull;
-    v23 = l8_8(v4);
-    v17 = l8_8(v1 + 5968ull);
-    s4_4(v5 + 140, v13);
-    s1(v5 + 163, 0u);
-    s2(v5 + 161, 0u);
-    v20 = (u64)v13;
-    s8_8(v5 + 168, v3 + (v23 + (v17 + v20)));
-    Slots_push(v22, v5 + 120ull);
-    s8_8(v4, l8_8(v4) + v20);
-    v17 = l8_8(v1 + 4208ull) + 0xFFFFFFFFFFFFFFFFull;
-    v4 = (u64)l1((v1 + v17) + 4144ull);
-    v21 = (v1 + (v4 * 12ull)) + 2864ull;
-    v34 = (u64)l1(v21);
-    v3 = v1 + (v34 << 3);
-    v20 = v3 + 7056ull;
-    v23 = l8(v20);
-    if ((v23 & 255ull) == 255ull) goto L64;
-    v3 = l8_8(v3 + 4232ull) & (l8_8((v1 + (v4 << 3)) + 4360ull));
-    if ((((l1((v22 + (v4 << 5)) + 8ull)) + 0xFFFFFFFCu) & 255u) > 2u) goto L66;
-    if ((u32)(v3 == 0) == 0) goto L64;
-    v4 = 0ull;
-    goto L65;
-L66:;
-    if ((l8_8(v1 + 4224ull) & v3) != 0ull) goto L64;
-    v3 = v16 + (v34 << 6);
-    v13 = l4_4(v3 + 52ull);
-    v22 = (u64)v13;
-    v14 = l4(v21 + 4);
-    v4 = (u64)v14;
-    if (l1(v3 + 56ull) != 1u) goto L67;
-    v4 = (v13 > v14) ? ((((u64)l4_4(v3 + 40ull)) << 1) - (v22 + v4)) : (v4 - v22);
-    goto L65;
-L67:;
-    v4 = ((v14 > v13) ? v4 : (0ull - v4)) + v22;
-L65:;
-    v4 = (v4 << 8) + v17;
-    s8(v20, (v23 < v4) ? v23 : v4);
-L64:;
-    if (v2 & 255u) goto L69;
-    s4_4(v15, l4_4(v15) + 1u);
-    goto L68;
-L69:;
-    v4 = v1 + 11304ull;
-    s4_4(v4, l4_4(v4) + 1u);
-L68:;
-    v13 = 0u;
-    v19 = 0u;
-L6:;
-    v14 = 0u;
-L5:;
-    v12 = 0u;
-    v6 = v18;
-    v18 = v11;
-    goto L2;
-L4:;
-    v12 = 4u;
-L3:;
-    v13 = 0u;
-    v18 = 0u;
-    v19 = 0u;
-    v14 = 0u;
-L2:;
-    s1(v0, v6);
-    s4(v0 + 16ull, v14);
-    s4(v0 + 12ull, v19);
-    s4(v0 + 8ull, v18);
-    s4(v0 + 4ull, v13);
-    s1(v0 + 1ull, v12);
+    v3 = (v3 << 8) + v22;
+    s8(v30, (v16 < v3) ? v16 : v3);
+L51:;
+    if (v2 & 255u) goto L56;
+    v1 = v1 + 8216ull;
+    s4_4(v1, l4_4(v1) + 1u);
+    goto L55;
+L56:;
+    v1 = v1 + 11304ull;
+    s4_4(v1, l4_4(v1) + 1u);
+L55:;
+    s4(v0, 0u);
+    s8(v0 + 8ull, 0ull);
+    s4(v0 + 4ull, v12);
 L1:;
     return;
 }
 
-/* mscp_port::port::Port::see_text, crates/mscp_port/src/port/hearing.rt:138 */
-APART void Port_see_text(u64 v0, u32 v1, u32 v2, u64 v3, u64 v4)
+/* mscp_port::port::Port::see_text, crates/mscp_port/src/port/hearing.rt:144 */
+static void Port_see_text(u64 v0, u32 v1, u32 v2, u64 v3, u64 v4)
 {
-    ROOM(frame, 272);
-    u32 v9 = 0, v12 = 0, v13 = 0, v15 = 0, v16 = 0, v17 = 0, v18 = 0, v22 = 0, v23 = 0, v24 = 0, v25 = 0, v26 = 0, t0;
-    u64 v5 = 0, v6 = 0, v7 = 0, v8 = 0, v10 = 0, v11 = 0, v14 = 0, v19 = 0, v20 = 0, v21 = 0;
+    ROOM(frame, 96);
+    u32 v9 = 0, v12 = 0, v13 = 0, v15 = 0, v16 = 0, v17 = 0, v18 = 0, v19 = 0, v22 = 0, v23 = 0, v25 = 0, v26 = 0, t0;
+    u64 v5 = 0, v6 = 0, v7 = 0, v8 = 0, v10 = 0, v11 = 0, v14 = 0, v20 = 0, v21 = 0, v24 = 0;
     v5 = A(frame);
     v6 = v5;
     s1(v0 + 14448ull, 0u);
@@ -15123,67 +15048,67 @@ APART void Port_see_text(u64 v0, u32 v1, u32 v2, u64 v3, u64 v4)
     s2_2(v8, v1);
     v1 = l2(v3 + 4ull);
     v10 = l8_8(v0 + 808ull);
-    if (v10 == 0) goto L8;
+    if (v10 == 0) goto L9;
     v8 = v0 + 17120ull;
     v5 = v0 + 40ull;
     v11 = v10;
-L9:;
-    if (l2_2(v5) == (v1 & 65535u)) goto L7;
+L10:;
+    if (l2_2(v5) == (v1 & 65535u)) goto L8;
     v8 = v8 + 20ull;
     v5 = v5 + 48ull;
     v11 = v11 + 0xFFFFFFFFFFFFFFFFull;
-    if ((u32)(v11 == 0) == 0) goto L9;
-L8:;
+    if ((u32)(v11 == 0) == 0) goto L10;
+L9:;
     v5 = 12ull;
-    if (v2) goto L6;
+    if (v2) goto L7;
     v9 = l1(v3 + 8);
-    if (v9 > 19u) goto L2;
-    if (((1u << (v9 & 31)) & 657408u) == 0) goto L2;
+    if (v9 > 19u) goto L4;
+    if (((1u << (v9 & 31)) & 657408u) == 0) goto L4;
     v9 = v9 ^ 0xFFFFFF80u;
     v12 = 0u;
-    goto L4;
-L7:;
-    if (v2 == 0) goto L5;
+    goto L5;
+L8:;
+    if (v2 == 0) goto L6;
     v5 = 12ull;
-L6:;
+L7:;
     v12 = 2049u;
     v9 = 128u;
-    goto L4;
-L5:;
-    v9 = l1(v3 + 8);
-    if ((l1(v8) & 1u) == 0) goto L2;
-    v12 = l4(v8 + 8ull);
-    switch (v9 + 0xFFFFFFF0u) {
-    case 0: case 2: goto L11;
-    default: goto L12;
+    goto L5;
+L6:;
+    if ((l1(v8) & 1u) == 0) goto L4;
+    v9 = l4(v8 + 8ull);
+    v13 = l1(v3 + 8);
+    switch (v13 + 0xFFFFFFF0u) {
+    case 0: case 2: goto L12;
+    default: goto L13;
     }
-L12:;
-    if (((v9 + 0xFFFFFFE0u) & 255u) > 2u) goto L2;
-    if (v4 > 31ull) goto L10;
-    goto L2;
-L11:;
-    if (v4 < 32ull) goto L2;
-L10:;
-    v13 = l4(v3 + 28ull);
-    if (v12 > v13) goto L14;
-    v12 = 7169u;
-    goto L13;
-L14:;
-    t0 = v12 - v13;
-    v12 = l4(v3 + 12ull);
-    if (t0 >= ((v12 >> 9) + (u32)((v12 & 511u) != 0u))) goto L2;
-    v12 = 3073u;
 L13:;
-    v9 = v9 ^ 0xFFFFFF80u;
+    if (((v13 + 0xFFFFFFE0u) & 255u) > 2u) goto L4;
+    if (v4 > 31ull) goto L11;
+    goto L4;
+L12:;
+    if (v4 < 32ull) goto L4;
+L11:;
+    v12 = l4(v3 + 28ull);
+    if (v9 > v12) goto L15;
+    v12 = 7169u;
+    goto L14;
+L15:;
+    t0 = v9 - v12;
+    v9 = l4(v3 + 12ull);
+    if (t0 >= ((v9 >> 9) + (u32)((v9 & 511u) != 0u))) goto L4;
+    v12 = 3073u;
+L14:;
+    v9 = v13 ^ 0xFFFFFF80u;
     v5 = 32ull;
-L4:;
+L5:;
     v8 = v0 + 14456ull;
-    if (l1(v8) != 1u) goto L15;
+    if (l1(v8) != 1u) goto L16;
     s8(v7, 0ull);
     s8(v7 + 5, 0ull);
     s1(v0 + 14529ull, 1u);
     goto L1;
-L15:;
+L16:;
     v13 = l4(v3);
     s8(v0 + 14476ull, 0ull);
     s2(v0 + 14474ull, v12);
@@ -15200,369 +15125,395 @@ L15:;
     s4(v0 + 14524ull, 0u);
     s4(v0 + 14470ull, (v9 & 255u) << 16);
     goto L1;
+L4:;
+    s8_8(v6 + 40, 0ull);
+    s8_8(v6 + 32, 0ull);
+    s8_8(v6 + 24, 0ull);
+    reading_read_command(v6 + 24ull, v3, v4);
+    if (l1(v6 + 24) == 0) goto L2;
     TRAP();
 L2:;
-    s4_4(v6 + 16, 0u);
-    s8_8(v6 + 8, 0ull);
-    s8_8(v6, 0ull);
     v14 = v0 + 40ull;
-    v11 = v0 + 8ull;
-    v2 = v9 + 0xFFFFFFFDu;
-    switch ((u32)(((u64)((v2 << 7) | ((v2 & 254u) >> 1))) & 255ull)) {
-    case 0: goto L19;
-    case 4: case 7: case 8: goto L20;
-    default: goto L17;
+    v15 = l4_4(v6 + 44);
+    v16 = l4_4(v6 + 40);
+    v17 = l2_2(v6 + 38);
+    v18 = l1(v6 + 37);
+    v13 = l1(v6 + 36);
+    v2 = l2_2(v6 + 34);
+    v12 = 1u;
+    v9 = l2_2(v6 + 32);
+    v1 = v9;
+    v19 = l1(v3 + 8) + 0xFFFFFFFDu;
+    switch ((u32)(((u64)((v19 << 7) | ((v19 & 254u) >> 1))) & 255ull)) {
+    case 0: goto L20;
+    case 4: case 7: case 8: goto L18;
+    default: goto L19;
     }
 L20:;
-    s8_8(v6 + 24, 0ull);
-    s8_8(v6 + 32, 0ull);
-    s8_8(v6 + 40, 0ull);
-    s8_8(v6 + 48, 0ull);
-    s8_8(v6 + 56, 0ull);
-    s8_8(v6 + 64, 0ull);
-    s8(v6 + 71, 0ull);
-    v8 = l8(v3);
-    v1 = (u32)(v8 >> 48);
-    v5 = 32ull;
-    v2 = 16u;
-    goto L18;
-L19:;
-    if ((l1(v3 + 10ull) & 1u) == 0) goto L17;
-    fill(v6 + 158ull, 0u, 66ull);
+    if (l1(v3 + 10ull) & 1u) goto L21;
+    v1 = v9;
+    goto L19;
+L21:;
     v8 = v10 + 1ull;
-    v10 = (u64)l4(v3);
     v5 = v14;
 L22:;
+    v2 = 0u;
     v8 = v8 + 0xFFFFFFFFFFFFFFFFull;
     if ((u32)(v8 == 0) == 0) goto L23;
-    v2 = 0u;
-    goto L21;
+    v1 = 0u;
+    goto L19;
 L23:;
-    v2 = l2_2(v5);
+    v1 = l2_2(v5);
     v5 = v5 + 48ull;
-    if ((v1 & 65535u) > v2) goto L22;
-L21:;
-    v8 = ((u64)v2) << 32;
-    v5 = v4 + 0xFFFFFFFFFFFFFFFAull;
-    if (v5 <= 58ull) goto L25;
-    v2 = 0u;
-    v5 = 6ull;
-    v1 = 0u;
-    goto L24;
+    if (v9 > v1) goto L22;
+L19:;
+    s8_8(v6 + 8, 0ull);
+    s8_8(v6 + 16, 0ull);
+    v9 = (v2 << 16) | v1;
+    switch (v13) {
+    case 4: case 5: case 6: case 7: goto L25;
+    case 8: goto L24;
+    default: goto L17;
+    }
 L25:;
-    if (v5 == 0) goto L26;
-    copy(v6 + 158ull, v3 + 6ull, v5);
-L26:;
-    v1 = l2_2(v6 + 158);
-    v2 = l1(v6 + 160);
-    v5 = v4;
+    v12 = 0u;
+    goto L17;
 L24:;
-    v8 = v8 | v10;
-    s8(v6 + 39, l8(v6 + 176));
-    s8_8(v6 + 32, l8(v6 + 169));
-    s8_8(v6 + 24, l8(v6 + 161));
-    s8(v6 + 47, l8_2(v6 + 184));
-    s8(v6 + 55, l8_2(v6 + 192));
-    s8(v6 + 63, l8_2(v6 + 200));
-    s8(v6 + 71, l8_2(v6 + 208));
+    v12 = ((v18 + 0xFFFFFFFFu) & 255u) < 4u;
+    v13 = 8u;
+    goto L17;
 L18:;
-    s1(v6 + 88, v2);
-    s8(v6 + 89, l8_8(v6 + 24));
-    s8(v6 + 97, l8_8(v6 + 32));
-    s8(v6 + 105, l8_8(v6 + 40));
-    s8(v6 + 113, l8_8(v6 + 48));
-    s8(v6 + 121, l8_8(v6 + 56));
-    s8(v6 + 129, l8_8(v6 + 64));
-    s8(v6 + 136, l8(v6 + 71));
-    s8_8(v6 + 144, v5);
-    s8_8(v6 + 80, (((u64)v1) << 48) | (v8 & 0xFFFFFFFFFFFFull));
-    Controller_send(v6, v11, 0u, v6 + 80ull, v5);
-    goto L16;
+    s8_8(v6 + 8, 0ull);
+    s8_8(v6 + 16, 0ull);
+    v12 = 0u;
+    v15 = 0u;
+    v16 = 0u;
+    v17 = 0u;
+    v18 = 0u;
+    v13 = 7u;
 L17:;
-    Controller_send(v6, v11, 0u, v3, v4);
-L16:;
-    if (l1(v6)) goto L30;
-    if (l1(v6 + 4) & 255u) goto L31;
+    v2 = l4_4(v6 + 28);
+    v1 = l4_4(v0 + 8ull);
+    v20 = l8_8(v0 + 11304ull);
+    v19 = v1 - (l4_4(v0 + 8224ull) + ((u32)v20));
+    switch ((v19 > v1) ? 0u : v19) {
+    case 0: goto L26;
+    case 1: goto L28;
+    default: goto L27;
+    }
+L28:;
+    if (v12 == 0) goto L26;
+L27:;
+    v21 = v0 + 8ull;
+    v5 = l8_8((v0 + ((u64)(((((v2 >> 6) + v2) + (v2 >> 12)) << 3) & 504u))) + 5456ull);
+    v10 = v0 + 824ull;
+L30:;
+    v8 = ctz64(v5);
+    if (v8 > 63ull) goto L29;
+    v5 = v5 & (rotl64(0xFFFFFFFFFFFFFFFEull, (v8 & 63)));
+    v11 = v10 + (v8 << 5);
+    if (l1(v11 + 6ull)) goto L30;
+    if (l4_4(v11) != v2) goto L30;
+L29:;
+    v11 = v20 + 1ull;
+    v20 = v0 + 8232ull;
+    v5 = v20;
+L32:;
+    v11 = v11 + 0xFFFFFFFFFFFFFFFFull;
+    if (v11 == 0) goto L31;
+    v1 = l4_4(v5);
+    v5 = v5 + 48ull;
+    if (v1 != v2) goto L32;
+    goto L26;
+L31:;
+    if (v8 < 64ull) goto L26;
+    s4_4(v6 + 40, v15);
+    s4_4(v6 + 36, v16);
+    s2_2(v6 + 34, v17);
+    s1(v6 + 33, v18);
+    s1(v6 + 32, v13);
+    s4_4(v6 + 28, v9);
+    s4_4(v6 + 24, v2);
     v2 = 0u;
-    v1 = 0u;
+    Controller_arrive(v6 + 8ull, v21, 0u, v6 + 24ull);
+    if (l1(v6 + 8)) goto L35;
     v5 = l8_8(v0 + 808ull);
-    if (v5 == 0) goto L32;
+    if (v5 == 0) goto L36;
     v1 = l2(v3 + 4ull);
     v8 = v0 + 17124ull;
-L34:;
-    if (l2_2(v14) == (v1 & 65535u)) goto L33;
+L38:;
+    if (l2_2(v14) == (v1 & 65535u)) goto L37;
     v8 = v8 + 20ull;
     v14 = v14 + 48ull;
     v5 = v5 + 0xFFFFFFFFFFFFFFFFull;
-    if ((u32)(v5 == 0) == 0) goto L34;
-    v1 = 0u;
-    goto L32;
-L33:;
-    v1 = l4_4(v8);
-L32:;
-    if (v4 >= 4ull) goto L35;
-    v13 = 0u;
-    v15 = 0u;
-    goto L29;
-L35:;
-    v15 = l4(v3);
-    if (v4 >= 9ull) goto L36;
-    v2 = 0u;
-    v13 = 0u;
-    goto L29;
-L36:;
-    v16 = l1(v3 + 8);
-    if (v4 > 19ull) goto L38;
-    if (v4 < 16ull) goto L39;
-    v2 = l2(v3 + 10ull);
-    v13 = 0u;
-    goto L37;
-L39:;
-    v2 = 0u;
-    if (v4 >= 12ull) goto L40;
-    v13 = 0u;
-    goto L28;
-L40:;
-    v2 = l2(v3 + 10ull);
-    v13 = 0u;
-    goto L28;
-L38:;
-    v2 = l2(v3 + 10ull);
-    v13 = l4(v3 + 16ull);
+    if ((u32)(v5 == 0) == 0) goto L38;
+    goto L36;
 L37:;
-    v9 = l4(v3 + 12ull);
-    v12 = v9 >> 16;
-    goto L27;
-L31:;
+    v2 = l4_4(v8);
+L36:;
+    if (v4 >= 4ull) goto L41;
+    v1 = 0u;
+    v9 = 0u;
+    v12 = 0u;
+    goto L40;
+L41:;
+    v12 = l4(v3);
+    if (v4 >= 9ull) goto L39;
+    v1 = 0u;
+    v9 = 0u;
+L40:;
+    v13 = 0u;
+    goto L34;
+L39:;
+    v13 = l1(v3 + 8);
+    if (v4 > 19ull) goto L43;
+    if (v4 < 16ull) goto L44;
+    v1 = l2(v3 + 10ull);
+    v9 = 0u;
+    goto L42;
+L44:;
+    v1 = 0u;
+    if (v4 >= 12ull) goto L45;
+    v9 = 0u;
+    goto L34;
+L45:;
+    v1 = l2(v3 + 10ull);
+    v9 = 0u;
+    goto L34;
+L43:;
+    v1 = l2(v3 + 10ull);
+    v9 = l4(v3 + 16ull);
+L42:;
+    v19 = l4(v3 + 12ull);
+    v18 = v19 >> 16;
+    goto L33;
+L35:;
     v1 = l1(v3 + 8);
-    if (v1 != 2u) goto L41;
+    if (v1 != 2u) goto L46;
     s1(v0 + 14531ull, 1u);
     v1 = l1(v3 + 8);
-L41:;
-    if ((v1 & 255u) != 4u) goto L42;
-    if (v4 < 18ull) goto L42;
-    if (l1(v3 + 13ull) | l1(v3 + 12ull)) goto L42;
+L46:;
+    if ((v1 & 255u) != 4u) goto L47;
+    if (v4 < 18ull) goto L47;
+    if (l1(v3 + 13ull) | l1(v3 + 12ull)) goto L47;
     s2_2(v0 + 17440ull, l2(v3 + 14ull));
     v1 = l2(v3 + 16ull);
     s2_2(v0 + 17444ull, v1);
     s2_2(v0 + 17442ull, v1);
-L42:;
-    v17 = l4_4(v6 + 16);
-    v18 = l1(v6 + 12);
+L47:;
+    v22 = l4_4(v6 + 20);
+    v23 = l1(v6 + 16);
     v3 = l8_8(v0 + 17112ull);
     v4 = l8_8(v0 + 11304ull);
-    if (v3 >= v4) goto L43;
-    v19 = v0 + 8232ull;
-    v20 = v0 + 16088ull;
-    v21 = v0 + 14544ull;
-L44:;
-    v7 = v19 + (v3 * 48ull);
+    if (v3 >= v4) goto L48;
+    v21 = v0 + 16088ull;
+    v24 = v0 + 14544ull;
+L49:;
+    v7 = v20 + (v3 * 48ull);
     v1 = l2(v7 + 4);
-    v22 = 32768u;
+    v15 = 32768u;
     v10 = l8_8(v0 + 808ull);
-    if (v10 == 0) goto L46;
+    if (v10 == 0) goto L51;
     v5 = 40ull;
     v8 = 0ull;
     v11 = v10;
-L48:;
-    if (l2_2(v0 + v5) == (v1 & 65535u)) goto L47;
+L53:;
+    if (l2_2(v0 + v5) == (v1 & 65535u)) goto L52;
     v8 = v8 + 20ull;
     v5 = v5 + 48ull;
     v11 = v11 + 0xFFFFFFFFFFFFFFFFull;
-    if (v11 == 0) goto L46;
-    goto L48;
-L47:;
+    if (v11 == 0) goto L51;
+    goto L53;
+L52:;
     v5 = v0 + v8;
-    v22 = (l1(v5 + 17121ull) & 1u) ? 0xFFFFA000u : 0xFFFF8000u;
-    v23 = l1(v5 + 17123ull) << 7;
-    v24 = l1(v5 + 17120ull);
-    v25 = l1(v5 + 17136ull);
-    v15 = l4(v5 + 17132ull);
+    v15 = (l1(v5 + 17121ull) & 1u) ? 0xFFFFA000u : 0xFFFF8000u;
+    v25 = l1(v5 + 17123ull) << 7;
+    v17 = l1(v5 + 17120ull);
+    v16 = l1(v5 + 17136ull);
+    v19 = l4(v5 + 17132ull);
     v13 = l4(v5 + 17128ull);
     v26 = l1(v5 + 17122ull);
-    goto L45;
-L46:;
-    v24 = 0u;
-    v26 = 0u;
-    v23 = 0u;
-    v13 = 0u;
-    v15 = 0u;
-    v25 = 0u;
-L45:;
-    v11 = (u64)v1;
-    v16 = l1(v7 + 6);
-    v9 = v16;
-    v8 = l8_8(v0 + 16080ull);
-    if (v8 == 0) goto L49;
-    v2 = l4(v7);
-    v5 = v21;
+    goto L50;
 L51:;
-    if (l4_4(v5) == v2) goto L50;
+    v17 = 0u;
+    v26 = 0u;
+    v25 = 0u;
+    v13 = 0u;
+    v19 = 0u;
+    v16 = 0u;
+L50:;
+    v11 = (u64)v1;
+    v18 = l1(v7 + 6);
+    v9 = v18;
+    v8 = l8_8(v0 + 16080ull);
+    if (v8 == 0) goto L54;
+    v2 = l4(v7);
+    v5 = v24;
+L56:;
+    if (l4_4(v5) == v2) goto L55;
     v5 = v5 + 24ull;
     v8 = v8 + 0xFFFFFFFFFFFFFFFFull;
-    if ((u32)(v8 == 0) == 0) goto L51;
-    v9 = v16;
-    goto L49;
-L50:;
-    v9 = v16;
+    if ((u32)(v8 == 0) == 0) goto L56;
+    v9 = v18;
+    goto L54;
+L55:;
+    v9 = v18;
     v2 = l1(v5 + 4ull);
-    if (v2 > 19u) goto L49;
-    v9 = v16;
-    if (((1u << (v2 & 31)) & 657408u) == 0) goto L49;
+    if (v2 > 19u) goto L54;
+    v9 = v18;
+    if (((1u << (v2 & 31)) & 657408u) == 0) goto L54;
     v9 = v2 ^ 0xFFFFFF80u;
-L49:;
+L54:;
     v12 = l2(v7 + 8);
     v5 = v11 & 65535ull;
     v8 = v0 + 17440ull;
     v2 = v9 + 125u;
     switch ((u32)(((u64)((v2 << 7) | ((v2 & 254u) >> 1))) & 255ull)) {
-    case 0: goto L54;
-    case 3: goto L53;
-    case 4: case 7: case 8: goto L55;
-    default: goto L52;
+    case 0: goto L59;
+    case 3: goto L58;
+    case 4: case 7: case 8: goto L60;
+    default: goto L57;
     }
-L55:;
+L60:;
     v12 = (v12 == 2u) ? 2u : 0u;
-    goto L52;
-L54:;
+    goto L57;
+L59:;
     switch (v12) {
-    case 0: case 4: goto L56;
-    default: goto L52;
+    case 0: case 4: goto L61;
+    default: goto L57;
     }
-L56:;
+L61:;
     v12 = 35u;
-    if ((v24 & 1u) == 0) goto L52;
-    v12 = (v25 & 1u) ? 0u : 4u;
-    goto L52;
-L53:;
-    if ((v12 | 256u) != 256u) goto L52;
-    v12 = v25 << 8;
-L52:;
-    v25 = l2_2(v8);
-    if (v10 <= v5) goto L62;
+    if ((v17 & 1u) == 0) goto L57;
+    v12 = (v16 & 1u) ? 0u : 4u;
+    goto L57;
+L58:;
+    if ((v12 | 256u) != 256u) goto L57;
+    v12 = v16 << 8;
+L57:;
+    v16 = l2_2(v8);
+    if (v10 <= v5) goto L67;
     v5 = v14 + (v5 * 48ull);
-    if (l2_2(v5) == (v1 & 65535u)) goto L61;
-L62:;
+    if (l2_2(v5) == (v1 & 65535u)) goto L66;
+L67:;
     v8 = v10 + 1ull;
     v5 = v14;
-L63:;
+L68:;
     v8 = v8 + 0xFFFFFFFFFFFFFFFFull;
-    if (v8 == 0) goto L60;
+    if (v8 == 0) goto L65;
     v2 = l2_2(v5);
     v11 = v5 + 48ull;
     v5 = v11;
-    if (v2 != (v1 & 65535u)) goto L63;
-    if ((v16 & 255u) == 132u) goto L59;
+    if (v2 != (v1 & 65535u)) goto L68;
+    if ((v18 & 255u) == 132u) goto L64;
     v5 = v11 + 0xFFFFFFFFFFFFFFD0ull;
-    goto L58;
-L61:;
-    if ((v16 & 255u) != 132u) goto L58;
-    goto L59;
-L60:;
+    goto L63;
+L66:;
+    if ((v18 & 255u) != 132u) goto L63;
+    goto L64;
+L65:;
     v1 = 0u;
-    v15 = 0u;
+    v19 = 0u;
     v13 = 0u;
-    if ((v16 & 255u) != 132u) goto L57;
-L59:;
-    v1 = v25 | 0xFFFF8000u;
-    v15 = 0u;
-    v13 = 0u;
-    goto L57;
-L58:;
-    if (v24 & 1u) goto L64;
-    v15 = l4_4(v5 + 24ull);
-    v13 = l4_4(v5 + 8ull);
+    if ((v18 & 255u) != 132u) goto L62;
 L64:;
-    v1 = ((v26 << 12) + v22) | (v23 & 255u);
-L57:;
-    v5 = v20 + (v3 << 4);
+    v1 = v16 | 0xFFFF8000u;
+    v19 = 0u;
+    v13 = 0u;
+    goto L62;
+L63:;
+    if (v17 & 1u) goto L69;
+    v19 = l4_4(v5 + 24ull);
+    v13 = l4_4(v5 + 8ull);
+L69:;
+    v1 = ((v26 << 12) + v15) | (v25 & 255u);
+L62:;
+    v5 = v21 + (v3 << 4);
     s2(v5 + 6, 0u);
     s2(v5 + 4, v1);
     s2(v5 + 2, v12);
     s1(v5 + 1, 0u);
     s1(v5, v9);
     s4(v5 + 12, v13);
-    s4(v5 + 8, v15);
+    s4(v5 + 8, v19);
     v3 = v3 + 1ull;
     s8_8(v0 + 17112ull, v3);
-    if (v3 != v4) goto L44;
-L43:;
-    if ((v18 & 255u) != 1u) goto L1;
+    if (v3 != v4) goto L49;
+L48:;
+    if ((v23 & 255u) != 1u) goto L1;
     v7 = l8_8(v0 + 16080ull);
     if (v7 == 0) goto L1;
     v11 = 0ull;
-    v20 = v0 + 14544ull;
-    v5 = v20;
+    v21 = v0 + 14544ull;
+    v5 = v21;
     v8 = 0ull;
-L65:;
-    if (l4_4(v5) == v17) goto L66;
-    if (v11 < v8) goto L68;
-    if (v8 >= v11) goto L67;
-    v3 = v20 + (v11 * 24ull);
+L70:;
+    if (l4_4(v5) == v22) goto L71;
+    if (v11 < v8) goto L73;
+    if (v8 >= v11) goto L72;
+    v3 = v21 + (v11 * 24ull);
     v10 = l8(v3 + 16);
-    v14 = l8(v3 + 8);
-    v4 = l8(v5);
+    v4 = l8(v3 + 8);
+    v14 = l8(v5);
     s8(v5, l8(v3));
-    v19 = l8(v5 + 8);
-    s8(v5 + 8, v14);
-    v14 = l8(v5 + 16);
+    v20 = l8(v5 + 8);
+    s8(v5 + 8, v4);
+    v4 = l8(v5 + 16);
     s8(v5 + 16, v10);
-    s8(v3, v4);
-    s8(v3 + 8, v19);
-    s8(v3 + 16, v14);
-    goto L67;
-L68:;
-    v3 = v20 + (v11 * 24ull);
+    s8(v3, v14);
+    s8(v3 + 8, v20);
+    s8(v3 + 16, v4);
+    goto L72;
+L73:;
+    v3 = v21 + (v11 * 24ull);
     v10 = l8(v3);
-    v14 = l8(v5 + 16);
-    v4 = l8(v5 + 8);
+    v4 = l8(v5 + 16);
+    v14 = l8(v5 + 8);
     s8(v3, l8(v5));
-    v19 = l8(v3 + 8);
-    s8(v3 + 8, v4);
-    v4 = l8(v3 + 16);
-    s8(v3 + 16, v14);
+    v20 = l8(v3 + 8);
+    s8(v3 + 8, v14);
+    v14 = l8(v3 + 16);
+    s8(v3 + 16, v4);
     s8(v5, v10);
-    s8(v5 + 8, v19);
-    s8(v5 + 16, v4);
-L67:;
+    s8(v5 + 8, v20);
+    s8(v5 + 16, v14);
+L72:;
     v11 = v11 + 1ull;
-L66:;
+L71:;
     v5 = v5 + 24ull;
     v8 = v8 + 1ull;
-    if (v7 != v8) goto L65;
+    if (v7 != v8) goto L70;
     v5 = l8_8(v0 + 16080ull);
     if (v5 <= v11) goto L1;
     v5 = (v5 - v11) * 24ull;
-    if (v5 == 0) goto L69;
-    fill(v20 + (v11 * 24ull), 0u, v5);
-L69:;
+    if (v5 == 0) goto L74;
+    fill(v21 + (v11 * 24ull), 0u, v5);
+L74:;
     s8_8(v0 + 16080ull, v11);
     goto L1;
-L30:;
-    s8(v7, 0ull);
-    s8(v7 + 5, 0ull);
-    s1(v0 + 14529ull, 1u);
-    goto L1;
-L29:;
-    v16 = 0u;
-L28:;
-    v9 = 0u;
-    v12 = 0u;
-L27:;
+L34:;
+    v19 = 0u;
+    v18 = 0u;
+L33:;
     v11 = v0 + 16080ull;
     v8 = l8_8(v11);
     if (v8 == 64ull) goto L1;
     v5 = (v0 + 14544ull) + (v8 * 24ull);
     s2(v5 + 5, 0u);
-    s1(v5 + 4, v16);
-    s4(v5, v15);
+    s1(v5 + 4, v13);
+    s4(v5, v12);
     s1(v5 + 7, 0u);
-    s4(v5 + 20, v1);
-    s2(v5 + 18, v12);
-    s2(v5 + 16, v2);
-    s4(v5 + 12, v9);
-    s4(v5 + 8, v13);
+    s4(v5 + 20, v2);
+    s2(v5 + 18, v18);
+    s2(v5 + 16, v1);
+    s4(v5 + 12, v19);
+    s4(v5 + 8, v9);
     s8_8(v11, v8 + 1ull);
+    goto L1;
+L26:;
+    s8(v7, 0ull);
+    s1(v0 + 14529ull, 1u);
+    s8(v7 + 5, 0ull);
 L1:;
     return;
 }
@@ -15626,7 +15577,7 @@ L1:;
     return v3;
 }
 
-/* mscp_port::port::Port::settled, crates/mscp_port/src/port/going.rt:73 */
+/* mscp_port::port::Port::settled, crates/mscp_port/src/port/going.rt:86 */
 static void Port_settled(u64 v0)
 {
     u32 v3 = 0, v5 = 0;
@@ -15699,7 +15650,7 @@ L2:;
     TRAP();
 }
 
-/* mscp_port::port::Port::cleared, crates/mscp_port/src/port/going.rt:88 */
+/* mscp_port::port::Port::cleared, crates/mscp_port/src/port/going.rt:101 */
 static void Port_cleared(u64 v0, u32 v1, u32 v2)
 {
     u64 v4 = 0;
@@ -15761,7 +15712,7 @@ L3:;
     TRAP();
 }
 
-/* mscp_port::port::Port::returned, crates/mscp_port/src/port/going.rt:111 */
+/* mscp_port::port::Port::returned, crates/mscp_port/src/port/going.rt:124 */
 static void Port_returned(u64 v0, u32 v1, u32 v2, u32 v3)
 {
     u64 v5 = 0;
@@ -16065,7 +16016,7 @@ L1:;
     return;
 }
 
-/* mscp_port::port::Port::block_served, crates/mscp_port/src/port/checking.rt:79 */
+/* mscp_port::port::Port::block_served, crates/mscp_port/src/port/checking.rt:80 */
 static void Port_block_served(u64 v0, u64 v1, u32 v2, u32 v3)
 {
     ROOM(frame, 64);
@@ -16846,7 +16797,7 @@ L1:;
     return v1;
 }
 
-/* mscp_c::controller_saving::make_new, crates/mscp_c/src/controller_saving.rt:69 */
+/* mscp_c::controller_saving::make_new, crates/mscp_c/src/controller_saving.rt:72 */
 APART void controller_saving_make_new(u64 v0, u64 v1, u32 v2)
 {
     ROOM(frame, 4944);
@@ -16954,7 +16905,7 @@ L6:;
     TRAP();
 }
 
-/* mscp_c::mscp_restore_at, crates/mscp_c/src/controller_saving.rt:79 */
+/* mscp_c::mscp_restore_at, crates/mscp_c/src/controller_saving.rt:83 */
 APART u32 export_mscp_restore_at(u64 v0, u64 v1, u64 v2)
 {
     ROOM(frame, 816);
@@ -18353,7 +18304,7 @@ L1:;
     return;
 }
 
-/* mscp_drive::units::Units::new, crates/mscp_drive/src/units.rt:45 */
+/* mscp_drive::units::Units::new, crates/mscp_drive/src/units.rt:49 */
 APART void Units_new(u64 v0, u64 v1, u64 v2)
 {
     ROOM(frame, 1104);
@@ -20617,8 +20568,8 @@ L1:;
     return;
 }
 
-/* mscp_controller::controller::Controller::arrive, crates/mscp_controller/src/controller.rt:230 */
-static void Controller_arrive(u64 v0, u64 v1, u32 v2, u64 v3)
+/* mscp_controller::controller::Controller::arrive, crates/mscp_controller/src/controller.rt:234 */
+static void Controller_arrive_2(u64 v0, u64 v1, u32 v2, u64 v3)
 {
     ROOM(frame, 192);
     u32 v5 = 0, v6 = 0, v8 = 0, v9 = 0, v10 = 0, v11 = 0, v12 = 0, v14 = 0, v17 = 0, v18 = 0, v19 = 0, v20 = 0, v21 =
@@ -21104,7 +21055,7 @@ L2:;
     v13 = v1 + (v32 << 3);
     v30 = v13 + 7048ull;
     v16 = l8(v30);
-    if ((v16 & 255ull) == 255ull) goto L51;
+    if (v16 == 0xFFFFFFFFFFFFFFFFull) goto L51;
     v13 = l8_8(v13 + 4232ull) & (l8_8((v1 + (v3 << 3)) + 4360ull));
     if ((((l1((v15 + (v3 << 5)) + 8ull)) + 0xFFFFFFFCu) & 255u) > 2u) goto L53;
     if ((u32)(v13 == 0) == 0) goto L51;
@@ -21439,7 +21390,7 @@ L13:;
     s4_4(v4 + 60, v8);
     s8_2(v4 + 70, l8_2(v18));
     s2_2(v4 + 78, l2_2(v18 + 8));
-    Controller_arrive(v4 + 80ull, v0, v1, v4 + 60ull);
+    Controller_arrive_2(v4 + 80ull, v0, v1, v4 + 60ull);
     v10 = 0u;
     v16 = l1(v4 + 88);
     v5 = l1(v4 + 80);
@@ -21729,7 +21680,7 @@ L20:;
     TRAP();
 }
 
-/* mscp_queue::start::picked_place, crates/mscp_queue/src/start.rt:215 */
+/* mscp_queue::start::picked_place, crates/mscp_queue/src/start.rt:237 */
 static u64 start_picked_place_2(u64 v0, u64 v1, u64 v2, u32 v3, u64 v4, u64 v5)
 {
     ROOM(frame, 144);
@@ -21747,86 +21698,102 @@ static u64 start_picked_place_2(u64 v0, u64 v1, u64 v2, u32 v3, u64 v4, u64 v5)
     v13 = l4_4(v6 + 20ull);
     v14 = v13 - l4_4(v6 + 24ull);
     v13 = (u32)(l8_8(v8 + v10) - (v11 + ((u64)((v14 > v13) ? 0u : v14))));
-    if (v3 <= v13) goto L2;
+    if (v3 <= v13) goto L8;
     v15 = l8_8(v0 + 3392ull);
-    if (v15 == 0) goto L2;
+    if (v15 == 0) goto L8;
     v6 = 0ull;
-L5:;
-    if ((l4_4((v0 + (((u64)l1((v0 + v6) + 3328ull)) << 5)) + 20ull)) > v13) goto L4;
+L10:;
+    if ((l4_4((v0 + (((u64)l1((v0 + v6) + 3328ull)) << 5)) + 20ull)) > v13) goto L9;
     v6 = v6 + 1ull;
-    if (v15 == v6) goto L2;
-    goto L5;
-L4:;
+    if (v15 == v6) goto L8;
+    goto L10;
+L9:;
     v6 = l8_8(v5 + 1024ull);
-    if (v6 == 0) goto L6;
+    if (v6 == 0) goto L11;
     v6 = v6 << 4;
-    if (v6 == 0) goto L7;
+    if (v6 == 0) goto L12;
     fill(v5, 0u, v6);
-L7:;
+L12:;
     s8_8(v5 + 1024ull, 0ull);
     v9 = (u64)l1(v0 + 3328ull);
     v12 = v9 << 5;
     v10 = v9 << 3;
     v11 = l8_8(v0 + 5152ull);
-L6:;
+L11:;
     v14 = 0u;
     v6 = v0 + v12;
     v13 = l4_4(v6 + 20ull);
     v3 = v13 - l4_4(v6 + 24ull);
-    if ((u32)(l8_8(v8 + v10) - (v11 + ((u64)((v3 > v13) ? 0u : v3))))) goto L8;
-    v0 = v0 + (v9 * 12ull);
-    v15 = (u64)l1(v0 + 2048ull);
+    if ((u32)(l8_8(v8 + v10) - (v11 + ((u64)((v3 > v13) ? 0u : v3))))) goto L3;
+    v15 = v0 + (v9 * 12ull);
+    v9 = (u64)l1(v15 + 2048ull);
     v16 = l1(v6 + 6ull);
     v17 = l2_2(v6 + 4ull);
-    v3 = l4(v0 + 2052ull);
+    v3 = l4(v15 + 2052ull);
     v18 = l4_4(v6);
-    v0 = 0ull;
+    v15 = 0ull;
     v13 = 1u;
     switch ((u32)((u64)l1(v6 + 8ull))) {
-    case 4: case 5: case 6: goto L9;
-    case 7: goto L12;
-    case 8: goto L11;
-    default: goto L10;
+    case 4: case 5: case 6: goto L4;
+    case 7: goto L7;
+    case 8: goto L6;
+    default: goto L5;
     }
-L12:;
-    v14 = 2u;
-    goto L10;
-L11:;
-    v14 = 3u;
-L10:;
-    v6 = v1 + (v15 << 6);
-    v13 = l4_4(v6 + 52ull);
-    v15 = (u64)v13;
-    v0 = (u64)v3;
-    if (l1(v6 + 56ull) != 1u) goto L14;
-    v0 = (v13 > v3) ? ((((u64)l4_4(v6 + 40ull)) << 1) - (v15 + v0)) : (v0 - v15);
-    goto L13;
-L14:;
-    v0 = ((v3 > v13) ? v0 : (0ull - v0)) + v15;
+L8:;
+    if ((u32)(v2 == 0) == 0) goto L13;
+    v6 = 64ull;
+    goto L2;
 L13:;
+    v5 = 0ull;
+    v15 = 0xFFFFFFFFFFFFFF40ull;
+    v9 = v4;
+L14:;
+    v6 = l8(v9);
+    if (v6 != 0xFFFFFFFFFFFFFFFFull) goto L15;
+    t0 = start_seek_favorite(v0, v1, v5, v4);
+    v6 = t0;
+L15:;
+    v15 = (v6 < v15) ? v6 : v15;
+    v9 = v9 + 8ull;
+    v5 = v5 + 1ull;
+    if (v2 != v5) goto L14;
+    v6 = v15 & 255ull;
+    goto L2;
+L7:;
+    v14 = 2u;
+    goto L5;
+L6:;
+    v14 = 3u;
+L5:;
+    v15 = v1 + (v9 << 6);
+    v13 = l4_4(v15 + 52ull);
+    v9 = (u64)v13;
+    v6 = (u64)v3;
+    if (l1(v15 + 56ull) != 1u) goto L17;
+    v15 = (v13 > v3) ? ((((u64)l4_4(v15 + 40ull)) << 1) - (v9 + v6)) : (v6 - v9);
+    goto L16;
+L17:;
+    v15 = ((v3 > v13) ? v6 : (0ull - v6)) + v9;
+L16:;
     v13 = v14;
-L9:;
-    s8(v5 + 8, v0);
+L4:;
+    s8(v5 + 8, v15);
     s1(v5 + 7, v13);
     s1(v5 + 6, v16);
     s2(v5 + 4, v17);
     s4(v5, v18);
     s8_8(v5 + 1024ull, 1ull);
-    t0 = SweepPicker_pick(v5);
-    v0 = t0;
-    goto L1;
-L8:;
+    t1 = SweepPicker_pick(v5);
+    v6 = t1;
+    goto L2;
+L3:;
     start_show_each(v7, v5, v0, v1);
     copy(v7 + 72ull, v7, 72ull);
-    t1 = SweepPicker_pick(v5);
-    v0 = (u64)l1((v7 + 72ull) + t1);
-    goto L1;
-    TRAP();
+    t2 = SweepPicker_pick(v5);
+    v6 = (u64)l1((v7 + 72ull) + t2);
 L2:;
-    t2 = start_best_place(v0, v1, v2, v4);
-    v0 = t2;
-L1:;
-    return v0;
+    return v6;
+    TRAP();
 }
 
 /* mscp_script::running::Run::steps, crates/mscp_script/src/running.rt:123 */
@@ -22372,7 +22339,7 @@ L2:;
     TRAP();
 }
 
-/* mscp_script::reported::run_events, crates/mscp_script/src/reported.rt:40 */
+/* mscp_script::reported::run_events, crates/mscp_script/src/reported.rt:41 */
 APART void reported_run_events(u64 v0, u64 v1, u64 v2)
 {
     ROOM(frame, 848);
@@ -22981,7 +22948,7 @@ L82:;
     s1(v4 + 80, v22);
     s4_4(v4 + 76, v33);
     s4_4(v4 + 72, v21);
-    Controller_arrive(v4 + 56ull, v2, v20, v4 + 72ull);
+    Controller_arrive_2(v4 + 56ull, v2, v20, v4 + 72ull);
     v31 = 0u;
     v26 = l1(v4 + 64);
     v19 = l1(v4 + 56);
@@ -24338,7 +24305,7 @@ L1:;
     return v6;
 }
 
-/* mscp_c::mscp_save_at, crates/mscp_c/src/controller_saving.rt:38 */
+/* mscp_c::mscp_save_at, crates/mscp_c/src/controller_saving.rt:41 */
 APART u32 export_mscp_save_at(u64 v0, u64 v1, u64 v2, u64 v3)
 {
     ROOM(frame, 7344);
@@ -24382,7 +24349,7 @@ L1:;
     return v4;
 }
 
-/* mscp_c::mscp_save_size, crates/mscp_c/src/controller_saving.rt:20 */
+/* mscp_c::mscp_save_size, crates/mscp_c/src/controller_saving.rt:23 */
 static void export_mscp_save_size(void)
 {
     goto L1;
@@ -24406,51 +24373,123 @@ L1:;
 /* mscp_c::mscp_send_at, crates/mscp_c/src/sending.rt:16 */
 static u32 export_mscp_send_at(u64 v0, u32 v1, u64 v2, u64 v3, u64 v4)
 {
-    ROOM(frame, 32);
-    u32 v6 = 0, v7 = 0;
-    u64 v5 = 0;
+    ROOM(frame, 64);
+    u32 v6 = 0, v7 = 0, v8 = 0, v10 = 0, v11 = 0, v12 = 0, v13 = 0, v14 = 0;
+    u64 v5 = 0, v9 = 0, v15 = 0, v16 = 0, v17 = 0, v18 = 0;
     v5 = A(frame);
-    v6 = 0u;
-    s4_4(v5 + 24, 0u);
-    s8_8(v5 + 16, 0ull);
-    s8_8(v5 + 8, 0ull);
     if (l8_8(v0 + 24ull) == 0x4D5343504D414445ull) goto L4;
-    v7 = 0xFFFFFFF6u;
+    v6 = 0xFFFFFFF6u;
     goto L1;
 L4:;
-    v7 = 0xFFFFFFE0u;
+    v7 = 1u;
+    v8 = 0u;
+    v6 = 0xFFFFFFE0u;
     switch (v1) {
     case 0: goto L5;
     case 1: goto L6;
     default: goto L1;
     }
 L6:;
-    v6 = 1u;
+    v8 = 1u;
+    v7 = 0u;
 L5:;
-    Controller_send(v5 + 8ull, l8_8(v0), v6, v2 + ((v2 == 0) ? 4096ull : 0ull), v3);
-    if (l1(v5 + 8)) goto L7;
-    v7 = l4_4(v5 + 16);
-    if (l1(v5 + 12)) goto L2;
+    v9 = l8_8(v0);
+    s8_8(v5 + 16, 0ull);
+    s8_8(v5 + 8, 0ull);
+    s8_8(v5, 0ull);
+    reading_read_command(v5, v2 + ((v2 == 0) ? 4096ull : 0ull), v3);
+    if (l1(v5)) goto L8;
+    v10 = l1(v5 + 13);
+    v11 = l4_4(v5 + 8);
+    v1 = l4_4(v5 + 4);
+    v12 = l1(v5 + 12);
+    s8_8(v5 + 48, 0ull);
+    s8_8(v5 + 56, 0ull);
+    v13 = 1u;
+    switch ((u32)(((u64)v12) & 255ull)) {
+    case 4: case 5: case 6: case 7: goto L11;
+    case 8: goto L10;
+    default: goto L9;
+    }
+L11:;
+    v13 = 0u;
+    goto L9;
+L10:;
+    v13 = ((v10 + 0xFFFFFFFFu) & 255u) < 4u;
+L9:;
+    v6 = 2u;
+    v14 = l4_4(v9 + (v7 ? 0ull : 4ull));
+    v0 = v9 + (v7 ? 0ull : 3088ull);
+    v15 = v0 + 8216ull;
+    v16 = l8_8(v0 + 11296ull);
+    v7 = v14 - (l4_4(v15) + ((u32)v16));
+    switch ((v7 > v14) ? 0u : v7) {
+    case 0: goto L7;
+    case 1: goto L13;
+    default: goto L12;
+    }
+L13:;
+    if (v13) goto L12;
+    v6 = 3u;
+    goto L7;
+L12:;
+    v17 = v5 + 14ull;
+    v0 = l8_8((v9 + ((u64)(((((v1 >> 6) + v1) + (v1 >> 12)) << 3) & 504u))) + 5448ull);
+    v18 = v9 + 816ull;
+L15:;
+    v2 = ctz64(v0);
+    if (v2 > 63ull) goto L14;
+    v0 = v0 & (rotl64(0xFFFFFFFFFFFFFFFEull, (v2 & 63)));
+    v3 = v18 + (v2 << 5);
+    if (l1(v3 + 6ull) != v8) goto L15;
+    if (l4_4(v3) != v1) goto L15;
+L14:;
+    v3 = v16 + 1ull;
+    v0 = v15 + 8ull;
+L17:;
+    v3 = v3 + 0xFFFFFFFFFFFFFFFFull;
+    if (v3 == 0) goto L16;
+    v6 = l4_4(v0);
+    v0 = v0 + 48ull;
+    if (v6 != v1) goto L17;
+    v6 = 4u;
+    goto L7;
+L16:;
+    if (v2 >= 64ull) goto L18;
+    v6 = 4u;
+    goto L7;
+L18:;
+    s1(v5 + 37, v10);
+    s1(v5 + 36, v12);
+    s4_4(v5 + 32, v11);
+    s4_4(v5 + 28, v1);
+    s8_2(v5 + 38, l8_2(v17));
+    s2_2(v5 + 46, l2_2(v17 + 8));
+    Controller_arrive(v5 + 48ull, v9, v8, v5 + 28ull);
+    v6 = l4_4(v5 + 52);
+    if (l1(v5 + 48)) goto L2;
     s8(v4 + 4, 0ull);
-    s4(v4, v7);
-    v7 = 2u;
+    s4(v4, v6);
+    v6 = 2u;
     goto L1;
+L8:;
+    v6 = l1(v5 + 1);
 L7:;
-    v7 = l1(v5 + 9) ^ 0xFFFFFFFFu;
+    v6 = (v6 ^ 0xFFFFFFFFu) | 0xFFFFFF00u;
     goto L1;
     TRAP();
 L2:;
-    v6 = l4_4(v5 + 24);
-    v1 = l1(v5 + 20);
+    v1 = l4_4(v5 + 60);
+    v8 = l1(v5 + 56);
     s2(v4 + 9, 0u);
-    s4(v4, v7);
+    s4(v4, v6);
     s1(v4 + 11, 0u);
-    v7 = (v1 & 255u) == 1u;
-    s1(v4 + 8, v7);
-    s4(v4 + 4, v7 ? v6 : 0u);
-    v7 = 3u;
+    v6 = (v8 & 255u) == 1u;
+    s1(v4 + 8, v6);
+    s4(v4 + 4, v6 ? v1 : 0u);
+    v6 = 3u;
 L1:;
-    return v7;
+    return v6;
 }
 
 static u32 w_mscp_send_at(u64 v0, u32 v1, u64 v2, u64 v3, u64 v4)
@@ -24467,7 +24506,7 @@ L1:;
     return v1;
 }
 
-/* mscp_c::mscp_settings_at, crates/mscp_c/src/seeing.rt:34 */
+/* mscp_c::mscp_settings_at, crates/mscp_c/src/seeing.rt:32 */
 static u32 export_mscp_settings_at(u64 v0, u64 v1, u64 v2, u64 v3)
 {
     u32 v4 = 0, v6 = 0;
@@ -24813,7 +24852,7 @@ L10:;
     TRAP();
 }
 
-/* mscp_c::mscp_show_packet_at, crates/mscp_c/src/running.rt:86 */
+/* mscp_c::mscp_show_packet_at, crates/mscp_c/src/running.rt:87 */
 APART u32 export_mscp_show_packet_at(u64 v0, u64 v1, u64 v2, u64 v3, u64 v4)
 {
     ROOM(frame, 288);
@@ -25680,7 +25719,7 @@ L1:;
     return 14392ull;
 }
 
-/* mscp_c::mscp_step, crates/mscp_c/src/serving.rt:67 */
+/* mscp_c::mscp_step, crates/mscp_c/src/serving.rt:60 */
 static u32 export_mscp_step(u64 v0, u32 v1, u64 v2)
 {
     ROOM(frame, 80);
@@ -26077,7 +26116,7 @@ L1:;
     return v1;
 }
 
-/* mscp_controller::controller::Controller::take, crates/mscp_controller/src/controller.rt:291 */
+/* mscp_controller::controller::Controller::take, crates/mscp_controller/src/controller.rt:304 */
 static void Controller_take(u64 v0, u64 v1, u32 v2)
 {
     ROOM(frame, 64);
@@ -26214,7 +26253,7 @@ L1:;
     return;
 }
 
-/* mscp_c::mscp_take, crates/mscp_c/src/sending.rt:47 */
+/* mscp_c::mscp_take, crates/mscp_c/src/sending.rt:39 */
 static u32 export_mscp_take(u64 v0, u32 v1, u64 v2)
 {
     ROOM(frame, 128);
@@ -26278,7 +26317,7 @@ L1:;
     return v1;
 }
 
-/* mscp_c::mscp_untaken, crates/mscp_c/src/seeing.rt:125 */
+/* mscp_c::mscp_untaken, crates/mscp_c/src/seeing.rt:108 */
 static u64 export_mscp_untaken(u64 v0, u32 v1)
 {
     u64 v2 = 0, v3 = 0;
@@ -26337,7 +26376,7 @@ L1:;
     return 131072u;
 }
 
-/* mscp_c::mscp_waiting, crates/mscp_c/src/seeing.rt:106 */
+/* mscp_c::mscp_waiting, crates/mscp_c/src/seeing.rt:92 */
 static u64 export_mscp_waiting(u64 v0, u32 v1)
 {
     u64 v2 = 0, v3 = 0;
@@ -26375,7 +26414,7 @@ L1:;
     return v0;
 }
 
-/* mscp_c::mscp_why_at, crates/mscp_c/src/seeing.rt:76 */
+/* mscp_c::mscp_why_at, crates/mscp_c/src/seeing.rt:68 */
 APART u32 export_mscp_why_at(u64 v0, u32 v1, u32 v2, u64 v3, u64 v4)
 {
     ROOM(frame, 1552);
@@ -26456,7 +26495,7 @@ L1:;
     return v2;
 }
 
-/* mscp_c::mscp_write_command, crates/mscp_c/src/command_writing.rt:124 */
+/* mscp_c::mscp_write_command, crates/mscp_c/src/command_writing.rt:125 */
 static void export_mscp_write_command(u64 v0, u64 v1)
 {
     ROOM(frame, 112);
