@@ -1,7 +1,7 @@
 // A controller as bytes, and back.
 //
-// A restore takes a handle on which something is made, as an emulator has just that memory. It looks at all bytes
-// before it writes, so a fault leaves what runs. An init refuses such a handle: a reset would do what it does.
+// A restore takes a handle on which something is made, as an emulator has just that. It looks at all bytes before it
+// writes, so a fault leaves what runs. An init refuses such a handle: a reset, or a write of IP, makes it new.
 
 ghost use Rattle.std.specs.Prelude.{◌≡◌, true, false, None, Ok};
 ghost use Rattle.mscp_c.specs.Common.{fresh, Handle, AnswersHandle, policy_number, length_told, room_after, save_code};

@@ -1,7 +1,7 @@
 // What the calls answer: 0 and up what came of a call, below 0 why it was refused.
 //
-// A contract fixes the number of each, so that a program which was compiled once goes on to be right. Each fault of an
-// init has a number of its own, and the first in a fixed order is answered.
+// A contract fixes the number of each, so that a program which was compiled once stays right. Each fault of an init
+// has a number of its own, and the first in a fixed order is answered.
 
 ghost use Rattle.std.specs.Prelude.{◌≡◌, ◌≢◌};
 ghost use Rattle.mscp_c.specs.Common.{hear_code, host_code, limits_code, room_code, send_fault_code, unit_code, units_code, init_code, cause_code, show_code, port_init_code, told_code, volume_code, put_code};

@@ -2,7 +2,7 @@
 //
 // The order is fixed, since a driver sees which fault comes first: size, credits, the number in use, and then what the
 // command asks for. Whether the last credit is enough is asked of the raw opcode byte, also of a message that is too
-// short or unknown: so the last credit is kept for a poll or an ABORT.
+// short for its opcode, or unknown: so the last credit is kept for a poll or an ABORT.
 
 ghost use Rattle.std.specs.Prelude.{◌≡◌, ◌+◌, ◌≤◌, ◌^◌, IfOk};
 ghost use Rattle.mscp_controller.specs.Common.{class, is_immediate_class, judged, move_fault, unit_fault, version_fault, first_block, unit_found, weighed, weight};

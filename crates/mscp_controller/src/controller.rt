@@ -1,8 +1,8 @@
 // A controller: its queue, and the account of each connection's host.
 //
 // What waits and what is served next is the queue's affair, and who has how many credits and ends is the accounts'.
-// The controller never looks at a record. Neither takes memory: their lists have a fixed room, which the credits
-// bound, so nothing can be refused for want of memory after a controller is made.
+// The controller never looks at a record. Queue and accounts take no memory: their lists have a fixed room, which the
+// credits bound, so nothing is ever refused for want of memory.
 
 ghost use Rattle.std.specs.Prelude.{◌≡◌, ◌+◌, ◌≤◌, ◌^◌, ℕ, List, true, false, slice_get, IfErr, IfSome, None, Some};
 ghost use Rattle.mscp_controller.specs.Common.{IsCommand, IsEnd, IsOfKind, first_block, order_weight, name_on, IsCoded, credit_fault, fault_of, holds, is_queued, CanEnd, reported, of, IsValid, Answers, Finishes, Foretells, IsBalanced, Steps, aborting, after_message, after_take, answer_to_message, answered_end, arrives, balance_of, begun_step, end_taken, with_end, outstanding_of, queued, reference_aborted, taken_as};

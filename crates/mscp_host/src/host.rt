@@ -2,7 +2,7 @@
 //
 // It has one poll in flight at most, about the oldest command that isn't answered when it arrives. It knows those by
 // the raw opcode byte, as the controller does. A poll that comes back with endcode 0x80 was refused, so it is an end
-// as any other. A figure that doesn't fall means `Reset`, which is said before `Lost`.
+// as any other. A figure that doesn't fall means `Reset`, even if it would be `Lost`, too.
 
 ghost use Rattle.std.specs.Prelude.{◌≡◌, ◌↔◌, ◌≤◌, true, false, find, IsOk, IfErr, IfOk};
 ghost use Rattle.mscp_host.specs.Common.{list_any, command_bytes, opcode_byte, answered, balance, end_in, fresh, has_reference, heard, news_with, oldest, or_unreadable, outstanding_with, polls_oldest, received, refusal, submits, submitted};

@@ -1,4 +1,4 @@
--- What comes to a port from elsewhere than its host: a second that went by, and volumes that come and go.
+-- What comes to a port from elsewhere than its host: a look again, a second, and what becomes of a volume.
 use Rattle.std.specs.Prelude.{◌≡◌, ◌≢◌, ◌<◌, ◌-◌, ◌⊎◌, ◌↔◌, ℕ, false, length, IsErr, IsOk, OnErr, Result, Option, None, Some}
 use Rattle.mscp_drive.specs.declared.connection.Connection.TheVariants.{First}
 use Rattle.mscp_drive.specs.Both.{of}

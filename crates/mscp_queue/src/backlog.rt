@@ -1,10 +1,10 @@
 // The waiting commands, and how long each may still wait.
 //
-// A step takes as much from the figure of every command that isn't in service. So no figure is kept: a command has a
+// A step takes the same from the figure of every command that isn't in service. So no figure is kept: a command has a
 // due, from which the clock is taken off. Then a step changes one number for all, a poll is one subtraction, and a
-// look one pass. What a command lost to later ones isn't counted either. Its due tells that, with the clock and what
-// stands in front of it. When it was counted, a start had to write to every command in front of the one that started:
-// 480 of the 2,160 instructions of a finish on a Cortex-M3.
+// look one pass. By how many blocks a command was passed isn't counted either: due, clock and what stands in front of
+// it tell that. When it was counted, a start wrote to every command in front of the one that started: 480 of the 2,160
+// instructions of a finish on a Cortex-M3.
 
 ghost use Rattle.std.specs.Prelude.{◌≡◌, ◌+◌, ◌-◌, ◌<◌, ◌≤◌, ◌^◌, ◌++◌, ◌∷◌, [], true, false, cond, length, map, take, drop, slice_index_or, sum_by, All};
 ghost use Rattle.mscp_queue.specs.Common.{position, AreApart, bare, has_name, names, clock_end, advanced, is_in_service, is_unstarted, left_of, passed_by, record_at, step_charge, no_target, IsOnUnit, AreOnDrive, IsBest, IsOpenOn, cost_there, is_unfenced_at, kinds_of, lowered_by};

@@ -1,8 +1,8 @@
 // A small hash of reference numbers, by which a waiting command is looked up.
 //
-// Drivers number their commands by addresses or by counting, so that numbers differ in few bits, and not always in the
-// low ones. Each six bits of a number count, therefore, and a search goes over the few commands that may be it. A list
-// of names had to be searched from its front, and its names moved at each end.
+// Drivers number their commands by counting or by addresses, which differ in few bits, and not always in the low ones.
+// So the low eighteen bits all count, six at a time, and a search goes over the few commands that may be it. A list of
+// names had to be searched from its front, and its names moved at each end.
 
 ghost use Rattle.std.specs.Prelude.{◌≡◌, ℕ, ◌<◌, true, false, slice_index_or};
 ghost use Rattle.mscp_queue.specs.Common.{IsPut, bucket_of};
@@ -15,8 +15,8 @@ pub(crate) struct Buckets {
     pub slots: [u64; 64],
 }
 
-/// The bucket of a reference number, in which no six bits of it are overlooked: many a driver numbers a command by the
-/// address of what it keeps of it, and the low bits of these are the same.
+/// The bucket of a reference number, by its low eighteen bits: many a driver numbers a command by the address of what
+/// it keeps of it, and the lowest bits of these are the same.
 fn bucket_of(reference: u32) -> usize
     ensures value { result ≡ bucket_of reference }
     ensures small { result < 64 }

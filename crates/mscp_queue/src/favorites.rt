@@ -1,10 +1,10 @@
 // The best start of each drive.
 //
 // A pick compares these, one for each unit, and looks at no command of a unit whose best start is known. It stays the
-// best until the head of its unit moves, or the command leaves: so a step forgets that of its own drive. It is sought
-// when a pick wants it, and not before, since a head may move more than once between two picks. A mask of the drives
-// whose start is known was tried: it saved a pick among sixteen units 90 instructions, and cost each step 13 and a
-// pick of one unit 30.
+// best until the head of its unit moves, its command leaves, or a better one comes. It is sought when a pick wants
+// it, and not before, since a head may move more than once between two picks. A mask of the drives whose start is
+// known was tried: it saved a pick among sixteen units 90 instructions, and cost each step 13 and a pick of one unit
+// 30.
 
 ghost use Rattle.std.specs.Prelude.{◌≡◌, ◌≢◌, ℕ, ◌<◌, ◌≤◌, false, cond};
 ghost use Rattle.mscp_queue.specs.Common.{KnowsNothing, IsLearned, closed, comes_before, knows, start_in};

@@ -2,8 +2,8 @@
 //
 // A picker sees what may start, and nothing else. So it can break neither a fence nor the budget, and has one law: it
 // answers a place that its relation `picks` allows. The relation may leave a choice, so what a step leaves is a
-// relation, too. A picker may say that it could take the first of few choices (`takes_first`), as `Oldest` always may,
-// or the first of the cheapest (`takes_cheapest`), as `Sweep` may. Then a queue finds that place itself, and makes no
+// relation, too. A picker may say that it could take the first choice of all (`Oldest`), or of one (`Sweep`), or the
+// first of the cheapest (`Sweep`, if the budget keeps nobody back). Then a queue finds that place itself, and makes no
 // view.
 //
 // `Sweep::pick` itself, for whoever shows it a view, finds the least cost by lanes from nine choices on, in a row that

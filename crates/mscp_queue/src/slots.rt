@@ -1,8 +1,8 @@
 // The slots of the waiting commands.
 //
-// A command keeps its slot as long as it waits. So its bit of a mask stays its bit if others leave, and nothing of it
-// moves but its place in the order of arrival. Records, targets and dues are arrays, with an entry for every slot from
-// the start. A list without gaps, in which what stands behind a command moves up, took twice the instructions.
+// A command keeps its slot as long as it waits. So its bit of a mask stays its bit if others leave, and only its place
+// in the order of arrival changes. Records, targets, dues and masks are arrays, with an entry for every slot from the
+// start. A list without gaps, in which what stands behind a command moves up, took twice the instructions.
 
 ghost use Rattle.std.specs.Prelude.{◌≡◌, ◌+◌, ◌<◌, ◌≤◌, ◌^◌, ◌++◌, ◌∷◌, true, false, [], List, length, map, take, drop, slice_set, All, IfNone, IfSome};
 ghost use Rattle.mscp_queue.specs.Common.{list_any, is_sequential, advanced, has_name, IsOnUnit, AreOnDrive, IsBest, IsLowestUntaken, IsNearOf, IsOpenOn, cost_there, kinds, targets, dues, filled, is_unfenced, items, lowered_by, shown, slot_at, with_item};

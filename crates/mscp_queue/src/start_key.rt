@@ -71,7 +71,7 @@ impl Start {
     pub fn is_known(self) -> bool
         ensures { result ≡ not (nat_eq self.place 255) }
     {
-        // No other number has all bits set: whose place isn't known costs more than any start.
+        // No other start has all bits of its number set: it would cost more than any does.
         self.key != u64::MAX
     }
 

@@ -1,8 +1,8 @@
 // Text at the front of bytes that somebody lends.
 //
-// A script runs in lent memory without a heap, and its report grows in the back half of the room, which has twice the
-// bytes of the report. A contract can't follow a reference through a type parameter, so nothing could be said of a
-// report that grew at the front. If there is no room the script runs on and is counted, so that its fault is told.
+// A script runs in lent memory without a heap. Its report grows in the back half of a room of twice its bytes: a
+// contract can't follow a reference through a type parameter, so nothing could be said of one that grew at the front.
+// If the room is too small the script runs on, and its bytes are counted, so that its fault is told.
 
 ghost use Rattle.std.specs.Prelude.{◌≡◌, ◌≤◌, ◌<◌, ◌++◌, ℕ, List, [], length, IfNone, IfSome};
 ghost use Rattle.std.specs.Option.{ForSome};

@@ -1,7 +1,7 @@
 // What is outstanding after the moments so far, and which rule the next one breaks.
 //
 // The rules of the wire have a crate of their own, without a definition of this project's controller. So they judge
-// any, and that ours keeps them is a law of another crate. What a legal trace may do is no rule, but a doubt.
+// any. That ours keeps them is a law of another crate, with few premises: what a legal trace may do is a doubt.
 
 ghost use Rattle.std.specs.Prelude.{◌≡◌, ℕ, ◌+◌, ◌++◌, ◌∷◌, [], drop, if◌then◌else◌, OnOk, IfOk, IfSome, IsSome, Some, None};
 ghost use Rattle.mscp_packet.specs.Number.{num};

@@ -2,8 +2,8 @@
 //
 // Hosts had sent commands before it, so an end may answer what the log never sent, and units may have another state
 // than one that is new. The end of such a command tells nothing, not even of its unit, since it may be told late. So a
-// unit's state isn't judged till a command that the log shows has turned it, which passes none of before. That a
-// figure of the oldest command doesn't fall is a doubt, and not passed over: mostly that command is the oldest.
+// unit's state isn't judged till a command that the log shows has turned it, behind all that came before. If the
+// figure of the oldest command that is shown doesn't fall, that is a doubt: an older one may be outstanding.
 
 ghost use Rattle.std.specs.Prelude.{◌≡◌, ◌≤◌, ◌||◌, ◌&&◌, ◌++◌, ◌∷◌, ℕ, [], length, nat_eq, if◌then◌else◌, OnOk, Some, true, false};
 ghost use Rattle.arrayvec.specs.ArrayVec.{ArrayVec};

@@ -2,7 +2,7 @@
 // that port.
 //
 // A log of several ports is as many logs, each with its own lines alone: so no state is shared, and each line is read
-// once. Where lines are told they have their numbers among all.
+// once. Where lines are told they have their numbers among all. Without such a line nothing of this is made.
 
 ghost use Rattle.std.specs.Prelude.{◌≡◌, ◌≤◌, ◌<◌, ◌++◌, ◌∷◌, ℕ, codes, length, None, IfOk, OnOk};
 ghost use Rattle.mscp_reader.specs.Lexical as lexical;

@@ -1,9 +1,9 @@
 // A handle on memory for a controller.
 //
-// A handle is a struct beside the memory, with a mark in it. So every call can be tested for what it was given, and
-// none asks for anything. Each kind of handle has marks of its own, so one isn't taken for another. The prover lets no
-// struct with a type argument into the signature of an export: so there are four structs, of a controller, a host, a
-// port and a driver's account, and the two functions that reach into memory are written four times.
+// A handle is a struct beside the memory, with a mark in it. So every call can test what it was given, and has no
+// premise. Each kind of handle has marks of its own, so one isn't taken for another. The prover lets no struct with a
+// type argument into the signature of an export: so there are four structs, of a controller, a host, a port and a
+// driver's account, and the two functions that reach into memory are written four times.
 
 ghost use Rattle.mscp_memory.specs.ControllerHandles.{Held};
 

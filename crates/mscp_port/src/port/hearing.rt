@@ -2,9 +2,9 @@
 //
 // A command's packet whose envelope tells fewer than 12 bytes is a fatal error: no command message is so short, and
 // what follows the text is nothing that the host sent. (SIMH's own disk reads 60 bytes whatever the envelope tells.) A
-// message becomes a value at once: an end, if the port answers it itself, or else a command, which the controller gets
-// as such. One that can't be taken yet, since a credit or its number isn't free, stays in its slot, and is read again
-// later.
+// message becomes a value at once: an end, if the port answers it itself, or a command, which the controller gets as
+// such. It stays in its slot, and is read again later, while a credit or its number isn't free, or another end goes
+// out.
 
 ghost use Rattle.std.specs.Prelude.{◌≡◌, ◌≢◌, ◌≤◌, ◌⊎◌, ℕ, true, length, Contains, IfSome, Option, None, Ok, Err};
 ghost use Rattle.mscp_port.specs.Common.{First, after_message, num, kept_beside, without_aborted, handed, ChangesByReading, Dies, Hears, AnswersItself, end_kind, in_hand, SeesHeader, SeesText, answered_to, changes_at, decided_after, heeded, neighbour_seen, settings_heeded, slot_seen, is_owned, place_in};

@@ -374,11 +374,11 @@ impl<K: Picker> Port<K> {
     }
 
     /// The port that was saved as these bytes, with this picker, whose number has to be that which it was saved with.
-    /// It is a port whatever bytes come; what it heard before only who saved it knows.
+    /// Its controller keeps each promise of one. What it heard before only who saved it knows.
     ///
     /// # Errors
     ///
-    /// The first fault, in the order of `RestoreFault`, if they aren't.
+    /// The first fault, in the order of `RestoreFault`, if no port with this number is saved as these bytes.
     pub fn restore(bytes: &[u8], number: u8, picker: K) -> Result<Port<K>, RestoreFault>
     where
         K: Drop,

@@ -1,9 +1,9 @@
 // What a queue serves next, and its steps.
 //
 // `begin` marks the command that it names, and that choice is kept until a step is served, or the command leaves: a
-// picker that is asked twice may answer twice. So `finish` fails without a `begin` before it, and `step` serves what
-// was begun. A finish names the command and not the block. Who may finish late, as a disk on a thread, has to know by
-// something else which begin it was of: that is the serial of a port, and of `mscp_tracked`.
+// picker that is asked twice may answer otherwise. So `finish` fails without a `begin` before it, and `step` serves
+// what was begun. A finish names the command, and not the block: a late one is taken for that of a new command with
+// this number. Who may finish late, as a disk on a thread, finishes by a serial, as a port's.
 
 ghost use Rattle.std.specs.Prelude.{◌≡◌, ◌<◌, [], cond, false, length, nat_lt, IfNone, IfSome, None, Some};
 ghost use Rattle.mscp_queue.specs.Common.{IsOfKind, IsOfUnit, place_served, units_of, Begins, BeginsAt, Serves, ServesAt, drive_at, record_at, IsNext, end_in, upcoming_begun, upcoming_of};
