@@ -38,7 +38,7 @@ pub use Rattle.mscp_packet.specs.declared.end.BodyKind.{BodyKind}
 pub use Rattle.mscp_packet.specs.declared.end.End.{End}
 pub use Rattle.mscp_packet.specs.declared.end.EndBody.{EndBody}
 pub use Rattle.mscp_port.proofs.Common.{and_parts, cases_eq, cases_lt, drop_more, eq-eqb, eqb-true, false≢true, get_or-set_other, get_or-set_same, get_or_past, length-set, or_left, or_parts, or_right, take-append-drop}
-pub use Rattle.mscp_ported.proofs.Kept.{is_numbered}
+pub use Rattle.mscp_ported.proofs.Kept.{apart_numbers, is_numbered}
 pub use Rattle.mscp_ported.proofs.Loads.{looks_or_not}
 pub use Rattle.mscp_ported.proofs.Said.{none_or_some}
 pub use Rattle.mscp_port.specs.Blocks.{block_told, faulted, kept_of, move_of, move_task, moved_by, part_task, part_with}
@@ -95,7 +95,6 @@ pub use Rattle.mscp_ported.proofs.Numbered.{At, IsNothing, ends_numbered, first_
 pub use Rattle.mscp_ported.proofs.Numbering.{ended_none, served_waits, still_none}
 pub use Rattle.mscp_ported.proofs.Opcodes.{IsSaid, said_fits}
 pub use Rattle.mscp_ported.proofs.Origins.{IsAborted, IsAnswer, IsMade, IsOf, IsServed, IsText, IsToldSo, told_same}
-pub use Rattle.mscp_ported.proofs.Owning.{apart_numbers}
 pub use Rattle.mscp_ported.proofs.Promised.{knows}
 pub use Rattle.mscp_ported.proofs.Reading.{Answers, Gets, Queues, and_false, answer_decided, answer_ends, read_is}
 pub use Rattle.mscp_ported.proofs.Silent.{none_waits}

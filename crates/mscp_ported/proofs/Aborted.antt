@@ -1,13 +1,13 @@
 -- The end of a transfer that is aborted counts just the blocks that were moved.
 use Rattle.mscp_ported.proofs.Common.{Answered, AsksAlways, Bool, Buffer, Call, Command, Contains, Contains-push_cases, Counts, End, First, Hardware, Holdings, IsMadeOf, List, MoveKind, None, Ok, Option, Order, Picking, Port, Record, Settings, Some, WasRead, [], aborted_record, ap, append-nil, arith, asked, asks_nothing, balance_of, come, command_of, cond, drop, ends, false, fault_of, figure, filter, find, found_is, handed, has_name, inl, inr, is_queued_text, length, min, moved, moved_body, name_on, num, opcode_of, option_map, option_to_list, outstanding_of, own_end_with, record_aborted, refl, same_Some, slice_index, subst, sym, transfers, ℕ, ◌&&◌, ◌*◌, ◌++◌, ◌==◌, ◌∙◌, ◌∷◌, ◌≡◌, ◌≤◌}
 use Rattle.mscp_ported.proofs.Come.{none_waits, taken_number}
-use Rattle.mscp_ported.proofs.Kept.{is_numbered}
+use Rattle.mscp_ported.proofs.Kept.{is_numbered, number_of}
 use Rattle.mscp_packet.specs.declared.class.Opcode.TheVariants as codes
 use Rattle.mscp_packet.specs.declared.command.Order.TheVariants as orders
 use Rattle.mscp_packet.specs.declared.end.EndBody.TheVariants as bodies
 use Rattle.mscp_ported.proofs.Coming.{come_so, ends_of}
 use Rattle.mscp_ported.proofs.Keeping.{are_owned}
-use Rattle.mscp_ported.proofs.Owning.{Own, number_of, parts_of}
+use Rattle.mscp_ported.proofs.Owning.{Own, parts_of}
 use Rattle.mscp_ported.proofs.Reading.{Answers, Gets, and_false, answer_ends, answered_now, command_in, ends_aborted, ends_answered, own_end_in, read_is}
 use Rattle.mscp_ported.proofs.Sole.{found_sole, none_passes}
 use Rattle.mscp_ported.proofs.Transferring.{kept_address, move_fields}

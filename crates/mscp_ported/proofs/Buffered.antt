@@ -1,6 +1,6 @@
 -- What is kept of each command that waits for a host is what its message said, and there is room for it.
 use Rattle.mscp_ported.proofs.Common.{Block, Bool, Buffer, Connection, Drive, End, First, IsCodeFor, List, None, Option, Order, Record, Some, [], advanced, ap, arith, buffer_in, cond, end_given, endcode, eq-eqb, eqb-true, false, false≢true, filter, find, has_number, inl, inr, is_formality, is_of, kept_after, length, name_on, nat_eq, nat_lt, none-some, not, num, option_map, record_at, reference_aborted, refl, refused_body, slice_index, subst, suc, sym, true, unaborted, waiting_after, waiting_on, without, without_aborted, without_kept, zero, ℕ, ◌++◌, ◌+◌, ◌<◌, ◌∙◌, ◌∷◌, ◌≡◌, ◌≤◌}
-use Rattle.mscp_ported.proofs.Kept.{is_numbered}
+use Rattle.mscp_ported.proofs.Kept.{apart_numbers, is_numbered, number_of}
 use Rattle.mscp_packet.specs.declared.command.Order.TheVariants as orders
 use Rattle.mscp_ported.proofs.Units.{IsUnitIn}
 use Rattle.mscp_ported.proofs.Codes.{about_in}
@@ -8,7 +8,6 @@ use Rattle.mscp_ported.proofs.Keeping.{end_number}
 use Rattle.mscp_ported.proofs.Numbered.{At, AtEach, none_beside, none_of_it, none_stays, other_number, some_none}
 use Rattle.mscp_ported.proofs.Numbering.{ended_none, not_numbered, served_waits, still_none}
 use Rattle.mscp_ported.proofs.Origins.{IsLeft, IsOf, left_advanced, left_alike, of_left}
-use Rattle.mscp_ported.proofs.Owning.{apart_numbers, number_of}
 use Rattle.mscp_ported.proofs.Sole.{found_sole, one_of, served_goes_on, served_itself, served_other, sole_comes, sole_left}
 
 -- what is kept of a waiting command whose message this is

@@ -7,6 +7,12 @@ use Rattle.mscp_port.specs.declared.task.Task.TheVariants as tasks
 pub is_alive : {K : Type 0} (p : Port K) → ((code : ℕ) → p.stage ≢ stages.Dead code) → is_dead p.stage ≡ false
 is_alive p alive = grind arith
 
+pub is_one : (n : ℕ) → (n ≡ 1) ⊎ (n ≢ 1)
+is_one n = search arith
+
+pub is_low : (n : ℕ) → (0x8000 ≤ n) ⊎ (n < 0x8000)
+is_low n = search arith
+
 pub done_or_not : (outcome : Outcome) → (outcome ≡ outcomes.Done) ⊎ (outcome ≢ outcomes.Done)
 done_or_not outcomes.Done = inl refl
 done_or_not outcome = inr (λ e. search (arith, e))
@@ -70,12 +76,6 @@ module _ {K : Type 0} (picks : List Choice → ℕ → Type 0) (outcome : Outcom
           → x.written ≡ None → So
       taken x e frame lives calm none = subst (λ y. Deed picks outcome old y) (sym e)
           (StepsOn frame lives calm (inl (λ n. none-some word (sym n ∙ some), none)))
-
-      is_one : (n : ℕ) → (n ≡ 1) ⊎ (n ≢ 1)
-      is_one n = search arith
-
-      is_low : (n : ℕ) → (0x8000 ≤ n) ⊎ (n < 0x8000)
-      is_low n = search arith
 
       named_or : (o : Option Rings) → rings_named old.words.first old.words.second word ≡ o → old.stage ≡ stages.Third
           → word < 0x8000 → So

@@ -8,7 +8,7 @@ use Rattle.mscp_ported.proofs.Loads.{none_or_not, up_or_not}
 
 -- ---- a text
 
-sent_keeps : {K : Type 0} (slot : Descriptor) (s : Sent) (bytes : List ℕ) (old new : Port K)
+pub sent_keeps : {K : Type 0} (slot : Descriptor) (s : Sent) (bytes : List ℕ) (old new : Port K)
     → Sends slot s bytes old new → old.owes_block ≡ true → new.owes_block ≡ true
 sent_keeps slot s bytes old new h6 h7 = grind arith
 
@@ -152,25 +152,15 @@ not_free e = none_free (ap is_slot e)
     none_free : true ≡ false → ⊥
     none_free x = false≢true (sym x)
 
-is_full_or_not : (b : Bool) → (b ≡ true) ⊎ (b ≡ false)
-is_full_or_not true = inl refl
-is_full_or_not false = inr refl
+full_or_not : (b : Bool) → (b ≡ true) ⊎ (b ≡ false)
+full_or_not true = inl refl
+full_or_not false = inr refl
 
-block_due : {K : Type 0} (p : Port K) (task : Task) → IsDue true p task → task ≡ tasks.Slot Commands
+pub block_due : {K : Type 0} (p : Port K) (task : Task) → IsDue true p task → task ≡ tasks.Slot Commands
     → block_is_due true p ≡ true → ⊥
-block_due p task due slot e = search (
-  arith,
-  up_or_not p.stage,
-  none_or_not p.written,
-  none_or_not p.outgoing,
-  is_full_or_not p.is_full,
-  due.first,
-  due.step,
-  due.still,
-  due.goes_out,
-)
+block_due p task due slot e = grind (arith, up_or_not, none_or_not, full_or_not)
 
-nothing_waits : (owes : Bool) (rs : List Record) → owes ≡ true
+pub nothing_waits : (owes : Bool) (rs : List Record) → owes ≡ true
     → (owes && true && not (nat_eq (length rs) 0)) ≡ false → rs ≡ []
 nothing_waits owes [] is e = refl
 nothing_waits owes (r ∷ rs) is e = search (arith, false≢true)

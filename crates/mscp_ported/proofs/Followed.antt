@@ -1,12 +1,11 @@
 -- Behind the end of a command that was aborted waits that of its ABORT, whose message came later.
 use Rattle.mscp_ported.proofs.Common.{Bool, Command, Drive, End, First, Holdings, List, None, Option, Order, Record, Settings, Some, Verdict, [], aborted_record, answered_end, ap, arith, block_told, command_of, cond, end_given, eq-eqb, eqb-true, false, false≢true, filter, find, found_is, handed, has_number, inl, inr, is_queued, length, list_any, nat_eq, none-some, not, num, option_map, option_to_list, record_aborted, refl, subst, sym, true, ℕ, ◌++◌, ◌||◌, ◌∙◌, ◌∷◌, ◌≡◌, ◌⊎◌}
-use Rattle.mscp_ported.proofs.Kept.{is_numbered}
+use Rattle.mscp_ported.proofs.Kept.{is_numbered, number_of}
 use Rattle.std.specs.Prelude.{◌≤◌}
 use Rattle.mscp_packet.specs.declared.command.Order.TheVariants as orders
 use Rattle.mscp_controller.specs.Outcomes.{own_end}
 use Rattle.mscp_ported.proofs.Behind.{aborts_behind, aborts_come, aborts_left, aborts_more, any_more, any_none, handed_abort, is_abort, is_abort_of}
 use Rattle.mscp_ported.proofs.Numbered.{AtEach, ends_numbered, first_of_one, none_beside, none_found, other_number, some_none}
-use Rattle.mscp_ported.proofs.Owning.{number_of}
 use Rattle.mscp_ported.proofs.Sole.{sole_left}
 
 -- ---- the ends

@@ -8,7 +8,7 @@ use Rattle.mscp_ported.proofs.Texts.{text_keeps}
 
 -- ---- calls
 
-still_waits : {K : Type 0} (old new : Port K) → Says old new → new.controller.waiting ≡ old.controller.waiting
+pub still_waits : {K : Type 0} (old new : Port K) → Says old new → new.controller.waiting ≡ old.controller.waiting
 still_waits old new says = search (arith, looks_or_not old)
 
 module _ {K : Type 0} (said : ℕ → Buffer → Type 0) (old new : Port K) (k : Keeps said old) where

@@ -1,6 +1,6 @@
 -- Behind a message that a port read each end that waits fits its message still.
 use Rattle.mscp_ported.proofs.Common.{All, AllByRecursion, Bool, Command, End, First, Hears, Holdings, IsCodeFor, IsValid, List, None, Ok, Option, Order, Port, Record, Settings, Some, Verdict, WasRead, [], aborted_record, answered_end, ap, arith, balance_of, buffer_in, changes_at, command_of, cond, credits_of, ends_formality, eq-eqb, eqb-true, every_append, false, fault_of, figure_in, figure_on, figure_polled, filter, find, found_is, fresh_record, handed, has_number, inl, inr, is_formality, is_of, length, nat_eq, none-some, num, option_map, option_to_list, outstanding_of, place_in, record_aborted, refl, same_Some, since, slice_index, status_told, subst, sym, taken_by, unaborted, waiting_on, ℕ, ◌++◌, ◌+◌, ◌-◌, ◌<◌, ◌^◌, ◌∙◌, ◌∷◌, ◌≡◌, ◌≤◌}
-use Rattle.mscp_ported.proofs.Kept.{is_numbered}
+use Rattle.mscp_ported.proofs.Kept.{is_numbered, number_of}
 use Rattle.mscp_ported.proofs.Refusals.{num_small, own_figure, some_balance}
 use Rattle.mscp_packet.specs.declared.command.Order.TheVariants as orders
 use Rattle.mscp_ported.proofs.Awaiting.{IsNoReset, Kept}
@@ -16,7 +16,6 @@ use Rattle.mscp_ported.proofs.Followed.{AreFollowed, answers_follow, followed_be
 use Rattle.mscp_ported.proofs.Formal.{formal_queued}
 use Rattle.mscp_ported.proofs.Numbered.{At, IsNothing, first_of_one, none_beside, none_found, some_none}
 use Rattle.mscp_ported.proofs.Origins.{IsOf, IsText, aborted_of, answer_of, queued_of}
-use Rattle.mscp_ported.proofs.Owning.{number_of}
 use Rattle.mscp_ported.proofs.Sole.{found_sole, sole_comes}
 use Rattle.mscp_port.specs.declared.verdict.Verdict.TheVariants as verdicts
 use Rattle.mscp_drive.specs.declared.block.Block.TheVariants as blocks

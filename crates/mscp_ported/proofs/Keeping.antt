@@ -1,8 +1,7 @@
 -- What is kept of a command after each call: its blocks so far were moved at their places.
-use Rattle.mscp_ported.proofs.Common.{Action, Answered, AsksAlways, Block, Bool, Buffer, Call, Connection, Contains, Drive, End, First, Hardware, Holdings, IsMadeOf, IsStepping, List, MoveKind, Name, Next, None, Ok, Option, Order, Outcome, Picking, Port, Record, Says, Some, Verdict, WasRead, Went, WriteIp, [], advanced, ap, arith, asked, begun_step, block_told, buffer_in, comes, done_by, end_given, false, filter, given, inl, inr, is_done, is_moving, is_of, is_step_of, kept_after, left_of, min, moved, name_of, name_on, none-some, num, order_weight, record_at, refl, same_Some, same_is, same_name, subst, sym, true, wanted, wish, ℕ, ◌*◌, ◌++◌, ◌+◌, ◌-◌, ◌<◌, ◌∙◌, ◌∷◌, ◌≡◌, ◌≢◌, ◌≤◌}
-use Rattle.mscp_ported.proofs.Kept.{is_numbered}
-use Rattle.mscp_ported.proofs.Loads.{looks_or_not}
-use Rattle.mscp_ported.proofs.Said.{is_first, not_of, without_among}
+use Rattle.mscp_ported.proofs.Common.{Action, Answered, AsksAlways, Block, Bool, Buffer, Call, Connection, Contains, Drive, End, First, Hardware, Holdings, IsMadeOf, IsStepping, List, MoveKind, Name, Next, None, Ok, Option, Order, Outcome, Picking, Port, Record, Some, Verdict, WasRead, Went, WriteIp, [], advanced, ap, arith, asked, begun_step, block_told, buffer_in, comes, done_by, end_given, false, filter, given, inl, inr, is_done, is_moving, is_of, is_step_of, kept_after, left_of, min, moved, name_of, name_on, none-some, num, order_weight, record_at, refl, same_Some, same_is, same_name, subst, sym, true, wanted, wish, ℕ, ◌*◌, ◌++◌, ◌+◌, ◌-◌, ◌<◌, ◌∙◌, ◌∷◌, ◌≡◌, ◌≢◌, ◌≤◌}
+use Rattle.mscp_ported.proofs.Kept.{is_numbered, number_of}
+use Rattle.mscp_ported.proofs.Said.{is_first, kept_among, not_of, without_among}
 use Rattle.mscp_ported.proofs.Stepping.{IsHow, Serves, drive_in, went_is}
 use Rattle.mscp_ported.proofs.Staying.{IsPassive, passive_stays}
 use Rattle.mscp_packet.specs.declared.command.MoveKind.TheVariants as moves
@@ -10,8 +9,9 @@ use Rattle.mscp_packet.specs.declared.command.Order.TheVariants as orders
 use Rattle.mscp_port.specs.declared.action.Action.TheVariants as actions
 use Rattle.mscp_ported.proofs.Transferring.{goes_on_so, moves_so, no_done, none_moving, other_step, told_so}
 use Rattle.mscp_ported.proofs.Moving.{Steps, steps}
-use Rattle.mscp_ported.proofs.Owning.{AreOwned, Own, Owned, carries, nothing_kept, number_of, parts_of, quiet, read_owned}
+use Rattle.mscp_ported.proofs.Owning.{AreOwned, Own, Owned, carries, nothing_kept, parts_of, quiet, read_owned}
 use Rattle.mscp_ported.proofs.Sole.{served_goes_on, served_itself, served_other}
+use Rattle.mscp_ported.proofs.Heeded.{still_waits}
 
 -- ---- what is kept after a step
 
@@ -19,11 +19,6 @@ use Rattle.mscp_ported.proofs.Sole.{served_goes_on, served_itself, served_other}
 pub end_number : (k : Block) (d : Drive) (r : Record) (e : End) → end_given k d r ≡ Some e
     → e.reference ≡ r.command.reference
 end_number k d r e h = grind (arith, none-some, same_Some)
-
-among_after : (via : Connection) (o : Option End) (bs : List Buffer) (b : Buffer) → Contains (kept_after via o bs) b
-    → Contains bs b
-among_after via None bs b there = there
-among_after via (Some e) bs b there = (without_among via e.reference bs b there).0
 
 not_ended : (via : Connection) (o : Option End) (bs : List Buffer) (b : Buffer) (e : End) → o ≡ Some e
     → Contains (kept_after via o bs) b → is_of via e.reference b ≡ true → ⊥
@@ -53,7 +48,7 @@ module _ {K : Type 0} (picks : Picking K) (start p : Port K) (calls : List Call)
   served : (verdict : Verdict) → IsHow a.0 outcome verdict → Serves verdict a.0 p → After
   served verdict how x = λ b there asks.
       let left = subst (λ bs. Contains bs b) x.heeds.buffers there in
-      let o = owned b (among_after r0.connection (end_given (block_told verdict) d r0) a.0.buffers.items b left) asks in
+      let o = owned b (kept_among r0.connection (end_given (block_told verdict) d r0) a.0.buffers.items b left) asks in
       by b left o.0 o.1 o.2 (is_numbered b.reference r0) refl
     where
       rs : List Record
@@ -152,9 +147,6 @@ module _ {K : Type 0} (picks : Picking K) (start p : Port K) (calls : List Call)
   ]
 
 -- ---- a list of calls
-
-still_waits : {K : Type 0} (old new : Port K) → Says old new → new.controller.waiting ≡ old.controller.waiting
-still_waits old new says = search (arith, looks_or_not old)
 
 passive_comes : {K : Type 0} (call : Call) (old : Port K) → IsPassive call → (n : ℕ) → comes n call old ≡ false
 passive_comes call old is n = grind arith

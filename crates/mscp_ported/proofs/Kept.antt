@@ -1,5 +1,5 @@
 -- What a port keeps of a command was said by the message by which that command came.
-use Rattle.mscp_ported.proofs.Common.{◌≡◌, ◌≢◌, ◌∙◌, ◌<◌, ◌+◌, ℕ, Bool, true, false, not, List, [], ◌∷◌, ◌++◌, Option, None, refl, ap, sym, length, map, take, drop, arith, All, find, nat_eq, list_any, and_parts, eqb-true, false≢true, or_left, or_parts, or_right, drop_more, take-append-drop, All-append, All-cons, All-drop, All-filter, All-get_or, All-map, All-nil, All-push, All-take, list_any-append, any-filter_same, none-some, End, Block, First, Drive, name_on, same_connection, Record, has_name, no_record, passed_by, record_at, remains, step_charge, without, end_given, waiting_after}
+use Rattle.mscp_ported.proofs.Common.{◌≡◌, ◌≢◌, ◌∙◌, ◌<◌, ◌+◌, ℕ, Bool, true, false, not, List, [], ◌∷◌, ◌++◌, Option, None, refl, ap, sym, length, map, take, drop, arith, All, find, list_any, false≢true, or_left, or_parts, or_right, drop_more, take-append-drop, All-append, All-cons, All-drop, All-filter, All-get_or, All-map, All-nil, All-push, All-take, list_any-append, any-filter_same, none-some, End, Block, First, Drive, name_on, Record, has_name, no_record, passed_by, record_at, remains, step_charge, without, end_given, waiting_after, Name, same_is, name_of}
 use Rattle.std.proofs.Common.{◌||◌}
 
 -- ---- the commands that wait
@@ -95,21 +95,17 @@ come_for P n rs r none is p = record {
 
 -- ---- a command is aborted
 
-apart_names : (n m : ℕ) (r : Record) → n ≢ m → is_numbered n r ≡ true → not (is_numbered m r) ≡ true
-apart_names n m r ne is =
-    let p = and_parts (same_connection r.connection First) (nat_eq r.command.reference n) is in
-    by (is_numbered m r) refl (eqb-true r.command.reference n p.1)
-  where
-    by : (b : Bool) → is_numbered m r ≡ b → r.command.reference ≡ n → not (is_numbered m r) ≡ true
-    by false e at = ap not e
-    by true e at =
-        let p = and_parts (same_connection r.connection First) (nat_eq r.command.reference m) e in
-        absurd (ne (sym at ∙ eqb-true r.command.reference m p.1))
+pub number_of : (n : ℕ) (r : Record) → is_numbered n r ≡ true → (r.connection ≡ First) × (r.command.reference ≡ n)
+number_of n r is = let e = same_is (name_of r) (name_on First n) is in
+    (ap (λ (x : Name). x.connection) e, ap (λ (x : Name). x.reference) e)
+
+pub apart_numbers : (n m : ℕ) (r : Record) → n ≢ m → is_numbered n r ≡ true → not (is_numbered m r) ≡ true
+apart_numbers n m r ne is = grind (arith, number_of)
 
 pub aborted_for : (P : ℕ → Type 0) (n m : ℕ) (rs : List Record) → n ≢ m → IsFor P n rs
     → IsFor P n (without (name_on First m) rs)
 aborted_for P n m rs ne is = record {
-  waits = any-filter_same (is_numbered n) (λ r. not (is_numbered m r)) true (λ r. apart_names n m r ne) rs ∙ is.waits;
+  waits = any-filter_same (is_numbered n) (λ r. not (is_numbered m r)) true (λ r. apart_numbers n m r ne) rs ∙ is.waits;
   units = All-filter (λ r. not (is_numbered m r)) (IsTo P n) rs is.units;
 }
 

@@ -64,14 +64,9 @@ with_news : (units : List Shape) (vs ws : List Volume) (o : Option ℕ) (out : O
     → AreAsBefore vs ws
 with_news units vs ws o out h5 = grind (arith, the_same, set_one)
 
-is_free : Task → Bool
-is_free tasks.Free = true
-is_free task = false
-
-free_or_not : (t : Task) → (t ≡ tasks.Free) ⊎ (t ≢ tasks.Free)
-unfolding is_free
+pub free_or_not : (t : Task) → (t ≡ tasks.Free) ⊎ (t ≢ tasks.Free)
 free_or_not tasks.Free = inl refl
-free_or_not t = inr (λ e. false≢true (ap is_free e))
+free_or_not t = inr (λ e. search (arith, e))
 
 is_up : Stage → Bool
 is_up stages.Up = true

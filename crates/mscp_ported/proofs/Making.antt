@@ -1,12 +1,12 @@
 -- What a port's controller answers to the calls that the port makes of it, by one call of its own.
-use Rattle.mscp_ported.proofs.Common.{AnsweredCalls, Block, Bool, Call, Choice, End, Err, Finish, First, Goes, Hears, Holdings, IsFinish, IsForgotten, IsReadingText, List, Made, Makes, MatchOption, MoveKind, Name, None, Ok, Option, Outcome, Picking, Plain, Port, Result, Some, TakesBegun, TakesBlock, Task, Unasked, Upcoming, Verdict, WasRead, Went, [], answered_to, ap, block_begun, block_of, block_served, block_told, handed, inl, inr, none-some, own_end_of, part_now, part_served, refl, send_made, step_told, subst, sym, told_as, told_of, told_unless, transfer_told, unless_own, ℕ, ◌++◌, ◌∙◌, ◌∷◌, ◌≡◌, ◌⊎◌, arith}
+use Rattle.mscp_ported.proofs.Common.{AnsweredCalls, Block, Bool, Call, Choice, End, Err, Finish, First, Goes, Hears, Holdings, IsFinish, IsForgotten, IsReadingText, List, Made, Makes, MatchOption, MoveKind, Name, None, Ok, Option, Outcome, Picking, Plain, Port, Result, Some, TakesBegun, TakesBlock, Task, Unasked, Upcoming, Verdict, WasRead, Went, [], answered_to, ap, block_begun, block_served, block_told, handed, inl, inr, none-some, own_end_of, part_now, part_served, refl, send_made, step_told, subst, sym, told_of, told_unless, transfer_told, unless_own, ℕ, ◌++◌, ◌∙◌, ◌∷◌, ◌≡◌, ◌⊎◌, arith}
 use Rattle.mscp_drive.specs.declared.event.Event.TheVariants as events
 use Rattle.mscp_controller.specs.declared.entry.Entry.TheVariants as entries
-use Rattle.mscp_port.specs.declared.action.Outcome.TheVariants as outcomes
 use Rattle.mscp_port.specs.declared.stage.Stage.TheVariants as stages
 use Rattle.mscp_port.specs.declared.task.Task.TheVariants as tasks
 use Rattle.mscp_port.specs.declared.verdict.Verdict.TheVariants as verdicts
 use Rattle.mscp_ported.proofs.Staying.{went_stays}
+use Rattle.mscp_ported.proofs.Tables.{outcome_so}
 
 -- ---- calls of the controller, one behind the other
 
@@ -27,10 +27,6 @@ Follows picks call old new =
 pub verdict_so : (verdict : Verdict) → block_told verdict ≡ told_of verdict
 verdict_so (verdicts.Served block) = refl
 verdict_so verdict = refl
-
-outcome_so : (outcome : Outcome) → block_of outcome ≡ told_as outcome
-outcome_so outcomes.Done = refl
-outcome_so outcome = refl
 
 part_so : (outcome : Outcome) (part : Result (ℕ × ℕ) Verdict)
     → block_told (part_served outcome part) ≡ told_unless outcome part

@@ -1,11 +1,10 @@
 -- What there is of each reference number after a step of a command, and after a message.
 use Rattle.mscp_ported.proofs.Common.{Block, Bool, Command, Connection, Drive, End, First, List, None, Option, Record, Second, Some, [], aborted_record, advanced, ap, append-nil, arith, bytes_in, cond, drop, drop_more, end_given, eq-eqb, eqb-true, false, false≢true, filter, filter-append, find, has_number, inl, inr, length, map, name_on, nat_eq, no_record, none-some, not, num, option_map, option_to_list, passed_by, record_at, refl, remains, same_Some, subst, sym, take, take-append-drop, true, waiting_after, without, ℕ, ◌++◌, ◌+◌, ◌<◌, ◌∙◌, ◌∷◌, ◌≡◌, ◌≤◌, found_is}
-use Rattle.mscp_ported.proofs.Kept.{is_numbered}
+use Rattle.mscp_ported.proofs.Kept.{apart_numbers, is_numbered, number_of}
 use Rattle.mscp_ported.proofs.Coming.{brought_for}
 use Rattle.mscp_ported.proofs.Counted.{given_few, moved_few}
 use Rattle.mscp_ported.proofs.Keeping.{end_number}
 use Rattle.mscp_ported.proofs.Numbered.{At, AtEach, IsNothing, Waits, asked_by, at_same, counted_in, ends_numbered, none_beside, none_found, none_of_it, none_stays, some_none}
-use Rattle.mscp_ported.proofs.Owning.{apart_numbers, number_of}
 use Rattle.mscp_ported.proofs.Sole.{found_sole, nothing_two, served_goes_on, served_itself, served_other, sole_comes, sole_left, this_one}
 
 -- ---- a step

@@ -1,11 +1,11 @@
 -- What is kept of a command was said by its own message, and its blocks so far were moved at their places.
-use Rattle.mscp_ported.proofs.Common.{Action, Answered, Bool, Buffer, Call, Contains, Contains-push_cases, First, Holdings, List, Name, None, Ok, Option, Order, Picking, Port, Record, Some, WasRead, [], ap, append-nil, arith, asked, asks_nothing, balance_of, buffer_in, changes_at, comes, command_of, cond, done_by, eq-eqb, eqb-true, false, filter, find, fresh_record, handed, inl, inr, is_formality, is_queued_text, length, moved, name_of, name_on, nat_eq, nat_lt, none-some, none_among, not, num, option_map, order_weight, outstanding_of, place_in, reference_aborted, refl, same_Some, same_is, slice_index, subst, sym, transfers, true, unaborted, waiting, wish, without_aborted, ℕ, ◌&&◌, ◌++◌, ◌<◌, ◌==◌, ◌∙◌, ◌∷◌, ◌≡◌, ◌≢◌, ◌≤◌, ◌⊎◌}
+use Rattle.mscp_ported.proofs.Common.{Action, Answered, Bool, Buffer, Call, Contains, First, Holdings, List, Ok, Order, Picking, Port, Record, Some, WasRead, [], ap, append-nil, arith, asked, asks_nothing, balance_of, buffer_in, changes_at, comes, command_of, cond, done_by, eq-eqb, eqb-true, false, filter, find, fresh_record, handed, inl, inr, is_formality, is_queued_text, length, moved, nat_eq, nat_lt, none_among, not, num, order_weight, outstanding_of, place_in, reference_aborted, refl, slice_index, subst, sym, transfers, true, unaborted, waiting, wish, without_aborted, ℕ, ◌&&◌, ◌++◌, ◌<◌, ◌==◌, ◌∙◌, ◌∷◌, ◌≡◌, ◌≢◌, ◌≤◌}
 use Rattle.mscp_ported.proofs.Come.{IsLike, handed_as_read, handed_like, none_waits, taken_number}
-use Rattle.mscp_ported.proofs.Kept.{is_numbered}
-use Rattle.mscp_ported.proofs.Said.{is_first, not_of, without_among}
+use Rattle.mscp_ported.proofs.Kept.{apart_numbers, is_numbered, number_of}
 use Rattle.mscp_packet.specs.declared.command.Order.TheVariants as orders
 use Rattle.mscp_ported.proofs.Reading.{Gets, Queues, and_false, answered_now, command_in, not_queued, queued_later, read_is}
 use Rattle.mscp_ported.proofs.Sole.{Alike, found_sole, itself, none_passes, sole_beside, sole_comes, sole_left, sole_passes}
+use Rattle.mscp_ported.proofs.Texts.{beside_cases, left_among, left_other}
 
 -- so many blocks of an order
 abbrev pub parts_of : Order → ℕ → ℕ → ℕ → List Action
@@ -65,35 +65,8 @@ module _ {K : Type 0} (picks : Picking K) (start : Port K) where
 
 -- ---- a text was read
 
--- what is kept without that of a record which was found, if one was
-left_among : (o : Option Record) (bs : List Buffer) (b : Buffer)
-    → Contains (without_aborted (option_map (λ r. r.command.reference) o) bs) b → Contains bs b
-left_among None bs b there = there
-left_among (Some r) bs b there = (without_among First r.command.reference bs b there).0
-
-left_other : (o : Option Record) (r : Record) (bs : List Buffer) (b : Buffer) → o ≡ Some r
-    → Contains (without_aborted (option_map (λ r. r.command.reference) o) bs) b → b.reference ≢ r.command.reference
-left_other None r bs b e there = absurd (none-some r e)
-left_other (Some x) r bs b e there = λ same.
-    not_of First x.command.reference b
-    (is_first First x.command.reference b refl
-    (same ∙ ap (λ (y : Record). y.command.reference) (sym (same_Some x r e))))
-    (without_among First x.command.reference bs b there).1
-
-pub number_of : (n : ℕ) (r : Record) → is_numbered n r ≡ true → (r.connection ≡ First) × (r.command.reference ≡ n)
-number_of n r is = let e = same_is (name_of r) (name_on First n) is in
-    (ap (λ (x : Name). x.connection) e, ap (λ (x : Name). x.reference) e)
-
-pub apart_numbers : (n m : ℕ) (r : Record) → n ≢ m → is_numbered n r ≡ true → not (is_numbered m r) ≡ true
-apart_numbers n m r ne is = grind (arith, number_of)
-
 no_shorter : (m n : ℕ) → m ≤ 12 → 12 ≤ n → nat_lt n m ≡ false
 no_shorter m n short long = search (arith, short, long)
-
-beside_cases : (t : Bool) (bs : List Buffer) (x b : Buffer) → Contains (cond t (bs ++ x ∷ []) bs) b
-    → Contains bs b ⊎ (x ≡ b)
-beside_cases true bs x b there = Contains-push_cases bs x b there
-beside_cases false bs x b there = inl there
 
 module _ {K : Type 0} (picks : Picking K) (start : Port K) (p : Port K) (calls : List Call) (bytes : List ℕ)
     (done : Unit) (a : Answered picks start (WasRead bytes (Ok done) ∷ calls) p)

@@ -1,6 +1,6 @@
 -- Ends pass on to a host in the order in which they came.
 use Rattle.mscp_ported.proofs.Common.{Action, AllByRecursion, Bool, Command, Connection, End, First, Goes, Hears, Holdings, IsOfKind, List, Next, None, Ok, Option, Order, Outcome, PassesOn, Port, Record, Second, Settings, Some, TakesEnd, TakesPoll, Verdict, Wants, WasRead, Went, [], aborted_record, accepted_by, answered_end, ap, append-nil, arith, block_told, command_of, cond, drop, every_append, false, figure_on, filter, find, found_is, given, handed, inl, inr, is_dead, is_queued, length, map, nat_eq, none-some, num, option_map, option_to_list, pending_end, pending_said, record_aborted, record_at, refl, slice_get, slice_index, subst, sym, taken_by, told_end, true, ℕ, ◌++◌, ◌∙◌, ◌∷◌, ◌≡◌, ◌≤◌, ◌⊎◌}
-use Rattle.mscp_ported.proofs.Kept.{is_numbered}
+use Rattle.mscp_ported.proofs.Kept.{is_numbered, number_of}
 use Rattle.mscp_ported.proofs.Growing.{Grown, begun_one, silent, grown_none, grown_passes}
 use Rattle.mscp_port.specs.declared.port.OutgoingKind.TheVariants as kinds
 use Rattle.mscp_packet.specs.declared.command.Order.TheVariants as orders
@@ -12,7 +12,6 @@ use Rattle.mscp_ported.proofs.Fitted.{Fitting}
 use Rattle.mscp_ported.proofs.Saying.{told_figure}
 use Rattle.mscp_ported.proofs.Keeping.{end_number}
 use Rattle.mscp_ported.proofs.Numbered.{At, none_found}
-use Rattle.mscp_ported.proofs.Owning.{number_of}
 use Rattle.mscp_ported.proofs.Awaits.{end_named, served_own}
 use Rattle.mscp_ported.proofs.Taking.{NoEnd, says_is}
 use Rattle.mscp_ported.proofs.Stepping.{Serves, drive_in, end_served, went_is}

@@ -90,7 +90,7 @@ ended_of picks via reference block old new result e h8 h9 = grind (arith, none-s
 
 -- ---- a step
 
-kept_among : (via : Connection) (o : Option End) (bs : List Buffer) (b : Buffer) → Contains (kept_after via o bs) b
+pub kept_among : (via : Connection) (o : Option End) (bs : List Buffer) (b : Buffer) → Contains (kept_after via o bs) b
     → Contains bs b
 kept_among via None bs b there = there
 kept_among via (Some e) bs b there = (without_among via e.reference bs b there).0

@@ -1,5 +1,5 @@
 -- Whoever always asks for blocks has a step told between two polls of a command that waits.
-use Rattle.mscp_ported.proofs.Common.{Action, Answered, AsksBehindPolls, AsksForBlocks, Becomes, Bool, Call, Descriptor, Hardware, Hears, Holdings, IsAsNew, IsMadeOf, IsReadingText, IsServedSince, List, Next, Ok, Picking, Port, ReadIp, Sends, Sent, ServesBetweenPolls, TakesPoll, Task, TellsStep, Wants, WasRead, Went, WriteIp, WriteSa, [], ap, arith, blocks, eq-eqb, false, false≢true, inl, inr, is_dead, refl, subst, sym, takes, true, ℕ, ◌∙◌, ◌∷◌, ◌≡◌, ◌≢◌, ◌⊎◌}
+use Rattle.mscp_ported.proofs.Common.{Action, Answered, AsksBehindPolls, AsksForBlocks, Becomes, Bool, Call, Descriptor, Hardware, Hears, Holdings, IsAsNew, IsMadeOf, IsReadingText, IsServedSince, List, Next, Ok, Picking, Port, ReadIp, ServesBetweenPolls, TakesPoll, Task, TellsStep, Wants, WasRead, Went, WriteIp, WriteSa, [], ap, arith, blocks, eq-eqb, false, false≢true, inl, inr, is_dead, refl, subst, sym, takes, true, ℕ, ◌∙◌, ◌∷◌, ◌≡◌, ◌≢◌, ◌⊎◌}
 use Rattle.mscp_ported.proofs.Minor.{minor}
 use Rattle.mscp_port.specs.declared.stage.Stage.TheVariants as stages
 use Rattle.mscp_port.specs.declared.task.Task.TheVariants as tasks
@@ -9,12 +9,9 @@ use Rattle.mscp_ported.proofs.Reading.{Answers, Queues, read_is}
 use Rattle.mscp_ported.proofs.Deeds.{is_alive}
 use Rattle.mscp_ported.proofs.Sights.{Seen, sight}
 use Rattle.mscp_ported.proofs.Turns.{IsHearing, IsNoNext, reads_on, text_quiet, wants_hears}
+use Rattle.mscp_ported.proofs.Fair.{sent_keeps}
 
 -- ---- a block that is owed stays so until a step is told
-
-sent_owes : {K : Type 0} (slot : Descriptor) (s : Sent) (bytes : List ℕ) (old new : Port K)
-    → Sends slot s bytes old new → old.owes_block ≡ true → new.owes_block ≡ true
-sent_owes slot s bytes old new sends owes = grind arith
 
 module _ {K : Type 0} (picks : Picking K) (old new : Port K) (lives : is_dead new.stage ≡ false)
     (owes : old.owes_block ≡ true) where
@@ -25,7 +22,7 @@ module _ {K : Type 0} (picks : Picking K) (old new : Port K) (lives : is_dead ne
   dies code d = absurd (search (arith, lives, ap is_dead d.stage))
 
   read_owes : {bytes : List ℕ} {done : Unit} → Seen bytes done old new → new.owes_block ≡ true
-  read_owes h = grind (arith, as_it_was, dies, sent_owes)
+  read_owes h = grind (arith, as_it_was, dies, sent_keeps)
 
   owes_on : (call : Call) → call ≢ WriteIp → (TellsStep call old → ⊥) → Becomes picks call old new
       → new.owes_block ≡ true

@@ -6,7 +6,7 @@ use Rattle.mscp_ported.specs.Talk.{done_by}
 use Rattle.mscp_ported.proofs.After.{After, same_stage}
 use Rattle.mscp_ported.proofs.Look.{Fits, InStep, IsClear, IsElse, IsOfRings, IsOpen, IsTelling, Names, has_area, in_hand, is_early, is_loud, look}
 use Rattle.mscp_ported.proofs.Counting.{named_wide}
-use Rattle.mscp_ported.proofs.Deeds.{done_or_not}
+use Rattle.mscp_ported.proofs.Deeds.{done_or_not, is_low, is_one}
 use Rattle.mscp_ported.proofs.Plain.{retask}
 use Rattle.mscp_ported.proofs.Acting.{IsReported, alive, dead_so, early_counts, else_deed, freed, goes_on, idle_deed, idle_so, init_step, quiet_of, same_said, step_cases}
 
@@ -150,12 +150,6 @@ module _ {K : Type 0} {picks : List Choice → ℕ → Type 0} {old new : Port K
           (early_counts (rings_named old.words.first old.words.second word) (look old) t (Some w) said texts k
           (none (ap is_early third))) (fits calm.0) (k.hand.idle not_up) k.hand.own no_rings
           (λ x. absurd (no_step x)) clear lives)
-
-      is_one : (n : ℕ) → (n ≡ 1) ⊎ (n ≢ 1)
-      is_one n = search arith
-
-      is_low : (n : ℕ) → (0x8000 ≤ n) ⊎ (n < 0x8000)
-      is_low n = search arith
 
       named_or : (o : Option Rings) → rings_named old.words.first old.words.second word ≡ o → old.stage ≡ stages.Third
           → word < 0x8000 → So

@@ -1,6 +1,6 @@
 -- While a message is read and nothing goes out, no end waits for the host.
-use Rattle.mscp_ported.proofs.Common.{Action, Answered, Becomes, Bool, Call, Choice, Descriptor, End, Hardware, Holdings, IsMadeOf, List, Next, None, Picking, Port, Task, Wants, [], ap, arith, inl, inr, none-some, refl, slice_get, subst, sym, ℕ, ◌∙◌, ◌∷◌, ◌≡◌, ◌≢◌, ◌⊎◌}
-use Rattle.mscp_ported.proofs.Loads.{looks_or_not}
+use Rattle.mscp_ported.proofs.Common.{Action, Answered, Becomes, Bool, Call, Choice, Descriptor, End, Hardware, Holdings, IsMadeOf, List, Next, None, Picking, Port, Wants, [], ap, arith, none-some, refl, slice_get, subst, sym, ℕ, ◌∙◌, ◌∷◌, ◌≡◌}
+use Rattle.mscp_ported.proofs.Loads.{free_or_not, looks_or_not}
 use Rattle.mscp_port.specs.declared.task.Task.TheVariants as tasks
 use Rattle.mscp_ported.proofs.Coming.{ends_of}
 use Rattle.mscp_ported.proofs.Turns.{IsHearing, reads_on}
@@ -8,10 +8,6 @@ use Rattle.mscp_ported.proofs.Wanting.{alive_or_dead}
 
 abbrev pub IsSilent : {K : Type 0} → Port K → Type 0
 IsSilent p = IsHearing p.task → p.outgoing ≡ None → ends_of p.controller ≡ []
-
-pub free_or_not : (t : Task) → (t ≡ tasks.Free) ⊎ (t ≢ tasks.Free)
-free_or_not tasks.Free = inl refl
-free_or_not t = inr (λ e. search (arith, e))
 
 no_first : (xs : List End) → slice_get xs 0 ≡ None → xs ≡ []
 no_first [] e = refl

@@ -1,13 +1,12 @@
 -- What each call of a port leaves of what goes out, or of an end that waits.
 use Rattle.mscp_ported.proofs.Common.{Action, Becomes, Bool, Call, Choice, IsForgotten, IsGiven, List, Next, None, Option, Outgoing, Picking, Port, Some, Wants, [], acts, ap, arith, inl, inr, none-some, refl, slice_get, subst, sym, ℕ, ◌+◌, ◌<◌, ◌∙◌, ◌∷◌, ◌≡◌, ◌≢◌, ◌≤◌, ◌⊎◌, Responses, false}
-use Rattle.mscp_ported.proofs.Loads.{looks_or_not}
+use Rattle.mscp_ported.proofs.Loads.{free_or_not, looks_or_not}
 use Rattle.std.specs.Prelude.{length}
 use Rattle.mscp_port.specs.declared.stage.Stage.TheVariants as stages
 use Rattle.mscp_port.specs.declared.task.Task.TheVariants as tasks
 use Rattle.mscp_ported.proofs.Coming.{ends_of}
 use Rattle.mscp_ported.proofs.Deeds.{IsClear}
 use Rattle.mscp_ported.proofs.Doing.{HasEnd, InUse, goes_on, rest, to_do}
-use Rattle.mscp_ported.proofs.Silent.{free_or_not}
 
 -- the rings are in use, and this goes out
 pub record IsSaying {K : Type 0} (p : Port K) (o : Outgoing) : Type 0 where

@@ -40,7 +40,7 @@ pub step_fields : {K : Type 0} (verdict : Verdict) (old new : Port K) (e : End)
     → fields_of (decided_by verdict old new e) ≡ (step_left verdict old new e).fields
 step_fields verdict old new e = grind (arith, fields_so, status_so, code_so)
 
-outcome_so : (outcome : Outcome) → block_of outcome ≡ told_as outcome
+pub outcome_so : (outcome : Outcome) → block_of outcome ≡ told_as outcome
 outcome_so outcomes.Done = refl
 outcome_so outcome = refl
 

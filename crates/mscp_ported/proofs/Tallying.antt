@@ -1,7 +1,7 @@
 -- The end of a transfer counts just the blocks that were moved.
 use Rattle.mscp_port.specs.declared.task.Task.TheVariants as tasks
 use Rattle.mscp_ported.proofs.Common.{Answered, AsksAlways, Block, Bool, Buffer, Call, Command, Connection, Contains, Counts, Dies, Drive, End, Err, First, Hardware, Holdings, IsMadeOf, List, MoveKind, Name, None, Ok, Option, Order, Outcome, Picking, Port, Record, Result, Shape, Some, Upcoming, Verdict, Volume, Went, Wish, [], and_parts, ap, append-nil, arith, asked, asks_nothing, begun_step, block_begun, block_served, block_told, block_touched, changed_verdict, come, cond, done_by, drive_of, drop, end_given, false, false≢true, filter, find, found_is, given, goes_on, good_step, has_changed, has_name, inl, inr, is_available, is_done, is_good_block, is_moving, is_same, is_step_of, known_task, left_of, length, min, move_of, move_task, moved, moved_by, name, name_of, name_on, none-some, num, opcode_of, outcome_at, outcome_body, outcome_status, part_at, part_task, part_with, record_at, refl, same_Some, same_is, slice_index, subst, suc, sym, takes_any_volume, task_of, touches, transfers, true, upcoming_of, wanted, wish, zero, ℕ, ◌&&◌, ◌*◌, ◌++◌, ◌+◌, ◌-◌, ◌<◌, ◌∙◌, ◌∷◌, ◌≡◌, ◌≤◌, ◌⊎◌}
-use Rattle.mscp_ported.proofs.Kept.{is_numbered}
+use Rattle.mscp_ported.proofs.Kept.{is_numbered, number_of}
 use Rattle.mscp_ported.proofs.Stepping.{IsHow, Serves, ServesNone, drive_in, end_served, went_is}
 use Rattle.mscp_packet.specs.declared.class.Opcode.TheVariants as codes
 use Rattle.mscp_packet.specs.declared.command.Order.TheVariants as orders
@@ -12,7 +12,7 @@ use Rattle.mscp_port.specs.declared.action.Outcome.TheVariants as outcomes
 use Rattle.mscp_ported.proofs.Coming.{brought_for, come_so, ends_of}
 use Rattle.mscp_ported.proofs.Keeping.{are_owned, end_number}
 use Rattle.mscp_ported.proofs.Moving.{Steps, steps}
-use Rattle.mscp_ported.proofs.Owning.{AreOwned, Own, number_of, parts_of}
+use Rattle.mscp_ported.proofs.Owning.{AreOwned, Own, parts_of}
 use Rattle.mscp_ported.proofs.Sole.{found_sole, served_itself, sole_passes}
 use Rattle.mscp_ported.proofs.Transferring.{kept_address, move_fields, moves_so, none_moving, told_so}
 

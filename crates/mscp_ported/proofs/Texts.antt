@@ -20,12 +20,12 @@ find_passes p (x ∷ rs) r e = by (p x) refl e (find_passes p rs r)
     by false is h rest = rest h
 
 -- what is kept without that of a record which was found, if one was
-left_among : (o : Option Record) (bs : List Buffer) (b : Buffer)
+pub left_among : (o : Option Record) (bs : List Buffer) (b : Buffer)
     → Contains (without_aborted (option_map (λ r. r.command.reference) o) bs) b → Contains bs b
 left_among None bs b there = there
 left_among (Some r) bs b there = (without_among First r.command.reference bs b there).0
 
-left_other : (o : Option Record) (r : Record) (bs : List Buffer) (b : Buffer) → o ≡ Some r
+pub left_other : (o : Option Record) (r : Record) (bs : List Buffer) (b : Buffer) → o ≡ Some r
     → Contains (without_aborted (option_map (λ r. r.command.reference) o) bs) b → b.reference ≢ r.command.reference
 left_other None r bs b e there = absurd (none-some r e)
 left_other (Some x) r bs b e there = λ same.
@@ -59,7 +59,7 @@ module _ {K : Type 0} (said : ℕ → Buffer → Type 0) where
 
 -- ---- a command is queued
 
-beside_cases : (t : Bool) (bs : List Buffer) (x b : Buffer) → Contains (cond t (bs ++ x ∷ []) bs) b
+pub beside_cases : (t : Bool) (bs : List Buffer) (x b : Buffer) → Contains (cond t (bs ++ x ∷ []) bs) b
     → Contains bs b ⊎ (x ≡ b)
 beside_cases true bs x b there = Contains-push_cases bs x b there
 beside_cases false bs x b there = inl there

@@ -1,6 +1,6 @@
 -- What a step of a transfer moves that goes well.
 use Rattle.mscp_ported.proofs.Common.{Action, Answered, Block, Bool, Buffer, Call, Command, Drive, First, Holdings, IsEmpty, List, MoveKind, Name, None, Ok, Option, Order, Outcome, Picking, Port, Record, Some, Upcoming, Verdict, WasMoved, Went, Wish, [], ap, arith, begun_step, block_moved, block_told, block_touched, buffer_in, command_of, cond, done_by, drive_of, end_given, false, false≢true, filter, find, found_is, has_name, inl, inr, is_done, is_moving, is_of, is_step_of, left_of, length, min, name_on, nat_lt, none-some, num, opcode_of, option_map, position, refl, same_is, same_name, slice_index, step_told, subst, sym, touches, true, upcoming_begun, upcoming_of, wanted, wish, ℕ, ◌&&◌, ◌*◌, ◌+◌, ◌-◌, ◌<◌, ◌∙◌, ◌∷◌, ◌≡◌, ◌≢◌, ◌≤◌, ◌⊎◌}
-use Rattle.mscp_ported.proofs.Kept.{is_numbered}
+use Rattle.mscp_ported.proofs.Kept.{is_numbered, number_of}
 use Rattle.mscp_ported.proofs.Said.{kept_found, of_first}
 use Rattle.mscp_ported.proofs.Stepping.{IsHow}
 use Rattle.mscp_packet.specs.declared.class.Opcode.TheVariants as codes
@@ -11,7 +11,7 @@ use Rattle.mscp_port.specs.declared.action.Outcome.TheVariants as outcomes
 use Rattle.mscp_ported.proofs.Making.{transfer_so, verdict_so}
 use Rattle.mscp_ported.proofs.Moved.{moved_at}
 use Rattle.mscp_ported.proofs.Moving.{Steps}
-use Rattle.mscp_ported.proofs.Owning.{AreOwned, Own, number_of}
+use Rattle.mscp_ported.proofs.Owning.{AreOwned, Own}
 use Rattle.mscp_ported.proofs.Sole.{found_sole, one_of, sole_passes}
 
 -- ---- the step that is begun

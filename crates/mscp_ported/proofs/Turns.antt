@@ -1,12 +1,12 @@
 -- Which calls look for a message of a port's host, or read one on.
-use Rattle.mscp_ported.proofs.Common.{Action, Becomes, Bool, Call, Choice, Commands, IsDue, IsReadingText, List, Next, Ok, Option, Outcome, Picking, Port, ReadIp, Record, Rings, Side, Descriptor, Task, Wants, WasRead, Went, WriteIp, WriteSa, [], arith, aside, block_is_due, false, false≢true, hears_of, inl, inr, is_dead, length, nat_eq, none-some, not, read_again, refl, step_at, subst, taken_or_not, true, ℕ, ◌&&◌, ◌∷◌, ◌≡◌, ◌⊎◌}
-use Rattle.mscp_ported.proofs.Loads.{none_or_not, up_or_not}
+use Rattle.mscp_ported.proofs.Common.{Action, Becomes, Call, Choice, Commands, IsDue, IsReadingText, List, Next, Ok, Option, Outcome, Picking, Port, ReadIp, Rings, Side, Descriptor, Task, Wants, WasRead, Went, WriteIp, WriteSa, [], arith, aside, false, hears_of, is_dead, none-some, read_again, step_at, subst, taken_or_not, true, ℕ, ◌≡◌, ◌⊎◌}
 use Rattle.mscp_ported.proofs.Deeds.{Deed, IsNewStep, deed}
 use Rattle.mscp_ported.proofs.Minor.{minor}
 use Rattle.mscp_ported.proofs.Sights.{IsSlide, Seen, sight, task_read}
 use Rattle.mscp_ported.proofs.Touching.{Touched, read_ip, wrote_sa}
 use Rattle.mscp_ported.proofs.Wanting.{alive_or_dead}
 use Rattle.mscp_port.specs.declared.task.Task.TheVariants as tasks
+use Rattle.mscp_ported.proofs.Fair.{block_due, nothing_waits}
 
 -- a message is looked for, or read
 abbrev pub IsHearing : Task → Type 0
@@ -73,19 +73,6 @@ module _ {K : Type 0} {old new : Port K} where
   went_quiet k h = grind (arith, forgets, never, step_quiet, hears_quiet, taken_or_not)
 
 -- ---- what is wanted
-
-nothing_waits : (owes : Bool) (rs : List Record) → owes ≡ true
-    → (owes && true && not (nat_eq (length rs) 0)) ≡ false → rs ≡ []
-nothing_waits owes [] is e = refl
-nothing_waits owes (r ∷ rs) is e = search (arith, false≢true)
-
-full_or_not : (b : Bool) → (b ≡ true) ⊎ (b ≡ false)
-full_or_not true = inl refl
-full_or_not false = inr refl
-
-block_due : {K : Type 0} (p : Port K) (task : Task) → IsDue true p task → task ≡ tasks.Slot Commands
-    → block_is_due true p ≡ true → ⊥
-block_due p task due slot e = grind (arith, up_or_not, none_or_not, full_or_not)
 
 module _ {K : Type 0} (picks : List _ → ℕ → Type 0) (action : Action) (old new : Port K)
     (r : Wants picks true old action new) where
