@@ -51,7 +51,7 @@ is_gone() {
 # Prints a C file that compiles if mscp.h says what the sources say.
 mirror() {
     local memory=crates/mscp_memory/src
-    awk -f tests/c/mirror.awk VERSION crates/mscp_c/src/*.rt crates/mscp_packet/src/class.rt crates/mscp_port/src/stage.rt \
+    awk -f tests/c/mirror.awk VERSION crates/mscp_c/src/*.rt crates/mscp_packet/src/opcodes.rt crates/mscp_port/src/stage.rt \
         crates/mscp_host/src/{asked,ticking}.rt "$memory"/{controller,driver,host,port}/{handle,marks}.rt
 }
 

@@ -114,18 +114,32 @@ faults_of_saved_bytes_are_told() {
         same "$(restore_faults crates/mscp_port/src/port/restoring.rt)" "$(listed_faults 'A port')"
 }
 
-# The opcodes of specs/Opcodes.antt: byte, name, class, both lengths, and the body of the end.
+# The rows of specs/Opcodes.antt whose commands these answer here: byte, name, class, both lengths, and the body of the end.
 opcodes() {
-    local specs=crates/mscp_packet/specs/Opcodes.antt moves
-    moves=$(sed -nE 's/.*opcode_row \(move_byte kind\) Free ([0-9]+) ([0-9]+) kinds\.(\w+).*/free, \1, \2, \3/p' "$specs")
-    sed -nE "s/^row_of codes\.\w+ = opcode_row ([0-9]+) (\w+) ([0-9]+) ([0-9]+) kinds\.(\w+) +-- (.*)/\1, \6, \L\2\E, \3, \4, \5/p
-        s/^move_byte moves\.\w+ = ([0-9]+) +-- (.*)/\1, \2, $moves/p" "$specs" | sort -n
+    local specs=crates/mscp_packet/specs rows moves row byte name it
+    rows=$(sed 's/(move_byte kind) (move_name kind) //' $specs/Opcodes.antt | tr -s '\n ' ' ')
+    moves=$(grep -oE ' row Free [0-9]+ [0-9]+ kinds\.\w+ \w+ \(move_modifiers kind\) \w+' <<<"$rows")
+    {
+        grep -oE ' row bytes\.\w+ \(codes "[A-Z ]+"\) \w+ [0-9]+ [0-9]+ kinds\.\w+ \w+ \w+ \w+' <<<"$rows"
+        grep -oE 'move_byte moves\.\w+ = bytes\.\w+' <<<"$rows" | while read -r _ _ _ byte; do
+            name=${byte#bytes.} name=${name//_/ }
+            echo " row $byte (codes \"${name^^}\")${moves# row}"
+        done
+    } | while IFS= read -r row; do
+        [[ $row =~ bytes\.([a-z_]+)\ \(codes\ \"([A-Z\ ]+)\"\)\ ([A-Za-z]+)\ ([0-9]+)\ ([0-9]+)\ kinds\.([A-Za-z]+)\ .*\ ([A-Za-z]+)$ ]] || return
+        it=("${BASH_REMATCH[@]}")
+        [[ ${it[7]} =~ ^($1)$ ]] || continue
+        byte=$(sed -nE "s/^${it[1]} = ([0-9]+)$/\1/p" $specs/OpcodeBytes.antt)
+        echo "$byte, ${it[2]}, ${it[3],}, ${it[4]}, ${it[5]}, ${it[6]}${2:+, ${it[7],}}"
+    done | sort -n
 }
 
 opcodes_are_told() {
-    same "$(opcodes)" "$(awk -F ' *[|] *' '/^## / { exit } /^### / { inside = $0 == "### Commands" }
-        inside && $2 ~ /^[0-9]+$/ { sub(/`, .*/, "", $8); sub(/`/, "", $8); print $2 ", " $3 ", " $4 ", " $6 ", " $7 ", " $8 }' \
-        <(sed 1,3d docs/FORMATS.md))"
+    same "$(opcodes Controller)" "$(awk -F ' *[|] *' '/^## / { exit } /^### / { inside = $0 == "### Commands" }
+        inside && $2 ~ /^[0-9]+$/ && NF > 7 { sub(/`, .*/, "", $8); sub(/`/, "", $8); print $2 ", " $3 ", " $4 ", " $6 ", " $7 ", " $8 }' \
+        <(sed 1,3d docs/FORMATS.md))" &&
+        same "$(opcodes 'Port|Nobody' answerer | sed -E 's/, [0-9]+, Bare//')" "$(awk -F ' *[|] *' '/^## / { exit } /^### / { inside = $0 == "### Commands" }
+        inside && $2 ~ /^[0-9]+$/ && NF == 7 { print $2 ", " $3 ", " $4 ", " $5 ", " $6 }' <(sed 1,3d docs/FORMATS.md))"
 }
 
 # The statuses of specs/Statuses.antt, each as its number and its name.
@@ -150,10 +164,8 @@ actions_are_told() {
 statuses_of_a_port_are_told() {
     local source=crates/mscp_port/src page words name number
     page=$(tr -s '\n ' ' ' <docs/PORT.md)
-    same "$(sed -nE '/DRIVE_ERROR/d; s/^(pub.*)?const ([A-Z_]+): u16 = 0x[0-9A-F]{4};.*/\2/p' $source/verdict.rt | sort | tr '\n' ' ')" \
-        'DIFFERENT MISSING ODD_ADDRESS ODD_COUNT PARITY PROTECTED PROTECTED_BY_HOST UNMAPPED ' || return
     while IFS='|' read -r words name; do
-        number=$(sed -nE "s/.*const $name: u16 = (0x[0-9A-F]{4});.*/\1/p" $source/verdict.rt)
+        number=$(sed -nE "s/^pub const $name: u16 = (0x[0-9A-F]{4});.*/\1/p" crates/mscp_packet/src/status.rt)
         [ -n "$number" ] && [[ $page == *"$words ($number)"* ]] || { echo "docs/PORT.md hasn't '$words ($number)'" && return 1; }
     done <<'END'
 odd addresses|ODD_ADDRESS

@@ -875,7 +875,7 @@ END
 # Each command that the manual has is called by its name, and so is its end, also if no line of a packet knows it.
 wire_in_words_of_other_controllers() {
     local opcode
-    for opcode in 11 17 19 20 47 21 12; do
+    for opcode in 11 17 19 20 24 47 21 12; do
         printf '%s\n' "send $(packet 12 $opcode 7 $opcode 0)" "end $(packet 12 $opcode 7 $((opcode + 128)) 3)"
     done >"$room/log"
     printf '%s\n' "send $(packet 64 4294967295 65535 19 0)" "end $(packet 64 4294967295 65535 147 65535)" \
@@ -889,15 +889,17 @@ line 5: host: command 19 unit 7 FLUSH
 line 6: controller: end 19 unit 7 code 93 status 0003 FLUSH
 line 7: host: command 20 unit 7 REPLACE
 line 8: controller: end 20 unit 7 code 94 status 0003 REPLACE
-line 9: host: command 47 unit 7 FORMAT
-line 10: controller: end 47 unit 7 code af status 0003 FORMAT
-line 11: host: command 21 unit 7 unknown opcode 21
-line 12: controller: code: 150000000700000095000300
-line 13: host: command 12 unit 7 unknown opcode 12
-line 14: controller: code: 0c000000070000008c000300
-line 15: host: command 4294967295 unit 65535 FLUSH
-line 16: controller: end 4294967295 unit 65535 code 93 status ffff FLUSH
-line 17: host: short: 0100000000000000130000
+line 9: host: command 24 unit 7 FORMAT
+line 10: controller: end 24 unit 7 code 98 status 0003 FORMAT
+line 11: host: command 47 unit 7 FORMAT
+line 12: controller: end 47 unit 7 code af status 0003 FORMAT
+line 13: host: command 21 unit 7 unknown opcode 21
+line 14: controller: code: 150000000700000095000300
+line 15: host: command 12 unit 7 unknown opcode 12
+line 16: controller: code: 0c000000070000008c000300
+line 17: host: command 4294967295 unit 65535 FLUSH
+line 18: controller: end 4294967295 unit 65535 code 93 status ffff FLUSH
+line 19: host: short: 0100000000000000130000
 END
 }
 

@@ -197,7 +197,8 @@ enum mscp_picker {
     MSCP_SWEEP = 1   /* the one that costs the head the least: an elevator over all units */
 };
 
-/* The opcodes of commands: byte 8 of a message. */
+/* The opcodes of the manual's commands: byte 8 of a message. docs/FORMATS.md says which a controller answers, which a port, and
+ * which nobody. */
 enum mscp_opcode {
     MSCP_ABORT = 1,
     MSCP_GET_COMMAND_STATUS = 2,
@@ -206,8 +207,13 @@ enum mscp_opcode {
     MSCP_AVAILABLE = 8,
     MSCP_ONLINE = 9,
     MSCP_SET_UNIT_CHARACTERISTICS = 10,
+    MSCP_DETERMINE_ACCESS_PATHS = 11,
     MSCP_ACCESS = 16,
+    MSCP_COMPARE_CONTROLLER_DATA = 17,
     MSCP_ERASE = 18,
+    MSCP_FLUSH = 19,
+    MSCP_REPLACE = 20,
+    MSCP_FORMAT = 24,
     MSCP_COMPARE_HOST_DATA = 32,
     MSCP_READ = 33,
     MSCP_WRITE = 34
@@ -1234,6 +1240,71 @@ MSCP_INLINE const char *mscp_status_text(int64_t status)
     case MSCP_WORD_LONG: return "a packet of over 64 bytes";
     case MSCP_WORD_CODE: return "an end of no endcode";
     case MSCP_WORD_LENGTH: return "an end that is too short";
+    default: return "unknown status";
+    }
+}
+
+/* ---- messages as texts */
+
+/* What the manual calls a command of this opcode, for people. */
+MSCP_INLINE const char *mscp_opcode_text(uint8_t opcode)
+{
+    switch (opcode) {
+    case MSCP_ABORT: return "ABORT";
+    case MSCP_GET_COMMAND_STATUS: return "GET COMMAND STATUS";
+    case MSCP_GET_UNIT_STATUS: return "GET UNIT STATUS";
+    case MSCP_SET_CONTROLLER_CHARACTERISTICS: return "SET CONTROLLER CHARACTERISTICS";
+    case MSCP_AVAILABLE: return "AVAILABLE";
+    case MSCP_ONLINE: return "ONLINE";
+    case MSCP_SET_UNIT_CHARACTERISTICS: return "SET UNIT CHARACTERISTICS";
+    case MSCP_DETERMINE_ACCESS_PATHS: return "DETERMINE ACCESS PATHS";
+    case MSCP_ACCESS: return "ACCESS";
+    case MSCP_COMPARE_CONTROLLER_DATA: return "COMPARE CONTROLLER DATA";
+    case MSCP_ERASE: return "ERASE";
+    case MSCP_FLUSH: return "FLUSH";
+    case MSCP_REPLACE: return "REPLACE";
+    case MSCP_FORMAT: return "FORMAT";
+    case MSCP_COMPARE_HOST_DATA: return "COMPARE HOST DATA";
+    case MSCP_READ: return "READ";
+    case MSCP_WRITE: return "WRITE";
+    case 47: return "FORMAT"; /* as SIMH's disk numbers it */
+    default: return "command of an unknown opcode";
+    }
+}
+
+/* The manual's words for the status of an end, bytes 10 and 11: those of its code, and of its sub-code if that has some here. */
+MSCP_INLINE const char *mscp_status_words(uint16_t status)
+{
+    switch (status) {
+    case 0x0100: return "Success: already online";
+    case 0x0001: return "Invalid Command: message length";
+    case 0x0801: return "Invalid Command: opcode";
+    case 0x0C01: return "Invalid Command: byte count, or MSCP version";
+    case 0x1C01: return "Invalid Command: logical block number";
+    case 0x0003: return "Unit-Offline: unknown unit";
+    case 0x0023: return "Unit-Offline: no volume";
+    case 0x1006: return "Write Protected: by software";
+    case 0x2006: return "Write Protected: by hardware";
+    case 0x0029: return "Host Buffer Access Error: odd transfer address";
+    case 0x0049: return "Host Buffer Access Error: odd byte count";
+    case 0x0069: return "Host Buffer Access Error: non-existent memory";
+    case 0x0089: return "Host Buffer Access Error: memory parity error";
+    case 0x00A9: return "Host Buffer Access Error: invalid page table entry";
+    default: break;
+    }
+    switch (status % 32) {
+    case 0: return "Success";
+    case 1: return "Invalid Command";
+    case 2: return "Command Aborted";
+    case 3: return "Unit-Offline";
+    case 4: return "Unit-Available";
+    case 5: return "Media Format Error";
+    case 6: return "Write Protected";
+    case 7: return "Compare Error";
+    case 8: return "Data Error";
+    case 9: return "Host Buffer Access Error";
+    case 10: return "Controller Error";
+    case 11: return "Drive Error";
     default: return "unknown status";
     }
 }

@@ -15,11 +15,6 @@ BEGIN {
     split("u8 uint8_t u16 uint16_t u32 uint32_t u64 uint64_t usize size_t i32 int32_t i64 int64_t", words, " ")
     for (i = 1; i in words; i += 2)
         type_of[words[i]] = words[i + 1]
-    split("Abort ABORT Status GET_COMMAND_STATUS UnitStatus GET_UNIT_STATUS SetController " \
-        "SET_CONTROLLER_CHARACTERISTICS Available AVAILABLE Online ONLINE SetUnit SET_UNIT_CHARACTERISTICS " \
-        "Access ACCESS Erase ERASE Compare COMPARE_HOST_DATA Read READ Write WRITE", words, " ")
-    for (i = 1; i in words; i += 2)
-        opcode_of[words[i]] = words[i + 1]
     split("look why settings port_look port_why port_settings", words, " ")
     for (i = 1; i in words; i++)
         counts["mscp_" words[i]] = 1
@@ -174,12 +169,10 @@ in_call { call = call $0 " " }
     sub(/,/, "", $3)
     enumerator_is("stage", "STAGE_" toupper(stage), $3)
 }
-/^ +Opcode::.* => Line::new\([0-9]+,/ {
-    byte = $3
-    gsub(/[^0-9]/, "", byte)
-    sub(/MoveKind::/, "", $1)
-    gsub(/Opcode::|Move\(|\)/, "", $1)
-    enumerator_is("opcode", opcode_of[$1], byte)
+/^pub const [A-Z_]+: u8 = [0-9]+;$/ && FILENAME ~ /opcodes/ && !/SIMH/ {
+    sub(/:/, "", $3)
+    sub(/;/, "", $6)
+    enumerator_is("opcode", $3, $6)
 }
 /^pub const ROOM: u64 = 0x[0-9A-F_]+;$/ {
     gsub(/[_;]/, "", $6)

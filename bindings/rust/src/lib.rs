@@ -18,6 +18,7 @@ mod message;
 mod port;
 pub mod raw;
 mod values;
+mod words;
 
 pub use action::{Action, Hardware, Medium, Outcome, Stage, State, Volume, Way};
 pub use bus::{BadBlock, Bus, BusFault};
@@ -31,6 +32,7 @@ pub use port::Port;
 pub use values::{
     BusKind, Connection, Holder, Limits, Opcode, Picker, Report, Sent, Settings, Unit, Upcoming, Waiting,
 };
+pub use words::status_words;
 
 /// The version of `mscp.h` that this was written for: a byte for each of the three numbers.
 pub const VERSION: u32 = 0x02_00_00;

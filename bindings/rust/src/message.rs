@@ -191,6 +191,8 @@ impl From<raw::End> for End {
         let raw::End { unit, status, track, group, cylinder, timeout, code, .. } = it;
         let body = match Opcode::of_number(code & 0x7F) {
             None | Some(Opcode::Available) => Body::Bare,
+            Some(Opcode::DetermineAccessPaths | Opcode::CompareControllerData) => Body::Bare,
+            Some(Opcode::Flush | Opcode::Replace | Opcode::Format) => Body::Bare,
             Some(Opcode::Abort) => Body::Abort(other),
             Some(Opcode::GetCommandStatus) => Body::CommandStatus { other, figure },
             Some(Opcode::GetUnitStatus) => Body::UnitStatus { id, media, track, group, cylinder },

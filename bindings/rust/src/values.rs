@@ -69,10 +69,20 @@ numbered! {
         Online = 9,
         /// It says to a unit what its host wants.
         SetUnitCharacteristics = 10,
+        /// It asks by which paths hosts reach a unit.
+        DetermineAccessPaths = 11,
         /// It reads blocks, and drops them.
         Access = 16,
+        /// It compares a controller's data with a unit's.
+        CompareControllerData = 17,
         /// It writes zeros.
         Erase = 18,
+        /// It writes what a controller has kept back.
+        Flush = 19,
+        /// It replaces a bad block.
+        Replace = 20,
+        /// It formats a unit.
+        Format = 24,
         /// It compares blocks with the host's bytes.
         CompareHostData = 32,
         /// It reads blocks.

@@ -1,6 +1,6 @@
 //! Commands and ends by their fields, whose places are those of the manual; and a driver's account as bytes.
 
-use mscp::{Body, Command, Driver, End, Error, Order, Transfer};
+use mscp::{Body, Command, Driver, End, Error, Opcode, Order, Transfer};
 
 /// Bytes that are 0 but for these, of which each row stands from a place on.
 fn bytes(length: usize, rows: &[(usize, &[u8])]) -> Vec<u8> {
@@ -75,6 +75,21 @@ fn ends_are_read() {
 }
 
 /// SET CONTROLLER CHARACTERISTICS takes the one credit. With it the account is saved, and goes on.
+#[test]
+fn ends_are_shown() {
+    let shown = |code: u8, status: u16| {
+        let it = End { reference: 5, unit: 1, code, status, body: Body::Bare };
+        it.to_string()
+    };
+    assert_eq!(shown(0xA1, 0), "READ 5 of unit 1: Success");
+    assert_eq!(shown(0xA2, 0x0029), "WRITE 5 of unit 1: Host Buffer Access Error: odd transfer address");
+    assert_eq!(shown(0x93, 0x0002), "FLUSH 5 of unit 1: Command Aborted");
+    assert_eq!(shown(0x80, 0x0801), "command of an unknown opcode 5 of unit 1: Invalid Command: opcode");
+    assert_eq!(shown(0x89, 0x0100), "ONLINE 5 of unit 1: Success: already online");
+    assert_eq!(shown(0xAF, 0x0FFF), "FORMAT 5 of unit 1: unknown status");
+    assert_eq!(Opcode::DetermineAccessPaths.to_string(), "DETERMINE ACCESS PATHS");
+}
+
 #[test]
 fn drivers_go_on() {
     let mut driver = Driver::new(5).unwrap();

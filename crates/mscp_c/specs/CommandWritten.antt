@@ -1,7 +1,7 @@
 -- The message of a command that a program in C gives by its fields.
 use Rattle.std.specs.Prelude.{ℕ, ◌+◌, List, [], ◌∷◌, ◌++◌, take, drop, replicate, Option, Some, None}
 use Rattle.mscp_packet.specs.Common.{little_bytes}
-use Rattle.mscp_packet.specs.Commands.{IsCommand, command_bytes}
+use Rattle.mscp_packet.specs.Commands.{IsCommand, command_bytes, parameters}
 use Rattle.mscp_packet.specs.Opcodes.{opcode_of}
 use Rattle.mscp_packet.specs.Statuses.{invalid_opcode}
 use Rattle.mscp_packet.specs.declared.class.Opcode.{Opcode}
@@ -22,12 +22,9 @@ abbrev pub order_given : Option Opcode → CommandIn → Order
 order_given None g = orders.Invalid g.opcode invalid_opcode
 order_given (Some codes.Abort) g = orders.Abort g.other
 order_given (Some codes.Status) g = orders.Status g.other
-order_given (Some codes.UnitStatus) g = orders.UnitStatus
 order_given (Some codes.SetController) g = orders.SetController g.version
-order_given (Some codes.Available) g = orders.Available
-order_given (Some codes.Online) g = orders.Online
-order_given (Some codes.SetUnit) g = orders.SetUnit
 order_given (Some (codes.Move kind)) g = orders.Move kind g.bytes g.lbn
+order_given (Some opcode) g = parameters opcode (blank g.opcode)
 
 abbrev pub command_given : CommandIn → Command
 command_given g = record { reference = g.reference; unit = g.unit; order = order_given (opcode_of g.opcode) g }

@@ -5,6 +5,7 @@ use Rattle.mscp_packet.specs.declared.command.Order.{Order}
 use Rattle.mscp_packet.specs.declared.command.Order.TheVariants as orders
 use Rattle.mscp_packet.specs.declared.end.End.{End}
 use Rattle.mscp_packet.specs.Commands.{opcode_byte}
+use Rattle.mscp_packet.specs.Statuses.{success}
 use Rattle.mscp_drive.specs.declared.connection.Connection.{Connection}
 use Rattle.mscp_drive.specs.declared.connection.Connection.TheVariants.{First, Second}
 use Rattle.mscp_queue.specs.Names.{name_on}
@@ -104,7 +105,8 @@ upcoming_told (Some u) serial out = record {
 
 -- the outcome of a block of this status, if it is one: good where it is 0
 abbrev pub block_told : ℕ → Option Block
-block_told status = if nat_eq status 0 then Some Good else (if nat_lt (status % 32) 5 then None else Some (Bad status))
+block_told status =
+    if nat_eq status success then Some Good else (if nat_lt (status % 32) 5 then None else Some (Bad status))
 
 -- the status of a report
 abbrev pub report_code : Report → ℤ

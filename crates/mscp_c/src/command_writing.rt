@@ -113,9 +113,8 @@ fn message_of(given: &CommandIn) -> ArrayVec<u8, 48>
             set_two(&mut message, 16, given.timeout);
         }
         Order::Move(..) => set_four(&mut message, 16, given.buffer),
-        Order::Abort(_) | Order::Status(_) | Order::UnitStatus => {}
-        Order::Available | Order::Online | Order::SetUnit => {}
         Order::Invalid { .. } => {}
+        _ => {}
     }
     message
 }

@@ -9,6 +9,7 @@ use crate::status::{ANSWERED, DONE, NOTHING, QUEUED, UNKNOWN_UNIT, send_fault_co
 use arrayvec::ArrayVec;
 use mscp_controller::{Block, Connection, FaultStatus, Holder, Report, SendFault, Sent, Upcoming};
 use mscp_packet::Order;
+use mscp_packet::status::SUCCESS;
 use mscp_port::Volume;
 
 /// A flag as a number.
@@ -181,7 +182,7 @@ pub(crate) fn tell_volume(out: &mut VolumeOut, volume: &Option<Volume>) -> i32
 pub(crate) fn block_of(status: u16) -> Option<Block>
     ensures { result ≡ block_told status }
 {
-    if status == 0 {
+    if status == SUCCESS {
         return Some(Block::Good);
     }
     FaultStatus::new(status).map(Block::Bad)

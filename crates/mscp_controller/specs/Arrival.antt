@@ -61,14 +61,11 @@ version_fault version = if version == 0 then None else Some invalid_version
 -- CHARACTERISTICS look at no unit (manual, the order of the tests is the profile's)
 abbrev pub order_fault : Settings → ℕ → Order → Option ℕ
 order_fault c number (orders.Invalid opcode status) = Some status
-order_fault c number (orders.Status other) = None
-order_fault c number (orders.Move kind count block) = move_fault c count block (unit_found c number)
-order_fault c number orders.UnitStatus = unit_fault (unit_found c number)
-order_fault c number orders.Available = unit_fault (unit_found c number)
-order_fault c number orders.Online = unit_fault (unit_found c number)
-order_fault c number orders.SetUnit = unit_fault (unit_found c number)
-order_fault c number (orders.SetController version) = version_fault version
 order_fault c number (orders.Abort other) = None
+order_fault c number (orders.Status other) = None
+order_fault c number (orders.SetController version) = version_fault version
+order_fault c number (orders.Move kind count block) = move_fault c count block (unit_found c number)
+order_fault c number order = unit_fault (unit_found c number)
 
 -- the same of a command (manual)
 abbrev pub fault_of : Settings → Command → Option ℕ

@@ -5,19 +5,11 @@
 // short for its opcode, or unknown: so the last credit is kept for a poll or an ABORT.
 
 ghost use Rattle.std.specs.Prelude.{◌≡◌, ◌+◌, ◌≤◌, ◌^◌, IfOk};
-ghost use Rattle.mscp_controller.specs.Common.{class, is_immediate_class, judged, move_fault, unit_fault, version_fault, first_block, unit_found, weighed, weight};
+ghost use Rattle.mscp_controller.specs.Common.{judged, move_fault, unit_fault, version_fault, first_block, unit_found, weighed, weight};
 
 use mscp_drive::Config;
 use mscp_packet::status::{INVALID_VERSION, UNIT_OFFLINE};
-use mscp_packet::{Command, Order, class_of};
-
-/// Whether a command with this opcode byte is answered without a step, so that the last credit is enough
-/// for it.
-pub(crate) fn may_take_last_credit(opcode: u8) -> bool
-    ensures { result ≡ is_immediate_class (class opcode) }
-{
-    class_of(opcode).is_immediate()
-}
+use mscp_packet::{Command, Order};
 
 /// The weight of a transfer to the unit, or the status that refuses it.
 fn judge_move(config: &Config, number: u16, count: u32, block: u32) -> Result<u32, u16>
@@ -60,9 +52,7 @@ pub(crate) fn judge(config: &Config, command: &Command) -> Result<u32, u16>
         Order::Invalid { status, .. } => Err(status),
         Order::Abort(_) | Order::Status(_) => Ok(1),
         Order::Move(_, count, block) => judge_move(config, command.unit, count, block),
-        Order::UnitStatus | Order::Available | Order::Online | Order::SetUnit => {
-            judge_unit(config, command.unit)
-        }
         Order::SetController(version) => judge_version(version),
+        _ => judge_unit(config, command.unit),
     }
 }

@@ -13,12 +13,12 @@ mod seeing;
 
 use crate::account::Accounts;
 use crate::answer::{controller_end, refused_end, unit_status_end};
-use crate::arrival::{judge, may_take_last_credit};
+use crate::arrival::judge;
 use crate::entry::{Entry, NotBegun, SendFault, Sent};
 use arrayvec::ArrayVec;
 use mscp_drive::{Block, Config, Connection, Event};
 use mscp_packet::status::SUCCESS;
-use mscp_packet::{Command, End, EndBody, Order, read_command, write_end};
+use mscp_packet::{Command, End, EndBody, Order, is_immediate, read_command, write_end};
 use mscp_queue::{Picker, Queue, Report, Upcoming, Waiting, end_with};
 use std::marker::Model;
 
@@ -133,7 +133,7 @@ impl<K: Picker> Controller<K> {
     {
         match self.balance(connection) {
             0 => Some(SendFault::NoCredit),
-            1 if !may_take_last_credit(opcode) => Some(SendFault::LastCredit),
+            1 if !is_immediate(opcode) => Some(SendFault::LastCredit),
             _ if self.is_outstanding(connection, reference) => Some(SendFault::Doubled),
             _ => None,
         }

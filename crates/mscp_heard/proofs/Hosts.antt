@@ -1,10 +1,11 @@
 -- What each moment of a host makes of the commands whose ends it hasn't heard.
-use Rattle.mscp_heard.proofs.Common.{ArrayVec, Asked, Bool, Command, End, Envelope, Err, HearFault, Heard, List, Message, News, None, Ok, Option, Order, PortAccount, Result, Some, Submission, [], ap, arith, bytes_in, bytes_of, command_bytes, cond, end_says, ended, ends_of, false, find, four, granted, has_reference, heard_of, hears, is_of, is_too_much, list_any, map, message_in, nat_eq, news_said, num, poll_of, port_polls, port_submits, refl, subst, true, without_by, ℕ, ◌*◌, ◌++◌, ◌+◌, ◌/◌, ◌<◌, ◌^◌, ◌||◌, ◌∷◌, ◌≡◌, ◌≤◌, ◌⊎◌}
+use Rattle.mscp_heard.proofs.Common.{ArrayVec, Asked, Bool, Command, End, Envelope, Err, HearFault, Heard, List, Message, News, None, Ok, Option, Order, PortAccount, Result, Some, Submission, [], ap, arith, bytes_in, bytes_of, command_bytes, cond, end_says, ended, ends_of, false, find, four, granted, has_reference, heard_of, hears, is_of, is_too_much, list_any, map, message_in, nat_eq, news_said, num, poll_of, port_polls, port_submits, refl, subst, true, without_by, ℕ, ◌*◌, ◌++◌, ◌+◌, ◌/◌, ◌<◌, ◌^◌, ◌||◌, ◌∷◌, ◌≡◌, ◌≤◌, ◌⊎◌, asked_of, sym, ◌∙◌}
 use Rattle.std.proofs.Common.{◌%◌}
 use Rattle.mscp_host.specs.declared.heard.Heard.TheVariants as heards
 use Rattle.mscp_host.specs.declared.message.HearFault.TheVariants as faults
 use Rattle.mscp_host.specs.declared.message.Message.TheVariants as messages
 use Rattle.mscp_host.specs.declared.news.Poll.TheVariants as polls
+use Rattle.mscp_packet.specs.Opcodes.{is_transfer_opcode}
 use Rattle.mscp_heard.proofs.Asking.{IsSent, poll_is, submit_is}
 
 -- ---- the message of a command
@@ -18,6 +19,7 @@ few_bytes x = omega arith
 
 order_bytes : (reference unit : ℕ) (order : Order)
     → bytes_in (command_bytes (record { reference = reference; unit = unit; order = order })) ≤ bytes_of order
+unfolding is_transfer_opcode
 order_bytes reference unit order = grind (arith, few_bytes)
 
 -- ---- what is found
@@ -51,7 +53,16 @@ pub record Sends (old new : PortAccount) (message : List ℕ) : Type 0 where
 
 sends : (old new : PortAccount) (message : ArrayVec ℕ) (c : Command) → c.reference < 2 ^ 32 → SameNumbers old
     → IsSent old new message c → Sends old new message.items
-sends old new message c small same s = grind (arith, message_number, unused, order_bytes)
+sends old new message c small same s = record {
+  more = asked_of c;
+  asked = s.asked;
+  new_number = subst (λ n. find (is_of n) old.asked ≡ None) (sym at) (unused old c.reference same s.free);
+  number = sym at;
+  bytes = subst (λ b. bytes_in b ≤ bytes_of c.order) (sym s.is) (order_bytes c.reference c.unit c.order);
+}
+  where
+    at : num message.items 0 4 ≡ c.reference
+    at = ap (λ b. num b 0 4) s.is ∙ message_number c small
 
 pub submit_sends : (old new : PortAccount) (c : Command) (message : ArrayVec ℕ) → c.reference < 2 ^ 32
     → SameNumbers old → port_submits old c ≡ (Ok message, new) → Sends old new message.items

@@ -3,7 +3,7 @@ use Rattle.mscp_heard.proofs.Common.{AllByRecursion, Asked, BodyKind, IsTextOf, 
 use Rattle.mscp_packet.specs.declared.end.BodyKind.TheVariants as bodykinds
 use Rattle.mscp_port.specs.declared.port.OutgoingKind.TheVariants as kinds
 pub use Rattle.mscp_ported.proofs.Growing.{begun_one}
-pub use Rattle.mscp_ported.proofs.Itself.{moves_opcode, own_bytes, own_number, own_whole, since_alive}
+pub use Rattle.mscp_ported.proofs.Itself.{own_bytes, own_number, own_whole, since_alive}
 use Rattle.mscp_heard.proofs.Claims.{Owes, claim_said, claims, moved_in}
 use Rattle.mscp_heard.proofs.Moving.{drop_at, drop_beside, end_said, news_said, text_answered, text_taken}
 use Rattle.mscp_heard.proofs.Packets.{IsRead}

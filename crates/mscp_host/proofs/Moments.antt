@@ -63,8 +63,6 @@ submit_kind : (old : PortAccount) (command : Command) (answer : Result (ArrayVec
     (o : Option HostFault) → submits_unless_faulty old command o ≡ (answer, new) → Kind old (Submit command answer) new
 submit_kind old command answer new o e = grind (arith, same, submit_with)
 
--- ---- a poll
-
 -- ---- a message
 
 abbrev refuses : PortAccount → HearFault → Result Heard HearFault × PortAccount

@@ -15,7 +15,8 @@
 use Rattle.std.specs.Prelude.{ℕ, ◌+◌, ◌-◌, Bool, true, false, not, ◌&&◌, ◌||◌, nat_eq, nat_lt, nat_le, if◌then◌else◌, List, [], ◌∷◌, ◌++◌, length, find, slice_index, Option, Some, None, is_some, Result, Ok, Err}
 use Rattle.std.specs.List.{list_any}
 use Rattle.arrayvec.specs.ArrayVec.{ArrayVec}
-use Rattle.mscp_packet.specs.Opcodes.{class, is_immediate_class}
+use Rattle.mscp_packet.specs.EndcodeBytes as endcodes
+pub use Rattle.mscp_packet.specs.Opcodes.{is_immediate}
 use Rattle.mscp_packet.specs.Commands.{command_bytes, opcode_byte}
 use Rattle.mscp_packet.specs.Ends.{kind_of_code, reading_with}
 use Rattle.mscp_packet.specs.declared.command.Command.{Command}
@@ -45,10 +46,6 @@ abbrev pub fresh : ℕ → Account
 fresh credits = record { credits = credits; outstanding = []; watch = None }
 
 -- ---- submissions
-
--- a command of this opcode byte is answered when it arrives
-abbrev pub is_immediate : ℕ → Bool
-is_immediate opcode = is_immediate_class (class opcode)
 
 -- the submission has this reference number
 abbrev pub has_reference : ℕ → Submission → Bool
@@ -133,7 +130,7 @@ end_in b =
 
 -- the endcode is that of this opcode byte (manual, "End Messages"), or that of an unknown opcode (profile)
 abbrev pub is_code_of : ℕ → ℕ → Bool
-is_code_of code opcode = nat_eq code 0x80 || nat_eq code (opcode + 0x80)
+is_code_of code opcode = nat_eq code endcodes.unknown || nat_eq code (opcode + endcodes.unknown)
 
 -- the reference number that the end of a GET COMMAND STATUS tells, and its figure
 abbrev pub told_in : EndBody → Option (ℕ × ℕ)
@@ -142,7 +139,7 @@ told_in body = None
 
 -- the endcode of a GET COMMAND STATUS (manual, "End Messages")
 abbrev pub status_end : ℕ
-status_end = 0x82
+status_end = endcodes.get_command_status
 
 -- what an end tells of a command that was polled: where it is that of the poll in flight, and the poll was served
 abbrev pub answered : Option Watch → End → Option (ℕ × ℕ)

@@ -1,5 +1,6 @@
 -- What a port sends: an envelope, and a text (UQSSP, "Envelope Header" and "Message Types").
 use Rattle.std.specs.Prelude.{ℕ, ◌/◌, ◌%◌, not, nat_eq, nat_lt, nat_le, if◌then◌else◌, List, length, take, slice_index, Result, Ok, Err}
+use Rattle.mscp_packet.specs.EndcodeBytes as endcodes
 use Rattle.mscp_packet.specs.Number.{num}
 use Rattle.mscp_packet.specs.declared.end.End.{End}
 use Rattle.mscp_packet.specs.declared.end.EndBody.TheVariants as bodies
@@ -42,8 +43,8 @@ any_end t (Err ends.Length) = Err faults.Unreadable
 abbrev pub sequential_in : List ℕ → Result Message HearFault
 sequential_in t =
     if nat_lt (length t) 12 then Err faults.Unreadable else (
-    if nat_le 0x80 (slice_index t 8) then any_end t (end_in t) else (
-    if nat_le 0x40 (slice_index t 8) then Ok (messages.Attention (slice_index t 8) (num t 4 2))
+    if nat_le endcodes.unknown (slice_index t 8) then any_end t (end_in t) else (
+    if nat_le endcodes.available_attention (slice_index t 8) then Ok (messages.Attention (slice_index t 8) (num t 4 2))
     else Err faults.Unreadable))
 
 -- a message of a type

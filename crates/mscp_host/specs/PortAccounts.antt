@@ -9,9 +9,12 @@
 --     Late, Reset, Lost, First, Progress, as of every host                           news_said, Accounts.news_with
 --     MovedTooMuch   an end that tells more bytes than were asked for                ended_of
 --     Ended          any other end                                                   ended_of
-use Rattle.std.specs.Prelude.{ℕ, ◌+◌, ◌-◌, ◌%◌, min, Bool, false, not, ◌&&◌, ◌||◌, nat_eq, nat_lt, if◌then◌else◌, List, [], ◌∷◌, ◌++◌, find, Option, Some, None, is_none, is_some, Result, Ok, Err}
+use Rattle.std.specs.Prelude.{ℕ, ◌+◌, ◌-◌, min, Bool, false, not, ◌&&◌, ◌||◌, nat_eq, nat_lt, if◌then◌else◌, List, [], ◌∷◌, ◌++◌, find, Option, Some, None, is_none, is_some, Result, Ok, Err}
 use Rattle.arrayvec.specs.ArrayVec.{ArrayVec}
 use Rattle.mscp_packet.specs.Commands.{opcode_byte}
+use Rattle.mscp_packet.specs.EndcodeBytes as endcodes
+use Rattle.mscp_packet.specs.StatusCodes as codes
+use Rattle.mscp_packet.specs.Statuses.{code_of}
 use Rattle.mscp_packet.specs.declared.command.Command.{Command}
 use Rattle.mscp_packet.specs.declared.command.Order.{Order}
 use Rattle.mscp_packet.specs.declared.command.Order.TheVariants as orders
@@ -124,11 +127,11 @@ port_polls p reference =
 
 -- the status is Success: its low five bits are 0 (manual)
 abbrev pub is_success : ℕ → Bool
-is_success status = nat_eq (status % 32) 0
+is_success status = nat_eq (code_of status) codes.success
 
 -- an end as the polls read it: one of another status than Success tells no figure, whatever its body
 abbrev pub as_read : End → End
-as_read e = if is_success e.status then e else record e { code = 0x80; body = bodies.Bare }
+as_read e = if is_success e.status then e else record e { code = endcodes.unknown; body = bodies.Bare }
 
 -- the poll in flight has this number
 abbrev pub is_poll_of : Option Watch → ℕ → Bool
@@ -186,7 +189,8 @@ ends_of p credits e (Some asked) =
 
 -- what an attention message says (manual, "Attention Messages")
 abbrev pub attention_of : ℕ → ℕ → Heard
-attention_of code unit = if nat_eq code 0x40 then heards.Available unit else heards.Attention code unit
+attention_of code unit =
+    if nat_eq code endcodes.available_attention then heards.Available unit else heards.Attention code unit
 
 -- what is said of a message that tells these credits, and what is kept then. A refusal changes nothing
 abbrev pub heard_of : PortAccount → ℕ → Result Message HearFault → Result Heard HearFault × PortAccount

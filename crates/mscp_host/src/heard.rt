@@ -5,7 +5,8 @@ ghost use Rattle.mscp_host.specs.PortAccounts.{as_read, attention_of, ended_of, 
 
 use crate::asked::Asked;
 use crate::news::News;
-use mscp_packet::{End, EndBody};
+use mscp_packet::status::code_of;
+use mscp_packet::{End, EndBody, codes, endcodes};
 
 /// What a message from a port says.
 #[derive(Clone, Copy)]
@@ -41,7 +42,7 @@ pub enum Heard {
 fn is_success(status: u16) -> bool
     ensures { result ≡ is_success status }
 {
-    status % 32 == 0
+    code_of(status) == codes::SUCCESS
 }
 
 /// An end as the polls read it: one of another status than Success tells no figure.
@@ -52,7 +53,7 @@ pub fn as_read(end: &End) -> End
         *end
     } else {
         End {
-            code: 0x80,
+            code: endcodes::UNKNOWN,
             body: EndBody::Bare,
             ..*end
         }
@@ -84,7 +85,7 @@ pub fn ended_of(end: &End, asked: &Asked) -> Heard
 pub fn attention_of(code: u8, unit: u16) -> Heard
     ensures { result ≡ attention_of code unit }
 {
-    if code == 0x40 {
+    if code == endcodes::AVAILABLE_ATTENTION {
         Heard::Available(unit)
     } else {
         Heard::Attention(code, unit)

@@ -1,8 +1,8 @@
 // A host: what it sent and hasn't heard of.
 //
 // It has one poll in flight at most, about the oldest command that isn't answered when it arrives. It knows those by
-// the raw opcode byte, as the controller does. A poll that comes back with endcode 0x80 was refused, so it is an end
-// as any other. A figure that doesn't fall means `Reset`, even if it would be `Lost`, too.
+// the raw opcode byte, as the controller does. A poll that comes back with the endcode of an unknown opcode was
+// refused, so it is an end as any other. A figure that doesn't fall means `Reset`, even if it would be `Lost`, too.
 
 ghost use Rattle.std.specs.Prelude.{◌≡◌, ◌↔◌, ◌≤◌, true, false, find, IsOk, IfErr, IfOk};
 ghost use Rattle.mscp_host.specs.Common.{list_any, command_bytes, opcode_byte, answered, balance, end_in, fresh, has_reference, heard, news_with, oldest, or_unreadable, outstanding_with, polls_oldest, received, refusal, submits, submitted};
@@ -10,10 +10,10 @@ ghost use Rattle.mscp_host.specs.Accounts.{is_about_polled as about_polled, is_i
 
 use crate::news::{HostFault, News, Poll, is_code_of, news_of_figure};
 use crate::outstanding::{find_oldest, find_reference, has_any, last_told, remove, set_told};
-use crate::submission::{Submission, is_immediate};
+use crate::submission::Submission;
 use crate::watch::{Watch, answered, is_about_polled, polled_is_outstanding, watch_after};
 use arrayvec::ArrayVec;
-use mscp_packet::{Command, End, Order, read_end, write_command};
+use mscp_packet::{Command, End, Order, is_immediate, read_end, write_command};
 use std::marker::Model;
 
 /// The host's end of a controller: its credits, the commands whose ends it hasn't received, and the poll in flight. It
@@ -161,8 +161,8 @@ impl Host {
     /// # Errors
     ///
     /// `Unreadable` if the bytes are no end, and else `Unknown` if no outstanding command has the reference number, the
-    /// endcode is neither 0x80 nor that of its opcode, or it is the answer to the poll in flight and tells of another
-    /// command. Then nothing changes.
+    /// endcode is neither that of its opcode nor that of an unknown one, or it is the answer to the poll in flight and
+    /// tells of another command. Then nothing changes.
     pub fn receive(&mut self, b: &[u8]) -> Result<News, HostFault>
         ensures { (result, self.new) ≡ heard self.old b.now }
     {

@@ -6,7 +6,7 @@ ghost use Rattle.mscp_host.specs.Messages.{any_end, bare_end, message_in, sequen
 
 use crate::envelope::Envelope;
 use mscp_packet::fields::{four_at, two_at};
-use mscp_packet::{End, EndBody, EndFault, read_end};
+use mscp_packet::{End, EndBody, EndFault, endcodes, read_end};
 use thiserror::Error;
 
 /// Why what a port sent is refused: the first that holds, in this order. A refusal changes nothing.
@@ -76,8 +76,8 @@ fn sequential_in(t: &[u8]) -> Result<Message, HearFault>
         return Err(HearFault::Unreadable);
     }
     match t[8] {
-        0x80.. => any_end(t),
-        0x40..=0x7F => Ok(Message::Attention(t[8], two_at(t, 4))),
+        endcodes::UNKNOWN.. => any_end(t),
+        endcodes::AVAILABLE_ATTENTION.. => Ok(Message::Attention(t[8], two_at(t, 4))),
         _ => Err(HearFault::Unreadable),
     }
 }

@@ -4,7 +4,7 @@ ghost use Rattle.std.specs.Prelude.{◌≡◌};
 ghost use Rattle.mscp_host.specs.Accounts.{is_code_of, news_of_figure};
 
 use arrayvec::ArrayVec;
-use mscp_packet::End;
+use mscp_packet::{End, endcodes};
 use thiserror::Error;
 
 /// Why a host refuses. A refusal changes nothing.
@@ -72,10 +72,11 @@ pub fn news_of_figure(last: Option<u32>, figure: u32) -> News
     }
 }
 
-/// Whether the endcode is that of an unknown opcode, or that of this opcode byte. A byte of 0x80 or more has no endcode
-/// of its own.
+/// Whether the endcode is that of an unknown opcode, or that of this opcode byte. A byte with the top bit has no
+/// endcode of its own.
 pub fn is_code_of(code: u8, opcode: u8) -> bool
     ensures { result ≡ is_code_of code opcode }
 {
-    code == 0x80 || u16::from(code) == u16::from(opcode) + 0x80
+    let own = u16::from(opcode) + u16::from(endcodes::UNKNOWN);
+    code == endcodes::UNKNOWN || u16::from(code) == own
 }

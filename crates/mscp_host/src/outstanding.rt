@@ -3,8 +3,9 @@
 ghost use Rattle.std.specs.Prelude.{◌≡◌, ◌≤◌, length, find, option_copied};
 ghost use Rattle.mscp_host.specs.Common.{list_any, position, are_apart, has_reference, last_told, with_told, without, waiting, are_told, is_oldest, is_poll, is_status, oldest_of};
 
-use crate::submission::{STATUS, Submission, is_immediate};
+use crate::submission::Submission;
 use arrayvec::ArrayVec;
+use mscp_packet::{is_immediate, opcodes};
 
 /// Whether one of the submissions has the reference number.
 pub fn has_any(submissions: &[Submission], reference: u32) -> bool
@@ -78,7 +79,7 @@ pub fn has_poll(submissions: &[Submission], reference: u32, unit: u16) -> bool
     ensures { result ≡ list_any (is_poll reference unit) submissions.now }
 {
     submissions.iter().any(|submission| submission.reference == reference
-        && submission.opcode == STATUS
+        && submission.opcode == opcodes::GET_COMMAND_STATUS
         && submission.unit == unit)
 }
 
@@ -87,7 +88,7 @@ pub fn has_status(submissions: &[Submission], reference: u32) -> bool
     ensures { result ≡ list_any (is_status reference) submissions.now }
 {
     submissions.iter().any(|submission| submission.reference == reference
-        && submission.opcode == STATUS)
+        && submission.opcode == opcodes::GET_COMMAND_STATUS)
 }
 
 /// The place of the submission of this reference number, if there is one.

@@ -14,9 +14,8 @@ use crate::heard::{Heard, as_read, attention_of, news_said};
 use crate::host::Host;
 use crate::message::{HearFault, Message, message_in};
 use crate::news::{HostFault, Poll, is_code_of};
-use crate::submission::{STATUS, is_immediate};
 use arrayvec::ArrayVec;
-use mscp_packet::{Command, End};
+use mscp_packet::{Command, End, is_immediate, opcodes};
 use std::marker::Model;
 
 /// The most commands that are outstanding at once.
@@ -161,7 +160,7 @@ impl PortHost {
             self.asked.push(Asked {
                 reference,
                 unit: polled.unit,
-                opcode: STATUS,
+                opcode: opcodes::GET_COMMAND_STATUS,
                 bytes: 0,
             });
             self.credits -= 1;

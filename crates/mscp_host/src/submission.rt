@@ -1,12 +1,9 @@
 // What a host keeps of a command that it sent.
 
 ghost use Rattle.std.specs.Prelude.{◌≡◌};
-ghost use Rattle.mscp_host.specs.Accounts.{is_immediate, submission_of};
+ghost use Rattle.mscp_host.specs.Accounts.{submission_of};
 
-use mscp_packet::{Command, class_of};
-
-/// The opcode of a GET COMMAND STATUS.
-pub(crate) const STATUS: u8 = 2;
+use mscp_packet::Command;
 
 /// A command whose end wasn't received. It is a submission, and not a number: a number that is used again is another.
 #[derive(Clone, Copy)]
@@ -33,13 +30,6 @@ impl Submission {
             told: None,
         }
     }
-}
-
-/// Whether a command of this opcode byte is answered when it arrives.
-pub fn is_immediate(opcode: u8) -> bool
-    ensures { result ≡ is_immediate opcode }
-{
-    class_of(opcode).is_immediate()
 }
 
 /// A submission of nothing, which fills the places of a list that isn't full.

@@ -5,7 +5,7 @@ ghost use Rattle.mscp_host.specs.Watching.{advice, advised, counted, heard_by, i
 
 use crate::heard::Heard;
 use crate::port_host::PortHost;
-use crate::submission::is_immediate;
+use mscp_packet::is_immediate;
 
 /// What a driver is to do at a tick of its timer.
 #[derive(Clone, Copy)]

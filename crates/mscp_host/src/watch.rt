@@ -6,10 +6,7 @@ ghost use Rattle.mscp_host.specs.Accounts.{told_in};
 
 use crate::outstanding::{find_oldest, has_poll, has_status, is_oldest};
 use crate::submission::Submission;
-use mscp_packet::{End, EndBody};
-
-/// The endcode of a GET COMMAND STATUS (manual, "End Messages").
-const STATUS_END: u8 = 0x82;
+use mscp_packet::{End, EndBody, endcodes};
 
 /// A poll whose end wasn't received.
 #[derive(Clone, Copy)]
@@ -37,7 +34,8 @@ pub fn answered(watch: &Option<Watch>, end: &End) -> Option<(u32, u32)>
     ensures { result ≡ answered watch.now end.now }
 {
     match watch {
-        Some(watch) if watch.reference == end.reference && end.code == STATUS_END => {
+        Some(watch)
+            if watch.reference == end.reference && end.code == endcodes::GET_COMMAND_STATUS => {
             told_in(&end.body)
         }
         _ => None,

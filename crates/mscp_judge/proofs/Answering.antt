@@ -178,8 +178,6 @@ pub look_answers : (shown : ArrayVec (Connection × ℕ × ℕ)) (count : ℕ) �
     → AreAnswers (entry_lines (entries.Looked shown)) count
 look_answers shown count e = grind (arith, figures_whole, length-map, figures_each)
 
--- ---- nothing
-
 -- ---- a step
 
 pub idle_answers : IsAnswerLine (codes "idle")

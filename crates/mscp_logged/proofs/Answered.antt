@@ -1,9 +1,7 @@
 -- What a port answers itself keeps the rules of statuses and of bytes, and tells nothing of the controller.
-use Rattle.mscp_logged.proofs.Common.{Bool, First, List, None, Option, Own, Settings, Some, Volume, [], and_parts, answer_by, ap, arith, cond, controller_in, count_of, eqb-true, false, false≢true, has_code, has_count, has_status, inl, inr, is_plain, length, little_bytes, moves_opcode, nat_eq, nat_le, nat_lt, not, num, own_answer, own_cases, own_text, refl, replicate, sent_by, slice_index, status_code, subst, sym, true, ℕ, ◌&&◌, ◌++◌, ◌+◌, ◌||◌, ◌∙◌, ◌∷◌, ◌≡◌, ◌≤◌, ◌⊎◌}
-use Rattle.mscp_logged.proofs.Suited.{IsKnown, IsSuited, formal_opcode, formal_suited}
-
-move_opcode : (P : ℕ → Type 0) → P 16 → P 18 → P 32 → P 33 → P 34 → (n : ℕ) → moves_opcode n ≡ true → P n
-move_opcode P a b c d f n e = grind (arith, eqb-true, false≢true)
+use Rattle.mscp_logged.proofs.Common.{Bool, First, List, None, Option, Own, Settings, Some, Volume, [], and_parts, answer_by, ap, arith, cond, controller_in, count_of, false, has_code, has_count, has_status, inl, inr, is_plain, length, little_bytes, is_transfer_opcode, nat_eq, nat_le, nat_lt, not, num, own_answer, own_cases, own_text, refl, replicate, sent_by, slice_index, status_code, subst, sym, true, ℕ, ◌&&◌, ◌++◌, ◌+◌, ◌||◌, ◌∙◌, ◌∷◌, ◌≡◌, ◌≤◌, ◌⊎◌}
+use Rattle.mscp_logged.proofs.Suited.{IsKnown, IsSuited, formal_suited}
+use Rattle.mscp_ported.proofs.Rows.{formal_opcode, move_opcode}
 
 module _ (b : List ℕ) (long : nat_le 32 (length b) ≡ true) where
   at_least : 32 ≤ length b
@@ -46,21 +44,21 @@ module _ (b : List ℕ) (long : nat_le 32 (length b) ≡ true) where
       && (not (nat_eq (status_code e) 1) || short || there)
 
   -- its sub-code is the offset of the block, or of the count
-  first_past : (n : ℕ) → moves_opcode n ≡ true → RefusedStatus 0x1C01 n
+  first_past : (n : ℕ) → is_transfer_opcode n ≡ true → RefusedStatus 0x1C01 n
   first_past = move_opcode (RefusedStatus 0x1C01) (points 16) (points 18) (points 32) (points 33) (points 34)
     where
       points : (n : ℕ) → status_if 0x1C01 n (nat_lt (length b) 32) (nat_lt 28 (length b))
           ≡ status_if 0x1C01 n false true
       points n = ap (λ s. status_if 0x1C01 n s (nat_lt 28 (length b))) short ∙ ap (status_if 0x1C01 n false) has_block
 
-  other_past : (n : ℕ) → moves_opcode n ≡ true → RefusedStatus 0x0C01 n
+  other_past : (n : ℕ) → is_transfer_opcode n ≡ true → RefusedStatus 0x0C01 n
   other_past = move_opcode (RefusedStatus 0x0C01) (points 16) (points 18) (points 32) (points 33) (points 34)
     where
       points : (n : ℕ) → status_if 0x0C01 n (nat_lt (length b) 32) (nat_lt 12 (length b))
           ≡ status_if 0x0C01 n false true
       points n = grind (arith, short, has_count_byte)
 
-  counts_none : (status : ℕ) → (status ≡ 0x1C01) ⊎ (status ≡ 0x0C01) → (n : ℕ) → moves_opcode n ≡ true
+  counts_none : (status : ℕ) → (status ≡ 0x1C01) ⊎ (status ≡ 0x0C01) → (n : ℕ) → is_transfer_opcode n ≡ true
       → RefusedCount status n
   counts_none status (inl e) n is = subst (λ s. RefusedCount s n) (sym e)
       (move_opcode (RefusedCount 0x1C01) (none 16) (none 18) (none 32) (none 33) (none 34) n is)
@@ -75,12 +73,12 @@ module _ (b : List ℕ) (long : nat_le 32 (length b) ≡ true) where
           (cond (nat_le 16 (length b)) (Some (num b 12 4)) None) ≡ true
       none n = grind (arith, has_parameter)
 
-  refused_status : (status : ℕ) → (status ≡ 0x1C01) ⊎ (status ≡ 0x0C01) → (n : ℕ) → moves_opcode n ≡ true
+  refused_status : (status : ℕ) → (status ≡ 0x1C01) ⊎ (status ≡ 0x0C01) → (n : ℕ) → is_transfer_opcode n ≡ true
       → RefusedStatus status n
   refused_status status (inl e) n is = subst (λ s. RefusedStatus s n) (sym e) (first_past n is)
   refused_status status (inr e) n is = subst (λ s. RefusedStatus s n) (sym e) (other_past n is)
 
-  refused_known : (c : Settings) (status n : ℕ) → moves_opcode n ≡ true → RefusedKnown c status n
+  refused_known : (c : Settings) (status n : ℕ) → is_transfer_opcode n ≡ true → RefusedKnown c status n
   refused_known c status n =
       move_opcode (RefusedKnown c status) (inl refl) (inl refl) (inl refl) (inl refl) (inl refl) n
 
@@ -96,7 +94,7 @@ own_suited c v b long = own_cases v b (λ own. IsSuited (own_text b own) b × Is
       })))) (inl refl) (inl refl) (inl refl) (slice_index b 8) asks,
     ))
     (λ status moves past.
-    let m = and_parts (moves_opcode (slice_index b 8)) (nat_le 32 (length b)) moves in (
+    let m = and_parts (is_transfer_opcode (slice_index b 8)) (nat_le 32 (length b)) moves in (
       record {
         status = refused_status b m.1 status past (slice_index b 8) m.0;
         count = counts_none b m.1 status past (slice_index b 8) m.0;

@@ -28,7 +28,7 @@ pub use Rattle.mscp_logged.specs.Logged.{end_of, ends_in, is_foreign, logged, me
 pub use Rattle.mscp_logged.specs.Rules.{HostIsRight, IsFaultTold, Keeps, TellsFaults, is_message, is_of_drives, is_of_polls}
 pub use Rattle.mscp_packet.proofs.Numbers.{two}
 unfoldable pub use Rattle.mscp_packet.specs.Commands.{command_of}
-pub use Rattle.mscp_packet.specs.Ends.{IsOfKind, end_bytes, end_length, kind_of_body, kind_of_code}
+pub use Rattle.mscp_packet.specs.Ends.{IsOfKind, end_bytes, end_length, kind_of_body, kind_of_code, least_end}
 pub use Rattle.mscp_packet.specs.Number.{num}
 pub use Rattle.mscp_packet.specs.Opcodes.{opcode_of}
 pub use Rattle.mscp_packet.specs.declared.command.Command.{Command}
@@ -48,9 +48,11 @@ pub use Rattle.mscp_port.specs.Decided.{end_decided, found_decided, status_after
 pub use Rattle.mscp_ported.specs.Departures.{begins, leaves}
 pub use Rattle.mscp_ported.specs.Fair.{TellsStep}
 pub use Rattle.mscp_port.specs.Formalities.{code_told, ends_formality, formal_status, is_formality}
+unfoldable pub use Rattle.mscp_packet.specs.Opcodes.{port_answers}
 pub use Rattle.mscp_port.specs.Histories.{Answered, Becomes, Call, LookAgain, Next, Picking, Protect, PutAside, ReadIp, Tick, VolumeCame, VolumeWent, WasRead, Went, WriteIp, WriteSa}
 pub use Rattle.mscp_port.specs.Leaving.{end_told, end_with_body, head, told_end}
 pub use Rattle.mscp_port.specs.Messages.{asks_for_next, handed, next_unit, own_end_of}
+unfoldable pub use Rattle.mscp_packet.specs.Opcodes.{is_transfer_opcode}
 pub use Rattle.mscp_port.specs.Moved.{block_begun, block_served, known_task, part_at, part_served, volumes_after}
 pub use Rattle.mscp_port.specs.Outgoings.{AnswersItself, IsNews, TakesEnd, news_place}
 pub use Rattle.mscp_port.specs.Packets.{end_kind}
@@ -75,7 +77,7 @@ pub use Rattle.mscp_ported.proofs.Awaits.{end_named, its_own, no_other, no_such,
 pub use Rattle.mscp_ported.proofs.Behind.{aborts_behind, any_more, is_abort}
 pub use Rattle.mscp_ported.proofs.Buffered.{FitsBuffer}
 pub use Rattle.mscp_ported.proofs.ByOpcode.{fitting}
-pub use Rattle.mscp_ported.proofs.Codes.{answered_code, handed_coded}
+pub use Rattle.mscp_ported.proofs.Codes.{answered_code, answered_unit, handed_coded}
 pub use Rattle.mscp_ported.proofs.Coming.{brought_for, ends_of, few_ends}
 pub use Rattle.mscp_ported.proofs.Dealing.{left_awaited, named, passive_taken, whole}
 pub use Rattle.mscp_ported.proofs.Decided.{Whole, kept as whole_kept, passive_said}
@@ -87,7 +89,7 @@ pub use Rattle.mscp_ported.proofs.Followed.{IsFollowed, IsReply, IsStepped}
 pub use Rattle.mscp_ported.proofs.Following.{asked_before}
 pub use Rattle.mscp_ported.proofs.Formal.{formal_queued}
 pub use Rattle.mscp_ported.proofs.Growing.{begun_one}
-pub use Rattle.mscp_ported.proofs.Itself.{IsPast, moves_opcode, own_cases, own_coded, own_formal, own_number, own_refused, own_whole, since_alive}
+pub use Rattle.mscp_ported.proofs.Itself.{IsPast, own_cases, own_coded, own_formal, own_number, own_refused, own_whole, since_alive}
 pub use Rattle.mscp_ported.proofs.Keeping.{end_number}
 pub use Rattle.mscp_ported.proofs.Mounting.{Ended, ended_so, one_ended}
 pub use Rattle.mscp_ported.proofs.Moving.{IsBegunStep, steps}
@@ -135,7 +137,7 @@ pub use Rattle.mscp_shown.proofs.Saying.{IsLong, Says, Says as AsksFor, sent_lon
 pub use Rattle.mscp_shown.proofs.Suited.{IsFine, Suits}
 pub use Rattle.mscp_shown.proofs.Suiting.{Ends, IsFault, aborted_ends, outcome_fine, outcome_suits, own_ends, refused_apart, valid_order}
 pub use Rattle.mscp_shown.specs.Keeping.{AreBytes}
-pub use Rattle.mscp_wire.specs.Wire.{History, IsRight, aborts, after, after_end, after_other, after_own, agrees, answer_by, asked_about, asked_by, asking, asks_oldest, brings, broken, broken_at, broken_by, broken_end, command_at, controller, controller_after, controller_in, count_of, count_on, describes, fits, four_in, has_abort, has_code, has_count, has_endcode, has_figure, has_status, hears, is_about, is_about_another, is_apart, is_it, is_known, is_known_unit, is_late, is_long, is_moved, is_named, is_new, is_of_unit, is_plain, is_polled, is_refused, is_required, is_same_unit, is_settled_at, is_single, is_turning, is_unsure, keeps_back, learns, least_length, left, may_ask, may_be, may_tell, moment_at, names_unit, other_of, outstanding, passes_none, place_of, points_into, polled_by, polls, same_connection, says_away, says_online, seen_of, sent_by, settles, standing_after, standing_first, status_code, succeeds, suits_state, tells, tells_unit, timed, timeout, told, told_after, told_after_end, told_after_message, told_nothing, turned, unit_before, unless, was_online, went}
+pub use Rattle.mscp_wire.specs.Wire.{History, IsRight, aborts, after, after_end, after_other, after_own, agrees, answer_by, asked_about, asked_by, asking, asks_oldest, brings, broken, broken_at, broken_by, broken_end, command_at, controller, controller_after, controller_in, count_of, count_on, describes, fits, four_in, has_abort, has_code, has_count, has_endcode, has_figure, has_status, hears, is_about, is_about_another, is_apart, is_it, is_known, is_known_unit, is_late, is_long, is_moved, is_named, is_new, is_of_unit, is_plain, is_polled, is_refused, is_required, is_same_unit, is_settled_at, is_single, is_turning, is_unsure, keeps_back, learns, left, may_ask, may_be, may_tell, moment_at, names_unit, other_of, outstanding, passes_none, place_of, points_into, polled_by, polls, same_connection, says_away, says_online, seen_of, sent_by, settles, standing_after, standing_first, status_code, succeeds, suits_state, tells, tells_unit, timed, timeout, told, told_after, told_after_end, told_after_message, told_nothing, turned, unit_before, unless, was_online, went}
 pub use Rattle.mscp_wire.specs.declared.answer.Answer.{Answer}
 pub use Rattle.mscp_wire.specs.declared.identity.Identity.{Identity}
 pub use Rattle.mscp_wire.specs.declared.moment.Moment.{Moment}

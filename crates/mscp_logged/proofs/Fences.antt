@@ -1,6 +1,6 @@
 -- Where a message keeps a later one back, no step serves the later one's command before that of the first ended; and a
 -- message that is answered at once waits for none, or ends with a status that may come at once.
-use Rattle.mscp_logged.proofs.Common.{AllByRecursion, Block, Bool, IsCodeFor, IsOf, IsText, IsUnitIn, List, None, Option, Order, Record, Says, Sent, Settings, Some, Volume, [], and_parts, ap, arith, asks_next, command_of, cond, ends_formality, eq-eqb, eqb-true, false, false≢true, fault_of, fences, filter, formal_status, handed, has_number, inl, inr, is_apart, is_formality, is_immediate, is_numbered, is_queued, list_all, list_any, nat_eq, not, num, or_right, other_one, own_end, own_end_with, queued_open, refl, refused_apart, slice_index, some_none, status_after, status_told, subst, sym, this_one, true, unit_state, valid_order, ℕ, ◌%◌, ◌&&◌, ◌++◌, ◌==◌, ◌||◌, ◌∙◌, ◌∷◌, ◌≡◌, ◌≢◌, ◌⊎◌}
+use Rattle.mscp_logged.proofs.Common.{AllByRecursion, Block, Bool, IsCodeFor, IsOf, IsText, IsUnitIn, List, None, Option, Order, Record, Says, Sent, Settings, Some, Volume, [], and_parts, ap, arith, asks_next, command_of, cond, ends_formality, eq-eqb, eqb-true, false, false≢true, fault_of, fences, filter, formal_status, handed, has_number, inl, inr, is_apart, is_formality, is_immediate, is_numbered, is_queued, list_all, list_any, nat_eq, not, num, or_right, other_one, own_end, own_end_with, queued_open, refl, refused_apart, slice_index, some_none, status_after, status_told, subst, sym, this_one, true, unit_state, valid_order, ℕ, ◌%◌, ◌&&◌, ◌++◌, ◌==◌, ◌||◌, ◌∙◌, ◌∷◌, ◌≡◌, ◌≢◌, ◌⊎◌, port_answers}
 use Rattle.mscp_packet.specs.declared.command.Order.TheVariants as orders
 use Rattle.mscp_drive.specs.declared.block.Block.TheVariants as blocks
 use Rattle.mscp_queue.specs.Orders as queue
@@ -10,7 +10,7 @@ use Rattle.mscp_logged.proofs.Bytes.{handed_says, of_unit}
 use Rattle.mscp_logged.proofs.Lined.{any_as}
 use Rattle.mscp_logged.proofs.Passes.{any_all, both_none, keeps, overtakes}
 use Rattle.mscp_logged.proofs.Queueing.{InOrder, NoneBehind, behind_is}
-use Rattle.mscp_logged.proofs.Suited.{formal_opcode}
+use Rattle.mscp_ported.proofs.Rows.{formal_opcode}
 
 -- ---- orders and opcodes
 
@@ -45,7 +45,11 @@ fence_of a b c d h = grind (arith, false≢true)
 -- a message that is no transfer's, nor a sequential command's, waits for none
 pub unplaced : (t : List ℕ) → wire.is_sequential (slice_index t 8) ≡ false → wire.is_ordered (slice_index t 8) ≡ false
     → (u : List ℕ) → keeps t u ≡ false
-unplaced t p q u = grind arith
+unplaced t p q u = free (nat_eq (num u 4 2) (num t 4 2)) (wire.is_sequential (slice_index u 8))
+    (wire.is_sequential (slice_index t 8)) (wire.is_ordered (slice_index t 8)) (wire.is_ordered (slice_index u 8)) p q
+  where
+    free : (same a b c d : Bool) → b ≡ false → c ≡ false → (same && ((a && (b || c)) || (d && b))) ≡ false
+    free same a b c d p q = grind arith
 
 asks_third : (t : List ℕ) → asks_next t ≡ true → slice_index t 8 ≡ 3
 asks_third t e = eqb-true (slice_index t 8) 3 (and_parts (slice_index t 8 == 3) (num t 10 2 % 2 == 1) e).0
@@ -164,6 +168,7 @@ aborted_apart code v = grind arith
 -- the code of a message that is no formality is that of none
 pub plain_code : (code : ℕ) (t : List ℕ) → is_formality (slice_index t 8) ≡ false → IsCodeFor code t
     → ends_formality code ≡ false
+unfolding port_answers
 plain_code code t plain x = grind arith
 
 apart_of : (status : ℕ) → (status % 32 ≡ 1) ⊎ (status % 32 ≡ 3) → is_apart (status % 32) ≡ true

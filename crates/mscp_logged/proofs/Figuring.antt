@@ -1,5 +1,5 @@
 -- What is known of the figures of a port's log, by one call.
-use Rattle.mscp_logged.proofs.Common.{AllByRecursion, Bool, Call, End, First, HoldsAwaited, HoldsEnd, List, None, Nothing, Option, Own, PassesOn, Pending, Port, Said, Sent, Some, Volume, [], any_more, ap, arith, asked_by, asking, asks_oldest, begins, cond, eq-eqb, eqb-true, every_append, false, figure_on, filter, flat_map, four_in, has_number, held, inl, inr, list_any, map, may_be, nat_eq, none-some, none_of_it, not, num, of, other_number, own_answer, pending_end, pending_held, pending_in, refl, said_in, sent_by, slice_index, sole_left, some_none, subst, sym, timed, true, ℕ, ◌++◌, ◌<◌, ◌∙◌, ◌∷◌, ◌≡◌, ◌≢◌, ◌≤◌, ◌⊎◌}
+use Rattle.mscp_logged.proofs.Common.{AllByRecursion, Bool, Call, End, First, HoldsAwaited, HoldsEnd, List, None, Nothing, Option, Own, PassesOn, Pending, Port, Said, Sent, Some, Volume, [], any_more, ap, arith, asked_by, asking, asks_oldest, begins, cond, eq-eqb, eqb-true, every_append, false, figure_on, filter, flat_map, four_in, has_number, held, inl, inr, list_any, map, may_be, nat_eq, none-some, none_of_it, not, num, of, other_number, own_answer, pending_end, pending_held, pending_in, refl, said_in, sent_by, slice_index, sole_left, some_none, subst, sym, timed, true, ℕ, ◌++◌, ◌<◌, ◌∙◌, ◌∷◌, ◌≡◌, ◌≢◌, ◌≤◌, ◌⊎◌, port_answers, is_transfer_opcode}
 use Rattle.mscp_logged.proofs.Polled.{AreFigured, IsBelow, IsFigured, IsPolled, Lowers, asked_right, figure_more, figure_of, figured_still}
 use Rattle.mscp_logged.proofs.Wired.{AreOwed, Wired, named, none_any as no_command}
 
@@ -34,6 +34,7 @@ coming p = flat_map pending_in (held p) ++ pending_held p
 
 -- the port answers no poll itself
 pub not_poll : (v : Option Volume) (t : List ℕ) (own : Own) → own_answer false v t ≡ Some own → slice_index t 8 ≡ 2 → ⊥
+unfolding port_answers is_transfer_opcode
 not_poll v t own answer = grind arith
 
 -- ---- a call

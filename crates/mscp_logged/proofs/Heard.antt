@@ -1,5 +1,5 @@
 -- What is known of the commands that are outstanding once an end left: they heard its figure, if it told one.
-use Rattle.mscp_logged.proofs.Common.{AllByRecursion, Answer, Asked, Bool, First, Gone, List, None, Nothing, Oldest, Option, Pending, Sent, Some, [], and_parts, answer_by, ap, asks_oldest, command_at, cond, eq-eqb, eqb-true, false, false≢true, filter, four_in, has_figure, hears, inl, inr, is_it, is_known, is_long, is_named, is_polled, least_length, left, length, list_any, map, may_be, may_tell, nat_eq, nat_le, none-some, not, num, or_right, polled_by, polls, position, refl, same_Some, same_connection, slice_index, subst, sym, tells, true, ℕ, ◌&&◌, ◌+◌, ◌||◌, ◌∙◌, ◌∷◌, ◌≡◌, ◌⊎◌}
+use Rattle.mscp_logged.proofs.Common.{AllByRecursion, Answer, Asked, Bool, First, Gone, List, None, Nothing, Oldest, Option, Pending, Sent, Some, [], and_parts, answer_by, ap, asks_oldest, command_at, cond, eq-eqb, eqb-true, false, false≢true, filter, four_in, has_figure, hears, inl, inr, is_it, is_known, is_long, is_named, is_polled, least_end, left, length, list_any, map, may_be, may_tell, nat_eq, nat_le, none-some, not, num, or_right, polled_by, polls, position, refl, same_Some, same_connection, slice_index, subst, sym, tells, true, ℕ, ◌&&◌, ◌+◌, ◌||◌, ◌∙◌, ◌∷◌, ◌≡◌, ◌⊎◌}
 use Rattle.mscp_logged.proofs.Polled.{AreFigured, IsBelow, IsFigured, IsPolled, Polls, at_place, figure_of, polled_so}
 use Rattle.mscp_logged.proofs.Queueing.{flipped}
 use Rattle.mscp_logged.proofs.Wired.{named}
@@ -196,9 +196,9 @@ figure_right later y text long coded shown = by (polled_by y e) refl
     e = answer_by First text
 
     told : {other : ℕ} → Polls y (answer_by First text) other → four_in text 16 ≡ Some (num text 16 4)
-    told polls = ap (λ b. cond b (Some (num text 16 4)) None) (subst (λ k. nat_le (least_length k) (length text) ≡ true)
+    told polls = ap (λ b. cond b (Some (num text 16 4)) None) (subst (λ k. nat_le (least_end k) (length text) ≡ true)
         (coded polls.opcode polls.known)
-        (and_parts (nat_le 12 (length text)) (nat_le (least_length (slice_index text 8)) (length text)) long).1)
+        (and_parts (nat_le 12 (length text)) (nat_le (least_end (slice_index text 8)) (length text)) long).1)
 
     tell : (came : Bool) → (num text 16 4 ≡ 0) ⊎ (may_be y.asked false (num text 16 4) ≡ true)
         → (nat_eq (num text 16 4) 0 || may_be y.asked came (num text 16 4)) ≡ true

@@ -1,5 +1,5 @@
 -- By a message that is read the ends that come tell of their units what is so.
-use Rattle.mscp_logged.proofs.Common.{Answers, Bool, Command, End, First, Gets, Hardware, Hears, Holdings, Kept, List, None, Ok, Option, Port, Record, Settings, Some, Volume, WasRead, [], aborted_record, answer_decided, answer_ends, answered_end, ap, append-nil, arith, command_of, drive_of, ends_of, false, figure_polled, handed, inl, inr, is_dead, kept_of, length, map, option_map, option_to_list, read_is, record_aborted, slice_index, subst, sym, taken_by, unit_found, volume_found, ℕ, ◌++◌, ◌<◌, ◌^◌, ◌∙◌, ◌∷◌, ◌≡◌}
+use Rattle.mscp_logged.proofs.Common.{Answers, Bool, Command, End, First, Gets, Hardware, Hears, Holdings, Kept, List, None, Ok, Option, Port, Record, Settings, Some, Volume, WasRead, [], aborted_record, answer_decided, answer_ends, answered_end, ap, append-nil, arith, command_of, drive_of, ends_of, false, figure_polled, handed, inl, inr, is_dead, kept_of, length, map, option_map, option_to_list, read_is, record_aborted, slice_index, subst, sym, taken_by, unit_found, volume_found, ℕ, ◌++◌, ◌<◌, ◌^◌, ◌∙◌, ◌∷◌, ◌≡◌, fault_of, answered_unit}
 use Rattle.mscp_drive.specs.declared.block.Block.TheVariants as blocks
 use Rattle.mscp_port.specs.declared.verdict.Verdict.TheVariants as verdicts
 use Rattle.mscp_ported.proofs.Tables.{answer_by}
@@ -68,7 +68,10 @@ module _ {K : Type 0} (bytes : List ℕ) (done : Unit) (old new : Port K) (aw : 
 
     own_decided : IsDecided h.settings.units (verdicts.Served blocks.Good) (W command.unit) (W command.unit) own
         (answer_by old new own)
-    own_decided = grind (arith, decided)
+    own_decided = subst (λ s. IsDecided s.units (verdicts.Served blocks.Good) (W command.unit) (W command.unit) own
+        (answer_by old new own)) (sym settings)
+        (subst (λ n. IsDecided c.units (verdicts.Served blocks.Good) (W n) (W n) own (answer_by old new own))
+        (answered_unit h.settings online figure command (fault_of h.settings command)) (decided own))
 
     few_unit : command.unit < 2 ^ 16
     few_unit = handed_small old.controller.settings.units bytes g.long small

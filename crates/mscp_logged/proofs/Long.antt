@@ -1,6 +1,7 @@
 -- Each end of a port's log is as long as its endcode asks.
-use Rattle.mscp_logged.proofs.Common.{All-from_recursion, AllByRecursion, Answered, AsksAlways, BodyKind, Bool, Call, Deals, IsWhole, Keeps, List, Moment, None, Option, Outgoing, Picking, Port, PortsEndWhatTheyTook, PortsTellInOrder, ReadsBytes, Said, Seen, Sent, Some, [], and_parts, arith, asked_before, awaited, begins, begun_one, cond, end_length, ends_in, eqb-true, every_append, every_parts, false, find, flat_map, held, inl, inr, is_long, kind_of_code, le-leb, least_length, leaves, length, list_all, logged, map, message_of, moment_at, nat_le, none-some, option_to_list, outstanding, refl, said, said_in, same_Some, since_alive, slice_index, subst, sym, take, true, ℕ, ◌∷◌, ◌≡◌, ◌≤◌}
+use Rattle.mscp_logged.proofs.Common.{All-from_recursion, AllByRecursion, Answered, AsksAlways, BodyKind, Bool, Call, Deals, IsWhole, Keeps, List, Moment, None, Option, Outgoing, Picking, Port, PortsEndWhatTheyTook, PortsTellInOrder, ReadsBytes, Said, Seen, Sent, Some, [], ap, arith, asked_before, awaited, begins, begun_one, cond, end_length, ends_in, every_append, every_parts, false, flat_map, held, inl, inr, is_long, kind_of_code, le-leb, least_end, leaves, length, logged, map, message_of, moment_at, nat_le, option_to_list, outstanding, refl, said, said_in, since_alive, slice_index, subst, sym, take, true, ℕ, ◌∷◌, ◌≡◌, ◌≤◌}
 use Rattle.mscp_logged.proofs.Begun.{Begun}
+use Rattle.mscp_packet.specs.Ends.{least_with}
 use Rattle.mscp_port.specs.declared.port.OutgoingKind.TheVariants as kinds
 use Rattle.mscp_wire.specs.declared.rule.Rule.TheVariants as rules
 use Rattle.mscp_wire.specs.declared.moment.Moment.TheVariants as moments
@@ -11,18 +12,12 @@ use Rattle.mscp_logged.proofs.Walking.{IsCall, walk}
 
 -- ---- a whole end is long
 
--- what is found passes a test that all pass
-found_passes : {X : Type 0} (p q : X → Bool) (xs : List X) (x : X) → find p xs ≡ Some x → list_all q xs ≡ true
-    → (p x ≡ true) × (q x ≡ true)
-found_passes p q [] x h a = absurd (none-some x h)
-found_passes p q (y ∷ ys) x h a = search (arith, found_passes p q ys x, and_parts)
-
 -- an endcode asks for no more than 12 bytes, or for as many as the body has that is its own
-least_none : (code : ℕ) → kind_of_code code ≡ None → least_length code ≤ 12
-least_none code e = grind (arith, e)
+least_none : (code : ℕ) → kind_of_code code ≡ None → least_end code ≤ 12
+least_none code e = omega (arith, ap least_with e)
 
-least_some : (code : ℕ) (kind : BodyKind) → kind_of_code code ≡ Some kind → least_length code ≤ end_length kind
-least_some code kind e = grind (arith, none-some, found_passes, eqb-true, same_Some)
+least_some : (code : ℕ) (kind : BodyKind) → kind_of_code code ≡ Some kind → least_end code ≤ end_length kind
+least_some code kind e = omega (arith, ap least_with e)
 
 pub whole_long : (text : List ℕ) → IsWhole text → is_long text ≡ true
 whole_long text whole = by (kind_of_code (slice_index text 8)) refl
@@ -30,7 +25,7 @@ whole_long text whole = by (kind_of_code (slice_index text 8)) refl
     at_least : (n : ℕ) → n ≤ length text → nat_le n (length text) ≡ true
     at_least n low = le-leb n (length text) low
 
-    long : least_length (slice_index text 8) ≤ length text → is_long text ≡ true
+    long : least_end (slice_index text 8) ≤ length text → is_long text ≡ true
     long low = grind (arith, at_least)
 
     by : (o : Option BodyKind) → kind_of_code (slice_index text 8) ≡ o → is_long text ≡ true

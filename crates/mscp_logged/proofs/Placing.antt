@@ -1,5 +1,5 @@
 -- An end that a step gives says that its unit is online, or that it isn't, only if that is so.
-use Rattle.mscp_logged.proofs.Common.{Answer, Bool, Decided, End, First, Hardware, IsFault, List, Order, Shape, Verdict, Volume, and_parts, answer_by, ap, arith, bad_status, block_told, block_touched, brings, end_with_body, endcode, ends_formality, eqb-true, false, false≢true, inl, inr, is_immediate, is_moved, is_of_unit, is_some, moved_by, nat_eq, outcome_status, refl, says_away, says_online, status_after, subst, sym, true, unit_found, ℕ, ◌%◌, ◌/◌, ◌||◌, ◌∙◌, ◌≡◌, ◌≢◌, ◌⊎◌}
+use Rattle.mscp_logged.proofs.Common.{Answer, Bool, Decided, End, First, Hardware, IsFault, List, Order, Shape, Verdict, Volume, and_parts, answer_by, ap, arith, bad_status, block_told, block_touched, brings, end_with_body, endcode, ends_formality, eqb-true, false, false≢true, inl, inr, is_immediate, is_moved, is_of_unit, is_some, moved_by, nat_eq, outcome_status, refl, says_away, says_online, status_after, subst, sym, true, unit_found, ℕ, ◌%◌, ◌/◌, ◌||◌, ◌∙◌, ◌≡◌, ◌≢◌, ◌⊎◌, port_answers}
 use Rattle.mscp_packet.specs.declared.command.Order.TheVariants as orders
 use Rattle.mscp_drive.specs.declared.block.Block.TheVariants as blocks
 use Rattle.mscp_port.specs.declared.verdict.Verdict.TheVariants as verdicts
@@ -30,9 +30,11 @@ away_parts e h = grind (arith, and_parts, eqb-true)
 
 -- no formality's end says either
 pub formal_online : (code bit : ℕ) → ends_formality code ≡ true → IsOnlineCode code bit → ⊥
+unfolding port_answers
 formal_online code bit e h = grind (arith, e, h)
 
 pub formal_away : (code status : ℕ) → ends_formality code ≡ true → IsAwayCode code status → ⊥
+unfolding port_answers
 formal_away code status e h = grind (arith, e, h)
 
 -- ---- statuses
@@ -66,12 +68,8 @@ module _ (v : Volume) (online : Bool) (driven : v.is_mounted ≡ true → online
   gone_off (orders.Move kind count block) (verdicts.Served b) waits valid moves sure fault h = grind arith
   gone_off orders.Online (verdicts.Served blocks.Good) waits valid moves sure fault h = grind arith
   gone_off orders.Online (verdicts.Served (blocks.Bad n)) waits valid moves sure fault h = grind arith
-  gone_off orders.SetUnit (verdicts.Served blocks.Good) waits valid moves sure fault h = absurd (zero_gone 0 refl h)
-  gone_off orders.SetUnit (verdicts.Served (blocks.Bad n)) waits valid moves sure fault h = grind arith
-  gone_off orders.Available (verdicts.Served blocks.Good) waits valid moves sure fault h = absurd (zero_gone 0 refl h)
-  gone_off orders.Available (verdicts.Served (blocks.Bad n)) waits valid moves sure fault h = grind arith
   gone_off (orders.Invalid byte why) verdict waits valid moves sure fault h = absurd (valid byte why refl)
-  gone_off order verdict waits valid moves sure fault h = search (arith, waits)
+  gone_off order (verdicts.Served b) waits valid moves sure fault h = grind arith
 
 -- ---- ends
 
@@ -117,14 +115,8 @@ module _ (h : Hardware) (units : List Shape) (verdict : Verdict) (online : Bool)
         by orders.Online good (inr (inl x)) sure bit waits valid = search (arith, x)
         by orders.Online good (inr (inr x)) sure bit waits valid =
             (online_told v verdict online sure).was good (sym bit ∙ x.1)
-        by orders.SetUnit good (inl x) sure bit waits valid = absurd (false≢true x)
-        by orders.SetUnit good (inr (inl x)) sure bit waits valid = search (arith, x)
-        by orders.SetUnit good (inr (inr x)) sure bit waits valid = search (arith, x.0)
-        by orders.Available good (inl x) sure bit waits valid = absurd (false≢true x)
-        by orders.Available good (inr (inl x)) sure bit waits valid = search (arith, x)
-        by orders.Available good (inr (inr x)) sure bit waits valid = search (arith, x.0)
         by (orders.Invalid byte why) good on sure bit waits valid = absurd (valid byte why refl)
-        by order good on sure bit waits valid = search (arith, waits)
+        by order good on sure bit waits valid = grind (arith, on, waits)
 
     away_so : IsAwayCode a.code (a.status % 32) → w.is_mounted ≡ false
     away_so x = grind (arith, gone_off, low)

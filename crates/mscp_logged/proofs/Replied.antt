@@ -5,7 +5,7 @@ use Rattle.mscp_drive.specs.declared.block.Block.TheVariants as blocks
 use Rattle.mscp_port.specs.declared.verdict.Verdict.TheVariants as verdicts
 use Rattle.mscp_logged.proofs.Describing.{IsAsWas, IsTold, Tells, same_volume}
 use Rattle.mscp_logged.proofs.Stepped.{IsDecided, IsTelling, formal_telling}
-use Rattle.mscp_logged.proofs.Suited.{formal_opcode}
+use Rattle.mscp_ported.proofs.Rows.{formal_opcode}
 use Rattle.mscp_logged.proofs.Texts.{text_with}
 use Rattle.mscp_logged.proofs.Worded.{Reads, describes_so, text_reads, text_unit}
 

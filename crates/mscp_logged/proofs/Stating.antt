@@ -11,7 +11,7 @@ use Rattle.mscp_logged.proofs.Describing.{IsAsWas, same_volume}
 use Rattle.mscp_logged.proofs.Placing.{IsAwayCode, IsOnlineCode, away_parts, formal_away, formal_online, online_parts}
 use Rattle.mscp_logged.proofs.Replied.{end_is}
 use Rattle.mscp_logged.proofs.Stepped.{IsDecided}
-use Rattle.mscp_logged.proofs.Suited.{formal_opcode}
+use Rattle.mscp_ported.proofs.Origins.{formal_code}
 use Rattle.mscp_logged.proofs.Texts.{text_with}
 use Rattle.mscp_logged.proofs.Worded.{Reads, text_reads, text_unit}
 
@@ -179,7 +179,7 @@ own_mute : (v : Option Volume) (b : List ℕ) (own : Own) → own_answer false v
 own_mute v b = own_cases v b
     (λ own. IsMute (answer_by First (own_text b own)).code ((answer_by First (own_text b own)).status % 32))
     (λ asks. formal_mute (slice_index b 8 + 0x80) 0
-    (formal_opcode (λ n. ends_formality (n + 0x80) ≡ true) refl refl refl (slice_index b 8) asks))
+    (formal_code (slice_index b 8) asks))
     (λ status moves past. by status past)
   where
     by : (status : ℕ) → IsPast status → IsMute (answer_by First (own_text b (own_refused b status))).code

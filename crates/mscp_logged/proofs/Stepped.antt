@@ -1,5 +1,5 @@
 -- An end that a step gives tells of its unit what is so, of the volume that is there then.
-use Rattle.mscp_logged.proofs.Common.{Answer, Bool, Buffer, Decided, End, First, Hardware, List, Option, Order, Shape, Some, Verdict, Volume, answer_by, ap, arith, block_told, brings, code_told, cond, decided_code, decided_status, describes, end_decided, end_with_body, endcode, ends_formality, false, formal_status, found_decided, inl, inr, is_immediate, is_some, is_success, moved_by, nat_eq, online_body, outcome_body, outcome_status, refl, status_after, status_told, subst, sym, told_same, true, unit_found, ℕ, ◌%◌, ◌/◌, ◌==◌, ◌∙◌, ◌≡◌, ◌≢◌, ◌⊎◌}
+use Rattle.mscp_logged.proofs.Common.{Answer, Bool, Buffer, Decided, End, First, Hardware, List, Option, Order, Shape, Some, Verdict, Volume, answer_by, ap, arith, block_told, brings, code_told, cond, decided_code, decided_status, describes, end_decided, end_with_body, endcode, ends_formality, false, formal_status, found_decided, inl, inr, is_immediate, is_some, is_success, moved_by, nat_eq, online_body, outcome_body, outcome_status, refl, status_after, status_told, subst, sym, told_same, true, unit_found, ℕ, ◌%◌, ◌/◌, ◌==◌, ◌∙◌, ◌≡◌, ◌≢◌, ◌⊎◌, port_answers}
 use Rattle.mscp_packet.specs.declared.command.Order.TheVariants as orders
 use Rattle.mscp_packet.specs.declared.end.EndBody.TheVariants as bodies
 use Rattle.mscp_logged.proofs.Describing.{IsAsWas, IsIdentityOf, IsSame, Tells, identity_of}
@@ -70,6 +70,7 @@ abbrev pub IsTelling : ℕ → Type 0
 IsTelling code = (code ≡ 0x83) ⊎ (code ≡ 0x89) ⊎ (code ≡ 0x8A)
 
 pub formal_telling : (code : ℕ) → ends_formality code ≡ true → IsTelling code → ⊥
+unfolding port_answers
 formal_telling code e x = grind arith
 
 -- what a step gives
@@ -159,11 +160,8 @@ module _ (h : Hardware) (units : List Shape) (verdict : Verdict) (online : Bool)
         → IsGivenEnd order online verdict e → So
     plain_so orders.Online lbn sure given = online_so sure given
     plain_so orders.SetUnit lbn sure given = set_so given
-    plain_so orders.Available lbn sure given =
-        other_so orders.Available 0x88 given refl (λ t. search (arith, t))
-    plain_so (orders.Move kind count block) lbn sure given = grind arith
     plain_so (orders.Invalid byte why) lbn sure given = absurd (given.valid byte why refl)
-    plain_so order lbn sure given = search (arith, given.waits)
+    plain_so order lbn sure given = other_so order (endcode order) given refl (λ t. grind (arith, t, given.waits))
 
   pub step_tells : (order : Order) (lbn : Option ℕ) → IsSure (is_some (moved_by order lbn)) v verdict
       → IsGivenEnd order online verdict e → So
@@ -172,4 +170,5 @@ module _ (h : Hardware) (units : List Shape) (verdict : Verdict) (online : Bool)
 -- no such end has the code of a formality's
 pub given_plain : (order : Order) (online : Bool) (verdict : Verdict) (e : End) → IsGivenEnd order online verdict e
     → ends_formality e.code ≡ true → ⊥
+unfolding port_answers
 given_plain order online verdict e given is = grind arith

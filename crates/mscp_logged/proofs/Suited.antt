@@ -1,6 +1,6 @@
 -- An end of the controller's as it goes out keeps the rules of statuses and of bytes, and tells no other identifier of
 -- the controller than its own.
-use Rattle.mscp_logged.proofs.Common.{Answer, BodyReads, Bool, Decided, End, EndBody, First, Hardware, IsBodyFit, IsCodeFor, IsMade, IsSaid, IsToldSo, Leaving, List, None, Option, Port, Record, Settings, Shape, Some, Verdict, Volume, answer_by, ap, arith, block_told, code_of, command_of, cond, controller_in, count_of, end_with_body, ends_formality, eqb-true, false, formal_status, handed, has_code, has_count, has_status, head, inl, inr, is_formality, is_plain, keeps, kind_of_body, left_with, length, little_bytes, nat_eq, nat_le, nat_lt, not, num, points_into, refl, sent_by, slice_index, status_after, status_code, status_told, subst, sym, true, two, unit_found, ℕ, ◌%◌, ◌&&◌, ◌+◌, ◌<◌, ◌^◌, ◌||◌, ◌∙◌, ◌≡◌, ◌≤◌, ◌⊎◌}
+use Rattle.mscp_logged.proofs.Common.{Answer, BodyReads, Bool, Decided, End, EndBody, First, Hardware, IsBodyFit, IsCodeFor, IsMade, IsSaid, IsToldSo, Leaving, List, None, Option, Port, Record, Settings, Shape, Some, Verdict, Volume, answer_by, ap, arith, block_told, code_of, command_of, cond, controller_in, count_of, end_with_body, ends_formality, eqb-true, false, formal_status, handed, has_code, has_count, has_status, head, inl, inr, is_formality, is_plain, keeps, kind_of_body, left_with, length, little_bytes, nat_eq, nat_le, nat_lt, not, num, points_into, refl, sent_by, slice_index, status_after, status_code, status_told, subst, sym, true, two, unit_found, ℕ, ◌%◌, ◌&&◌, ◌+◌, ◌<◌, ◌^◌, ◌||◌, ◌∙◌, ◌≡◌, ◌≤◌, ◌⊎◌, port_answers, false≢true}
 use Rattle.mscp_packet.specs.declared.end.BodyKind.TheVariants as kinds
 use Rattle.mscp_packet.specs.declared.end.EndBody.TheVariants as bodies
 use Rattle.mscp_drive.specs.declared.block.Block.TheVariants as blocks
@@ -9,6 +9,7 @@ use Rattle.mscp_shown.proofs.Suited.{Keeps}
 use Rattle.mscp_logged.proofs.Bytes.{handed_long, handed_says, of_unit, stood_code}
 use Rattle.mscp_logged.proofs.Faults.{IsToldOf}
 use Rattle.mscp_logged.proofs.Made.{answer_controls, answer_kept, given_is, made_code, made_formal, made_kept, of_code}
+use Rattle.mscp_ported.proofs.Rows.{formal_opcode, unknown_plain}
 
 -- the identifier that a controller is set to, as it is told
 abbrev pub identifier : Settings → ℕ
@@ -24,9 +25,6 @@ pub record IsSuited (text message : List ℕ) : Type 0 where
   pub count : has_count (answer_by First text) (count_of (sent_by First message) (answer_by First text)) ≡ true
 
 -- ---- a formality's
-
-pub formal_opcode : (P : ℕ → Type 0) → P 11 → P 17 → P 19 → (n : ℕ) → is_formality n ≡ true → P n
-formal_opcode P a b c n e = grind arith
 
 module _ (t : List ℕ) (long : 12 ≤ length t) (reference unit : ℕ) where
   abbrev text_of : ℕ → ℕ → List ℕ
@@ -88,6 +86,7 @@ formality_of : (n : ℕ) → ends_formality (n + 0x80) ≡ true → is_formality
 formality_of n e = grind (arith, e)
 
 no_formality : (n : ℕ) → is_formality n ≡ true → n + 0x80 ≡ 0x90 → ⊥
+unfolding port_answers
 no_formality n e h = grind (arith, e, h)
 
 -- ---- statuses
@@ -133,7 +132,11 @@ module _ {K : Type 0} (c : Settings) (Told : Verdict → Record → Type 0) (old
 
   -- the end of a formality
   formal_code : ends_formality d.code ≡ true → d.code ≡ slice_index t 8 + 0x80
-  formal_code is = grind arith
+  formal_code is = by (code_for true is)
+    where
+      by : IsCodeFor d.code t → d.code ≡ slice_index t 8 + 0x80
+      by (inl x) = absurd (false≢true (sym unknown_plain ∙ sym (ap ends_formality x.0) ∙ is))
+      by (inr x) = x
 
   formal_so : ends_formality d.code ≡ true → IsSuited text t
   formal_so is = rw (← text_is true is) (formal_suited t (made_code c Told l t s.fits.made).message.long e.reference
@@ -157,6 +160,7 @@ module _ {K : Type 0} (c : Settings) (Told : Verdict → Record → Type 0) (old
   -- ---- what it tells of the controller
 
   tells_none : ends_formality d.code ≡ true → slice_index text 8 ≡ 0x84 → ⊥
+  unfolding port_answers
   tells_none is code = grind arith
 
   tells_own : ends_formality d.code ≡ false → e.code ≡ 0x84 → num text 10 2 % 32 ≡ 0

@@ -1,5 +1,7 @@
 -- Which rules of the wire are kept by all that a port's log shows.
-use Rattle.std.specs.Prelude.{All, ◌≡◌, ◌≢◌, ◌⊎◌, ◌<◌, ◌≤◌, ◌%◌, ◌^◌, ℕ, Bool, true, false, [], ◌∷◌, List, length, take, Option, Some}
+use Rattle.std.specs.Prelude.{All, ◌≡◌, ◌≢◌, ◌⊎◌, ◌<◌, ◌≤◌, ◌^◌, ℕ, Bool, true, false, [], ◌∷◌, List, length, take, Option, Some}
+use Rattle.mscp_packet.specs.StatusCodes as codes
+use Rattle.mscp_packet.specs.Statuses.{code_of}
 use Rattle.mscp_drive.specs.Settings.{IsValid, Settings}
 use Rattle.mscp_drive.specs.declared.connection.Connection.TheVariants.{First}
 use Rattle.mscp_controller.specs.Calls.{AnsweredCalls, Call as Made}
@@ -34,10 +36,11 @@ abbrev pub HostIsRight : Option ℕ → History → Type 0
 HostIsRight credits h =
     (i : ℕ) → i < length h → is_message (moment_at h i) ≡ true → IsRight credits (take i h) (moment_at h i)
 
--- what is told of a block that failed is what a drive or a medium may have: a code of 5 to 11 (manual, "Status and
--- Event Codes")
+-- what is told of a block that failed is what a drive or a medium may have: a code from Media Format Error to Drive
+-- Error (manual, "Status and Event Codes")
 abbrev pub IsFaultTold : Outcome → Type 0
-IsFaultTold (outcomes.Failed status) = (status < 2 ^ 16) × (5 ≤ status % 32) × (status % 32 ≤ 11)
+IsFaultTold (outcomes.Failed status) =
+    (status < 2 ^ 16) × (codes.media_format_error ≤ code_of status) × (code_of status ≤ codes.drive_error)
 IsFaultTold outcome = Unit {0}
 
 -- the same of all that a port is told

@@ -30,9 +30,9 @@ pub fn ports_answer_what_is_outstanding<K: Picker>(picker: &K)
 
 /// Of such a port, whose units have blocks: while its host's messages are right, no moment of the log breaks a rule of
 /// `mscp_wire`. `Status`, `Aborted`, `Count` and `State` are kept if what the port is told of blocks that failed has a
-/// code from 5 to 11, as what a drive or a medium has; and `Figure` if a step is told between any two polls of one
-/// command, as the controller takes them, or if whoever calls the port asks for blocks each time that it asks what is
-/// wanted.
+/// code from Media Format Error to Drive Error, as what a drive or a medium has; and `Figure` if a step is told between
+/// any two polls of one command, as the controller takes them, or if whoever calls the port asks for blocks each time
+/// that it asks what is wanted.
 pub fn ports_are_right<K: Picker>(picker: &K)
     ensures { PortsAreRight K.picks picker.now }
 {

@@ -1,5 +1,5 @@
 -- A message that stays the same when each place in no field is set to 0 is zero there.
-use Rattle.mscp_packet.proofs.Common.{◌≡◌, ℕ, zero, suc, ◌<◌, Bool, false, cond, List, [], ◌∷◌, length, ap, ◌∙◌, arith, slice_index, Field, is_named, IsZeroBeside}
+use Rattle.mscp_packet.proofs.Common.{◌≡◌, ℕ, zero, suc, ◌<◌, Bool, false, cond, List, [], ◌∷◌, length, ap, arith, slice_index, Field, is_named, IsZeroBeside}
 
 -- the list with 0 at each place that the test doesn't name
 abbrev pub blank : (ℕ → Bool) → List ℕ → List ℕ

@@ -11,10 +11,11 @@ pub use Rattle.std.specs.Prelude.{Err, Ok, Result, find, flat_map, if◌then◌e
 pub use Rattle.mscp_packet.specs.Commands.{CommandBytesAreMessages, HasRange, IsCommand, IsValidOrder, command_bytes, command_fields, opcode_byte, order_with, written}
 unfoldable pub use Rattle.mscp_packet.specs.Commands.{command_of}
 pub use Rattle.mscp_packet.specs.Ends.{EndBytesAreMessages, HasBodyRange, IsEnd, IsUnder, body_at, end_at, end_bytes, end_fields, end_length, kind_of_body, kind_of_code, reading_with}
-pub use Rattle.mscp_packet.specs.Opcodes.{least, opcode_of, opcodes, row_of}
+pub use Rattle.mscp_packet.specs.Opcodes.{foreign_of, foreign_row, least, opcode_of, opcodes, row_of}
 pub use Rattle.mscp_packet.specs.Parts.{parts_in}
 pub use Rattle.mscp_packet.specs.Places.{Field, IsZeroBeside, is_named}
 pub use Rattle.mscp_packet.specs.Table.{IsSound}
+pub use Rattle.mscp_packet.specs.declared.class.Foreign.{Foreign}
 pub use Rattle.mscp_packet.specs.declared.class.Opcode.{Opcode}
 pub use Rattle.mscp_packet.specs.declared.command.Command.{Command}
 pub use Rattle.mscp_packet.specs.declared.command.Order.{Order}

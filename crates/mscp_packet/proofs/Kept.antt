@@ -1,5 +1,5 @@
 -- The opcode byte of a message is that of its command.
-use Rattle.mscp_packet.proofs.Common.{arith, ◌≡◌, ℕ, Bool, List, [], ◌∷◌, ap, ◌∙◌, find, nat_eq, nat_lt, if◌then◌else◌, is_some, Option, Some, slice_index, eqb-true, false≢true, Opcode, Order, least, row_of, opcode_of, opcodes, opcode_byte, order_with}
+use Rattle.mscp_packet.proofs.Common.{arith, ◌≡◌, ℕ, Bool, List, [], ◌∷◌, ap, ◌∙◌, find, nat_eq, nat_lt, is_some, Option, Some, slice_index, eqb-true, false≢true, Opcode, Order, least, row_of, opcode_of, opcodes, opcode_byte, order_with}
 
 -- what is found of a byte has that byte
 found_byte : (os : List Opcode) (byte : ℕ) (o : Opcode) → find (λ x. nat_eq (row_of x).byte byte) os ≡ Some o

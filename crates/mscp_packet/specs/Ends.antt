@@ -5,6 +5,7 @@ use Rattle.std.specs.Option.{option_map}
 use Rattle.byteorder.specs.Endian.{little_bytes}
 use Rattle.mscp_packet.specs.Number.{num}
 use Rattle.mscp_packet.specs.Places.{Field, field}
+use Rattle.mscp_packet.specs.EndcodeBytes.{unknown}
 use Rattle.mscp_packet.specs.Opcodes.{row_of, opcodes}
 use Rattle.mscp_packet.specs.declared.end.EndBody.{EndBody}
 use Rattle.mscp_packet.specs.declared.end.EndBody.TheVariants as bodies
@@ -19,7 +20,7 @@ use Rattle.mscp_packet.specs.declared.reading.EndFault.TheVariants as faults
 -- each endcode, and the shape of the body that follows it: that of an opcode is its byte with the top bit set (manual,
 -- "End Messages"), and that bit alone is the endcode of an unknown opcode (profile)
 abbrev pub endcodes : List (ℕ × BodyKind)
-endcodes = (0x80, kinds.Bare) ∷ map (λ o. ((row_of o).byte + 0x80, (row_of o).body)) opcodes
+endcodes = (unknown, kinds.Bare) ∷ map (λ o. ((row_of o).byte + unknown, (row_of o).body)) opcodes
 
 -- the shape of the body that follows an endcode. No other byte is one
 abbrev pub kind_of_code : ℕ → Option BodyKind
@@ -34,6 +35,14 @@ end_length kinds.UnitStatus = 48
 end_length kinds.Controller = 28
 end_length kinds.Online = 44
 end_length kinds.Moved = 32
+
+-- the fewest bytes of an end with an endcode: any end has 12
+abbrev pub least_with : Option BodyKind → ℕ
+least_with None = 12
+least_with (Some kind) = end_length kind
+
+abbrev pub least_end : ℕ → ℕ
+least_end code = least_with (kind_of_code code)
 
 -- ---- reading
 

@@ -1,8 +1,12 @@
 pub mod Steps
 pub mod Number
 pub mod Places
+pub mod StatusCodes
 pub mod Statuses
+pub mod OpcodeBytes
+pub mod EndcodeBytes
 pub mod Opcodes
+pub mod Rows
 pub mod Commands
 pub mod Ends
 pub mod Table

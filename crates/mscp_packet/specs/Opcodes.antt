@@ -1,69 +1,217 @@
 -- The table of the opcodes.
-use Rattle.std.specs.Prelude.{ℕ, Bool, true, false, nat_eq, List, [], ◌∷◌, find, Option, Some, None}
+use Rattle.std.specs.Prelude.{ℕ, Bool, true, false, not, nat_eq, nat_le, ◌&&◌, codes, List, [], ◌∷◌, find, is_some, Option, Some, None}
+use Rattle.mscp_packet.specs.OpcodeBytes as bytes
+use Rattle.mscp_packet.specs.declared.class.Answerer.{Answerer}
+use Rattle.mscp_packet.specs.declared.class.Answerer.TheVariants.{Controller, Port, Nobody}
 use Rattle.mscp_packet.specs.declared.class.Class.{Class}
 use Rattle.mscp_packet.specs.declared.class.Class.TheVariants.{Immediate, Sequential, Free, Unknown}
 use Rattle.mscp_packet.specs.declared.class.Opcode.{Opcode}
-use Rattle.mscp_packet.specs.declared.class.Opcode.TheVariants as codes
+use Rattle.mscp_packet.specs.declared.class.Opcode.TheVariants as known
+use Rattle.mscp_packet.specs.declared.class.Foreign.{Foreign}
+use Rattle.mscp_packet.specs.declared.class.Foreign.TheVariants as foreign
+use Rattle.mscp_packet.specs.declared.class.StatusSet.{StatusSet}
+use Rattle.mscp_packet.specs.declared.class.StatusSet.TheVariants.{Answered, State, Bringing, Any}
 use Rattle.mscp_packet.specs.declared.command.MoveKind.{MoveKind}
 use Rattle.mscp_packet.specs.declared.command.MoveKind.TheVariants as moves
 use Rattle.mscp_packet.specs.declared.end.BodyKind.{BodyKind}
 use Rattle.mscp_packet.specs.declared.end.BodyKind.TheVariants as kinds
 
--- what is told of an opcode: its byte, how its commands are scheduled, the fewest bytes that a command of it
--- has, how many bytes are written of one, and the shape of its end's body
+-- a status of this code, its low five bits, may come (manual, "Status and Event Codes"). There are codes up to 11.
+-- What looks at no unit has Success (0) or Invalid Command (1). What looks at a unit alone isn't aborted (2), and has
+-- no code of a medium, of data or of a buffer (5 to 9). What wants no unit that is online isn't told that it is
+-- available (4)
+abbrev pub has_status : StatusSet → ℕ → Bool
+has_status Answered code = nat_le code 1
+has_status State code = nat_le code 11 && not (nat_eq code 2) && not (nat_le 5 code && nat_le code 9)
+has_status Bringing code = nat_le code 11 && not (nat_eq code 4)
+has_status Any code = nat_le code 11
+
+-- what is told of an opcode: its byte, what the manual calls it, how its commands are scheduled, the fewest bytes that
+-- a command of it has, how many bytes are written of one, the shape of its end's body, which codes the status of that
+-- may have, which modifiers a command may carry, and who answers it here
 pub record OpcodeRow : Type 0 where
   pub byte : ℕ
+  pub name : List ℕ
   pub scheduled : Class
   pub least_length : ℕ
   pub written_length : ℕ
   pub body : BodyKind
+  pub statuses : StatusSet
+  pub modifiers : ℕ
+  pub answerer : Answerer
 
-abbrev pub opcode_row : ℕ → Class → ℕ → ℕ → BodyKind → OpcodeRow
-opcode_row byte scheduled least written body =
-    record { byte = byte; scheduled = scheduled; least_length = least; written_length = written; body = body }
+abbrev pub row : ℕ → List ℕ → Class → ℕ → ℕ → BodyKind → StatusSet → ℕ → Answerer → OpcodeRow
+row byte name scheduled least written body statuses modifiers answerer = record {
+  byte = byte;
+  name = name;
+  scheduled = scheduled;
+  least_length = least;
+  written_length = written;
+  body = body;
+  statuses = statuses;
+  modifiers = modifiers;
+  answerer = answerer;
+}
 
--- the bytes of the five transfers (manual)
+-- the five transfers (manual): their bytes, their names, and the modifiers of their commands
 abbrev pub move_byte : MoveKind → ℕ
-move_byte moves.Access = 16  -- ACCESS
-move_byte moves.Erase = 18  -- ERASE
-move_byte moves.Compare = 32  -- COMPARE HOST DATA
-move_byte moves.Read = 33  -- READ
-move_byte moves.Write = 34  -- WRITE
+move_byte moves.Access = bytes.access
+move_byte moves.Erase = bytes.erase
+move_byte moves.Compare = bytes.compare_host_data
+move_byte moves.Read = bytes.read
+move_byte moves.Write = bytes.write
 
--- the table: byte, class, least length, written length and body (manual, "Command Categories and Execution
--- Order" and "End Messages"; the lengths are the profile's)
+abbrev pub move_name : MoveKind → List ℕ
+move_name moves.Access = codes "ACCESS"
+move_name moves.Erase = codes "ERASE"
+move_name moves.Compare = codes "COMPARE HOST DATA"
+move_name moves.Read = codes "READ"
+move_name moves.Write = codes "WRITE"
+
+abbrev pub move_modifiers : MoveKind → ℕ
+move_modifiers moves.Access = 0xA300
+move_modifiers moves.Erase = 0xB100
+move_modifiers moves.Compare = 0xA300
+move_modifiers moves.Read = 0xE300
+move_modifiers moves.Write = 0xF300
+
+-- the table (manual, "Command Categories and Execution Order", "End Messages", "Status and Event Codes", "Command
+-- Modifiers"; the lengths are the profile's): first the opcodes that the controller answers
 abbrev pub row_of : Opcode → OpcodeRow
-row_of codes.Abort = opcode_row 1 Immediate 16 16 kinds.Abort  -- ABORT
-row_of codes.Status = opcode_row 2 Immediate 16 16 kinds.Status  -- GET COMMAND STATUS
-row_of codes.UnitStatus = opcode_row 3 Immediate 12 12 kinds.UnitStatus  -- GET UNIT STATUS
-row_of codes.SetController = opcode_row 4 Immediate 14 18 kinds.Controller  -- SET CONTROLLER CHARACTERISTICS
-row_of codes.Available = opcode_row 8 Sequential 12 12 kinds.Bare  -- AVAILABLE
-row_of codes.Online = opcode_row 9 Sequential 12 12 kinds.Online  -- ONLINE
-row_of codes.SetUnit = opcode_row 10 Sequential 12 12 kinds.Online  -- SET UNIT CHARACTERISTICS
-row_of (codes.Move kind) = opcode_row (move_byte kind) Free 32 32 kinds.Moved  -- the five transfers
+row_of known.Abort = row bytes.abort (codes "ABORT") Immediate 16 16 kinds.Abort Answered 0 Controller
+row_of known.Status =
+    row bytes.get_command_status (codes "GET COMMAND STATUS") Immediate 16 16 kinds.Status Answered 0 Controller
+row_of known.UnitStatus =
+    row bytes.get_unit_status (codes "GET UNIT STATUS") Immediate 12 12 kinds.UnitStatus State 0x0001 Controller
+row_of known.SetController =
+    row bytes.set_controller_characteristics (codes "SET CONTROLLER CHARACTERISTICS") Immediate 14 18 kinds.Controller
+    Answered 0 Controller
+row_of known.Available =
+    row bytes.available (codes "AVAILABLE") Sequential 12 12 kinds.Bare Bringing 0xA003 Controller
+row_of known.Online = row bytes.online (codes "ONLINE") Sequential 12 12 kinds.Online Bringing 0xA007 Controller
+row_of known.SetUnit =
+    row bytes.set_unit_characteristics (codes "SET UNIT CHARACTERISTICS") Sequential 12 12 kinds.Online Any 0xA004
+    Controller
+row_of (known.Move kind) =
+    row (move_byte kind) (move_name kind) Free 32 32 kinds.Moved Any (move_modifiers kind) Controller
+
+-- and then the manual's other opcodes of disks, of which a port answers some. None of their commands is written
+abbrev pub foreign_row : Foreign → OpcodeRow
+foreign_row foreign.AccessPaths =
+    row bytes.determine_access_paths (codes "DETERMINE ACCESS PATHS") Free 12 12 kinds.Bare Any 0 Port
+foreign_row foreign.CompareController =
+    row bytes.compare_controller_data (codes "COMPARE CONTROLLER DATA") Free 12 12 kinds.Bare Any 0xA000 Port
+foreign_row foreign.Flush = row bytes.flush (codes "FLUSH") Free 12 12 kinds.Bare Any 0xA001 Port
+foreign_row foreign.Replace = row bytes.replace (codes "REPLACE") Free 32 32 kinds.Bare Any 0xA001 Nobody
+foreign_row foreign.Format = row bytes.format (codes "FORMAT") Sequential 12 12 kinds.Bare Any 0xA000 Nobody
+foreign_row foreign.FormatOfSimh =
+    row bytes.format_of_simh (codes "FORMAT") Sequential 12 12 kinds.Bare Any 0xA000 Nobody
 
 -- ---- read off the table
 
--- all twelve
+-- all that the controller answers
 abbrev pub opcodes : List Opcode
 opcodes =
-    codes.Abort
-    ∷ codes.Status
-    ∷ codes.UnitStatus
-    ∷ codes.SetController
-    ∷ codes.Available
-    ∷ codes.Online
-    ∷ codes.SetUnit
-    ∷ codes.Move moves.Access
-    ∷ codes.Move moves.Erase
-    ∷ codes.Move moves.Compare
-    ∷ codes.Move moves.Read
-    ∷ codes.Move moves.Write
+    known.Abort
+    ∷ known.Status
+    ∷ known.UnitStatus
+    ∷ known.SetController
+    ∷ known.Available
+    ∷ known.Online
+    ∷ known.SetUnit
+    ∷ known.Move moves.Access
+    ∷ known.Move moves.Erase
+    ∷ known.Move moves.Compare
+    ∷ known.Move moves.Read
+    ∷ known.Move moves.Write
     ∷ []
 
 -- the opcode of a byte. No other byte is one
 abbrev pub opcode_of : ℕ → Option Opcode
 opcode_of byte = find (λ o. nat_eq (row_of o).byte byte) opcodes
+
+-- all others
+abbrev pub foreigners : List Foreign
+foreigners =
+    foreign.AccessPaths
+    ∷ foreign.CompareController
+    ∷ foreign.Flush
+    ∷ foreign.Replace
+    ∷ foreign.Format
+    ∷ foreign.FormatOfSimh
+    ∷ []
+
+abbrev pub foreign_of : ℕ → Option Foreign
+foreign_of byte = find (λ o. nat_eq (foreign_row o).byte byte) foreigners
+
+-- the row of a byte, if it has one
+abbrev pub row_with : Option Opcode → Option Foreign → Option OpcodeRow
+row_with (Some o) other = Some (row_of o)
+row_with None (Some o) = Some (foreign_row o)
+row_with None None = None
+
+abbrev pub row_at : ℕ → Option OpcodeRow
+row_at byte = row_with (opcode_of byte) (foreign_of byte)
+
+-- what a command with this opcode byte is called
+abbrev pub name_with : Option OpcodeRow → List ℕ
+name_with None = codes "command of an unknown opcode"
+name_with (Some r) = r.name
+
+abbrev pub opcode_name : ℕ → List ℕ
+opcode_name byte = name_with (row_at byte)
+
+-- whether it has a row
+abbrev pub has_row : ℕ → Bool
+has_row byte = is_some (row_at byte)
+
+-- how it is scheduled, whoever answers it: `class` is that of the controller's own
+abbrev pub scheduled_with : Option OpcodeRow → Class
+scheduled_with None = Unknown
+scheduled_with (Some r) = r.scheduled
+
+abbrev pub scheduled_as : ℕ → Class
+scheduled_as byte = scheduled_with (row_at byte)
+
+-- the fewest bytes of its message
+abbrev pub least_with : Option OpcodeRow → ℕ
+least_with None = 12
+least_with (Some r) = r.least_length
+
+abbrev pub least_of : ℕ → ℕ
+least_of byte = least_with (row_at byte)
+
+-- its end may have a status of this code
+abbrev pub status_with : Option OpcodeRow → ℕ → Bool
+status_with None code = has_status Any code
+status_with (Some r) code = has_status r.statuses code
+
+abbrev pub may_have_status : ℕ → ℕ → Bool
+may_have_status byte code = status_with (row_at byte) code
+
+-- the modifiers that it may carry
+abbrev pub modifiers_with : Option OpcodeRow → ℕ
+modifiers_with None = 0
+modifiers_with (Some r) = r.modifiers
+
+abbrev pub modifiers_of : ℕ → ℕ
+modifiers_of byte = modifiers_with (row_at byte)
+
+-- who answers it here
+abbrev pub answerer_with : Option OpcodeRow → Answerer
+answerer_with None = Nobody
+answerer_with (Some r) = r.answerer
+
+abbrev pub answerer_of : ℕ → Answerer
+answerer_of byte = answerer_with (row_at byte)
+
+-- it is the port that answers it
+abbrev pub is_port : Answerer → Bool
+is_port Port = true
+is_port answerer = false
+
+unfoldable pub port_answers : ℕ → Bool
+port_answers byte = is_port (answerer_of byte)
 
 -- the fewest bytes that a command of an opcode has, at least 12 (profile)
 abbrev pub least : Opcode → ℕ
@@ -82,3 +230,20 @@ class byte = class_of_opcode (opcode_of byte)
 abbrev pub is_immediate_class : Class → Bool
 is_immediate_class Immediate = true
 is_immediate_class other = false
+
+-- one of this class is a transfer, and so is one with this opcode byte (manual, the same)
+abbrev pub is_free_class : Class → Bool
+is_free_class Free = true
+is_free_class other = false
+
+unfoldable pub is_transfer_opcode : ℕ → Bool
+is_transfer_opcode byte = is_free_class (class byte)
+
+-- one with this opcode byte is answered when it arrives
+abbrev pub is_immediate : ℕ → Bool
+is_immediate byte = is_immediate_class (class byte)
+
+-- one of this class is kept in its place among the commands of its unit (manual, the same)
+abbrev pub is_sequential_class : Class → Bool
+is_sequential_class Sequential = true
+is_sequential_class other = false

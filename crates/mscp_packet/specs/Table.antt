@@ -1,6 +1,8 @@
 -- What the tables of opcodes and endcodes owe one another.
-use Rattle.std.specs.Prelude.{◌≡◌, ◌+◌, ◌<◌, ◌≤◌, Some}
-use Rattle.mscp_packet.specs.Opcodes.{opcode_of, row_of}
+use Rattle.std.specs.Prelude.{◌≡◌, ◌+◌, ◌<◌, ◌≤◌, None, Some}
+use Rattle.mscp_packet.specs.Opcodes.{foreign_of, foreign_row, opcode_of, row_of}
+use Rattle.mscp_packet.specs.declared.class.Answerer.TheVariants.{Controller}
+use Rattle.mscp_packet.specs.declared.class.Foreign.{Foreign}
 use Rattle.mscp_packet.specs.Ends.{end_length, kind_of_code}
 use Rattle.mscp_packet.specs.declared.class.Opcode.{Opcode}
 use Rattle.mscp_packet.specs.declared.end.BodyKind.{BodyKind}
@@ -12,6 +14,11 @@ pub record IsSound : Type 0 where
   pub low : (o : Opcode) → (row_of o).byte < 0x80
   -- with that bit set it is an endcode, with the body of the table
   pub code : (o : Opcode) → kind_of_code ((row_of o).byte + 0x80) ≡ Some (row_of o).body
+  -- it is the controller that answers it, and no opcode that it doesn't answer has its byte
+  pub answers : (o : Opcode) → (row_of o).answerer ≡ Controller
+  pub apart : (o : Foreign) → opcode_of (foreign_row o).byte ≡ None
+  -- each of those has a byte of its own, too
+  pub foreign : (o : Foreign) → foreign_of (foreign_row o).byte ≡ Some o
   -- a command has at least the 12 bytes that all commands have, and may have no more
   pub least : (o : Opcode) → 12 ≤ (row_of o).least_length
   -- a command of an opcode is written with as many bytes as are asked for, or more, and has room in 48 bytes

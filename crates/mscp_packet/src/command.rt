@@ -2,6 +2,7 @@
 
 ghost use Rattle.std.specs.Prelude.{◌≡◌};
 
+use crate::asking::UNKNOWN_NAME;
 use crate::class::{Class, Opcode};
 
 /// The five transfers.
@@ -44,7 +45,7 @@ pub enum Order {
 }
 
 impl Order {
-    ghost use Rattle.mscp_packet.specs.Common.{ok_or, opcode_byte, order_class, order_opcode};
+    ghost use Rattle.mscp_packet.specs.Common.{ok_or, opcode_byte, order_class, order_name, order_opcode};
 
     /// The opcode, or the byte of what is no valid command.
     fn opcode(&self) -> Result<Opcode, u8>
@@ -63,13 +64,23 @@ impl Order {
         })
     }
 
-    /// How it is scheduled (manual, "Command Categories and Execution Order"): by its opcode's line of the table, and
+    /// What the manual calls it.
+    pub fn name(&self) -> &'static str
+        ensures { result.now ≡ order_name self.now }
+    {
+        match self.opcode() {
+            Ok(opcode) => opcode.row().name,
+            Err(_) => UNKNOWN_NAME,
+        }
+    }
+
+    /// How it is scheduled (manual, "Command Categories and Execution Order"): by its opcode's row of the table, and
     /// `Unknown` if it is no valid command's.
     pub fn class(&self) -> Class
         ensures { result ≡ order_class self.now }
     {
         self.opcode()
-            .map_or(Class::Unknown, |opcode| opcode.line().class)
+            .map_or(Class::Unknown, |opcode| opcode.row().class)
     }
 }
 
@@ -89,7 +100,7 @@ impl Command {
         ensures { result ≡ opcode_byte self.now.order }
     {
         match self.order.opcode() {
-            Ok(opcode) => opcode.line().byte,
+            Ok(opcode) => opcode.row().byte,
             Err(byte) => byte,
         }
     }
@@ -102,6 +113,6 @@ impl MoveKind {
     pub fn opcode(self) -> u8
         ensures { result ≡ move_byte self }
     {
-        Opcode::Move(self).line().byte
+        Opcode::Move(self).row().byte
     }
 }

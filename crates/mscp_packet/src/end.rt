@@ -4,6 +4,7 @@ ghost use Rattle.std.specs.Prelude.{◌≡◌};
 ghost use Rattle.mscp_packet.specs.Ends.{kind_of_code};
 
 use crate::class::opcode_of;
+use crate::endcodes;
 
 /// What an end tells beside its status: one shape for each kind of end message.
 #[derive(Clone, Copy, Default)]
@@ -68,17 +69,14 @@ pub enum BodyKind {
     Moved,
 }
 
-/// The bit that tells an endcode from an opcode.
-const END_BIT: u8 = 0x80;
-
 /// The shape of the body that follows an endcode, if the byte is one: an opcode with the end bit (manual, "End
 /// Messages"), or that bit alone, for an unknown opcode (profile).
 pub(crate) fn kind_of(code: u8) -> Option<BodyKind>
     ensures { result ≡ kind_of_code code }
 {
-    match code.checked_sub(END_BIT)? {
+    match code.checked_sub(endcodes::UNKNOWN)? {
         0 => Some(BodyKind::Bare),
-        opcode => opcode_of(opcode).map(|opcode| opcode.line().body),
+        opcode => opcode_of(opcode).map(|opcode| opcode.row().body),
     }
 }
 

@@ -1,14 +1,15 @@
 // What the codec promises of both directions at once, and what the layouts promise of themselves.
 
 ghost use Rattle.std.specs.Prelude.{◌≡◌};
-ghost use Rattle.mscp_packet.specs.Common.{command_bytes, command_of, CommandBytesAreMessages, IsValidOrder, end_bytes, kind_of_code, reading_with, EndBytesAreMessages, IsOfKind, aborted, already_online, invalid_length, invalid_opcode, invalid_version, success, unit_available, unit_offline, IsSound};
+ghost use Rattle.mscp_packet.specs.Common.{command_bytes, command_of, CommandBytesAreMessages, IsValidOrder, end_bytes, kind_of_code, reading_with, EndBytesAreMessages, IsOfKind, success, already_online, invalid_length, invalid_opcode, invalid_version, invalid_block, aborted, unit_offline, no_volume, unit_available, protected_by_host, protected, different, odd_address, odd_count, missing, parity, unmapped, drive_error, IsSound};
 
 use crate::command::Command;
 use crate::end::End;
 use crate::reading::{EndFault, PacketFault, read_command, read_end};
 use crate::status::{
-    ABORTED, ALREADY_ONLINE, INVALID_LENGTH, INVALID_OPCODE, INVALID_VERSION, SUCCESS,
-    UNIT_AVAILABLE, UNIT_OFFLINE,
+    ABORTED, ALREADY_ONLINE, DIFFERENT, DRIVE_ERROR, INVALID_BLOCK, INVALID_LENGTH, INVALID_OPCODE,
+    INVALID_VERSION, MISSING, NO_VOLUME, ODD_ADDRESS, ODD_COUNT, PARITY, PROTECTED,
+    PROTECTED_BY_HOST, SUCCESS, UNIT_AVAILABLE, UNIT_OFFLINE, UNMAPPED,
 };
 use crate::writing::{write_command, write_end};
 
@@ -58,7 +59,18 @@ pub fn statuses_agree()
     ensures invalid_length { INVALID_LENGTH ≡ invalid_length }
     ensures invalid_opcode { INVALID_OPCODE ≡ invalid_opcode }
     ensures invalid_version { INVALID_VERSION ≡ invalid_version }
+    ensures invalid_block { INVALID_BLOCK ≡ invalid_block }
     ensures aborted { ABORTED ≡ aborted }
     ensures unit_offline { UNIT_OFFLINE ≡ unit_offline }
+    ensures no_volume { NO_VOLUME ≡ no_volume }
     ensures unit_available { UNIT_AVAILABLE ≡ unit_available }
+    ensures protected_by_host { PROTECTED_BY_HOST ≡ protected_by_host }
+    ensures protected { PROTECTED ≡ protected }
+    ensures different { DIFFERENT ≡ different }
+    ensures odd_address { ODD_ADDRESS ≡ odd_address }
+    ensures odd_count { ODD_COUNT ≡ odd_count }
+    ensures missing { MISSING ≡ missing }
+    ensures parity { PARITY ≡ parity }
+    ensures unmapped { UNMAPPED ≡ unmapped }
+    ensures drive_error { DRIVE_ERROR ≡ drive_error }
 {}

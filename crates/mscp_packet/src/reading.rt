@@ -1,7 +1,7 @@
 // Bytes to commands and ends.
 
 ghost use Rattle.std.specs.Prelude.{◌≡◌, ◌↔◌, ◌≤◌, ◌<◌, ◌⊎◌, length, IfOk, slice_index};
-ghost use Rattle.mscp_packet.specs.Common.{least, opcode_of, order_with, parameters, IsCommand, opcode_byte, body_at, end_length, kind_of_code, IsEnd, IsUnder};
+ghost use Rattle.mscp_packet.specs.Common.{least, opcode_of, order_with, parameters, IsCommand, opcode_byte, body_at, end_length, least_end, kind_of_code, IsEnd, IsUnder};
 
 use crate::class::{Opcode, opcode_of};
 use crate::command::{Command, Order};
@@ -47,7 +47,7 @@ fn order_in(b: &[u8]) -> Order
             status: INVALID_OPCODE,
         };
     };
-    if b.len() < opcode.line().least {
+    if b.len() < opcode.row().least {
         return Order::Invalid {
             opcode: byte,
             status: INVALID_LENGTH,
@@ -105,6 +105,16 @@ fn length_of(kind: BodyKind) -> usize
         BodyKind::Controller => 28,
         BodyKind::Online => 44,
         BodyKind::Moved => 32,
+    }
+}
+
+/// The fewest bytes of an end with this endcode (manual, "End Messages").
+pub fn least_end_of(code: u8) -> usize
+    ensures { result ≡ least_end code }
+{
+    match kind_of(code) {
+        Some(kind) => length_of(kind),
+        None => 12,
     }
 }
 

@@ -25,11 +25,7 @@ fn put_parameters(out: &mut ArrayVec<u8, 48>, order: &Order)
             put(out, &[0; 12]);
             put_four(out, *block);
         }
-        Order::UnitStatus
-        | Order::Available
-        | Order::Online
-        | Order::SetUnit
-        | Order::Invalid { .. } => {}
+        _ => {}
     }
 }
 

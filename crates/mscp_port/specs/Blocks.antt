@@ -1,6 +1,7 @@
 -- How the step of a command is taken, and why it isn't (statuses: manual, "Status and Event Codes").
 use Rattle.std.specs.Prelude.{nat_le, ℕ, ◌%◌, ◌==◌, ◌&&◌, ◌||◌, not, Bool, true, false, if◌then◌else◌, slice_get, List, Option, None, Some, Result, Ok, Err}
 use Rattle.std.specs.List.{position}
+use Rattle.mscp_packet.specs.Statuses as statuses
 use Rattle.mscp_packet.specs.declared.command.MoveKind.{MoveKind}
 use Rattle.mscp_packet.specs.declared.command.MoveKind.TheVariants as moves
 use Rattle.mscp_packet.specs.declared.command.Order.{Order}
@@ -57,11 +58,11 @@ faulted status = verdicts.Served (blocks.Bad status)
 abbrev pub refusal_of : MoveKind → ℕ → Buffer → Volume → Option Verdict
 refusal_of kind block b v =
     if not v.is_mounted then Some verdicts.NotOnline
-    else if has_host_bytes kind && b.address % 2 == 1 then Some (faulted 0x0029)
-    else if b.count % 2 == 1 then Some (faulted 0x0049)
-    else if writes kind && v.is_protected_by_host then Some (faulted 0x1006)
-    else if writes kind && v.is_protected then Some (faulted 0x2006)
-    else if nat_le v.size block then Some (faulted 0x000B)
+    else if has_host_bytes kind && b.address % 2 == 1 then Some (faulted statuses.odd_address)
+    else if b.count % 2 == 1 then Some (faulted statuses.odd_count)
+    else if writes kind && v.is_protected_by_host then Some (faulted statuses.protected_by_host)
+    else if writes kind && v.is_protected then Some (faulted statuses.protected)
+    else if nat_le v.size block then Some (faulted statuses.drive_error)
     else None
 
 -- no volume, or another one than when the command came
@@ -71,7 +72,7 @@ has_changed b v = not v.is_there || not (b.changes == v.changes)
 -- how a command goes that waited meanwhile. If its unit has come online with another volume, its host isn't told that
 -- the unit is offline, but of a drive's error
 abbrev pub changed_verdict : Volume → Verdict
-changed_verdict v = if v.is_mounted then faulted 0x000B else verdicts.NoVolume
+changed_verdict v = if v.is_mounted then faulted statuses.drive_error else verdicts.NoVolume
 
 abbrev pub fault_with : MoveKind → ℕ → Buffer → Volume → Option Verdict
 fault_with kind block b v = if has_changed b v then Some (changed_verdict v) else refusal_of kind block b v
@@ -79,7 +80,7 @@ fault_with kind block b v = if has_changed b v then Some (changed_verdict v) els
 -- past the end of the buffer memory isn't there
 abbrev pub unless_fault : Option Verdict → Option (ℕ × ℕ) → Result (ℕ × ℕ) Verdict
 unless_fault (Some verdict) part = Err verdict
-unless_fault None None = Err (faulted 0x0069)
+unless_fault None None = Err (faulted statuses.missing)
 unless_fault None (Some part) = Ok part
 
 -- the part of its command's buffer that a step is about which moves this block so, behind so many others, or how it
@@ -131,14 +132,14 @@ task_of u b v =
 -- how a block was served whose action went so: memory isn't there, has a parity error, isn't mapped; bytes differ
 abbrev pub block_of : Outcome → Block
 block_of outcomes.Done = blocks.Good
-block_of outcomes.Missing = blocks.Bad 0x0069
-block_of outcomes.Parity = blocks.Bad 0x0089
-block_of outcomes.Unmapped = blocks.Bad 0x00A9
-block_of outcomes.Different = blocks.Bad 0x0007
+block_of outcomes.Missing = blocks.Bad statuses.missing
+block_of outcomes.Parity = blocks.Bad statuses.parity
+block_of outcomes.Unmapped = blocks.Bad statuses.unmapped
+block_of outcomes.Different = blocks.Bad statuses.different
 block_of (outcomes.Failed status) = blocks.Bad status
 
 -- what the controller is told, which doesn't know of volumes: a step that had none is a drive's error there
 abbrev pub block_told : Verdict → Block
 block_told (verdicts.Served block) = block
-block_told verdicts.NoVolume = blocks.Bad 0x000B
-block_told verdicts.NotOnline = blocks.Bad 0x000B
+block_told verdicts.NoVolume = blocks.Bad statuses.drive_error
+block_told verdicts.NotOnline = blocks.Bad statuses.drive_error

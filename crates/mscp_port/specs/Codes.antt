@@ -1,5 +1,7 @@
 -- What has no number of its own, as numbers, and what numbers stand for.
 use Rattle.std.specs.Prelude.{◌≡◌, ℕ, ◌%◌, ◌≤◌, ◌<◌, ◌&&◌, Bool, true, nat_eq, nat_le, nat_lt, if◌then◌else◌, Option, Some, None, is_some}
+use Rattle.mscp_packet.specs.StatusCodes as codes
+use Rattle.mscp_packet.specs.Statuses.{code_of}
 use Rattle.mscp_drive.specs.declared.block.Block.{Block}
 use Rattle.mscp_drive.specs.declared.block.Block.TheVariants.{Good, Bad}
 use Rattle.mscp_saved.specs.Saved.{flag_byte}
@@ -105,7 +107,8 @@ abbrev pub verdict_in : ℕ → ℕ → Verdict
 verdict_in byte status =
     if nat_eq byte 2 then verdicts.NoVolume else (
     if nat_eq byte 3 then verdicts.NotOnline else (
-    if nat_eq byte 1 && nat_le 5 (status % 32) then verdicts.Served (Bad status) else verdicts.Served Good))
+    if nat_eq byte 1 && nat_le codes.media_format_error (code_of status) then verdicts.Served (Bad status)
+    else verdicts.Served Good))
 
 abbrev pub coded_task : Task → Coded
 coded_task tasks.Free = nothing
@@ -172,5 +175,5 @@ has_size c =
 abbrev pub IsTask : Task → Type 0
 IsTask (tasks.Clear done) = (done % 64 ≡ 0) × (done < 1032)
 IsTask (tasks.Text slot size foreign) = (12 ≤ size) × (size ≤ 64)
-IsTask (tasks.Step (verdicts.Served (Bad status))) = 5 ≤ status % 32
+IsTask (tasks.Step (verdicts.Served (Bad status))) = codes.media_format_error ≤ code_of status
 IsTask task = Unit {0}

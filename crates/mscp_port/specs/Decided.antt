@@ -9,7 +9,9 @@ use Rattle.mscp_drive.specs.declared.connection.Connection.{Connection}
 use Rattle.mscp_drive.specs.declared.connection.Connection.TheVariants.{First, Second}
 use Rattle.mscp_controller.specs.declared.entry.Sent.{Sent}
 use Rattle.mscp_controller.specs.declared.entry.Sent.TheVariants as sents
+use Rattle.mscp_packet.specs.EndcodeBytes as endcodes
 use Rattle.mscp_packet.specs.Number.{num}
+use Rattle.mscp_packet.specs.Statuses as statuses
 use Rattle.mscp_packet.specs.declared.end.End.{End}
 use Rattle.mscp_port.specs.declared.decided.Decided.{Decided}
 use Rattle.mscp_port.specs.declared.port.Port.{Port}
@@ -31,18 +33,22 @@ unit_flags v =
 
 -- what a GET UNIT STATUS says: Unit-Offline, no volume; Unit-Available; or Success
 abbrev pub unit_state : Volume → ℕ
-unit_state v = if not v.is_there then 0x23 else if not v.is_mounted then 4 else 0
+unit_state v =
+    if not v.is_there then statuses.no_volume else if not v.is_mounted then statuses.unit_available
+    else statuses.success
 
 -- the status that is told of a step of a command which is no formality, and which went so, with the endcode and the
 -- status of its end, while the unit had this volume: a step that had no volume is Unit-Offline, one that its unit
--- wasn't online for is Unit-Available; a GET UNIT STATUS (0x83) says the unit's state, and the Success of an ONLINE
--- (0x89) whether it found its unit online already
+-- wasn't online for is Unit-Available; a GET UNIT STATUS says the unit's state, and the Success of an ONLINE whether it
+-- found its unit online already
 abbrev pub status_after : Verdict → ℕ → ℕ → Volume → ℕ
-status_after verdicts.NoVolume code status v = 0x23
-status_after verdicts.NotOnline code status v = 4
+status_after verdicts.NoVolume code status v = statuses.no_volume
+status_after verdicts.NotOnline code status v = statuses.unit_available
 status_after (verdicts.Served block) code status v =
-    if code == 0x83 && (status == 0 || status == 4) then unit_state v
-    else if code == 0x89 && (status == 0 || status == 0x0100) then (if v.is_mounted then 0x0100 else 0)
+    if code == endcodes.get_unit_status && (status == statuses.success || status == statuses.unit_available) then
+    unit_state v
+    else if code == endcodes.online && (status == statuses.success || status == statuses.already_online) then
+    (if v.is_mounted then statuses.already_online else statuses.success)
     else status
 
 -- of an end that is told with this endcode
@@ -81,7 +87,7 @@ found_decided code status (Some unit) v = unit_decided code status unit v
 -- volume
 abbrev pub end_decided : ℕ → ℕ → End → List Shape → ℕ → Volume → Decided
 end_decided code status e units flags v =
-    if e.code == 0x84 then controller_decided code status flags
+    if e.code == endcodes.set_controller_characteristics then controller_decided code status flags
     else found_decided code status (unit_found units e.unit) v
 
 -- of one that was made as a message came

@@ -1,10 +1,14 @@
 -- What a message says as it leaves for the host: an end as the controller made it, with what was decided of it, and
 -- news of a volume (manual, "End Messages", "Attention Messages").
-use Rattle.std.specs.Prelude.{ℕ, ◌%◌, ◌==◌, ◌||◌, ◌++◌, ◌∷◌, [], Bool, if◌then◌else◌, List, replicate, slice_get, option_map, Option, None, Some}
+use Rattle.std.specs.Prelude.{ℕ, ◌==◌, ◌||◌, ◌++◌, ◌∷◌, [], Bool, if◌then◌else◌, List, replicate, slice_get, option_map, Option, None, Some}
 use Rattle.byteorder.specs.Endian.{little_bytes}
 use Rattle.mscp_drive.specs.Shape.{Shape}
 use Rattle.mscp_drive.specs.UnitList.{unit_found}
+use Rattle.mscp_packet.specs.EndcodeBytes as endcodes
 use Rattle.mscp_packet.specs.Ends.{end_bytes}
+use Rattle.mscp_packet.specs.StatusCodes as codes
+use Rattle.mscp_packet.specs.Statuses as statuses
+use Rattle.mscp_packet.specs.Statuses.{code_of}
 use Rattle.mscp_packet.specs.declared.end.End.{End}
 use Rattle.mscp_packet.specs.declared.end.EndBody.{EndBody}
 use Rattle.mscp_packet.specs.declared.end.EndBody.TheVariants as bodies
@@ -60,7 +64,8 @@ controller_end e told h timeout id =
 
 -- Success, Unit-Offline and Unit-Available tell of the unit
 abbrev pub tells_unit : ℕ → Bool
-tells_unit status = status % 32 == 0 || status % 32 == 3 || status % 32 == 4
+tells_unit status =
+    code_of status == codes.success || code_of status == codes.unit_offline || code_of status == codes.unit_available
 
 -- any other end leaves as the controller made it, but with the status that was decided
 abbrev pub plain_end : End → Decided → List ℕ
@@ -73,7 +78,7 @@ end_with_body (bodies.Online id media size serial) e told (Some unit) h =
 end_with_body (bodies.UnitStatus id media track group cylinder) e told (Some unit) h =
     if tells_unit told.status then unit_status_end e told unit else plain_end e told
 end_with_body (bodies.Controller timeout id) e told unit h =
-    if told.status == 0 then controller_end e told h timeout id else plain_end e told
+    if told.status == statuses.success then controller_end e told h timeout id else plain_end e told
 end_with_body body e told unit h = plain_end e told
 
 -- that of a formality has no more than a head
@@ -92,9 +97,10 @@ told_end p e = end_left e (slice_get p.decided.items 0) (unit_found p.controller
 
 -- ---- news
 
--- the attention message that a volume came into a unit, of which 0x40 is the code: an Available of the unit
+-- the attention message that a volume came into a unit: an Available of the unit
 abbrev pub attention : Shape → Volume → List ℕ
-attention unit v = head 0 unit.number 0x40 0 ++ unit_part unit (unit_flags v) v.media
+attention unit v =
+    head 0 unit.number endcodes.available_attention 0 ++ unit_part unit (unit_flags v) v.media
 
 -- what goes out with news of the volume at a place
 abbrev pub news_at : List Shape → List Volume → ℕ → Option Outgoing

@@ -1,6 +1,8 @@
 -- What is wanted for a block in hand, and what follows once that was done.
-use Rattle.std.specs.Prelude.{◌≡◌, ◌<◌, ◌⊎◌, ℕ, ◌%◌, ◌==◌, true, false, if◌then◌else◌, List, MatchOption, option_map, Result, Option, None, Some, Ok, Err}
+use Rattle.std.specs.Prelude.{◌≡◌, ◌<◌, ◌⊎◌, ℕ, ◌==◌, true, false, if◌then◌else◌, List, MatchOption, option_map, Result, Option, None, Some, Ok, Err}
 use Rattle.mscp_drive.specs.Shape.{Shape}
+use Rattle.mscp_packet.specs.StatusCodes as codes
+use Rattle.mscp_packet.specs.Statuses as statuses
 use Rattle.mscp_packet.specs.declared.command.MoveKind.{MoveKind}
 use Rattle.mscp_packet.specs.declared.end.End.{End}
 use Rattle.mscp_queue.specs.declared.report.Report.{Report}
@@ -35,7 +37,7 @@ use Rattle.mscp_port.specs.Volumes.{MayMove, place_in, volume_at, volume_found, 
 -- it ends with Drive Error where its unit or its buffer isn't known
 abbrev pub known_task : Upcoming → Option ℕ → Option Buffer → List Volume → Task
 known_task u (Some place) (Some b) volumes = task_of u b (volume_at volumes place)
-known_task u place kept volumes = tasks.Step (faulted 0x000B)
+known_task u place kept volumes = tasks.Step (faulted statuses.drive_error)
 
 -- what is done for the step that the controller has begun, if a command waits
 abbrev pub begun_task : List Shape → List Buffer → List Volume → Option Upcoming → Task
@@ -66,7 +68,7 @@ block_begun p = moved_step (begun_step p.controller)
 -- it may not where its unit or its buffer isn't known (Drive Error)
 abbrev pub part_at : Option ℕ → Option Buffer → MoveKind → ℕ → ℕ → List Volume → Result (ℕ × ℕ) Verdict
 part_at (Some place) (Some b) kind block done volumes = part_with kind block done b (volume_at volumes place)
-part_at place kept kind block done volumes = Err (faulted 0x000B)
+part_at place kept kind block done volumes = Err (faulted statuses.drive_error)
 
 -- the part of its command's buffer that a step is about which moves this block so, or how it goes that may not go on:
 -- its volume may have changed since it was begun
@@ -106,7 +108,7 @@ part_served outcome (Err verdict) = verdict
 
 -- of the block that the step moves which is begun
 abbrev pub block_served : {K : Type 0} → Port K → Outcome → Option (Upcoming × MoveKind × ℕ) → Verdict
-block_served p outcome None = faulted 0x000B
+block_served p outcome None = faulted statuses.drive_error
 block_served p outcome (Some m) = part_served outcome (part_now p m.0 m.1 m.2)
 
 -- the end that a step brought, if it brought one
@@ -121,7 +123,7 @@ kept_after via (Some e) buffers = without via e.reference buffers
 
 -- only Success is heeded
 abbrev pub place_heeded : List Shape → End → Option ℕ
-place_heeded units e = if e.status % 32 == 0 then place_in units e.unit else None
+place_heeded units e = if statuses.code_of e.status == codes.success then place_in units e.unit else None
 
 -- and the volumes
 abbrev pub volumes_after : List Shape → List Buffer → Connection → Option End → List Volume → List Volume

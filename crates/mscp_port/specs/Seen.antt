@@ -1,6 +1,7 @@
 -- What follows what was read in host memory (port: UQSSP, "Ring Entries", "Envelope Header").
 use Rattle.std.specs.Prelude.{◌≡◌, ◌≢◌, ◌≤◌, ℕ, ◌/◌, ◌%◌, ◌==◌, ◌&&◌, ◌||◌, not, Bool, true, false, nat_lt, slice_index, if◌then◌else◌, List, length, MatchOption, Result, Option, None, Some, Ok, Err}
 use Rattle.mscp_packet.specs.Number.{num}
+use Rattle.mscp_packet.specs.OpcodeBytes as opcodes
 use Rattle.mscp_drive.specs.declared.connection.Connection.TheVariants.{First}
 use Rattle.mscp_controller.specs.Holdings.{answer_to_message}
 use Rattle.mscp_controller.specs.declared.entry.SendFault.{SendFault}
@@ -88,14 +89,15 @@ heard p = record p { timeout = seconds p; left = seconds p }
 abbrev pub stays : {K : Type 0} → Port K → Port K → Type 0
 stays old new = new ≡ record (heard old) { controller = new.controller; task = tasks.Free; is_stalled = true }
 
--- the host has set its controller's flags, and its own timeout: by a SET CONTROLLER CHARACTERISTICS (opcode 4) that has
--- them, of version 0
+-- the host has set its controller's flags, and its own timeout: by a SET CONTROLLER CHARACTERISTICS that has them, of
+-- version 0
 abbrev pub sets_controller : List ℕ → Bool
-sets_controller b = slice_index b 8 == 4 && not (nat_lt (length b) 18) && num b 12 2 == 0
+sets_controller b =
+    slice_index b 8 == opcodes.set_controller_characteristics && not (nat_lt (length b) 18) && num b 12 2 == 0
 
--- a message is a poll: a GET COMMAND STATUS (opcode 2)
+-- a message is a poll: a GET COMMAND STATUS
 abbrev pub is_poll : List ℕ → Bool
-is_poll b = slice_index b 8 == 2
+is_poll b = slice_index b 8 == opcodes.get_command_status
 
 -- behind a poll comes a block first
 abbrev pub settings_heeded : {K : Type 0} → List ℕ → Port K → Port K

@@ -7,6 +7,7 @@ use Rattle.mscp_port.specs.declared.volumes.Medium.{Medium}
 use Rattle.mscp_port.specs.declared.volumes.Volume.{Volume}
 use Rattle.mscp_port.specs.declared.volumes.VolumeFault.{VolumeFault}
 use Rattle.mscp_port.specs.declared.volumes.VolumeFault.TheVariants as faults
+use Rattle.mscp_packet.specs.EndcodeBytes as endcodes
 use Rattle.mscp_packet.specs.declared.command.MoveKind.{MoveKind}
 use Rattle.mscp_port.specs.Blocks.{writes}
 
@@ -64,14 +65,15 @@ protected_by b v =
 abbrev pub brought_online : Volume → Volume
 brought_online v = record v { is_mounted = true; is_news = false }
 
--- by its endcode: AVAILABLE (0x88) takes the unit offline, ONLINE (0x89) brings it online, and sets the host's
--- protection, as SET UNIT CHARACTERISTICS (0x8A) does
+-- by its endcode: AVAILABLE takes the unit offline, ONLINE brings it online, and sets the host's protection, as SET
+-- UNIT CHARACTERISTICS does
 abbrev pub volume_heeded : ℕ → Option Buffer → Volume → Volume
-volume_heeded code None v = if code == 0x88 then record v { is_mounted = false; is_protected_by_host = false } else v
+volume_heeded code None v =
+    if code == endcodes.available then record v { is_mounted = false; is_protected_by_host = false } else v
 volume_heeded code (Some b) v =
-    if code == 0x88 then record v { is_mounted = false; is_protected_by_host = false }
-    else if code == 0x89 then protected_by b (brought_online v)
-    else if code == 0x8A then protected_by b v
+    if code == endcodes.available then record v { is_mounted = false; is_protected_by_host = false }
+    else if code == endcodes.online then protected_by b (brought_online v)
+    else if code == endcodes.set_unit_characteristics then protected_by b v
     else v
 
 -- ---- the volumes of all units

@@ -9,11 +9,9 @@ use crate::verdict::Verdict;
 use crate::volumes::Volume;
 use mscp_drive::{Unit, Units};
 use mscp_packet::End;
+use mscp_packet::endcodes::{GET_UNIT_STATUS, ONLINE, SET_CONTROLLER_CHARACTERISTICS};
 use mscp_packet::fields::{four_at, two_at};
-use mscp_packet::status::{ALREADY_ONLINE, SUCCESS, UNIT_AVAILABLE};
-
-/// Unit-Offline: no volume is in the unit, or its switch is off.
-const NO_VOLUME: u16 = 0x0023;
+use mscp_packet::status::{ALREADY_ONLINE, NO_VOLUME, SUCCESS, UNIT_AVAILABLE};
 
 /// The controller replaces bad blocks itself.
 const REPLACES: u16 = 0x8000;
@@ -49,11 +47,11 @@ pub(crate) fn status_told(verdict: Verdict, code: u8, status: u16, volume: &Volu
     match (verdict, code, status) {
         (Verdict::NoVolume, ..) => NO_VOLUME,
         (Verdict::NotOnline, ..) => UNIT_AVAILABLE,
-        (_, 0x83, SUCCESS | UNIT_AVAILABLE) if !volume.is_there => NO_VOLUME,
-        (_, 0x83, SUCCESS | UNIT_AVAILABLE) if !volume.is_mounted => UNIT_AVAILABLE,
-        (_, 0x83, SUCCESS | UNIT_AVAILABLE) => SUCCESS,
-        (_, 0x89, SUCCESS | ALREADY_ONLINE) if !volume.is_mounted => SUCCESS,
-        (_, 0x89, SUCCESS | ALREADY_ONLINE) => ALREADY_ONLINE,
+        (_, GET_UNIT_STATUS, SUCCESS | UNIT_AVAILABLE) if !volume.is_there => NO_VOLUME,
+        (_, GET_UNIT_STATUS, SUCCESS | UNIT_AVAILABLE) if !volume.is_mounted => UNIT_AVAILABLE,
+        (_, GET_UNIT_STATUS, SUCCESS | UNIT_AVAILABLE) => SUCCESS,
+        (_, ONLINE, SUCCESS | ALREADY_ONLINE) if !volume.is_mounted => SUCCESS,
+        (_, ONLINE, SUCCESS | ALREADY_ONLINE) => ALREADY_ONLINE,
         _ => status,
     }
 }
@@ -117,7 +115,7 @@ impl Decided {
         ensures { result ≡ end_decided code status end.now units.now flags volume.now }
     {
         match (end.code, units.find(end.unit)) {
-            (0x84, _) => Decided::of_controller(code, status, flags),
+            (SET_CONTROLLER_CHARACTERISTICS, _) => Decided::of_controller(code, status, flags),
             (_, Some(unit)) => Decided::of_unit(code, status, unit, volume),
             (_, None) => Decided {
                 code,

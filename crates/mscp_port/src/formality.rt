@@ -10,20 +10,22 @@ ghost use Rattle.mscp_port.specs.Formalities.{code_told, ends_formality, formal_
 
 use crate::buffers::Buffer;
 use mscp_packet::status::{ABORTED, SUCCESS};
-use mscp_packet::{Command, MoveKind, Order};
+use mscp_packet::{Answerer, Command, MoveKind, Order, answerer_of, endcodes};
 
-/// Whether it is the opcode of DETERMINE ACCESS PATHS, COMPARE CONTROLLER DATA, or FLUSH.
+/// Whether the table says that the port answers commands of an opcode: of DETERMINE ACCESS PATHS, COMPARE CONTROLLER
+/// DATA and FLUSH.
+#[tactic(auto, unfolding(mscp_packet::specs::Opcodes::port_answers))]
 pub(crate) fn is_formality(opcode: u8) -> bool
     ensures { result ≡ is_formality opcode }
 {
-    matches!(opcode, 11 | 17 | 19)
+    matches!(answerer_of(opcode), Answerer::Port)
 }
 
 /// Whether it is the endcode of one of them.
 pub(crate) fn ends_formality(code: u8) -> bool
     ensures { result ≡ ends_formality code }
 {
-    matches!(code, 0x8B | 0x91 | 0x93)
+    code >= endcodes::UNKNOWN && is_formality(code - endcodes::UNKNOWN)
 }
 
 /// What the controller gets in its place: an ACCESS of no bytes, of the same number and unit.
@@ -37,11 +39,12 @@ pub(crate) fn stand_in(command: Command) -> Command
 }
 
 /// The endcode that is told of an end with this code: that of the command that was read, of which this is kept.
+#[tactic(auto, unfolding(mscp_packet::specs::Opcodes::port_answers))]
 pub(crate) fn code_told(kept: Option<Buffer>, code: u8) -> u8
     ensures { result ≡ code_told kept code }
 {
     match kept {
-        Some(buffer) if is_formality(buffer.opcode) => buffer.opcode + 0x80,
+        Some(buffer) if is_formality(buffer.opcode) => buffer.opcode + endcodes::UNKNOWN,
         _ => code,
     }
 }

@@ -12,10 +12,8 @@ use crate::volumes::Volume;
 use arrayvec::ArrayVec;
 use mscp_drive::Unit;
 use mscp_packet::fields::{put, put_eight, put_four, put_two};
-use mscp_packet::{End, EndBody, write_end};
-
-/// The code of an attention message that says that a unit came.
-const UNIT_CAME: u8 = 0x40;
+use mscp_packet::status::{SUCCESS, code_of};
+use mscp_packet::{End, EndBody, codes, endcodes, write_end};
 
 /// The first 12 bytes of a message: reference number, unit, code and status.
 fn head(reference: u32, unit: u16, code: u8, status: u16) -> ArrayVec<u8, 48>
@@ -104,7 +102,10 @@ fn controller_end(
 fn tells_unit(status: u16) -> bool
     ensures { result ≡ has_unit status }
 {
-    matches!(status % 32, 0 | 3 | 4)
+    matches!(
+        code_of(status),
+        codes::SUCCESS | codes::UNIT_OFFLINE | codes::UNIT_AVAILABLE
+    )
 }
 
 /// The bytes with which an end leaves to whose unit, if there is such a unit, and of which this was decided.
@@ -126,7 +127,7 @@ pub(crate) fn end_told(
         (EndBody::UnitStatus { .. }, Some(unit)) if tells_unit(told.status) => {
             unit_status_end(end, told, unit)
         }
-        (EndBody::Controller { timeout, id }, _) if told.status == 0 => {
+        (EndBody::Controller { timeout, id }, _) if told.status == SUCCESS => {
             controller_end(end, told, hardware, timeout, id)
         }
         _ => write_end(&End {
@@ -140,7 +141,7 @@ pub(crate) fn end_told(
 pub(crate) fn attention(unit: &Unit, volume: &Volume) -> ArrayVec<u8, 48>
     ensures { result.items ≡ attention_of unit.now volume.now }
 {
-    let mut bytes = head(0, unit.number(), UNIT_CAME, 0);
+    let mut bytes = head(0, unit.number(), endcodes::AVAILABLE_ATTENTION, 0);
     put_unit(&mut bytes, unit, unit_flags(volume), volume.media);
     bytes
 }

@@ -10,43 +10,38 @@ use crate::volumes::Volume;
 use mscp_drive::{INVALID_BLOCK, INVALID_BYTE_COUNT, Unit, Units};
 use mscp_packet::fields::{four_at, two_at};
 use mscp_packet::status::{INVALID_OPCODE, SUCCESS};
-use mscp_packet::{Command, End, EndBody, read_command};
+use mscp_packet::{Class, Command, End, EndBody, class_of, endcodes, opcodes, read_command};
 
 /// The bytes of a block.
 const BLOCK_BYTES: u32 = 512;
-
-/// The opcodes of commands that the port looks into.
-pub(crate) const GET_COMMAND_STATUS: u8 = 2;
-
-pub(crate) const GET_UNIT_STATUS: u8 = 3;
-
-pub(crate) const SET_CONTROLLER: u8 = 4;
 
 /// The modifier of GET UNIT STATUS that asks for the next unit.
 const NEXT_UNIT: u16 = 0x0001;
 
 /// The end of a message to a unit with this volume that the port answers itself, if it does: one for a connection that
 /// isn't there, a formality of a unit that isn't there, or a transfer past the end of the volume.
+#[tactic(auto, unfolding(mscp_packet::specs::Opcodes::port_answers))]
 pub(crate) fn own_end(message: &[u8], is_foreign: bool, volume: Option<Volume>) -> Option<End>
     requires { 12 ≤ length message.now }
     ensures { result ≡ end_of_own is_foreign volume message.now }
 {
     if is_foreign {
-        return Some(bare_end(message, 0x80, INVALID_OPCODE));
+        return Some(bare_end(message, endcodes::UNKNOWN, INVALID_OPCODE));
     }
     if volume.is_none() && is_formality(message[8]) {
-        return Some(bare_end(message, message[8] + 0x80, SUCCESS));
+        return Some(bare_end(message, message[8] + endcodes::UNKNOWN, SUCCESS));
     }
     Some(refused_end(message, refusal(message, volume)?))
 }
 
 /// Whether it is a transfer that has all its fields: ACCESS, ERASE, COMPARE HOST DATA, READ or WRITE.
+#[tactic(auto, unfolding(mscp_packet::specs::Opcodes::is_transfer_opcode))]
 fn is_transfer(message: &[u8]) -> bool
     requires { 12 ≤ length message.now }
     ensures value { result ≡ is_transfer message.now }
     ensures long { result ≡ true → 32 ≤ length message.now }
 {
-    matches!(message[8], 16 | 18 | 32 | 33 | 34) && message.len() >= 32
+    matches!(class_of(message[8]), Class::Free) && message.len() >= 32
 }
 
 /// Why a transfer isn't made whose blocks aren't on this volume, which may have fewer than its unit.
@@ -76,13 +71,14 @@ fn past_volume(size: u32, block: u32, bytes: u32) -> Option<u16>
 }
 
 /// The end of a transfer that is refused with this status.
+#[tactic(auto, unfolding(mscp_packet::specs::Opcodes::is_transfer_opcode))]
 fn refused_end(message: &[u8], status: u16) -> End
     requires { is_transfer message.now ≡ true }
     ensures { result ≡ refused_end message.now status }
 {
     End {
         body: EndBody::Moved(0),
-        ..bare_end(message, message[8] + 0x80, status)
+        ..bare_end(message, message[8] + endcodes::UNKNOWN, status)
     }
 }
 
@@ -140,7 +136,7 @@ pub(crate) fn command_for_controller(message: &[u8], units: &Units) -> Command
     if is_formality(message[8]) {
         return stand_in(command);
     }
-    if message[8] != GET_UNIT_STATUS || two_at(message, 10) % 2 != NEXT_UNIT {
+    if message[8] != opcodes::GET_UNIT_STATUS || two_at(message, 10) % 2 != NEXT_UNIT {
         return command;
     }
     Command {

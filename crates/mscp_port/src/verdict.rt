@@ -1,33 +1,13 @@
 // How a step of a command goes, as the end of its command tells it.
 
-ghost use Rattle.std.specs.Prelude.{◌≡◌, ◌≤◌, ◌%◌};
+ghost use Rattle.std.specs.Prelude.{◌≡◌, ◌≤◌};
+ghost use Rattle.mscp_packet.specs.StatusCodes as codes;
+ghost use Rattle.mscp_packet.specs.Statuses.{code_of};
 ghost use Rattle.mscp_port.specs.Blocks.{block_of as block_after, block_told};
 
 use crate::action::Outcome;
+use mscp_packet::status;
 use mscp_queue::{Block, FaultStatus};
-
-/// Host Buffer Access Error: an odd address, an odd count, memory that isn't there, a parity error, an address that
-/// isn't mapped.
-pub(crate) const ODD_ADDRESS: u16 = 0x0029;
-
-pub(crate) const ODD_COUNT: u16 = 0x0049;
-
-pub(crate) const MISSING: u16 = 0x0069;
-
-const PARITY: u16 = 0x0089;
-
-const UNMAPPED: u16 = 0x00A9;
-
-/// Compare Error.
-const DIFFERENT: u16 = 0x0007;
-
-/// Write Protected, by the host and by the hardware.
-pub(crate) const PROTECTED_BY_HOST: u16 = 0x1006;
-
-pub(crate) const PROTECTED: u16 = 0x2006;
-
-/// Drive Error.
-pub(crate) const DRIVE_ERROR: u16 = 0x000B;
 
 /// How a step went. The port alone knows of volumes, so a status that a drive hands in never stands for one of theirs.
 #[derive(Clone, Copy)]
@@ -42,7 +22,7 @@ pub(crate) enum Verdict {
 
 /// A block that ends its command with this status.
 fn bad(status: u16) -> Block
-    requires { 5 ≤ status % 32 }
+    requires { codes.media_format_error ≤ code_of status }
     ensures { result ≡ Block.Bad status }
 {
     match FaultStatus::new(status) {
@@ -57,10 +37,10 @@ pub(crate) fn block_of(outcome: Outcome) -> Block
 {
     match outcome {
         Outcome::Done => Block::Good,
-        Outcome::Missing => bad(MISSING),
-        Outcome::Parity => bad(PARITY),
-        Outcome::Unmapped => bad(UNMAPPED),
-        Outcome::Different => bad(DIFFERENT),
+        Outcome::Missing => bad(status::MISSING),
+        Outcome::Parity => bad(status::PARITY),
+        Outcome::Unmapped => bad(status::UNMAPPED),
+        Outcome::Different => bad(status::DIFFERENT),
         Outcome::Failed(status) => Block::Bad(status),
     }
 }
@@ -68,7 +48,7 @@ pub(crate) fn block_of(outcome: Outcome) -> Block
 impl Verdict {
     /// The step ends its command with this status.
     pub fn fault(status: u16) -> Verdict
-        requires { 5 ≤ status % 32 }
+        requires { codes.media_format_error ≤ code_of status }
         ensures { result ≡ Verdict.Served (Block.Bad status) }
     {
         Verdict::Served(bad(status))
@@ -80,7 +60,7 @@ impl Verdict {
     {
         match self {
             Verdict::Served(block) => block,
-            Verdict::NoVolume | Verdict::NotOnline => bad(DRIVE_ERROR),
+            Verdict::NoVolume | Verdict::NotOnline => bad(status::DRIVE_ERROR),
         }
     }
 }

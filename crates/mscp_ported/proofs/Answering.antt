@@ -1,5 +1,5 @@
 -- What a port answers itself.
-use Rattle.mscp_ported.proofs.Common.{Answered, AsksAlways, Bool, Call, Command, Commands, Descriptor, End, First, Hardware, Holdings, IsHandedOver, IsMadeOf, IsOwnAnswer, IsSomeAnd, List, None, Ok, Opened, Option, Outgoing, Own, Picking, Port, Shape, Slot, Some, Task, Volume, WasRead, [], after_message, answer_to_message, ap, append-nil, arith, asks_nothing, bare_end, come, command_of, cond, end_bytes, end_kind, false, handed, inl, inr, is_for_utilities, is_none, length, nat_le, nat_lt, none-some, num, of, option_map, own_answer, own_end, own_end_of, own_refusal, own_text, poll_brings, polls_bring, refl, refused_end, same_Some, slice_index, subst, sym, talk_of, text_handed, true, volume_named, volume_refusal, ℕ, ◌++◌, ◌+◌, ◌∙◌, ◌∷◌, ◌≡◌, ◌≤◌}
+use Rattle.mscp_ported.proofs.Common.{Answered, AsksAlways, Bool, Call, Command, Commands, Descriptor, End, First, Hardware, Holdings, IsHandedOver, IsMadeOf, IsOwnAnswer, IsSomeAnd, List, None, Ok, Opened, Option, Outgoing, Own, Picking, Port, Shape, Slot, Some, Task, Volume, WasRead, [], after_message, answer_to_message, ap, append-nil, arith, asks_nothing, bare_end, come, command_of, cond, end_bytes, end_kind, false, handed, inl, inr, is_for_utilities, is_none, length, nat_le, nat_lt, none-some, num, of, option_map, own_answer, own_end, own_end_of, own_refusal, own_text, poll_brings, polls_bring, refl, refused_end, same_Some, slice_index, subst, sym, talk_of, text_handed, true, volume_named, volume_refusal, ℕ, ◌++◌, ◌+◌, ◌∙◌, ◌∷◌, ◌≡◌, ◌≤◌, port_answers, is_transfer_opcode}
 use Rattle.std.proofs.Common.{find}
 use Rattle.std.specs.Prelude.{◌&&◌}
 use Rattle.mscp_packet.specs.declared.command.Order.TheVariants as orders
@@ -127,9 +127,11 @@ module _ {K : Type 0} (picks : Picking K) (hardware : Hardware) (credits : ℕ) 
 -- ---- polls
 
 poll_own : (v : Option Volume) (b : List ℕ) → slice_index b 8 ≡ 2 → own_answer false v b ≡ None
+unfolding port_answers is_transfer_opcode
 poll_own v b e = grind arith
 
 poll_handed : (units : List Shape) (b : List ℕ) → slice_index b 8 ≡ 2 → text_handed units b ≡ b
+unfolding port_answers
 poll_handed units b e = grind (arith, e)
 
 -- the command that a poll is

@@ -1,5 +1,5 @@
 -- What there is of each reference number after each call of a port.
-use Rattle.mscp_ported.proofs.Common.{AllByRecursion, Bool, Call, Command, Dies, End, First, Holdings, List, None, Opcode, Option, Order, Port, Record, Settings, Shape, [], aborted_record, ap, append-nil, arith, balance_of, bytes_in, command_of, cond, ends_said_by, eq-eqb, eqb-true, false, false≢true, filter, found_is, fresh_record, handed, has_number, holds, is_dead, is_same, length, list_any, list_any-append, nat_eq, nat_lt, num, numbers_ended, opcode_of, option_map, option_to_list, or_parts, order_with, outstanding_of, own_end_with, record_aborted, refl, refusal, same_is, since, slice_index, stand_in, subst, sym, taken_by, true, unaborted, without_ends, ℕ, ◌++◌, ◌<◌, ◌^◌, ◌∙◌, ◌∷◌, ◌≡◌, ◌≤◌}
+use Rattle.mscp_ported.proofs.Common.{AllByRecursion, Bool, Call, Command, Dies, End, First, Holdings, List, None, Opcode, Option, Order, Port, Record, Settings, Shape, [], aborted_record, ap, append-nil, arith, balance_of, bytes_in, command_of, cond, ends_said_by, eq-eqb, eqb-true, false, false≢true, filter, found_is, fresh_record, handed, has_number, holds, is_dead, is_same, length, list_any, list_any-append, nat_eq, nat_lt, num, numbers_ended, opcode_of, option_map, option_to_list, or_parts, order_with, outstanding_of, own_end_with, record_aborted, refl, refusal, same_is, since, slice_index, stand_in, subst, sym, taken_by, true, unaborted, without_ends, ℕ, ◌++◌, ◌<◌, ◌^◌, ◌∙◌, ◌∷◌, ◌≡◌, ◌≤◌, is_transfer_opcode}
 use Rattle.mscp_ported.proofs.Come.{none_waits, taken_number}
 use Rattle.mscp_ported.proofs.Kept.{is_numbered}
 use Rattle.mscp_packet.specs.declared.command.Order.TheVariants as orders
@@ -29,6 +29,7 @@ nothing_kept p none no_end = grind (arith, is_numbered, ends_numbered)
 
 pub order_few : (o : Option Opcode) (b : List ℕ) → opcode_of (slice_index b 8) ≡ o
     → asked_by (order_with o b) ≤ bytes_in b
+unfolding is_transfer_opcode
 order_few o b e = grind (arith, eqb-true, found_is, nat_eq, nat_lt, asked_by)
 
 command_few : (b : List ℕ) → asked_by (command_of b).order ≤ bytes_in b

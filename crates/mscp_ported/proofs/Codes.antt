@@ -71,13 +71,10 @@ commanded unit reference order = record { reference = reference; unit = unit; or
 
 -- so are the ends of all orders but an ABORT, a poll, and those of unknown opcodes
 abbrev IsTold : Order → Type 0
-IsTold (orders.SetController version) = Unit {0}
-IsTold orders.Available = Unit {0}
-IsTold orders.Online = Unit {0}
-IsTold orders.SetUnit = Unit {0}
-IsTold orders.UnitStatus = Unit {0}
-IsTold (orders.Move kind count block) = Unit {0}
-IsTold order = ⊥
+IsTold (orders.Abort other) = ⊥
+IsTold (orders.Status other) = ⊥
+IsTold (orders.Invalid byte why) = ⊥
+IsTold order = Unit {0}
 
 order_untold : (c : Settings) (online : Bool) (figure unit reference : ℕ) (order : Order) → IsTold order
     → Untold c online figure (commanded unit reference order)

@@ -69,10 +69,12 @@ pub use Rattle.mscp_port.specs.Decided.{answer_of, end_decided, status_told}
 pub use Rattle.mscp_ported.specs.Departures.{IsDelivered, IsForgotten, IsWritten, Told, begins, begun, disk_credits, gone, leaves}
 pub use Rattle.mscp_ported.specs.Fair.{HearsPoll, TellsStep}
 pub use Rattle.mscp_port.specs.Formalities.{code_told, ends_formality, is_formality, stand_in}
+unfoldable pub use Rattle.mscp_packet.specs.Opcodes.{port_answers}
 pub use Rattle.mscp_port.specs.Histories.{Answered, Becomes, Call, LookAgain, Next, Picking, Protect, PutAside, ReadIp, Tick, VolumeCame, VolumeWent, WasRead, Went, WriteIp, WriteSa}
 pub use Rattle.mscp_ported.specs.Kept.{IsSaidBy, WasSaid}
 pub use Rattle.mscp_port.specs.Leaving.{attention, end_left, end_told, end_with_body, head, told_end}
 pub use Rattle.mscp_port.specs.Messages.{asks_for_next, bare_end, handed, next_named, own_end, own_end_of, refused_end, volume_refusal}
+unfoldable pub use Rattle.mscp_packet.specs.Opcodes.{is_transfer_opcode}
 pub use Rattle.mscp_port.specs.Moved.{BeginsBlock, GoesOnWithBlock, HeedsStep, IsStepping, Moves, TakesBegun, TakesBlock, begun_task, block_begun, block_served, decided_ended, end_brought, kept_after, known_task, move_wanted, moved_step, part_at, part_now, part_served, part_wanted, place_heeded, volumes_after}
 pub use Rattle.mscp_port.specs.Outgoings.{AnswersItself, IsNews, IsNews as TellsOf, LooksForOut, MayBegin, Says, TakesEnd, TellsNews, news_place}
 pub use Rattle.mscp_port.specs.Packets.{connection_of, credits_by, credits_with, end_kind, packet_of}

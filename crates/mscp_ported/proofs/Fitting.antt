@@ -1,5 +1,5 @@
 -- Each end that waits fits the message whose end it is.
-use Rattle.mscp_ported.proofs.Common.{AllByRecursion, Block, Bool, Buffer, Decided, Drive, End, First, IsCodeFor, Leaving, List, None, Order, Port, Record, Settings, Shape, Some, Verdict, Volume, [], aborted_record, ap, arith, code_told, cond, end_decided, end_given, endcode, ends_formality, eq-eqb, eqb-true, false, filter, find, find_cases, find_first, find_none, has_number, inl, inr, is_formality, is_of, kept_at, kept_of, length, moved_body, nat_eq, not, num, outcome_body, position_first, position_none, refl, refused_body, slice_get, status_told, subst, sym, true, volume_found, ℕ, ◌++◌, ◌+◌, ◌<◌, ◌^◌, ◌∙◌, ◌∷◌, ◌≡◌, ◌≤◌}
+use Rattle.mscp_ported.proofs.Common.{AllByRecursion, Block, Bool, Buffer, Decided, Drive, End, First, IsCodeFor, Leaving, List, None, Order, Port, Record, Settings, Shape, Some, Verdict, Volume, [], aborted_record, ap, arith, code_told, cond, end_decided, end_given, endcode, ends_formality, eq-eqb, eqb-true, false, filter, find, find_cases, find_first, find_none, has_number, inl, inr, is_formality, is_of, kept_at, kept_of, length, moved_body, nat_eq, not, num, outcome_body, position_first, position_none, refl, refused_body, slice_get, status_told, subst, sym, true, volume_found, ℕ, ◌++◌, ◌+◌, ◌<◌, ◌^◌, ◌∙◌, ◌∷◌, ◌≡◌, ◌≤◌, port_answers}
 use Rattle.std.specs.Prelude.{position}
 use Rattle.mscp_packet.specs.declared.command.Order.TheVariants as orders
 use Rattle.mscp_packet.specs.declared.end.EndBody.TheVariants as bodies
@@ -72,6 +72,7 @@ step_told verdict old new e =
 -- the Success of an ABORT or a poll is told as such
 pub success_told : (code : ℕ) (v : Volume) → IsAboutCode code
     → status_told (verdicts.Served blocks.Good) code 0 v ≡ 0
+unfolding port_answers
 success_told code v (inl e) = ap (λ n. status_told (verdicts.Served blocks.Good) n 0 v) e
 success_told code v (inr e) = ap (λ n. status_told (verdicts.Served blocks.Good) n 0 v) e
 

@@ -1,6 +1,8 @@
 -- An answer of the port's own has the number of its message, and is whole.
-use Rattle.mscp_ported.proofs.Common.{BodyKind, Bool, Call, IsWhole, List, Option, Own, Some, Stage, Volume, WriteIp, [], and_parts, ap, arith, asks_nothing, cond, end_length, eqb-true, false, four, is_dead, kind_of_code, length, moves_data, none-some, num, own_answer, own_text, refl, same_Some, since, slice_index, true, ℕ, ◌++◌, ◌+◌, ◌<◌, ◌==◌, ◌^◌, ◌||◌, ◌≡◌, ◌≢◌, ◌≤◌, ◌⊎◌}
+use Rattle.mscp_ported.proofs.Common.{BodyKind, Call, IsWhole, List, Option, Own, Some, Stage, Volume, WriteIp, [], and_parts, ap, arith, asks_nothing, cond, end_length, false, four, is_dead, kind_of_code, length, moves_data, none-some, num, own_answer, own_text, refl, same_Some, since, slice_index, true, ℕ, ◌++◌, ◌+◌, ◌<◌, ◌^◌, ◌≡◌, ◌≢◌, ◌≤◌, ◌⊎◌, port_answers, is_transfer_opcode}
 use Rattle.std.specs.Prelude.{nat_le}
+use Rattle.mscp_packet.specs.declared.end.BodyKind.TheVariants.{Moved}
+use Rattle.mscp_ported.proofs.Rows.{formal_opcode, move_opcode}
 
 pub own_number : (b : List ℕ) (own : Own) → num b 0 4 < 2 ^ 32 → num (own_text b own) 0 4 ≡ num b 0 4
 own_number b own small = four (num b 0 4) small
@@ -9,18 +11,19 @@ pub own_bytes : (b : List ℕ) (own : Own) → num (own_text b own) 12 4 ≡ 0
 own_bytes b own = grind arith
 
 -- what the port answers is whole
-abbrev pub moves_opcode : ℕ → Bool
-moves_opcode n = n == 16 || n == 18 || n == 32 || n == 33 || n == 34
-
 formal_none : (opcode : ℕ) (k : BodyKind) → asks_nothing opcode ≡ true → kind_of_code (opcode + 0x80) ≡ Some k → ⊥
-formal_none opcode k e h = grind (arith, none-some, eqb-true)
+formal_none opcode k =
+    formal_opcode (λ n. kind_of_code (n + 0x80) ≡ Some k → ⊥) (none-some k) (none-some k) (none-some k) opcode
 
 high : (n : ℕ) → 0x80 ≤ n + 0x80
 high n = omega arith
 
-low_body : (k : BodyKind) (opcode : ℕ) → moves_opcode opcode ≡ true → kind_of_code (opcode + 0x80) ≡ Some k
+low_body : (k : BodyKind) (opcode : ℕ) → is_transfer_opcode opcode ≡ true → kind_of_code (opcode + 0x80) ≡ Some k
     → end_length k ≤ 32
-low_body k opcode e h = grind (arith, e, h)
+low_body k = move_opcode (λ n. kind_of_code (n + 0x80) ≡ Some k → end_length k ≤ 32) moved moved moved moved moved
+  where
+    moved : Some Moved ≡ Some k → end_length k ≤ 32
+    moved is = grind (arith, is)
 
 -- of the past of a volume
 abbrev pub IsPast : ℕ → Type 0
@@ -52,12 +55,13 @@ own_whole v b = own_cases v b (λ own. IsWhole (own_text b own)) (λ asks. recor
   short = omega arith;
   top = high (slice_index b 8);
   body = λ k is. low_body k (slice_index b 8)
-      (and_parts (moves_opcode (slice_index b 8)) (nat_le 32 (length b)) moves).0 is;
+      (and_parts (is_transfer_opcode (slice_index b 8)) (nat_le 32 (length b)) moves).0 is;
 })
 
 -- what the port answers has the code of the message's opcode, and answers neither a poll nor an ABORT
 pub own_coded : (v : Option Volume) (b : List ℕ) (own : Own) → own_answer false v b ≡ Some own
     → (own.code ≡ slice_index b 8 + 0x80) × (own.code ≢ 0x82) × (own.code ≢ 0x81)
+unfolding port_answers is_transfer_opcode
 own_coded v b = grind (arith, own_cases)
 
 -- ---- a call

@@ -50,6 +50,7 @@ pub mod Tallying
 pub mod Standing
 pub mod Aborted
 pub mod Handed
+pub mod Rows
 pub mod Numbered
 pub mod Counted
 pub mod Numbering

@@ -1,5 +1,5 @@
 -- The bytes with which an end leaves say what it says.
-use Rattle.mscp_ported.proofs.Common.{BodyKind, Bool, Decided, End, EndBody, IsOfKind, List, Option, Port, Record, Settings, Shape, Some, Verdict, ap, arith, cond, end_bytes, end_left, end_with_body, ends_formality, eq-eqb, eqb-true, false, figure_in, four, head, inl, inr, kind_of_body, kind_of_code, length, nat_eq, num, refl, slice_get, slice_index, sym, told_end, true, unit_found, ℕ, ◌∙◌, ◌≡◌, ◌≤◌, ◌⊎◌, subst}
+use Rattle.mscp_ported.proofs.Common.{BodyKind, Bool, Decided, End, EndBody, IsOfKind, List, Option, Port, Record, Settings, Shape, Some, Verdict, ap, arith, cond, end_bytes, end_left, end_with_body, ends_formality, eq-eqb, eqb-true, false, figure_in, four, head, inl, inr, kind_of_body, kind_of_code, length, nat_eq, num, refl, slice_get, slice_index, sym, told_end, true, unit_found, ℕ, ◌∙◌, ◌≡◌, ◌≤◌, ◌⊎◌, subst, port_answers}
 use Rattle.mscp_packet.specs.declared.end.BodyKind.TheVariants as kinds_of
 use Rattle.mscp_packet.specs.declared.end.EndBody.TheVariants as bodies
 use Rattle.mscp_port.proofs.Common.{same_Some}
@@ -13,6 +13,7 @@ pub told_code : {K : Type 0} (p : Port K) (e : End) (d : Decided) → slice_get 
 told_code p e d some = grind (arith, told_with, code_of)
 
 not_formal : (code : ℕ) → ends_formality code ≡ true → IsAboutCode code → ⊥
+unfolding port_answers
 not_formal code formal (inl x) = search (arith, sym formal ∙ ap ends_formality x)
 not_formal code formal (inr x) = search (arith, sym formal ∙ ap ends_formality x)
 
@@ -63,6 +64,7 @@ pub told_figure : {c : Settings} {Told : Verdict → Record → Type 0} {K : Typ
     → slice_get p.decided.items 0 ≡ Some d
     → (t : List ℕ) → IsOfKind e → FitsEnd c Told (left_with e d) t
     → cond (nat_eq (slice_index (told_end p e) 8) 0x82) (num (told_end p e) 16 4) 0 ≡ figure_in e.body
+unfolding port_answers
 told_figure p e d some t shaped fits = by e.body refl
   where
     unit : Option Shape

@@ -2,6 +2,7 @@
 use Rattle.mscp_ported.proofs.Common.{AllByRecursion, BodyKind, Decided, End, EndBody, Hardware, IsOfKind, IsWhole, List, Moved, Option, Port, Shape, Some, arith, end_bytes, end_length, end_with_body, endcodes, ends_formality, false, four, head, kind_of_body, kind_of_code, length, nat_eq, none-some, num, refl, same_Some, slice_get, slice_index, subst, sym, told_end, true, unit_found, ℕ, ◌%◌, ◌*◌, ◌+◌, ◌/◌, ◌<◌, ◌^◌, ◌∙◌, ◌≡◌, ◌≤◌, eqb-true}
 use Rattle.mscp_ported.proofs.Said.{none_or_some}
 use Rattle.mscp_ported.proofs.Numbered.{counted_in}
+use Rattle.mscp_ported.proofs.Rows.{formal_none}
 
 -- ---- the text of an end
 
@@ -33,9 +34,6 @@ few_bytes : (x n : ℕ) → x ≤ n
     → 0 + x % 256 * 1 + x / 256 % 256 * 256 + x / 65536 % 256 * 65536 + x / 16777216 % 256 * 16777216 ≤ n
 few_bytes x n h = omega (arith, h)
 
-formal_kind : (code : ℕ) → ends_formality code ≡ true → kind_of_code code ≡ Some Moved → ⊥
-formal_kind code e h = grind (arith, none-some, e, h)
-
 body_counts : (body : EndBody) (e : End) (d : Decided) (o : Option Shape) (h : Hardware) (n : ℕ)
     → kind_of_code e.code ≡ Some (kind_of_body body) → e.body ≡ body → counted_in body ≤ n
     → kind_of_code e.code ≡ Some Moved → num (end_with_body body e d o h) 12 4 ≤ n
@@ -47,7 +45,10 @@ code_of body e d o h = grind arith
 
 pub told_counts : {K : Type 0} (p : Port K) (e : End) (n : ℕ) → IsOfKind e → counted_in e.body ≤ n
     → kind_of_code (slice_index (told_end p e) 8) ≡ Some Moved → num (told_end p e) 12 4 ≤ n
-told_counts p e n shaped few = grind (arith, told_cases, formal_kind, body_counts, code_of, counted_in, few_bytes)
+told_counts p e n shaped few =
+    told_cases (λ xs. kind_of_code (slice_index xs 8) ≡ Some Moved → num xs 12 4 ≤ n) p e
+    (λ is. grind (arith, few_bytes, counted_in)) (λ d formal is. absurd (formal_none d.code Moved formal is))
+    (λ d plain is. grind (arith, body_counts, code_of))
 
 -- it is a whole end
 -- what is so of each row of the table of endcodes is so of a code's
@@ -71,9 +72,6 @@ plain_long body e same = grind (arith, same)
 
 formal_top : (code : ℕ) → ends_formality code ≡ true → 0x80 ≤ code
 formal_top code e = grind (arith, e)
-
-formal_none : (code : ℕ) (k : BodyKind) → ends_formality code ≡ true → kind_of_code code ≡ Some k → ⊥
-formal_none code k e h = grind (arith, none-some, e, h)
 
 pub told_whole : {K : Type 0} (p : Port K) (e : End) → IsOfKind e → IsWhole (told_end p e)
 told_whole p e shaped = told_cases IsWhole p e (whole (end_bytes e) refl (plain_long e.body e refl))

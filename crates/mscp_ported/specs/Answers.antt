@@ -1,8 +1,11 @@
 -- Which messages a port answers itself, and with what, and what its controller gets of the others (manual, "Command
 -- Messages"; port: UQSSP, "Diagnostic and Utilities Protocol").
-use Rattle.std.specs.Prelude.{◌≡◌, ◌+◌, ◌/◌, ◌%◌, ◌==◌, ◌&&◌, ◌||◌, ◌++◌, ◌∷◌, [], ℕ, Bool, true, false, nat_le, nat_lt, if◌then◌else◌, List, drop, find, is_none, length, option_map, replicate, slice_index, take, Option, None, Some, Ok}
+use Rattle.std.specs.Prelude.{◌≡◌, ◌+◌, ◌/◌, ◌%◌, ◌==◌, ◌&&◌, ◌++◌, ◌∷◌, [], ℕ, Bool, true, false, nat_le, nat_lt, if◌then◌else◌, List, drop, find, is_none, length, option_map, replicate, slice_index, take, Option, None, Some, Ok}
 use Rattle.byteorder.specs.Endian.{little_bytes}
+use Rattle.mscp_packet.specs.EndcodeBytes as endcodes
 use Rattle.mscp_packet.specs.Number.{num}
+use Rattle.mscp_packet.specs.OpcodeBytes as opcodes
+use Rattle.mscp_packet.specs.Statuses as statuses
 use Rattle.mscp_drive.specs.Both.{of}
 use Rattle.mscp_drive.specs.Extent.{blocks}
 use Rattle.mscp_drive.specs.Shape.{Shape}
@@ -15,7 +18,9 @@ use Rattle.mscp_port.specs.declared.port.OutgoingKind.TheVariants as kinds
 use Rattle.mscp_port.specs.declared.port.Port.{Port}
 use Rattle.mscp_port.specs.declared.volumes.Volume.{Volume}
 use Rattle.mscp_port.specs.Calls.{IsMadeOf}
+use Rattle.mscp_packet.specs.Opcodes.{port_answers}
 use Rattle.mscp_port.specs.Histories.{Answered, Call, Picking, WasRead}
+use Rattle.mscp_packet.specs.Opcodes.{is_transfer_opcode}
 use Rattle.mscp_port.specs.Volumes.{place_in, volume_at}
 use Rattle.mscp_ported.specs.Talk.{AsksAlways, Opened, Slot, talk_of}
 
@@ -27,21 +32,21 @@ pub record Own : Type 0 where
   pub status : ℕ
   pub tells_bytes : Bool
 
--- DETERMINE ACCESS PATHS, COMPARE CONTROLLER DATA and FLUSH ask nothing of a disk
+-- what a port answers, as the table says, asks nothing of a disk: DETERMINE ACCESS PATHS, COMPARE CONTROLLER DATA and
+-- FLUSH
 abbrev pub asks_nothing : ℕ → Bool
-asks_nothing opcode = opcode == 11 || opcode == 17 || opcode == 19
+asks_nothing opcode = port_answers opcode
 
 -- ACCESS, ERASE, COMPARE HOST DATA, READ and WRITE, with all their fields
 abbrev pub moves_data : List ℕ → Bool
-moves_data b =
-    (slice_index b 8 == 16 || slice_index b 8 == 18 || slice_index b 8 == 32 || slice_index b 8 == 33
-    || slice_index b 8 == 34)
-    && nat_le 32 (length b)
+moves_data b = is_transfer_opcode (slice_index b 8) && nat_le 32 (length b)
 
--- a transfer whose first block isn't on the volume (0x1C01), or another one (0x0C01)
+-- a transfer whose first block isn't on the volume, or another one
 abbrev pub past_end : ℕ → ℕ → ℕ → Option ℕ
 past_end size block count =
-    if nat_le size block then Some 0x1C01 else if nat_lt size (block + blocks count) then Some 0x0C01 else None
+    if nat_le size block then Some statuses.invalid_block
+    else if nat_lt size (block + blocks count) then Some statuses.invalid_version
+    else None
 
 abbrev pub own_refusal : List ℕ → Option Volume → Option ℕ
 own_refusal b None = None
@@ -51,14 +56,21 @@ own_refusal b (Some v) = if v.is_there && moves_data b then past_end v.size (num
 -- succeeds
 abbrev pub own_answer : Bool → Option Volume → List ℕ → Option Own
 own_answer foreign v b =
-    if foreign then Some (record { code = 0x80; status = 0x0801; tells_bytes = false })
-    else if is_none v && asks_nothing (slice_index b 8) then Some (record {
-      code = slice_index b 8 + 0x80;
-      status = 0;
+    if foreign then Some (record {
+      code = endcodes.unknown;
+      status = statuses.invalid_opcode;
       tells_bytes = false;
     })
-    else option_map (λ status. record { code = slice_index b 8 + 0x80; status = status; tells_bytes = true })
-    (own_refusal b v)
+    else if is_none v && asks_nothing (slice_index b 8) then Some (record {
+      code = slice_index b 8 + endcodes.unknown;
+      status = statuses.success;
+      tells_bytes = false;
+    })
+    else option_map (λ status. record {
+      code = slice_index b 8 + endcodes.unknown;
+      status = status;
+      tells_bytes = true;
+    }) (own_refusal b v)
 
 -- the number and the unit are the message's
 abbrev pub own_text : List ℕ → Own → List ℕ
@@ -101,14 +113,14 @@ abbrev pub number_in : Option Shape → ℕ
 number_in None = 0
 number_in (Some unit) = unit.number
 
--- a GET UNIT STATUS (3) with modifier 1 asks for the first unit whose number isn't below that which it names
+-- a GET UNIT STATUS with modifier 1 asks for the first unit whose number isn't below that which it names
 abbrev pub asks_next : List ℕ → Bool
-asks_next b = slice_index b 8 == 3 && num b 10 2 % 2 == 1
+asks_next b = slice_index b 8 == opcodes.get_unit_status && num b 10 2 % 2 == 1
 
--- in the place of one that asks nothing of a disk comes an ACCESS (16) of no bytes, with its number and unit: so it
+-- in the place of one that asks nothing of a disk comes an ACCESS of no bytes, with its number and unit: so it
 -- passes no command that a transfer may not pass (manual, "Command Categories and Execution Order")
 abbrev pub access_of_nothing : List ℕ → List ℕ
-access_of_nothing b = take 8 b ++ 16 ∷ replicate 23 0
+access_of_nothing b = take 8 b ++ opcodes.access ∷ replicate 23 0
 
 -- each byte of any other message, but that such a one names that unit, or 0 if there is none
 abbrev pub text_handed : List Shape → List ℕ → List ℕ

@@ -1,6 +1,7 @@
 -- Of which message each end is that goes out to a host: of one that its controller took, and that had none so far
 -- (manual, "End Messages").
-use Rattle.std.specs.Prelude.{◌≡◌, ◌≢◌, ◌⊎◌, ◌≤◌, Some, None, slice_index, ◌==◌, ◌&&◌, ◌||◌, ◌∷◌, [], ℕ, Bool, false, not, filter, is_none, is_ok, ◌<◌, ◌^◌, if◌then◌else◌, List, length, Ok}
+use Rattle.std.specs.Prelude.{◌≡◌, ◌≢◌, ◌⊎◌, ◌≤◌, Some, None, slice_index, ◌==◌, ◌&&◌, ◌∷◌, [], ℕ, Bool, false, not, filter, is_none, is_ok, ◌<◌, ◌^◌, if◌then◌else◌, List, length, Ok}
+use Rattle.mscp_packet.specs.EndcodeBytes as endcodes
 use Rattle.mscp_packet.specs.Number.{num}
 use Rattle.mscp_drive.specs.Settings.{IsValid, Settings}
 use Rattle.mscp_drive.specs.declared.connection.Connection.TheVariants.{First}
@@ -17,6 +18,7 @@ use Rattle.mscp_port.specs.declared.port.Port.{Port}
 use Rattle.mscp_port.specs.declared.task.Task.{Task}
 use Rattle.mscp_port.specs.declared.task.Task.TheVariants as tasks
 use Rattle.mscp_port.specs.Calls.{IsMadeOf}
+use Rattle.mscp_packet.specs.Opcodes.{is_transfer_opcode}
 use Rattle.mscp_port.specs.Histories.{Answered, Call, Picking, WasRead, WriteIp}
 use Rattle.mscp_ported.specs.Answers.{own_answer, text_handed, volume_named}
 use Rattle.mscp_ported.specs.Ends.{ends_said_by}
@@ -43,7 +45,7 @@ has_number n b = num b 0 4 == n
 -- READ, WRITE, COMPARE HOST DATA, ERASE and ACCESS are transfers, and bytes 12 to 15 of a message of one say how many
 -- bytes it asks for
 abbrev pub is_transfer : ℕ → Bool
-is_transfer opcode = opcode == 16 || opcode == 18 || opcode == 32 || opcode == 33 || opcode == 34
+is_transfer opcode = is_transfer_opcode opcode
 
 abbrev pub bytes_in : List ℕ → ℕ
 bytes_in b = if is_transfer (slice_index b 8) then num b 12 4 else 0
@@ -75,7 +77,7 @@ ReadsBytes (call ∷ earlier) = ReadsBytes earlier
 pub record IsWhole (text : List ℕ) : Type 0 where
   pub long : 12 ≤ length text
   pub short : length text ≤ 64
-  pub top : 0x80 ≤ slice_index text 8
+  pub top : endcodes.unknown ≤ slice_index text 8
   pub body : (kind : BodyKind) → kind_of_code (slice_index text 8) ≡ Some kind → end_length kind ≤ length text
 
 -- nothing is accepted, and nothing begins to go out
@@ -91,7 +93,7 @@ pub record IsNews {K : Type 0} (call : Call) (old new : Port K) : Type 0 where
   pub nothing : old.outgoing ≡ None
   pub begun : new.outgoing ≡ Some out
   pub kind : out.kind ≡ kinds.Attention
-  pub code : slice_index out.bytes.items 8 ≡ 0x40
+  pub code : slice_index out.bytes.items 8 ≡ endcodes.available_attention
   pub long : (12 ≤ length out.bytes.items) × (length out.bytes.items ≤ 64)
   pub accepted : accepted_by call old ≡ []
   pub taken : taken_by call old ≡ []

@@ -1,8 +1,12 @@
 -- With which fields an end leaves: they are decided as its command ends, of what its unit has then, also where the end
 -- leaves much later (manual, "End Messages", "Status and Event Codes", "Unit Flags").
-use Rattle.std.specs.Prelude.{◌≡◌, ℕ, Bool, ◌+◌, ◌%◌, ◌==◌, ◌&&◌, ◌||◌, ◌++◌, ◌∷◌, [], not, if◌then◌else◌, List, drop, length, map, replicate, Option, None, Some, Result, Ok, Err}
+use Rattle.std.specs.Prelude.{◌≡◌, ℕ, Bool, ◌+◌, ◌%◌, ◌==◌, ◌&&◌, ◌||◌, ◌++◌, ◌∷◌, [], not, if◌then◌else◌, List, drop, length, map, replicate, Option, None, Some, Result, Ok, Err, nat_le, ◌-◌}
 use Rattle.byteorder.specs.Endian.{little_bytes}
+use Rattle.mscp_packet.specs.EndcodeBytes as endcodes
 use Rattle.mscp_packet.specs.Ends.{end_bytes}
+use Rattle.mscp_packet.specs.StatusCodes as codes
+use Rattle.mscp_packet.specs.Statuses as statuses
+use Rattle.mscp_packet.specs.Statuses.{code_of}
 use Rattle.mscp_packet.specs.declared.command.MoveKind.{MoveKind}
 use Rattle.mscp_packet.specs.declared.end.End.{End}
 use Rattle.mscp_packet.specs.declared.end.EndBody.{EndBody}
@@ -50,38 +54,43 @@ pub record Fields : Type 0 where
 
 -- Unit-Offline, no volume; Unit-Available; or Success
 abbrev pub state_of_unit : Volume → ℕ
-state_of_unit v = if not v.is_there then 0x23 else if not v.is_mounted then 4 else 0
+state_of_unit v =
+    if not v.is_there then statuses.no_volume else if not v.is_mounted then statuses.unit_available
+    else statuses.success
 
--- an end's code is its command's opcode and 0x80: that which the controller gives it, but of a command that asks
--- nothing of a disk, of which the controller got an ACCESS
+-- an end's code is its command's opcode with the top bit: that which the controller gives it, but of a command that
+-- asks nothing of a disk, of which the controller got an ACCESS
 abbrev pub code_with : Option Buffer → ℕ → ℕ
 code_with None code = code
-code_with (Some b) code = if asks_nothing b.opcode then b.opcode + 0x80 else code
+code_with (Some b) code = if asks_nothing b.opcode then b.opcode + endcodes.unknown else code
 
 -- by what the port keeps of its command
 abbrev pub code_said : {K : Type 0} → Port K → End → ℕ
 code_said old e = code_with (kept_of First e.reference old.buffers.items) e.code
 
 abbrev pub ends_nothing : ℕ → Bool
-ends_nothing code = code == 0x8B || code == 0x91 || code == 0x93
+ends_nothing code = nat_le endcodes.unknown code && asks_nothing (code - endcodes.unknown)
 
--- such a command succeeds, unless it was aborted (2). Of any other a step that had no volume is Unit-Offline, one that
--- its unit wasn't online for is Unit-Available; a GET UNIT STATUS (0x83) says the unit's state, and an ONLINE (0x89)
--- whether it found the unit online already
+-- such a command succeeds, unless it was aborted. Of any other a step that had no volume is Unit-Offline, one that its
+-- unit wasn't online for is Unit-Available; a GET UNIT STATUS says the unit's state, and an ONLINE whether it found the
+-- unit online already
 abbrev pub status_by : Verdict → ℕ → ℕ → Volume → ℕ
-status_by verdicts.NoVolume code status v = 0x23
-status_by verdicts.NotOnline code status v = 4
+status_by verdicts.NoVolume code status v = statuses.no_volume
+status_by verdicts.NotOnline code status v = statuses.unit_available
 status_by (verdicts.Served block) code status v =
-    if code == 0x83 && (status == 0 || status == 4) then state_of_unit v
-    else if code == 0x89 && (status == 0 || status == 0x0100) then (if v.is_mounted then 0x0100 else 0)
+    if code == endcodes.get_unit_status && (status == statuses.success || status == statuses.unit_available) then
+    state_of_unit v
+    else if code == endcodes.online && (status == statuses.success || status == statuses.already_online) then
+    (if v.is_mounted then statuses.already_online else statuses.success)
     else status
 
 abbrev pub status_said : Verdict → ℕ → ℕ → Volume → ℕ
 status_said verdict code status v =
-    if ends_nothing code then (if status == 2 then 2 else 0) else status_by verdict code status v
+    if ends_nothing code then (if status == statuses.aborted then statuses.aborted else statuses.success)
+    else status_by verdict code status v
 
--- with this code and status: of a SET CONTROLLER CHARACTERISTICS (0x84) the host's flags are told, of a command to a
--- unit the unit's flags, and type and size of its volume, or the unit's if there is none
+-- with this code and status: of a SET CONTROLLER CHARACTERISTICS the host's flags are told, of a command to a unit the
+-- unit's flags, and type and size of its volume, or the unit's if there is none
 abbrev pub fields_of_unit : ℕ → ℕ → Option Shape → Volume → Fields
 fields_of_unit code status None v = record { code = code; status = status; flags = 0; media = 0; size = 0 }
 fields_of_unit code status (Some unit) v = record {
@@ -94,7 +103,7 @@ fields_of_unit code status (Some unit) v = record {
 
 abbrev pub fields_with : ℕ → ℕ → End → Option Shape → ℕ → Volume → Fields
 fields_with code status e unit flags v =
-    if e.code == 0x84 then record {
+    if e.code == endcodes.set_controller_characteristics then record {
       code = code;
       status = status;
       flags = 0x8000 + flags % 0x8000;
@@ -124,7 +133,7 @@ verdict_with outcome (Ok part) = verdicts.Served (told_as outcome)
 verdict_with outcome (Err verdict) = verdict
 
 abbrev pub verdict_of : {K : Type 0} → Port K → Outcome → Option (Upcoming × MoveKind × ℕ) → Verdict
-verdict_of old outcome None = verdicts.Served (blocks.Bad 0x000B)
+verdict_of old outcome None = verdicts.Served (blocks.Bad statuses.drive_error)
 verdict_of old outcome (Some m) = verdict_with outcome (part_now old m.0 m.1 m.2)
 
 abbrev pub verdict_in : {K : Type 0} → Port K → Outcome → Task → Verdict
@@ -215,7 +224,8 @@ plain_text e f = end_bytes (record e { status = f.status })
 
 -- Success, Unit-Offline and Unit-Available tell of the unit
 abbrev pub is_of_unit : ℕ → Bool
-is_of_unit status = status % 32 == 0 || status % 32 == 3 || status % 32 == 4
+is_of_unit status =
+    code_of status == codes.success || code_of status == codes.unit_offline || code_of status == codes.unit_available
 
 abbrev pub text_with : EndBody → End → Fields → Option Shape → Hardware → List ℕ
 text_with (bodies.Online id media size serial) e f (Some unit) h =
@@ -223,7 +233,7 @@ text_with (bodies.Online id media size serial) e f (Some unit) h =
 text_with (bodies.UnitStatus id media track group cylinder) e f (Some unit) h =
     if is_of_unit f.status then status_text e f unit else plain_text e f
 text_with (bodies.Controller timeout id) e f unit h =
-    if f.status == 0 then controller_text e f h timeout id else plain_text e f
+    if f.status == statuses.success then controller_text e f h timeout id else plain_text e f
 text_with body e f unit h = plain_text e f
 
 -- that of a command which asks nothing has just 12 bytes

@@ -1,5 +1,6 @@
 -- The calls that a port makes of its controller, by each call that is made of the port.
 use Rattle.std.specs.Prelude.{◌≡◌, ◌⊎◌, ◌++◌, ℕ, List, [], ◌∷◌, Option, None, Some, Result, Ok, Err}
+use Rattle.mscp_packet.specs.Statuses as statuses
 use Rattle.mscp_packet.specs.declared.command.MoveKind.{MoveKind}
 use Rattle.mscp_packet.specs.declared.end.End.{End}
 use Rattle.mscp_drive.specs.Settings.{IsValid, Settings}
@@ -67,18 +68,18 @@ send_made old bytes task = []
 -- Error where memory isn't there, has a parity error or isn't mapped, and Compare Error)
 abbrev pub told_as : Outcome → Block
 told_as outcomes.Done = blocks.Good
-told_as outcomes.Missing = blocks.Bad 0x0069
-told_as outcomes.Parity = blocks.Bad 0x0089
-told_as outcomes.Unmapped = blocks.Bad 0x00A9
-told_as outcomes.Different = blocks.Bad 0x0007
+told_as outcomes.Missing = blocks.Bad statuses.missing
+told_as outcomes.Parity = blocks.Bad statuses.parity
+told_as outcomes.Unmapped = blocks.Bad statuses.unmapped
+told_as outcomes.Different = blocks.Bad statuses.different
 told_as (outcomes.Failed status) = blocks.Bad status
 
 -- of a step that had no volume, or whose unit wasn't online with it, it is told a Drive Error: of volumes it knows
 -- nothing
 abbrev pub told_of : Verdict → Block
 told_of (verdicts.Served block) = block
-told_of verdicts.NoVolume = blocks.Bad 0x000B
-told_of verdicts.NotOnline = blocks.Bad 0x000B
+told_of verdicts.NoVolume = blocks.Bad statuses.drive_error
+told_of verdicts.NotOnline = blocks.Bad statuses.drive_error
 
 -- a step may have to end all the same
 abbrev pub told_unless : Outcome → Result (ℕ × ℕ) Verdict → Block
@@ -87,7 +88,7 @@ told_unless outcome (Err verdict) = told_of verdict
 
 -- of the block that the begun step moves. Where none is begun it is a Drive Error
 abbrev pub transfer_told : {K : Type 0} → Port K → Outcome → Option (Upcoming × MoveKind × ℕ) → Block
-transfer_told old outcome None = blocks.Bad 0x000B
+transfer_told old outcome None = blocks.Bad statuses.drive_error
 transfer_told old outcome (Some m) = told_unless outcome (part_now old m.0 m.1 m.2)
 
 -- the outcome of the step that is in hand, where its action went so

@@ -1,5 +1,6 @@
 -- With which volume a unit is online, and what its host protects, as the history of a port tells.
 use Rattle.std.specs.Prelude.{◌≡◌, ◌⊎◌, ◌%◌, ◌/◌, ◌==◌, ℕ, Bool, true, false, if◌then◌else◌, List, [], ◌∷◌, Option, None, Some, Result, Ok}
+use Rattle.mscp_packet.specs.EndcodeBytes as endcodes
 use Rattle.mscp_packet.specs.declared.command.MoveKind.{MoveKind}
 use Rattle.mscp_packet.specs.declared.end.End.{End}
 use Rattle.mscp_drive.specs.declared.connection.Connection.{Connection}
@@ -34,14 +35,14 @@ offline = record { volume = None; is_protected = false }
 abbrev pub flagged : Buffer → Mount → Mount
 flagged b m = if b.modifiers / 4 % 2 == 1 then record m { is_protected = b.flags / 0x1000 % 2 == 1 } else m
 
--- by the endcode: AVAILABLE (0x88) takes it offline, ONLINE (0x89) brings it online with the volume that is there as it
--- ends, before which so many had come or gone, and sets the flags, as SET UNIT CHARACTERISTICS (0x8A) does
+-- by the endcode: AVAILABLE takes it offline, ONLINE brings it online with the volume that is there as it ends, before
+-- which so many had come or gone, and sets the flags, as SET UNIT CHARACTERISTICS does
 abbrev pub mount_after : ℕ → Option Buffer → ℕ → Mount → Mount
-mount_after code None changes m = if code == 0x88 then offline else m
+mount_after code None changes m = if code == endcodes.available then offline else m
 mount_after code (Some b) changes m =
-    if code == 0x88 then offline
-    else if code == 0x89 then flagged b (record m { volume = Some changes })
-    else if code == 0x8A then flagged b m
+    if code == endcodes.available then offline
+    else if code == endcodes.online then flagged b (record m { volume = Some changes })
+    else if code == endcodes.set_unit_characteristics then flagged b m
     else m
 
 -- ---- over a history

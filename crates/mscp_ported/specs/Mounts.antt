@@ -1,6 +1,9 @@
 -- On which volume blocks are moved: on the one that was in the unit as the command came, and with which the unit was
 -- brought online (manual, "Unit States", "ONLINE").
-use Rattle.std.specs.Prelude.{◌≡◌, ◌⊎◌, ◌<◌, ◌+◌, ◌%◌, ◌==◌, ℕ, Bool, if◌then◌else◌, List, [], ◌∷◌, Contains, Some, Result, Ok}
+use Rattle.std.specs.Prelude.{◌≡◌, ◌⊎◌, ◌<◌, ◌+◌, ◌==◌, ℕ, Bool, if◌then◌else◌, List, [], ◌∷◌, Contains, Some, Result, Ok}
+use Rattle.mscp_packet.specs.EndcodeBytes as endcodes
+use Rattle.mscp_packet.specs.StatusCodes as codes
+use Rattle.mscp_packet.specs.Statuses.{code_of}
 use Rattle.mscp_packet.specs.declared.command.MoveKind.{MoveKind}
 use Rattle.mscp_packet.specs.declared.end.End.{End}
 use Rattle.mscp_drive.specs.UnitList.{IsUnitList}
@@ -49,18 +52,18 @@ IsOfItsVolume picks number unit start p (call ∷ earlier) a b =
 -- by a call an end of Success with this endcode came for the host, of a command to this unit which had its step
 abbrev pub Succeeds : {K : Type 0} → ℕ → ℕ → Call → Port K → Port K → Type 0
 Succeeds code unit (Went outcome (Ok done)) old new =
-    (e : End) × Contains (come old new) e × (e.code ≡ code) × (e.unit ≡ unit) × (e.status % 32 ≡ 0)
+    (e : End) × Contains (come old new) e × (e.code ≡ code) × (e.unit ≡ unit) × (code_of e.status ≡ codes.success)
 Succeeds code unit call old new = ⊥
 
--- an ONLINE (0x89) to this unit succeeded since the host wrote IP last, and since then no AVAILABLE (0x88) did, and no
+-- an ONLINE to this unit succeeded since the host wrote IP last, and since then no AVAILABLE did, and no
 -- volume came into the unit or went
 abbrev pub IsOnline : {K : Type 0} (picks : Picking K) (unit : ℕ) (start p : Port K) (calls : List Call)
     → Answered picks start calls p → Type 0
 IsOnline picks unit start p [] a = ⊥
 IsOnline picks unit start p (WriteIp ∷ earlier) a = ⊥
 IsOnline picks unit start p (call ∷ earlier) a =
-    Succeeds 0x89 unit call a.0 p
-    ⊎ ((changed_by unit call ≡ 0) × (Succeeds 0x88 unit call a.0 p → ⊥)
+    Succeeds endcodes.online unit call a.0 p
+    ⊎ ((changed_by unit call ≡ 0) × (Succeeds endcodes.available unit call a.0 p → ⊥)
     × IsOnline picks unit start a.0 earlier a.1)
 
 -- ---- laws

@@ -1,6 +1,7 @@
 -- Of which units a port tells its host that they are available (manual, "Attention Messages").
 use Rattle.std.specs.Prelude.{◌≡◌, ◌/◌, ◌%◌, ◌++◌, ◌∷◌, [], ℕ, true, false, List, slice_get, None, Some}
 use Rattle.byteorder.specs.Endian.{little_bytes}
+use Rattle.mscp_packet.specs.EndcodeBytes as endcodes
 use Rattle.mscp_drive.specs.Shape.{Shape}
 use Rattle.mscp_drive.specs.UnitList.{IsUnitList}
 use Rattle.mscp_controller.specs.Holdings.{Holdings}
@@ -14,11 +15,12 @@ use Rattle.mscp_port.specs.Histories.{Answered, Call, Picking}
 use Rattle.mscp_port.specs.Volumes.{volume_at}
 use Rattle.mscp_ported.specs.UnitFlags.{flags_of_unit}
 
--- the message: no reference number, the unit's number, the code 0x40 and no status; and then the unit's number as that
--- of its multi-unit, its flags, its identifier, and the type of its volume
+-- the message: no reference number, the unit's number, the code of an Available and no status; and then the unit's
+-- number as that of its multi-unit, its flags, its identifier, and the type of its volume
 abbrev pub available_text : Shape → Volume → List ℕ
 available_text unit v =
-    (little_bytes 4 0 ++ little_bytes 2 unit.number ++ (0 ∷ 0 ∷ 0x40 ∷ 0 ∷ []) ++ little_bytes 2 0)
+    (little_bytes 4 0 ++ little_bytes 2 unit.number ++ (0 ∷ 0 ∷ endcodes.available_attention ∷ 0 ∷ [])
+    ++ little_bytes 2 0)
     ++ little_bytes 2 unit.number ++ little_bytes 2 (flags_of_unit v) ++ little_bytes 4 0 ++ little_bytes 8 unit.id
     ++ little_bytes 4 v.media
 

@@ -2,7 +2,9 @@
 -- "End Messages", "GET COMMAND STATUS").
 use Rattle.std.specs.Prelude.{◌≡◌, ◌≢◌, ◌⊎◌, ◌<◌, ◌≤◌, ◌==◌, ◌++◌, ◌∷◌, [], ℕ, All, false, if◌then◌else◌, List, filter, length, map, flat_map, slice_index, Ok}
 use Rattle.std.specs.List.{AllByRecursion}
+use Rattle.mscp_packet.specs.EndcodeBytes as endcodes
 use Rattle.mscp_packet.specs.Number.{num}
+use Rattle.mscp_packet.specs.OpcodeBytes as opcodes
 use Rattle.mscp_packet.specs.declared.end.End.{End}
 use Rattle.mscp_packet.specs.declared.end.EndBody.{EndBody}
 use Rattle.mscp_packet.specs.declared.end.EndBody.TheVariants as bodies
@@ -52,11 +54,13 @@ figure_in body = 0
 abbrev pub pending_end : End → Pending
 pending_end e = record { number = e.reference; figure = figure_in e.body }
 
--- in a text that is said, 0x82 is the code of a poll's end
+-- a text that is said is a poll's end by its code
 abbrev pub pending_said : OutgoingKind → List ℕ → List Pending
 pending_said kinds.Attention text = []
-pending_said kinds.End text =
-    record { number = num text 0 4; figure = if slice_index text 8 == 0x82 then num text 16 4 else 0 } ∷ []
+pending_said kinds.End text = record {
+  number = num text 0 4;
+  figure = if slice_index text 8 == endcodes.get_command_status then num text 16 4 else 0;
+} ∷ []
 pending_said kinds.UtilitiesEnd text = []
 
 abbrev pub pending_in : Said → List Pending
@@ -68,8 +72,8 @@ pending_held p = map pending_end (of First p.controller.untaken)
 -- by a call a poll about the command of this number is taken
 abbrev pub TakesPoll : {K : Type 0} → ℕ → Call → Port K → Type 0
 TakesPoll number (WasRead bytes (Ok done)) old =
-    (taken_by (WasRead bytes (Ok done)) old ≡ bytes ∷ []) × (slice_index bytes 8 ≡ 2) × (16 ≤ length bytes)
-    × (num bytes 12 4 ≡ number)
+    (taken_by (WasRead bytes (Ok done)) old ≡ bytes ∷ []) × (slice_index bytes 8 ≡ opcodes.get_command_status)
+    × (16 ≤ length bytes) × (num bytes 12 4 ≡ number)
 TakesPoll number call old = ⊥
 
 -- by a call ends come to be heard behind all that were: of a message that is accepted, or of commands that waited. A

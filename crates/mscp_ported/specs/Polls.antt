@@ -1,7 +1,10 @@
 -- What a poll is told: the figure of a command of its own connection (manual, "GET COMMAND STATUS", "Host Command
 -- Timeouts").
 use Rattle.std.specs.Prelude.{◌≡◌, ◌≤◌, ◌∷◌, [], ℕ, Bool, if◌then◌else◌, List, length, slice_index, Result, Ok, Err}
+use Rattle.mscp_packet.specs.EndcodeBytes as endcodes
 use Rattle.mscp_packet.specs.Number.{num}
+use Rattle.mscp_packet.specs.OpcodeBytes as opcodes
+use Rattle.mscp_packet.specs.Statuses as statuses
 use Rattle.mscp_packet.specs.declared.end.End.{End}
 use Rattle.mscp_packet.specs.declared.end.EndBody.TheVariants as bodies
 use Rattle.mscp_drive.specs.declared.connection.Connection.TheVariants.{First}
@@ -24,8 +27,8 @@ abbrev pub poll_end : {K : Type 0} → Holdings K → List ℕ → End
 poll_end h b = record {
   reference = num b 0 4;
   unit = num b 4 2;
-  code = 0x82;
-  status = 0;
+  code = endcodes.get_command_status;
+  status = statuses.success;
   body = bodies.Status (num b 12 4) (figure_of_name h.settings.budget h.waiting (name_on First (num b 12 4)));
 }
 
@@ -46,5 +49,6 @@ PortsAnswerPolls {K} picks =
     (hardware : Hardware) (credits : ℕ) (controller : Holdings K) (start p : Port K) (calls : List Call)
     (bytes : List ℕ) (done : Unit) (slot : Slot) (header : ℕ) → IsMadeOf hardware credits controller start
     → AsksAlways (WasRead bytes (Ok done) ∷ calls) → (a : Answered picks start (WasRead bytes (Ok done) ∷ calls) p)
-    → (talk_of picks start a.0 calls a.1).turn ≡ Opened slot header → slice_index bytes 8 ≡ 2 → 16 ≤ length bytes
+    → (talk_of picks start a.0 calls a.1).turn ≡ Opened slot header
+    → slice_index bytes 8 ≡ opcodes.get_command_status → 16 ≤ length bytes
     → come a.0 p ≡ polls_bring (is_for_utilities header) a.0 bytes

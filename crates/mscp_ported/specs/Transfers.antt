@@ -3,6 +3,7 @@
 use Rattle.std.specs.Prelude.{◌≡◌, ◌+◌, ◌-◌, ◌*◌, ◌==◌, ◌&&◌, ◌++◌, ◌∷◌, [], ℕ, zero, suc, Bool, true, false, if◌then◌else◌, find, is_none, min, slice_index, List, Contains, Option, None, Some, Result, Ok, Err}
 use Rattle.mscp_packet.specs.Number.{num}
 use Rattle.mscp_packet.specs.Opcodes.{move_byte}
+use Rattle.mscp_packet.specs.Statuses as statuses
 use Rattle.mscp_packet.specs.declared.command.MoveKind.{MoveKind}
 use Rattle.mscp_packet.specs.declared.command.Order.TheVariants as orders
 use Rattle.mscp_packet.specs.declared.end.End.{End}
@@ -119,7 +120,7 @@ pub record StandsFor {K : Type 0} (picks : Picking K) (e : End) (kind : MoveKind
   pub opcode : slice_index b 8 ≡ move_byte kind
   pub moves : moved picks e.reference start p calls a
       ≡ transfers kind e.unit (num b 28 4) (num b 16 4) (num b 12 4) (blocks_in (num b 12 4))
-  pub status : e.status ≡ 0
+  pub status : e.status ≡ statuses.success
   pub count : e.body ≡ bodies.Moved (num b 12 4)
 
 -- the law of transfers: whoever calls a port that was made over a controller, and tells of actions only after they were

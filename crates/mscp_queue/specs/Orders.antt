@@ -2,7 +2,9 @@
 use Rattle.std.specs.Prelude.{ℕ, Bool, true, false, bit_or, if◌then◌else◌, ◌==◌}
 use Rattle.mscp_packet.specs.declared.command.Order.{Order}
 use Rattle.mscp_packet.specs.declared.command.Order.TheVariants as orders
-use Rattle.mscp_packet.specs.Commands.{opcode_byte}
+use Rattle.mscp_packet.specs.Commands.{opcode_byte, order_class}
+use Rattle.mscp_packet.specs.EndcodeBytes.{unknown}
+use Rattle.mscp_packet.specs.Opcodes.{is_sequential_class}
 use Rattle.mscp_packet.specs.Statuses.{invalid_opcode}
 use Rattle.mscp_drive.specs.declared.head.Head.{Head}
 use Rattle.mscp_drive.specs.Extent as extent
@@ -16,10 +18,7 @@ order_weight order = 1
 
 -- kept in its place among the commands of its unit (manual, "Command Categories and Execution Order")
 abbrev pub is_sequential : Order → Bool
-is_sequential orders.Available = true
-is_sequential orders.Online = true
-is_sequential orders.SetUnit = true
-is_sequential order = false
+is_sequential order = is_sequential_class (order_class order)
 
 -- a transfer, which may be reordered (manual, "Command Categories and Execution Order")
 abbrev pub is_move : Order → Bool
@@ -41,5 +40,5 @@ order_cost u head order = 0
 -- the endcode: the opcode with the top bit set. An opcode that is unknown has that bit alone (manual, the latter is the
 -- profile's)
 abbrev pub endcode : Order → ℕ
-endcode (orders.Invalid opcode status) = if status == invalid_opcode then 0x80 else bit_or opcode 0x80
-endcode order = bit_or (opcode_byte order) 0x80
+endcode (orders.Invalid opcode status) = if status == invalid_opcode then unknown else bit_or opcode unknown
+endcode order = bit_or (opcode_byte order) unknown

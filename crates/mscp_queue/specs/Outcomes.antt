@@ -1,6 +1,6 @@
 -- The ends of commands as formulas of the command, its unit's state, and numbers. Nothing here asks what
 -- came before.
-use Rattle.std.specs.Prelude.{◌≡◌, ℕ, ◌+◌, ◌*◌, ◌%◌, min, cond, Bool, true, false, ◌&&◌, nat_eq, nat_lt, if◌then◌else◌, Option, Some, None, is_some}
+use Rattle.std.specs.Prelude.{◌≡◌, ℕ, ◌+◌, ◌*◌, min, cond, Bool, true, false, ◌&&◌, nat_eq, nat_lt, if◌then◌else◌, Option, Some, None, is_some}
 use Rattle.mscp_packet.specs.declared.command.Order.{Order}
 use Rattle.mscp_packet.specs.declared.command.Order.TheVariants as orders
 use Rattle.mscp_packet.specs.declared.command.Command.{Command}
@@ -8,7 +8,8 @@ use Rattle.mscp_packet.specs.declared.end.EndBody.{EndBody}
 use Rattle.mscp_packet.specs.declared.end.EndBody.TheVariants as bodies
 use Rattle.mscp_packet.specs.declared.end.End.{End}
 use Rattle.mscp_packet.specs.Ends.{kind_of_code, refused_body}
-use Rattle.mscp_packet.specs.Statuses.{success, already_online, aborted, unit_available}
+use Rattle.mscp_packet.specs.StatusCodes as codes
+use Rattle.mscp_packet.specs.Statuses.{success, already_online, aborted, code_of, unit_available}
 use Rattle.mscp_drive.specs.Shape.{Shape}
 use Rattle.mscp_drive.specs.Heads.{carried, moved}
 use Rattle.mscp_drive.specs.declared.head.Head.{Head}
@@ -33,7 +34,7 @@ IsCoded order = is_some (kind_of_code (endcode order)) ≡ true
 
 -- a status whose code is Success (manual)
 abbrev pub is_success : ℕ → Bool
-is_success status = nat_eq (status % 32) 0
+is_success status = nat_eq (code_of status) codes.success
 
 -- ---- served
 

@@ -4,8 +4,10 @@ ghost use Rattle.std.specs.Prelude.{◌≡◌, ◌+◌, ◌<◌, ◌^◌};
 ghost use Rattle.mscp_queue.specs.Common.{endcode, aborted_end, bad_status, end_with, good_status, is_success, moved_body, online_body, outcome_at, outcome_body, outcome_status, touches};
 
 use mscp_drive::{Block, Unit};
-use mscp_packet::status::{ABORTED, ALREADY_ONLINE, INVALID_OPCODE, SUCCESS, UNIT_AVAILABLE};
-use mscp_packet::{Command, End, EndBody, Order};
+use mscp_packet::status::{
+    ABORTED, ALREADY_ONLINE, INVALID_OPCODE, SUCCESS, UNIT_AVAILABLE, code_of,
+};
+use mscp_packet::{Command, End, EndBody, Order, codes, endcodes};
 
 /// The bytes of a block.
 const BLOCK_BYTES: u64 = 512;
@@ -18,8 +20,8 @@ pub fn endcode_of(command: &Command) -> u8
         Order::Invalid {
             status: INVALID_OPCODE,
             ..
-        } => 0x80,
-        _ => command.opcode() | 0x80,
+        } => endcodes::UNKNOWN,
+        _ => command.opcode() | endcodes::UNKNOWN,
     }
 }
 
@@ -75,7 +77,7 @@ fn moved_body(command: &Command, good: u32) -> EndBody
 pub(crate) fn is_success(status: u16) -> bool
     ensures { result ≡ is_success status }
 {
-    status % 32 == 0
+    code_of(status) == codes::SUCCESS
 }
 
 /// What ONLINE and SET UNIT CHARACTERISTICS tell of a unit, with Success alone.

@@ -76,24 +76,8 @@ waiter_back via n u Order.Online d p t w a b h f g =
 waiter_back via n u Order.SetUnit d p t w a b h f g =
     record_back via (command n u Order.SetUnit) d p (take 41 (waiting_bytes (waiter via n u Order.SetUnit d p) ++ t))
     (command_back n u Order.SetUnit [] w a b h) (connection_back via) (four d f) (four p g)
-waiter_back via n u (Order.Move moves.Access count block) d p t w a b h f g =
-    let o = Order.Move moves.Access count block in
-    record_back via (command n u o) d p (take 41 (waiting_bytes (waiter via n u o d p) ++ t))
-    (command_back n u o [] w a b h) (connection_back via) (four d f) (four p g)
-waiter_back via n u (Order.Move moves.Erase count block) d p t w a b h f g =
-    let o = Order.Move moves.Erase count block in
-    record_back via (command n u o) d p (take 41 (waiting_bytes (waiter via n u o d p) ++ t))
-    (command_back n u o [] w a b h) (connection_back via) (four d f) (four p g)
-waiter_back via n u (Order.Move moves.Compare count block) d p t w a b h f g =
-    let o = Order.Move moves.Compare count block in
-    record_back via (command n u o) d p (take 41 (waiting_bytes (waiter via n u o d p) ++ t))
-    (command_back n u o [] w a b h) (connection_back via) (four d f) (four p g)
-waiter_back via n u (Order.Move moves.Read count block) d p t w a b h f g =
-    let o = Order.Move moves.Read count block in
-    record_back via (command n u o) d p (take 41 (waiting_bytes (waiter via n u o d p) ++ t))
-    (command_back n u o [] w a b h) (connection_back via) (four d f) (four p g)
-waiter_back via n u (Order.Move moves.Write count block) d p t w a b h f g =
-    let o = Order.Move moves.Write count block in
+waiter_back via n u (Order.Move kind count block) d p t w a b h f g =
+    let o = Order.Move kind count block in
     record_back via (command n u o) d p (take 41 (waiting_bytes (waiter via n u o d p) ++ t))
     (command_back n u o [] w a b h) (connection_back via) (four d f) (four p g)
 waiter_back via n u o d p t w a b h f g = absurd (false≢true w)

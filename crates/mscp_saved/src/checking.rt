@@ -5,7 +5,7 @@ ghost use Rattle.mscp_saved.specs.Common.{list_all, position, IsWaitable, has_na
 
 use crate::fault::RestoreFault;
 use mscp_controller::{Config, Connection, Drive, Name, Record};
-use mscp_packet::{Command, End, Order};
+use mscp_packet::{Class, Command, End, Order};
 
 /// Whether each head is on a cylinder of its unit.
 fn are_on_units(drives: &[Drive]) -> bool
@@ -54,10 +54,10 @@ fn is_queued(config: &Config, command: &Command) -> bool
             Some(unit) => unit.check(block, count, config.longest()).is_ok(),
             None => false,
         },
-        Order::Available | Order::Online | Order::SetUnit => {
-            config.units().find(command.unit).is_some()
+        order => {
+            matches!(order.class(), Class::Sequential)
+                && config.units().find(command.unit).is_some()
         }
-        _ => false,
     }
 }
 

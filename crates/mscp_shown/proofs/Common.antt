@@ -33,11 +33,11 @@ pub use Rattle.mscp_drive.specs.declared.block.Block.TheVariants.{Bad, Good}
 pub use Rattle.mscp_drive.specs.declared.connection.Connection.TheVariants.{First, Second}
 pub use Rattle.mscp_packet.proofs.Ends.{length_span}
 pub use Rattle.mscp_packet.proofs.Numbers.{four, two}
-pub use Rattle.mscp_packet.specs.Commands.{order_with, parameters}
+pub use Rattle.mscp_packet.specs.Commands.{opcode_byte, order_with, parameters}
 pub use Rattle.mscp_packet.specs.Common.{little_bytes}
-pub use Rattle.mscp_packet.specs.Ends.{end_length, endcodes, kind_of_body, kind_of_code, refused_body, zero_body}
+pub use Rattle.mscp_packet.specs.Ends.{end_length, endcodes, kind_of_body, kind_of_code, least_end, refused_body, zero_body}
 pub use Rattle.mscp_packet.specs.Number.{num}
-pub use Rattle.mscp_packet.specs.Opcodes.{least, move_byte, opcode_of, opcodes, row_of}
+pub use Rattle.mscp_packet.specs.Opcodes.{least, least_of, may_have_status, move_byte, opcode_of, opcodes, row_of}
 pub use Rattle.mscp_packet.specs.Statuses.{invalid_length, invalid_opcode}
 pub use Rattle.mscp_packet.specs.declared.class.Opcode.{Opcode}
 pub use Rattle.mscp_packet.specs.declared.command.MoveKind.{MoveKind}
@@ -52,7 +52,7 @@ pub use Rattle.mscp_shown.specs.Keeping.{AreBytes, Covers, IsPatient, IsPossible
 pub use Rattle.mscp_shown.specs.Shown.{shown_by}
 unfoldable pub use Rattle.mscp_shown.specs.Shown.{shown}
 pub use Rattle.mscp_wire.proofs.Passing.{told_push}
-pub use Rattle.mscp_wire.specs.Wire.{History, Standing, after_other, after_own, agrees, answer_by, asked_about, asked_by, asking, brings, command_at, controller as controller_of, controller_after, count_of, count_on, fits, has_abort, has_code, has_count, has_credit, has_endcode, has_number, has_one_of, has_status, is_about, is_about_another, is_apart, is_below, is_counted, is_hasty, is_it, is_known, is_known_unit, is_late, is_long, is_moved, is_named, is_of_unit, is_oldest, is_plain, is_polled, is_refused, is_required, is_same_unit, is_settled_at, is_short, is_single, is_transfer, is_unknown, is_unsure, is_whole, keeps_back, later_of, learns, least_length, least_message, leaves, limit_of, may_ask, may_have, moment_at, moves, names_unit, noted_other, noted_own, other_of, passes_none, place_of, points_into, polled_by, says_away, says_online, sent_by, settles, shares, status_code, succeeds, suits_state, tells_unit, timed, told, told_after, told_after_end, told_after_message, turned, waits_on, was_online, went}
+pub use Rattle.mscp_wire.specs.Wire.{History, Standing, after_other, after_own, agrees, answer_by, asked_about, asked_by, asking, brings, command_at, controller as controller_of, controller_after, count_of, count_on, fits, has_abort, has_code, has_count, has_credit, has_endcode, has_number, has_one_of, has_status, is_about, is_about_another, is_apart, is_below, is_counted, is_hasty, is_it, is_known, is_known_unit, is_late, is_long, is_moved, is_named, is_of_unit, is_oldest, is_plain, is_polled, is_refused, is_required, is_same_unit, is_settled_at, is_short, is_single, is_transfer, is_unknown, is_unsure, is_whole, keeps_back, later_of, learns, leaves, limit_of, may_ask, moment_at, moves, names_unit, noted_other, noted_own, other_of, passes_none, place_of, points_into, polled_by, says_away, says_online, sent_by, settles, shares, status_code, succeeds, suits_state, tells_unit, timed, told, told_after, told_after_end, told_after_message, turned, waits_on, was_online, went}
 pub use Rattle.mscp_wire.specs.declared.answer.Answer.{Answer, Answer as Answered}
 pub use Rattle.mscp_wire.specs.declared.identity.Identity.{Identity}
 pub use Rattle.mscp_wire.specs.declared.moment.Moment.{Moment as Wired}

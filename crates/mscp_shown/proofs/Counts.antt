@@ -1,5 +1,5 @@
 -- How many elements of a list pass a test.
-use Rattle.mscp_shown.proofs.Common.{AllByRecursion, Bool, List, Some, [], and_parts, ap, arith, cond, count_by, drop, every_from, every_kept, every_weaker, false, filter, filter_all, find, find_cases, get_or, length, list_all, list_any, map, not, or_parts, position, position_first, refl, sum_by-append, sum_by-cons, sum_by-drop_more, sum_by-take-drop, sum_by_map, sum_on, take, true, ℕ, ⊎_elim, ◌&&◌, ◌++◌, ◌+◌, ◌<◌, ◌∙◌, ◌∷◌, ◌≡◌, ◌≤◌}
+use Rattle.mscp_shown.proofs.Common.{AllByRecursion, Bool, List, Some, [], ap, arith, cond, count_by, drop, every_from, every_kept, every_weaker, false, filter, filter_all, find_cases, get_or, length, list_any, map, not, or_parts, position, position_first, refl, sum_by-append, sum_by-cons, sum_by-drop_more, sum_by-take-drop, sum_by_map, sum_on, take, true, ℕ, ⊎_elim, ◌&&◌, ◌++◌, ◌+◌, ◌<◌, ◌∙◌, ◌∷◌, ◌≡◌, ◌≤◌}
 
 module _ {X : Type 0} (p : X → Bool) where
   -- those that pass a test, and those that don't
@@ -78,12 +78,6 @@ module _ {X : Type 0} (p : X → Bool) where
 pub all_pass : {X : Type 0} (xs : List X) → count_by (λ x. true) xs ≡ length xs
 all_pass [] = refl
 all_pass (x ∷ xs) = search (arith, all_pass xs, sum_by-cons (λ x. 1) x xs)
-
--- what is found passes its test, and one that all pass
-pub found_passes : {X : Type 0} (p q : X → Bool) (xs : List X) (x : X) → find p xs ≡ Some x → list_all q xs ≡ true
-    → (p x ≡ true) × (q x ≡ true)
-found_passes p q [] x h a = cc
-found_passes p q (y ∷ ys) x h a = search (arith, found_passes p q ys x, and_parts)
 
 -- each element is counted
 pub each_counted : {X : Type 0} (same : X → X → Bool) → ((x : X) → same x x ≡ true) → (xs : List X)

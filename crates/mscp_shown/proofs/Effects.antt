@@ -1,5 +1,5 @@
 -- What the ends that a controller makes say of the states of their units.
-use Rattle.mscp_shown.proofs.Common.{Bad, Block, Bool, Command, Good, None, Order, Sent, Settings, and_parts, arith, endcode, eqb-true, false, is_immediate, is_moved, is_of_unit, is_queued, nat_eq, outcome_of, outcome_status, own_end, refl, state_after, true, unit_fault, unit_found, ℕ, ◌%◌, ◌&&◌, ◌/◌, ◌||◌, ◌∙◌, ◌≡◌, ◌≢◌, ◌≤◌}
+use Rattle.mscp_shown.proofs.Common.{Block, Bool, Command, None, Order, Sent, Settings, and_parts, arith, endcode, eqb-true, false, is_immediate, is_moved, is_of_unit, is_queued, nat_eq, outcome_of, outcome_status, own_end, refl, state_after, true, unit_fault, unit_found, ℕ, ◌%◌, ◌&&◌, ◌/◌, ◌||◌, ◌∙◌, ◌≡◌, ◌≢◌, ◌≤◌}
 use Rattle.mscp_packet.specs.declared.command.Order.TheVariants as orders
 use Rattle.mscp_shown.proofs.Saying.{Says}
 use Rattle.mscp_shown.proofs.Suiting.{IsFault, valid_order}
@@ -28,12 +28,6 @@ pub record Effects (old new : Bool) (code status : ℕ) : Type 0 where
   pub away : away_of code status ≡ true → new ≡ false
   pub stays : brings_of code status ≡ false → old ≡ false → new ≡ false
 
--- one that says nothing, of a unit that stays as it is
-silent : (online : Bool) (code status : ℕ) → online_of code status ≡ false → away_of code status ≡ false
-    → Effects online online code status
-silent online code status s a = grind arith
-
--- ---- by its code
 -- ---- the ends of a controller
 -- one that is answered when it comes
 pub own_effects : (c : Settings) (online : Bool) (figure : ℕ) (k : Command) (s : Sent) → is_queued c k ≡ false
@@ -66,19 +60,8 @@ bad_effects online new code status h same = record {
 outcome_effects : (online : Bool) (o : Order) (k : Block) → IsFault k → is_immediate o ≡ false
     → ((byte why : ℕ) → o ≢ orders.Invalid byte why)
     → Effects online (state_after online o (outcome_status online o k)) (endcode o) (outcome_status online o k)
-outcome_effects true (orders.Move kind count block) Good fault h n = grind arith
-outcome_effects false (orders.Move kind count block) Good fault h n = grind arith
-outcome_effects true (orders.Move kind count block) (Bad status) fault h n = grind (arith, bad_effects)
-outcome_effects false (orders.Move kind count block) (Bad status) fault h n = grind arith
-outcome_effects online orders.Available Good fault h n = grind arith
-outcome_effects true orders.Online Good fault h n = grind arith
-outcome_effects false orders.Online Good fault h n = grind arith
-outcome_effects online orders.SetUnit Good fault h n = silent online 0x8A 0 refl refl
-outcome_effects online orders.Available (Bad status) fault h n = grind arith
-outcome_effects online orders.Online (Bad status) fault h n = grind arith
-outcome_effects online orders.SetUnit (Bad status) fault h n = bad_effects online online 0x8A status fault.1 refl
 outcome_effects online (orders.Invalid byte why) k fault h n = absurd (n byte why refl)
-outcome_effects online o k fault h n = cc
+outcome_effects online o k fault h n = grind (arith, bad_effects)
 
 -- one that a step ends
 pub served_effects : (c : Settings) (online : Bool) (k : Command) (good : ℕ) (block : Block) → is_queued c k ≡ true

@@ -50,10 +50,7 @@ pub outcome_fit : (s : Shape) (status : ℕ) (o : Order) (good : ℕ) → IsSmal
     (outcome_body s status o good)
 outcome_fit s status orders.Online good h = online_fit s (is_success status)
 outcome_fit s status orders.SetUnit good h = online_fit s (is_success status)
-outcome_fit s status orders.UnitStatus good h = tt
-outcome_fit s status (orders.SetController version) good h = tt
-outcome_fit s status orders.Available good h = tt
-outcome_fit s status order good h = moved_fit order good h
+outcome_fit s status order good h = grind (arith, moved_fit)
 
 -- ---- statuses
 pub ended_small : (online : Bool) (o : Order) (k : Block) → IsFault k → outcome_status online o k < 2 ^ 16

@@ -1,5 +1,7 @@
 -- An end that suits what a command asks for keeps the rules that look at that command alone.
-use Rattle.mscp_shown.proofs.Common.{Answer, Bool, EndBody, MoveKind, None, Opcode, Option, Order, Sent, Some, ap, arith, bit_or, count_of, endcode, eq-eqb, eqb-true, false, has_code, has_count, has_status, if◌then◌else◌, inl, inr, is_about, is_about_another, is_counted, is_it, is_known, is_refused, is_required, is_short, is_some, is_transfer, is_unknown, least_message, lt-ltb, may_have, move_byte, moves, names_unit, nat_eq, nat_le, nat_lt, not, refl, refused_body, row_of, status_code, subst, succeeds, sym, true, was_online, ℕ, ⊎_elim, ◌%◌, ◌&&◌, ◌+◌, ◌/◌, ◌<◌, ◌||◌, ◌∙◌, ◌≡◌, ◌≢◌, ◌≤◌, ◌⊎◌}
+use Rattle.mscp_shown.proofs.Common.{Answer, Bool, EndBody, MoveKind, None, Opcode, Option, Order, Sent, Some, ap, arith, bit_or, count_of, endcode, eq-eqb, eqb-true, false, has_code, has_count, has_status, if◌then◌else◌, inl, inr, is_about, is_about_another, is_counted, is_it, is_known, is_refused, is_required, is_short, is_some, is_transfer, is_unknown, least_of, lt-ltb, may_have_status, move_byte, moves, names_unit, nat_eq, nat_le, nat_lt, not, opcode_byte, refl, refused_body, row_of, status_code, subst, succeeds, sym, true, was_online, ℕ, ⊎_elim, ◌%◌, ◌&&◌, ◌+◌, ◌/◌, ◌<◌, ◌||◌, ◌∙◌, ◌≡◌, ◌≢◌, ◌≤◌, ◌⊎◌}
+use Rattle.mscp_packet.specs.EndcodeBytes as endcodes
+use Rattle.mscp_packet.specs.OpcodeBytes as opcodes
 use Rattle.mscp_packet.specs.declared.command.Order.TheVariants as orders
 use Rattle.mscp_shown.proofs.Reading.{BodyReads}
 use Rattle.mscp_shown.proofs.Saying.{IsLong, IsShort, Says}
@@ -77,13 +79,13 @@ module _ (s : Sent) (a : Answer) where
     plain = ap (λ n. not (nat_eq (n % 32) 0) || not (was_online a) || nat_eq s.opcode 9 || is_unknown s.opcode) is
         ∙ first (not (was_online a)) (nat_eq s.opcode 9) (is_unknown s.opcode);
     points = ap (λ n. not (nat_eq (n % 32) 1) || is_short s || nat_lt (n / 256) s.bytes) is
-        ∙ short_or (least_message s.opcode) s.bytes (least_low s.opcode);
+        ∙ short_or (least_of s.opcode) s.bytes (least_low s.opcode);
   }
     where
       first : (x y z : Bool) → (true || x || y || z) ≡ true
       first x y z = grind arith
 
-      least_low : (op : ℕ) → 12 ≤ least_message op
+      least_low : (op : ℕ) → 12 ≤ least_of op
       least_low op = grind arith
 
       short_or : (least n : ℕ) → 12 ≤ least → (nat_lt n least || nat_lt 8 n) ≡ true
@@ -91,7 +93,7 @@ module _ (s : Sent) (a : Answer) where
 
   -- an opcode that is known
   known : (op : ℕ) → s.opcode ≡ op → a.unit ≡ s.unit → is_known a ≡ true → nat_eq a.code (op + 0x80) ≡ true
-      → may_have op (status_code a) ≡ true → IsApt s a → succeeds a (asked op s) ≡ true
+      → may_have_status op (status_code a) ≡ true → IsApt s a → succeeds a (asked op s) ≡ true
       → is_about a (asked op s) ≡ true → has_count a (wanted op s) ≡ true → nat_eq op 17 ≡ false → Keeps s a
   known op e unit k code status apt success about count apart =
       let other : asked s.opcode s ≡ asked op s = ap (λ o. asked o s) e in
@@ -105,10 +107,10 @@ module _ (s : Sent) (a : Answer) where
         endcode = ap (λ b. if b then nat_eq a.code (s.opcode + 0x80) else not (is_required s.opcode)) k
             ∙ (ap (λ o. nat_eq a.code (o + 0x80)) e ∙ code);
         status = has_all
-            (ap (λ b. if b then is_unknown s.opcode || may_have s.opcode (status_code a)
+            (ap (λ b. if b then is_unknown s.opcode || may_have_status s.opcode (status_code a)
             else nat_eq (status_code a) 1) k
-            ∙ may_too (is_unknown s.opcode) (may_have s.opcode (status_code a))
-            (ap (λ o. may_have o (status_code a)) e ∙ status)) apt;
+            ∙ may_too (is_unknown s.opcode) (may_have_status s.opcode (status_code a))
+            (ap (λ o. may_have_status o (status_code a)) e ∙ status)) apt;
         success = unless_refused (succeeds a) (is_known a) (is_about_another s.opcode) k refl
             (ap (succeeds a) other ∙ success);
         about = unless_refused (is_about a) (is_known a) (is_about_another s.opcode) k refl
@@ -124,20 +126,20 @@ module _ (s : Sent) (a : Answer) where
   plain : (op code : ℕ) → s.opcode ≡ op → a.unit ≡ s.unit → a.code ≡ code → nat_eq code 0x80 ≡ false
       → nat_eq code (op + 0x80) ≡ true → is_about_another op ≡ false → is_transfer op ≡ false
       → nat_eq op 17 ≡ false
-      → may_have op (status_code a) ≡ true → IsApt s a → Keeps s a
+      → may_have_status op (status_code a) ≡ true → IsApt s a → Keeps s a
   plain op code e unit c k right none moves_none apart status apt = grind (arith, known)
 
   -- one about another command
   about_other : (op code other : ℕ) → s.opcode ≡ op → a.unit ≡ s.unit → a.code ≡ code → nat_eq code 0x80 ≡ false
       → nat_eq code (op + 0x80) ≡ true → is_about_another op ≡ true → is_transfer op ≡ false
       → nat_eq op 17 ≡ false
-      → s.parameter ≡ Some other → a.parameter ≡ Some other → may_have op 0 ≡ true → status_code a ≡ 0 → IsApt s a
-      → Keeps s a
+      → s.parameter ≡ Some other → a.parameter ≡ Some other → may_have_status op 0 ≡ true → status_code a ≡ 0
+      → IsApt s a → Keeps s a
   about_other op code other e unit c k right some moves_none apart p q status zero apt =
       let o : asked op s ≡ Some other = ap (λ b. if b then s.parameter else None) some ∙ p in
       let w : wanted op s ≡ None = ap (λ b. if b then s.parameter else None) moves_none in
       known op e unit (ap (λ n. not (nat_eq n 0x80)) c ∙ ap not k) (ap (λ n. nat_eq n (op + 0x80)) c ∙ right)
-      (ap (may_have op) zero ∙ status) apt (ap (succeeds a) o ∙ eq-eqb (status_code a) 0 zero)
+      (ap (may_have_status op) zero ∙ status) apt (ap (succeeds a) o ∙ eq-eqb (status_code a) 0 zero)
       (ap (is_about a) o ∙ (ap (λ f. is_it f other) q ∙ eq-eqb other other refl))
       (ap (has_count a) w) apart
 
@@ -148,7 +150,7 @@ module _ (s : Sent) (a : Answer) where
   -- a transfer, of which so many bytes were to be moved
   transfer : (kind : MoveKind) (moved count : ℕ) → s.opcode ≡ move_byte kind → a.unit ≡ s.unit
       → a.code ≡ bit_or (move_byte kind) 0x80 → s.parameter ≡ Some count → a.parameter ≡ Some moved
-      → may_have (move_byte kind) (status_code a) ≡ true → IsApt s a → moved ≤ count
+      → may_have_status (move_byte kind) (status_code a) ≡ true → IsApt s a → moved ≤ count
       → (status_code a ≡ 0 → moved ≡ count) → Keeps s a
   transfer kind moved count e unit c p q status apt few all =
       let op = move_byte kind in
@@ -173,7 +175,8 @@ module _ (s : Sent) (a : Answer) where
         | false ↦ λ h. refl
       ] refl in
       known op e unit (ap (λ n. not (nat_eq n 0x80)) c ∙ top o) (ap (λ n. nat_eq n (op + 0x80)) c ∙ right o)
-      (ap (may_have op) one) (short_apt short one) (ap (succeeds a) nobody) (ap (is_about a) nobody) count (apart o)
+      (ap (may_have_status op) one ∙ refused o) (short_apt short one) (ap (succeeds a) nobody)
+      (ap (is_about a) nobody) count (apart o)
     where
       top : (o : Opcode) → not (nat_eq (bit_or (row_of o).byte 0x80) 0x80) ≡ true
       top o = grind arith
@@ -183,6 +186,9 @@ module _ (s : Sent) (a : Answer) where
 
       apart : (o : Opcode) → nat_eq (row_of o).byte 17 ≡ false
       apart o = grind arith
+
+      refused : (o : Opcode) → may_have_status (row_of o).byte 1 ≡ true
+      refused o = grind arith
 
   -- none of its bytes were moved
   none_moved : (o : Opcode) → status_code a ≡ 1
@@ -216,30 +222,23 @@ module _ (s : Sent) (a : Answer) where
   pub keeps : (o : Order) (status : ℕ) (body : EndBody) → Says o s → IsLong o s → Suits o status body
       → IsFine o status → a.unit ≡ s.unit → a.code ≡ endcode o → a.status ≡ status → BodyReads body a → Keeps s a
   keeps (orders.Abort other) status body says long suits fine unit c st q =
-      about_other 1 129 other says.0 unit c refl refl refl refl refl says.1 (subst (λ b. BodyReads b a) suits.1 q) refl
-      (ap (λ n. n % 32) st ∙ suits.0) (apt_never 16 status st long fine)
+      about_other opcodes.abort endcodes.abort other says.0 unit c refl refl refl refl refl says.1
+      (subst (λ b. BodyReads b a) suits.1 q) refl (ap (λ n. n % 32) st ∙ suits.0) (apt_never 16 status st long fine)
   keeps (orders.Status other) status body says long suits fine unit c st q =
-      about_other 2 130 other says.0 unit c refl refl refl refl refl says.1 (subst (λ b. BodyReads b a) suits.2 q).0
-      refl
-      (ap (λ n. n % 32) st ∙ suits.0) (apt_never 16 status st long fine)
-  keeps orders.UnitStatus status body says long suits fine unit c st q =
-      plain 3 131 says unit c refl refl refl refl refl (ap (λ n. may_have 3 (n % 32)) st ∙ suits)
-      (apt_never 12 status st long fine)
+      about_other opcodes.get_command_status endcodes.get_command_status other says.0 unit c refl refl refl refl refl
+      says.1 (subst (λ b. BodyReads b a) suits.2 q).0 refl (ap (λ n. n % 32) st ∙ suits.0)
+      (apt_never 16 status st long fine)
   keeps (orders.SetController version) status body says long suits fine unit c st q =
-      plain 4 132 says unit c refl refl refl refl refl (ap (λ n. may_have 4 (n % 32)) st ∙ suits)
+      plain opcodes.set_controller_characteristics endcodes.set_controller_characteristics says unit c refl refl refl
+      refl refl (ap (λ n. may_have_status opcodes.set_controller_characteristics (n % 32)) st ∙ suits)
       (apt_by 14 status st long fine)
-  keeps orders.Available status body says long suits fine unit c st q =
-      plain 8 136 says unit c refl refl refl refl refl (ap (λ n. may_have 8 (n % 32)) st ∙ suits)
-      (apt_never 12 status st long fine)
   keeps orders.Online status body says long suits fine unit c st q =
-      plain 9 137 says unit c refl refl refl refl refl (ap (λ n. may_have 9 (n % 32)) st ∙ suits)
+      plain opcodes.online endcodes.online says unit c refl refl refl refl refl
+      (ap (λ n. may_have_status opcodes.online (n % 32)) st ∙ suits)
       (long_apt 12 long.0 long.1 (inr says) (λ z. absurd (fine (ap (λ n. n % 32) (sym st) ∙ z))))
-  keeps orders.SetUnit status body says long suits fine unit c st q =
-      plain 10 138 says unit c refl refl refl refl refl (ap (λ n. may_have 10 (n % 32)) st ∙ suits)
-      (apt_never 12 status st long fine)
   keeps (orders.Move kind count block) status body says long suits fine unit c st q =
       transfer kind suits.1 count says.0 unit c says.1 (subst (λ b. BodyReads b a) suits.2 q)
-      (ap (λ n. may_have (move_byte kind) (n % 32)) st ∙ suits.0) (apt_by 32 status st long fine) suits.3
+      (ap (λ n. may_have_status (move_byte kind) (n % 32)) st ∙ suits.0) (apt_by 32 status st long fine) suits.3
       (λ z. suits.4 (ap (λ n. n % 32) (sym st) ∙ z))
   keeps (orders.Invalid byte fault) status body says long suits fine unit c st q = ⊎_elim
       (λ e. unknown unit
@@ -247,3 +246,6 @@ module _ (s : Sent) (a : Answer) where
       (st ∙ (suits.0 ∙ e.0)) e.1)
       (λ short. short_keeps short.0 byte fault status body short.1 unit suits.0 suits.1 c st q)
       says
+  keeps order status body says long suits fine unit c st q =
+      plain (opcode_byte order) (endcode order) says unit c refl refl refl refl refl
+      (ap (λ n. may_have_status (opcode_byte order) (n % 32)) st ∙ suits) (apt_never 12 status st long fine)

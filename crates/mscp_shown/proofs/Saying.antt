@@ -1,5 +1,6 @@
 -- What a message says on the wire, by what it asks for.
-use Rattle.mscp_shown.proofs.Common.{Bool, Connection, List, None, Opcode, Option, Order, Sent, Some, arith, command_of, eqb-true, false, false≢true, find, found_is, if◌then◌else◌, inl, inr, invalid_length, invalid_opcode, is_about_another, is_required, is_short, le-ltb, least, length, ltb-false, ltb-true, move_byte, nat_eq, nat_lt, opcode_of, opcodes, order_with, parameters, refl, row_of, sent_by, slice_index, true, ℕ, ◌<◌, ◌≡◌, ◌≤◌, ◌⊎◌}
+use Rattle.mscp_shown.proofs.Common.{Bool, Connection, List, None, Opcode, Option, Order, Sent, Some, arith, command_of, eqb-true, false, false≢true, find, found_is, if◌then◌else◌, inl, inr, invalid_length, invalid_opcode, is_about_another, is_required, is_short, le-ltb, least, length, ltb-false, ltb-true, move_byte, nat_eq, nat_lt, opcode_byte, opcode_of, opcodes, order_with, parameters, refl, row_of, sent_by, slice_index, true, ℕ, ◌<◌, ◌≡◌, ◌≤◌, ◌⊎◌}
+use Rattle.mscp_packet.specs.OpcodeBytes as bytes
 use Rattle.mscp_packet.specs.declared.command.Order.TheVariants as orders
 
 -- it is shorter than its opcode asks
@@ -12,16 +13,12 @@ pub record IsShort (o : Opcode) (number fault : ℕ) (s : Sent) : Type 0 where
 
 -- the command asks for this
 abbrev pub Says : Order → Sent → Type 0
-Says (orders.Abort other) s = (s.opcode ≡ 1) × (s.parameter ≡ Some other)
-Says (orders.Status other) s = (s.opcode ≡ 2) × (s.parameter ≡ Some other)
-Says orders.UnitStatus s = s.opcode ≡ 3
-Says (orders.SetController version) s = s.opcode ≡ 4
-Says orders.Available s = s.opcode ≡ 8
-Says orders.Online s = s.opcode ≡ 9
-Says orders.SetUnit s = s.opcode ≡ 10
+Says (orders.Abort other) s = (s.opcode ≡ bytes.abort) × (s.parameter ≡ Some other)
+Says (orders.Status other) s = (s.opcode ≡ bytes.get_command_status) × (s.parameter ≡ Some other)
 Says (orders.Move kind count block) s = (s.opcode ≡ move_byte kind) × (s.parameter ≡ Some count)
 Says (orders.Invalid byte status) s =
     ((status ≡ invalid_opcode) × (is_required s.opcode ≡ false)) ⊎ ((o : Opcode) × IsShort o byte status s)
+Says order s = s.opcode ≡ opcode_byte order
 
 -- how many bytes a message that asks for this has at least
 abbrev pub span : Order → ℕ

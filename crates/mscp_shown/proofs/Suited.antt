@@ -1,6 +1,6 @@
 -- What an end owes to its command alone: the rules that look at no other command, and the statuses and bodies that suit
 -- an order.
-use Rattle.mscp_shown.proofs.Common.{Answer, EndBody, Order, Sent, count_of, endcode, has_count, has_endcode, has_status, is_about, is_plain, is_whole, may_have, move_byte, names_unit, other_of, points_into, refused_body, succeeds, true, ℕ, ◌%◌, ◌/◌, ◌<◌, ◌≡◌, ◌≢◌, ◌≤◌}
+use Rattle.mscp_shown.proofs.Common.{Answer, EndBody, Order, Sent, count_of, endcode, has_count, has_endcode, has_status, is_about, is_plain, is_whole, may_have_status, move_byte, names_unit, opcode_byte, other_of, points_into, refused_body, succeeds, true, ℕ, ◌%◌, ◌/◌, ◌<◌, ◌≡◌, ◌≢◌, ◌≤◌}
 use Rattle.mscp_packet.specs.declared.command.Order.TheVariants as orders
 use Rattle.mscp_packet.specs.declared.end.EndBody.TheVariants as bodies
 
@@ -23,16 +23,12 @@ pub record IsApt (s : Sent) (a : Answer) : Type 0 where
 abbrev pub Suits : Order → ℕ → EndBody → Type 0
 Suits (orders.Abort other) status body = (status % 32 ≡ 0) × (body ≡ bodies.Abort other)
 Suits (orders.Status other) status body = (status % 32 ≡ 0) × (figure : ℕ) × (body ≡ bodies.Status other figure)
-Suits orders.UnitStatus status body = may_have 3 (status % 32) ≡ true
-Suits (orders.SetController version) status body = may_have 4 (status % 32) ≡ true
-Suits orders.Available status body = may_have 8 (status % 32) ≡ true
-Suits orders.Online status body = may_have 9 (status % 32) ≡ true
-Suits orders.SetUnit status body = may_have 10 (status % 32) ≡ true
 Suits (orders.Move kind count block) status body =
-    (may_have (move_byte kind) (status % 32) ≡ true)
+    (may_have_status (move_byte kind) (status % 32) ≡ true)
     × (moved : ℕ) × (body ≡ bodies.Moved moved) × (moved ≤ count) × (status % 32 ≡ 0 → moved ≡ count)
 Suits (orders.Invalid byte fault) status body =
     (status ≡ fault) × (body ≡ refused_body (endcode (orders.Invalid byte fault)))
+Suits order status body = may_have_status (opcode_byte order) (status % 32) ≡ true
 
 -- its sub-code suits the order: that of Success is 0, but for an ONLINE's, and that of Invalid Command is the offset of
 -- a byte that its message has

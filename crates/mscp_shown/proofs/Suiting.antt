@@ -1,5 +1,5 @@
 -- The ends that a controller makes suit their commands.
-use Rattle.mscp_shown.proofs.Common.{Bad, Block, Bool, Command, End, EndBody, Good, MoveKind, None, Option, Order, Sent, Settings, Shape, Some, aborted_end, arith, cond, endcode, false, fault_of, goes_on, is_good_block, is_immediate, is_queued, may_have, move_fault, nat_tests, order_fault, order_weight, outcome_body, outcome_of, outcome_status, own_end, own_end_with, queued_open, refl, refused_body, touches, true, unit_shape, ℕ, ◌%◌, ◌&&◌, ◌+◌, ◌-◌, ◌<◌, ◌^◌, ◌≡◌, ◌≢◌, ◌≤◌, ◌⊎◌}
+use Rattle.mscp_shown.proofs.Common.{Bad, Block, Bool, Command, End, EndBody, Good, MoveKind, None, Option, Order, Sent, Settings, Shape, Some, aborted_end, arith, cond, endcode, false, fault_of, goes_on, is_good_block, is_immediate, is_queued, may_have_status, move_fault, nat_tests, opcode_byte, order_fault, order_weight, outcome_body, outcome_of, outcome_status, own_end, own_end_with, queued_open, refl, refused_body, touches, true, unit_shape, ℕ, ◌%◌, ◌&&◌, ◌+◌, ◌-◌, ◌<◌, ◌^◌, ◌≡◌, ◌≢◌, ◌≤◌, ◌⊎◌}
 use Rattle.mscp_packet.specs.declared.command.Order.TheVariants as orders
 use Rattle.mscp_shown.proofs.Saying.{Says}
 use Rattle.mscp_shown.proofs.Suited.{IsFine, Suits}
@@ -50,18 +50,16 @@ pub own_ends : (c : Settings) (online : Bool) (figure : ℕ) (k : Command) → i
     → Ends k (own_end c online figure k)
 own_ends c online figure k h = grind (arith, own_with)
 
--- ---- aborted
 -- ---- served
 -- the status of a bad block is one that a drive or a medium may have (manual)
 abbrev pub IsFault : Block → Type 0
 IsFault Good = Unit {0}
 IsFault (Bad status) = (status < 2 ^ 16) × (5 ≤ status % 32) × (status % 32 ≤ 11)
 
-fault_of_online : (code : ℕ) → 5 ≤ code → code ≤ 11 → may_have 9 code ≡ true
-fault_of_online code low high = grind (arith, nat_tests)
-
-fault_of_set : (code : ℕ) → 5 ≤ code → code ≤ 11 → may_have 10 code ≡ true
-fault_of_set code low high = grind (arith, nat_tests)
+-- and so one that a command which waits may have
+waiting_fault : (o : Order) (code : ℕ) → is_immediate o ≡ false → ((byte why : ℕ) → o ≢ orders.Invalid byte why)
+    → 5 ≤ code → code ≤ 11 → may_have_status (opcode_byte o) code ≡ true
+waiting_fault o code h n low high = grind (arith, nat_tests)
 
 module _ (shape : Shape) (good done : ℕ) (same : good ≡ done) where
   move_ends : (kind : MoveKind) (count block : ℕ) (online : Bool) (k : Block) → IsFault k
@@ -79,15 +77,8 @@ module _ (shape : Shape) (good done : ℕ) (same : good ≡ done) where
       (outcome_body shape (outcome_status online o k) o (good + cond (touches online o && is_good_block k) 1 0))
   outcome_suits online (orders.Move kind count block) k fault h n last =
       move_ends kind count block online k fault last
-  outcome_suits online orders.Available Good fault h n last = refl
-  outcome_suits online orders.Available (Bad status) fault h n last = grind arith
-  outcome_suits true orders.Online Good fault h n last = refl
-  outcome_suits false orders.Online Good fault h n last = refl
-  outcome_suits online orders.Online (Bad status) fault h n last = fault_of_online (status % 32) fault.1 fault.2
-  outcome_suits online orders.SetUnit Good fault h n last = refl
-  outcome_suits online orders.SetUnit (Bad status) fault h n last = fault_of_set (status % 32) fault.1 fault.2
   outcome_suits online (orders.Invalid byte why) k fault h n last = absurd (n byte why refl)
-  outcome_suits online o k fault h n last = cc
+  outcome_suits online o k fault h n last = grind (arith, waiting_fault)
 
 pub outcome_fine : (online : Bool) (o : Order) (k : Block) → IsFault k → is_immediate o ≡ false
     → ((byte why : ℕ) → o ≢ orders.Invalid byte why) → IsFine o (outcome_status online o k)

@@ -1,6 +1,6 @@
 -- An end that a host takes, as the rules of the wire read it.
-use Rattle.mscp_shown.proofs.Common.{AreBytes, ArrayVec, BodyKind, End, IsOfKind, List, None, Option, Some, [], ap, arith, cases_lt, end_bytes, end_length, endcodes, eqb-true, find, four, get_or_past, is_long, kind_of_body, least_length, length, length_span, nat_eq, nat_le, num, option_map, refl, slice_get, slice_index, subst, true, ℕ, ⊎_elim, ◌+◌, ◌<◌, ◌^◌, ◌∷◌, ◌≡◌}
-use Rattle.mscp_shown.proofs.Counts.{found_passes}
+use Rattle.mscp_shown.proofs.Common.{AreBytes, ArrayVec, BodyKind, End, IsOfKind, List, None, Option, Some, [], ap, arith, cases_lt, end_bytes, end_length, four, get_or_past, is_long, kind_of_body, kind_of_code, least_end, length, length_span, num, option_map, refl, slice_get, slice_index, true, ℕ, ⊎_elim, ◌+◌, ◌<◌, ◌^◌, ◌∷◌, ◌≡◌}
+use Rattle.mscp_packet.specs.Ends.{least_with}
 
 -- ---- numbers
 byte_at : (b : List ℕ) → AreBytes b → (i : ℕ) → slice_index b i < 256
@@ -21,25 +21,15 @@ some_value : {X : Type 0} → X → Option X → X
 some_value d None = d
 some_value d (Some x) = x
 
-least_of : (code : ℕ) (kind : BodyKind) (found : Option (ℕ × BodyKind))
-    → find (λ entry. nat_eq entry.0 code) endcodes ≡ found → option_map (λ entry. entry.1) found ≡ Some kind
-    → nat_le (least_length code) (end_length kind) ≡ true
-unfolding some_value
-least_of code kind None e h = cc
-least_of code kind (Some entry) e h =
-    let f = found_passes (λ entry. nat_eq entry.0 code) (λ entry. nat_le (least_length entry.0) (end_length entry.1))
-    endcodes entry e refl in
-    let is : entry.0 ≡ code = eqb-true entry.0 code f.0 in
-    let same : entry.1 ≡ kind = ap (some_value kind) h in
-    subst (λ n. nat_le (least_length n) (end_length kind) ≡ true) is
-    (subst (λ k. nat_le (least_length entry.0) (end_length k) ≡ true) same f.1)
+least_is : (code : ℕ) (kind : BodyKind) → kind_of_code code ≡ Some kind → least_end code ≡ end_length kind
+least_is code kind h = ap least_with h
 
 length_is : (e : End) → length (end_bytes e) ≡ end_length (kind_of_body e.body)
 length_is e = search arith
 
 -- an end whose body is of the shape of its endcode is as long as that asks
 pub long_end : (e : End) → IsOfKind e → is_long (end_bytes e) ≡ true
-long_end e kind = grind (arith, least_of, length_span, length_is)
+long_end e kind = grind (arith, least_is, length_span, length_is)
 
 -- ---- who takes it
 -- what is taken is the first of these ends

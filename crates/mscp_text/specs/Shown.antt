@@ -3,12 +3,11 @@ use Rattle.std.specs.Prelude.{◌≡◌, ℕ, ◌==◌, nat_lt, if◌then◌else
 use Rattle.std.specs.Fmt.{decimal}
 use Rattle.hex.specs.Hex.{decode_of, encode_lower}
 use Rattle.hex.specs.declared.error.FromHexError.{FromHexError}
+use Rattle.mscp_packet.specs.EndcodeBytes.{unknown}
 use Rattle.mscp_packet.specs.Statuses.{invalid_opcode}
-use Rattle.mscp_packet.specs.Commands.{command_of}
+use Rattle.mscp_packet.specs.Commands.{command_of, order_name}
 use Rattle.mscp_packet.specs.Ends.{kind_of_code, reading_with}
 use Rattle.mscp_packet.specs.declared.command.Command.{Command}
-use Rattle.mscp_packet.specs.declared.command.MoveKind.{MoveKind}
-use Rattle.mscp_packet.specs.declared.command.MoveKind.TheVariants as moves
 use Rattle.mscp_packet.specs.declared.command.Order.{Order}
 use Rattle.mscp_packet.specs.declared.command.Order.TheVariants as orders
 use Rattle.mscp_packet.specs.declared.end.End.{End}
@@ -27,30 +26,20 @@ use Rattle.mscp_text.specs.declared.packet.ShowFault.TheVariants as faults
 
 -- ---- a command
 
--- the name of a transfer (manual)
-abbrev pub move_name : MoveKind → List ℕ
-move_name moves.Access = codes "ACCESS"
-move_name moves.Erase = codes "ERASE"
-move_name moves.Compare = codes "COMPARE HOST DATA"
-move_name moves.Read = codes "READ"
-move_name moves.Write = codes "WRITE"
-
 -- what is wrong with a command of this status (profile)
 abbrev pub invalid_name : ℕ → List ℕ
 invalid_name status = if status == invalid_opcode then codes "unknown" else codes "short"
 
 -- what a command asks for (profile; the names are the manual's)
 abbrev pub order_text : Order → List ℕ
-order_text (orders.Abort other) = codes "ABORT of " ++ decimal other
-order_text (orders.Status other) = codes "GET COMMAND STATUS of " ++ decimal other
-order_text orders.UnitStatus = codes "GET UNIT STATUS"
-order_text (orders.SetController version) = codes "SET CONTROLLER CHARACTERISTICS version " ++ decimal version
-order_text orders.Available = codes "AVAILABLE"
-order_text orders.Online = codes "ONLINE"
-order_text orders.SetUnit = codes "SET UNIT CHARACTERISTICS"
+order_text (orders.Abort other) = order_name (orders.Abort other) ++ codes " of " ++ decimal other
+order_text (orders.Status other) = order_name (orders.Status other) ++ codes " of " ++ decimal other
+order_text (orders.SetController version) =
+    order_name (orders.SetController version) ++ codes " version " ++ decimal version
 order_text (orders.Move kind count block) =
-    move_name kind ++ codes " bytes " ++ decimal count ++ codes " block " ++ decimal block
+    order_name (orders.Move kind count block) ++ codes " bytes " ++ decimal count ++ codes " block " ++ decimal block
 order_text (orders.Invalid opcode status) = invalid_name status ++ codes " opcode " ++ decimal opcode
+order_text order = order_name order
 
 abbrev pub command_text : Command → List ℕ
 command_text command =
@@ -124,7 +113,7 @@ as_end (Err fault) = Err (of_end fault)
 -- the packet of a message: a command, or where the top bit of byte 8 is set an end (profile)
 abbrev pub packet_of : List ℕ → Result Packet ShowFault
 packet_of b =
-    if nat_lt (slice_index b 8) 0x80
+    if nat_lt (slice_index b 8) unknown
     then Ok (packets.Command (command_of b))
     else as_end (reading_with (kind_of_code (slice_index b 8)) b)
 

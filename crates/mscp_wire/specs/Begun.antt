@@ -10,6 +10,8 @@
 --                 sent something, too                                                              is_sure
 use Rattle.std.specs.Prelude.{ℕ, Bool, true, false, not, ◌&&◌, ◌||◌, nat_eq, List, Option, Some, None}
 use Rattle.std.specs.List.{list_any}
+use Rattle.mscp_packet.specs.EndcodeBytes as endcodes
+use Rattle.mscp_packet.specs.StatusCodes as statuses
 use Rattle.mscp_packet.specs.Number.{num}
 use Rattle.mscp_drive.specs.declared.connection.Connection.{Connection}
 use Rattle.mscp_wire.specs.Wire.{History, answer_by, broken_by, is_message, other_side, same_connection, status_code}
@@ -48,10 +50,11 @@ abbrev pub is_initial : Moment → Bool
 is_initial moments.Reset = true
 is_initial m = false
 
--- an end says that an AVAILABLE (0x88) or an ONLINE (0x89) of a unit succeeded
+-- an end says that an AVAILABLE or an ONLINE of a unit succeeded
 abbrev pub turns_unit : ℕ → Answer → Bool
 turns_unit unit e =
-    (nat_eq e.code 0x88 || nat_eq e.code 0x89) && nat_eq (status_code e) 0 && nat_eq e.unit unit
+    (nat_eq e.code endcodes.available || nat_eq e.code endcodes.online) && nat_eq (status_code e) statuses.success
+    && nat_eq e.unit unit
 
 abbrev pub has_turned : Connection → ℕ → Moment → Bool
 has_turned via unit (moments.End other b) = same_connection other via && turns_unit unit (answer_by other b.items)

@@ -2,6 +2,7 @@
 use Rattle.std.specs.Prelude.{◌≡◌, ℕ, ◌+◌, Bool, true, ◌&&◌, nat_eq, nat_lt, if◌then◌else◌, List, [], ◌∷◌, ◌++◌, length, slice_index, Option, Some, None, Result, Ok, Err}
 use Rattle.std.specs.Ordering.{nat_cmp}
 use Rattle.std.specs.BTreeMap as tree
+use Rattle.mscp_packet.specs.EndcodeBytes as endcodes
 use Rattle.mscp_drive.specs.declared.connection.Connection.{Connection}
 use Rattle.mscp_packet.specs.Steps.{◌>>=◌}
 use Rattle.mscp_reader.specs.Lexical.{lines}
@@ -65,10 +66,10 @@ no_mention = record { sent = None; told = None; asked = None }
 abbrev pub no_mentions : Connection → ℕ → Mention
 no_mentions via reference = no_mention
 
--- it is the end of a GET COMMAND STATUS (0x82) that tells of the command of this number
+-- it is the end of a GET COMMAND STATUS that tells of the command of this number
 abbrev pub tells_of : Connection → List ℕ → Connection → ℕ → Bool
 tells_of other b via reference =
-    same_connection other via && is_it (four_in b 12) reference && nat_eq (slice_index b 8) 0x82
+    same_connection other via && is_it (four_in b 12) reference && nat_eq (slice_index b 8) endcodes.get_command_status
 
 -- the line that last told the figure of a command, if its number is there
 abbrev pub told_in : (Connection → ℕ → Mention) → Connection → Option ℕ → Option ℕ

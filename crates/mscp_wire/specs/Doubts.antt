@@ -10,6 +10,9 @@
 --     Next        a GET UNIT STATUS that asks for the next unit passes one that is there            skips
 --     Figure      in a log that begins in the middle a figure doesn't fall                          is_slow
 use Rattle.std.specs.Prelude.{ℕ, zero, suc, ◌+◌, ◌/◌, ◌<◌, Bool, true, false, not, cond, ◌&&◌, ◌||◌, nat_eq, nat_le, nat_lt, if◌then◌else◌, List, length, take, slice_index, Option, Some, None}
+use Rattle.mscp_packet.specs.OpcodeBytes as opcodes
+use Rattle.mscp_packet.specs.EndcodeBytes as endcodes
+use Rattle.mscp_packet.specs.StatusCodes as statuses
 use Rattle.mscp_drive.specs.declared.connection.Connection.{Connection}
 use Rattle.mscp_drive.specs.declared.connection.Connection.TheVariants.{First, Second}
 use Rattle.mscp_wire.specs.Begun.{is_slow}
@@ -28,11 +31,12 @@ use Rattle.mscp_wire.specs.declared.told.Told.{Told}
 
 -- ---- of an end
 
--- an end of SET UNIT CHARACTERISTICS (0x8A) tells of a unit another identity than this, if that is there. The rule of
+-- an end of SET UNIT CHARACTERISTICS tells of a unit another identity than this, if that is there. The rule of
 -- identities lets it pass if both are told so alone: then the unit may be available, so its volume may have changed
 abbrev pub is_another : Option Identity → Answer → Bool
 is_another None e = false
-is_another (Some known) e = nat_eq e.code 0x8A && tells_unit e && not (agrees e.identity known)
+is_another (Some known) e =
+    nat_eq e.code endcodes.set_unit_characteristics && tells_unit e && not (agrees e.identity known)
 
 -- how many blocks stand behind a unit's size: those of its replacement and caching table, which GET UNIT STATUS tells.
 -- Without it these are the most that it can tell, 65,535 blocks in each of 255 copies
@@ -49,19 +53,23 @@ ends_past size table block bytes = false
 -- a transfer succeeded that ends there
 abbrev pub is_past : Told → Sent → Answer → Bool
 is_past unit y e =
-    is_moved e.code && nat_eq (status_code e) 0 && is_single unit.state
+    is_moved e.code && nat_eq (status_code e) statuses.success && is_single unit.state
     && ends_past unit.noted.size unit.noted.table y.block y.parameter
 
--- a command has no use for a status of this code (manual, "Status and Event Codes"): an ACCESS (16), a COMPARE HOST
--- DATA (32) or a READ (33) that is Write Protected (6), a Compare Error (7) of anything but a COMPARE HOST DATA or a
--- transfer with the modifier Compare, a Host Buffer Access Error (9) without a buffer, which a COMPARE HOST DATA, a
--- READ and a WRITE (34) have, and of an AVAILABLE (8) all codes of a medium, of data or of a buffer (5 to 9)
+-- a command has no use for a status of this code (manual, "Status and Event Codes"): an ACCESS, a COMPARE HOST DATA
+-- or a READ that is Write Protected, a Compare Error of anything but a COMPARE HOST DATA or a transfer with the
+-- modifier Compare, a Host Buffer Access Error without a buffer, which a COMPARE HOST DATA, a READ and a WRITE
+-- have, and of an AVAILABLE all codes of a medium, of data or of a buffer
 abbrev pub has_no_use : Sent → ℕ → Bool
 has_no_use y code =
-    (nat_eq code 6 && (nat_eq y.opcode 16 || nat_eq y.opcode 32 || nat_eq y.opcode 33))
-    || (nat_eq code 7 && not (nat_eq y.opcode 32 || (is_transfer y.opcode && y.compares)))
-    || (nat_eq code 9 && not (nat_eq y.opcode 32 || nat_eq y.opcode 33 || nat_eq y.opcode 34))
-    || (nat_eq y.opcode 8 && nat_le 5 code && nat_le code 9)
+    (nat_eq code statuses.write_protected
+    && (nat_eq y.opcode opcodes.access || nat_eq y.opcode opcodes.compare_host_data || nat_eq y.opcode opcodes.read))
+    || (nat_eq code statuses.compare_error
+    && not (nat_eq y.opcode opcodes.compare_host_data || (is_transfer y.opcode && y.compares)))
+    || (nat_eq code statuses.host_buffer_access_error
+    && not (nat_eq y.opcode opcodes.compare_host_data || nat_eq y.opcode opcodes.read || nat_eq y.opcode opcodes.write))
+    || (nat_eq y.opcode opcodes.available
+    && nat_le statuses.media_format_error code && nat_le code statuses.host_buffer_access_error)
 
 -- its status has such a code, and a row of the table of opcodes has its command
 abbrev pub is_odd : Sent → Answer → Bool
@@ -70,7 +78,8 @@ is_odd y e = is_known e && not (is_unknown y.opcode) && has_no_use y (status_cod
 -- a WRITE or an ERASE succeeded, and the unit was told to be protected from writing
 abbrev pub writes_protected : Told → Answer → Bool
 writes_protected unit e =
-    (nat_eq e.code 0xA2 || nat_eq e.code 0x92) && nat_eq (status_code e) 0 && is_single unit.state
+    (nat_eq e.code endcodes.write || nat_eq e.code endcodes.erase)
+    && nat_eq (status_code e) statuses.success && is_single unit.state
     && unit.noted.protected
 
 -- a unit was told to be online, and to have this identifier
@@ -95,7 +104,9 @@ is_called_twice units callers (Some identifier) e = is_held_by_another units ide
 -- the next unit is the first one from it on (manual, "GET UNIT STATUS Command")
 abbrev pub skips : Told → Sent → Answer → Bool
 skips named y e =
-    y.next && nat_eq e.code 0x83 && (nat_eq (status_code e) 0 || nat_eq (status_code e) 4) && nat_lt y.unit e.unit
+    y.next && nat_eq e.code endcodes.get_unit_status
+    && (nat_eq (status_code e) statuses.success || nat_eq (status_code e) statuses.unit_available)
+    && nat_lt y.unit e.unit
     && named.noted.present
 
 -- ---- of a moment

@@ -1,6 +1,7 @@
 -- What is kept beside the commands that are outstanding, so that each is found soon.
 use Rattle.std.specs.Prelude.{◌≡◌, ℕ, ◌+◌, ◌-◌, ◌*◌, ◌/◌, ◌%◌, ◌<◌, ◌≤◌, ◌^◌, cond, nat_le, length, take, Bool, true, false, not, ◌&&◌, ◌||◌, nat_eq, if◌then◌else◌, List, get_or, count_by, Option, Some, None}
 use Rattle.std.specs.List.{filter_map}
+use Rattle.mscp_packet.specs.OpcodeBytes as opcodes
 use Rattle.mscp_drive.specs.declared.connection.Connection.{Connection}
 use Rattle.mscp_drive.specs.declared.connection.Connection.TheVariants.{First, Second}
 use Rattle.mscp_wire.specs.Messages.{is_immediate, is_named, is_ordered, is_sequential, same_connection}
@@ -52,12 +53,12 @@ abbrev pub about : Option ℕ → ℕ
 about None = 65537
 about (Some other) = 65538 + other
 
--- the number of one that has no place there: of an ABORT (1) and a GET COMMAND STATUS (2) by what it is about, of a GET
--- UNIT STATUS (3) its unit, but of those of the next unit and of all others 65536
+-- the number of one that has no place there: of an ABORT and a GET COMMAND STATUS by what it is about, of a GET
+-- UNIT STATUS its unit, but of those of the next unit and of all others 65536
 abbrev pub aside : Sent → ℕ
 aside s =
-    if nat_eq s.opcode 1 || nat_eq s.opcode 2 then about s.parameter
-    else if nat_eq s.opcode 3 && not s.next then s.unit else 65536
+    if nat_eq s.opcode opcodes.abort || nat_eq s.opcode opcodes.get_command_status then about s.parameter
+    else if nat_eq s.opcode opcodes.get_unit_status && not s.next then s.unit else 65536
 
 abbrev pub tag_of : Sent → ℕ
 tag_of s =
@@ -124,16 +125,20 @@ slot_if via None = None
 slot_if via (Some number) = Some (slot_of via number)
 
 abbrev pub by_asked : Sent → Option ℕ
-by_asked s = if nat_eq s.opcode 2 && asks s.asked then slot_if s.connection s.parameter else None
+by_asked s =
+    if nat_eq s.opcode opcodes.get_command_status && asks s.asked then slot_if s.connection s.parameter else None
 
 -- a GET UNIT STATUS beside which its unit had one state so far is counted by that, or by its connection if it asks for
 -- the next unit
 abbrev pub by_status : Sent → Option ℕ
 by_status s =
-    if nat_eq s.opcode 3 && not s.next && not s.beside then Some (slot_of s.connection s.unit) else None
+    if nat_eq s.opcode opcodes.get_unit_status && not s.next && not s.beside
+    then Some (slot_of s.connection s.unit)
+    else None
 
 abbrev pub by_next : Sent → Option ℕ
-by_next s = if nat_eq s.opcode 3 && s.next && not s.beside then Some (slot_of s.connection 0) else None
+by_next s =
+    if nat_eq s.opcode opcodes.get_unit_status && s.next && not s.beside then Some (slot_of s.connection 0) else None
 
 -- a count of 65535 stays, since it isn't known how many more there were
 abbrev pub more : ℕ → ℕ

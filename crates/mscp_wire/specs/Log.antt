@@ -1,6 +1,7 @@
 -- A log of the wire: what its lines say, and what they tell. No judge is in these definitions.
 use Rattle.std.specs.Prelude.{◌≡◌, ℕ, ◌+◌, ◌-◌, ◌*◌, ◌^◌, ◌/◌, ◌==◌, Bool, true, false, not, nat_eq, nat_lt, ◌&&◌, ◌||◌, if◌then◌else◌, List, [], ◌∷◌, ◌++◌, length, take, drop, position, codes, slice_index, Option, Some, None, is_none, Result, Ok, Err}
 use Rattle.std.specs.Str.{bytes_eq}
+use Rattle.mscp_packet.specs.EndcodeBytes as endcodes
 use Rattle.arrayvec.specs.ArrayVec.{ArrayVec}
 use Rattle.mscp_drive.specs.declared.connection.Connection.{Connection}
 use Rattle.mscp_drive.specs.declared.connection.Connection.TheVariants.{First, Second}
@@ -103,9 +104,9 @@ enveloped digits =
 unfoldable pub whole_packet : List (List ℕ) → Result (Option (ArrayVec ℕ)) Cause
 whole_packet fields = one fields >>= enveloped
 
--- what the controller sends is an attention message (0x40), which answers no command (manual, "Attention Messages")
+-- what the controller sends is an attention message, which answers no command (manual, "Attention Messages")
 abbrev pub is_attention : List ℕ → Bool
-is_attention b = nat_eq (slice_index b 8) 0x40
+is_attention b = nat_eq (slice_index b 8) endcodes.available_attention
 
 -- it sends one, or an end
 abbrev pub sends : Connection → ArrayVec ℕ → Said

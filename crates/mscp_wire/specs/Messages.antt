@@ -1,7 +1,12 @@
 -- What messages and ends say, as far as the rules of the wire ask for it.
 use Rattle.std.specs.Prelude.{ℕ, ◌+◌, ◌*◌, ◌/◌, ◌%◌, Bool, true, false, not, ◌&&◌, ◌||◌, nat_eq, nat_le, nat_lt, if◌then◌else◌, List, length, slice_index, Option, Some, None}
+use Rattle.mscp_packet.specs.OpcodeBytes as opcodes
+use Rattle.mscp_packet.specs.EndcodeBytes as endcodes
+use Rattle.mscp_packet.specs.StatusCodes as statuses
 use Rattle.mscp_packet.specs.Number.{num}
-use Rattle.mscp_packet.specs.Opcodes.{class, is_immediate_class}
+pub use Rattle.mscp_packet.specs.Opcodes.{is_immediate}
+use Rattle.mscp_packet.specs.Opcodes.{class, least_of, scheduled_as}
+use Rattle.mscp_packet.specs.Statuses.{code_of}
 use Rattle.mscp_packet.specs.declared.class.Class.{Class}
 use Rattle.mscp_packet.specs.declared.class.Class.TheVariants as classes
 use Rattle.mscp_drive.specs.declared.connection.Connection.{Connection}
@@ -24,7 +29,7 @@ four_in b at = if nat_le (at + 4) (length b) then Some (num b at 4) else None
 
 -- a message is a GET UNIT STATUS that asks for the next unit, by its modifiers (manual, "GET UNIT STATUS Command")
 abbrev pub asks_for_next : List ℕ → Bool
-asks_for_next b = nat_eq (slice_index b 8) 3 && nat_eq (num b 10 2 % 2) 1
+asks_for_next b = nat_eq (slice_index b 8) opcodes.get_unit_status && nat_eq (num b 10 2 % 2) 1
 
 -- a message sets a modifier
 abbrev pub is_modified : List ℕ → Bool
@@ -57,14 +62,14 @@ sent_by via b = record {
 }
 
 -- what an end of 44 bytes at least says of its unit, if it is one of ONLINE, SET UNIT CHARACTERISTICS or GET UNIT
--- STATUS (0x83), which says no size (manual, "End Messages")
+-- STATUS, which says no size (manual, "End Messages")
 abbrev pub identity_in : List ℕ → Option Identity
 identity_in b =
     if nat_le 44 (length b)
     then Some (record {
       identifier = num b 20 8;
       media = num b 28 4;
-      size = if nat_eq (slice_index b 8) 0x83 then None else Some (num b 36 4);
+      size = if nat_eq (slice_index b 8) endcodes.get_unit_status then None else Some (num b 36 4);
     })
     else None
 
@@ -77,14 +82,16 @@ protected_in b = nat_le 16 (length b) && not (nat_eq (num b 14 2 / 4096 % 4) 0)
 -- one of GET UNIT STATUS does (manual, "GET UNIT STATUS Command")
 abbrev pub table_in : List ℕ → Option ℕ
 table_in b =
-    if nat_eq (slice_index b 8) 0x83 && nat_le 48 (length b)
+    if nat_eq (slice_index b 8) endcodes.get_unit_status && nat_le 48 (length b)
     then Some (num b 44 2 * slice_index b 47)
     else None
 
--- an end tells of the controller: one of SET CONTROLLER CHARACTERISTICS (0x84) that succeeded (manual, "SET CONTROLLER
+-- an end tells of the controller: one of SET CONTROLLER CHARACTERISTICS that succeeded (manual, "SET CONTROLLER
 -- CHARACTERISTICS Command")
 abbrev pub tells_controller : List ℕ → Bool
-tells_controller b = nat_eq (slice_index b 8) 0x84 && nat_eq (num b 10 2 % 32) 0 && nat_le 28 (length b)
+tells_controller b =
+    nat_eq (slice_index b 8) endcodes.set_controller_characteristics
+    && nat_eq (code_of (num b 10 2)) statuses.success && nat_le 28 (length b)
 
 -- the identifier of the controller, if an end tells it
 abbrev pub controller_in : List ℕ → Option ℕ
@@ -124,10 +131,6 @@ is_named via reference s = same_connection s.connection via && nat_eq s.referenc
 
 -- ---- opcodes, endcodes and statuses
 
--- a command of this opcode is answered when it arrives (manual, "Command Categories and Execution Order")
-abbrev pub is_immediate : ℕ → Bool
-is_immediate opcode = is_immediate_class (class opcode)
-
 -- it keeps its place among the commands of its unit
 abbrev pub is_sequential_class : Class → Bool
 is_sequential_class classes.Sequential = true
@@ -152,63 +155,37 @@ is_unknown_class other = false
 abbrev pub is_unknown : ℕ → Bool
 is_unknown opcode = is_unknown_class (class opcode)
 
--- it has its place among the commands of its unit, too: a transfer, or one of DETERMINE ACCESS PATHS (11), COMPARE
--- CONTROLLER DATA (17), FLUSH (19) and REPLACE (20), which no row of the table has (manual, "Command Categories and
--- Execution Order")
+-- it has its place among the commands of its unit, too: a transfer, or one of DETERMINE ACCESS PATHS, COMPARE
+-- CONTROLLER DATA, FLUSH and REPLACE, which no row of the controller's has (manual, "Command Categories and Execution
+-- Order")
 abbrev pub is_ordered : ℕ → Bool
-is_ordered opcode =
-    is_transfer opcode || nat_eq opcode 11 || nat_eq opcode 17 || nat_eq opcode 19 || nat_eq opcode 20
+is_ordered opcode = is_transfer_class (scheduled_as opcode)
 
--- no controller may leave it out (manual, "Minimal Disk Subset"): an ABORT, a GET COMMAND STATUS, a GET UNIT STATUS, a
--- SET CONTROLLER CHARACTERISTICS, an AVAILABLE, an ONLINE, a SET UNIT CHARACTERISTICS, a READ and a WRITE
+-- no controller may leave it out (manual, "Minimal Disk Subset")
 abbrev pub is_required : ℕ → Bool
 is_required opcode =
-    nat_eq opcode 1 || nat_eq opcode 2 || nat_eq opcode 3 || nat_eq opcode 4 || nat_eq opcode 8 || nat_eq opcode 9
-    || nat_eq opcode 10 || nat_eq opcode 33 || nat_eq opcode 34
+    nat_eq opcode opcodes.abort
+    || nat_eq opcode opcodes.get_command_status
+    || nat_eq opcode opcodes.get_unit_status
+    || nat_eq opcode opcodes.set_controller_characteristics
+    || nat_eq opcode opcodes.available
+    || nat_eq opcode opcodes.online
+    || nat_eq opcode opcodes.set_unit_characteristics
+    || nat_eq opcode opcodes.read
+    || nat_eq opcode opcodes.write
 
 -- it is an ABORT or a GET COMMAND STATUS, which are about another command
 abbrev pub is_about_another : ℕ → Bool
-is_about_another opcode = nat_eq opcode 1 || nat_eq opcode 2
+is_about_another opcode = nat_eq opcode opcodes.abort || nat_eq opcode opcodes.get_command_status
 
--- the fewest bytes of a command of this opcode, so that what it asks for is there (manual, "Command Messages")
-abbrev pub least_message : ℕ → ℕ
-least_message opcode =
-    if is_about_another opcode then 16 else (
-    if nat_eq opcode 4 then 14 else (
-    if is_transfer opcode || nat_eq opcode 20 then 32
-    else 12))
-
--- its message is shorter
+-- its message is shorter than a command of its opcode may be, so that what it asks for is there
 abbrev pub is_short : Sent → Bool
-is_short s = nat_lt s.bytes (least_message s.opcode)
+is_short s = nat_lt s.bytes (least_of s.opcode)
 
--- the fewest bytes of an end with this endcode (manual, "End Messages")
-abbrev pub least_length : ℕ → ℕ
-least_length code =
-    if nat_eq code 0x81 then 16 else (
-    if nat_eq code 0x82 then 20 else (
-    if nat_eq code 0x83 then 48 else (
-    if nat_eq code 0x84 then 28 else (
-    if nat_eq code 0x89 || nat_eq code 0x8A then 44 else (
-    if nat_eq code 0x90 || nat_eq code 0x92 || nat_eq code 0xA0 || nat_eq code 0xA1 || nat_eq code 0xA2 then 32
-    else 12)))))
-
--- the code of a status: its low five bits (manual, "Status and Event Codes")
+-- the code of its status (manual, "Status and Event Codes")
 abbrev pub status_code : Answer → ℕ
-status_code e = e.status % 32
+status_code e = code_of e.status
 
--- the endcode is that of an opcode which the controller knows: 0x80 alone is that of any other (profile)
+-- the endcode is that of an opcode which the controller knows (profile)
 abbrev pub is_known : Answer → Bool
-is_known e = not (nat_eq e.code 0x80)
-
--- a command of this opcode may have a status of this code (manual, "Status and Event Codes"): Success (0) or Invalid
--- Command (1), and any other of 2 to 11 where it isn't an ABORT, a GET COMMAND STATUS or a SET CONTROLLER
--- CHARACTERISTICS. A GET UNIT STATUS isn't aborted (2), and has no code of a medium, of data or of a buffer (5 to 9);
--- no AVAILABLE or ONLINE is told that its unit is available (4)
-abbrev pub may_have : ℕ → ℕ → Bool
-may_have opcode code =
-    nat_le code 1
-    || (nat_le code 11
-    && not (nat_eq opcode 1 || nat_eq opcode 2 || nat_eq opcode 4)
-    && not (nat_eq opcode 3 && (nat_eq code 2 || (nat_le 5 code && nat_le code 9)))
-    && not ((nat_eq opcode 8 || nat_eq opcode 9) && nat_eq code 4))
+is_known e = not (nat_eq e.code endcodes.unknown)

@@ -1,6 +1,8 @@
 -- What a poll may tell: by what is outstanding when it comes, and by what comes and ends until it is answered.
 use Rattle.std.specs.Prelude.{ℕ, ◌-◌, ◌*◌, Bool, true, false, not, ◌&&◌, ◌||◌, nat_eq, nat_lt, if◌then◌else◌, List, find, Option, Some, None}
 use Rattle.std.specs.List.{list_any}
+use Rattle.mscp_packet.specs.OpcodeBytes as opcodes
+use Rattle.mscp_packet.specs.StatusCodes as statuses
 use Rattle.mscp_drive.specs.declared.connection.Connection.{Connection}
 use Rattle.mscp_wire.specs.Messages.{is_immediate, is_known, is_named, same_connection, status_code}
 use Rattle.mscp_wire.specs.declared.answer.Answer.{Answer}
@@ -53,17 +55,20 @@ asked_by timeout xs y (Some other) =
 -- a command, once it is known what it asks as a poll of those that are outstanding, by the controller timeout
 abbrev pub asking : Option ℕ → List Sent → Sent → Sent
 asking timeout xs y =
-    record y { asked = if nat_eq y.opcode 2 then asked_by timeout xs y y.parameter else Nothing }
+    record y {
+      asked = if nat_eq y.opcode opcodes.get_command_status then asked_by timeout xs y y.parameter else Nothing;
+    }
 
 -- ---- when it is answered
 
--- its command, which has a modifier, is refused as an Invalid Command (1)
+-- its command, which has a modifier, is refused as an Invalid Command
 abbrev pub is_refused : Sent → Answer → Bool
-is_refused y e = y.modified && nat_eq (status_code e) 1
+is_refused y e = y.modified && nat_eq (status_code e) statuses.invalid_command
 
 -- the command that a poll is about, if its command is one and isn't refused
 abbrev pub polled_by : Sent → Answer → Option ℕ
-polled_by y e = if is_known e && nat_eq y.opcode 2 && not (is_refused y e) then y.parameter else None
+polled_by y e =
+    if is_known e && nat_eq y.opcode opcodes.get_command_status && not (is_refused y e) then y.parameter else None
 
 -- a figure is lower than the last one, if there is one
 abbrev pub is_below : Option ℕ → ℕ → Bool
@@ -105,7 +110,9 @@ tells y e s = asks_oldest y.asked && is_polled e.connection (polled_by y e) s
 
 -- s is a poll of y
 abbrev pub polls : Sent → Sent → Bool
-polls y s = same_connection s.connection y.connection && nat_eq s.opcode 2 && is_it s.parameter y.reference
+polls y s =
+    same_connection s.connection y.connection && nat_eq s.opcode opcodes.get_command_status
+    && is_it s.parameter y.reference
 
 -- what a poll asks once the command that it names ended. If that came after the poll, any figure was right meanwhile
 abbrev pub left : Asked → Asked
@@ -114,14 +121,14 @@ left asked = Nothing
 
 -- ---- beside which commands a GET UNIT STATUS is answered
 
--- an AVAILABLE (8) or an ONLINE (9) changes the state of its unit
+-- an AVAILABLE or an ONLINE changes the state of its unit
 abbrev pub turns : ℕ → Bool
-turns opcode = nat_eq opcode 8 || nat_eq opcode 9
+turns opcode = nat_eq opcode opcodes.available || nat_eq opcode opcodes.online
 
--- y is one, and s a GET UNIT STATUS (3) of its unit, or of whichever is next
+-- y is one, and s a GET UNIT STATUS of its unit, or of whichever is next
 abbrev pub turns_beside : Sent → Sent → Bool
 turns_beside y s =
-    turns y.opcode && nat_eq s.opcode 3 && same_connection s.connection y.connection
+    turns y.opcode && nat_eq s.opcode opcodes.get_unit_status && same_connection s.connection y.connection
     && (s.next || nat_eq s.unit y.unit)
 
 -- a command that is outstanding, once the end e of y came: it hears the figure that is told of it, and when y was sent,

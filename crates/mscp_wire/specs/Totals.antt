@@ -1,5 +1,7 @@
 -- The totals of what went over the wire: each a count of its moments, or the most or the least at any time.
-use Rattle.std.specs.Prelude.{ℕ, zero, suc, ◌+◌, ◌-◌, ◌<◌, ◌%◌, Bool, true, false, nat_eq, nat_le, if◌then◌else◌, List, [], ◌∷◌, ◌++◌, length, count_by, max, min, take, slice_index, slice_index_or, slice_set, Option, Some, None}
+use Rattle.std.specs.Prelude.{ℕ, zero, suc, ◌+◌, ◌-◌, ◌<◌, Bool, true, false, nat_eq, nat_le, if◌then◌else◌, List, [], ◌∷◌, ◌++◌, length, count_by, max, min, take, slice_index, slice_index_or, slice_set, Option, Some, None}
+use Rattle.mscp_packet.specs.OpcodeBytes as opcodes
+use Rattle.mscp_packet.specs.Statuses.{code_of}
 use Rattle.mscp_packet.specs.Number.{num}
 use Rattle.mscp_wire.specs.Wire.{History, answer_by, answered_by, is_it, is_long, outstanding, polled_by}
 use Rattle.mscp_wire.specs.declared.answer.Answer.{Answer}
@@ -21,7 +23,7 @@ is_sent m = false
 
 -- it is a GET COMMAND STATUS
 abbrev pub is_poll : Moment → Bool
-is_poll (moments.Message via b time) = nat_eq (slice_index b.items 8) 2
+is_poll (moments.Message via b time) = nat_eq (slice_index b.items 8) opcodes.get_command_status
 is_poll m = false
 
 -- the controller answers
@@ -42,7 +44,7 @@ opcode_sent m = None
 
 -- the code of the status that the controller ends a command with
 abbrev pub code_told : Moment → Option ℕ
-code_told (moments.End via b) = if nat_le 12 (length b.items) then Some (num b.items 10 2 % 32) else None
+code_told (moments.End via b) = if nat_le 12 (length b.items) then Some (code_of (num b.items 10 2)) else None
 code_told m = None
 
 -- ---- counts

@@ -1,6 +1,9 @@
 -- What a host was told of units: by its own ends, and of whether they are online by the other host's, too.
 use Rattle.std.specs.Prelude.{◌≡◌, ℕ, ◌+◌, ◌*◌, ◌/◌, ◌%◌, Bool, true, false, not, ◌&&◌, ◌||◌, nat_eq, if◌then◌else◌, fold, Option, Some, None}
 use Rattle.std.specs.HashMap as hashed
+use Rattle.mscp_packet.specs.OpcodeBytes as opcodes
+use Rattle.mscp_packet.specs.EndcodeBytes as endcodes
+use Rattle.mscp_packet.specs.StatusCodes as statuses
 use Rattle.mscp_drive.specs.declared.connection.Connection.{Connection}
 use Rattle.mscp_drive.specs.declared.connection.Connection.TheVariants.{First, Second}
 use Rattle.mscp_wire.specs.Messages.{History, answer_by, controller_in, same_connection, timeout_in, status_code}
@@ -30,8 +33,9 @@ was_online e = nat_eq (e.status / 256 % 2) 1
 -- Command")
 abbrev pub tells_unit : Answer → Bool
 tells_unit e =
-    nat_eq (status_code e) 0
-    && (nat_eq e.code 0x83 || (nat_eq e.code 0x89 && was_online e) || nat_eq e.code 0x8A)
+    nat_eq (status_code e) statuses.success
+    && (nat_eq e.code endcodes.get_unit_status || (nat_eq e.code endcodes.online && was_online e)
+    || nat_eq e.code endcodes.set_unit_characteristics)
 
 -- two numbers are the same, if both are there
 abbrev pub fits : Option ℕ → Option ℕ → Bool
@@ -47,7 +51,7 @@ agrees (Some told) known =
 -- an end is one of SET UNIT CHARACTERISTICS, which succeeds of a unit that isn't online, too: it may have become
 -- available by itself, which no end says, and then be another one each time
 abbrev pub is_unsure : Answer → Bool
-is_unsure e = nat_eq e.code 0x8A
+is_unsure e = nat_eq e.code endcodes.set_unit_characteristics
 
 -- its unit is what is known of it, if anything is (manual, "ONLINE Command")
 abbrev pub is_known_unit : Option Identity → Answer → Bool
@@ -59,36 +63,41 @@ is_same_unit told e = is_known_unit told.identity e
 
 -- an end brings its unit online: one of ONLINE that succeeded
 abbrev pub brings : Answer → Bool
-brings e = nat_eq e.code 0x89 && nat_eq (status_code e) 0
+brings e = nat_eq e.code endcodes.online && nat_eq (status_code e) statuses.success
 
 -- an end with this endcode is one of a transfer
 abbrev pub is_moved : ℕ → Bool
-is_moved code = nat_eq code 0x90 || nat_eq code 0x92 || nat_eq code 0xA0 || nat_eq code 0xA1 || nat_eq code 0xA2
+is_moved code =
+    nat_eq code endcodes.access || nat_eq code endcodes.erase || nat_eq code endcodes.compare_host_data
+    || nat_eq code endcodes.read || nat_eq code endcodes.write
 
 -- or of another command that waits for its unit: AVAILABLE, ONLINE or SET UNIT CHARACTERISTICS
 abbrev pub is_of_unit : ℕ → Bool
-is_of_unit code = is_moved code || nat_eq code 0x88 || nat_eq code 0x89 || nat_eq code 0x8A
+is_of_unit code =
+    is_moved code || nat_eq code endcodes.available || nat_eq code endcodes.online
+    || nat_eq code endcodes.set_unit_characteristics
 
 -- an end of such a command, or of a GET UNIT STATUS, says that its unit isn't online: one of AVAILABLE that succeeded,
--- without the sub-code that says that the unit is still online (0x0200), or a status Unit-Available (4) or Unit-Offline
--- (3). That of a GET UNIT STATUS may name unit 0, as there is no unit
+-- without the sub-code that says that the unit is still online (0x0200), or a status Unit-Available or Unit-Offline.
+-- That of a GET UNIT STATUS may name unit 0, as there is no unit
 abbrev pub says_away : Answer → Bool
 says_away e =
-    (nat_eq (status_code e) 0 && (nat_eq e.code 0x88 && nat_eq (e.status / 512 % 2) 0))
-    || (nat_eq (status_code e) 4 && (is_of_unit e.code || nat_eq e.code 0x83))
-    || (nat_eq (status_code e) 3 && is_of_unit e.code)
+    (nat_eq (status_code e) statuses.success && (nat_eq e.code endcodes.available && nat_eq (e.status / 512 % 2) 0))
+    || (nat_eq (status_code e) statuses.unit_available && (is_of_unit e.code || nat_eq e.code endcodes.get_unit_status))
+    || (nat_eq (status_code e) statuses.unit_offline && is_of_unit e.code)
 
 -- after an end nothing is known of what its unit is
 abbrev pub leaves : Answer → Bool
 leaves e =
-    says_away e || nat_eq (status_code e) 4 || nat_eq (status_code e) 3
-    || (nat_eq (status_code e) 0 && nat_eq e.code 0x88)
+    says_away e || nat_eq (status_code e) statuses.unit_available || nat_eq (status_code e) statuses.unit_offline
+    || (nat_eq (status_code e) statuses.success && nat_eq e.code endcodes.available)
 
 -- an end says that its unit is online: one of a transfer or a GET UNIT STATUS that succeeded, or one of ONLINE that
 -- says that it was (manual, "Unit States")
 abbrev pub says_online : Answer → Bool
 says_online e =
-    nat_eq (status_code e) 0 && (is_moved e.code || nat_eq e.code 0x83 || (nat_eq e.code 0x89 && was_online e))
+    nat_eq (status_code e) statuses.success
+    && (is_moved e.code || nat_eq e.code endcodes.get_unit_status || (nat_eq e.code endcodes.online && was_online e))
 
 -- ---- whether it is online
 
@@ -132,7 +141,7 @@ noted_own noted e = record {
   table =
       if leaves e || brings e then None else (if describes e then later_of e.table noted.table else noted.table);
   protected = not (leaves e) && (if describes e then e.protected else noted.protected);
-  present = not (nat_eq (status_code e) 3) && (leaves e || describes e || noted.present);
+  present = not (nat_eq (status_code e) statuses.unit_offline) && (leaves e || describes e || noted.present);
 }
 
 -- and once one of the other host did: what that changed isn't told
@@ -162,7 +171,7 @@ learns told e = tells_unit e && not told.sure && is_single told.state
 abbrev pub after_own : Told → Answer → Told
 after_own told e = record {
   identity = if leaves e then None else (if brings e || learns told e then e.identity else told.identity);
-  sure = not (leaves e) && (brings e || told.sure || (learns told e && nat_eq e.code 0x83));
+  sure = not (leaves e) && (brings e || told.sure || (learns told e && nat_eq e.code endcodes.get_unit_status));
   state =
       if says_away e then turned told.state Away else (
       if brings e then turned told.state Open else told.state);
@@ -184,9 +193,9 @@ told_after_end via unit settled told e =
     if not (nat_eq e.unit unit) then told else (
     if same_connection e.connection via && settled then after_own told e else after_other told e)
 
--- the other host's command is an ONLINE (9) of the unit
+-- the other host's command is an ONLINE of the unit
 abbrev pub shares : Connection → ℕ → Sent → Bool
-shares via unit s = nat_eq s.opcode 9 && nat_eq s.unit unit && not (same_connection s.connection via)
+shares via unit s = nat_eq s.opcode opcodes.online && nat_eq s.unit unit && not (same_connection s.connection via)
 
 -- the same once a command came
 abbrev pub told_after_message : Connection → ℕ → Told → Sent → Told
@@ -217,7 +226,8 @@ identifier_of (Some i) = Some i.identifier
 
 -- the identifier of a unit of which an end says that it is online: one of ONLINE or GET UNIT STATUS that succeeded
 abbrev pub called_in : Answer → Option ℕ
-called_in e = if describes e && not (nat_eq e.code 0x8A) then identifier_of e.identity else None
+called_in e =
+    if describes e && not (nat_eq e.code endcodes.set_unit_characteristics) then identifier_of e.identity else None
 
 -- which unit was last said to be online and to have an identifier, once a moment more came
 abbrev pub called_after_end : ℕ → Option ℕ → Answer → Option ℕ

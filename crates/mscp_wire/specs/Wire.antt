@@ -35,9 +35,14 @@
 -- An end is asked for Identity and State, and proves how its unit is, only if it is settled (is_settled).
 use Rattle.std.specs.Prelude.{◌≡◌, ℕ, ◌+◌, ◌/◌, ◌<◌, Bool, true, false, not, ◌&&◌, ◌||◌, nat_eq, nat_le, nat_lt, if◌then◌else◌, List, [], ◌∷◌, ◌++◌, length, map, take, drop, find, position, count_by, fold, min, slice_index, slice_index_or, Option, Some, None, is_some}
 use Rattle.std.specs.List.{filter, list_any}
+use Rattle.mscp_packet.specs.OpcodeBytes as opcodes
+use Rattle.mscp_packet.specs.EndcodeBytes as endcodes
+use Rattle.mscp_packet.specs.StatusCodes as statuses
+use Rattle.mscp_packet.specs.Ends.{least_end}
+use Rattle.mscp_packet.specs.Opcodes.{may_have_status}
 use Rattle.mscp_drive.specs.declared.connection.Connection.{Connection}
 use Rattle.mscp_drive.specs.declared.connection.Connection.TheVariants.{First}
-pub use Rattle.mscp_wire.specs.Messages.{History, answer_by, asks_for_next, controller_in, is_compared, protected_in, table_in, four_in, identity_in, is_about_another, is_immediate, is_known, is_named, is_ordered, is_required, is_sequential, is_short, is_modified, is_sequential_class, is_transfer, is_transfer_class, is_unknown, is_unknown_class, least_length, least_message, may_have, same_connection, sent_by, status_code, timeout_in}
+pub use Rattle.mscp_wire.specs.Messages.{History, answer_by, asks_for_next, controller_in, is_compared, protected_in, table_in, four_in, identity_in, is_about_another, is_immediate, is_known, is_named, is_ordered, is_required, is_sequential, is_short, is_modified, is_sequential_class, is_transfer, is_transfer_class, is_unknown, is_unknown_class, same_connection, sent_by, status_code, timeout_in}
 pub use Rattle.mscp_wire.specs.Polls.{asked_about, asked_by, asking, asks_oldest, has_figure, has_number, hears, is_below, is_hasty, is_it, is_oldest, is_polled, is_refused, left, may_ask, may_be, may_tell, polled_by, polls, tells, turns, turns_beside, waits_on}
 pub use Rattle.mscp_wire.specs.Units.{Puts, after_other, after_own, agrees, brings, called, called_after, called_after_end, called_in, controller, controller_after, describes, fits, identifier_of, kept_called, noted_nothing, noted_other, noted_own, size_of, is_known_unit, is_moved, is_of_unit, is_same_unit, is_single, is_unsure, learns, kept, key, later_of, leaves, other_side, says_away, says_online, shares, suits_state, tells_unit, timeout_after, told_after_end, told_after_message, told_nothing, told_reset, told_to, turned, was_online}
 use Rattle.mscp_wire.specs.declared.answer.Answer.{Answer}
@@ -83,7 +88,7 @@ has_credit credits xs s = has_one_of (limit_of credits) xs s
 
 -- an end is as long as its endcode asks (manual, "End Messages")
 abbrev pub is_long : List ℕ → Bool
-is_long b = nat_le 12 (length b) && nat_le (least_length (slice_index b 8)) (length b)
+is_long b = nat_le 12 (length b) && nat_le (least_end (slice_index b 8)) (length b)
 
 -- where the command that it answers stands among those that are outstanding, if it does (manual, "End Messages")
 abbrev pub place_of : List Sent → Answer → Option ℕ
@@ -93,30 +98,32 @@ place_of xs e = position (is_named e.connection e.reference) xs
 abbrev pub names_unit : Sent → Answer → Bool
 names_unit y e = y.next || nat_eq e.unit y.unit
 
--- its endcode is the opcode of its command and 0x80 (manual, "End Messages"), or 0x80 alone if a controller may leave
--- that opcode out
+-- its endcode is the opcode of its command with the top bit set (manual, "End Messages"), or that bit alone if a
+-- controller may leave that opcode out
 abbrev pub has_endcode : Sent → Answer → Bool
-has_endcode y e = if is_known e then nat_eq e.code (y.opcode + 0x80) else not (is_required y.opcode)
+has_endcode y e = if is_known e then nat_eq e.code (y.opcode + endcodes.unknown) else not (is_required y.opcode)
 
 -- its status has a code that its command may have: any if no row of the table of opcodes has that, and Invalid Command
 -- where the controller doesn't know it
 abbrev pub has_code : Sent → Answer → Bool
 has_code y e =
-    if is_known e then is_unknown y.opcode || may_have y.opcode (status_code e) else nat_eq (status_code e) 1
+    if is_known e then is_unknown y.opcode || may_have_status y.opcode (status_code e)
+    else nat_eq (status_code e) statuses.invalid_command
 
 -- a command whose message is too short for its opcode doesn't succeed
 abbrev pub is_whole : Sent → Answer → Bool
-is_whole y e = not (is_short y) || not (nat_eq (status_code e) 0)
+is_whole y e = not (is_short y) || not (nat_eq (status_code e) statuses.success)
 
--- of those that have a row only an ONLINE (9) succeeds with the sub-code that says that its unit was online already
+-- of those that have a row only an ONLINE succeeds with the sub-code that says that its unit was online already
 abbrev pub is_plain : Sent → Answer → Bool
 is_plain y e =
-    not (nat_eq (status_code e) 0) || not (was_online e) || nat_eq y.opcode 9 || is_unknown y.opcode
+    not (nat_eq (status_code e) statuses.success) || not (was_online e) || nat_eq y.opcode opcodes.online
+    || is_unknown y.opcode
 
 -- the sub-code of Invalid Command is the offset of a byte that the message has (manual, "Status and Event Codes"),
 -- unless that is too short
 abbrev pub points_into : Sent → Answer → Bool
-points_into y e = not (nat_eq (status_code e) 1) || is_short y || nat_lt (e.status / 256) y.bytes
+points_into y e = not (nat_eq (status_code e) statuses.invalid_command) || is_short y || nat_lt (e.status / 256) y.bytes
 
 -- its status is one that its command may have
 abbrev pub has_status : Sent → Answer → Bool
@@ -125,12 +132,12 @@ has_status y e = has_code y e && is_whole y e && is_plain y e && points_into y e
 -- s is an ABORT of the command y
 abbrev pub aborts : Sent → Sent → Bool
 aborts y s =
-    same_connection s.connection y.connection && nat_eq s.opcode 1 && is_it s.parameter y.reference
+    same_connection s.connection y.connection && nat_eq s.opcode opcodes.abort && is_it s.parameter y.reference
 
--- a command is aborted (2) only while an ABORT of it is outstanding that came after it, so its end stands before that
+-- a command is aborted only while an ABORT of it is outstanding that came after it, so its end stands before that
 -- of its ABORT (manual, "Command Messages")
 abbrev pub has_abort : List Sent → Sent → Answer → Bool
-has_abort later y e = not (nat_eq (status_code e) 2) || list_any (aborts y) later
+has_abort later y e = not (nat_eq (status_code e) statuses.aborted) || list_any (aborts y) later
 
 -- the earlier command s keeps y back: both are of one unit, and one of them is sequential while the other has its place
 -- in a queue (manual, "Command Categories and Execution Order"). Of two connections nothing is said: each takes its own
@@ -142,10 +149,10 @@ keeps_back y s =
     && ((is_sequential s.opcode && (is_sequential y.opcode || is_ordered y.opcode))
     || (is_ordered s.opcode && is_sequential y.opcode))
 
--- a status of this code may come at once, before earlier commands of the unit end: Invalid Command (1), Command
--- Aborted (2) and Unit-Offline (3)
+-- a status of this code may come at once, before earlier commands of the unit end
 abbrev pub is_apart : ℕ → Bool
-is_apart code = nat_eq code 1 || nat_eq code 2 || nat_eq code 3
+is_apart code =
+    nat_eq code statuses.invalid_command || nat_eq code statuses.aborted || nat_eq code statuses.unit_offline
 
 -- it passes no command that it has to wait for (manual, "Command Categories and Execution Order")
 abbrev pub passes_none : List Sent → Sent → Answer → Bool
@@ -158,10 +165,9 @@ passes_none earlier y e = is_apart (status_code e) || not (list_any (keeps_back 
 abbrev pub other_of : Sent → Answer → Option ℕ
 other_of y e = if is_known e && is_about_another y.opcode && not (is_refused y e) then y.parameter else None
 
--- a command of this opcode has its bytes counted: a transfer, or a COMPARE CONTROLLER DATA (17) whose end tells a
--- number
+-- the bytes of a command are counted: of a transfer, or of a COMPARE CONTROLLER DATA whose end tells a number
 abbrev pub is_counted : ℕ → Option ℕ → Bool
-is_counted opcode parameter = is_transfer opcode || (nat_eq opcode 17 && is_some parameter)
+is_counted opcode parameter = is_transfer opcode || (nat_eq opcode opcodes.compare_controller_data && is_some parameter)
 
 -- how many bytes were to be moved, if that is counted
 abbrev pub count_of : Sent → Answer → Option ℕ
@@ -171,7 +177,7 @@ count_of y e = if is_known e && is_counted y.opcode e.parameter then y.parameter
 -- modifier
 abbrev pub succeeds : Answer → Option ℕ → Bool
 succeeds e None = true
-succeeds e (Some other) = nat_eq (status_code e) 0
+succeeds e (Some other) = nat_eq (status_code e) statuses.success
 
 -- their ends name the command that they are about (manual, "End Messages")
 abbrev pub is_about : Answer → Option ℕ → Bool
@@ -181,7 +187,7 @@ is_about e (Some other) = is_it e.parameter other
 -- no more bytes were moved than were asked for, and all of them if the status is Success (manual, "End Messages")
 abbrev pub moves : Answer → Option ℕ → ℕ → Bool
 moves e None count = false
-moves e (Some moved) count = nat_le moved count && (nat_eq moved count || not (nat_eq (status_code e) 0))
+moves e (Some moved) count = nat_le moved count && (nat_eq moved count || not (nat_eq (status_code e) statuses.success))
 
 abbrev pub has_count : Answer → Option ℕ → Bool
 has_count e None = true
@@ -227,14 +233,14 @@ passed_of xs m = None
 abbrev pub is_turning : Connection → ℕ → Sent → Bool
 is_turning via unit s = turns s.opcode && same_connection s.connection via && nat_eq s.unit unit
 
--- the end of a GET UNIT STATUS (0x83) may tell what was at any moment between its message and itself. So it is late if
+-- the end of a GET UNIT STATUS may tell what was at any moment between its message and itself. So it is late if
 -- an AVAILABLE or an ONLINE of its unit was outstanding between: one ended beside y, or one still is
 abbrev pub is_late : List Sent → Sent → Answer → Bool
-is_late xs y e = nat_eq e.code 0x83 && (y.beside || list_any (is_turning e.connection e.unit) xs)
+is_late xs y e = nat_eq e.code endcodes.get_unit_status && (y.beside || list_any (is_turning e.connection e.unit) xs)
 
 -- an end says that its unit went away by itself: with Unit-Available or Unit-Offline. It may have passed ends of before
 abbrev pub went : Answer → Bool
-went e = says_away e && not (nat_eq (status_code e) 0)
+went e = says_away e && not (nat_eq (status_code e) statuses.success)
 
 -- an end of y is settled: it isn't late, and if it says that the unit went away nothing else of its host is outstanding
 abbrev pub is_settled : List Sent → Sent → Answer → Bool

@@ -8,12 +8,8 @@ use crate::identity::{Identity, protected_in, table_in};
 use crate::sent::{Sent, four_in, is_required, is_transfer, is_unknown};
 use mscp_drive::Connection;
 use mscp_packet::fields::{eight_at, four_at, two_at};
-
-/// The opcode of an ABORT.
-pub const ABORT: u8 = 1;
-
-/// The opcode of a GET COMMAND STATUS.
-pub const STATUS: u8 = 2;
+use mscp_packet::status::code_of;
+use mscp_packet::{codes, endcodes, least_end_of, may_have_status, opcodes};
 
 /// An end: what its message says.
 #[derive(Clone, Copy)]
@@ -40,39 +36,11 @@ pub struct Answer {
     pub timeout: Option<u16>,
 }
 
-/// The fewest bytes of an end with this endcode (manual, "End Messages").
-pub fn least_length(code: u8) -> usize
-    ensures { result ≡ wire.least_length code }
-{
-    match code {
-        0x81 => 16,
-        0x82 => 20,
-        0x83 => 48,
-        0x84 => 28,
-        0x89 | 0x8A => 44,
-        0x90 | 0x92 | 0xA0 | 0xA1 | 0xA2 => 32,
-        _ => 12,
-    }
-}
-
 /// Whether an end is as long as its endcode asks.
 pub fn is_long(b: &[u8]) -> bool
     ensures { result ≡ wire.is_long b.now }
 {
-    b.len() >= 12 && b.len() >= least_length(b[8])
-}
-
-/// Whether a command of this opcode may have a status of this code (manual, "Status and Event Codes").
-fn may_have(opcode: u8, code: u16) -> bool
-    ensures { result ≡ wire.may_have opcode code }
-{
-    if code <= 1 {
-        return true;
-    }
-    code <= 11
-        && !(opcode == 1 || opcode == 2 || opcode == 4)
-        && !(opcode == 3 && (code == 2 || (code >= 5 && code <= 9)))
-        && !((opcode == 8 || opcode == 9) && code == 4)
+    b.len() >= 12 && b.len() >= least_end_of(b[8])
 }
 
 /// Whether an end tells of the controller: one of a SET CONTROLLER CHARACTERISTICS that succeeded.
@@ -80,7 +48,9 @@ fn tells_controller(b: &[u8]) -> bool
     requires { 12 ≤ length b.now }
     ensures { result ≡ tells_controller b.now }
 {
-    b[8] == 0x84 && two_at(b, 10) % 32 == 0 && b.len() >= 28
+    b[8] == endcodes::SET_CONTROLLER_CHARACTERISTICS
+        && code_of(two_at(b, 10)) == codes::SUCCESS
+        && b.len() >= 28
 }
 
 /// The identifier of the controller, if an end tells it.
@@ -143,14 +113,14 @@ impl Answer {
     pub fn status_code(&self) -> u16
         ensures { result ≡ wire.status_code self.now }
     {
-        self.status % 32
+        code_of(self.status)
     }
 
     /// Whether the endcode is that of an opcode which the controller knows.
     pub fn is_known(&self) -> bool
         ensures { result ≡ wire.is_known self.now }
     {
-        self.code != 0x80
+        self.code != endcodes::UNKNOWN
     }
 
     /// Whether it names the unit of its command, or any if that asks for the next unit.
@@ -165,7 +135,7 @@ impl Answer {
         ensures { result ≡ wire.has_endcode command.now self.now }
     {
         if self.is_known() {
-            u16::from(self.code) == u16::from(command.opcode) + 0x80
+            u16::from(self.code) == u16::from(command.opcode) + u16::from(endcodes::UNKNOWN)
         } else {
             !is_required(command.opcode)
         }
@@ -176,9 +146,9 @@ impl Answer {
         ensures { result ≡ wire.has_code command.now self.now }
     {
         if self.is_known() {
-            is_unknown(command.opcode) || may_have(command.opcode, self.status_code())
+            is_unknown(command.opcode) || may_have_status(command.opcode, self.status_code())
         } else {
-            self.status_code() == 1
+            self.status_code() == codes::INVALID_COMMAND
         }
     }
 
@@ -186,16 +156,16 @@ impl Answer {
     fn is_whole(&self, command: &Sent) -> bool
         ensures { result ≡ wire.is_whole command.now self.now }
     {
-        !command.is_short() || self.status_code() != 0
+        !command.is_short() || self.status_code() != codes::SUCCESS
     }
 
     /// Whether it doesn't say that its unit was online already, unless its command is an ONLINE or has no row.
     fn is_plain(&self, command: &Sent) -> bool
         ensures { result ≡ wire.is_plain command.now self.now }
     {
-        self.status_code() != 0
+        self.status_code() != codes::SUCCESS
             || !self.was_online()
-            || command.opcode == 9
+            || command.opcode == opcodes::ONLINE
             || is_unknown(command.opcode)
     }
 
@@ -203,7 +173,7 @@ impl Answer {
     fn points_into(&self, command: &Sent) -> bool
         ensures { result ≡ wire.points_into command.now self.now }
     {
-        self.status_code() != 1
+        self.status_code() != codes::INVALID_COMMAND
             || command.is_short()
             || usize::from(self.status / 256) < command.bytes
     }
@@ -222,7 +192,7 @@ impl Answer {
     fn is_refused(&self, command: &Sent) -> bool
         ensures { result ≡ wire.is_refused command.now self.now }
     {
-        command.modified && self.status_code() == 1
+        command.modified && self.status_code() == codes::INVALID_COMMAND
     }
 
     /// The command that its command is about, if it is an ABORT or a GET COMMAND STATUS that names one.
@@ -230,7 +200,7 @@ impl Answer {
         ensures { result ≡ wire.other_of command.now self.now }
     {
         if self.is_known()
-            && (command.opcode == ABORT || command.opcode == STATUS)
+            && (command.opcode == opcodes::ABORT || command.opcode == opcodes::GET_COMMAND_STATUS)
             && !self.is_refused(command)
         {
             command.parameter
@@ -243,7 +213,10 @@ impl Answer {
     pub fn polled_by(&self, command: &Sent) -> Option<u32>
         ensures { result ≡ wire.polled_by command.now self.now }
     {
-        if self.is_known() && command.opcode == STATUS && !self.is_refused(command) {
+        if self.is_known()
+            && command.opcode == opcodes::GET_COMMAND_STATUS
+            && !self.is_refused(command)
+        {
             command.parameter
         } else {
             None
@@ -255,7 +228,8 @@ impl Answer {
     fn is_counted(&self, command: &Sent) -> bool
         ensures { result ≡ wire.is_counted command.now.opcode self.now.parameter }
     {
-        is_transfer(command.opcode) || (command.opcode == 17 && self.parameter.is_some())
+        is_transfer(command.opcode)
+            || (command.opcode == opcodes::COMPARE_CONTROLLER_DATA && self.parameter.is_some())
     }
 
     /// How many bytes were to be moved, if that is counted.
@@ -273,7 +247,7 @@ impl Answer {
     pub fn succeeds(&self, other: Option<u32>) -> bool
         ensures { result ≡ wire.succeeds self.now other }
     {
-        other.is_none() || self.status_code() == 0
+        other.is_none() || self.status_code() == codes::SUCCESS
     }
 
     /// Whether it names the command that its command is about, if there is one.
@@ -292,7 +266,7 @@ impl Answer {
     {
         match (count, self.parameter) {
             (Some(count), Some(moved)) => {
-                moved <= count && (moved == count || self.status_code() != 0)
+                moved <= count && (moved == count || self.status_code() != codes::SUCCESS)
             }
             (Some(_), None) => false,
             (None, _) => true,
@@ -310,22 +284,24 @@ impl Answer {
     pub fn tells_unit(&self) -> bool
         ensures { result ≡ wire.tells_unit self.now }
     {
-        self.status_code() == 0
-            && (self.code == 0x83 || (self.code == 0x89 && self.was_online()) || self.code == 0x8A)
+        self.status_code() == codes::SUCCESS
+            && (self.code == endcodes::GET_UNIT_STATUS
+                || (self.code == endcodes::ONLINE && self.was_online())
+                || self.code == endcodes::SET_UNIT_CHARACTERISTICS)
     }
 
     /// Whether it is one of SET UNIT CHARACTERISTICS, which succeeds of a unit that isn't online, too.
     pub fn is_unsure(&self) -> bool
         ensures { result ≡ wire.is_unsure self.now }
     {
-        self.code == 0x8A
+        self.code == endcodes::SET_UNIT_CHARACTERISTICS
     }
 
     /// Whether it brings its unit online.
     pub fn brings(&self) -> bool
         ensures { result ≡ wire.brings self.now }
     {
-        self.code == 0x89 && self.status_code() == 0
+        self.code == endcodes::ONLINE && self.status_code() == codes::SUCCESS
     }
 
     /// Whether it tells what its unit is and how it is set.
@@ -340,7 +316,8 @@ impl Answer {
         ensures { result ≡ wire.called_in self.now }
     {
         match self.identity {
-            Some(identity) if self.describes() && self.code != 0x8A => Some(identity.identifier),
+            Some(identity) if self.describes() && self.code != endcodes::SET_UNIT_CHARACTERISTICS =>
+                Some(identity.identifier),
             _ => None,
         }
     }
@@ -349,34 +326,39 @@ impl Answer {
     pub fn is_moved(&self) -> bool
         ensures { result ≡ wire.is_moved self.now.code }
     {
-        self.code == 0x90
-            || self.code == 0x92
-            || self.code == 0xA0
-            || self.code == 0xA1
-            || self.code == 0xA2
+        self.code == endcodes::ACCESS
+            || self.code == endcodes::ERASE
+            || self.code == endcodes::COMPARE_HOST_DATA
+            || self.code == endcodes::READ
+            || self.code == endcodes::WRITE
     }
 
     /// Whether it is one of a command that waits for its unit.
     fn is_of_unit(&self) -> bool
         ensures { result ≡ wire.is_of_unit self.now.code }
     {
-        self.is_moved() || self.code == 0x88 || self.code == 0x89 || self.code == 0x8A
+        self.is_moved()
+            || self.code == endcodes::AVAILABLE
+            || self.code == endcodes::ONLINE
+            || self.code == endcodes::SET_UNIT_CHARACTERISTICS
     }
 
     /// Whether it says that its unit isn't online.
     pub fn says_away(&self) -> bool
         ensures { result ≡ wire.says_away self.now }
     {
-        (self.status_code() == 0 && (self.code == 0x88 && self.status / 512 % 2 == 0))
-            || (self.status_code() == 4 && (self.is_of_unit() || self.code == 0x83))
-            || (self.status_code() == 3 && self.is_of_unit())
+        (self.status_code() == codes::SUCCESS
+            && (self.code == endcodes::AVAILABLE && self.status / 512 % 2 == 0))
+            || (self.status_code() == codes::UNIT_AVAILABLE
+                && (self.is_of_unit() || self.code == endcodes::GET_UNIT_STATUS))
+            || (self.status_code() == codes::UNIT_OFFLINE && self.is_of_unit())
     }
 
     /// Whether it says that its unit went away by itself.
     pub fn went(&self) -> bool
         ensures { result ≡ wire.went self.now }
     {
-        self.says_away() && self.status_code() != 0
+        self.says_away() && self.status_code() != codes::SUCCESS
     }
 
     /// Whether nothing is known after it of what its unit is.
@@ -384,16 +366,18 @@ impl Answer {
         ensures { result ≡ wire.leaves self.now }
     {
         self.says_away()
-            || self.status_code() == 4
-            || self.status_code() == 3
-            || (self.status_code() == 0 && self.code == 0x88)
+            || self.status_code() == codes::UNIT_AVAILABLE
+            || self.status_code() == codes::UNIT_OFFLINE
+            || (self.status_code() == codes::SUCCESS && self.code == endcodes::AVAILABLE)
     }
 
     /// Whether it says that its unit is online.
     pub fn says_online(&self) -> bool
         ensures { result ≡ wire.says_online self.now }
     {
-        self.status_code() == 0
-            && (self.is_moved() || self.code == 0x83 || (self.code == 0x89 && self.was_online()))
+        self.status_code() == codes::SUCCESS
+            && (self.is_moved()
+                || self.code == endcodes::GET_UNIT_STATUS
+                || (self.code == endcodes::ONLINE && self.was_online()))
     }
 }

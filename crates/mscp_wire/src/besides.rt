@@ -11,12 +11,13 @@ ghost use Rattle.mscp_wire.specs.Kept as kept;
 
 use crate::sent::Sent;
 use mscp_drive::Connection;
+use mscp_packet::opcodes;
 
 /// Whether a command of this opcode changes the state of its unit: an AVAILABLE and an ONLINE do.
 pub fn turns(opcode: u8) -> bool
     ensures { result ≡ wire.turns opcode }
 {
-    opcode == 8 || opcode == 9
+    opcode == opcodes::AVAILABLE || opcode == opcodes::ONLINE
 }
 
 /// Whether a command does, and another is a GET UNIT STATUS of its unit, or of whichever is next.
@@ -24,7 +25,7 @@ pub fn turns_beside(command: &Sent, status: &Sent) -> bool
     ensures { result ≡ wire.turns_beside command.now status.now }
 {
     turns(command.opcode)
-        && status.opcode == 3
+        && status.opcode == opcodes::GET_UNIT_STATUS
         && status.connection == command.connection
         && (status.next || status.unit == command.unit)
 }

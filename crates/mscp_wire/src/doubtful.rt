@@ -10,6 +10,7 @@ use crate::identity::{Identity, agrees};
 use crate::sent::{Sent, is_transfer, is_unknown};
 use crate::told::Told;
 use crate::units::Units;
+use mscp_packet::{codes, endcodes, opcodes};
 use std::alloc::Allocator;
 
 /// The most blocks that all copies of a replacement and caching table have: 65,535 in each of 255.
@@ -21,7 +22,9 @@ fn is_another(identity: Option<Identity>, answer: &Answer) -> bool
 {
     match identity {
         Some(known) => {
-            answer.code == 0x8A && answer.tells_unit() && !agrees(answer.identity, &known)
+            answer.code == endcodes::SET_UNIT_CHARACTERISTICS
+                && answer.tells_unit()
+                && !agrees(answer.identity, &known)
         }
         None => false,
     }
@@ -55,7 +58,7 @@ fn is_past(told: &Told, command: &Sent, answer: &Answer) -> bool
     ensures { result ≡ doubt.is_past told.now command.now answer.now }
 {
     answer.is_moved()
-        && answer.status_code() == 0
+        && answer.status_code() == codes::SUCCESS
         && told.state.is_single()
         && ends_past(
             told.noted.size,
@@ -70,10 +73,21 @@ fn has_no_use(command: &Sent, code: u16) -> bool
     ensures { result ≡ doubt.has_no_use command.now code }
 {
     let opcode = command.opcode;
-    (code == 6 && (opcode == 16 || opcode == 32 || opcode == 33))
-        || (code == 7 && !(opcode == 32 || (is_transfer(opcode) && command.compares)))
-        || (code == 9 && !(opcode == 32 || opcode == 33 || opcode == 34))
-        || (opcode == 8 && code >= 5 && code <= 9)
+    (code == codes::WRITE_PROTECTED
+        && matches!(
+            opcode,
+            opcodes::ACCESS | opcodes::COMPARE_HOST_DATA | opcodes::READ
+        ))
+        || (code == codes::COMPARE_ERROR
+            && !(opcode == opcodes::COMPARE_HOST_DATA || (is_transfer(opcode) && command.compares)))
+        || (code == codes::HOST_BUFFER_ACCESS_ERROR
+            && !matches!(
+                opcode,
+                opcodes::COMPARE_HOST_DATA | opcodes::READ | opcodes::WRITE
+            ))
+        || (opcode == opcodes::AVAILABLE
+            && code >= codes::MEDIA_FORMAT_ERROR
+            && code <= codes::HOST_BUFFER_ACCESS_ERROR)
 }
 
 /// Whether its status has such a code.
@@ -87,8 +101,8 @@ fn is_odd(command: &Sent, answer: &Answer) -> bool
 fn writes_protected(told: &Told, answer: &Answer) -> bool
     ensures { result ≡ doubt.writes_protected told.now answer.now }
 {
-    (answer.code == 0xA2 || answer.code == 0x92)
-        && answer.status_code() == 0
+    (answer.code == endcodes::WRITE || answer.code == endcodes::ERASE)
+        && answer.status_code() == codes::SUCCESS
         && told.state.is_single()
         && told.noted.protected
 }
@@ -98,8 +112,8 @@ fn skips<A: Allocator + Copy>(units: &Units<A>, command: &Sent, answer: &Answer)
     ensures { result ≡ doubt.skips (wire.kept units.now answer.now.connection command.now.unit) command.now answer.now }
 {
     command.next
-        && answer.code == 0x83
-        && (answer.status_code() == 0 || answer.status_code() == 4)
+        && answer.code == endcodes::GET_UNIT_STATUS
+        && (answer.status_code() == codes::SUCCESS || answer.status_code() == codes::UNIT_AVAILABLE)
         && command.unit < answer.unit
         && units.told(answer.connection, command.unit).noted.present
 }

@@ -3,6 +3,7 @@
 ghost use Rattle.std.specs.Prelude.{◌≡◌, ◌≤◌, length};
 ghost use Rattle.mscp_wire.specs.Wire as wire;
 
+use mscp_packet::endcodes;
 use mscp_packet::fields::{eight_at, four_at, two_at};
 
 /// What an end says of its unit (manual, "End Messages").
@@ -27,7 +28,7 @@ impl Identity {
         Some(Identity {
             identifier: eight_at(b, 20),
             media: four_at(b, 28),
-            size: if b[8] == 0x83 {
+            size: if b[8] == endcodes::GET_UNIT_STATUS {
                 None
             } else {
                 Some(four_at(b, 36))
@@ -49,7 +50,7 @@ pub fn table_in(b: &[u8]) -> Option<u32>
     requires { 12 ≤ length b.now }
     ensures { result ≡ wire.table_in b.now }
 {
-    if b[8] == 0x83 && b.len() >= 48 {
+    if b[8] == endcodes::GET_UNIT_STATUS && b.len() >= 48 {
         Some(u32::from(two_at(b, 44)) * u32::from(b[47]))
     } else {
         None

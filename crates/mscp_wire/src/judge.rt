@@ -20,10 +20,11 @@ use crate::moment::Moment;
 use crate::outstanding::has_abort;
 use crate::polls::has_figure;
 use crate::rule::Rule;
-use crate::sent::{Sent, is_immediate};
+use crate::sent::Sent;
 use crate::told::{Seen, later_of, later_time};
 use crate::units::Units;
 use mscp_drive::{Connection, OutOfMemory};
+use mscp_packet::is_immediate;
 use std::alloc::Allocator;
 
 /// The most credits of a host: more than any controller gives, and few enough to be looked through.

@@ -37,7 +37,7 @@ mod totals;
 mod units;
 mod wrong;
 
-pub use crate::answer::{Answer, least_length};
+pub use crate::answer::Answer;
 pub use crate::commands::Commands;
 pub use crate::course::{Course, Finding, Places, places_in};
 pub use crate::doubts::{Doubt, Doubtful, Doubts, Found};

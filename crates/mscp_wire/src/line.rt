@@ -10,6 +10,7 @@ use crate::envelope::enveloped;
 use crate::moment::Moment;
 use arrayvec::ArrayVec;
 use mscp_drive::Connection;
+use mscp_packet::endcodes;
 use mscp_reader::{Cause, ScriptFault, Words, bytes_in, wide, words_of};
 
 /// What a line of a log says.
@@ -120,7 +121,7 @@ fn packet(words: Words<'_>) -> Result<ArrayVec<u8, 64>, Cause>
 fn is_attention(b: &[u8]) -> bool
     ensures { result ≡ log.is_attention b.now }
 {
-    b.len() > 8 && b[8] == 0x40
+    b.len() > 8 && b[8] == endcodes::AVAILABLE_ATTENTION
 }
 
 /// What the controller sends: an attention message, or an end.

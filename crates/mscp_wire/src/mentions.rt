@@ -8,6 +8,7 @@ ghost use Rattle.mscp_wire.specs.Wire.{four_in, key, same_connection};
 use crate::moment::Moment;
 use crate::sent::{Sent, four_in};
 use mscp_drive::{Connection, OutOfMemory};
+use mscp_packet::endcodes;
 use mscp_packet::fields::four_at;
 use std::alloc::{AllocError, Allocator};
 use std::collections::BTreeMap;
@@ -166,7 +167,11 @@ impl<A: Allocator + Copy> Mentions<A> {
     {
         self.tell(connection, four_at(bytes, 0), None)?;
         match four_in(bytes, 12) {
-            Some(other) if bytes[8] == 0x82 => self.tell(connection, other, Some(number)),
+            Some(other) if bytes[8] == endcodes::GET_COMMAND_STATUS => self.tell(
+                connection,
+                other,
+                Some(number),
+            ),
             _ => Ok(()),
         }
     }

@@ -22,6 +22,7 @@ use crate::moment::Moment;
 use crate::rule::Rule;
 use mscp_drive::Connection;
 use mscp_packet::fields::four_at;
+use mscp_packet::{codes, endcodes};
 use std::alloc::{AllocError, Allocator};
 use std::collections::HashMap;
 use std::hash::{BuildHasherDefault, FoldHasher};
@@ -169,7 +170,9 @@ impl<A: Allocator + Copy> Middle<A> {
         ensures first { self.new.first ≡ self.old.first }
         ensures second { self.new.second ≡ self.old.second }
     {
-        if matches!(answer.code, 0x88 | 0x89) && answer.status_code() == 0 {
+        if matches!(answer.code, endcodes::AVAILABLE | endcodes::ONLINE)
+            && answer.status_code() == codes::SUCCESS
+        {
             self.units
                 .insert(key(answer.connection, u32::from(answer.unit)), true)?;
         }

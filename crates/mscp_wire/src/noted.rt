@@ -5,6 +5,7 @@ ghost use Rattle.mscp_wire.specs.Wire as wire;
 
 use crate::answer::Answer;
 use crate::identity::{Identity, later_number};
+use mscp_packet::codes;
 
 /// What a host was told of a unit, of which no rule asks.
 #[derive(Clone, Copy)]
@@ -48,7 +49,7 @@ impl Noted {
     {
         if answer.leaves() {
             return Noted {
-                present: answer.status_code() != 3,
+                present: answer.status_code() != codes::UNIT_OFFLINE,
                 ..Noted::nothing()
             };
         }

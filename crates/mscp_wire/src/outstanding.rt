@@ -4,10 +4,11 @@ ghost use Rattle.std.specs.Prelude.{◌≡◌, ◌+◌, drop, IsSome};
 ghost use Rattle.mscp_wire.specs.Wire as wire;
 ghost use Rattle.mscp_wire.specs.Kept.{cell, place, sents};
 
-use crate::answer::{ABORT, Answer, is_it};
+use crate::answer::{Answer, is_it};
 use crate::commands::Commands;
 use crate::held::Sought;
 use crate::sent::{Sent, is_ordered, is_sequential};
+use mscp_packet::{codes, opcodes};
 use std::alloc::Allocator;
 
 /// Whether a command is an ABORT of another.
@@ -15,7 +16,7 @@ pub fn aborts(command: &Sent, abort: &Sent) -> bool
     ensures { result ≡ wire.aborts command.now abort.now }
 {
     abort.connection == command.connection
-        && abort.opcode == ABORT
+        && abort.opcode == opcodes::ABORT
         && is_it(abort.parameter, command.reference)
 }
 
@@ -29,7 +30,7 @@ pub fn has_abort<A: Allocator + Copy>(
     requires { IsSome (cell commands.now at) }
     ensures { result ≡ wire.has_abort (drop (place commands.now at + 1) (sents commands.now)) command.now answer.now }
 {
-    answer.status_code() != 2 || commands.has_behind(at, &Sought::AbortOf(*command))
+    answer.status_code() != codes::ABORTED || commands.has_behind(at, &Sought::AbortOf(*command))
 }
 
 /// Whether an earlier command keeps another back: both are of one unit, and one of them is sequential.
@@ -49,5 +50,5 @@ pub fn keeps_back(command: &Sent, earlier: &Sent) -> bool
 pub fn is_apart(code: u16) -> bool
     ensures { result ≡ wire.is_apart code }
 {
-    code == 1 || code == 2 || code == 3
+    code == codes::INVALID_COMMAND || code == codes::ABORTED || code == codes::UNIT_OFFLINE
 }

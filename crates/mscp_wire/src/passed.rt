@@ -8,6 +8,7 @@ use crate::answer::Answer;
 use crate::commands::Commands;
 use crate::held::Sought;
 use crate::sent::Sent;
+use mscp_packet::endcodes;
 use std::alloc::Allocator;
 
 impl<A: Allocator + Copy> Commands<A> {
@@ -39,7 +40,7 @@ impl<A: Allocator + Copy> Commands<A> {
         ensures { result ≡ wire.is_late (sents self.now)
             (wire.command_at (sents self.now) (place self.now at)) answer.now }
     {
-        answer.code == 0x83
+        answer.code == endcodes::GET_UNIT_STATUS
             && (self.at(at).beside || self.has_turning(answer.connection, answer.unit))
     }
 

@@ -5,12 +5,13 @@ ghost use Rattle.std.specs.List.{list_any};
 ghost use Rattle.mscp_wire.specs.Wire as wire;
 ghost use Rattle.mscp_wire.specs.Kept as kept;
 
-use crate::answer::{Answer, STATUS, is_it};
+use crate::answer::{Answer, is_it};
 use crate::cells::Cells;
 use crate::commands::Commands;
 use crate::held::Sought;
-use crate::sent::{Asked, Sent, is_immediate};
+use crate::sent::{Asked, Sent};
 use mscp_drive::Connection;
+use mscp_packet::{is_immediate, opcodes};
 use std::alloc::Allocator;
 
 /// Whether a command of this connection isn't answered when it arrives, so that its host waits for it.
@@ -112,7 +113,7 @@ pub fn asking<A: Allocator + Copy>(
 ) -> Sent
     ensures { result ≡ wire.asking timeout (kept.sents commands.now) command.now }
 {
-    let asked = if command.opcode == STATUS {
+    let asked = if command.opcode == opcodes::GET_COMMAND_STATUS {
         asked_by(timeout, commands, command, command.parameter)
     } else {
         Asked::Nothing
@@ -193,7 +194,7 @@ pub fn polls(command: &Sent, other: &Sent) -> bool
     ensures { result ≡ wire.polls command.now other.now }
 {
     other.connection == command.connection
-        && other.opcode == STATUS
+        && other.opcode == opcodes::GET_COMMAND_STATUS
         && is_it(other.parameter, command.reference)
 }
 

@@ -1,11 +1,11 @@
 // A command that is outstanding.
 
 ghost use Rattle.std.specs.Prelude.{◌≡◌, ◌≤◌, length};
-ghost use Rattle.mscp_wire.specs.Wire.{asks_for_next, four_in, is_compared, is_modified, is_named, is_immediate, is_ordered, is_required, is_sequential, is_short, is_transfer, is_unknown, least_message, sent_by};
+ghost use Rattle.mscp_wire.specs.Wire.{asks_for_next, four_in, is_compared, is_modified, is_named, is_ordered, is_required, is_sequential, is_short, is_transfer, is_unknown, sent_by};
 
 use mscp_drive::Connection;
 use mscp_packet::fields::{four_at, two_at};
-use mscp_packet::{Class, class_of};
+use mscp_packet::{Class, class_of, least_of, opcodes, scheduled_as};
 
 /// What a poll asks of the command that it names.
 #[derive(Clone, Copy)]
@@ -67,7 +67,7 @@ fn asks_for_next(b: &[u8]) -> bool
     requires { 12 ≤ length b.now }
     ensures { result ≡ asks_for_next b.now }
 {
-    b[8] == 3 && two_at(b, 10) % 2 == 1
+    b[8] == opcodes::GET_UNIT_STATUS && two_at(b, 10) % 2 == 1
 }
 
 /// Whether a message sets a modifier.
@@ -115,7 +115,7 @@ impl Sent {
     pub fn is_short(&self) -> bool
         ensures { result ≡ is_short self.now }
     {
-        self.bytes < least_message(self.opcode)
+        self.bytes < least_of(self.opcode)
     }
 
     /// Whether it has this reference number on this connection.
@@ -124,13 +124,6 @@ impl Sent {
     {
         self.connection == connection && self.reference == reference
     }
-}
-
-/// Whether a command of this opcode is answered when it arrives.
-pub fn is_immediate(opcode: u8) -> bool
-    ensures { result ≡ is_immediate opcode }
-{
-    class_of(opcode).is_immediate()
 }
 
 /// Whether it keeps its place among the commands of its unit.
@@ -159,37 +152,23 @@ pub fn is_transfer(opcode: u8) -> bool
 pub fn is_ordered(opcode: u8) -> bool
     ensures { result ≡ is_ordered opcode }
 {
-    is_transfer(opcode) || opcode == 11 || opcode == 17 || opcode == 19 || opcode == 20
+    matches!(scheduled_as(opcode), Class::Free)
 }
 
 /// Whether no controller may leave it out.
 pub fn is_required(opcode: u8) -> bool
     ensures { result ≡ is_required opcode }
 {
-    opcode == 1
-        || opcode == 2
-        || opcode == 3
-        || opcode == 4
-        || opcode == 8
-        || opcode == 9
-        || opcode == 10
-        || opcode == 33
-        || opcode == 34
-}
-
-/// The fewest bytes of a command of this opcode (manual, "Command Messages").
-fn least_message(opcode: u8) -> usize
-    ensures { result ≡ least_message opcode }
-{
-    if opcode == 1 || opcode == 2 {
-        return 16;
-    }
-    if opcode == 4 {
-        return 14;
-    }
-    if is_transfer(opcode) || opcode == 20 {
-        32
-    } else {
-        12
-    }
+    matches!(
+        opcode,
+        opcodes::ABORT
+            | opcodes::GET_COMMAND_STATUS
+            | opcodes::GET_UNIT_STATUS
+            | opcodes::SET_CONTROLLER_CHARACTERISTICS
+            | opcodes::AVAILABLE
+            | opcodes::ONLINE
+            | opcodes::SET_UNIT_CHARACTERISTICS
+            | opcodes::READ
+            | opcodes::WRITE
+    )
 }

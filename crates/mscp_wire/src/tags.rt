@@ -5,10 +5,10 @@ ghost use Rattle.mscp_wire.specs.Kept as kept;
 ghost use Rattle.mscp_wire.specs.Sought.{is_sought};
 ghost use Rattle.mscp_wire.specs.declared.sent.Sent as sents;
 
-use crate::answer::{ABORT, STATUS};
 use crate::held::Sought;
-use crate::sent::{Sent, is_immediate, is_ordered, is_sequential};
+use crate::sent::{Sent, is_ordered, is_sequential};
 use mscp_drive::Connection;
+use mscp_packet::{is_immediate, opcodes};
 use std::alloc::Allocator;
 
 /// The tag of no command.
@@ -41,10 +41,10 @@ fn aside(command: &Sent) -> u64
     ensures tag { result ≡ kept.aside command.now }
     ensures bound { result < 2 ^ 40 }
 {
-    if command.opcode == ABORT || command.opcode == STATUS {
+    if command.opcode == opcodes::ABORT || command.opcode == opcodes::GET_COMMAND_STATUS {
         return about(command.parameter);
     }
-    if command.opcode == 3 && !command.next {
+    if command.opcode == opcodes::GET_UNIT_STATUS && !command.next {
         u64::from(command.unit)
     } else {
         65_536

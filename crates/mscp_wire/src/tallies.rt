@@ -6,11 +6,11 @@ ghost use Rattle.mscp_wire.specs.Wire.{command_at, left};
 ghost use Rattle.mscp_wire.specs.Kept as kept;
 ghost use Rattle.mscp_wire.specs.declared.sent.Sent as sents;
 
-use crate::answer::STATUS;
 use crate::polls::left;
 use crate::sent::{Asked, Sent, is_ordered, is_sequential};
 use crate::tally::{Tally, slot_of};
 use mscp_drive::Connection;
+use mscp_packet::opcodes;
 use std::alloc::{AllocError, Allocator};
 
 /// How many commands are outstanding of each kind.
@@ -75,7 +75,7 @@ fn by_asked(command: &Sent) -> Option<usize>
     ensures { result ≡ kept.by_asked command.now }
 {
     match command.parameter {
-        Some(other) if command.opcode == STATUS && asks(command.asked) => {
+        Some(other) if command.opcode == opcodes::GET_COMMAND_STATUS && asks(command.asked) => {
             Some(slot_of(command.connection, other))
         }
         _ => None,
@@ -86,7 +86,7 @@ fn by_asked(command: &Sent) -> Option<usize>
 fn by_status(command: &Sent) -> Option<usize>
     ensures { result ≡ kept.by_status command.now }
 {
-    if command.opcode == 3 && !command.next && !command.beside {
+    if command.opcode == opcodes::GET_UNIT_STATUS && !command.next && !command.beside {
         Some(slot_of(command.connection, u32::from(command.unit)))
     } else {
         None
@@ -97,7 +97,7 @@ fn by_status(command: &Sent) -> Option<usize>
 fn by_next(command: &Sent) -> Option<usize>
     ensures { result ≡ kept.by_next command.now }
 {
-    if command.opcode == 3 && command.next && !command.beside {
+    if command.opcode == opcodes::GET_UNIT_STATUS && command.next && !command.beside {
         Some(slot_of(command.connection, 0))
     } else {
         None

@@ -6,6 +6,7 @@ ghost use Rattle.mscp_wire.specs.Wire as wire;
 use crate::answer::Answer;
 use crate::identity::{Identity, agrees};
 use crate::noted::Noted;
+use mscp_packet::endcodes;
 
 /// What a host was told of whether a unit is online.
 #[derive(Clone, Copy)]
@@ -171,7 +172,9 @@ impl Told {
         ensures { result ≡ (wire.after_own self.now answer.now).sure }
     {
         !answer.leaves()
-            && (answer.brings() || self.sure || (self.learns(answer) && answer.code == 0x83))
+            && (answer.brings()
+                || self.sure
+                || (self.learns(answer) && answer.code == endcodes::GET_UNIT_STATUS))
     }
 
     /// Whether it is online then.

@@ -7,6 +7,8 @@ ghost use Rattle.mscp_wire.specs.Totals as total;
 use crate::falls::Falls;
 use crate::moment::Moment;
 use mscp_packet::fields::two_at;
+use mscp_packet::opcodes;
+use mscp_packet::status::code_of;
 
 /// How many moments a log has, and how many of each kind.
 #[derive(Clone, Copy, Default)]
@@ -56,7 +58,8 @@ fn is_poll(moment: &Moment) -> bool
     ensures { result ≡ total.is_poll moment.now }
 {
     match moment {
-        Moment::Message(_, message, _) => message.len() > 8 && message.as_slice()[8] == 2,
+        Moment::Message(_, message, _) => message.len() > 8
+            && message.as_slice()[8] == opcodes::GET_COMMAND_STATUS,
         _ => false,
     }
 }
@@ -113,7 +116,7 @@ fn code_told(moment: &Moment) -> Option<usize>
 {
     match moment {
         Moment::End(_, message) if message.len() >= 12 => {
-            Some(usize::from(two_at(message.as_slice(), 10) % 32))
+            Some(usize::from(code_of(two_at(message.as_slice(), 10))))
         }
         _ => None,
     }

@@ -10,6 +10,7 @@ use crate::sent::Sent;
 use crate::table::Table;
 use crate::told::{State, Told};
 use mscp_drive::{Connection, OutOfMemory};
+use mscp_packet::opcodes;
 use std::alloc::{AllocError, Allocator};
 use std::collections::HashMap;
 use std::hash::{BuildHasherDefault, FoldHasher};
@@ -175,7 +176,7 @@ impl<A: Allocator + Copy> Units<A> {
         ensures called { (identifier : ℕ)
             → wire.kept_called self.new identifier ≡ wire.kept_called self.old identifier }
     {
-        if sent.opcode != 9 {
+        if sent.opcode != opcodes::ONLINE {
             return Ok(());
         }
         let other = other_side(sent.connection);

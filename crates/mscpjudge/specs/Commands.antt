@@ -1,23 +1,17 @@
 -- What is written of a command.
-use Rattle.std.specs.Prelude.{ℕ, nat_eq, nat_le, Bool, ◌&&◌, ◌||◌, if◌then◌else◌, List, [], ◌++◌, codes}
+use Rattle.std.specs.Prelude.{ℕ, if◌then◌else◌, List, [], ◌++◌, codes}
 use Rattle.std.specs.Fmt.{decimal}
+use Rattle.mscp_packet.specs.Opcodes.{has_row, opcode_name}
 use Rattle.mscp_drive.specs.declared.connection.Connection.{Connection}
 use Rattle.mscp_drive.specs.declared.connection.Connection.TheVariants.{First, Second}
 use Rattle.mscp_wire.specs.declared.sent.Sent.{Sent}
-use Rattle.mscpjudge.specs.Counted.{opcode_name}
 
 -- whose it is, if that isn't the first connection's host
 abbrev pub connection_name : Connection → List ℕ
 connection_name First = []
 connection_name Second = codes "second "
 
--- an opcode has a name
-abbrev pub has_name : ℕ → Bool
-has_name opcode =
-    (nat_le 1 opcode && nat_le opcode 4) || (nat_le 8 opcode && nat_le opcode 11)
-    || (nat_le 16 opcode && nat_le opcode 20) || (nat_le 32 opcode && nat_le opcode 34) || nat_eq opcode 47
-
--- a command of an opcode that has one, or has none
+-- a command of an opcode that has a name, or has none
 abbrev pub named_text : Sent → List ℕ
 named_text s =
     opcode_name s.opcode ++ (codes " " ++ decimal s.reference) ++ (codes " of unit " ++ decimal s.unit) ++ codes "\n"
@@ -29,4 +23,4 @@ unnamed_text s =
 
 -- what a command is
 unfoldable pub command_text : Sent → List ℕ
-command_text s = connection_name s.connection ++ (if has_name s.opcode then named_text s else unnamed_text s)
+command_text s = connection_name s.connection ++ (if has_row s.opcode then named_text s else unnamed_text s)

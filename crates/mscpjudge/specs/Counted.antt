@@ -1,46 +1,11 @@
 -- What is written of the totals of a log of the wire.
 use Rattle.std.specs.Prelude.{ℕ, zero, suc, nat_eq, if◌then◌else◌, List, [], ◌++◌, codes, slice_index}
 use Rattle.std.specs.Fmt.{decimal}
+use Rattle.mscp_packet.specs.Opcodes.{opcode_name}
+use Rattle.mscp_packet.specs.Statuses.{code_name}
 use Rattle.mscp_wire.specs.declared.falls.Falls.{Falls}
 use Rattle.mscp_wire.specs.declared.totals.Counts.{Counts}
 use Rattle.mscp_wire.specs.declared.totals.Totals.{Totals}
-
--- what a command of an opcode is called (manual)
-abbrev pub opcode_name : ℕ → List ℕ
-opcode_name opcode =
-    if nat_eq opcode 1 then codes "ABORT" else (
-    if nat_eq opcode 2 then codes "GET COMMAND STATUS" else (
-    if nat_eq opcode 3 then codes "GET UNIT STATUS" else (
-    if nat_eq opcode 4 then codes "SET CONTROLLER CHARACTERISTICS" else (
-    if nat_eq opcode 8 then codes "AVAILABLE" else (
-    if nat_eq opcode 9 then codes "ONLINE" else (
-    if nat_eq opcode 10 then codes "SET UNIT CHARACTERISTICS" else (
-    if nat_eq opcode 11 then codes "DETERMINE ACCESS PATHS" else (
-    if nat_eq opcode 16 then codes "ACCESS" else (
-    if nat_eq opcode 17 then codes "COMPARE CONTROLLER DATA" else (
-    if nat_eq opcode 18 then codes "ERASE" else (
-    if nat_eq opcode 19 then codes "FLUSH" else (
-    if nat_eq opcode 20 then codes "REPLACE" else (
-    if nat_eq opcode 32 then codes "COMPARE HOST DATA" else (
-    if nat_eq opcode 33 then codes "READ" else (
-    if nat_eq opcode 34 then codes "WRITE" else (
-    if nat_eq opcode 47 then codes "FORMAT" else codes "command of an unknown opcode"))))))))))))))))
-
--- what a status of a code is called (manual, "Status and Event Codes")
-abbrev pub status_name : ℕ → List ℕ
-status_name code =
-    if nat_eq code 0 then codes "Success" else (
-    if nat_eq code 1 then codes "Invalid Command" else (
-    if nat_eq code 2 then codes "Command Aborted" else (
-    if nat_eq code 3 then codes "Unit-Offline" else (
-    if nat_eq code 4 then codes "Unit-Available" else (
-    if nat_eq code 5 then codes "Media Format Error" else (
-    if nat_eq code 6 then codes "Write Protected" else (
-    if nat_eq code 7 then codes "Compare Error" else (
-    if nat_eq code 8 then codes "Data Error" else (
-    if nat_eq code 9 then codes "Host Buffer Access Error" else (
-    if nat_eq code 10 then codes "Controller Error" else (
-    if nat_eq code 11 then codes "Drive Error" else codes "unknown status")))))))))))
 
 -- the line of so many commands of an opcode, or ends whose status has a code, if there is one
 abbrev pub sent_text : ℕ → ℕ → List ℕ
@@ -52,7 +17,7 @@ sent_text opcode count =
 abbrev pub ended_text : ℕ → ℕ → List ℕ
 ended_text code count =
     if nat_eq count 0 then []
-    else codes "ended: " ++ decimal count ++ codes " " ++ status_name code ++ codes " (" ++ decimal code
+    else codes "ended: " ++ decimal count ++ codes " " ++ code_name code ++ codes " (" ++ decimal code
     ++ codes ")\n"
 
 -- f 0, f 1 .. before f n, one behind another

@@ -1,11 +1,11 @@
 -- What is written of the length of an end that is too short.
 use Rattle.std.specs.Prelude.{ℕ, nat_lt, if◌then◌else◌, List, ◌++◌, codes, length, slice_index}
 use Rattle.std.specs.Fmt.{decimal}
-use Rattle.mscp_wire.specs.Wire.{least_length}
+use Rattle.mscp_packet.specs.Ends.{least_end}
 
 -- the fewest bytes that it may have: any end has 12
 unfoldable pub least_bytes : List ℕ → ℕ
-least_bytes b = if nat_lt (length b) 12 then 12 else least_length (slice_index b 8)
+least_bytes b = if nat_lt (length b) 12 then 12 else least_end (slice_index b 8)
 
 -- its length, and what its endcode asks for
 unfoldable pub lengths_text : ℕ → ℕ → List ℕ

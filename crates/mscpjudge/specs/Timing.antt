@@ -4,6 +4,7 @@ use Rattle.std.specs.Ordering.{nat_cmp}
 use Rattle.std.specs.BTreeMap as tree
 use Rattle.std.specs.Fmt.{decimal}
 use Rattle.std.specs.List.{list_any}
+use Rattle.mscp_packet.specs.OpcodeBytes as opcodes
 use Rattle.mscp_drive.specs.declared.connection.Connection.{Connection}
 use Rattle.mscp_packet.specs.Number.{num}
 use Rattle.mscp_reader.specs.Lexical.{lines}
@@ -48,7 +49,7 @@ with_waiting old via reference changed other number =
 
 -- the reference number that a poll names, if a command is one
 abbrev pub polled_in : Sent → Option ℕ
-polled_in y = if nat_eq y.opcode 2 then y.parameter else None
+polled_in y = if nat_eq y.opcode opcodes.get_command_status then y.parameter else None
 
 -- the command of this number on a connection, if it waits
 abbrev pub about : (Connection → ℕ → Option Waiting) → Connection → Option ℕ → Option Waiting
@@ -105,7 +106,7 @@ longer (Some old) (Some new) = if nat_lt old.time new.time then Some new else So
 -- if it is of a poll
 abbrev pub of_poll : Option Span → Option Span
 of_poll None = None
-of_poll (Some span) = if nat_eq span.command.opcode 2 then Some span else None
+of_poll (Some span) = if nat_eq span.command.opcode opcodes.get_command_status then Some span else None
 
 -- the line of this number and this time tells an end
 abbrev pub after_ended : ℕ → Option ℕ → Timed → Connection → List ℕ → Timed

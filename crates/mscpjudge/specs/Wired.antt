@@ -48,9 +48,9 @@ rule_name rules.Length = codes "length"
 rule_name rules.Outstanding = codes "outstanding"
 -- it names the unit of its command, or any if that is a GET UNIT STATUS which asks for the next unit (modifier 1)
 rule_name rules.Unit = codes "unit"
--- its endcode is the opcode and 0x80, or 0x80 alone if a controller may leave that opcode out
+-- its endcode is the opcode with the top bit set, or that bit alone if a controller may leave that opcode out
 rule_name rules.Endcode = codes "endcode"
--- its status is one that such a command may have. With 0x80 alone it is Invalid Command
+-- its status is one that such a command may have. With that bit alone it is Invalid Command
 rule_name rules.Status = codes "status"
 -- a command is aborted by a later ABORT, and ends before that does
 rule_name rules.Aborted = codes "aborted"

@@ -5,20 +5,16 @@ ghost use Rattle.std.specs.Prelude.{◌≡◌, ◌≤◌, ◌++◌, length, IfSo
 ghost use Rattle.mscpjudge.specs.Foreign as foreign;
 
 use crate::values::put_digits;
-use crate::wire::{has_name, opcode_name};
 use mscp_packet::fields::{four_at, two_at};
-use mscp_packet::{Class, class_of};
+use mscp_packet::{Class, class_of, endcodes, has_row, opcode_name};
 use mscp_text::{put, put_field};
 use std::alloc::AllocError;
-
-/// The bit of byte 8 that tells an end from a command.
-const END_BIT: u8 = 0x80;
 
 /// Whether an opcode has a name, and no line of a packet knows it.
 fn is_foreign(opcode: u8) -> bool
     ensures { result ≡ foreign.is_foreign opcode }
 {
-    has_name(opcode) && matches!(class_of(opcode), Class::Unknown)
+    has_row(opcode) && matches!(class_of(opcode), Class::Unknown)
 }
 
 /// The opcode of a command or an end, if it is such a one.
@@ -29,7 +25,7 @@ pub fn foreign_of(bytes: &[u8]) -> Option<u8>
     if bytes.len() < 12 || bytes.len() > 64 {
         return None;
     }
-    let opcode = bytes[8] % END_BIT;
+    let opcode = bytes[8] % endcodes::UNKNOWN;
     if is_foreign(opcode) {
         Some(opcode)
     } else {
@@ -80,7 +76,7 @@ fn put_unnamed(text: &mut Vec<u8>, bytes: &[u8]) -> Result<(), AllocError>
     requires { 12 ≤ length bytes.now }
     ensures { OnOk result (text.new.items ≡ text.old.items ++ foreign.unnamed_text bytes.now) }
 {
-    if bytes[8] < END_BIT {
+    if bytes[8] < endcodes::UNKNOWN {
         return put_about(text, "command ", bytes);
     }
     put_about(text, "end ", bytes)?;

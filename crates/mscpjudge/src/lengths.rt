@@ -3,8 +3,8 @@
 ghost use Rattle.std.specs.Prelude.{◌≡◌, ◌++◌, OnOk};
 ghost use Rattle.mscpjudge.specs.Lengths.{least_bytes, length_text, lengths_text};
 
+use mscp_packet::least_end_of;
 use mscp_text::{put, put_field};
-use mscp_wire::least_length;
 use std::alloc::{AllocError, Allocator};
 
 /// The fewest bytes that an end may have.
@@ -15,7 +15,7 @@ fn least_bytes(bytes: &[u8]) -> usize
     if bytes.len() < 12 {
         12
     } else {
-        least_length(bytes[8])
+        least_end_of(bytes[8])
     }
 }
 

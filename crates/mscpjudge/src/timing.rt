@@ -15,6 +15,7 @@ use crate::spans::put_spans;
 use crate::time::line_time;
 use mscp_controller::Connection;
 use mscp_packet::fields::four_at;
+use mscp_packet::opcodes;
 use mscp_reader::{Lines, ScriptFault, lines_of};
 use mscp_wire::{Answer, Moment, Said, Sent, is_hasty, key, line_says};
 use std::alloc::{AllocError, Allocator, Global};
@@ -78,7 +79,7 @@ fn counted(soon: bool, count: u32) -> u32
 fn polled_in(command: &Sent) -> Option<u32>
     ensures { result ≡ timings.polled_in command.now }
 {
-    if command.opcode == 2 {
+    if command.opcode == opcodes::GET_COMMAND_STATUS {
         command.parameter
     } else {
         None
@@ -117,7 +118,7 @@ fn of_poll(span: Option<Span>) -> Option<Span>
     ensures { result ≡ timings.of_poll span }
 {
     match span {
-        Some(span) if span.command.opcode == 2 => Some(span),
+        Some(span) if span.command.opcode == opcodes::GET_COMMAND_STATUS => Some(span),
         _ => None,
     }
 }

@@ -3,31 +3,11 @@
 ghost use Rattle.std.specs.Prelude.{◌≡◌, ◌<◌, ◌++◌, length, OnOk};
 ghost use Rattle.mscpjudge.specs.Counted as counted;
 
-use crate::wire::opcode_name;
+use mscp_packet::opcode_name;
+use mscp_packet::status::code_name;
 use mscp_text::{put, put_field};
 use mscp_wire::{Counts, Falls, Totals};
 use std::alloc::{AllocError, Allocator};
-
-/// What a status of a code is called.
-fn status_name(code: usize) -> &'static str
-    ensures { result.now ≡ counted.status_name code }
-{
-    match code {
-        0 => "Success",
-        1 => "Invalid Command",
-        2 => "Command Aborted",
-        3 => "Unit-Offline",
-        4 => "Unit-Available",
-        5 => "Media Format Error",
-        6 => "Write Protected",
-        7 => "Compare Error",
-        8 => "Data Error",
-        9 => "Host Buffer Access Error",
-        10 => "Controller Error",
-        11 => "Drive Error",
-        _ => "unknown status",
-    }
-}
 
 /// Appends the line of so many commands of an opcode, if there is one.
 fn put_sent<A: Allocator>(
@@ -60,7 +40,7 @@ fn put_commands<A: Allocator>(text: &mut Vec<u8, A>, commands: &[u32]) -> Result
 }
 
 /// Appends the line of so many ends whose status has a code, if there is one.
-fn put_ended<A: Allocator>(text: &mut Vec<u8, A>, code: usize, count: u32) -> Result<(), AllocError>
+fn put_ended<A: Allocator>(text: &mut Vec<u8, A>, code: u16, count: u32) -> Result<(), AllocError>
     ensures { OnOk result (text.new.items ≡ text.old.items ++ counted.ended_text code count) }
 {
     if count == 0 {
@@ -68,7 +48,7 @@ fn put_ended<A: Allocator>(text: &mut Vec<u8, A>, code: usize, count: u32) -> Re
     }
     put_field(text, "ended: ", count)?;
     put(text, " ")?;
-    put(text, status_name(code))?;
+    put(text, code_name(code))?;
     put_field(text, " (", code)?;
     put(text, ")\n")
 }
@@ -79,7 +59,7 @@ fn put_statuses<A: Allocator>(text: &mut Vec<u8, A>, statuses: &[u32]) -> Result
     ensures { OnOk result (text.new.items ≡ text.old.items ++ counted.statuses_text statuses.now) }
 {
     for code in 0..32 {
-        put_ended(text, code, statuses[code])?;
+        put_ended(text, code, statuses[usize::from(code)])?;
     }
     Ok(())
 }

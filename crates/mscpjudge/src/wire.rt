@@ -1,7 +1,7 @@
 // What is said of a log of the wire.
 
 ghost use Rattle.std.specs.Prelude.{◌≡◌, ◌++◌, OnOk, IfOk};
-ghost use Rattle.mscpjudge.specs.Common.{flat_map, breach_text, breaker_name, broken_text, command_text, connection_name, meant_text, opcode_name, outstanding_text, wire_outcome, wire_text};
+ghost use Rattle.mscpjudge.specs.Common.{flat_map, breach_text, breaker_name, broken_text, command_text, connection_name, meant_text, outstanding_text, wire_outcome, wire_text};
 ghost use Rattle.mscp_wire.specs.Course.{places_in};
 ghost use Rattle.mscpjudge.specs.Commands as commands;
 ghost use Rattle.mscpjudge.specs.Credits.{credits_before, credits_text};
@@ -20,35 +20,10 @@ use crate::timing::put_timing;
 use crate::totals::put_totals;
 use crate::values::{put_against, put_told};
 use mscp_controller::{Connection, OutOfMemory};
+use mscp_packet::{has_row, opcode_name};
 use mscp_text::{put, put_field};
 use mscp_wire::{Places, Rule, Sent, Totals, Verdict, Wrong, places_in};
 use std::alloc::{AllocError, Allocator, Global};
-
-/// What a command of an opcode is called.
-pub fn opcode_name(opcode: u8) -> &'static str
-    ensures { result.now ≡ opcode_name opcode }
-{
-    match opcode {
-        1 => "ABORT",
-        2 => "GET COMMAND STATUS",
-        3 => "GET UNIT STATUS",
-        4 => "SET CONTROLLER CHARACTERISTICS",
-        8 => "AVAILABLE",
-        9 => "ONLINE",
-        10 => "SET UNIT CHARACTERISTICS",
-        11 => "DETERMINE ACCESS PATHS",
-        16 => "ACCESS",
-        17 => "COMPARE CONTROLLER DATA",
-        18 => "ERASE",
-        19 => "FLUSH",
-        20 => "REPLACE",
-        32 => "COMPARE HOST DATA",
-        33 => "READ",
-        34 => "WRITE",
-        47 => "FORMAT",
-        _ => "command of an unknown opcode",
-    }
-}
 
 /// Whose it is, if that isn't the first connection's host.
 pub fn connection_name(connection: Connection) -> &'static str
@@ -134,13 +109,6 @@ fn rule_text(rule: Rule) -> &'static str
     }
 }
 
-/// Whether an opcode has a name.
-pub fn has_name(opcode: u8) -> bool
-    ensures { result ≡ commands.has_name opcode }
-{
-    matches!(opcode, 1..=4 | 8..=11 | 16..=20 | 32..=34 | 47)
-}
-
 /// Appends a command of an opcode that has a name, and ends the line.
 fn put_named<A: Allocator>(text: &mut Vec<u8, A>, command: &Sent) -> Result<(), AllocError>
     ensures { OnOk result (text.new.items ≡ text.old.items ++ commands.named_text command.now) }
@@ -167,7 +135,7 @@ pub fn put_command<A: Allocator>(text: &mut Vec<u8, A>, command: &Sent) -> Resul
     ensures { OnOk result (text.new.items ≡ text.old.items ++ command_text command.now) }
 {
     put(text, connection_name(command.connection))?;
-    if has_name(command.opcode) {
+    if has_row(command.opcode) {
         put_named(text, command)
     } else {
         put_unnamed(text, command)

@@ -79,5 +79,5 @@ fn other_buses_are_refused() {
 #[test]
 fn values_are_in_range() {
     assert_eq!((BusKind::Q.address(0xFFFF_FFFF), BusKind::Uni.address(0xFFFF_FFFF)), (0x3F_FFFF, 0x3_FFFF));
-    assert_eq!(Opcode::of_number(17), None);
+    assert_eq!(Opcode::of_number(12), None);
 }

@@ -99,14 +99,7 @@ none_left via q ws = search (arith, not false, filter_all, every_from)
 pub others_wait : (via : Connection) (q : ℕ) (ws : List Record) (o : Order)
     → unaborted via ws o ≡ filter (λ r. not (ends_in (name_of r) (Answer via q (reference_aborted via ws o)))) ws
 others_wait via q ws (Order.Abort other) = left_by via q other ws
-others_wait via q ws (Order.Status other) = none_left via q ws
-others_wait via q ws Order.UnitStatus = none_left via q ws
-others_wait via q ws (Order.SetController version) = none_left via q ws
-others_wait via q ws Order.Available = none_left via q ws
-others_wait via q ws Order.Online = none_left via q ws
-others_wait via q ws Order.SetUnit = none_left via q ws
-others_wait via q ws (Order.Move kind count block) = none_left via q ws
-others_wait via q ws (Order.Invalid opcode status) = none_left via q ws
+others_wait via q ws order = none_left via q ws
 
 -- ---- what was begun
 with_other : (n other : Name)

@@ -40,7 +40,6 @@ count_stepped {K} via picks k old Report.Idle new h = search arith
 count_stepped {K} via picks k old (Report.Served connection reference unit lbn started seek ended) new h =
     search (arith, count_after)
 
--- ---- a command comes
 -- ---- a command is aborted
 -- the others keep their commands
 pub other_count : (via other : Connection) (n : ℕ) (ws : List Record) → same_connection via other ≡ false

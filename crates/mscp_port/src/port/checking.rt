@@ -7,9 +7,9 @@ use crate::action::Outcome;
 use crate::buffers::{Buffer, find_buffer};
 use crate::port::Port;
 use crate::port::serving::{changed_verdict, move_of, refusal};
-use crate::verdict::{DRIVE_ERROR, MISSING, Verdict, block_of};
+use crate::verdict::{Verdict, block_of};
 use crate::volumes::Volume;
-use mscp_packet::MoveKind;
+use mscp_packet::{MoveKind, status};
 use mscp_queue::{Picker, Upcoming};
 
 /// The part of its command's buffer that a step is about which moves this block so, behind so many others, or how it
@@ -32,7 +32,7 @@ pub(crate) fn part_with(
     }
     match refusal(kind, block, buffer, volume) {
         Some(verdict) => Err(verdict),
-        None => buffer.part(done).ok_or(Verdict::fault(MISSING)),
+        None => buffer.part(done).ok_or(Verdict::fault(status::MISSING)),
     }
 }
 
@@ -71,7 +71,7 @@ impl<K: Picker> Port<K> {
             (Some(place), Some(buffer)) => {
                 part_with(kind, block, upcoming.done, &buffer, &self.volumes[place])
             }
-            _ => Err(Verdict::fault(DRIVE_ERROR)),
+            _ => Err(Verdict::fault(status::DRIVE_ERROR)),
         }
     }
 
@@ -81,7 +81,7 @@ impl<K: Picker> Port<K> {
         ensures { result ≡ block_served self.now outcome (block_begun self.now) }
     {
         let Some((upcoming, kind, block)) = self.block_begun() else {
-            return Verdict::fault(DRIVE_ERROR);
+            return Verdict::fault(status::DRIVE_ERROR);
         };
         match self.part(&upcoming, kind, block) {
             Ok(_) => Verdict::Served(block_of(outcome)),

@@ -18,7 +18,7 @@ ghost use Rattle.mscp_port.specs.Messages.{own_end_of};
 
 use crate::action::Unasked;
 use crate::buffers::{Buffer, forget_aborted, keep};
-use crate::message::{GET_COMMAND_STATUS, SET_CONTROLLER, command_for_controller, own_end};
+use crate::message::{command_for_controller, own_end};
 use crate::port::{Outgoing, OutgoingKind, Port};
 use crate::rings::Side;
 use crate::sizes::{LONGEST_TEXT, TextSize};
@@ -27,7 +27,7 @@ use crate::task::Task;
 use arrayvec::ArrayVec;
 use mscp_controller::{SendFault, Sent};
 use mscp_packet::fields::{four_at, two_at};
-use mscp_packet::{End, write_end};
+use mscp_packet::{End, opcodes, write_end};
 use mscp_queue::{Connection, Picker};
 
 /// The connection of commands that the diagnostic and utilities protocol has.
@@ -278,10 +278,13 @@ impl<K: Picker> Port<K> {
           left = self.new.left;
         } }
     {
-        if message[8] == GET_COMMAND_STATUS {
+        if message[8] == opcodes::GET_COMMAND_STATUS {
             self.owes_block = true;
         }
-        if message[8] == SET_CONTROLLER && message.len() >= 18 && two_at(message, 12) == 0 {
+        if message[8] == opcodes::SET_CONTROLLER_CHARACTERISTICS
+            && message.len() >= 18
+            && two_at(message, 12) == 0
+        {
             self.flags = two_at(message, 14);
             self.timeout = two_at(message, 16);
             self.left = self.timeout;

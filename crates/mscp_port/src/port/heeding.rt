@@ -15,7 +15,7 @@ use crate::port::Port;
 use crate::verdict::Verdict;
 use crate::volumes::Volume;
 use mscp_drive::Units;
-use mscp_packet::End;
+use mscp_packet::{End, codes, endcodes, status};
 use mscp_queue::{Block, Connection, Picker};
 
 /// The modifier by which a host sets or clears its write protection.
@@ -28,12 +28,12 @@ fn heed_unit(volume: &mut Volume, code: u8, buffer: Option<Buffer>)
     ensures { volume.new ≡ volume_heeded code buffer volume.old }
 {
     match (code, buffer) {
-        (0x88, _) => {
+        (endcodes::AVAILABLE, _) => {
             volume.is_mounted = false;
             volume.is_protected_by_host = false;
         }
-        (0x89 | 0x8A, Some(buffer)) => {
-            if code == 0x89 {
+        (endcodes::ONLINE | endcodes::SET_UNIT_CHARACTERISTICS, Some(buffer)) => {
+            if code == endcodes::ONLINE {
                 volume.is_mounted = true;
                 volume.is_news = false;
             }
@@ -161,7 +161,7 @@ impl<K: Picker> Port<K> {
               (place_heeded self.old.controller.settings.units end.now) self.old.volumes;
         } }
     {
-        if let (Some(place), 0) = (place, end.status % 32) {
+        if let (Some(place), codes::SUCCESS) = (place, status::code_of(end.status)) {
             heed_unit(&mut self.volumes[place], end.code, kept);
         }
     }

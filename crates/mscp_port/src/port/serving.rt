@@ -12,9 +12,9 @@ use crate::action::Action;
 use crate::buffers::{Buffer, find_buffer};
 use crate::port::Port;
 use crate::task::Task;
-use crate::verdict::{DRIVE_ERROR, ODD_ADDRESS, ODD_COUNT, PROTECTED, PROTECTED_BY_HOST, Verdict};
+use crate::verdict::Verdict;
 use crate::volumes::Volume;
-use mscp_packet::{MoveKind, Order};
+use mscp_packet::{MoveKind, Order, status};
 use mscp_queue::{Block, Connection, Picker, Report, Upcoming};
 
 /// Whether a transfer moves bytes of host memory.
@@ -45,15 +45,15 @@ pub(crate) fn refusal(
     if !volume.is_mounted {
         Some(Verdict::NotOnline)
     } else if has_host_bytes(kind) && buffer.address % 2 == 1 {
-        Some(Verdict::fault(ODD_ADDRESS))
+        Some(Verdict::fault(status::ODD_ADDRESS))
     } else if buffer.count % 2 == 1 {
-        Some(Verdict::fault(ODD_COUNT))
+        Some(Verdict::fault(status::ODD_COUNT))
     } else if writes(kind) && volume.is_protected_by_host {
-        Some(Verdict::fault(PROTECTED_BY_HOST))
+        Some(Verdict::fault(status::PROTECTED_BY_HOST))
     } else if writes(kind) && volume.is_protected {
-        Some(Verdict::fault(PROTECTED))
+        Some(Verdict::fault(status::PROTECTED))
     } else if volume.size <= block {
-        Some(Verdict::fault(DRIVE_ERROR))
+        Some(Verdict::fault(status::DRIVE_ERROR))
     } else {
         None
     }
@@ -76,7 +76,7 @@ pub(crate) fn changed_verdict(volume: &Volume) -> Verdict
     ensures { result ≡ changed_verdict volume.now }
 {
     if volume.is_mounted {
-        Verdict::fault(DRIVE_ERROR)
+        Verdict::fault(status::DRIVE_ERROR)
     } else {
         Verdict::NoVolume
     }
@@ -183,7 +183,7 @@ impl<K: Picker> Port<K> {
             (Some(place), Some(buffer)) => {
                 verdict_without_block(upcoming, &buffer, &self.volumes[place])
             }
-            _ => Verdict::fault(DRIVE_ERROR),
+            _ => Verdict::fault(status::DRIVE_ERROR),
         }
     }
 

@@ -3,8 +3,6 @@ use Rattle.mscp_sim.proofs.Common.{◌≡◌, ℕ, ◌+◌, ◌<◌, Bool, true,
 use Rattle.mscp_queue.specs.declared.report.Report.TheVariants as reports
 use Rattle.mscp_sim.proofs.TwoEnds.Matching.{Ends, ends_match, stays}
 
--- ---- by connection
-
 -- ---- a step
 
 commands_passed : (via : Connection) (n : ℕ) (rs : List Record)

@@ -1,27 +1,15 @@
 // The text of commands and ends.
 
 ghost use Rattle.std.specs.Prelude.{◌≡◌, ◌≤◌, ◌+◌, ◌++◌, codes, length, OnErr, OnOk};
-ghost use Rattle.mscp_text.specs.Common.{status_text, body_text, code_text, command_text, end_text, invalid_name, move_name, order_text, packet_line};
+ghost use Rattle.mscp_text.specs.Common.{status_text, body_text, code_text, command_text, end_text, invalid_name, order_text, packet_line};
 
 use crate::out::Out;
 use crate::packet::Packet;
 use crate::words::{put, put_field, put_hex, put_two};
+use itoa::Integer;
 use mscp_packet::status::INVALID_OPCODE;
-use mscp_packet::{Command, End, EndBody, MoveKind, Order};
+use mscp_packet::{Command, End, EndBody, Order};
 use std::alloc::AllocError;
-
-/// The name of a transfer.
-fn move_name(kind: MoveKind) -> &'static str
-    ensures { result.now ≡ move_name kind }
-{
-    match kind {
-        MoveKind::Access => "ACCESS",
-        MoveKind::Erase => "ERASE",
-        MoveKind::Compare => "COMPARE HOST DATA",
-        MoveKind::Read => "READ",
-        MoveKind::Write => "WRITE",
-    }
-}
 
 /// What is wrong with a command that is refused with this status.
 fn invalid_name(status: u16) -> &'static str
@@ -34,29 +22,38 @@ fn invalid_name(status: u16) -> &'static str
     }
 }
 
+/// Appends the name of a command, and a number of it behind a word.
+fn put_named<N: Integer, O: Out>(
+    out: &mut O,
+    name: &str,
+    word: &str,
+    number: N,
+) -> Result<(), AllocError>
+    ensures text { OnOk result (O.text out.new ≡ O.text out.old ++ (name.now ++ word.now ++ N.text number)) }
+    ensures refused { OnErr result O.refuses }
+{
+    put(out, name)?;
+    put_field(out, word, number)
+}
+
 /// Appends what a command asks for.
 fn put_order<O: Out>(out: &mut O, order: Order) -> Result<(), AllocError>
     ensures text { OnOk result (O.text out.new ≡ O.text out.old ++ order_text order) }
     ensures refused { OnErr result O.refuses }
 {
     match order {
-        Order::Abort(other) => put_field(out, "ABORT of ", other),
-        Order::Status(other) => put_field(out, "GET COMMAND STATUS of ", other),
-        Order::UnitStatus => put(out, "GET UNIT STATUS"),
-        Order::SetController(version) => {
-            put_field(out, "SET CONTROLLER CHARACTERISTICS version ", version)
-        }
-        Order::Available => put(out, "AVAILABLE"),
-        Order::Online => put(out, "ONLINE"),
-        Order::SetUnit => put(out, "SET UNIT CHARACTERISTICS"),
-        Order::Move(kind, count, block) => {
-            put(out, move_name(kind))?;
+        Order::Abort(other) => put_named(out, order.name(), " of ", other),
+        Order::Status(other) => put_named(out, order.name(), " of ", other),
+        Order::SetController(version) => { put_named(out, order.name(), " version ", version) }
+        Order::Move(_, count, block) => {
+            put(out, order.name())?;
             put_two(out, " bytes ", count, " block ", block)
         }
         Order::Invalid { opcode, status } => {
             put(out, invalid_name(status))?;
             put_field(out, " opcode ", opcode)
         }
+        order => put(out, order.name()),
     }
 }
 

@@ -1,4 +1,4 @@
-use Rattle.mscp_packet.proofs.Common.{arith, ◌≡◌, List, ℕ}
+use Rattle.mscp_packet.proofs.Common.{arith}
 use Rattle.mscp_packet.proofs.Commands.{command_read}
 use Rattle.mscp_packet.proofs.law.read_written_command.Goals as goal
 
