@@ -377,8 +377,8 @@ def lines_come_and_go():
     assert said() == "Removed: online 9 0" and value("script") == HEADER
     click("undo")
     assert said() == "Only the header is left." and value("script") == HEADER
-    add("packet 050000000000000013000000")
-    assert "command 5 unit 0 unknown opcode 19" in text("moments")
+    add("packet 050000000000000005000000")
+    assert "command 5 unit 0 unknown opcode 5" in text("moments")
 
 
 def random_read_is_one():

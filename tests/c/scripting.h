@@ -25,7 +25,7 @@ static const struct { const char *text; int32_t fault; uint32_t line; } SCRIPTS[
 };
 
 static const struct { const char *word; int32_t status; const char *text; } PACKETS[] = {
-    {"050000000000000013000000", MSCP_DONE, "command 5 unit 0 unknown opcode 19\n"},
+    {"050000000000000005000000", MSCP_DONE, "command 5 unit 0 unknown opcode 5\n"},
     {"050000000000000080000108", MSCP_DONE, "end 5 unit 0 code 80 status 0801\n"},
     {"0100000000000000210000000004000000000000000000000000000028000000", MSCP_DONE, "command 1 unit 0 READ bytes 1024 block 40\n"},
     {"0600000000000000220000000010000000000000000000000000000007000000", MSCP_DONE, "command 6 unit 0 WRITE bytes 4096 block 7\n"},

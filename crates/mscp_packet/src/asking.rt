@@ -80,12 +80,14 @@ pub fn modifiers_of(byte: u8) -> u16
     }
 }
 
-/// Who answers commands with this opcode byte here.
-pub fn answerer_of(byte: u8) -> Answerer
-    ensures { result ≡ table.answerer_of byte }
+/// Whether the port in front of the controller answers commands with this opcode byte.
+#[tactic(auto, unfolding(crate::specs::Opcodes::port_answers))]
+pub fn port_answers(byte: u8) -> bool
+    ensures { result ≡ table.port_answers byte }
 {
-    match row_at(byte) {
-        Some(row) => row.answerer,
-        None => Answerer::Nobody,
+    // What the controller answers is no foreign opcode.
+    match foreign_of(byte) {
+        Some(opcode) => matches!(opcode.row().answerer, Answerer::Port),
+        None => false,
     }
 }

@@ -8,6 +8,7 @@
 ghost use Rattle.std.specs.Prelude.{◌≡◌};
 ghost use Rattle.mscp_packet.specs.Opcodes as table;
 ghost use Rattle.mscp_packet.specs.Opcodes.{class, is_immediate_class, row_of, opcode_of, foreign_row, foreign_of, has_status};
+ghost use Rattle.mscp_packet.specs.Rows.{IsRow};
 
 use crate::command::MoveKind;
 use crate::end::BodyKind;
@@ -141,14 +142,7 @@ impl MoveKind {
     /// Its row of the table.
     #[rattlefmt::skip]
     fn row(self) -> Row
-        ensures byte { result.byte ≡ table.move_byte self }
-        ensures name { result.name.now ≡ table.move_name self }
-        ensures class { result.class ≡ Class.Free }
-        ensures least { result.least ≡ 32 }
-        ensures body { result.body ≡ BodyKind.Moved }
-        ensures statuses { result.statuses ≡ StatusSet.Any }
-        ensures modifiers { result.modifiers ≡ table.move_modifiers self }
-        ensures answerer { result.answerer ≡ Answerer.Controller }
+        ensures { IsRow result (row_of (Opcode.Move self)) }
     {
         use Class::Free;
         use BodyKind::Moved;
@@ -186,14 +180,7 @@ impl Opcode {
     /// Codes", "Command Modifiers"; the lengths are the profile's).
     #[rattlefmt::skip]
     pub fn row(self) -> Row
-        ensures byte { result.byte ≡ (row_of self).byte }
-        ensures name { result.name.now ≡ (row_of self).name }
-        ensures class { result.class ≡ (row_of self).scheduled }
-        ensures least { result.least ≡ (row_of self).least_length }
-        ensures body { result.body ≡ (row_of self).body }
-        ensures statuses { result.statuses ≡ (row_of self).statuses }
-        ensures modifiers { result.modifiers ≡ (row_of self).modifiers }
-        ensures answerer { result.answerer ≡ (row_of self).answerer }
+        ensures { IsRow result (row_of self) }
     {
         use Answerer::Controller;
         use Class::{Immediate, Sequential};
@@ -256,14 +243,7 @@ impl Foreign {
     /// Its row of the table.
     #[rattlefmt::skip]
     pub(crate) fn row(self) -> Row
-        ensures byte { result.byte ≡ (foreign_row self).byte }
-        ensures name { result.name.now ≡ (foreign_row self).name }
-        ensures class { result.class ≡ (foreign_row self).scheduled }
-        ensures least { result.least ≡ (foreign_row self).least_length }
-        ensures body { result.body ≡ (foreign_row self).body }
-        ensures statuses { result.statuses ≡ (foreign_row self).statuses }
-        ensures modifiers { result.modifiers ≡ (foreign_row self).modifiers }
-        ensures answerer { result.answerer ≡ (foreign_row self).answerer }
+        ensures { IsRow result (foreign_row self) }
     {
         use Answerer::{Nobody, Port};
         use BodyKind::Bare;

@@ -16,9 +16,9 @@ pub mod status;
 mod writing;
 
 pub use crate::asking::{
-    answerer_of, has_row, least_of, may_have_status, modifiers_of, opcode_name, scheduled_as,
+    has_row, least_of, may_have_status, modifiers_of, opcode_name, port_answers, scheduled_as,
 };
-pub use crate::class::{Answerer, Class, class_of, is_immediate};
+pub use crate::class::{Class, class_of, is_immediate};
 pub use crate::command::{Command, MoveKind, Order};
 pub use crate::decoding::{MOST_MESSAGE_BYTES, decode};
 pub use crate::end::{End, EndBody};

@@ -5,9 +5,9 @@ ghost use Rattle.mscp_port.specs.Common.{position, kept_of, IsInBuffer, is_of, k
 ghost use Rattle.mscp_port.specs.declared.buffers.Buffer.{Buffer as Kept};
 ghost use Rattle.mscp_port.specs.Buffers.{buffer_in, byte_or_zero as byte_of, four_or_zero as four_of, two_or_zero as two_of};
 
-use crate::formality::is_formality;
 use arrayvec::ArrayVec;
 use mscp_packet::fields::{four_at, two_at};
+use mscp_packet::port_answers;
 use mscp_queue::Connection;
 
 /// What is kept of a command that waits: what its message says that the controller doesn't read.
@@ -93,7 +93,7 @@ impl Buffer {
         let before = u64::from(done) * 512;
         let address = u64::from(self.address) + before;
         let count = u64::from(self.count).saturating_sub(before).min(512);
-        if is_formality(self.opcode)
+        if port_answers(self.opcode)
             || before > u64::from(self.count)
             || address + count > 0xFFFF_FFFF
         {

@@ -6,26 +6,18 @@
 // command: it waits for its turn, has a figure, and can be aborted. The port writes its own endcode into the end.
 
 ghost use Rattle.std.specs.Prelude.{◌≡◌};
-ghost use Rattle.mscp_port.specs.Formalities.{code_told, ends_formality, formal_status, is_formality};
+ghost use Rattle.mscp_port.specs.Formalities.{code_told, ends_formality, formal_status};
 
 use crate::buffers::Buffer;
 use mscp_packet::status::{ABORTED, SUCCESS};
-use mscp_packet::{Answerer, Command, MoveKind, Order, answerer_of, endcodes};
+use mscp_packet::{Command, MoveKind, Order, endcodes, port_answers};
 
-/// Whether the table says that the port answers commands of an opcode: of DETERMINE ACCESS PATHS, COMPARE CONTROLLER
-/// DATA and FLUSH.
+/// Whether it is the endcode of one of them: the opcode with the top bit set, which no opcode has.
 #[tactic(auto, unfolding(mscp_packet::specs::Opcodes::port_answers))]
-pub(crate) fn is_formality(opcode: u8) -> bool
-    ensures { result ≡ is_formality opcode }
-{
-    matches!(answerer_of(opcode), Answerer::Port)
-}
-
-/// Whether it is the endcode of one of them.
 pub(crate) fn ends_formality(code: u8) -> bool
     ensures { result ≡ ends_formality code }
 {
-    code >= endcodes::UNKNOWN && is_formality(code - endcodes::UNKNOWN)
+    port_answers(code.wrapping_sub(endcodes::UNKNOWN))
 }
 
 /// What the controller gets in its place: an ACCESS of no bytes, of the same number and unit.
@@ -44,7 +36,7 @@ pub(crate) fn code_told(kept: Option<Buffer>, code: u8) -> u8
     ensures { result ≡ code_told kept code }
 {
     match kept {
-        Some(buffer) if is_formality(buffer.opcode) => buffer.opcode + endcodes::UNKNOWN,
+        Some(buffer) if port_answers(buffer.opcode) => buffer.opcode + endcodes::UNKNOWN,
         _ => code,
     }
 }

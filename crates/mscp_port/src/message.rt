@@ -5,12 +5,14 @@ ghost use Rattle.mscp_packet.specs.Commands.{IsCommand};
 ghost use Rattle.mscp_port.specs.Common.{option_copied, bare_end, handed, next_unit};
 ghost use Rattle.mscp_port.specs.Messages.{own_end as end_of_own, is_transfer, past_volume, refused_end, volume_refusal};
 
-use crate::formality::{is_formality, stand_in};
+use crate::formality::stand_in;
 use crate::volumes::Volume;
 use mscp_drive::{INVALID_BLOCK, INVALID_BYTE_COUNT, Unit, Units};
 use mscp_packet::fields::{four_at, two_at};
 use mscp_packet::status::{INVALID_OPCODE, SUCCESS};
-use mscp_packet::{Class, Command, End, EndBody, class_of, endcodes, opcodes, read_command};
+use mscp_packet::{
+    Class, Command, End, EndBody, class_of, endcodes, opcodes, port_answers, read_command,
+};
 
 /// The bytes of a block.
 const BLOCK_BYTES: u32 = 512;
@@ -28,7 +30,7 @@ pub(crate) fn own_end(message: &[u8], is_foreign: bool, volume: Option<Volume>) 
     if is_foreign {
         return Some(bare_end(message, endcodes::UNKNOWN, INVALID_OPCODE));
     }
-    if volume.is_none() && is_formality(message[8]) {
+    if volume.is_none() && port_answers(message[8]) {
         return Some(bare_end(message, message[8] + endcodes::UNKNOWN, SUCCESS));
     }
     Some(refused_end(message, refusal(message, volume)?))
@@ -133,7 +135,7 @@ pub(crate) fn command_for_controller(message: &[u8], units: &Units) -> Command
     ensures { IsCommand (handed units.now message.now) result }
 {
     let command = command_in(message);
-    if is_formality(message[8]) {
+    if port_answers(message[8]) {
         return stand_in(command);
     }
     if message[8] != opcodes::GET_UNIT_STATUS || two_at(message, 10) % 2 != NEXT_UNIT {

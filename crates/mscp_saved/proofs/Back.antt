@@ -135,7 +135,11 @@ end_long : (n u code status : ℕ) (body : EndBody) → length (end_cell (end n 
 end_long n u code status body = grind arith
 
 pub end_is_back : (e : End) → IsOfKind e → HasEndRange e → IsBack (λ b. end_in b) end_cell 48 e
-end_is_back e k h = search (arith, end_long e.reference e.unit e.code e.status e.body, end_back, end_rest)
+end_is_back e k h = record {
+  back = λ t. end_back e.reference e.unit e.code e.status e.body t k h;
+  rest = end_rest e.reference e.unit e.code e.status e.body;
+  long = end_long e.reference e.unit e.code e.status e.body;
+}
 
 pub begun_back : (begun : Option Name) → name_in (begun_connection begun) (begun_reference begun) ≡ begun
 begun_back begun = grind arith

@@ -2,6 +2,7 @@
 use Rattle.mscp_shown.proofs.Common.{Answer, Bool, EndBody, MoveKind, None, Opcode, Option, Order, Sent, Some, ap, arith, bit_or, count_of, endcode, eq-eqb, eqb-true, false, has_code, has_count, has_status, if◌then◌else◌, inl, inr, is_about, is_about_another, is_counted, is_it, is_known, is_refused, is_required, is_short, is_some, is_transfer, is_unknown, least_of, lt-ltb, may_have_status, move_byte, moves, names_unit, nat_eq, nat_le, nat_lt, not, opcode_byte, refl, refused_body, row_of, status_code, subst, succeeds, sym, true, was_online, ℕ, ⊎_elim, ◌%◌, ◌&&◌, ◌+◌, ◌/◌, ◌<◌, ◌||◌, ◌∙◌, ◌≡◌, ◌≢◌, ◌≤◌, ◌⊎◌}
 use Rattle.mscp_packet.specs.EndcodeBytes as endcodes
 use Rattle.mscp_packet.specs.OpcodeBytes as opcodes
+use Rattle.mscp_packet.specs.declared.class.Opcode.TheVariants as opcode
 use Rattle.mscp_packet.specs.declared.command.Order.TheVariants as orders
 use Rattle.mscp_shown.proofs.Reading.{BodyReads}
 use Rattle.mscp_shown.proofs.Saying.{IsLong, IsShort, Says}
@@ -179,12 +180,15 @@ module _ (s : Sent) (a : Answer) where
       (ap (is_about a) nobody) count (apart o)
     where
       top : (o : Opcode) → not (nat_eq (bit_or (row_of o).byte 0x80) 0x80) ≡ true
+      top (opcode.Move kind) = move_top kind
       top o = grind arith
 
       right : (o : Opcode) → nat_eq (bit_or (row_of o).byte 0x80) ((row_of o).byte + 0x80) ≡ true
+      right (opcode.Move kind) = move_code kind
       right o = grind arith
 
       apart : (o : Opcode) → nat_eq (row_of o).byte 17 ≡ false
+      apart (opcode.Move kind) = move_apart kind
       apart o = grind arith
 
       refused : (o : Opcode) → may_have_status (row_of o).byte 1 ≡ true

@@ -262,8 +262,8 @@ fn show_packet_is_refused_memory(rt: HostRuntime) {
         "0200000000000000820000000100000012000000",
         Ok(b"end 2 unit 0 code 82 status 0000 of 1 figure 18\n"),
     );
-    let unknown = b"command 5 unit 0 unknown opcode 19\n";
-    is_shown(rt, "050000000000000013000000", Ok(unknown));
+    let unknown = b"command 5 unit 0 unknown opcode 5\n";
+    is_shown(rt, "050000000000000005000000", Ok(unknown));
     let end = b"end 5 unit 0 code 80 status 0801\n";
     is_shown(rt, "050000000000000080000108", Ok(end));
     is_shown(rt, "0500", Err("packet: short"));
