@@ -1,5 +1,5 @@
-/* What begin tells, when a finish fails, what a reset leaves, and a bad block or an ABORT at each step of a READ.
- * Prints what is wrong, and ends with 1 where something is. */
+/* What begin tells, when a finish fails, what a reset leaves, a bad block or an ABORT at each step of a READ, and the
+ * steps and ABORTs of sixty-three commands. Prints what is wrong, and ends with 1 where something is. */
 #include "stepping.h"
 
 /* The one step of a READ of one block, for which the head crossed so many cylinders. */
@@ -220,6 +220,91 @@ static void a_bad_block_or_an_abort_ends_a_read(uint32_t weight, uint32_t done)
     drop();
 }
 
+/* ---- sixty-three commands over four units */
+
+enum { MANY = 63 };
+
+/* The last four are SET UNIT CHARACTERISTICS, and wait for all others of their units. The others read one to eight
+ * blocks. Number 59 is the nearest, so the sweep starts it first, and it passes all that came before it. */
+static uint8_t *one_of_many(uint32_t reference)
+{
+    uint8_t *it = reference < 60 ? command(reference, MSCP_READ, 512 * (reference % 8 + 1), 1000 - 16 * reference)
+                                 : command(reference, MSCP_SET_UNIT_CHARACTERISTICS, 0, 0);
+    it[4] = reference % 4;
+    return it;
+}
+
+/* They came to a controller whose units are online. Each may be passed by three of the longest transfers. */
+static struct mscp *make_with_many(uint32_t picker)
+{
+    static const struct mscp_limits limits = {1, 24, MANY + 1, 0, 8, 60};
+    const size_t size = MSCP_HEAD + mscp_size();
+    struct mscp_unit units[4];
+    struct mscp_packet end;
+    for (uint16_t n = 0; n < COUNT(units); n++)
+        units[n] = (struct mscp_unit){1, 1000, 0, 1, n, 10, 2, 1};
+    mscp = mscp_in_memory(memory_of(size), size);
+    is("init", mscp_init(mscp, &limits, units, COUNT(units), picker), MSCP_DONE);
+    for (uint8_t n = 0; n < COUNT(units); n++) {
+        uint8_t *online = command(900, MSCP_ONLINE, 0, 0);
+        online[4] = n;
+        sends(FIRST, online, MSCP_QUEUED);
+        makes_steps(1);
+        is("take", mscp_take(mscp, FIRST, &end), MSCP_DONE);
+    }
+    for (uint32_t reference = 1; reference <= MANY; reference++)
+        sends(FIRST, one_of_many(reference), MSCP_QUEUED);
+    has_free(FIRST, 1);
+    return mscp;
+}
+
+/* After so many steps an ABORT of one of them raises no figure, and its own is 0. */
+static void no_abort_raises_a_figure(uint32_t done, uint32_t other)
+{
+    struct mscp_waiting before[MANY];
+    make_with_many(MSCP_SWEEP);
+    makes_steps(done);
+    keeps(MANY, 0, 0, 0);
+    is("how many wait", mscp_look(mscp, before, MANY), MANY);
+    aborts(FIRST, 100, other);
+    keeps(MANY - 1, 0, 2, 0);
+    has_free(FIRST, 0);
+    for (uint32_t i = 0; i < MANY; i++) {
+        int64_t figure = mscp_figure(mscp, FIRST, before[i].reference);
+        is("it rises", figure > before[i].figure, 0);
+        is("it is 0", figure == 0, before[i].reference == other);
+    }
+    drop();
+}
+
+static bool is_reported(const struct mscp_upcoming *next, const struct mscp_report *report)
+{
+    const uint8_t *it = one_of_many(report->reference);
+    return next->reference == report->reference && next->opcode == it[8] && next->bytes == number(it + 12, 4) &&
+           next->unit == report->unit && next->touches == report->touched && next->lbn == report->lbn &&
+           (next->done == 0) == report->started && (next->done + 1 == next->weight) == report->ended;
+}
+
+/* Each step reports what its begin told, twice; and the same where none was begun. */
+static void begin_tells_what_the_step_reports(uint32_t picker)
+{
+    struct mscp *other = make_with_many(picker), *begun = make_with_many(picker);
+    struct mscp_upcoming next, again;
+    struct mscp_report report, plain;
+    uint32_t count = 0;
+    for (; mscp_begin(begun, &next) == MSCP_DONE; count++) {
+        is("begin again", mscp_begin(begun, &again), MSCP_DONE);
+        is("step", mscp_step(begun, GOOD, &report), MSCP_DONE);
+        is("another's step", mscp_step(other, GOOD, &plain), MSCP_DONE);
+        is("what was told", is_reported(&next, &report) && is_reported(&again, &report), 1);
+        is("what is done", is_reported(&next, &plain) && plain.seek == report.seek, 1);
+    }
+    is("the steps of all", count, 7 * 36 + 2 + 3 + 4 + 4);
+    is("nothing is left", mscp_step(other, GOOD, &plain), MSCP_NOTHING);
+    free(begun);
+    free(other);
+}
+
 int main(void)
 {
     what_was_aborted_is_begun_no_more();
@@ -236,5 +321,10 @@ int main(void)
     for (uint32_t weight = 1; weight < 9; weight++)
         for (uint32_t done = 0; done < weight; done++)
             a_bad_block_or_an_abort_ends_a_read(weight, done);
+    for (uint32_t done = 0; done < 3; done++)
+        for (uint32_t other = 1; other <= MANY; other++)
+            no_abort_raises_a_figure(done, other);
+    begin_tells_what_the_step_reports(MSCP_OLDEST);
+    begin_tells_what_the_step_reports(MSCP_SWEEP);
     return wrong;
 }

@@ -17,13 +17,18 @@ static void wrong_units(struct mscp *mscp)
         units[i].number = i;
     }
     is("17 units", mscp_init(mscp, &LIMITS, units, 17, MSCP_SWEEP), MSCP_MANY_UNITS);
-    units[3].number = 2;
-    is("units that fall", mscp_init(mscp, &LIMITS, units, 16, MSCP_SWEEP), MSCP_UNITS_FALL);
+    for (uint16_t fourth = 1; fourth <= 2; fourth++) {
+        units[3].number = fourth;
+        is("units that don't rise", mscp_init(mscp, &LIMITS, units, 16, MSCP_SWEEP), MSCP_UNITS_FALL);
+        is("17 of them", mscp_init(mscp, &LIMITS, units, 17, MSCP_SWEEP), MSCP_MANY_UNITS);
+    }
     for (int i = 0; i < 4; i++) {
         struct mscp_unit unit = UNIT;
         *(i == 0 ? &unit.track : i == 1 ? &unit.group : &unit.cylinder) = i == 3 ? 1 : 0;
         unit.size = i == 3 ? 0 : 1000;
         is("a size of 0", mscp_init(mscp, &LIMITS, &unit, 1, MSCP_SWEEP), MSCP_ZERO_TRACK - i);
+        unit = (struct mscp_unit){.track = i > 0, .group = i > 1, .cylinder = i > 2};
+        is("the first of them", mscp_init(mscp, &LIMITS, &unit, 1, MSCP_SWEEP), MSCP_ZERO_TRACK - i);
     }
 }
 

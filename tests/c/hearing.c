@@ -188,6 +188,15 @@ static void ends_are_told(void)
     end(1, 0x80, 0x0801, 12);
     hears("refused", MSCP_ENDED,
           (struct mscp_heard){.reference = 1, .asked = 1024, .unit = 3, .status = 0x0801, .code = 0x80, .opcode = MSCP_READ});
+    submits(2, MSCP_ONLINE, 0, MSCP_DONE);
+    for (uint8_t opcode = 0x0B; opcode <= 0x13; opcode += 8) { /* DETERMINE ACCESS PATHS and FLUSH end without a body */
+        submits(1, opcode, 0, MSCP_DONE);
+        end(2, opcode | 0x80, 0, 12);
+        refuses("no end of an ONLINE", MSCP_UNKNOWN);
+        end(1, opcode | 0x80, 0, 12);
+        hears("its end", MSCP_ENDED,
+              (struct mscp_heard){.reference = 1, .unit = 3, .code = opcode | 0x80, .opcode = opcode});
+    }
 }
 
 static void polls_are_answered(void)
@@ -196,6 +205,11 @@ static void polls_are_answered(void)
     polls(8, MSCP_NOTHING);
     submits(1, MSCP_READ, 1024, MSCP_DONE);
     polls(1, MSCP_DOUBLED);
+    polls(7, MSCP_DONE);
+    end(7, 0x82, 0x0801, 20);
+    put(bytes + 16, 4, 1), put(bytes + 20, 4, 18);
+    hears("a figure that counts for none", MSCP_REFUSED,
+          (struct mscp_heard){.reference = 7, .unit = 3, .status = 0x0801, .code = 0x82});
     polls(8, MSCP_DONE);
     polls(9, MSCP_BUSY);
     answers(8, 2, 18, MSCP_UNKNOWN); /* of another command */

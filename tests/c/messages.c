@@ -58,6 +58,28 @@ static void commands(void)
     }
 }
 
+/* Whole messages, of small numbers. */
+static void whole_commands(void)
+{
+    static const struct {
+        struct mscp_command command;
+        uint32_t length;
+        uint8_t bytes[32];
+    } cases[] = {
+        {{.reference = 1, .opcode = MSCP_READ, .bytes = 1024, .lbn = 40}, 32, {1, [8] = 0x21, [13] = 4, [28] = 40}},
+        {{.reference = 2, .opcode = MSCP_GET_COMMAND_STATUS, .other = 1}, 16, {2, [8] = 2, [12] = 1}},
+        {{.reference = 2, .opcode = MSCP_ABORT, .other = 1}, 16, {2, [8] = 1, [12] = 1}},
+        {{.reference = 9, .opcode = MSCP_ONLINE}, 12, {9, [8] = 9}},
+        {{.reference = 1, .opcode = MSCP_SET_CONTROLLER_CHARACTERISTICS}, 18, {1, [8] = 4}},
+    };
+    for (size_t i = 0; i < COUNT(cases); i++) {
+        struct mscp_packet message;
+        is("written", mscp_write_command(&cases[i].command, &message), MSCP_DONE);
+        is("its length", message.length, cases[i].length);
+        is("its bytes", memcmp(message.bytes, cases[i].bytes, cases[i].length), 0);
+    }
+}
+
 static struct mscp_end read_of(uint8_t code, uint32_t length)
 {
     uint8_t bytes[MSCP_MESSAGE_MAX];
@@ -117,6 +139,7 @@ static void ends(void)
 int main(void)
 {
     commands();
+    whole_commands();
     ends();
     return wrong;
 }

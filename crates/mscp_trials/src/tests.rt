@@ -2,15 +2,13 @@
 // proved once more for them.
 //
 // `packets`, `drives`, `queues`, `controllers`, `hosts` and `talks` try a library each: whether its clauses say what
-// is meant, and that its calls are there. The others are what a user meets on the worst day: an abort of any command,
-// memory that is refused at each request, streams that fail at each call, and scripts that mean no good. What the C
-// library shows is tried in tests/c, where a test costs no proof.
+// is meant, and that its calls are there. The others are what a user meets on the worst day: memory that is refused at
+// each request, streams that fail at each call, and scripts that mean no good. What the C library shows is tried in
+// tests/c, where a test costs no proof.
 
-mod aborting;
 mod calls;
 mod checks;
 mod controllers;
-mod crowds;
 mod drives;
 mod entries;
 mod first;

@@ -1,6 +1,5 @@
 // A controller in a program of one's own. docs/USING.md has parts of this code and of that of emulator.rt.
 
-mod beginning;
 mod emulator;
 mod picking;
 mod runs;

@@ -1,7 +1,7 @@
 // Units of 1000 blocks, 20 of them a cylinder, and units of the largest sizes.
 
 use crate::tests::checks::{got, holds, same, same_of};
-use mscp_drive::{Head, Unit, UnitFault, Units, UnitsFault};
+use mscp_drive::{Head, Unit, Units};
 use std::process::Abort;
 
 fn made(number: u16, sizes: (u16, u16, u16), size: u32) -> Option<Unit> {
@@ -20,19 +20,6 @@ fn the_numbers_of_a_unit_are_kept(rt: HostRuntime) {
     let sizes = (unit.track(), unit.group(), unit.cylinder_size());
     same(rt, sizes, (10, 2, 1));
     same(rt, (unit.id(), unit.media(), unit.serial()), (1, 2, 3));
-}
-
-#[test]
-fn the_first_size_of_zero_is_the_fault(rt: HostRuntime) {
-    for (track, group, cylinder, fault) in [
-        (0, 0, 0, UnitFault::ZeroTrack),
-        (10, 0, 0, UnitFault::ZeroGroup),
-        (10, 2, 0, UnitFault::ZeroCylinder),
-        (10, 2, 1, UnitFault::ZeroSize),
-    ] {
-        let unit = Unit::new(0, track, group, cylinder, 0, 0, 0, 0);
-        same(&rt, unit.err().map(|it| it as u8), Some(fault as u8));
-    }
 }
 
 #[test]
@@ -123,33 +110,6 @@ fn a_start_turns_the_head_and_a_later_block_does_not(rt: HostRuntime) {
         same_of(rt, (to, up), (carried.cylinder, carried.up), (to, up));
         same_of(rt, (to, up), head.distance(to), far);
     }
-}
-
-/// Units 0 to 15.
-fn sixteen() -> [Unit; 16] {
-    let mut most = [usual(0); 16];
-    for (unit, number) in most.iter_mut().zip(0..16u16) {
-        *unit = usual(number);
-    }
-    most
-}
-
-/// These are no list, for this reason.
-fn is_refused(rt: &impl Abort, units: &[Unit], fault: UnitsFault) {
-    let told = Units::new(units).err();
-    same(rt, told.map(|it| it as u8), Some(fault as u8));
-}
-
-#[test]
-fn a_list_of_units_rises(rt: HostRuntime) {
-    let rt = &rt;
-    let [a, b, c] = [usual(2), usual(5), usual(65535)];
-    is_refused(rt, &[], UnitsFault::Empty);
-    is_refused(rt, &[a; 16], UnitsFault::NotAscending);
-    is_refused(rt, &[a; 17], UnitsFault::TooMany);
-    is_refused(rt, &[a, a], UnitsFault::NotAscending);
-    is_refused(rt, &[a, c, b], UnitsFault::NotAscending);
-    holds(rt, Units::new(&sixteen()).is_ok());
 }
 
 /// In a list of these units each is found by its number, and no other.

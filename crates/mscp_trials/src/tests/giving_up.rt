@@ -4,7 +4,7 @@
 use super::HEADER;
 use super::messages::{TABLE, message};
 use super::moments::event_of;
-use super::scripts::{is_told_by_both, repeated};
+use super::scripts::is_told_by_both;
 use super::streams::simulated;
 use super::texts::told;
 use super::told::{event, heard};
@@ -161,29 +161,4 @@ fn every_message_is_run_and_reported(rt: HostRuntime) {
     let text = got(rt, simulated(rt, script.as_bytes()));
     is_told_by_both(rt, script.as_bytes(), 98_304, text.as_slice());
     holds(rt, text.ends_with(b"steps 32768 seeks 0 pending 0\n"));
-}
-
-// A READ waits, and takes one of two credits. It is polled so often that both are taken at each look.
-#[test]
-fn a_long_run_without_credits_is_run(rt: HostRuntime) {
-    let rt = &rt;
-    let before = "credits 2
-passing 2
-longest 8
-timeout 60
-unit 0 10 2 1 1000
-go
-read 1 0 512 0
-";
-    let polls = ("status 3 1\nlook\ntake\n", 10_000);
-    let answers = (
-        "answered 3
-figure 1 17
-end 0300000000000000820000000100000011000000
-",
-        10_000,
-    );
-    let script = repeated(rt, before, polls, "");
-    let wanted = repeated(rt, "queued 1\n", answers, "steps 0 seeks 0 pending 1\n");
-    is_told_by_both(rt, script.as_bytes(), 30_001, wanted.as_bytes());
 }

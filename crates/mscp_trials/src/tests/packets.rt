@@ -1,22 +1,23 @@
 // Messages, as values and as bytes.
 
-mod worked;
-
-use super::values::ended;
+use super::values::{ended, read, read_message};
 use crate::tests::checks::{got, holds, same, same_of};
 use arrayvec::ArrayVec;
 use mscp_packet::{
-    Class, Command, End, EndBody, EndFault, MoveKind, Order, class_of, read_command, read_end,
-    read_written_end, write_command, write_end,
+    Class, End, EndBody, EndFault, class_of, read_end, read_written_command, read_written_end,
+    write_command, write_end,
 };
 use std::process::Abort;
 
-fn command(reference: u32, unit: u16, order: Order) -> Command {
-    Command {
-        reference,
-        unit,
-        order,
-    }
+// The READ of the first script. tests/c/messages.c has messages of each opcode.
+#[test]
+fn a_read_is_written_and_read_back(rt: HostRuntime) {
+    let rt = &rt;
+    let command = read(1, 1024, 40);
+    let back = got(rt, read_written_command(&command));
+    let wanted = read_message(1, 0, 1024, 40);
+    same(rt, write_command(&command).as_slice(), wanted.as_slice());
+    same(rt, write_command(&back).as_slice(), wanted.as_slice());
 }
 
 #[test]
@@ -62,65 +63,11 @@ fn an_end_of_another_shape_is_read_by_its_endcode(rt: HostRuntime) {
     }
 }
 
-/// Bytes that are all ones but for the opcode or endcode.
-fn ones(code: u8) -> [u8; 64] {
-    let mut bytes = [0xFF; 64];
-    bytes[8] = code;
-    bytes
-}
-
-#[test]
-fn what_is_not_named_is_ignored(rt: HostRuntime) {
-    let all = 0xFFFF_FFFF;
-    let unknown = Order::Invalid {
-        opcode: 0x13,
-        status: 0x0801,
-    };
-    for (opcode, order) in [
-        (0x04, Order::SetController(0xFFFF)),
-        (0x0A, Order::SetUnit),
-        (0x12, Order::Move(MoveKind::Erase, all, all)),
-        (0x13, unknown),
-    ] {
-        let wanted = command(all, 0xFFFF, order);
-        let read = got(&rt, read_command(&ones(opcode)));
-        same_of(&rt, opcode, write_command(&read), write_command(&wanted));
-    }
-    let unread = got(&rt, read_command(&ones(0x13))).order;
-    holds(&rt, matches!(unread, Order::Invalid { status: 0x0801, .. }));
-    let controller = EndBody::Controller {
-        timeout: 0xFFFF,
-        id: u64::MAX,
-    };
-    for (code, body) in [
-        (0x88, EndBody::Bare),
-        (0x84, controller),
-        (0x92, EndBody::Moved(all)),
-    ] {
-        let wanted = End {
-            unit: 0xFFFF,
-            ..ended(all, code, 0xFFFF, body)
-        };
-        same_of(&rt, code, told(read_end(&ones(code))), told(Ok(wanted)));
-    }
-}
-
 /// Bytes that are all zeros but for the opcode or endcode.
 fn zeros(code: u8) -> [u8; 65] {
     let mut bytes = [0; 65];
     bytes[8] = code;
     bytes
-}
-
-#[test]
-fn an_unknown_opcode_is_written_as_it_came(rt: HostRuntime) {
-    let order = Order::Invalid {
-        opcode: 5,
-        status: 0x0801,
-    };
-    let written = write_command(&command(7, 0, order));
-    let wanted = b"\x07\0\0\0\0\0\0\0\x05\0\0\0";
-    same(&rt, written.as_slice(), wanted.as_slice());
 }
 
 #[test]

@@ -25,7 +25,7 @@ fn filled(
 }
 
 /// Some text, other text so many times, and some text more.
-pub(super) fn repeated(
+fn repeated(
     rt: &(impl Abort + AllocGlobal),
     before: &str,
     (middle, count): (&str, usize),

@@ -6,16 +6,16 @@ use super::moments::Moments;
 use super::told::heard;
 use super::values::*;
 use crate::tests::checks::{same, same_of};
-use mscp_controller::{Block, Connection, Entry, Report, Sent, Sweep};
+use mscp_controller::{Block, Connection, Report, Sent, Sweep};
 use mscp_host::{HostFault, News};
 use mscp_packet::{Command, End, Order};
 use mscp_sim::{Heard, Talk, Turn, converse};
 use std::process::Abort;
 
-/// The talk of these turns with a controller of 4 credits on the first connection and so many on the second, of units 0
-/// and 300, in which a command may be passed by 16 blocks.
+/// The talk of these turns with a controller of 4 credits on the first connection and so many on the second, of unit 0,
+/// in which a command may be passed by 16 blocks.
 fn talk_of(rt: &(impl Abort + AllocGlobal), second: u32, turns: &[Turn]) -> Talk {
-    let config = limits(rt, (4, second), 16, &[unit(rt, 0), unit(rt, 300)]);
+    let config = limits(rt, (4, second), 16, &[unit(rt, 0)]);
     converse(rt.alloc(), config, Sweep, turns)
         .ok()
         .expect(rt, "memory")
@@ -161,20 +161,6 @@ fn converse_finds_memory(rt: HostRuntime) {
     told.is_heard(rt);
 }
 
-#[test]
-fn a_number_used_again_is_another_command(rt: HostRuntime) {
-    let rt = &rt;
-    let mut told = Told::online(rt);
-    told.queues(rt, FIRST, two(1));
-    told.steps(rt, first(2));
-    told.steps(rt, last());
-    told.is_told(rt, 10, News::Ended(two_ended()));
-    told.queues(rt, FIRST, two(1));
-    told.takes(rt, FIRST, Heard::News(News::Late));
-    told.is_told(rt, 11, News::First(18));
-    told.is_heard(rt);
-}
-
 /// Polls and commands of which not all reach the controller, and what is heard of them.
 fn with_some_refused(rt: &(impl Abort + AllocGlobal)) -> Told {
     let mut told = Told::new(rt);
@@ -200,48 +186,4 @@ fn says_what_never_reaches_the_controller(rt: HostRuntime) {
     came.queues(rt, 2, &read_message(2, 0, 1024, 40));
     came.takes(rt, b"\x0a\0\0\0\0\0\0\0\x82\0\0\0\x01\0\0\0\x12\0\0\0");
     came.are(rt, with_some_refused(rt).talk(rt, 0).trace.as_slice());
-}
-
-/// The host's ONLINE of unit 300 is polled.
-fn with_another_unit(rt: &(impl Abort + AllocGlobal)) -> Told {
-    let mut told = Told::new(rt);
-    let online = Command {
-        unit: 300,
-        ..ONLINE
-    };
-    told.queues(rt, FIRST, online);
-    told.is_told(rt, 10, News::First(17));
-    told
-}
-
-// The poll and its end name unit 300. The figure of an ONLINE, which takes a step, is 1 and the budget of 16.
-#[test]
-fn a_poll_names_the_unit_of_its_command(rt: HostRuntime) {
-    let rt = &rt;
-    let mut came = Moments::new(rt);
-    came.queues(rt, 9, b"\x09\0\0\0\x2c\x01\0\0\x09\0\0\0");
-    came.answers(rt, 10, b"\x0a\0\0\0\x2c\x01\0\0\x02\0\0\0\x09\0\0\0");
-    came.takes(rt, b"\x0a\0\0\0\x2c\x01\0\0\x82\0\0\0\x09\0\0\0\x11\0\0\0");
-    came.are(rt, with_another_unit(rt).talk(rt, 0).trace.as_slice());
-}
-
-/// Command 1 is read, by both of its steps, and its end is taken.
-fn is_read(rt: &impl Abort, told: &mut Told, seek: u32) {
-    told.queues(rt, FIRST, two(1));
-    told.steps(rt, first(seek));
-    told.steps(rt, last());
-    told.takes(rt, FIRST, Heard::News(News::Ended(two_ended())));
-}
-
-// The head stays on the cylinder to which the first READ brought it.
-#[test]
-fn a_long_talk_is_heard_to_its_end(rt: HostRuntime) {
-    let rt = &rt;
-    let mut told = Told::online(rt);
-    is_read(rt, &mut told, 2);
-    for _round in 1..25_000 {
-        is_read(rt, &mut told, 0);
-    }
-    told.is_heard(rt);
-    same(rt, told.heard.len(), 100_003);
 }

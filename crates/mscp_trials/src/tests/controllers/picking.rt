@@ -1,10 +1,10 @@
 // Who is served, under one picker and under another.
 
-use super::Newest;
+use super::{Newest, Sweep};
 use crate::tests::calls::Trial;
 use crate::tests::checks::{same, same_of};
 use crate::tests::values::{FIRST, command, limits, read, unit};
-use mscp_controller::{Block, Oldest, Picker, Report};
+use mscp_controller::{Block, Connection, Oldest, Picker, Report};
 use mscp_packet::{Command, Order};
 use std::process::Abort;
 
@@ -85,4 +85,26 @@ fn a_start_passes_every_earlier_command(rt: HostRuntime) {
     same(&rt, newest.next(), 3);
     newest.queues(&rt, FIRST, &one(4, 0, 0));
     newest.serves_each(&rt, [1, 2, 4, 0]);
+}
+
+/// This command is in service, or none, and the most blocks by which a command was passed are so many.
+fn is_serving(rt: &impl Abort, trial: &Trial<Sweep>, serving: Option<u32>, passed: u32) {
+    let told = match trial.controller.serving() {
+        Some((Connection::First, reference)) => Some(reference),
+        _ => None,
+    };
+    let most = trial.controller.most_passed();
+    same(rt, (told, most), (serving, passed));
+}
+
+// Of two READs, of one block and of four, the sweep starts the second, which passes the first by its four blocks.
+#[test]
+fn what_is_in_service_is_told(rt: HostRuntime) {
+    let rt = &rt;
+    let mut trial = controller(rt, 4, Sweep);
+    same(rt, trial.controller.config().credits(), 8);
+    trial.get(rt, &[one(1, 0, 800), read(2, 2048, 0)]);
+    is_serving(rt, &trial, None, 0);
+    same(rt, trial.next(), 2);
+    is_serving(rt, &trial, Some(2), 4);
 }

@@ -86,22 +86,6 @@ fn a_block_that_the_file_has_not_is_bad(rt: HostRuntime) {
     part_has(rt, &machine.memory, (512, 4096), 7);
 }
 
-// Block 60 is on cylinder 3, and the head on cylinder 0. The READ of block 0 would cost nothing, but it came too late.
-#[test]
-fn arrivals_change_nothing_of_what_was_begun(rt: HostRuntime) {
-    let rt = &rt;
-    let mut machine = online_machine(rt, Sweep);
-    machine.disk[60] = [60; 512];
-    machine.gets(rt, &transfer(33, 1, 512, 60, 0));
-    let mut job = machine.begin().expect(rt, "the far READ");
-    machine.gets(rt, &transfer(33, 2, 512, 0, 1024));
-    let block = machine.work(&mut job);
-    let report = machine.finish(&job, block).ok().expect(rt, "it is begun");
-    same(rt, served(&report), Some((1, 0, Some(60))));
-    part_has(rt, &machine.memory, (0, 512), 60);
-    machine.serves(rt, 2, 0);
-}
-
 #[test]
 fn a_reset_forgets_what_the_machine_had(rt: HostRuntime) {
     let rt = &rt;
