@@ -23,7 +23,10 @@ says_immediate : (o : Order) (s : Sent) → Says o s → is_immediate o ≡ true
 says_immediate o s says h = grind arith
 
 formal_free : (n : ℕ) → is_formality n ≡ true → wire.is_sequential n ≡ false
-formal_free n e = formal_opcode (λ n. wire.is_sequential n ≡ false) refl refl refl n e
+unfolding port_answers
+formal_free n e =
+    formal_opcode (λ n. port_answers n ≡ true → wire.is_sequential n ≡ false) (λ a. refl) (λ a. refl)
+    (λ a. grind (arith, a)) n e e
 
 -- a command that waits is sequential, if its message is
 of_sequential : (r : Record) (t : List ℕ) → IsOf r t → wire.is_sequential (slice_index t 8) ≡ true

@@ -2,7 +2,7 @@
 use Rattle.mscp_ported.proofs.Common.{BodyKind, Call, IsWhole, List, Option, Own, Some, Stage, Volume, WriteIp, [], and_parts, ap, arith, asks_nothing, cond, end_length, false, four, is_dead, kind_of_code, length, moves_data, none-some, num, own_answer, own_text, refl, same_Some, since, slice_index, true, ℕ, ◌++◌, ◌+◌, ◌<◌, ◌^◌, ◌≡◌, ◌≢◌, ◌≤◌, ◌⊎◌, port_answers, is_transfer_opcode}
 use Rattle.std.specs.Prelude.{nat_le}
 use Rattle.mscp_packet.specs.declared.end.BodyKind.TheVariants.{Moved}
-use Rattle.mscp_ported.proofs.Rows.{formal_opcode, move_opcode}
+use Rattle.mscp_ported.proofs.Rows.{move_opcode, no_body}
 
 pub own_number : (b : List ℕ) (own : Own) → num b 0 4 < 2 ^ 32 → num (own_text b own) 0 4 ≡ num b 0 4
 own_number b own small = four (num b 0 4) small
@@ -11,10 +11,6 @@ pub own_bytes : (b : List ℕ) (own : Own) → num (own_text b own) 12 4 ≡ 0
 own_bytes b own = grind arith
 
 -- what the port answers is whole
-formal_none : (opcode : ℕ) (k : BodyKind) → asks_nothing opcode ≡ true → kind_of_code (opcode + 0x80) ≡ Some k → ⊥
-formal_none opcode k =
-    formal_opcode (λ n. kind_of_code (n + 0x80) ≡ Some k → ⊥) (none-some k) (none-some k) (none-some k) opcode
-
 high : (n : ℕ) → 0x80 ≤ n + 0x80
 high n = omega arith
 
@@ -49,7 +45,7 @@ own_whole v b = own_cases v b (λ own. IsWhole (own_text b own)) (λ asks. recor
   long = omega arith;
   short = omega arith;
   top = high (slice_index b 8);
-  body = λ k e. absurd (formal_none (slice_index b 8) k asks e);
+  body = λ k e. absurd (no_body k (slice_index b 8) asks e);
 }) (λ status moves past. record {
   long = omega arith;
   short = omega arith;

@@ -16,7 +16,7 @@ use crate::record::Record;
 use crate::start::favor_last;
 use crate::target::Target;
 use crate::view::View;
-use crate::why::{Holder, holders_at};
+use crate::why::{Holder, put_holders};
 use arrayvec::ArrayVec;
 use mscp_drive::{Connection, Units};
 use mscp_packet::{Command, End, Order};
@@ -230,11 +230,11 @@ impl<K: Picker> Queue<K> {
             connection,
             reference,
         };
-        let place = self.backlog.place_of(name);
-        match place {
-            Some(place) => holders_at(&self.backlog, self.backlog.budget(), place),
-            None => ArrayVec::new(),
+        let mut holders = ArrayVec::new();
+        if let Some(place) = self.backlog.place_of(name) {
+            put_holders(&self.backlog, self.backlog.budget(), place, &mut holders);
         }
+        holders
     }
 
     /// Connection and reference number of the command in service, if one is.

@@ -15,10 +15,11 @@ use mscp_drive::Connection;
 /// An earlier command that keeps a waiting one back.
 #[derive(Clone, Copy, Default)]
 pub struct Holder {
-    /// Its connection.
-    pub connection: Connection,
+    // The number stands first: so one takes 8 bytes, and a list of 64 half a KiB of the stack.
     /// Its reference number.
     pub reference: u32,
+    /// Its connection.
+    pub connection: Connection,
     /// Whether both are of one unit, and one of them is sequential.
     pub fences: bool,
     /// Whether it has less left of its budget than the waiting one takes.
@@ -54,8 +55,8 @@ fn holder_of(budget: u32, later: &Record, earlier: &Record) -> Holder
     ensures { result ≡ holder_of budget later.now earlier.now }
 {
     Holder {
-        connection: earlier.connection(),
         reference: earlier.command().reference,
+        connection: earlier.connection(),
         fences: fences(later, earlier),
         overdrawn: is_overdrawn(budget, later, earlier),
     }
@@ -71,19 +72,24 @@ fn append_if(keeps_back: bool, holders: &mut ArrayVec<Holder, 64>, holder: Holde
     }
 }
 
-/// Those that keep the command at the place back, oldest first.
+/// Puts those that keep the command at the place back into an empty list, oldest first. (A list that is given back is
+/// copied, and takes its room of the stack once more.)
 #[tactic(auto, using(crate::proofs::Whys::none_keeps_back))]
-pub(crate) fn holders_at(backlog: &Backlog, budget: u32, place: usize) -> ArrayVec<Holder, 64>
+pub(crate) fn put_holders(
+    backlog: &Backlog,
+    budget: u32,
+    place: usize,
+    holders: &mut ArrayVec<Holder, 64>,
+)
     requires few { length backlog.now.waiting ≤ 64 }
     requires place { place < length backlog.now.waiting }
-    ensures holders { result.items ≡ holders_at budget backlog.now.waiting place }
-    ensures none { is_nobody result.items ≡ is_open_at budget backlog.now.waiting place }
+    requires empty { holders.old.items ≡ [] }
+    ensures holders { holders.new.items ≡ holders_at budget backlog.now.waiting place }
+    ensures none { is_nobody holders.new.items ≡ is_open_at budget backlog.now.waiting place }
 {
-    let mut holders = ArrayVec::new();
     let later = backlog.record(place);
     for earlier in 0..place {
         let holder = holder_of(budget, later, &backlog.told(earlier));
-        append_if(holder.keeps_back(), &mut holders, holder);
+        append_if(holder.keeps_back(), holders, holder);
     }
-    holders
 }

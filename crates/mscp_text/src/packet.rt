@@ -10,16 +10,14 @@ use crate::out::Out;
 use crate::packet::text::put_packet;
 use arrayvec::ArrayVec;
 use mscp_packet::{
-    Command, End, EndFault, MOST_MESSAGE_BYTES, PacketFault, decode, read_command, read_end,
+    Command, End, EndFault, MOST_MESSAGE_BYTES, PacketFault, decode, endcodes, read_command,
+    read_end,
 };
 use std::alloc::{AllocError, Global};
 use thiserror::Error;
 
 /// The fewest bytes of a message.
 const LEAST_BYTES: usize = 12;
-
-/// The bit of byte 8 that tells an end from a command.
-const END_BIT: u8 = 0x80;
 
 /// A message as a value.
 #[derive(Clone, Copy)]
@@ -124,7 +122,7 @@ fn packet_in(message: &[u8]) -> Result<Packet, ShowFault>
     requires most { length message.now ≤ 64 }
     ensures { result ≡ packet_of message.now }
 {
-    if message[8] < END_BIT {
+    if message[8] < endcodes::UNKNOWN {
         Ok(Packet::Command(read_command(message)?))
     } else {
         Ok(Packet::End(read_end(message)?))

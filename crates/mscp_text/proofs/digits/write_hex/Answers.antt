@@ -1,4 +1,4 @@
-use Rattle.std.proofs.Common.{arith, ℕ, ap, ◌∙◌, refl, slice_index}
+use Rattle.std.proofs.Common.{arith, ℕ, ap, ◌∙◌, slice_index}
 use Rattle.std.proofs.lemmas.List.{length-set}
 use Rattle.std.proofs.lemmas.Nat.{and_mask}
 use Rattle.hex.specs.Hex.{lower_digits}

@@ -1,6 +1,6 @@
 use Rattle.mscp_queue.proofs.Common.{◌≡◌, ◌||◌, ap, ◌∙◌, arith, Holder, Record, record_at, holder_of}
 use Rattle.mscp_queue.proofs.Whys.{holders_more, none_keeps_back}
-use Rattle.mscp_queue.proofs.why.holders_at.Goals as goal
+use Rattle.mscp_queue.proofs.why.put_holders.Goals as goal
 
 pub loop-earlier-preserved : goal.loop-earlier-preserved
 loop-earlier-preserved c =
