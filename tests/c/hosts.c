@@ -77,7 +77,7 @@ static void send_something(uint32_t slot)
     uint32_t unit = below(UNITS), bytes = 2 * below(PART / 2 + 1);
     switch (below(8)) {
     case 0: send_one(slot, unit, MSCP_GET_UNIT_STATUS, 0, 0, unit_status(unit)); break;
-    case 1: send_one(slot, unit, 19, 0, 0, 0); break;
+    case 1: send_one(slot, unit, MSCP_DETERMINE_ACCESS_PATHS, 0, 0, 0); break;
     case 2: send_one(slot, 0, MSCP_GET_COMMAND_STATUS, UINT32_MAX, 0, 0); break;
     case 3: send_one(slot, 0, MSCP_ABORT, UINT32_MAX, 0, 0); break;
     default: send_one(slot, unit, opcode, bytes, 4 * slot, transfer(opcode, unit, slot, bytes));

@@ -2,7 +2,7 @@
  * ends with 1 where something is. */
 #include "trying.h"
 
-enum { WITHOUT_A_ROW = 19 };
+enum { WITHOUT_A_ROW = 5 };
 
 /* Every field has a number of its own. */
 static const struct mscp_command COMMAND = {

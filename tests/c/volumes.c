@@ -64,15 +64,11 @@ static void own_answers(void)
 {
     build(&RQDX3);
     initialise(0x1000, 0, 0, 0);
-    send_command(1, 1, 11, 0, 0, 0);
+    send_command(1, 1, MSCP_DETERMINE_ACCESS_PATHS, 0, 0, 0);
     expect(1, 0x8B, 0);
-    send_command(1, 2, 17, 0, 0, 0);
-    expect(2, 0x91, 0);
-    send_command(1, 3, 19, 0, 0, 0);
-    expect(3, 0x93, 0);
-    send_command(1, 4, 1, 0, 0, 0);
+    send_command(1, 2, 1, 0, 0, 0);
     machine.memory[packet_of(false, 0) + 3] = 2;
-    expect(4, 0x80, 0x0801);
+    expect(2, 0x80, 0x0801);
 }
 
 /* An end for the diagnostic protocol is of its message's connection, 2, and gives back the credit of that message alone. The
@@ -89,9 +85,9 @@ static void ends_of_the_utilities(void)
     is("one credit, and its connection", number(packet + 2, 2), 0x0201);
     for (uint32_t i = 0; i < 3; i++) {
         static const uint16_t told[] = {0x000F, 0x0002, 0x0001};
-        send_command(1, 2 + i, 19, 0, 0, 0);
+        send_command(1, 2 + i, MSCP_DETERMINE_ACCESS_PATHS, 0, 0, 0);
         run(MOST_ACTIONS);
-        is("an end of the disk's", take(packet) && number(packet + 4, 4) == 2 + i && packet[12] == 0x93, 1);
+        is("an end of the disk's", take(packet) && number(packet + 4, 4) == 2 + i && packet[12] == 0x8B, 1);
         is("its credits, and the disk's connection", number(packet + 2, 2), told[i]);
     }
 }
@@ -269,7 +265,7 @@ static void hold_ends_back(void)
     initialise(0x1000, 0, 3, 0);
     send_command(0, 1, MSCP_ONLINE, 0, 0, 0);
     expect(1, 0x89, 0);
-    send_command(0, 2, 19, 0, 0, 0);
+    send_command(0, 2, MSCP_DETERMINE_ACCESS_PATHS, 0, 0, 0);
     run(MOST_ACTIONS);
     send_command(0, 3, MSCP_GET_UNIT_STATUS, 0, 0, 0);
     run(MOST_ACTIONS);
@@ -309,7 +305,7 @@ static void online_as_decided(bool saves)
     send_command(0, 8, MSCP_SET_UNIT_CHARACTERISTICS, 0, 0, 0);
     run(MOST_ACTIONS);
     is("another comes", insert(0, 0), MSCP_DONE);
-    is("the one in the slot", end_of(2, 0x93), 0);
+    is("the one in the slot", end_of(2, 0x8B), 0);
     is("the one that went out", end_of(3, 0x83), 0);
     told(4, 0x89, 0x0100, 311200, 0x25644036);
     told(5, 0x89, 0, 1000, 0x25658000 + 1000);

@@ -67,7 +67,7 @@ fn ends_are_read() {
     for code in [0x90, 0x92, 0xA0, 0xA1, 0xA2] {
         is(end(32, code, &[(12, &[4, 5])]), Body::Moved(0x0504));
     }
-    for code in [0, 0x21, 0x40, 0x93] {
+    for code in [0, 0x21, 0x40, 0x85] {
         assert_eq!(End::read(&end(48, code, &[])), Err(Error::Unreadable));
     }
     assert_eq!(End::read(&[0x80; 65]), Err(Error::Unreadable));
