@@ -103,7 +103,7 @@ fn opcodes_have_classes(rt: HostRuntime) {
         ([1, 2, 3, 4].as_slice(), Class::Immediate),
         ([8, 9, 10].as_slice(), Class::Sequential),
         ([16, 18, 32, 33, 34].as_slice(), Class::Free),
-        ([0, 19, 0xA1, 255].as_slice(), Class::Unknown),
+        ([0, 5, 0xA1, 255].as_slice(), Class::Unknown),
     ] {
         for opcode in opcodes {
             same_of(&rt, *opcode, class_of(*opcode) as u8, class as u8);
