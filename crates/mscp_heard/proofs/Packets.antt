@@ -20,10 +20,6 @@ pub record IsEndIn (e : End) (t : List ℕ) : Type 0 where
   pub told : (other figure : ℕ) → e.body ≡ bodies.Status other figure
       → (other ≡ num t 12 4) × (figure ≡ num t 16 4) × (20 ≤ length t)
 
-abbrev message_or : Result Message HearFault → End → End
-message_or (Ok (messages.End e)) other = e
-message_or r other = other
-
 not_more : (n m : ℕ) → m ≤ n → nat_lt n m ≡ false
 not_more n m h = search (arith, h)
 

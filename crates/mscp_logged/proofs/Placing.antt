@@ -43,9 +43,6 @@ formal_away code status e h = grind (arith, e, h)
 abbrev IsGone : ℕ → Type 0
 IsGone code = (code ≡ 4) ⊎ (code ≡ 3)
 
-zero_gone : (n : ℕ) → n ≡ 0 → IsGone n → ⊥
-zero_gone n x y = grind arith
-
 error_bad : (online : Bool) (order : Order) → bad_status online 0x000B order % 32 ≡ 0 → ⊥
 error_bad online order e = grind arith
 

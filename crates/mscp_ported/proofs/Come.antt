@@ -28,9 +28,6 @@ pub taken_number : (balance : ℕ) (os b : List ℕ) → refusal balance os b �
 taken_number balance os b e = not_refused (nat_lt (length b) 12) (nat_lt 64 (length b)) (nat_eq balance 0)
     (nat_eq balance 1 && not (is_immediate_class (class (slice_index b 8)))) (holds os (num b 0 4)) e
 
-pub long_enough : (b : List ℕ) → nat_lt (length b) 12 ≡ false → nat_lt (length b) 4 ≡ false
-long_enough b e = search (arith, ltb-false (length b) 12 e, le-ltb)
-
 -- ---- a command that is queued is the one that was read, but that a formality has its stand-in
 
 pub handed_as_read : (c : Settings) (units : List Shape) (b : List ℕ) → is_formality (slice_index b 8) ≡ false

@@ -19,9 +19,5 @@ pub own_figure : (s : Settings) (online : Bool) (figure : ℕ) (x : Command) (o 
 own_figure s online figure x o = grind (arith, zero_least, zero_figure)
 
 -- a message that isn't refused finds a credit
-none_refused : (short long none : Bool) (o : Option SendFault) → none ≡ true
-    → cond short (Some faults.Short) (cond long (Some faults.Long) (cond none (Some faults.NoCredit) o)) ≡ None → ⊥
-none_refused short long none o d e = grind (arith, none-some, d, e)
-
 pub some_balance : (balance : ℕ) (os b : List ℕ) → refusal balance os b ≡ None → 1 ≤ balance
 some_balance balance os b e = grind (arith, none-some, e)

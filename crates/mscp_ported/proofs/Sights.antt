@@ -101,9 +101,3 @@ sight {K} bytes done old new r = by old.task refl
     by (tasks.Text slot size foreign) at = text slot size foreign at ((r.sees refl).text slot size foreign at)
         (own_end_of old foreign bytes) refl old.outgoing refl (answered_to old bytes) refl
     by t at = absurd (none-some (length bytes) (sym (ap read_size at) ∙ r.only refl))
-
--- no text is accepted by it, and the controller takes none
-pub slide_texts : {K : Type 0} (old : Port K) (bytes : List ℕ) (t : Task) → IsSlide t
-    → (accepted_text old t bytes ≡ []) × (is_taken_text old bytes t ≡ false)
-slide_texts old bytes (tasks.Text slot size foreign) of = absurd of
-slide_texts old bytes t of = (refl, refl)

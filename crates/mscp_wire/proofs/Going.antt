@@ -49,10 +49,6 @@ pub begun_first : (number : ℕ) (f : Findings) → is_first f.log ≡ true
     → findings_with number f says.Begun ≡ Ok (record f { log = record f.log { begun = true; strangers = [] } })
 begun_first number f h = rw h refl
 
-pub begun_late : (number : ℕ) (f : Findings) → is_first f.log ≡ false
-    → findings_with number f says.Begun ≡ Err causes.Word
-begun_late number f h = rw h refl
-
 -- ---- the first moment that isn't right
 
 -- no line
@@ -130,14 +126,6 @@ pub right_told : (log : Log) (m : Moment) → broken_by log.credits log.moments 
 right_told log m h =
     right_counts log.credits (outstanding log.moments)
     (seen_of (outstanding log.moments) (told log.moments) (controller log.moments) m) m h
-
--- so it names its command
-pub counts_named : (xs : List Sent) (m : Moment) → counts xs m ≡ true → is_named_in m ≡ true
-counts_named xs m h = by_test (is_named_in m) h
-  where
-    by_test : (b : Bool) → (b && has_place xs m) ≡ true → b ≡ true
-    by_test true k = refl
-    by_test false k = k
 
 -- ---- a moment more counts
 

@@ -243,26 +243,12 @@ module _ {A : Type 0} (h strangers : History) (other : Connection) (b : ArrayVec
         second = second_met ∙ met_strange h strangers Second x;
       })
 
--- a reset ends the middle, and nothing else does
+-- what is no reset leaves it as it was
 pub middle_more : (begun : Bool) (h : History) (m : Moment) → is_initial m ≡ false
     → is_middle begun (h ++ m ∷ []) ≡ is_middle begun h
 middle_more begun h m e =
     ap (λ b. begun && not b) (any_push is_initial h m ∙ ap (λ b. list_any is_initial h || b) e
     ∙ never (list_any is_initial h))
-
-pub middle_ends : (begun : Bool) (h : History) (m : Moment) → is_initial m ≡ true
-    → is_middle begun (h ++ m ∷ []) ≡ false
-middle_ends begun h m e =
-    ap (λ b. begun && not b) (any_push is_initial h m ∙ ap (λ b. list_any is_initial h || b) e
-    ∙ always (list_any is_initial h)) ∙ none begun
-  where
-    always : (x : Bool) → (x || true) ≡ true
-    always true = refl
-    always false = refl
-
-    none : (x : Bool) → (x && false) ≡ false
-    none true = refl
-    none false = refl
 
 -- whether the host of an end is alone with its unit
 pub other_met : {A : Type 0} (h strangers : History) (middle : Middle A) (via : Connection)

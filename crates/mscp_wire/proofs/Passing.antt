@@ -29,11 +29,6 @@ pub credits_told : (n c : ℕ) (log : Log) (credits : Option ℕ) (b : Bool) (t 
     → with_said n log (says.Credits c) ≡ Ok (record log { credits = Some c })
 credits_told n c log credits b t p q e s z = grind (arith, nat_tests)
 
-pub credits_late : (n c : ℕ) (log : Log) (t : Totals) (b : Bool) → t ≡ totals_of log.moments
-    → b ≡ is_some log.credits → (b ≡ true) ⊎ (t.counts.moments ≢ 0)
-    → with_said n log (says.Credits c) ≡ Err causes.Word
-credits_late n c log t b p q h = grind (arith, nat_tests)
-
 -- the same was told of a moment's unit, and of the controller
 pub seen_same : (xs ys : List Sent) (units : Connection → ℕ → Told) (known : Option ℕ) (h : History) (m : Moment)
     → xs ≡ ys → AreTold units h → known ≡ controller h
