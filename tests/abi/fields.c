@@ -80,6 +80,16 @@ static void controller_characteristics(void)
     is("its high half", number(end.bytes + 24, 4), 0x81828384);
 }
 
+/* The end of an ONLINE or of a SET UNIT CHARACTERISTICS tells these. */
+static void tells_the_unit(const struct mscp_packet *end)
+{
+    is("unit identifier", number(end->bytes + 20, 4), 0x15161718);
+    is("its high half", number(end->bytes + 24, 4), 0x11121314);
+    is("media", number(end->bytes + 28, 4), 0x21222324);
+    is("size", number(end->bytes + 36, 4), 90000);
+    is("serial", number(end->bytes + 40, 4), 0x31323334);
+}
+
 static void online(void)
 {
     struct mscp_packet end;
@@ -92,11 +102,7 @@ static void online(void)
     is("one step", next.done == 0 && next.weight == 1, 1);
     is("whose", next.reference == 6 && next.unit == 0x4142 && next.opcode == MSCP_ONLINE && next.connection == via, 1);
     end = end_of(6, MSCP_ONLINE, 0, 44);
-    is("unit identifier", number(end.bytes + 20, 4), 0x15161718);
-    is("its high half", number(end.bytes + 24, 4), 0x11121314);
-    is("media", number(end.bytes + 28, 4), 0x21222324);
-    is("size", number(end.bytes + 36, 4), 90000);
-    is("serial", number(end.bytes + 40, 4), 0x31323334);
+    tells_the_unit(&end);
 }
 
 /* The figure of a READ of two blocks, which fits no int32_t, told in each of the four ways. */
@@ -175,7 +181,9 @@ static void opcodes(void)
     struct mscp_sent sent;
     for (size_t i = 0; i < COUNT(cases); i++) {
         is("send", mscp_send(mscp, via, to_unit(50 + (uint32_t)i, cases[i].opcode, 512, 0), 32, &sent) > 0, 1);
-        end_of(50 + (uint32_t)i, cases[i].opcode, 0, cases[i].length);
+        struct mscp_packet end = end_of(50 + (uint32_t)i, cases[i].opcode, 0, cases[i].length);
+        if (cases[i].opcode == MSCP_SET_UNIT_CHARACTERISTICS)
+            tells_the_unit(&end);
     }
 }
 

@@ -1272,7 +1272,7 @@ MSCP_INLINE const char *mscp_opcode_text(uint8_t opcode)
     }
 }
 
-/* The manual's words for the status of an end, bytes 10 and 11: those of its code, and of its sub-code if that has some here. */
+/* Words for the status of an end, bytes 10 and 11: the manual's name of its code, and what its sub-code says if it has words. */
 MSCP_INLINE const char *mscp_status_words(uint16_t status)
 {
     switch (status) {

@@ -1,4 +1,4 @@
-//! The manual's words for opcodes and statuses: those of the tables of the proved library.
+//! Words for opcodes and statuses: those of the tables of the proved library.
 
 use core::fmt;
 
@@ -28,7 +28,7 @@ pub(crate) const fn opcode_name(opcode: u8) -> &'static str {
     }
 }
 
-/// The manual's words for the status of an end: those of its code, and of its sub-code if that has some here.
+/// Words for the status of an end: the manual's name of its code, and what its sub-code says if it has words.
 #[must_use]
 pub const fn status_words(status: u16) -> &'static str {
     match status {
@@ -50,7 +50,7 @@ pub const fn status_words(status: u16) -> &'static str {
     }
 }
 
-/// The manual's words for a status of this code.
+/// What the manual calls statuses of this code.
 const fn code_name(code: u16) -> &'static str {
     match code {
         0 => "Success",

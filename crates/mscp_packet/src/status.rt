@@ -72,7 +72,7 @@ pub fn code_of(status: u16) -> u16
     status % 32
 }
 
-/// The manual's words for a status of this code.
+/// What the manual calls statuses of this code.
 pub fn code_name(code: u16) -> &'static str
     ensures { result.now ≡ statuses.code_name code }
 {
@@ -93,7 +93,7 @@ pub fn code_name(code: u16) -> &'static str
     }
 }
 
-/// The manual's words for a status: those of its code, and of its sub-code if that has some here.
+/// Words for a status: the manual's name of its code, and what its sub-code says if it has words.
 pub fn status_words(status: u16) -> &'static str
     ensures { result.now ≡ statuses.status_words status }
 {
