@@ -120,7 +120,7 @@ pub struct Row {
     pub answerer: Answerer,
 }
 
-/// A row of an opcode with this class, least length, body, statuses and modifiers.
+/// A row of the table, of these columns.
 #[rattlefmt::skip]
 const fn make_row(
     byte: u8, name: &'static str, class: Class, least: usize, body: BodyKind, statuses: StatusSet, modifiers: u16,
