@@ -5,7 +5,7 @@ use Rattle.byteorder.specs.Endian.{little_bytes}
 use Rattle.mscp_packet.specs.Number.{num}
 use Rattle.mscp_packet.specs.Places.{Field, field}
 use Rattle.mscp_packet.specs.Statuses.{invalid_length, invalid_opcode}
-use Rattle.mscp_packet.specs.Opcodes.{class_of_opcode, least, name_with, opcode_of, row_of}
+use Rattle.mscp_packet.specs.Opcodes.{class_of_opcode, least, opcode_of, row_of, unknown_name}
 use Rattle.mscp_packet.specs.declared.class.Class.{Class}
 use Rattle.mscp_packet.specs.declared.class.Opcode.{Opcode}
 use Rattle.mscp_packet.specs.declared.class.Opcode.TheVariants as codes
@@ -74,7 +74,7 @@ opcode_byte (orders.Invalid byte status) = byte
 
 -- what the manual calls it
 abbrev pub name_of_opcode : Option Opcode → List ℕ
-name_of_opcode None = name_with None
+name_of_opcode None = unknown_name
 name_of_opcode (Some o) = (row_of o).name
 
 abbrev pub order_name : Order → List ℕ

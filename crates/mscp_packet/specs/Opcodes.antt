@@ -1,5 +1,5 @@
 -- The table of the opcodes.
-use Rattle.std.specs.Prelude.{ℕ, Bool, true, false, not, nat_eq, nat_le, ◌&&◌, codes, List, [], ◌∷◌, find, is_some, Option, Some, None}
+use Rattle.std.specs.Prelude.{ℕ, Bool, true, false, not, nat_eq, nat_le, ◌&&◌, ◌||◌, codes, List, [], ◌∷◌, find, is_some, Option, Some, None}
 use Rattle.mscp_packet.specs.OpcodeBytes as bytes
 use Rattle.mscp_packet.specs.declared.class.Answerer.{Answerer}
 use Rattle.mscp_packet.specs.declared.class.Answerer.TheVariants.{Controller, Port, Nobody}
@@ -144,66 +144,45 @@ foreigners =
 abbrev pub foreign_of : ℕ → Option Foreign
 foreign_of byte = find (λ o. nat_eq (foreign_row o).byte byte) foreigners
 
--- the row of a byte, if it has one
-abbrev pub row_with : Option Opcode → Option Foreign → Option OpcodeRow
-row_with (Some o) other = Some (row_of o)
-row_with None (Some o) = Some (foreign_row o)
-row_with None None = None
+-- what is told of a byte that is no opcode
+abbrev pub unknown_name : List ℕ
+unknown_name = codes "command of an unknown opcode"
 
-abbrev pub row_at : ℕ → Option OpcodeRow
-row_at byte = row_with (opcode_of byte) (foreign_of byte)
+abbrev pub unknown_row : ℕ → OpcodeRow
+unknown_row byte = row byte unknown_name Unknown 12 12 kinds.Bare Any 0 Nobody
+
+-- the row of a byte
+abbrev pub row_with : ℕ → Option Opcode → Option Foreign → OpcodeRow
+row_with byte (Some o) other = row_of o
+row_with byte None (Some o) = foreign_row o
+row_with byte None None = unknown_row byte
+
+abbrev pub row_at : ℕ → OpcodeRow
+row_at byte = row_with byte (opcode_of byte) (foreign_of byte)
 
 -- what a command with this opcode byte is called
-abbrev pub name_with : Option OpcodeRow → List ℕ
-name_with None = codes "command of an unknown opcode"
-name_with (Some r) = r.name
-
 abbrev pub opcode_name : ℕ → List ℕ
-opcode_name byte = name_with (row_at byte)
+opcode_name byte = (row_at byte).name
 
--- whether it has a row
+-- whether it is an opcode of the table
 abbrev pub has_row : ℕ → Bool
-has_row byte = is_some (row_at byte)
+has_row byte = is_some (opcode_of byte) || is_some (foreign_of byte)
 
 -- how it is scheduled, whoever answers it: `class` is that of the controller's own
-abbrev pub scheduled_with : Option OpcodeRow → Class
-scheduled_with None = Unknown
-scheduled_with (Some r) = r.scheduled
-
 abbrev pub scheduled_as : ℕ → Class
-scheduled_as byte = scheduled_with (row_at byte)
+scheduled_as byte = (row_at byte).scheduled
 
 -- the fewest bytes of its message
-abbrev pub least_with : Option OpcodeRow → ℕ
-least_with None = 12
-least_with (Some r) = r.least_length
-
 abbrev pub least_of : ℕ → ℕ
-least_of byte = least_with (row_at byte)
+least_of byte = (row_at byte).least_length
 
 -- its end may have a status of this code
-abbrev pub status_with : Option OpcodeRow → ℕ → Bool
-status_with None code = has_status Any code
-status_with (Some r) code = has_status r.statuses code
-
 abbrev pub may_have_status : ℕ → ℕ → Bool
-may_have_status byte code = status_with (row_at byte) code
+may_have_status byte code = has_status (row_at byte).statuses code
 
 -- the modifiers that it may carry
-abbrev pub modifiers_with : Option OpcodeRow → ℕ
-modifiers_with None = 0
-modifiers_with (Some r) = r.modifiers
-
 abbrev pub modifiers_of : ℕ → ℕ
-modifiers_of byte = modifiers_with (row_at byte)
-
--- who answers it here
-abbrev pub answerer_with : Option OpcodeRow → Answerer
-answerer_with None = Nobody
-answerer_with (Some r) = r.answerer
-
-abbrev pub answerer_of : ℕ → Answerer
-answerer_of byte = answerer_with (row_at byte)
+modifiers_of byte = (row_at byte).modifiers
 
 -- it is the port that answers it
 abbrev pub is_port : Answerer → Bool
@@ -211,7 +190,7 @@ is_port Port = true
 is_port answerer = false
 
 unfoldable pub port_answers : ℕ → Bool
-port_answers byte = is_port (answerer_of byte)
+port_answers byte = is_port (row_at byte).answerer
 
 -- the fewest bytes that a command of an opcode has, at least 12 (profile)
 abbrev pub least : Opcode → ℕ

@@ -1,5 +1,5 @@
 -- A row of the table in code, and one of its definition.
-use Rattle.std.specs.Prelude.{◌≡◌, Option, Some, None}
+use Rattle.std.specs.Prelude.{◌≡◌}
 use Rattle.mscp_packet.specs.declared.class.Row.{Row}
 use Rattle.mscp_packet.specs.Opcodes.{OpcodeRow}
 
@@ -13,9 +13,3 @@ pub record IsRow (r : Row) (o : OpcodeRow) : Type 0 where
   pub statuses : r.statuses ≡ o.statuses
   pub modifiers : r.modifiers ≡ o.modifiers
   pub answerer : r.answerer ≡ o.answerer
-
--- so do these, or neither is there
-abbrev pub MayBeRow : Option Row → Option OpcodeRow → Type 0
-MayBeRow (Some r) (Some o) = IsRow r o
-MayBeRow None None = Unit {0}
-MayBeRow one other = ⊥

@@ -122,7 +122,7 @@ pub struct Row {
 
 /// A row of the table, of these columns.
 #[rattlefmt::skip]
-const fn make_row(
+pub(crate) const fn make_row(
     byte: u8, name: &'static str, class: Class, least: usize, body: BodyKind, statuses: StatusSet, modifiers: u16,
     answerer: Answerer,
 ) -> Row
