@@ -1,4 +1,11 @@
-# One place for each fact: numbers and names that stand in several pages are those of the sources. tests/manual tries these.
+# One place for each fact: numbers and names that stand in several pages are those of the sources. tests/pages tries these, and
+# tests/manual those that want a compiler.
+
+# The source of a section of the page.
+section() { awk -v name="$1" '/^\.SH / { inside = substr($0, 5) == name; next } inside' "$page"; }
+
+# Two texts are the same, and aren't empty.
+same() { [ -n "$1" ] && diff <(printf '%s\n' "$1") <(printf '%s\n' "$2"); }
 
 # The size of a part of docs/SAVED.md: by its heading, and the line above its rows. Each row begins where the one before it
 # ends; else the size so far is told.

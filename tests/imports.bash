@@ -1,4 +1,4 @@
-# Which files of specs/ a contract stands on, by the imports in the sources. tests/definitions prints them, and tests/manual
+# Which files of specs/ a contract stands on, by the imports in the sources. tests/definitions prints them, and tests/pages
 # compares docs/READING.md with them.
 
 # The file below crates/ that has the function of this name, and no other: the macros' and tests' files aside.

@@ -1,4 +1,4 @@
-# Follows the links of pages: tests/manual in the sources, tests/install in what is installed, and tests/release in each release.
+# Follows the links of pages: tests/pages in the sources, tests/install in what is installed, and tests/release in each release.
 
 # The headings of a page, as links name them.
 anchors() {
