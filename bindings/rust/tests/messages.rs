@@ -74,7 +74,6 @@ fn ends_are_read() {
     assert_eq!(End::read(&[]), Err(Error::Unreadable));
 }
 
-/// SET CONTROLLER CHARACTERISTICS takes the one credit. With it the account is saved, and goes on.
 #[test]
 fn ends_are_shown() {
     let shown = |code: u8, status: u16| {
@@ -90,6 +89,7 @@ fn ends_are_shown() {
     assert_eq!(Opcode::DetermineAccessPaths.to_string(), "DETERMINE ACCESS PATHS");
 }
 
+/// SET CONTROLLER CHARACTERISTICS takes the one credit. With it the account is saved, and goes on.
 #[test]
 fn drivers_go_on() {
     let mut driver = Driver::new(5).unwrap();

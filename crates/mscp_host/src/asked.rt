@@ -60,7 +60,7 @@ impl Asked {
 }
 
 /// The command of this reference number, if there is one.
-pub fn find_asked(asked: &[Asked], reference: u32) -> Option<&Asked>
+pub(crate) fn find_asked(asked: &[Asked], reference: u32) -> Option<&Asked>
     ensures { option_copied result ≡ find (is_of reference) asked.now }
 {
     asked.iter().find(|asked| asked.reference == reference)
@@ -74,7 +74,7 @@ fn place_of(asked: &[Asked], reference: u32) -> Option<usize>
 }
 
 /// Removes the command of this reference number, if there is one.
-pub fn remove_asked(asked: &mut ArrayVec<Asked, 64>, reference: u32)
+pub(crate) fn remove_asked(asked: &mut ArrayVec<Asked, 64>, reference: u32)
     ensures { asked.new.items ≡ without_by (is_of reference) asked.old.items }
 {
     if let Some(place) = place_of(asked.as_slice(), reference) {

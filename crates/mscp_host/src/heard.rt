@@ -46,7 +46,7 @@ fn is_success(status: u16) -> bool
 }
 
 /// An end as the polls read it: one of another status than Success tells no figure.
-pub fn as_read(end: &End) -> End
+pub(crate) fn as_read(end: &End) -> End
     ensures { result ≡ as_read end.now }
 {
     if is_success(end.status) {
@@ -71,7 +71,7 @@ fn is_too_much(body: &EndBody, bytes: u32) -> bool
 }
 
 /// What the end of a command says that is no poll.
-pub fn ended_of(end: &End, asked: &Asked) -> Heard
+pub(crate) fn ended_of(end: &End, asked: &Asked) -> Heard
     ensures { result ≡ ended_of end.now asked.now }
 {
     if is_too_much(&end.body, asked.bytes) {
@@ -82,7 +82,7 @@ pub fn ended_of(end: &End, asked: &Asked) -> Heard
 }
 
 /// What an attention message says.
-pub fn attention_of(code: u8, unit: u16) -> Heard
+pub(crate) fn attention_of(code: u8, unit: u16) -> Heard
     ensures { result ≡ attention_of code unit }
 {
     if code == endcodes::AVAILABLE_ATTENTION {
@@ -93,7 +93,7 @@ pub fn attention_of(code: u8, unit: u16) -> Heard
 }
 
 /// What an end says, of which a host says that, and which is or isn't that of the poll in flight.
-pub fn news_said(is_poll: bool, end: &End, asked: &Asked, news: &News) -> Heard
+pub(crate) fn news_said(is_poll: bool, end: &End, asked: &Asked, news: &News) -> Heard
     ensures { result ≡ news_said is_poll end.now asked.now news.now }
 {
     match news {

@@ -87,7 +87,7 @@ fn sequential_in(t: &[u8]) -> Result<Message, HearFault>
 /// # Errors
 ///
 /// The first that holds of `Cut`, `Connection`, `Kind` and `Unreadable`.
-pub fn message_in(envelope: &Envelope, b: &[u8]) -> Result<Message, HearFault>
+pub(crate) fn message_in(envelope: &Envelope, b: &[u8]) -> Result<Message, HearFault>
     ensures { result ≡ message_in envelope.now b.now }
 {
     let length = usize::from(envelope.length);

@@ -61,7 +61,7 @@ pub enum News {
 }
 
 /// What a figure says of a command of which this was told before.
-pub fn news_of_figure(last: Option<u32>, figure: u32) -> News
+pub(crate) fn news_of_figure(last: Option<u32>, figure: u32) -> News
     ensures { result ≡ news_of_figure last figure }
 {
     match last {
@@ -74,7 +74,7 @@ pub fn news_of_figure(last: Option<u32>, figure: u32) -> News
 
 /// Whether the endcode is that of an unknown opcode, or that of this opcode byte. A byte with the top bit has no
 /// endcode of its own.
-pub fn is_code_of(code: u8, opcode: u8) -> bool
+pub(crate) fn is_code_of(code: u8, opcode: u8) -> bool
     ensures { result ≡ is_code_of code opcode }
 {
     let own = u16::from(opcode) + u16::from(endcodes::UNKNOWN);

@@ -8,7 +8,7 @@ use arrayvec::ArrayVec;
 use mscp_packet::{is_immediate, opcodes};
 
 /// Whether one of the submissions has the reference number.
-pub fn has_any(submissions: &[Submission], reference: u32) -> bool
+pub(crate) fn has_any(submissions: &[Submission], reference: u32) -> bool
     ensures { result ≡ list_any (has_reference reference) submissions.now }
 {
     submissions
@@ -17,7 +17,7 @@ pub fn has_any(submissions: &[Submission], reference: u32) -> bool
 }
 
 /// Whether no two of the submissions have one reference number.
-pub fn are_apart(submissions: &[Submission]) -> bool
+pub(crate) fn are_apart(submissions: &[Submission]) -> bool
     ensures { result ≡ are_apart submissions.now }
 {
     for place in 0..submissions.len() {
@@ -29,7 +29,7 @@ pub fn are_apart(submissions: &[Submission]) -> bool
 }
 
 /// The submission of this reference number, if there is one.
-pub fn find_reference(submissions: &[Submission], reference: u32) -> Option<&Submission>
+pub(crate) fn find_reference(submissions: &[Submission], reference: u32) -> Option<&Submission>
     ensures { option_copied result ≡ find (has_reference reference) submissions.now }
 {
     submissions
@@ -38,7 +38,7 @@ pub fn find_reference(submissions: &[Submission], reference: u32) -> Option<&Sub
 }
 
 /// The first submission that isn't answered when it arrives.
-pub fn find_oldest(submissions: &[Submission]) -> Option<&Submission>
+pub(crate) fn find_oldest(submissions: &[Submission]) -> Option<&Submission>
     ensures { option_copied result ≡ oldest_of submissions.now }
 {
     submissions
@@ -47,7 +47,7 @@ pub fn find_oldest(submissions: &[Submission]) -> Option<&Submission>
 }
 
 /// Whether the oldest of the commands that aren't answered when they arrive has this number.
-pub fn is_oldest(submissions: &[Submission], reference: u32) -> bool
+pub(crate) fn is_oldest(submissions: &[Submission], reference: u32) -> bool
     ensures { result ≡ is_oldest reference submissions.now }
 {
     match find_oldest(submissions).copied() {
@@ -57,7 +57,7 @@ pub fn is_oldest(submissions: &[Submission], reference: u32) -> bool
 }
 
 /// How many of the submissions aren't answered when they arrive.
-pub fn waiting(submissions: &[Submission]) -> usize
+pub(crate) fn waiting(submissions: &[Submission]) -> usize
     ensures { result ≡ length (waiting submissions.now) }
 {
     submissions
@@ -67,7 +67,7 @@ pub fn waiting(submissions: &[Submission]) -> usize
 }
 
 /// Whether a figure was told of no other command than the oldest of those that aren't answered when they arrive.
-pub fn are_told(submissions: &[Submission]) -> bool
+pub(crate) fn are_told(submissions: &[Submission]) -> bool
     ensures { result ≡ are_told submissions.now }
 {
     submissions.iter().all(|submission| submission.told.is_none()
@@ -75,7 +75,7 @@ pub fn are_told(submissions: &[Submission]) -> bool
 }
 
 /// Whether one of the submissions is a GET COMMAND STATUS of this number to this unit.
-pub fn has_poll(submissions: &[Submission], reference: u32, unit: u16) -> bool
+pub(crate) fn has_poll(submissions: &[Submission], reference: u32, unit: u16) -> bool
     ensures { result ≡ list_any (is_poll reference unit) submissions.now }
 {
     submissions.iter().any(|submission| submission.reference == reference
@@ -84,7 +84,7 @@ pub fn has_poll(submissions: &[Submission], reference: u32, unit: u16) -> bool
 }
 
 /// Whether one of the submissions is the GET COMMAND STATUS of this number.
-pub fn has_status(submissions: &[Submission], reference: u32) -> bool
+pub(crate) fn has_status(submissions: &[Submission], reference: u32) -> bool
     ensures { result ≡ list_any (is_status reference) submissions.now }
 {
     submissions.iter().any(|submission| submission.reference == reference
@@ -101,14 +101,14 @@ fn place_of(submissions: &[Submission], reference: u32) -> Option<usize>
 }
 
 /// The figure that was last told of the command of this reference number, if there is one.
-pub fn last_told(submissions: &[Submission], reference: u32) -> Option<u32>
+pub(crate) fn last_told(submissions: &[Submission], reference: u32) -> Option<u32>
     ensures { result ≡ last_told submissions.now reference }
 {
     find_reference(submissions, reference).copied()?.told
 }
 
 /// Keeps the figure that was told of the submission of this reference number, if there is one.
-pub fn set_told(submissions: &mut [Submission], reference: u32, figure: u32)
+pub(crate) fn set_told(submissions: &mut [Submission], reference: u32, figure: u32)
     ensures { submissions.new ≡ with_told reference figure submissions.old }
 {
     if let Some(place) = place_of(submissions, reference) {
@@ -121,7 +121,7 @@ pub fn set_told(submissions: &mut [Submission], reference: u32, figure: u32)
 }
 
 /// Removes the submission of this reference number, if there is one.
-pub fn remove(submissions: &mut ArrayVec<Submission, 64>, reference: u32)
+pub(crate) fn remove(submissions: &mut ArrayVec<Submission, 64>, reference: u32)
     ensures after { submissions.new.items ≡ without reference submissions.old.items }
     ensures fewer { length submissions.new.items ≤ length submissions.old.items }
 {

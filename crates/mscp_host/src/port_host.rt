@@ -112,7 +112,7 @@ impl PortHost {
     }
 
     /// Whether a command is outstanding that is answered when it arrives.
-    pub fn is_owed(&self) -> bool
+    pub(crate) fn is_owed(&self) -> bool
         ensures { result ≡ is_owed self.now }
     {
         self.asked

@@ -30,7 +30,7 @@ fn told_in(body: &EndBody) -> Option<(u32, u32)>
 }
 
 /// What an end tells of a command that was polled: where it is that of the poll in flight, and the poll was served.
-pub fn answered(watch: &Option<Watch>, end: &End) -> Option<(u32, u32)>
+pub(crate) fn answered(watch: &Option<Watch>, end: &End) -> Option<(u32, u32)>
     ensures { result ≡ answered watch.now end.now }
 {
     match watch {
@@ -43,7 +43,7 @@ pub fn answered(watch: &Option<Watch>, end: &End) -> Option<(u32, u32)>
 }
 
 /// Whether an answer, if it is one, is about the command that was polled.
-pub fn is_about_polled(watch: &Option<Watch>, answer: &Option<(u32, u32)>) -> bool
+pub(crate) fn is_about_polled(watch: &Option<Watch>, answer: &Option<(u32, u32)>) -> bool
     ensures { result ≡ is_about_polled watch.now answer.now }
 {
     match (watch, answer) {
@@ -54,7 +54,7 @@ pub fn is_about_polled(watch: &Option<Watch>, answer: &Option<(u32, u32)>) -> bo
 }
 
 /// Whether the polled submission is still outstanding.
-pub fn polled_is_outstanding(watch: &Option<Watch>) -> bool
+pub(crate) fn polled_is_outstanding(watch: &Option<Watch>) -> bool
     ensures { result ≡ polled_is_outstanding watch.now }
 {
     match watch {
@@ -64,7 +64,7 @@ pub fn polled_is_outstanding(watch: &Option<Watch>) -> bool
 }
 
 /// The poll in flight, once the end of the command of this reference number was received.
-pub fn watch_after(watch: Option<Watch>, reference: u32) -> Option<Watch>
+pub(crate) fn watch_after(watch: Option<Watch>, reference: u32) -> Option<Watch>
     ensures { result ≡ watch_after watch reference }
 {
     match watch {
@@ -100,7 +100,7 @@ fn is_about_somebody(submissions: &[Submission], watch: &Watch) -> bool
 }
 
 /// Whether the own GET COMMAND STATUS of the poll in flight is outstanding, and it is about somebody; or there is none.
-pub fn is_watched(submissions: &[Submission], watch: &Option<Watch>) -> bool
+pub(crate) fn is_watched(submissions: &[Submission], watch: &Option<Watch>) -> bool
     ensures { result ≡ is_watched submissions.now watch.now }
 {
     match watch {

@@ -9,7 +9,7 @@ ghost use Rattle.mscp_judge.specs.Rules as rules;
 use mscp_reader::Words;
 
 /// Whether a word is this one.
-pub fn is(word: &[u8], name: &str) -> bool
+pub(crate) fn is(word: &[u8], name: &str) -> bool
     ensures { result ≡ bytes_eq word.now name.now }
 {
     word == name.as_bytes()
@@ -30,7 +30,7 @@ fn is_answer_word(word: &[u8]) -> bool
 }
 
 /// Whether the line of these words is an answer.
-pub fn is_answer(words: Words<'_>) -> bool
+pub(crate) fn is_answer(words: Words<'_>) -> bool
     ensures { result ≡ logs.is_answer (lexical.words words.entry.rest.now) }
 {
     let mut rest = words;
@@ -47,7 +47,7 @@ pub fn is_answer(words: Words<'_>) -> bool
 }
 
 /// Whether the line of these words says that a command was served.
-pub fn is_service(words: Words<'_>) -> bool
+pub(crate) fn is_service(words: Words<'_>) -> bool
     ensures { result ≡ rules.is_service (lexical.words words.entry.rest.now) }
 {
     let mut rest = words;

@@ -195,6 +195,10 @@ impl<A: Allocator> Hearing<A> {
 /// What hosts of the credits of a log's header would have heard, if they had sent what its lines send and received the
 /// ends that it tells. A GET COMMAND STATUS about a host's oldest command is its poll. All other answers are passed
 /// over.
+///
+/// # Errors
+///
+/// The first line at fault, or `OutOfMemory`.
 pub fn hear_log<A: Allocator>(alloc: A, bytes: &[u8]) -> Result<Hearing<A>, ReadFault>
     ensures { Gives result (heard_log bytes.now) }
 {

@@ -10,14 +10,14 @@ use mscp_text::{put, put_field};
 use std::alloc::{AllocError, Allocator};
 
 /// The host of a connection of so many credits, if that has one.
-pub fn host_of(credits: u32) -> Option<Host>
+pub(crate) fn host_of(credits: u32) -> Option<Host>
     ensures { result ≡ host_of credits }
 {
     Host::new(credits).ok()
 }
 
 /// The command that a message is, if it is one.
-pub fn command_in(message: &[u8]) -> Option<Command>
+pub(crate) fn command_in(message: &[u8]) -> Option<Command>
     ensures { result ≡ command_in message.now }
 {
     read_command(message).ok()
@@ -47,7 +47,7 @@ fn send(host: &mut Host, command: &Command)
 }
 
 /// The host of a connection, if it has one, sends a message.
-pub fn send_message(host: &mut Option<Host>, message: &[u8])
+pub(crate) fn send_message(host: &mut Option<Host>, message: &[u8])
     ensures { host.new ≡ sends_message host.old (command_in message.now) }
 {
     let command = command_in(message);
@@ -57,7 +57,7 @@ pub fn send_message(host: &mut Option<Host>, message: &[u8])
 }
 
 /// What the host of a connection, if it has one, says of bytes that it receives.
-pub fn hear(host: &mut Option<Host>, bytes: &[u8]) -> Result<News, HostFault>
+pub(crate) fn hear(host: &mut Option<Host>, bytes: &[u8]) -> Result<News, HostFault>
     ensures { (result, host.new) ≡ hears host.old bytes.now }
 {
     match host {
@@ -67,7 +67,7 @@ pub fn hear(host: &mut Option<Host>, bytes: &[u8]) -> Result<News, HostFault>
 }
 
 /// Whether a host that says this would have reset the controller.
-pub fn is_reset(said: &Result<News, HostFault>) -> bool
+pub(crate) fn is_reset(said: &Result<News, HostFault>) -> bool
     ensures { result ≡ is_reset said.now }
 {
     matches!(said, Ok(News::Reset | News::Lost))
@@ -92,7 +92,7 @@ fn put_news<A: Allocator>(
 }
 
 /// Appends the line of what a host says of the end in the line of this number.
-pub fn put_line<A: Allocator>(
+pub(crate) fn put_line<A: Allocator>(
     text: &mut Vec<u8, A>,
     number: u32,
     said: &Result<News, HostFault>,

@@ -38,7 +38,7 @@ pub struct Judge<A: Allocator> {
 
 impl<A: Allocator> Judge<A> {
     /// A judge of a controller to which nothing came.
-    pub fn new(alloc: A, config: Config) -> Judge<A>
+    pub(crate) fn new(alloc: A, config: Config) -> Judge<A>
         ensures stands { Stands config nothing result }
         ensures count { result.reporter.count + result.owed ≡ 0 }
     {
@@ -54,7 +54,7 @@ impl<A: Allocator> Judge<A> {
     }
 
     /// Forgets all that came.
-    pub fn restart(&mut self)
+    pub(crate) fn restart(&mut self)
         ensures stands { (c : Settings) → IsValid c → self.old.controller.settings ≡ c → Stands c nothing self.new }
         ensures count { self.new.reporter.count + self.new.owed ≡ 0 }
     {
@@ -67,7 +67,7 @@ impl<A: Allocator> Judge<A> {
     }
 
     /// How many events were asked for.
-    pub fn count(&self) -> u64
+    pub(crate) fn count(&self) -> u64
         requires { self.now.reporter.count + self.now.owed < 2 ^ 64 }
         ensures { result ≡ self.now.reporter.count + self.now.owed }
     {
@@ -75,7 +75,7 @@ impl<A: Allocator> Judge<A> {
     }
 
     /// The totals of the events so far.
-    pub fn totals(&self) -> Totals
+    pub(crate) fn totals(&self) -> Totals
         ensures { result ≡ totals_of self.now.controller.settings self.now }
     {
         Totals {
@@ -88,7 +88,7 @@ impl<A: Allocator> Judge<A> {
     }
 
     /// What is answered and wasn't told yet.
-    pub fn due(&self) -> &[u8]
+    pub(crate) fn due(&self) -> &[u8]
         ensures { result.now ≡ due self.now }
     {
         let lines = self.reporter.lines();
@@ -96,7 +96,7 @@ impl<A: Allocator> Judge<A> {
     }
 
     /// Whether all is answered and told.
-    pub fn is_settled(&self) -> bool
+    pub(crate) fn is_settled(&self) -> bool
         ensures yes { result ≡ true → IsSettled self.now }
         ensures no { result ≡ false → ¬ (IsSettled self.now) }
     {
@@ -154,7 +154,7 @@ impl<A: Allocator> Judge<A> {
     }
 
     /// Whether the next answer is that of a step.
-    pub fn owes(&self) -> bool
+    pub(crate) fn owes(&self) -> bool
         ensures due { result ≡ true → due self.now ≡ [] }
         ensures owed { result ≡ true → 0 < self.now.owed }
     {
@@ -162,7 +162,7 @@ impl<A: Allocator> Judge<A> {
     }
 
     /// A step is answered, at which the command that is named starts, if it may, and else the oldest that may.
-    pub fn step(&mut self, wanted: Option<Named>) -> Result<(), OutOfMemory>
+    pub(crate) fn step(&mut self, wanted: Option<Named>) -> Result<(), OutOfMemory>
         requires count { self.old.reporter.count + 1 < 2 ^ 64 }
         requires owed { 0 < self.old.owed }
         ensures came { OnOk result (Came wanted self.old self.new (events.Step self.old.block)) }
@@ -184,7 +184,7 @@ impl<A: Allocator> Judge<A> {
     }
 
     /// Whether the next answer is that of a step at which nothing waits.
-    pub fn is_idle(&self) -> bool
+    pub(crate) fn is_idle(&self) -> bool
         ensures due { result ≡ true → due self.now ≡ [] }
         ensures owed { result ≡ true → 0 < self.now.owed }
         ensures nothing { result ≡ true → self.now.controller.waiting ≡ [] }
@@ -194,7 +194,7 @@ impl<A: Allocator> Judge<A> {
     }
 
     /// A step is answered at which nothing waits, and its line is told.
-    pub fn idle(&mut self) -> Result<(), OutOfMemory>
+    pub(crate) fn idle(&mut self) -> Result<(), OutOfMemory>
         requires count { self.old.reporter.count + 1 < 2 ^ 64 }
         requires due { due self.old ≡ [] }
         requires owed { 0 < self.old.owed }
@@ -245,7 +245,7 @@ impl<A: Allocator> Judge<A> {
     }
 
     /// A line asks for events. Told is how many lines are due then.
-    pub fn ask(&mut self, request: &Request<'_>) -> Result<u32, OutOfMemory>
+    pub(crate) fn ask(&mut self, request: &Request<'_>) -> Result<u32, OutOfMemory>
         requires settled { IsSettled self.old }
         requires count { self.old.reporter.count + length (events_of request.now) < 2 ^ 64 }
         ensures stands { OnOk result ((c : Settings) (log : Log) → Stands c log self.old
@@ -271,7 +271,7 @@ impl<A: Allocator> Judge<A> {
     }
 
     /// All that is due was told.
-    pub fn tell_all(&mut self)
+    pub(crate) fn tell_all(&mut self)
         ensures kept { self.new ≡ record self.old { told = self.new.told } }
         ensures none { due self.new ≡ [] }
         ensures count { self.new.reporter.count + self.new.owed ≡ self.old.reporter.count + self.old.owed }

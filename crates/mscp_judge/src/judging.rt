@@ -33,6 +33,10 @@ pub enum Verdict {
 }
 
 /// Judges the lines of a log that stand behind its header, whose configuration this is.
+///
+/// # Errors
+///
+/// The first line at fault, or `OutOfMemory`.
 pub fn judge_lines<A: Allocator>(
     alloc: A,
     config: Config,

@@ -8,6 +8,10 @@ use mscp_reader::{ReadFault, lines_of, read_header};
 use std::alloc::Allocator;
 
 /// Judges a log. Its header is that of a script.
+///
+/// # Errors
+///
+/// The first line at fault, or `OutOfMemory`.
 pub fn judge_log<A: Allocator>(alloc: A, bytes: &[u8]) -> Result<Verdict, ReadFault>
     ensures judges { JudgesLog bytes.now result }
     // So each log of which there is a legal trace is judged to be legal,

@@ -76,7 +76,7 @@ fn served(connection: Connection, mut words: Words<'_>) -> Option<Named>
 
 /// The name of the command that the line of these words says was served, if it names one.
 #[tactic(auto, unfolding(crate::specs::Naming::name_in))]
-pub fn name_in(words: Words<'_>) -> Option<Named>
+pub(crate) fn name_in(words: Words<'_>) -> Option<Named>
     ensures { result ≡ naming.name_in (lexical.words words.entry.rest.now) }
 {
     let mut rest = words;
@@ -106,7 +106,7 @@ fn space_in(bytes: &[u8]) -> Option<usize>
 
 /// The name of the command that the line ahead says was served, where that is of the first connection and the line is
 /// written as a report has it. Where few bytes are left it isn't looked for: the last line may lack its line feed.
-pub fn named_ahead(bytes: &[u8]) -> Option<Named>
+pub(crate) fn named_ahead(bytes: &[u8]) -> Option<Named>
     ensures { IfSome result (λ named. IsNamedAhead bytes.now named) }
 {
     if bytes.len() < FEW_BYTES {

@@ -102,14 +102,14 @@ fn answer_rule(right: &[u8], told: &[u8]) -> Rule
 }
 
 /// The rule that is broken where these bytes are due, and a line tells those.
-pub fn due_rule(right: &[u8], told: &[u8]) -> Rule
+pub(crate) fn due_rule(right: &[u8], told: &[u8]) -> Rule
     ensures { result ≡ rules.due_rule right.now told.now }
 {
     answer_rule(unnamed(right), unnamed(told))
 }
 
 /// The rule that keeps a step from serving the command that is named: that of another service, if none does.
-pub fn step_rule(controller: &Controller<Wanted>, wanted: Option<Named>) -> Rule
+pub(crate) fn step_rule(controller: &Controller<Wanted>, wanted: Option<Named>) -> Rule
     ensures { (c : Settings) (t : Trace) (begun : Wanted) → IsValid c → Led (fresh c begun) t controller.now
         → IsStepRule c t (wanted_name wanted) result }
 {

@@ -60,7 +60,7 @@ fn open(controller: &Controller<Wanted>, names: &Starts) -> Starts
 }
 
 /// The commands that may start: none while one is in service.
-pub fn starts(controller: &Controller<Wanted>) -> Starts
+pub(crate) fn starts(controller: &Controller<Wanted>) -> Starts
     ensures { (c : Settings) (t : Trace) (begun : Wanted) → IsValid c → Led (fresh c begun) t controller.now
         → result.items ≡ starts_in c t }
 {

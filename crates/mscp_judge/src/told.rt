@@ -21,7 +21,7 @@ fn first_bytes(mut words: Words<'_>) -> ArrayVec<u8, 64>
 
 /// The bytes of the end that these words tell, if they tell one.
 #[tactic(auto, unfolding(crate::specs::Heard::end_bytes))]
-pub fn end_bytes(mut words: Words<'_>) -> Option<ArrayVec<u8, 64>>
+pub(crate) fn end_bytes(mut words: Words<'_>) -> Option<ArrayVec<u8, 64>>
     ensures { items_of result ≡ end_bytes (lexical.words words.entry.rest.now) }
 {
     match words.next_word() {

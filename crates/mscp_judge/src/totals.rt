@@ -38,7 +38,7 @@ fn larger(first: u32, second: u32) -> u32
 
 impl Peaks {
     /// Those of no command.
-    pub fn none() -> Peaks
+    pub(crate) fn none() -> Peaks
         ensures figure { result.figure ≡ 0 }
         ensures passed { result.passed ≡ 0 }
     {
@@ -49,7 +49,7 @@ impl Peaks {
     }
 
     /// A figure and such a count come.
-    pub fn rise(&mut self, figure: u32, passed: u32)
+    pub(crate) fn rise(&mut self, figure: u32, passed: u32)
         ensures figure { IsLarger self.old.figure figure self.new.figure }
         ensures passed { IsLarger self.old.passed passed self.new.passed }
     {
@@ -59,7 +59,7 @@ impl Peaks {
 }
 
 /// The figure of the command that was queued, if one was, and else 0.
-pub fn figure_queued(
+pub(crate) fn figure_queued(
     controller: &Controller<Wanted>,
     connection: Connection,
     sent: &Result<Sent, SendFault>,
@@ -73,7 +73,7 @@ pub fn figure_queued(
 }
 
 /// The bound of a configuration.
-pub fn bound_of(config: &Config) -> u32
+pub(crate) fn bound_of(config: &Config) -> u32
     ensures { result ≡ bound config.now }
 {
     config.room() * config.longest() + config.budget()

@@ -17,7 +17,7 @@ use mscp_packet::{MoveKind, Order};
 pub const MOST_EVENTS: usize = 1_000_000;
 
 /// The most steps of one line.
-pub const MOST_STEPS: u32 = 1000;
+pub(crate) const MOST_STEPS: u32 = 1000;
 
 /// What the first word of a line says that its fields are.
 #[derive(Clone, Copy)]
@@ -54,6 +54,10 @@ impl Form {
 }
 
 /// What a line asks for, where so many events came before.
+///
+/// # Errors
+///
+/// What is wrong with the line: the first cause in the order of `Cause`.
 pub fn request_after(line: Line<'_>, count: usize) -> Result<Request<'_>, ScriptFault>
     requires { count ≤ MOST_EVENTS }
     ensures asks { Gives events_of result (in_line line.entry.number (asked_after count (lexical.words
@@ -106,7 +110,7 @@ fn read_second(mut words: Words<'_>) -> Result<Request<'_>, Cause>
 /// The form of the line of this first word. It is made part of its callers, which look at the form next.
 #[inline(always)]
 #[tactic(auto, unfolding(crate::specs::Requests::form_of))]
-pub fn form_of(word: &[u8]) -> Option<Form>
+pub(crate) fn form_of(word: &[u8]) -> Option<Form>
     ensures { result ≡ requests.form_of word.now }
 {
     if word == b"read".as_slice() {

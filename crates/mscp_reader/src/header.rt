@@ -45,6 +45,10 @@ struct Limits {
 }
 
 /// Reads the header, up to its `go`.
+///
+/// # Errors
+///
+/// The first line at fault, or `Header` if no `go` comes.
 pub fn read_header(lines: &mut Lines<'_>) -> Result<Config, ScriptFault>
     ensures fault { IfErr result (λ fault. 1 ≤ fault.line) }
     // The lines of the header lead there, or have this fault.

@@ -47,7 +47,7 @@ impl<'a> Lines<'a> {
     }
 
     /// The next line that has a word, which the header still needs. Comments and lines without a word are skipped.
-    pub fn header_line(&mut self) -> Result<Line<'a>, ScriptFault>
+    pub(crate) fn header_line(&mut self) -> Result<Line<'a>, ScriptFault>
         ensures shorter { IfOk result (λ _. length self.new.rest.now < length self.old.rest.now) }
         ensures fault { IfErr result (λ fault. 1 ≤ fault.line) }
         ensures number { IfOk result (λ line. line.number ≡ self.new.number) }
@@ -73,6 +73,10 @@ impl<'a> Lines<'a> {
     }
 
     /// What the next line asks for, if one is left, where so many events came before.
+    ///
+    /// # Errors
+    ///
+    /// What is wrong with that line: the first cause in the order of `Cause`.
     #[inline(always)]
     pub fn next_request(&mut self, count: usize) -> Result<Option<Request<'a>>, ScriptFault>
         requires { count ≤ MOST_EVENTS }
@@ -199,6 +203,10 @@ fn without_return(line: &[u8]) -> &[u8]
 }
 
 /// The words of a line of this number, with that number in its fault.
+///
+/// # Errors
+///
+/// `Lines`, `Long` or `Byte`, the first that holds in this order.
 pub fn words_of(number: u32, line: &[u8]) -> Result<Words<'_>, ScriptFault>
     requires { 1 ≤ number }
     ensures line { IfErr result (λ fault. 1 ≤ fault.line) }

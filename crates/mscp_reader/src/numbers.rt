@@ -10,11 +10,11 @@ use hex::decode_to_slice;
 use mscp_packet::{MOST_MESSAGE_BYTES, decode};
 
 /// The most digits of a number, leading zeros too.
-pub const MOST_DIGITS: usize = 10;
+pub(crate) const MOST_DIGITS: usize = 10;
 
 /// A field of 1 to 10 decimal digits, which is at most so much.
 #[tactic(auto, unfolding(crate::specs::Lexical::number))]
-pub fn number(most: u32, word: &[u8]) -> Result<u32, Cause>
+pub(crate) fn number(most: u32, word: &[u8]) -> Result<u32, Cause>
     ensures value { result ≡ lexical.number most word.now }
     ensures bound { IfOk result (λ value. value ≤ most) }
 {
@@ -35,6 +35,10 @@ pub fn number(most: u32, word: &[u8]) -> Result<u32, Cause>
 }
 
 /// A field from 0 to 4294967295.
+///
+/// # Errors
+///
+/// `Number` for any other word.
 pub fn wide(word: &[u8]) -> Result<u32, Cause>
     ensures { result ≡ lexical.wide word.now }
 {
@@ -42,7 +46,7 @@ pub fn wide(word: &[u8]) -> Result<u32, Cause>
 }
 
 /// A field from 0 to 65535.
-pub fn narrow(word: &[u8]) -> Result<u16, Cause>
+pub(crate) fn narrow(word: &[u8]) -> Result<u16, Cause>
     ensures { result ≡ lexical.narrow word.now }
 {
     Ok(number(u32::from(u16::MAX), word)? as u16)
@@ -50,7 +54,7 @@ pub fn narrow(word: &[u8]) -> Result<u16, Cause>
 
 /// A message of 1 to 64 bytes, each of two hexadecimal digits.
 #[tactic(auto, unfolding(crate::specs::Lexical::message))]
-pub fn message(word: &[u8]) -> Result<ArrayVec<u8, 64>, Cause>
+pub(crate) fn message(word: &[u8]) -> Result<ArrayVec<u8, 64>, Cause>
     ensures { Gives (λ m. m.items) result (lexical.message word.now) }
 {
     let count = word.len() / 2;
@@ -75,7 +79,7 @@ pub fn bytes_in(digits: &[u8]) -> ArrayVec<u8, 64>
 
 /// A status of four hexadecimal digits, the high ones first.
 #[tactic(auto, unfolding(crate::specs::Lexical::status))]
-pub fn status(word: &[u8]) -> Result<u16, Cause>
+pub(crate) fn status(word: &[u8]) -> Result<u16, Cause>
     ensures { result ≡ lexical.status word.now }
 {
     let mut bytes = [0u8; 2];

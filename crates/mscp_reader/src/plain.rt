@@ -15,7 +15,7 @@ use mscp_packet::{MoveKind, Order};
 /// What the first line of these bytes asks for, and what stands behind it, if that line is found to be plain. Nothing
 /// is said of any other: the reader of all lines reads those.
 #[tactic(auto, using(crate::proofs::PlainLines::is_valid))]
-pub fn read_plain(bytes: &[u8]) -> Option<(Request<'_>, &[u8])>
+pub(crate) fn read_plain(bytes: &[u8]) -> Option<(Request<'_>, &[u8])>
     ensures plain { IfSome result (λ read. IsPlain bytes.now (events_of read.0) read.1.now) }
     ensures few { IfSome result (λ read. length (events_of read.0) ≤ MOST_STEPS) }
 {

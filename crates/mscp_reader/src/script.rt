@@ -9,6 +9,10 @@ use crate::lines::Lines;
 pub const MOST_BYTES: usize = 16_777_216;
 
 /// The lines of a script that isn't too large.
+///
+/// # Errors
+///
+/// `Size`, at line 0, if it has over `MOST_BYTES`.
 pub fn lines_of(bytes: &[u8]) -> Result<Lines<'_>, ScriptFault>
     ensures lines { IfOk result (λ lines. (lines.number ≡ 0) × (lines.rest.now ≡ bytes.now)) }
     ensures small { IfOk result (λ _. length bytes.now ≤ MOST_BYTES) }

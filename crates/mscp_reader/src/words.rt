@@ -49,6 +49,10 @@ impl<'a> Words<'a> {
     }
 
     /// Nothing, where no word is left.
+    ///
+    /// # Errors
+    ///
+    /// `Count` if one is left.
     pub fn none(mut self) -> Result<(), Cause>
         ensures { result ≡ requests.none (lexical.words self.entry.rest.now) }
     {
@@ -59,6 +63,10 @@ impl<'a> Words<'a> {
     }
 
     /// The one word that is left.
+    ///
+    /// # Errors
+    ///
+    /// `Count` if none or more are left.
     pub fn one(mut self) -> Result<&'a [u8], Cause>
         ensures { Gives (λ f. f.now) result (requests.one (lexical.words self.entry.rest.now)) }
     {
@@ -68,6 +76,10 @@ impl<'a> Words<'a> {
     }
 
     /// The two words that are left.
+    ///
+    /// # Errors
+    ///
+    /// `Count` if fewer or more are left.
     pub fn two(mut self) -> Result<(&'a [u8], &'a [u8]), Cause>
         ensures { Gives (λ f. (f.0.now, f.1.now)) result (requests.two (lexical.words self.entry.rest.now)) }
     {
@@ -78,6 +90,10 @@ impl<'a> Words<'a> {
     }
 
     /// The four words that are left.
+    ///
+    /// # Errors
+    ///
+    /// `Count` if fewer or more are left.
     #[tactic(auto, using(crate::proofs::Fields::four_by_two))]
     pub fn four(mut self) -> Result<(&'a [u8], &'a [u8], &'a [u8], &'a [u8]), Cause>
         ensures { Gives (λ f. (f.0.now, f.1.now, f.2.now, f.3.now)) result (requests.four (lexical.words
@@ -90,6 +106,10 @@ impl<'a> Words<'a> {
     }
 
     /// The five words that are left.
+    ///
+    /// # Errors
+    ///
+    /// `Count` if fewer or more are left.
     #[tactic(auto, using(crate::proofs::Fields::five_by_four))]
     pub fn five(mut self) -> Result<(&'a [u8], &'a [u8], &'a [u8], &'a [u8], &'a [u8]), Cause>
         ensures { Gives (λ f. (f.0.now, f.1.now, f.2.now, f.3.now, f.4.now)) result (requests.five (lexical.words
@@ -101,6 +121,10 @@ impl<'a> Words<'a> {
     }
 
     /// Cuts off the next word, which is needed.
+    ///
+    /// # Errors
+    ///
+    /// `Count` if none is left.
     pub fn next_field(&mut self) -> Result<&'a [u8], Cause>
         ensures { MatchResult result (λ word. lexical.words self.old.rest.now ≡ word.now ∷ lexical.words
             self.new.rest.now) (λ cause. (cause ≡ Cause.Count) × (lexical.words self.old.rest.now ≡ [])) }

@@ -22,6 +22,10 @@ pub enum LineFault {
 
 /// What the words of a command line ask for, without the program's name: `run FILE`, `packet HEX`, or where there are
 /// none `run -`. It takes no memory.
+///
+/// # Errors
+///
+/// `Usage` for any other words.
 pub fn choose(words: &[String]) -> Result<Deed<'_>, LineFault>
     ensures { Gives seen result (chosen (map string_bytes words.now)) }
 {

@@ -10,6 +10,10 @@ use std::alloc::Global;
 
 /// Writes the line of the packet that a word is the hexadecimal digits of, in one write. Except where it says `Write`,
 /// nothing was written on a fault.
+///
+/// # Errors
+///
+/// `Packet` if the word is no packet's or memory runs out, and `Write` if the write fails.
 pub fn print_packet<W: Sink>(alloc: Global, word: &str, writer: &mut W) -> Result<(), Fault>
     requires { W.has_failed writer.old ≡ false }
     ensures write { (result ≡ Err Fault.Write) ↔ (W.has_failed writer.new ≡ true) }

@@ -8,7 +8,7 @@ use mscp_reader::MOST_BYTES;
 use std::alloc::Allocator;
 
 /// How many bytes are read at most: one more than the longest script has.
-pub const LIMIT: usize = MOST_BYTES + 1;
+pub(crate) const LIMIT: usize = MOST_BYTES + 1;
 
 /// Why not all was read.
 #[derive(Clone, Copy)]
@@ -20,6 +20,10 @@ pub enum ReadAllFault {
 }
 
 /// Reads until a read gives no byte, or 16,777,217 bytes were read. What comes after them is left in the reader.
+///
+/// # Errors
+///
+/// `Read` if a read fails, and `OutOfMemory` if memory runs out.
 pub fn read_all<R: Source, A: Allocator>(
     alloc: A,
     reader: &mut R,

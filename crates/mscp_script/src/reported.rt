@@ -11,6 +11,10 @@ use mscp_text::Out;
 
 /// Writes the report of the script that these bytes are to what has nothing in it, or tells its first fault. It takes
 /// memory for the report alone.
+///
+/// # Errors
+///
+/// The script's first fault, or `OutOfMemory` if what it writes to refuses a text.
 #[tactic(auto, using(mscp_reader::proofs::Sound::is_fault))]
 pub fn report_script<O: Out>(out: O, bytes: &[u8]) -> Result<O, ReadFault>
     requires { O.text out ≡ [] }

@@ -71,6 +71,10 @@ impl<O: Out> Reporter<O> {
     }
 
     /// Reports what became of a message of the connection.
+    ///
+    /// # Errors
+    ///
+    /// `OutOfMemory` if what it writes to refuses a text.
     pub fn sent(
         &mut self,
         connection: Connection,
@@ -86,6 +90,10 @@ impl<O: Out> Reporter<O> {
     }
 
     /// Reports an end of the connection that was taken, or that there was none.
+    ///
+    /// # Errors
+    ///
+    /// `OutOfMemory` if what it writes to refuses a text.
     pub fn taken(
         &mut self,
         connection: Connection,
@@ -101,6 +109,10 @@ impl<O: Out> Reporter<O> {
     }
 
     /// Reports what a step did.
+    ///
+    /// # Errors
+    ///
+    /// `OutOfMemory` if what it writes to refuses a text.
     pub fn stepped(&mut self, report: &Report) -> Result<(), OutOfMemory>
         requires { self.old.count + 1 < 2 ^ 64 }
         ensures value { OnOk result (self.new ≡ with_entry self.old (entries.Stepped report.now)) }
@@ -113,6 +125,10 @@ impl<O: Out> Reporter<O> {
     }
 
     /// Reports a step at which nothing waited.
+    ///
+    /// # Errors
+    ///
+    /// `OutOfMemory` if what it writes to refuses a text.
     #[inline(always)]
     pub fn idled(&mut self) -> Result<(), OutOfMemory>
         requires { self.old.count + 1 < 2 ^ 64 }
@@ -125,6 +141,10 @@ impl<O: Out> Reporter<O> {
     }
 
     /// Reports the figures of a look.
+    ///
+    /// # Errors
+    ///
+    /// `OutOfMemory` if what it writes to refuses a text.
     pub fn looked(
         &mut self,
         shown: &ArrayVec<(Connection, u32, u32), 64>,
@@ -139,6 +159,10 @@ impl<O: Out> Reporter<O> {
     }
 
     /// The text, with the line of the totals.
+    ///
+    /// # Errors
+    ///
+    /// `OutOfMemory` if what it writes to refuses a text.
     pub fn finish(mut self) -> Result<O, OutOfMemory>
         ensures value { IfOk result (λ out. O.text out ≡ finished self) }
         ensures refused { OnErr result O.refuses }

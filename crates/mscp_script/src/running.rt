@@ -25,7 +25,7 @@ pub struct Run<O: Out> {
 
 impl<O: Out> Run<O> {
     /// A new controller, to which nothing came.
-    pub fn new(out: O, config: Config) -> Run<O>
+    pub(crate) fn new(out: O, config: Config) -> Run<O>
         requires { O.text out ≡ [] }
         ensures controller { result.controller ≡ fresh config result.controller.picker }
         ensures report { result.reporter ≡ reported [] }
@@ -38,7 +38,7 @@ impl<O: Out> Run<O> {
     }
 
     /// How many events came.
-    pub fn count(&self) -> u64
+    pub(crate) fn count(&self) -> u64
         ensures { result ≡ self.now.reporter.count }
     {
         self.reporter.count()
@@ -137,7 +137,7 @@ impl<O: Out> Run<O> {
     }
 
     /// The events of a request come.
-    pub fn meet(&mut self, request: &Request<'_>) -> Result<(), OutOfMemory>
+    pub(crate) fn meet(&mut self, request: &Request<'_>) -> Result<(), OutOfMemory>
         requires { self.old.reporter.count + length (events_of request.now) < 2 ^ 64 }
         ensures met { OnOk result (Meets self.old self.new (events_of request.now)) }
         ensures count { OnOk result (self.new.reporter.count

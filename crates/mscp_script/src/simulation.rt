@@ -59,6 +59,10 @@ impl From<Failed> for SimFault {
 }
 
 /// `simulate` over any allocator, of which both the script and its report take memory.
+///
+/// # Errors
+///
+/// Those of `simulate`.
 pub fn simulate_in<A: Allocator + Copy, R: Source, W: Sink>(
     alloc: A,
     reader: &mut R,
@@ -83,6 +87,10 @@ pub fn simulate_in<A: Allocator + Copy, R: Source, W: Sink>(
 /// Reads a script until a read gives no byte or it has 16,777,217 bytes, runs it through a new controller, and writes
 /// the report of the run in one write. A fault of the script is its first. Except where it says `Write`, nothing was
 /// written on a fault.
+///
+/// # Errors
+///
+/// `Read` if a read fails, the script's first fault, `OutOfMemory` if memory runs out, and `Write` if the write fails.
 pub fn simulate<R: Source, W: Sink>(
     alloc: Global,
     reader: &mut R,

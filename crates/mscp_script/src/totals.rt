@@ -30,7 +30,7 @@ impl Totals {
     ghost use Rattle.mscp_script.specs.Counted.{IsCounted};
 
     /// The totals of no entry.
-    pub fn new() -> Totals
+    pub(crate) fn new() -> Totals
         ensures count { result.count ≡ 0 }
         ensures steps { result.steps ≡ 0 }
         ensures seeks { result.seeks ≡ 0 }
@@ -47,7 +47,7 @@ impl Totals {
     }
 
     /// Counts what became of a message.
-    pub fn add_sent(&mut self, sent: &Result<Sent, SendFault>)
+    pub(crate) fn add_sent(&mut self, sent: &Result<Sent, SendFault>)
         requires { self.old.count + 1 < 2 ^ 64 }
         ensures { (via : Connection) → IsCounted self.old self.new (entries.Sent via sent.now) }
     {
@@ -67,7 +67,7 @@ impl Totals {
     }
 
     /// Counts an entry that is neither a message nor a step.
-    pub fn add_other(&mut self)
+    pub(crate) fn add_other(&mut self)
         requires { self.old.count + 1 < 2 ^ 64 }
         ensures count { self.new.count ≡ self.old.count + 1 }
         ensures steps { self.new.steps ≡ self.old.steps }
@@ -79,7 +79,7 @@ impl Totals {
     }
 
     /// Counts a step.
-    pub fn add_step(&mut self, report: &Report)
+    pub(crate) fn add_step(&mut self, report: &Report)
         requires { self.old.count + 1 < 2 ^ 64 }
         ensures { IsCounted self.old self.new (entries.Stepped report.now) }
     {
@@ -103,7 +103,7 @@ impl Totals {
     }
 
     /// How many commands wait: those that were queued less those that ended, but at least 0.
-    pub fn pending(&self) -> u64
+    pub(crate) fn pending(&self) -> u64
         ensures { result ≡ self.now.queued - self.now.ended }
     {
         self.queued.saturating_sub(self.ended)

@@ -217,6 +217,10 @@ fn hear_each<K: Picker, A: Allocator>(
 }
 
 /// `converse` over any allocator, of which both lists of the talk take memory.
+///
+/// # Errors
+///
+/// `OutOfMemory` if memory runs out.
 pub fn converse_in<K: Picker + Drop, A: Allocator + Copy>(
     alloc: A,
     config: Config,
@@ -246,6 +250,10 @@ pub fn converse_in<K: Picker + Drop, A: Allocator + Copy>(
 /// no message, and no host an end; a host says Reset exactly where the answer of a poll stands, never where a step lies
 /// between any two polls about one command, and it never says Lost. Memory is asked for before the first turn, and
 /// nothing is heard where it is refused.
+///
+/// # Errors
+///
+/// `OutOfMemory` if memory runs out.
 pub fn converse<K: Picker + Drop>(
     alloc: Global,
     config: Config,

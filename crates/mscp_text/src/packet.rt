@@ -130,6 +130,10 @@ fn packet_in(message: &[u8]) -> Result<Packet, ShowFault>
 }
 
 /// `show_packet`, written to what has nothing in it.
+///
+/// # Errors
+///
+/// Those of `show_packet`; `OutOfMemory` if what it writes to refuses a text.
 #[tactic(auto, unfolding(crate::specs::Shown::shown))]
 pub fn show_packet_to<O: Out>(mut out: O, word: &[u8]) -> Result<O, ShowFault>
     requires { O.text out ≡ [] }
@@ -144,6 +148,10 @@ pub fn show_packet_to<O: Out>(mut out: O, word: &[u8]) -> Result<O, ShowFault>
 
 /// The line of the packet that a word is the hexadecimal digits of, with its line feed: of 12 to 64 bytes, an end where
 /// byte 8 is 0x80 or more, and else a command. It takes memory for the text alone.
+///
+/// # Errors
+///
+/// The first that holds in the order of `ShowFault`.
 pub fn show_packet(alloc: Global, word: &str) -> Result<Vec<u8>, ShowFault>
     ensures { Shows (λ text. text.items) result (shown word.now) }
 {

@@ -18,7 +18,7 @@ impl Model for Past {
 
 impl Past {
     /// Nothing was appended.
-    pub fn new() -> Past
+    pub(crate) fn new() -> Past
         ensures { result.text ≡ [] }
     {
         Past {}
@@ -26,7 +26,7 @@ impl Past {
 
     /// And then these bytes were.
     #[inline(always)]
-    pub fn and(&self, _bytes: &[u8]) -> Past
+    pub(crate) fn and(&self, _bytes: &[u8]) -> Past
         ensures { result.text ≡ self.now.text ++ _bytes.now }
     {
         Past {}

@@ -9,6 +9,10 @@ use itoa::{Buffer, Integer};
 use std::alloc::AllocError;
 
 /// Appends words.
+///
+/// # Errors
+///
+/// `AllocError` if what it writes to refuses a text.
 pub fn put<O: Out>(out: &mut O, words: &str) -> Result<(), AllocError>
     ensures text { OnOk result (O.text out.new ≡ O.text out.old ++ words.now) }
     ensures refused { OnErr result O.refuses }
@@ -17,7 +21,7 @@ pub fn put<O: Out>(out: &mut O, words: &str) -> Result<(), AllocError>
 }
 
 /// Appends a number, in decimal digits.
-pub fn put_number<N: Integer, O: Out>(out: &mut O, number: N) -> Result<(), AllocError>
+pub(crate) fn put_number<N: Integer, O: Out>(out: &mut O, number: N) -> Result<(), AllocError>
     ensures text { OnOk result (O.text out.new ≡ O.text out.old ++ N.text number) }
     ensures refused { OnErr result O.refuses }
 {
@@ -25,6 +29,10 @@ pub fn put_number<N: Integer, O: Out>(out: &mut O, number: N) -> Result<(), Allo
 }
 
 /// Appends words and then a number.
+///
+/// # Errors
+///
+/// `AllocError` if what it writes to refuses a text.
 pub fn put_field<N: Integer, O: Out>(out: &mut O, words: &str, number: N) -> Result<(), AllocError>
     ensures text { OnOk result (O.text out.new ≡ O.text out.old ++ (words.now ++ N.text number)) }
     ensures refused { OnErr result O.refuses }
@@ -34,7 +42,7 @@ pub fn put_field<N: Integer, O: Out>(out: &mut O, words: &str, number: N) -> Res
 }
 
 /// Appends words and a number, and then other words and a number.
-pub fn put_two<N: Integer, M: Integer, O: Out>(
+pub(crate) fn put_two<N: Integer, M: Integer, O: Out>(
     out: &mut O,
     words: &str,
     number: N,
@@ -50,7 +58,7 @@ pub fn put_two<N: Integer, M: Integer, O: Out>(
 }
 
 /// Appends at most 48 bytes, each as two lower case hexadecimal digits.
-pub fn put_hex<O: Out>(out: &mut O, bytes: &[u8]) -> Result<(), AllocError>
+pub(crate) fn put_hex<O: Out>(out: &mut O, bytes: &[u8]) -> Result<(), AllocError>
     requires { length bytes.now ≤ 48 }
     ensures text { OnOk result (O.text out.new ≡ O.text out.old ++ encode_lower bytes.now) }
     ensures refused { OnErr result O.refuses }

@@ -37,7 +37,7 @@ pub struct Answer {
 }
 
 /// Whether an end is as long as its endcode asks.
-pub fn is_long(b: &[u8]) -> bool
+pub(crate) fn is_long(b: &[u8]) -> bool
     ensures { result ≡ wire.is_long b.now }
 {
     b.len() >= 12 && b.len() >= least_end_of(b[8])
@@ -78,7 +78,7 @@ fn timeout_in(b: &[u8]) -> Option<u16>
 }
 
 /// Whether a number is there, and is this.
-pub fn is_it(found: Option<u32>, number: u32) -> bool
+pub(crate) fn is_it(found: Option<u32>, number: u32) -> bool
     ensures { result ≡ wire.is_it found number }
 {
     match found {

@@ -14,14 +14,14 @@ use mscp_drive::Connection;
 use mscp_packet::opcodes;
 
 /// Whether a command of this opcode changes the state of its unit: an AVAILABLE and an ONLINE do.
-pub fn turns(opcode: u8) -> bool
+pub(crate) fn turns(opcode: u8) -> bool
     ensures { result ≡ wire.turns opcode }
 {
     opcode == opcodes::AVAILABLE || opcode == opcodes::ONLINE
 }
 
 /// Whether a command does, and another is a GET UNIT STATUS of its unit, or of whichever is next.
-pub fn turns_beside(command: &Sent, status: &Sent) -> bool
+pub(crate) fn turns_beside(command: &Sent, status: &Sent) -> bool
     ensures { result ≡ wire.turns_beside command.now status.now }
 {
     turns(command.opcode)
@@ -31,14 +31,14 @@ pub fn turns_beside(command: &Sent, status: &Sent) -> bool
 }
 
 /// Whether a command changes the state of this unit of a connection.
-pub fn is_turning(connection: Connection, unit: u16, command: &Sent) -> bool
+pub(crate) fn is_turning(connection: Connection, unit: u16, command: &Sent) -> bool
     ensures { result ≡ wire.is_turning connection unit command.now }
 {
     turns(command.opcode) && command.connection == connection && command.unit == unit
 }
 
 /// Another command, once one that may have changed the state of its unit ended.
-pub fn marked(ended: &Sent, other: &Sent) -> Sent
+pub(crate) fn marked(ended: &Sent, other: &Sent) -> Sent
     ensures { result ≡ kept.besides ended.now other.now }
 {
     if turns_beside(ended, other) {

@@ -40,7 +40,7 @@ impl<A: Allocator> Model for Cells<A> {
 
 impl<A: Allocator + Copy> Cells<A> {
     /// None.
-    pub fn new(alloc: A) -> Cells<A>
+    pub(crate) fn new(alloc: A) -> Cells<A>
         ensures { result ≡ [] }
     {
         Cells {
@@ -50,7 +50,7 @@ impl<A: Allocator + Copy> Cells<A> {
     }
 
     /// How many.
-    pub fn len(&self) -> usize
+    pub(crate) fn len(&self) -> usize
         ensures count { result ≡ length self.now }
         ensures bound { result < 2 ^ 63 }
     {
@@ -58,14 +58,14 @@ impl<A: Allocator + Copy> Cells<A> {
     }
 
     /// What stands in them.
-    pub fn as_slice(&self) -> &[Option<Sent>]
+    pub(crate) fn as_slice(&self) -> &[Option<Sent>]
         ensures { result.now ≡ self.now }
     {
         self.cells.as_slice()
     }
 
     /// This stands in a cell.
-    pub fn put(&mut self, at: usize, command: Option<Sent>)
+    pub(crate) fn put(&mut self, at: usize, command: Option<Sent>)
         requires { at < length self.old }
         ensures { self.new ≡ set self.old at command }
     {
@@ -74,7 +74,7 @@ impl<A: Allocator + Copy> Cells<A> {
     }
 
     /// One cell more, in which this command stands.
-    pub fn push(&mut self, command: Sent) -> Result<(), AllocError>
+    pub(crate) fn push(&mut self, command: Sent) -> Result<(), AllocError>
         ensures pushed { OnOk result (self.new ≡ self.old ++ Some command ∷ []) }
         ensures refused { OnErr result (self.new ≡ self.old) }
     {
@@ -85,14 +85,14 @@ impl<A: Allocator + Copy> Cells<A> {
     }
 
     /// As many as are said, and no more.
-    pub fn truncate(&mut self, len: usize)
+    pub(crate) fn truncate(&mut self, len: usize)
         ensures { self.new ≡ take len self.old }
     {
         self.cells.truncate(len);
     }
 
     /// No cell is empty.
-    pub fn close_up(&mut self)
+    pub(crate) fn close_up(&mut self)
         ensures { self.new ≡ filter is_some self.old }
     {
         self.cells.retain(|cell| cell.is_some());
@@ -130,7 +130,7 @@ impl<A: Allocator + Copy> Cells<A> {
     }
 
     /// The same: cells whose tags say that none stands there aren't looked at.
-    pub fn next(&self, from: usize, end: usize, sought: &Sought) -> Option<usize>
+    pub(crate) fn next(&self, from: usize, end: usize, sought: &Sought) -> Option<usize>
         requires { end ≤ length self.now }
         ensures { IsNext (is_sought sought.now) self.now from end result }
     {
@@ -148,7 +148,7 @@ impl<A: Allocator + Copy> Cells<A> {
     }
 
     /// The cell in which the first stands that is sought, of so many, if one does.
-    pub fn first(&self, len: usize, sought: &Sought) -> Option<usize>
+    pub(crate) fn first(&self, len: usize, sought: &Sought) -> Option<usize>
         requires { len ≤ length self.now }
         ensures place { place_if (take len self.now) result
             ≡ position (is_sought sought.now) (sents (take len self.now)) }

@@ -83,7 +83,7 @@ impl<A: Allocator + Copy> Commands<A> {
     }
 
     /// The same, if there is one.
-    pub fn command_if(&self, at: Option<usize>) -> Option<Sent>
+    pub(crate) fn command_if(&self, at: Option<usize>) -> Option<Sent>
         requires { IfSome at (λ i. IsSome (cell self.now i)) }
         ensures { result ≡ wire.command_at_place (sents self.now) (place_if self.now at) }
     {
@@ -103,7 +103,7 @@ impl<A: Allocator + Copy> Commands<A> {
     }
 
     /// Whether one of them has this reference number on this connection.
-    pub fn has_named(&self, connection: Connection, reference: u32) -> bool
+    pub(crate) fn has_named(&self, connection: Connection, reference: u32) -> bool
         ensures { result ≡ list_any (wire.is_named connection reference) (sents self.now) }
     {
         if self.tallies.names.at(slot_of(connection, reference)) == 0 {
@@ -147,7 +147,7 @@ impl<A: Allocator + Copy> Commands<A> {
     }
 
     /// The cell in which the command that an end answers stands, if it does.
-    pub fn cell_of(&self, answer: &Answer) -> Option<usize>
+    pub(crate) fn cell_of(&self, answer: &Answer) -> Option<usize>
         ensures place { place_if self.now result ≡ wire.place_of (sents self.now) answer.now }
         ensures there { IfSome result (λ i. IsSome (cell self.now i)) }
     {
@@ -190,7 +190,7 @@ impl<A: Allocator + Copy> Commands<A> {
     }
 
     /// Whether an AVAILABLE or an ONLINE of a unit is outstanding.
-    pub fn has_turning(&self, connection: Connection, unit: u16) -> bool
+    pub(crate) fn has_turning(&self, connection: Connection, unit: u16) -> bool
         ensures { result ≡ list_any (wire.is_turning connection unit) (sents self.now) }
     {
         if self.tallies.fences.at(slot_of(connection, u32::from(unit))) == 0 {
@@ -229,6 +229,10 @@ impl<A: Allocator + Copy> Commands<A> {
     }
 
     /// One more came.
+    ///
+    /// # Errors
+    ///
+    /// `AllocError` if memory runs out.
     pub fn push(&mut self, command: Sent) -> Result<(), AllocError>
         ensures { OnOk result (sents self.new ≡ sents self.old ++ command ∷ []) }
     {
@@ -285,7 +289,7 @@ impl<A: Allocator + Copy> Commands<A> {
     }
 
     /// The list of them.
-    pub fn into_list(self, alloc: A) -> Result<Vec<Sent, A>, OutOfMemory>
+    pub(crate) fn into_list(self, alloc: A) -> Result<Vec<Sent, A>, OutOfMemory>
         ensures { IfOk result (λ list. list.items ≡ sents self) }
     {
         Ok(list_of(alloc, self.cells.as_slice())?)

@@ -215,6 +215,10 @@ impl<A: Allocator + Copy> Course<A> {
     }
 
     /// What comes of the line of this number: what isn't right in it, if something isn't.
+    ///
+    /// # Errors
+    ///
+    /// What is wrong with the line itself, or `OutOfMemory`.
     pub fn line(
         &mut self,
         alloc: A,
@@ -250,6 +254,10 @@ fn places_of<A: Allocator + Copy>(alloc: A, lines: &mut Lines<'_>) -> Result<Pla
 
 /// In which lines of a log is told what its first moment that isn't right is compared with: nowhere, if there is none,
 /// or if a line before it is at fault.
+///
+/// # Errors
+///
+/// `OutOfMemory` if memory runs out.
 pub fn places_in<A: Allocator + Copy>(alloc: A, bytes: &[u8]) -> Result<Places, OutOfMemory>
     ensures { IfOk result (λ places. places ≡ course.places_in bytes.now) }
 {

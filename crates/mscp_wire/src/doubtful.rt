@@ -135,7 +135,7 @@ fn doubtful_end<A: Allocator + Copy>(units: &Units<A>, answer: &Answer, command:
 }
 
 /// The same, if it answers one.
-pub fn doubtful_found<A: Allocator + Copy>(
+pub(crate) fn doubtful_found<A: Allocator + Copy>(
     units: &Units<A>,
     answer: &Answer,
     command: Option<Sent>,

@@ -45,7 +45,7 @@ fn message_in(envelope: &[u8], rest: &[u8]) -> Result<Option<ArrayVec<u8, 64>>, 
 }
 
 /// The same by all digits.
-pub fn enveloped(digits: &[u8]) -> Result<Option<ArrayVec<u8, 64>>, Cause>
+pub(crate) fn enveloped(digits: &[u8]) -> Result<Option<ArrayVec<u8, 64>>, Cause>
     ensures { result ≡ log.enveloped digits.now }
 {
     if digits.len() < DIGITS {

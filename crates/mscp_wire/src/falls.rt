@@ -48,7 +48,7 @@ fn fall_polled(command: &Sent, answer: &Answer, polled: Option<u32>) -> u32
 }
 
 /// The same by the end of this command, if there is one.
-pub fn fall_found(answer: &Answer, command: Option<Sent>) -> u32
+pub(crate) fn fall_found(answer: &Answer, command: Option<Sent>) -> u32
     ensures { result ≡ total.fall_found answer.now command }
 {
     match command {

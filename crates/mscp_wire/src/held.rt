@@ -15,14 +15,14 @@ use mscp_drive::Connection;
 use std::alloc::{AllocError, Allocator};
 
 /// The command in a cell, if one is there.
-pub fn command_in(cells: &[Option<Sent>], at: usize) -> Option<Sent>
+pub(crate) fn command_in(cells: &[Option<Sent>], at: usize) -> Option<Sent>
     ensures { result ≡ cell cells.now at }
 {
     cells.get(at).copied().unwrap_or(None)
 }
 
 /// The same, if there is such a cell.
-pub fn command_if(cells: &[Option<Sent>], at: Option<usize>) -> Option<Sent>
+pub(crate) fn command_if(cells: &[Option<Sent>], at: Option<usize>) -> Option<Sent>
     requires { IfSome at (λ i. IsSome (cell cells.now i)) }
     ensures { result ≡ wire.command_at_place (sents cells.now) (place_if cells.now at) }
 {
@@ -53,7 +53,7 @@ pub enum Sought {
 
 /// Whether a command is one that is sought.
 #[inline(always)]
-pub fn is_sought(sought: &Sought, command: &Sent) -> bool
+pub(crate) fn is_sought(sought: &Sought, command: &Sent) -> bool
     ensures { result ≡ is_sought sought.now command.now }
 {
     match sought {
@@ -69,7 +69,7 @@ pub fn is_sought(sought: &Sought, command: &Sent) -> bool
 
 /// Whether one that is sought stands in a cell.
 #[inline(always)]
-pub fn stands(cell: &Option<Sent>, sought: &Sought) -> bool
+pub(crate) fn stands(cell: &Option<Sent>, sought: &Sought) -> bool
     ensures { result ≡ stands (is_sought sought.now) cell.now }
 {
     match cell {
@@ -79,7 +79,10 @@ pub fn stands(cell: &Option<Sent>, sought: &Sought) -> bool
 }
 
 /// The list of those in cells.
-pub fn list_of<A: Allocator>(alloc: A, cells: &[Option<Sent>]) -> Result<Vec<Sent, A>, AllocError>
+pub(crate) fn list_of<A: Allocator>(
+    alloc: A,
+    cells: &[Option<Sent>],
+) -> Result<Vec<Sent, A>, AllocError>
     ensures { IfOk result (λ list. list.items ≡ sents cells.now) }
 {
     let mut list = Vec::new(alloc);
@@ -103,7 +106,7 @@ fn push_if<A: Allocator>(list: &mut Vec<Sent, A>, command: Option<Sent>) -> Resu
 }
 
 /// Keeps in which cell a command stands, by its name.
-pub fn note<A: Allocator>(last: &mut Vec<u32, A>, command: &Sent, at: usize) {
+pub(crate) fn note<A: Allocator>(last: &mut Vec<u32, A>, command: &Sent, at: usize) {
     let slot = slot_of(command.connection, command.reference);
     if let Ok(at) = u32::try_from(at) {
         if slot < last.len() {
@@ -113,7 +116,7 @@ pub fn note<A: Allocator>(last: &mut Vec<u32, A>, command: &Sent, at: usize) {
 }
 
 /// The same of each.
-pub fn note_all<A: Allocator>(cells: &[Option<Sent>], last: &mut Vec<u32, A>) {
+pub(crate) fn note_all<A: Allocator>(cells: &[Option<Sent>], last: &mut Vec<u32, A>) {
     for at in 0..cells.len() {
         if let Some(command) = command_in(cells, at) {
             note(last, &command, at);

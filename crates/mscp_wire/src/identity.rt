@@ -38,7 +38,7 @@ impl Identity {
 }
 
 /// Whether the flags of a unit in an end say that it is protected from writing (manual, "Unit Flags").
-pub fn protected_in(b: &[u8]) -> bool
+pub(crate) fn protected_in(b: &[u8]) -> bool
     requires { 12 ≤ length b.now }
     ensures { result ≡ wire.protected_in b.now }
 {
@@ -46,7 +46,7 @@ pub fn protected_in(b: &[u8]) -> bool
 }
 
 /// How many blocks all copies of a unit's replacement and caching table have, if an end is long enough to tell it.
-pub fn table_in(b: &[u8]) -> Option<u32>
+pub(crate) fn table_in(b: &[u8]) -> Option<u32>
     requires { 12 ≤ length b.now }
     ensures { result ≡ wire.table_in b.now }
 {
@@ -58,7 +58,7 @@ pub fn table_in(b: &[u8]) -> Option<u32>
 }
 
 /// The later of two numbers, if it is there.
-pub fn later_number(new: Option<u32>, known: Option<u32>) -> Option<u32>
+pub(crate) fn later_number(new: Option<u32>, known: Option<u32>) -> Option<u32>
     ensures { result ≡ wire.later_of new known }
 {
     match new {
@@ -78,7 +78,7 @@ fn fits_size(one: Option<u32>, other: Option<u32>) -> bool
 }
 
 /// Whether an end tells of a unit what is known of it.
-pub fn agrees(told: Option<Identity>, known: &Identity) -> bool
+pub(crate) fn agrees(told: Option<Identity>, known: &Identity) -> bool
     ensures { result ≡ wire.agrees told known.now }
 {
     match told {

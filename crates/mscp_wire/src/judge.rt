@@ -28,7 +28,7 @@ use mscp_packet::is_immediate;
 use std::alloc::Allocator;
 
 /// The most credits of a host: more than any controller gives, and few enough to be looked through.
-pub const MOST_CREDITS: u32 = 1024;
+pub(crate) const MOST_CREDITS: u32 = 1024;
 
 /// How many credits each host has at most.
 fn limit_of(credits: Option<u32>) -> u32
@@ -270,6 +270,10 @@ impl<A: Allocator + Copy> Judge<A> {
 
     /// An end came, which is settled or not: the command at its place isn't outstanding any more, and what it tells is
     /// known.
+    ///
+    /// # Errors
+    ///
+    /// `OutOfMemory` if memory runs out.
     pub fn ended(
         &mut self,
         answer: &Answer,
@@ -358,6 +362,10 @@ impl<A: Allocator + Copy> Judge<A> {
     }
 
     /// What comes of a moment. If it breaks no rule it is added to those before it.
+    ///
+    /// # Errors
+    ///
+    /// `OutOfMemory` if memory runs out.
     pub fn step(&mut self, moment: &Moment) -> Result<Stepped, OutOfMemory>
         ensures rule { IfOk result (λ o. o.rule ≡ wire.broken self.old.credits (sents self.old.commands)
             (wire.seen_of (sents self.old.commands) (wire.kept self.old.units) self.old.controller moment.now)

@@ -255,6 +255,10 @@ fn said_in(mut words: Words<'_>) -> Result<Said, Cause>
 }
 
 /// What the line of this number says.
+///
+/// # Errors
+///
+/// What is wrong with the line: the first cause in the order of `Cause`.
 #[inline(never)]
 #[tactic(auto, unfolding(crate::specs::Log::line_says))]
 pub fn line_says(number: u32, line: &[u8]) -> Result<Said, ScriptFault>

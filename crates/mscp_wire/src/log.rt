@@ -64,6 +64,10 @@ fn judged<A: Allocator + Copy>(alloc: A, bytes: &[u8]) -> Result<Verdict<A>, Rea
 
 /// Judges a log of the wire: says that each of its moments is right, or the first that isn't, unless a line before it
 /// is at fault.
+///
+/// # Errors
+///
+/// The first line at fault, if all moments before it are right, or `OutOfMemory`.
 pub fn judge_wire<A: Allocator + Copy>(alloc: A, bytes: &[u8]) -> Result<Verdict<A>, ReadFault>
     ensures judges { Judges result bytes.now }
     // And whatever comes of a log is said of it, so that each log of which all moments are right is judged to be right.

@@ -177,6 +177,10 @@ impl<A: Allocator + Copy> Mentions<A> {
     }
 
     /// The line of this number tells a moment that counts.
+    ///
+    /// # Errors
+    ///
+    /// `OutOfMemory` if memory runs out.
     pub fn hear(&mut self, number: u32, moment: &Moment) -> Result<(), OutOfMemory>
         requires { course.is_named_in moment.now ≡ true }
         ensures { OnOk result ((via : connections.Connection) (reference : ℕ)

@@ -224,7 +224,11 @@ impl<A: Allocator + Copy> Middle<A> {
 }
 
 /// Whether this rule isn't asked of a moment.
-pub fn spares<A: Allocator + Copy>(middle: &Option<Middle<A>>, moment: &Moment, rule: Rule) -> bool
+pub(crate) fn spares<A: Allocator + Copy>(
+    middle: &Option<Middle<A>>,
+    moment: &Moment,
+    rule: Rule,
+) -> bool
     ensures { (log : Log) → middles.IsMiddleOf log middle.now → result ≡ spared log moment.now rule }
 {
     match middle {
@@ -234,7 +238,11 @@ pub fn spares<A: Allocator + Copy>(middle: &Option<Middle<A>>, moment: &Moment, 
 }
 
 /// Whether a moment that breaks this rule tells a figure that is doubtful.
-pub fn is_slow<A: Allocator + Copy>(middle: &Option<Middle<A>>, moment: &Moment, rule: Rule) -> bool
+pub(crate) fn is_slow<A: Allocator + Copy>(
+    middle: &Option<Middle<A>>,
+    moment: &Moment,
+    rule: Rule,
+) -> bool
     ensures { (log : Log) → middles.IsMiddleOf log middle.now
         → broken_by log.credits log.moments moment.now ≡ Some rule
         → result ≡ begun.is_slow log.begun log.credits log.moments moment.now }
@@ -246,7 +254,7 @@ pub fn is_slow<A: Allocator + Copy>(middle: &Option<Middle<A>>, moment: &Moment,
 }
 
 /// Whether a rule is that by which an end answers a command that is outstanding.
-pub fn is_outstanding(rule: Rule) -> bool
+pub(crate) fn is_outstanding(rule: Rule) -> bool
     ensures { result ≡ is_outstanding rule }
 {
     matches!(rule, Rule::Outstanding)
@@ -260,7 +268,7 @@ fn is_initial(moment: &Moment) -> bool
 }
 
 /// A moment came that counts: a reset ends the middle.
-pub fn hear_if<A: Allocator + Copy>(
+pub(crate) fn hear_if<A: Allocator + Copy>(
     middle: &mut Option<Middle<A>>,
     moment: &Moment,
 ) -> Result<(), AllocError>
@@ -279,7 +287,7 @@ pub fn hear_if<A: Allocator + Copy>(
 }
 
 /// The end of a command came that the log doesn't send.
-pub fn hear_stranger<A: Allocator + Copy>(
+pub(crate) fn hear_stranger<A: Allocator + Copy>(
     middle: &mut Option<Middle<A>>,
     moment: &Moment,
 ) -> Result<(), AllocError>

@@ -16,6 +16,10 @@ use std::alloc::Allocator;
 
 impl<A: Allocator + Copy> Judge<A> {
     /// A command came at this time: it is outstanding.
+    ///
+    /// # Errors
+    ///
+    /// `OutOfMemory` if memory runs out.
     pub fn hear(&mut self, sent: &Sent, time: Option<u64>) -> Result<(), OutOfMemory>
         ensures after { OnOk result (sents self.new.commands ≡ sents self.old.commands
             ++ wire.asking self.old.timeout (sents self.old.commands) (wire.timed time sent.now) ∷ []) }
@@ -87,7 +91,7 @@ impl<A: Allocator + Copy> Judge<A> {
     }
 
     /// A moment is added to those before it, right or not.
-    pub fn accept(&mut self, moment: &Moment) -> Result<(), OutOfMemory>
+    pub(crate) fn accept(&mut self, moment: &Moment) -> Result<(), OutOfMemory>
         requires { counts (sents self.old.commands) moment.now ≡ true }
         ensures after { OnOk result (sents self.new.commands
             ≡ wire.after self.old.timeout (sents self.old.commands) moment.now) }

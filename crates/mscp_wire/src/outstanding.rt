@@ -12,7 +12,7 @@ use mscp_packet::{codes, opcodes};
 use std::alloc::Allocator;
 
 /// Whether a command is an ABORT of another.
-pub fn aborts(command: &Sent, abort: &Sent) -> bool
+pub(crate) fn aborts(command: &Sent, abort: &Sent) -> bool
     ensures { result ≡ wire.aborts command.now abort.now }
 {
     abort.connection == command.connection
@@ -21,7 +21,7 @@ pub fn aborts(command: &Sent, abort: &Sent) -> bool
 }
 
 /// Whether the command in a cell is aborted only while an ABORT of it is outstanding that came after it.
-pub fn has_abort<A: Allocator + Copy>(
+pub(crate) fn has_abort<A: Allocator + Copy>(
     commands: &Commands<A>,
     at: usize,
     command: &Sent,
@@ -34,7 +34,7 @@ pub fn has_abort<A: Allocator + Copy>(
 }
 
 /// Whether an earlier command keeps another back: both are of one unit, and one of them is sequential.
-pub fn keeps_back(command: &Sent, earlier: &Sent) -> bool
+pub(crate) fn keeps_back(command: &Sent, earlier: &Sent) -> bool
     ensures { result ≡ wire.keeps_back command.now earlier.now }
 {
     if earlier.connection != command.connection || earlier.unit != command.unit {
@@ -47,7 +47,7 @@ pub fn keeps_back(command: &Sent, earlier: &Sent) -> bool
 }
 
 /// Whether a status of this code may come before earlier commands of the unit end.
-pub fn is_apart(code: u16) -> bool
+pub(crate) fn is_apart(code: u16) -> bool
     ensures { result ≡ wire.is_apart code }
 {
     code == codes::INVALID_COMMAND || code == codes::ABORTED || code == codes::UNIT_OFFLINE

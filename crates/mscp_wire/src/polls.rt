@@ -15,7 +15,7 @@ use mscp_packet::{is_immediate, opcodes};
 use std::alloc::Allocator;
 
 /// Whether a command of this connection isn't answered when it arrives, so that its host waits for it.
-pub fn waits_on(connection: Connection, command: &Sent) -> bool
+pub(crate) fn waits_on(connection: Connection, command: &Sent) -> bool
     ensures { result ≡ wire.waits_on connection command.now }
 {
     command.connection == connection && !is_immediate(command.opcode)
@@ -106,7 +106,7 @@ fn asked_by<A: Allocator + Copy>(
 }
 
 /// A command, once it is known what it asks as a poll of those that are outstanding, by the controller timeout.
-pub fn asking<A: Allocator + Copy>(
+pub(crate) fn asking<A: Allocator + Copy>(
     timeout: Option<u16>,
     commands: &Commands<A>,
     command: &Sent,
@@ -160,7 +160,7 @@ fn asks_gone(asked: Asked) -> bool
 }
 
 /// Whether the figure that an end tells is right, if its command, which stands in a cell, is a poll of this other one.
-pub fn has_figure<A: Allocator + Copy>(
+pub(crate) fn has_figure<A: Allocator + Copy>(
     commands: &Commands<A>,
     at: usize,
     poll: &Sent,
@@ -183,7 +183,7 @@ pub fn has_figure<A: Allocator + Copy>(
 }
 
 /// Whether a poll asks of the oldest command.
-pub fn asks_oldest(asked: Asked) -> bool
+pub(crate) fn asks_oldest(asked: Asked) -> bool
     ensures { result ≡ wire.asks_oldest asked }
 {
     matches!(asked, Asked::Oldest(_))
@@ -199,7 +199,7 @@ pub fn polls(command: &Sent, other: &Sent) -> bool
 }
 
 /// What a poll asks once the command that it names ended.
-pub fn left(asked: Asked) -> Asked
+pub(crate) fn left(asked: Asked) -> Asked
     ensures { result ≡ wire.left asked }
 {
     match asked {
@@ -209,7 +209,7 @@ pub fn left(asked: Asked) -> Asked
 }
 
 /// Another command, once one ended.
-pub fn leaves(ended: &Sent, other: &Sent) -> Sent
+pub(crate) fn leaves(ended: &Sent, other: &Sent) -> Sent
     ensures { result ≡ kept.leaves ended.now other.now }
 {
     if polls(ended, other) {
@@ -223,7 +223,7 @@ pub fn leaves(ended: &Sent, other: &Sent) -> Sent
 }
 
 /// A command, if it has this name, once a poll of this time told this figure of it.
-pub fn tells(
+pub(crate) fn tells(
     name: (Connection, u32),
     figure: Option<u32>,
     time: Option<u64>,
@@ -260,7 +260,7 @@ fn tell_in<A: Allocator + Copy>(
 }
 
 /// What stands in all of them, once such a poll told it.
-pub fn tell_all<A: Allocator + Copy>(
+pub(crate) fn tell_all<A: Allocator + Copy>(
     cells: &mut Cells<A>,
     name: (Connection, u32),
     figure: Option<u32>,

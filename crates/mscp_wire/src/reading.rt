@@ -35,7 +35,7 @@ pub struct Reading<A: Allocator> {
 }
 
 /// A line of this number may not say what it does here.
-pub fn misplaced(number: u32) -> ReadFault
+pub(crate) fn misplaced(number: u32) -> ReadFault
     ensures { result ≡ ReadFault.Script (record { line = number; cause = Cause.Word }) }
 {
     ReadFault::Script(ScriptFault {
@@ -198,6 +198,10 @@ impl<A: Allocator + Copy> Reading<A> {
     }
 
     /// What comes of the line of this number.
+    ///
+    /// # Errors
+    ///
+    /// What is wrong with the line itself, or `OutOfMemory`.
     pub fn line(&mut self, alloc: A, number: u32, bytes: &[u8]) -> Result<Option<Wrong>, ReadFault>
         requires line { 1 ≤ number }
         requires few { HasFew self.old number }

@@ -51,7 +51,7 @@ pub struct Sent {
 }
 
 /// The number in the four bytes from a place on, if there are so many.
-pub fn four_in(b: &[u8], at: usize) -> Option<u32>
+pub(crate) fn four_in(b: &[u8], at: usize) -> Option<u32>
     requires { at ≤ 64 }
     ensures { result ≡ four_in b.now at }
 {
@@ -127,21 +127,21 @@ impl Sent {
 }
 
 /// Whether it keeps its place among the commands of its unit.
-pub fn is_sequential(opcode: u8) -> bool
+pub(crate) fn is_sequential(opcode: u8) -> bool
     ensures { result ≡ is_sequential opcode }
 {
     matches!(class_of(opcode), Class::Sequential)
 }
 
 /// Whether no row of the table of opcodes has it.
-pub fn is_unknown(opcode: u8) -> bool
+pub(crate) fn is_unknown(opcode: u8) -> bool
     ensures { result ≡ is_unknown opcode }
 {
     matches!(class_of(opcode), Class::Unknown)
 }
 
 /// Whether it is a transfer.
-pub fn is_transfer(opcode: u8) -> bool
+pub(crate) fn is_transfer(opcode: u8) -> bool
     ensures { result ≡ is_transfer opcode }
 {
     matches!(class_of(opcode), Class::Free)
@@ -149,14 +149,14 @@ pub fn is_transfer(opcode: u8) -> bool
 
 /// Whether it has its place among the commands of its unit, too: a transfer, or one of DETERMINE ACCESS PATHS, COMPARE
 /// CONTROLLER DATA, FLUSH and REPLACE.
-pub fn is_ordered(opcode: u8) -> bool
+pub(crate) fn is_ordered(opcode: u8) -> bool
     ensures { result ≡ is_ordered opcode }
 {
     matches!(scheduled_as(opcode), Class::Free)
 }
 
 /// Whether no controller may leave it out.
-pub fn is_required(opcode: u8) -> bool
+pub(crate) fn is_required(opcode: u8) -> bool
     ensures { result ≡ is_required opcode }
 {
     matches!(

@@ -99,6 +99,10 @@ impl<A: Allocator + Copy> Table<A> {
     }
 
     /// This is kept of a unit.
+    ///
+    /// # Errors
+    ///
+    /// `AllocError` if memory runs out.
     pub fn put(&mut self, number: u16, first: Told, second: Told) -> Result<(), AllocError>
         ensures { OnOk result ((other : ℕ) → found self.new other
             ≡ (if nat_eq number other then Some (record { number = number; first = first; second = second })

@@ -66,7 +66,7 @@ fn tag_of(command: &Sent) -> u16
 }
 
 /// The tag of what stands in a cell.
-pub fn tag_if(cell: &Option<Sent>) -> u16
+pub(crate) fn tag_if(cell: &Option<Sent>) -> u16
     ensures { result ≡ kept.tag_if cell.now }
 {
     match cell {
@@ -76,7 +76,7 @@ pub fn tag_if(cell: &Option<Sent>) -> u16
 }
 
 /// Each cell has the tag of what stands in it.
-pub fn tag_all<A: Allocator>(tags: &mut Vec<u16, A>, cells: &[Option<Sent>])
+pub(crate) fn tag_all<A: Allocator>(tags: &mut Vec<u16, A>, cells: &[Option<Sent>])
     requires { length cells.now ≤ length tags.old.items }
     ensures { kept.AreTagged cells.now tags.new.items }
 {
@@ -111,7 +111,7 @@ fn tags_beside(command: &Sent) -> (u16, u16)
 }
 
 /// Two tags of which each has one that is sought, if there are such.
-pub fn tags_of(sought: &Sought) -> Option<(u16, u16)>
+pub(crate) fn tags_of(sought: &Sought) -> Option<(u16, u16)>
     ensures { IfSome result (λ tags. (s : sents.Sent) → is_sought sought.now s ≡ true
         → (nat_eq (kept.tag_of s) tags.0 || nat_eq (kept.tag_of s) tags.1) ≡ true) }
 {
@@ -132,7 +132,7 @@ pub fn tags_of(sought: &Sought) -> Option<(u16, u16)>
 }
 
 /// What is left over of the tag of each command for which the host of a connection waits, if it is divided by 4.
-pub fn tag_waiting(connection: Connection) -> u16
+pub(crate) fn tag_waiting(connection: Connection) -> u16
     ensures { result ≡ kept.tag connection 0 false }
 {
     tag(connection, 0, false)
@@ -152,7 +152,7 @@ fn have(tags: &[u16], tag: u16) -> bool
 }
 
 /// Whether one of two is.
-pub fn have_either(tags: &[u16], one: u16, other: u16) -> bool
+pub(crate) fn have_either(tags: &[u16], one: u16, other: u16) -> bool
     ensures { result ≡ false → (i : ℕ) → i < length tags.now
         → (nat_eq (get_or tags.now i 0) one || nat_eq (get_or tags.now i 0) other) ≡ false }
 {
@@ -163,7 +163,7 @@ pub fn have_either(tags: &[u16], one: u16, other: u16) -> bool
 }
 
 /// Whether this is left over of one of them, if it is divided by 4.
-pub fn have_left(tags: &[u16], left: u16) -> bool
+pub(crate) fn have_left(tags: &[u16], left: u16) -> bool
     ensures { result ≡ false → (i : ℕ) → i < length tags.now
         → nat_eq (get_or tags.now i 0 % 4) left ≡ false }
 {

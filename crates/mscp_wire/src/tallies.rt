@@ -105,7 +105,7 @@ fn by_next(command: &Sent) -> Option<usize>
 }
 
 /// Whether a command is of a connection.
-pub fn is_on(connection: Connection, command: &Sent) -> bool
+pub(crate) fn is_on(connection: Connection, command: &Sent) -> bool
     ensures { result ≡ kept.is_on connection command.now }
 {
     command.connection == connection
@@ -129,7 +129,7 @@ fn one_less(count: usize, does: bool) -> usize
 
 impl<A: Allocator + Copy> Tallies<A> {
     /// Of no command: there are none on either connection.
-    pub fn none(alloc: A) -> Tallies<A>
+    pub(crate) fn none(alloc: A) -> Tallies<A>
         ensures { kept.IsKept [] result }
     {
         Tallies {
@@ -145,7 +145,7 @@ impl<A: Allocator + Copy> Tallies<A> {
     }
 
     /// The same, with each count known, unless memory is refused.
-    pub fn begin(&mut self) -> Result<(), AllocError>
+    pub(crate) fn begin(&mut self) -> Result<(), AllocError>
         ensures { kept.IsKept [] self.old → kept.IsKept [] self.new }
     {
         self.names.begin()?;
@@ -158,7 +158,7 @@ impl<A: Allocator + Copy> Tallies<A> {
     }
 
     /// One more came.
-    pub fn add(&mut self, command: &Sent)
+    pub(crate) fn add(&mut self, command: &Sent)
         requires { kept.IsFew self.old }
         ensures { (xs : List sents.Sent) → kept.IsKept xs self.old
             → kept.IsKept (xs ++ command.now ∷ []) self.new }
@@ -174,7 +174,7 @@ impl<A: Allocator + Copy> Tallies<A> {
     }
 
     /// One isn't outstanding any more.
-    pub fn subtract(&mut self, command: &Sent)
+    pub(crate) fn subtract(&mut self, command: &Sent)
         requires { kept.IsCounted command.now self.old }
         ensures { (xs : List sents.Sent) (i : ℕ) → i < length xs → command.now ≡ command_at xs i
             → kept.IsKept xs self.old → kept.IsKept (remove xs i) self.new }
@@ -191,7 +191,7 @@ impl<A: Allocator + Copy> Tallies<A> {
 
     /// Whether it is soon seen that no GET UNIT STATUS is outstanding of this unit or of whichever is next, whose unit
     /// had one state so far.
-    pub fn has_no_status(&self, connection: Connection, unit: u16) -> bool
+    pub(crate) fn has_no_status(&self, connection: Connection, unit: u16) -> bool
         ensures { result ≡ kept.has_none connection unit self.now }
     {
         self.statuses.at(slot_of(connection, u32::from(unit))) == 0
@@ -199,7 +199,7 @@ impl<A: Allocator + Copy> Tallies<A> {
     }
 
     /// The unit of one may have had two states since it came.
-    pub fn mark(&mut self, command: &Sent)
+    pub(crate) fn mark(&mut self, command: &Sent)
         ensures { (xs : List sents.Sent) (i : ℕ) → i < length xs → command.now ≡ command_at xs i
             → kept.IsKept xs self.old → kept.IsKept (set xs i (record command.now { beside = true })) self.new }
     {
@@ -208,7 +208,7 @@ impl<A: Allocator + Copy> Tallies<A> {
     }
 
     /// A poll asks something else, or nothing.
-    pub fn leave(&mut self, poll: &Sent)
+    pub(crate) fn leave(&mut self, poll: &Sent)
         ensures { (xs : List sents.Sent) (i : ℕ) → i < length xs → poll.now ≡ command_at xs i
             → kept.IsKept xs self.old
             → kept.IsKept (set xs i (record poll.now { asked = left poll.now.asked })) self.new }

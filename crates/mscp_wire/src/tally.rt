@@ -9,7 +9,7 @@ use mscp_drive::Connection;
 use std::alloc::{AllocError, Allocator};
 
 /// How many numbers there are.
-pub const SLOTS: usize = 131_072;
+pub(crate) const SLOTS: usize = 131_072;
 
 /// A count that stays: so many or more, or nobody knows how many.
 const MANY: u16 = 65_535;
@@ -22,7 +22,7 @@ pub struct Tally<A: Allocator> {
 }
 
 /// The number for a number of a connection. Two may have the same.
-pub fn slot_of(connection: Connection, number: u32) -> usize
+pub(crate) fn slot_of(connection: Connection, number: u32) -> usize
     ensures { result ≡ slot_of connection number }
 {
     let key = match connection {
@@ -53,7 +53,7 @@ fn fewer(count: u16) -> u16
 
 impl<A: Allocator> Tally<A> {
     /// Nothing is known.
-    pub fn unknown(alloc: A) -> Tally<A>
+    pub(crate) fn unknown(alloc: A) -> Tally<A>
         ensures { (i : ℕ) → get_or result.counts.items i 65535 ≡ 65535 }
     {
         Tally {
@@ -62,14 +62,14 @@ impl<A: Allocator> Tally<A> {
     }
 
     /// Whether nothing is known.
-    pub fn is_unknown(&self) -> bool
+    pub(crate) fn is_unknown(&self) -> bool
         ensures { result ≡ nat_eq (length self.now.counts.items) 0 }
     {
         self.counts.is_empty()
     }
 
     /// No command falls to any number. Without memory some aren't known.
-    pub fn begin(&mut self) -> Result<(), AllocError>
+    pub(crate) fn begin(&mut self) -> Result<(), AllocError>
         ensures { (i : ℕ) → get_or self.new.counts.items i 65535 < 65535 → get_or self.new.counts.items i 65535 ≡ 0 }
     {
         self.counts.clear();
@@ -81,7 +81,7 @@ impl<A: Allocator> Tally<A> {
     }
 
     /// How many fall to a number, or 65,535 if that isn't known.
-    pub fn at(&self, slot: usize) -> u16
+    pub(crate) fn at(&self, slot: usize) -> u16
         ensures { result ≡ get_or self.now.counts.items slot 65535 }
     {
         if slot < self.counts.len() {
@@ -101,7 +101,7 @@ impl<A: Allocator> Tally<A> {
     }
 
     /// One more does, if it is counted.
-    pub fn add(&mut self, slot: Option<usize>)
+    pub(crate) fn add(&mut self, slot: Option<usize>)
         ensures { (i : ℕ) → get_or self.new.counts.items i 65535 ≡ (if is_it slot i
             then more (get_or self.old.counts.items i 65535) else get_or self.old.counts.items i 65535) }
     {
@@ -111,7 +111,7 @@ impl<A: Allocator> Tally<A> {
     }
 
     /// One fewer does, if it was counted.
-    pub fn subtract(&mut self, slot: Option<usize>)
+    pub(crate) fn subtract(&mut self, slot: Option<usize>)
         ensures { (i : ℕ) → get_or self.new.counts.items i 65535 ≡ (if is_it slot i
             then fewer (get_or self.old.counts.items i 65535) else get_or self.old.counts.items i 65535) }
     {

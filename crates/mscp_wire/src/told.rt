@@ -40,7 +40,7 @@ pub struct Seen {
 }
 
 /// The later of two numbers, if it is there.
-pub fn later_of(new: Option<u64>, known: Option<u64>) -> Option<u64>
+pub(crate) fn later_of(new: Option<u64>, known: Option<u64>) -> Option<u64>
     ensures { result ≡ wire.later_of new known }
 {
     match new {
@@ -50,7 +50,7 @@ pub fn later_of(new: Option<u64>, known: Option<u64>) -> Option<u64>
 }
 
 /// The same of two timeouts.
-pub fn later_time(new: Option<u16>, known: Option<u16>) -> Option<u16>
+pub(crate) fn later_time(new: Option<u16>, known: Option<u16>) -> Option<u16>
     ensures { result ≡ wire.later_of new known }
 {
     match new {
@@ -71,7 +71,7 @@ impl Seen {
     }
 
     /// Whether an end tells the identifier of the controller that was told.
-    pub fn is_same_controller(&self, answer: &Answer) -> bool
+    pub(crate) fn is_same_controller(&self, answer: &Answer) -> bool
         ensures { result ≡ wire.fits self.now.controller answer.now.controller }
     {
         match (self.controller, answer.controller) {

@@ -105,7 +105,7 @@ impl<A: Allocator + Copy> Units<A> {
     }
 
     /// Whether an end says that its unit is online and has an identifier that another one has.
-    pub fn is_called_twice(&self, answer: &Answer) -> bool
+    pub(crate) fn is_called_twice(&self, answer: &Answer) -> bool
         ensures { result ≡ doubt.is_called_twice (wire.kept self.now) (wire.kept_called self.now)
             (wire.called_in answer.now) answer.now }
     {
@@ -150,6 +150,10 @@ impl<A: Allocator + Copy> Units<A> {
     }
 
     /// What was told once an end came, which is settled or not.
+    ///
+    /// # Errors
+    ///
+    /// `OutOfMemory` if memory runs out.
     pub fn hear_end(&mut self, answer: &Answer, settled: bool) -> Result<(), OutOfMemory>
         ensures told { OnOk result ((via : connections.Connection) (unit : ℕ) → wire.kept self.new via unit
             ≡ wire.told_after_end via unit settled (wire.kept self.old via unit) answer.now) }
@@ -170,7 +174,7 @@ impl<A: Allocator + Copy> Units<A> {
     }
 
     /// And once a command came.
-    pub fn hear_command(&mut self, sent: &Sent) -> Result<(), OutOfMemory>
+    pub(crate) fn hear_command(&mut self, sent: &Sent) -> Result<(), OutOfMemory>
         ensures told { OnOk result ((via : connections.Connection) (unit : ℕ) → wire.kept self.new via unit
             ≡ wire.told_after_message via unit (wire.kept self.old via unit) sent.now) }
         ensures called { (identifier : ℕ)

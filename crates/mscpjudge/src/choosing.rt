@@ -92,7 +92,7 @@ fn with_flag<'a>(word: &str, flag: &str, file: &'a str) -> Result<Asked<'a>, Fau
 
 /// What the words of a command line ask for, without the program's name: `legal`, `host`, or `wire` with or without
 /// `--all` or `--show`, and a file or none. It is `legal` if there are none. It takes no memory.
-pub fn asking_of(words: &[String]) -> Result<Asked<'_>, Fault>
+pub(crate) fn asking_of(words: &[String]) -> Result<Asked<'_>, Fault>
     ensures { Gives seen result (chosen (map string_bytes words.now)) }
 {
     match words {

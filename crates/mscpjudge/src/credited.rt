@@ -52,7 +52,7 @@ fn judged_by(
 }
 
 /// Judges a log of the wire, and the credits that its envelopes tell.
-pub fn judge_credited(alloc: Global, bytes: &[u8]) -> Result<Verdict<Global>, ReadFault>
+pub(crate) fn judge_credited(alloc: Global, bytes: &[u8]) -> Result<Verdict<Global>, ReadFault>
     ensures judges { JudgesAll result bytes.now }
     ensures only { (came : Result (Result Log wrongs.Wrong) faults.ScriptFault) → ComesOf bytes.now came
         → Says result came }

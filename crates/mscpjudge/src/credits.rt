@@ -62,7 +62,7 @@ fn has_none(known: Option<Credits>) -> bool
 
 impl Account {
     /// Of which nothing is known.
-    pub fn unknown() -> Account
+    pub(crate) fn unknown() -> Account
         ensures { result ≡ told.unknown }
     {
         Account {
@@ -193,7 +193,7 @@ impl Account {
     }
 
     /// The credits of the host whose command breaks the rule on them, if one does.
-    pub fn told_in(&self, wrong: &Wrong) -> Option<Credits>
+    pub(crate) fn told_in(&self, wrong: &Wrong) -> Option<Credits>
         ensures { result ≡ told.credits_by wrong.now.rule wrong.now.command self.now }
     {
         match (wrong.rule, wrong.command) {
@@ -203,7 +203,7 @@ impl Account {
     }
 
     /// Reads the line of this number: what is wrong of it.
-    pub fn line(&mut self, number: u32, line: &[u8]) -> Option<Wrong>
+    pub(crate) fn line(&mut self, number: u32, line: &[u8]) -> Option<Wrong>
         requires { 1 ≤ number }
         ensures breach { result ≡ told.line_breach number self.old line.now }
         ensures after { self.new ≡ told.after_line number self.old line.now }
@@ -250,7 +250,7 @@ fn lines_breach(log: &[u8]) -> Option<Wrong>
 
 /// The first message without a credit in a log, where hosts' packets have envelopes.
 #[tactic(auto, unfolding(crate::specs::Credits::log_breach))]
-pub fn log_breach(log: &[u8]) -> Option<Wrong>
+pub(crate) fn log_breach(log: &[u8]) -> Option<Wrong>
     ensures { result ≡ told.log_breach log.now }
 {
     if has_packets(log) {
@@ -286,7 +286,7 @@ fn account_before(log: &[u8], number: u32) -> Account
 }
 
 /// The credits of the host whose command breaks the rule on them in a log.
-pub fn credits_before(log: &[u8], wrong: &Wrong) -> Option<Credits>
+pub(crate) fn credits_before(log: &[u8], wrong: &Wrong) -> Option<Credits>
     ensures { result ≡ told.credits_before log.now wrong.now }
 {
     match wrong.rule {

@@ -67,7 +67,7 @@ fn put_doubt<A: Allocator>(
 }
 
 /// Appends the lines of all kinds.
-pub fn put_doubts<A: Allocator>(
+pub(crate) fn put_doubts<A: Allocator>(
     text: &mut Vec<u8, A>,
     doubts: &Doubts,
     numbers: &[u32],

@@ -21,7 +21,7 @@ pub struct Ending {
 
 impl Ending {
     /// The ending of a call that came out so.
-    pub fn of(outcome: Result<Outcome, Fault>) -> Ending
+    pub(crate) fn of(outcome: Result<Outcome, Fault>) -> Ending
         ensures status { result.status ≡ exit_status outcome }
         ensures line { result.line.bytes ≡ error_line outcome }
     {

@@ -109,7 +109,7 @@ fn tells_in(mut words: Words<'_>) -> Tells
 
 /// What the line of this number tells.
 #[tactic(auto, unfolding(crate::specs::Credits::line_tells))]
-pub fn line_tells(number: u32, line: &[u8]) -> Tells
+pub(crate) fn line_tells(number: u32, line: &[u8]) -> Tells
     requires { 1 ≤ number }
     ensures { result ≡ credits.line_tells number line.now }
 {

@@ -3,7 +3,7 @@
 use mscp_reader::{Cause, ScriptFault, lines_of};
 
 /// What is right, of each cause of a fault.
-pub fn limit_of(cause: Cause) -> &'static str {
+pub(crate) fn limit_of(cause: Cause) -> &'static str {
     match cause {
         Cause::Size => "a log has 16777216 bytes at most",
         Cause::Lines => "a log has 1000000 lines at most",
@@ -27,7 +27,7 @@ pub fn limit_of(cause: Cause) -> &'static str {
 }
 
 /// The same of a log of the wire, where another word is right.
-pub fn limit_on_wire(cause: Cause) -> &'static str {
+pub(crate) fn limit_on_wire(cause: Cause) -> &'static str {
     match cause {
         Cause::Word =>
             "a line begins with send, end, from, to, second, reset, credits, begun or port, or with a time and one of these; begun and then credits stand before all others of their port",
@@ -45,7 +45,7 @@ pub fn limit_on_wire(cause: Cause) -> &'static str {
 }
 
 /// The line of a fault, if it has printed ASCII characters alone, as one has in which bytes were judged first.
-pub fn line_of(log: &[u8], fault: ScriptFault) -> Option<&[u8]> {
+pub(crate) fn line_of(log: &[u8], fault: ScriptFault) -> Option<&[u8]> {
     if let Cause::Size | Cause::Lines | Cause::Long | Cause::Byte | Cause::Header = fault.cause {
         return None;
     }

@@ -72,7 +72,7 @@ impl From<AllocError> for Fault {
 }
 
 /// Why the words of the command line aren't read. A word that is no text is a wrong word.
-pub fn words_fault(kind: ErrorKind) -> Fault
+pub(crate) fn words_fault(kind: ErrorKind) -> Fault
     ensures memory { (result ≡ faults.OutOfMemory) ↔ (kind ≡ ErrorKind.OutOfMemory) }
     ensures usage { (result ≡ faults.OutOfMemory) ⊎ (result ≡ faults.Usage) }
 {

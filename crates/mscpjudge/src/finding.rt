@@ -156,7 +156,7 @@ fn find_all(alloc: Global, bytes: &[u8], numbers: &[u32]) -> Result<Vec<u8>, Rea
 }
 
 /// What is said of a log of which this is the verdict.
-pub fn all_of(
+pub(crate) fn all_of(
     alloc: Global,
     log: &[u8],
     numbers: &[u32],

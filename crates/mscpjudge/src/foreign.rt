@@ -18,7 +18,7 @@ fn is_foreign(opcode: u8) -> bool
 }
 
 /// The opcode of a command or an end, if it is such a one.
-pub fn foreign_of(bytes: &[u8]) -> Option<u8>
+pub(crate) fn foreign_of(bytes: &[u8]) -> Option<u8>
     ensures opcode { result ≡ foreign.foreign_of bytes.now }
     ensures least { IfSome result (λ opcode. 12 ≤ length bytes.now) }
 {
@@ -85,7 +85,7 @@ fn put_unnamed(text: &mut Vec<u8>, bytes: &[u8]) -> Result<(), AllocError>
 
 /// Appends the line of a command or an end of this opcode.
 #[tactic(auto, unfolding(crate::specs::Foreign::foreign_text))]
-pub fn put_foreign(text: &mut Vec<u8>, bytes: &[u8], opcode: u8) -> Result<(), AllocError>
+pub(crate) fn put_foreign(text: &mut Vec<u8>, bytes: &[u8], opcode: u8) -> Result<(), AllocError>
     requires { 12 ≤ length bytes.now }
     ensures { OnOk result (text.new.items ≡ text.old.items ++ foreign.foreign_text bytes.now opcode) }
 {

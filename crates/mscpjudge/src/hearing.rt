@@ -31,7 +31,7 @@ fn put_counts<A: Allocator>(text: &mut Vec<u8, A>, ends: u32, resets: u32) -> Re
 }
 
 /// Lets hosts hear the log that a reader gives, and writes what they would have heard in one write.
-pub fn hear<R: Source, W: Sink>(
+pub(crate) fn hear<R: Source, W: Sink>(
     alloc: Global,
     reader: &mut R,
     writer: &mut W,

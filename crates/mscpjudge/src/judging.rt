@@ -202,7 +202,7 @@ fn text_of<A: Allocator>(alloc: A, verdict: &Verdict) -> Result<Vec<u8, A>, Allo
 }
 
 /// Judges the log that a reader gives, and writes what is said of it in one write.
-pub fn judge<R: Source, W: Sink>(
+pub(crate) fn judge<R: Source, W: Sink>(
     alloc: Global,
     reader: &mut R,
     writer: &mut W,

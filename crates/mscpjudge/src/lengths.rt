@@ -34,7 +34,10 @@ fn put_lengths<A: Allocator>(
 }
 
 /// Appends the line of the length of an end.
-pub fn put_length<A: Allocator>(text: &mut Vec<u8, A>, bytes: &[u8]) -> Result<(), AllocError>
+pub(crate) fn put_length<A: Allocator>(
+    text: &mut Vec<u8, A>,
+    bytes: &[u8],
+) -> Result<(), AllocError>
     ensures { OnOk result (text.new.items ≡ text.old.items ++ length_text bytes.now) }
 {
     put_lengths(text, bytes.len(), least_bytes(bytes))

@@ -8,7 +8,7 @@ use mscp_reader::{Cause, MOST_LINES, ScriptFault};
 
 /// The number of a line.
 #[tactic(auto, unfolding(crate::specs::Numbers::number_by))]
-pub fn number_of(numbers: &[u32], line: u32) -> u32
+pub(crate) fn number_of(numbers: &[u32], line: u32) -> u32
     ensures { result ≡ told.number_by numbers.now line }
 {
     if numbers.is_empty() {
@@ -34,7 +34,7 @@ fn cause_at(number: u32, cause: Cause) -> Cause
 }
 
 /// A fault, by the number of its line.
-pub fn fault_of(numbers: &[u32], fault: ScriptFault) -> ScriptFault
+pub(crate) fn fault_of(numbers: &[u32], fault: ScriptFault) -> ScriptFault
     ensures { result ≡ told.fault_by (told.number_by numbers.now) fault }
 {
     let line = number_of(numbers, fault.line);

@@ -35,7 +35,7 @@ fn put_place<A: Allocator>(
 
 /// Appends the lines that are of use where this rule is broken.
 #[tactic(auto, unfolding(crate::specs::Places::places_text))]
-pub fn put_places<A: Allocator>(
+pub(crate) fn put_places<A: Allocator>(
     text: &mut Vec<u8, A>,
     rule: Rule,
     places: &Places,

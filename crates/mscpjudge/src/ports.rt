@@ -98,7 +98,7 @@ fn kind_in(mut words: Words<'_>) -> Kind
 
 /// What the line of this number is.
 #[tactic(auto, unfolding(crate::specs::Ports::line_kind))]
-pub fn line_kind(number: u32, line: &[u8]) -> Kind
+pub(crate) fn line_kind(number: u32, line: &[u8]) -> Kind
     requires { 1 ≤ number }
     ensures { result ≡ ports.line_kind number line.now }
 {
@@ -152,7 +152,7 @@ fn have_ports(lines: &mut Lines<'_>) -> bool
 }
 
 /// Whether a line of a log does, if the log isn't too large.
-pub fn has_ports(log: &[u8]) -> bool
+pub(crate) fn has_ports(log: &[u8]) -> bool
     ensures { result ≡ ports.has_ports log.now }
 {
     match lines_of(log) {
@@ -294,7 +294,7 @@ impl Sections {
 }
 
 /// What is known of each port by a log: one pass over it.
-pub fn sections_of(alloc: Global, log: &[u8]) -> Result<Sections, OutOfMemory>
+pub(crate) fn sections_of(alloc: Global, log: &[u8]) -> Result<Sections, OutOfMemory>
     requires { length log.now ≤ 16777216 }
     ensures { IfOk result (λ sections. ports.IsSorted log.now sections) }
 {

@@ -199,7 +199,7 @@ fn show_log(alloc: Global, bytes: &[u8]) -> Result<Vec<u8>, ReadFault>
 }
 
 /// Shows the log of the wire that a reader gives, in one write.
-pub fn show_captured<R: Source, W: Sink>(
+pub(crate) fn show_captured<R: Source, W: Sink>(
     alloc: Global,
     reader: &mut R,
     writer: &mut W,

@@ -71,7 +71,7 @@ fn put_hasty<A: Allocator>(text: &mut Vec<u8, A>, count: u32) -> Result<(), Allo
 
 /// Appends the lines of what was timed.
 #[tactic(auto, unfolding(crate::specs::Timing::spans_text))]
-pub fn put_spans<A: Allocator>(
+pub(crate) fn put_spans<A: Allocator>(
     text: &mut Vec<u8, A>,
     longest: &Option<Span>,
     poll: &Option<Span>,

@@ -191,7 +191,7 @@ fn tell(alloc: Global, extent: Extent, log: Vec<u8>) -> Result<Told, ReadFault>
 }
 
 /// Judges the log of the wire that a reader gives, and writes what is said of it in one write.
-pub fn judge_captured<R: Source, W: Sink>(
+pub(crate) fn judge_captured<R: Source, W: Sink>(
     alloc: Global,
     extent: Extent,
     reader: &mut R,

@@ -23,7 +23,7 @@ fn time_in(mut words: Words<'_>) -> Option<u64>
 
 /// The time that the line of this number tells, if it tells one.
 #[tactic(auto, unfolding(crate::specs::Times::line_time))]
-pub fn line_time(number: u32, line: &[u8]) -> Option<u64>
+pub(crate) fn line_time(number: u32, line: &[u8]) -> Option<u64>
     requires { 1 ≤ number }
     ensures { result ≡ times.line_time number line.now }
 {
@@ -86,7 +86,7 @@ fn needed(number: u32) -> usize
 
 /// Appends nanoseconds, in seconds.
 #[tactic(auto, unfolding(crate::specs::Times::seconds_text))]
-pub fn put_seconds<A: Allocator>(text: &mut Vec<u8, A>, time: u64) -> Result<(), AllocError>
+pub(crate) fn put_seconds<A: Allocator>(text: &mut Vec<u8, A>, time: u64) -> Result<(), AllocError>
     ensures { OnOk result (text.new.items ≡ text.old.items ++ times.seconds_text time) }
 {
     let fraction = (time % 1_000_000_000) as u32;
@@ -97,7 +97,10 @@ pub fn put_seconds<A: Allocator>(text: &mut Vec<u8, A>, time: u64) -> Result<(),
 }
 
 /// Appends a time behind what it belongs to, if there is one.
-pub fn put_at<A: Allocator>(text: &mut Vec<u8, A>, time: Option<u64>) -> Result<(), AllocError>
+pub(crate) fn put_at<A: Allocator>(
+    text: &mut Vec<u8, A>,
+    time: Option<u64>,
+) -> Result<(), AllocError>
     ensures { OnOk result (text.new.items ≡ text.old.items ++ times.at_text time) }
 {
     match time {

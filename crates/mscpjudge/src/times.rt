@@ -31,7 +31,7 @@ impl<'a> Times<'a> {
     }
 
     /// The time of a line, if it tells one.
-    pub fn at(&self, line: u32) -> Option<u64>
+    pub(crate) fn at(&self, line: u32) -> Option<u64>
         ensures { result ≡ told.time_of self.now.lines line }
     {
         self.lines.get(&line).copied()
@@ -59,7 +59,11 @@ fn times_of<'a>(
 }
 
 /// The times of a log.
-pub fn times_in<'a>(alloc: Global, log: &[u8], numbers: &'a [u32]) -> Result<Times<'a>, OutOfMemory>
+pub(crate) fn times_in<'a>(
+    alloc: Global,
+    log: &[u8],
+    numbers: &'a [u32],
+) -> Result<Times<'a>, OutOfMemory>
     ensures times { IfOk result (λ times. told.time_of times.lines ≡ told.log_time log.now) }
     ensures numbers { IfOk result (λ times. times.numbers.now ≡ numbers.now) }
 {

@@ -364,7 +364,7 @@ fn put_timed(
 
 /// The same, if it tells some.
 #[tactic(auto, unfolding(crate::specs::Timing::timing_text))]
-pub fn put_timing(
+pub(crate) fn put_timing(
     alloc: Global,
     text: &mut Vec<u8>,
     log: &[u8],

@@ -106,7 +106,10 @@ fn put_falls<A: Allocator>(text: &mut Vec<u8, A>, falls: &Falls) -> Result<(), A
 }
 
 /// Appends the lines of a log that is right, and has these totals.
-pub fn put_totals<A: Allocator>(text: &mut Vec<u8, A>, totals: &Totals) -> Result<(), AllocError>
+pub(crate) fn put_totals<A: Allocator>(
+    text: &mut Vec<u8, A>,
+    totals: &Totals,
+) -> Result<(), AllocError>
     ensures { OnOk result (text.new.items ≡ text.old.items ++ counted.totals_text totals.now) }
 {
     put_counts(text, &totals.counts, totals.queue)?;

@@ -26,7 +26,7 @@ use mscp_wire::{Places, Rule, Sent, Totals, Verdict, Wrong, places_in};
 use std::alloc::{AllocError, Allocator, Global};
 
 /// Whose it is, if that isn't the first connection's host.
-pub fn connection_name(connection: Connection) -> &'static str
+pub(crate) fn connection_name(connection: Connection) -> &'static str
     ensures { result.now ≡ connection_name connection }
 {
     match connection {
@@ -36,7 +36,7 @@ pub fn connection_name(connection: Connection) -> &'static str
 }
 
 /// What a rule is called.
-pub fn rule_name(rule: Rule) -> &'static str
+pub(crate) fn rule_name(rule: Rule) -> &'static str
     ensures { result.now ≡ wired.rule_name rule }
 {
     match rule {
@@ -131,7 +131,10 @@ fn put_unnamed<A: Allocator>(text: &mut Vec<u8, A>, command: &Sent) -> Result<()
 
 /// Appends what a command is, and ends the line.
 #[tactic(auto, unfolding(crate::specs::Commands::command_text))]
-pub fn put_command<A: Allocator>(text: &mut Vec<u8, A>, command: &Sent) -> Result<(), AllocError>
+pub(crate) fn put_command<A: Allocator>(
+    text: &mut Vec<u8, A>,
+    command: &Sent,
+) -> Result<(), AllocError>
     ensures { OnOk result (text.new.items ≡ text.old.items ++ command_text command.now) }
 {
     put(text, connection_name(command.connection))?;
@@ -227,7 +230,7 @@ fn put_credits<A: Allocator>(
 }
 
 /// Appends the lines of a moment that isn't right, and of the credits of its host, if it breaks the rule on them.
-pub fn put_wrong<A: Allocator>(
+pub(crate) fn put_wrong<A: Allocator>(
     text: &mut Vec<u8, A>,
     wrong: &Wrong,
     credits: &Option<Credits>,
@@ -304,7 +307,7 @@ fn put_verdict(
 }
 
 /// The lines of a verdict on a log.
-pub fn text_of(
+pub(crate) fn text_of(
     alloc: Global,
     log: &[u8],
     numbers: &[u32],
@@ -318,7 +321,7 @@ pub fn text_of(
 }
 
 /// How a log is judged by a verdict.
-pub fn wire_outcome<A: Allocator>(verdict: &Verdict<A>) -> Outcome
+pub(crate) fn wire_outcome<A: Allocator>(verdict: &Verdict<A>) -> Outcome
     ensures { result ≡ wire_outcome verdict.now }
 {
     match verdict {

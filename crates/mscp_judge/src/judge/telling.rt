@@ -51,7 +51,7 @@ fn first_line(bytes: &[u8]) -> Right
 impl<A: Allocator> Judge<A> {
     /// What would be right next: the first line of what is due. If a step is missing, it is answered first, and the
     /// oldest command starts that may. It is empty where no answer is right.
-    pub fn right(&mut self) -> Result<Right, OutOfMemory>
+    pub(crate) fn right(&mut self) -> Result<Right, OutOfMemory>
         requires { self.old.reporter.count + 1 < 2 ^ 64 }
         ensures { IfOk result (λ right. (c : Settings) (log : Log) (wanted : Option named.Named)
             → IsOpen c log wanted self.old → IsRightNext c log wanted right.items) }
@@ -130,7 +130,7 @@ impl<A: Allocator> Judge<A> {
     }
 
     /// Gives away what was kept so.
-    pub fn take_starts(&mut self) -> Starts
+    pub(crate) fn take_starts(&mut self) -> Starts
         ensures starts { result ≡ self.old.starts }
         ensures held { (c : Settings) (log : Log) (wanted : Option named.Named) → IsOpen c log wanted self.old
             → IsOpen c log wanted self.new }
@@ -196,7 +196,7 @@ impl<A: Allocator> Judge<A> {
 
     /// A line tells an answer: the rule that it breaks, or any if that isn't wanted; or that a legal log goes on so.
     /// The words are those of the line.
-    pub fn hear(
+    pub(crate) fn hear(
         &mut self,
         line: &[u8],
         words: Words<'_>,

@@ -63,7 +63,7 @@ fn put_taken_in(line: &mut Tail, sent: Sent)
 }
 
 /// Appends the line of a message of the connection: what became of it, or why it is refused.
-pub fn put_sent<O: Out>(
+pub(crate) fn put_sent<O: Out>(
     out: &mut O,
     line: &mut Tail,
     connection: Connection,
@@ -85,7 +85,7 @@ pub fn put_sent<O: Out>(
 }
 
 /// Appends the line of an end of the connection that was taken, or of none.
-pub fn put_taken<O: Out>(
+pub(crate) fn put_taken<O: Out>(
     out: &mut O,
     line: &mut Tail,
     connection: Connection,
@@ -131,7 +131,11 @@ fn put_ended(line: &mut Tail, ended: &Option<End>)
 }
 
 /// Appends the line of a step.
-pub fn put_step<O: Out>(out: &mut O, line: &mut Tail, report: &Report) -> Result<(), AllocError>
+pub(crate) fn put_step<O: Out>(
+    out: &mut O,
+    line: &mut Tail,
+    report: &Report,
+) -> Result<(), AllocError>
     ensures value { OnOk result (O.text out.new ≡ O.text out.old ++ step_line report.now) }
     ensures short { OnOk result (length (step_line report.now) ≤ 108) }
     ensures refused { OnErr result O.refuses }
@@ -177,7 +181,7 @@ fn put_figure<O: Out>(
 }
 
 /// Appends the line of each waiting command.
-pub fn put_figures<O: Out>(
+pub(crate) fn put_figures<O: Out>(
     out: &mut O,
     line: &mut Tail,
     shown: &[(Connection, u32, u32)],
@@ -192,7 +196,7 @@ pub fn put_figures<O: Out>(
 }
 
 /// Appends the last line.
-pub fn put_totals<O: Out>(out: &mut O, totals: &Totals) -> Result<(), AllocError>
+pub(crate) fn put_totals<O: Out>(out: &mut O, totals: &Totals) -> Result<(), AllocError>
     ensures value { OnOk result (O.text out.new ≡ O.text out.old
         ++ last_line totals.now.steps totals.now.seeks totals.now.queued totals.now.ended) }
     ensures refused { OnErr result O.refuses }

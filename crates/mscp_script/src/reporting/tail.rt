@@ -33,7 +33,7 @@ impl Model for Tail {
 impl Tail {
     /// The end of each line: a line feed.
     #[inline]
-    pub fn new() -> Tail
+    pub(crate) fn new() -> Tail
         ensures { result ≡ codes "\n" }
     {
         Tail {
@@ -44,7 +44,7 @@ impl Tail {
 
     /// Begins a line.
     #[inline]
-    pub fn begin(&mut self)
+    pub(crate) fn begin(&mut self)
         ensures { self.new ≡ codes "\n" }
     {
         self.start = ROOM - 1;
@@ -53,7 +53,7 @@ impl Tail {
 
     /// Puts words in front.
     #[inline]
-    pub fn words(&mut self, words: &str)
+    pub(crate) fn words(&mut self, words: &str)
         requires { length words.now + length self.old ≤ 108 }
         ensures { self.new ≡ words.now ++ self.old }
     {
@@ -66,7 +66,7 @@ impl Tail {
 
     /// Puts the decimal digits of a number in front.
     #[inline]
-    pub fn number(&mut self, number: u32)
+    pub(crate) fn number(&mut self, number: u32)
         requires { 10 + length self.old ≤ 108 }
         ensures value { self.new ≡ decimal number ++ self.old }
         ensures short { length self.new ≤ 10 + length self.old }
@@ -76,7 +76,7 @@ impl Tail {
 
     /// Puts words and then a number in front.
     #[inline]
-    pub fn field(&mut self, words: &str, number: u32)
+    pub(crate) fn field(&mut self, words: &str, number: u32)
         requires { length words.now + (10 + length self.old) ≤ 108 }
         ensures value { self.new ≡ words.now ++ (decimal number ++ self.old) }
         ensures short { length self.new ≤ length words.now + (10 + length self.old) }
@@ -87,7 +87,7 @@ impl Tail {
 
     /// Puts bytes in front, each as two lower case hexadecimal digits.
     #[inline]
-    pub fn hex(&mut self, bytes: &[u8])
+    pub(crate) fn hex(&mut self, bytes: &[u8])
         requires { 2 * length bytes.now + length self.old ≤ 108 }
         ensures value { self.new ≡ encode_lower bytes.now ++ self.old }
         ensures long { length self.new ≡ 2 * length bytes.now + length self.old }
@@ -99,7 +99,7 @@ impl Tail {
 
     /// The line, from what was put last on.
     #[inline]
-    pub fn bytes(&self) -> &[u8]
+    pub(crate) fn bytes(&self) -> &[u8]
         ensures value { result.now ≡ self.now }
         ensures short { length self.now ≤ 108 }
     {

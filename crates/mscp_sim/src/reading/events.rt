@@ -10,7 +10,7 @@ use mscp_reader::{Lines, ReadFault, Request, ScriptFault, bytes_in};
 use std::alloc::Allocator;
 
 /// Reads all lines that are left.
-pub fn read_events<A: Allocator>(
+pub(crate) fn read_events<A: Allocator>(
     alloc: A,
     lines: &mut Lines<'_>,
 ) -> Result<Vec<Event, A>, ReadFault>

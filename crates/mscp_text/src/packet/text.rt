@@ -131,7 +131,7 @@ fn put_end<O: Out>(out: &mut O, end: End) -> Result<(), AllocError>
 }
 
 /// Appends the line of a packet.
-pub fn put_packet<O: Out>(out: &mut O, packet: Packet) -> Result<(), AllocError>
+pub(crate) fn put_packet<O: Out>(out: &mut O, packet: Packet) -> Result<(), AllocError>
     ensures text { OnOk result (O.text out.new ≡ O.text out.old ++ packet_line packet) }
     ensures refused { OnErr result O.refuses }
 {

@@ -29,7 +29,7 @@ impl<A: Allocator + Copy> Commands<A> {
     }
 
     /// The first that is, of those that came before the one in a cell.
-    pub fn first_before(&self, at: usize, sought: &Sought) -> Option<Sent>
+    pub(crate) fn first_before(&self, at: usize, sought: &Sought) -> Option<Sent>
         requires { IsSome (cell self.now at) }
         ensures { result ≡ find (is_sought sought.now) (take (place self.now at) (sents self.now)) }
     {
@@ -37,7 +37,7 @@ impl<A: Allocator + Copy> Commands<A> {
     }
 
     /// Whether one is that came before it.
-    pub fn has_before(&self, at: usize, sought: &Sought) -> bool
+    pub(crate) fn has_before(&self, at: usize, sought: &Sought) -> bool
         requires { IsSome (cell self.now at) }
         ensures { result ≡ list_any (is_sought sought.now) (take (place self.now at) (sents self.now)) }
     {
@@ -45,7 +45,7 @@ impl<A: Allocator + Copy> Commands<A> {
     }
 
     /// Whether one is that came after it.
-    pub fn has_behind(&self, at: usize, sought: &Sought) -> bool
+    pub(crate) fn has_behind(&self, at: usize, sought: &Sought) -> bool
         requires { IsSome (cell self.now at) }
         ensures { result ≡ list_any (is_sought sought.now) (drop (place self.now at + 1) (sents self.now)) }
     {
@@ -55,7 +55,7 @@ impl<A: Allocator + Copy> Commands<A> {
 
     /// The oldest for which the host of a connection waits, if there is one.
     #[tactic(auto, using(crate::proofs::Names::found_at))]
-    pub fn oldest_on(&self, connection: Connection) -> Option<Sent>
+    pub(crate) fn oldest_on(&self, connection: Connection) -> Option<Sent>
         ensures { result ≡ find (wire.waits_on connection) (sents self.now) }
     {
         self.command_if(self.first(&Sought::WaitedFor(connection)))
