@@ -1,5 +1,5 @@
 -- How a judge stands after a line that asks.
-use Rattle.mscp_judge.proofs.Common.{◌≡◌, inl, false, List, [], ◌∷◌, ◌++◌, refl, ap, sym, ◌∙◌, subst, append_assoc, append-nil, arith, Option, Event, Entry, Settings, Moment, Trace, is_step, Answers, Holdings, fresh, IsLegal, IsRight, entry_lines, Named, Wanted, Asked, Mark, answers_in, events_in, told, transcript, whole, IsNamed, Led, Stood, with_picker}
+use Rattle.mscp_judge.proofs.Common.{◌≡◌, inl, false, List, [], ◌∷◌, ◌++◌, refl, ap, sym, ◌∙◌, subst, append_assoc, append-nil, arith, Option, Event, Entry, Settings, Moment, Trace, is_step, Answers, Holdings, fresh, IsLegal, IsRight, entry_lines, Name, Wanted, Asked, Mark, answers_in, events_in, told, transcript, whole, IsNamed, Led, Stood, with_picker}
 use Rattle.mscp_judge.proofs.Feeds.{entry_ends}
 use Rattle.mscp_judge.proofs.Leading.{follow, led_more, turn_of}
 use Rattle.mscp_judge.proofs.Marks.{asked_parts, none_asked, right_among, some_asked, transcript_append, whole_append}
@@ -56,7 +56,7 @@ steps_on c marks h es s = record {
 }
 
 -- another event is asked for, which is answered at once
-unfoldable pub event_on : (c : Settings) (marks : List Mark) (h h' : Holdings Wanted) (name : Option Named)
+unfoldable pub event_on : (c : Settings) (marks : List Mark) (h h' : Holdings Wanted) (name : Option Name)
     (event : Event) (entry : Entry) → is_step event ≡ false → Stood c marks h [] [] []
     → Answers (IsNamed name) (with_picker h name) event entry h'
     → Stood c (marks ++ Asked (event ∷ []) ∷ []) h' (entry_lines entry) [] []

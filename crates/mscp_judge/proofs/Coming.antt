@@ -1,5 +1,5 @@
 -- What a call leaves, as a judge stands then.
-use Rattle.mscp_judge.proofs.Common.{◌≡◌, ◌≢◌, inl, ℕ, zero, suc, ◌+◌, ◌-◌, ◌<◌, true, false, List, [], ◌∷◌, ◌++◌, drop, length, replicate, refl, ap, sym, ◌∙◌, subst, arith, length-append, length-drop, drop-drop, append_assoc, append-nil, All, OnOk, Result, Ok, Err, None, ◌≤◌, Option, list_all, drop-append_seam, length-replicate, and_parts, false≢true, Block, Event, Entry, OutOfMemory, Report, Record, record_at, IsValid, Settings, Trace, is_step, Answers, Holdings, Steps, fresh, Idle, IsLegal, is_printed, words, Reported, entry_lines, reported, step_line, with_entry, Judge, Named, Wanted, Totals, IsAhead, Asked, Log, Mark, MayGoOn, IsLegalLog, asking, events_in, nothing, telling, told, transcript, whole, IsNamed, name_in, wanting, BeginsWith, Came, Counted, HasShortLine, IsHeld, IsSettled, Stands, Stood, due, marked, owed, totals_of, with_picker, AreTotals, IsLarger, figure_queued}
+use Rattle.mscp_judge.proofs.Common.{◌≡◌, ◌≢◌, inl, ℕ, zero, suc, ◌+◌, ◌-◌, ◌<◌, true, false, List, [], ◌∷◌, ◌++◌, drop, length, replicate, refl, ap, sym, ◌∙◌, subst, arith, length-append, length-drop, drop-drop, append_assoc, append-nil, All, OnOk, Result, Ok, Err, None, ◌≤◌, Option, list_all, drop-append_seam, length-replicate, and_parts, false≢true, Block, Event, Entry, OutOfMemory, Report, Record, record_at, IsValid, Settings, Trace, is_step, Answers, Holdings, Steps, fresh, Idle, IsLegal, is_printed, words, Reported, entry_lines, reported, step_line, with_entry, Judge, Name, Wanted, Totals, IsAhead, Asked, Log, Mark, MayGoOn, IsLegalLog, asking, events_in, nothing, telling, told, transcript, whole, IsNamed, name_in, wanting, BeginsWith, Came, Counted, HasShortLine, IsHeld, IsSettled, Stands, Stood, due, marked, owed, totals_of, with_picker, AreTotals, IsLarger, figure_queued}
 use Rattle.mscp_drive.specs.declared.event.Event.TheVariants as events
 use Rattle.mscp_controller.specs.declared.entry.Entry.TheVariants as entries
 use Rattle.mscp_judge.proofs.Feeds.{NoFeed, some_none, step_ends}
@@ -14,7 +14,7 @@ use Rattle.mscp_judge.proofs.Tallies.{totals_none}
 -- ---- an event
 
 -- an answer that is reported, where memory may have been wanted
-pub came_on : {A : Type 0} (r : Result (Unit {0}) OutOfMemory) (old new : Judge A) (name : Option Named) (event : Event)
+pub came_on : {A : Type 0} (r : Result (Unit {0}) OutOfMemory) (old new : Judge A) (name : Option Name) (event : Event)
     (entry : Entry) (mid : Reported) → Answers (IsNamed name)
     (with_picker old.controller name) event entry new.controller
     → mid ≡ record old.reporter { lines = [] } → OnOk r (new.reporter ≡ with_entry mid entry) → new.told ≡ 0
@@ -25,7 +25,7 @@ pub came_on : {A : Type 0} (r : Result (Unit {0}) OutOfMemory) (old new : Judge 
 came_on r old new name event entry mid h7 h8 h9 h10 figure passed h13 h14 h15 h16 h17 = grind arith
 
 -- a step at which nothing waits and nothing was begun is idle, and leaves what is held
-pub idle_steps : (name : Option Named) (k : Block) (h h' : Holdings Wanted) → h' ≡ h → h.waiting ≡ [] → h.begun ≡ None
+pub idle_steps : (name : Option Name) (k : Block) (h h' : Holdings Wanted) → h' ≡ h → h.waiting ≡ [] → h.begun ≡ None
     → Steps (IsNamed name) k h Idle h'
 idle_steps name k h h' e waits begun = search (arith, append-nil h.untaken.first, append-nil h.untaken.second)
 
@@ -76,7 +76,7 @@ pub settled : {A : Type 0} (c : Settings) (log : Log) (judge : Judge A) → Stan
     → Counted c (marked log) judge.controller [] [] [] (totals_of c judge)
 settled c log judge s q = search arith
 
-pub asked_one : {A B : Type 0} (r : Result B OutOfMemory) (old new : Judge A) (name : Option Named) (event : Event)
+pub asked_one : {A B : Type 0} (r : Result B OutOfMemory) (old new : Judge A) (name : Option Name) (event : Event)
     → is_step event ≡ false → IsSettled old → OnOk r (Came name old new event) → new.owed ≡ old.owed
     → OnOk r ((c : Settings) (log : Log) → Stands c log old → Stands c (asking log (event ∷ [])) new)
 asked_one {A} (Ok x) old new name event o q came w =
@@ -214,7 +214,7 @@ pub stepped_short : (r : Result (Unit {0}) OutOfMemory) (old mid new : Reported)
 stepped_short (Ok x) old mid new report value short m = search (arith, step_ends report, short_whole)
 stepped_short (Err x) old mid new report value short m = tt
 
-pub right_step : {A : Type 0} (c : Settings) (log : Log) (name : Option Named) (old new : Judge A) → IsHeld c log old
+pub right_step : {A : Type 0} (c : Settings) (log : Log) (name : Option Name) (old new : Judge A) → IsHeld c log old
     → due old ≡ [] → 0 < old.owed → Came name old new (events.Step old.block) → new.owed ≡ old.owed - 1
     → new.block ≡ old.block → IsHeld c log new
 right_step {A} c log name old new s none some came w b = search (arith, step_held)

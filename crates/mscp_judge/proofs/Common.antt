@@ -78,7 +78,7 @@ pub use Rattle.mscp_judge.specs.Heard.{FailsLine, Heard, IsHeard, after_answer, 
 pub use Rattle.mscp_judge.specs.Judged.{Breaks, HasLegalTrace, Hears, IsAhead, IsBroken, IsLegalVerdict, IsTold, Judges, JudgesBehind, JudgesLog, Passed, Tells}
 pub use Rattle.mscp_judge.specs.Logs.{AreAnswers, Asked, IsAnswerLine, IsLegalLog, IsRightThere, Log, Mark, MayGoOn, Told, after_words, answers_in, asking, events_in, is_answer, is_answer_word, is_second_answer, nothing, telling, told, transcript, whole, written}
 unfoldable pub use Rattle.mscp_judge.specs.Logs.{after_line, after_lines}
-pub use Rattle.mscp_judge.specs.Naming.{IsNamed, choice_at, is_wanted, name_of, numbered, wanted_name, wanting}
+pub use Rattle.mscp_judge.specs.Naming.{IsNamed, choice_at, is_wanted, numbered, wanting}
 unfoldable pub use Rattle.mscp_judge.specs.Naming.{name_in, served}
 pub use Rattle.mscp_judge.specs.Rights.{HasStepped, IsOpen, IsRightNext, IsServiceLine, IsStepLine, report_in}
 pub use Rattle.mscp_judge.specs.Rules.{IsRule, IsStepRule, answer_rule, due_rule, is_service}
@@ -87,7 +87,7 @@ pub use Rattle.mscp_judge.specs.Starts.{is_open, named, named_in, names, starts_
 pub use Rattle.mscp_judge.specs.Totals.{Adds, AreTotals, IsLarger, IsLargest, figure_queued}
 pub use Rattle.mscp_judge.specs.declared.judge.Judge.{Judge}
 pub use Rattle.mscp_judge.specs.declared.judging.Verdict.{Verdict}
-pub use Rattle.mscp_judge.specs.declared.naming.Named.{Named}
+pub use Rattle.mscp_queue.specs.declared.name.Name.{Name}
 pub use Rattle.mscp_judge.specs.declared.naming.Wanted.{Wanted}
 pub use Rattle.mscp_judge.specs.declared.rules.Rule.{Rule}
 pub use Rattle.mscp_judge.specs.declared.totals.Totals.{Totals}

@@ -1,5 +1,5 @@
 -- How a judge stands after one more line, with the totals so far.
-use Rattle.mscp_judge.proofs.Common.{◌≡◌, ℕ, false, List, [], ◌∷◌, ◌++◌, sym, subst, append_assoc, append-nil, arith, Option, Block, Event, Entry, Settings, is_step, Answers, Holdings, words, entry_lines, Named, Wanted, Totals, Asked, Log, Mark, told, whole, IsNamed, name_in, Counted, Stood, marked, run_of, with_picker, Adds, AreTotals}
+use Rattle.mscp_judge.proofs.Common.{◌≡◌, ℕ, false, List, [], ◌∷◌, ◌++◌, sym, subst, append_assoc, append-nil, arith, Option, Block, Event, Entry, Settings, is_step, Answers, Holdings, words, entry_lines, Name, Wanted, Totals, Asked, Log, Mark, told, whole, IsNamed, name_in, Counted, Stood, marked, run_of, with_picker, Adds, AreTotals}
 use Rattle.mscp_drive.specs.declared.event.Event.TheVariants as events
 use Rattle.mscp_judge.proofs.Leading.{follow}
 use Rattle.mscp_judge.proofs.Marks.{is_legal_log, legal_run}
@@ -29,7 +29,7 @@ unfolding told_all_on
 told_all_counted c marks h due owed totals s = record { stood = told_all_on c marks h due owed s.stood; are = s.are }
 
 -- the totals of a trace with a moment more
-more : (c : Settings) (marks : List Mark) (h h' : Holdings Wanted) (name : Option Named) (owed : List Event)
+more : (c : Settings) (marks : List Mark) (h h' : Holdings Wanted) (name : Option Name) (owed : List Event)
     (event : Event) (entry : Entry) (old new : Totals) → Answers (IsNamed name) (with_picker h name) event entry h'
     → Adds h' entry old new → (k : Counted c marks h [] owed [] old)
     → AreTotals c (run_of k.stood ++ (event, entry) ∷ []) new
@@ -54,7 +54,7 @@ steps_counted c marks h es totals s = record {
   are = grind (arith, append-nil, whole_more);
 }
 
-pub event_counted : (c : Settings) (marks : List Mark) (h h' : Holdings Wanted) (name : Option Named) (event : Event)
+pub event_counted : (c : Settings) (marks : List Mark) (h h' : Holdings Wanted) (name : Option Name) (event : Event)
     (entry : Entry) (old new : Totals) → is_step event ≡ false → Counted c marks h [] [] [] old
     → Answers (IsNamed name) (with_picker h name) event entry h' → Adds h' entry old new
     → Counted c (marks ++ Asked (event ∷ []) ∷ []) h' (entry_lines entry) [] [] new

@@ -1,5 +1,5 @@
 -- What keeps a step from serving a command, as a controller and as the history have it.
-use Rattle.mscp_judge.proofs.Common.{◌≡◌, ◌≢◌, inr, ⊎_elim, ℕ, ◌≤◌, Bool, true, false, List, [], ◌∷◌, map, length, refl, ap, sym, ◌∙◌, subst, arith, All, Contains, filter, find, nat_eq, nat_lt, slice_index_or, Option, Some, None, AllByRecursion, cases_Bool, eq-eqb, true≢false, length-map, take_all, All-contains, All-from_recursion, recursion_from_All, First, Name, Holder, figure_of_name, same_name, IsServing, Record, holders_of_name, is_nobody, every_from, every_mapped, every_parts, every_weaker, filter_none, filter_on, is_differ, is_same, same_is, filter_map_of, find_cases, find_first, find_none, map_map, IsValid, Settings, Trace, done, in_service, is_idle, is_waiting, name, waiting, figure_found, figure_of, EachWaiting, holders, holders_found, holders_of, Holdings, shown, is_startable, startable, figure_of_held, figures_held, held_of, holders_of_held, startable_unheld, all_of, waits_at, record_held, waiting_at, alone, every_split, progress, waits_in, startable_parts, cut_of, waiting_waits, Named, Wanted, name_of, wanted_name, IsStepRule, is_open, named, named_in, names, starts_in}
+use Rattle.mscp_judge.proofs.Common.{◌≡◌, ◌≢◌, inr, ⊎_elim, ℕ, ◌≤◌, Bool, true, false, List, [], ◌∷◌, map, length, refl, ap, sym, ◌∙◌, subst, arith, All, Contains, filter, find, nat_eq, nat_lt, slice_index_or, Option, Some, None, AllByRecursion, cases_Bool, eq-eqb, true≢false, length-map, take_all, All-contains, All-from_recursion, recursion_from_All, First, Name, Holder, figure_of_name, same_name, IsServing, Record, holders_of_name, is_nobody, every_from, every_mapped, every_parts, every_weaker, filter_none, filter_on, is_differ, is_same, same_is, filter_map_of, find_cases, find_first, find_none, map_map, IsValid, Settings, Trace, done, in_service, is_idle, is_waiting, name, waiting, figure_found, figure_of, EachWaiting, holders, holders_found, holders_of, Holdings, shown, is_startable, startable, figure_of_held, figures_held, held_of, holders_of_held, startable_unheld, all_of, waits_at, record_held, waiting_at, alone, every_split, progress, waits_in, startable_parts, cut_of, waiting_waits, Wanted, IsStepRule, is_open, named, named_in, names, starts_in}
 use Rattle.mscp_judge.specs.declared.rules.Rule.TheVariants as rules
 use Rattle.mscp_judge.proofs.Leading.{Follow}
 use Rattle.mscp_judge.proofs.Unique.{some_same}
@@ -14,11 +14,11 @@ pub is_own : (c : Settings) (t : Trace) (h : Holdings Wanted) (n : Name) → Fol
     → IsStepRule c t (Some n) rules.Service
 is_own c t h n k s = search (arith, served_at t n h.waiting k.agrees.follows.waits s)
 
-pub is_another : (c : Settings) (t : Trace) (h : Holdings Wanted) (wanted : Option Named) (served : Named)
-    → Follow c t h → IsServing (name_of served) h.waiting → wanted ≢ Some served
-    → IsStepRule c t (wanted_name wanted) (rules.InService served)
+pub is_another : (c : Settings) (t : Trace) (h : Holdings Wanted) (wanted : Option Name) (served : Name)
+    → Follow c t h → IsServing served h.waiting → wanted ≢ Some served
+    → IsStepRule c t wanted (rules.InService served)
 is_another c t h wanted served k s differ =
-    search (arith, served_at t (name_of served) h.waiting k.agrees.follows.waits s)
+    search (arith, served_at t served h.waiting k.agrees.follows.waits s)
 
 -- ---- no command of the name
 

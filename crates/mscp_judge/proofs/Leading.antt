@@ -1,8 +1,8 @@
 -- What is held after moments that came one after the other, each with a picker of its own, is that of a legal trace.
-use Rattle.mscp_judge.proofs.Common.{◌≡◌, [], ◌∷◌, ◌++◌, refl, sym, subst, arith, append-nil, None, Option, append_assoc, Event, Entry, IsValid, Settings, Moment, Trace, Answers, Holdings, fresh, IsLegal, none_held, turns, legal_more, owner_kept, Agrees, Turns, Named, Wanted, IsNamed, Led, with_picker}
+use Rattle.mscp_judge.proofs.Common.{◌≡◌, [], ◌∷◌, ◌++◌, refl, sym, subst, arith, append-nil, None, Option, append_assoc, Event, Entry, IsValid, Settings, Moment, Trace, Answers, Holdings, fresh, IsLegal, none_held, turns, legal_more, owner_kept, Agrees, Turns, Name, Wanted, IsNamed, Led, with_picker}
 
 -- one more moment
-pub led_more : (old mid new : Holdings Wanted) (ms : Trace) (name : Option Named) (e : Event) (n : Entry)
+pub led_more : (old mid new : Holdings Wanted) (ms : Trace) (name : Option Name) (e : Event) (n : Entry)
     → Led old ms mid → Answers (IsNamed name) (with_picker mid name) e n new → Led old (ms ++ (e, n) ∷ []) new
 led_more old mid new [] name e n l a = search arith
 led_more old mid new (m ∷ ms) name e n l a = (l.0, l.1, l.2, led_more l.1 mid new ms name e n l.3 a)
@@ -14,7 +14,7 @@ pub record Follow (c : Settings) (t : Trace) (h : Holdings Wanted) : Type 0 wher
   pub agrees : Agrees c t h
   pub unbegun : h.begun ≡ None
 
-pub turn_of : (c : Settings) (t : Trace) (h h' : Holdings Wanted) (name : Option Named) (event : Event) (entry : Entry)
+pub turn_of : (c : Settings) (t : Trace) (h h' : Holdings Wanted) (name : Option Name) (event : Event) (entry : Entry)
     → IsValid c → Follow c t h → Answers (IsNamed name) (with_picker h name) event entry h'
     → Turns c (IsNamed name) t (event, entry) h.begun h'
 turn_of c t h h' name event entry v k r =
@@ -25,7 +25,7 @@ turn_of c t h h' name event entry v k r =
     subst (λ s. Turns s picks t m h.begun h') k.settings
     (turns picks g h' t event entry (subst IsValid (sym k.settings) v) (subst (λ s. Agrees s t g) (sym k.settings) a) r)
 
-pub follow_more : (c : Settings) (t : Trace) (h h' : Holdings Wanted) (name : Option Named) (event : Event)
+pub follow_more : (c : Settings) (t : Trace) (h h' : Holdings Wanted) (name : Option Name) (event : Event)
     (entry : Entry) → IsValid c → Follow c t h → Answers (IsNamed name) (with_picker h name) event entry h'
     → Follow c (t ++ (event, entry) ∷ []) h'
 follow_more c t h h' name event entry v k r =

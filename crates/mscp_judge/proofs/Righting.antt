@@ -1,5 +1,5 @@
 -- The line of a step that was answered is the right one.
-use Rattle.mscp_judge.proofs.Common.{◌≡◌, ◌≢◌, inl, inr, ℕ, suc, ◌-◌, ◌<◌, ◌≤◌, Bool, true, List, [], ◌∷◌, ◌++◌, length, refl, ap, sym, ◌∙◌, subst, arith, length-append, append-nil, codes, filter, replicate, Option, Some, None, AllByRecursion, flat_map, list_all, eq-eqb, ltb-true, append_cancel_right, length-replicate, Block, Event, IsValid, Settings, name_on, Report, Idle, Served, Entry, Service, Trace, WhenStarted, service_in, done, is_waiting, name, service_name, waiting, is_startable, startable, Answers, Holdings, fresh, IsPick, IsRight, IsServed, one_waits, Known, startable_of, waiting_waits, line, is_printed, entry_lines, step_line, Judge, Named, Wanted, AreAnswers, IsAnswerLine, IsRightThere, Log, telling, IsNamed, HasStepped, IsOpen, IsRightNext, IsServiceLine, IsStepLine, report_in, BeginsWith, Came, HasShortLine, IsFirstLine, IsHeld, IsSettled, Led, Stands, Stood, due, marked, owed, run_of, with_picker}
+use Rattle.mscp_judge.proofs.Common.{◌≡◌, ◌≢◌, inl, inr, ℕ, suc, ◌-◌, ◌<◌, ◌≤◌, Bool, true, List, [], ◌∷◌, ◌++◌, length, refl, ap, sym, ◌∙◌, subst, arith, length-append, append-nil, codes, filter, replicate, Option, Some, None, AllByRecursion, flat_map, list_all, eq-eqb, ltb-true, append_cancel_right, length-replicate, Block, Event, IsValid, Settings, name_on, Report, Idle, Served, Entry, Service, Trace, WhenStarted, service_in, done, is_waiting, name, service_name, waiting, is_startable, startable, Answers, Holdings, fresh, IsPick, IsRight, IsServed, one_waits, Known, startable_of, waiting_waits, line, is_printed, entry_lines, step_line, Judge, Name, Wanted, AreAnswers, IsAnswerLine, IsRightThere, Log, telling, IsNamed, HasStepped, IsOpen, IsRightNext, IsServiceLine, IsStepLine, report_in, BeginsWith, Came, HasShortLine, IsFirstLine, IsHeld, IsSettled, Led, Stands, Stood, due, marked, owed, run_of, with_picker}
 use Rattle.mscp_drive.specs.declared.event.Event.TheVariants as events
 use Rattle.mscp_controller.specs.declared.entry.Entry.TheVariants as entries
 use Rattle.mscp_judge.proofs.Coming.{printed_fed, ready_due, ready_not, right_step, stands_held, stands_with, told_not}
@@ -40,7 +40,7 @@ starts_then : (c : Settings) (t : Trace) (k : Block) (s : Service) (y x : ℕ) �
     → is_startable c t x ≡ true → s.started ≡ true
 starts_then c t k s y x v may = v.started ∙ eq-eqb (done t y) 0 (idle_where c t y x v.waits may)
 
-service_line : (c : Settings) (t : Trace) (k : Block) (wanted : Option Named) (s : Service) (y : ℕ) (text : List ℕ)
+service_line : (c : Settings) (t : Trace) (k : Block) (wanted : Option Name) (s : Service) (y : ℕ) (text : List ℕ)
     → Known c t → IsServed c t k s y → (s.started ≡ true → IsPick c (IsNamed wanted) t (service_name s))
     → line text ≡ step_line (report_in s) → IsStepLine c t k wanted text
 service_line c t k wanted s y text known v picked l = record {
@@ -60,12 +60,12 @@ service_line c t k wanted s y text known v picked l = record {
 }
 
 -- a step is idle where nothing waits
-idle_line : (c : Settings) (t : Trace) (k : Block) (wanted : Option Named) (text : List ℕ) → waiting t ≡ []
+idle_line : (c : Settings) (t : Trace) (k : Block) (wanted : Option Name) (text : List ℕ) → waiting t ≡ []
     → line text ≡ step_line Idle → IsStepLine c t k wanted text
 idle_line c t k wanted text none l =
     search (arith, append_cancel_right text (codes "idle") (10 ∷ []) l, nobody_waits, first_starts)
 
-report_line : (c : Settings) (t : Trace) (k : Block) (wanted : Option Named) (report : Report) (text : List ℕ)
+report_line : (c : Settings) (t : Trace) (k : Block) (wanted : Option Name) (report : Report) (text : List ℕ)
     → Known c t → IsRight c t (events.Step k) (entries.Stepped report)
     → WhenStarted (λ s. IsPick c (IsNamed wanted) t (service_name s)) (service_in (entries.Stepped report))
     → line text ≡ step_line report → IsStepLine c t k wanted text
@@ -74,7 +74,7 @@ report_line c t k wanted (Served a b d e f g h) text known right picked l = sear
 
 -- ---- a judge that answered a step
 
-entry_line : (c : Settings) (t : Trace) (h h' : Holdings Wanted) (wanted : Option Named) (k : Block) (entry : Entry)
+entry_line : (c : Settings) (t : Trace) (h h' : Holdings Wanted) (wanted : Option Name) (k : Block) (entry : Entry)
     (begun : Wanted) (text : List ℕ) → IsValid c → Led (fresh c begun) t h
     → Answers (IsNamed wanted) (with_picker h wanted) (events.Step k) entry h' → entry_lines entry ≡ line text
     → IsStepLine c t k wanted text
@@ -91,7 +91,7 @@ short_text bytes text h e printed =
     let f = front_of h.0 h.1.0 text (10 ∷ []) (printed_fed text printed) (sym h.1.1 ∙ e) in
     omega (arith, h.2, ap length f.1, length-append text f.0)
 
-pub has_stepped : {A : Type 0} (c : Settings) (log : Log) (wanted : Option Named) (old new : Judge A)
+pub has_stepped : {A : Type 0} (c : Settings) (log : Log) (wanted : Option Name) (old new : Judge A)
     → Stands c log old → due old ≡ [] → 0 < old.owed → Came wanted old new (events.Step old.block)
     → AreAnswers (due new) 1 → HasShortLine (due new) → HasStepped c log wanted new
 has_stepped {A} c log wanted old new s none some came a short =
@@ -161,7 +161,7 @@ whole_line bytes text right is printed b =
     empty (x ∷ xs) e = absurd (omega (arith, e))
 
 -- what a judge answered to a step is right
-pub next_stepped : {A : Type 0} (c : Settings) (log : Log) (wanted : Option Named) (judge : Judge A) (right : List ℕ)
+pub next_stepped : {A : Type 0} (c : Settings) (log : Log) (wanted : Option Name) (judge : Judge A) (right : List ℕ)
     → IsHeld c log judge → HasStepped c log wanted judge → IsFirstLine (due judge) right
     → IsRightNext c log wanted right
 next_stepped c log wanted judge right held s (inl e) = search arith
@@ -180,12 +180,12 @@ next_stepped c log wanted judge right held s (inr b) = record {
 }
 
 -- and where something was due, the first line of that
-pub next_due : {A : Type 0} (c : Settings) (log : Log) (wanted : Option Named) (judge : Judge A) (right : List ℕ)
+pub next_due : {A : Type 0} (c : Settings) (log : Log) (wanted : Option Name) (judge : Judge A) (right : List ℕ)
     → Stands c log judge → due judge ≢ [] → IsFirstLine (due judge) right → IsRightNext c log wanted right
 next_due c log wanted judge right s some f = search (arith, due_there c log judge right s some f)
 
 -- and nothing where all is answered and told
-pub next_none : {A : Type 0} (c : Settings) (log : Log) (wanted : Option Named) (judge : Judge A) (right : List ℕ)
+pub next_none : {A : Type 0} (c : Settings) (log : Log) (wanted : Option Name) (judge : Judge A) (right : List ℕ)
     → right ≡ [] → Stands c log judge → IsSettled judge → IsRightNext c log wanted right
 next_none c log wanted judge right e s q = record {
   there = inl (e, λ other printed short. ready_not c log other judge s q);
@@ -199,7 +199,7 @@ next_none c log wanted judge right e s q = record {
 }
 
 -- what is due where a step was answered
-pub stepped_due : {A : Type 0} (c : Settings) (log : Log) (wanted : Option Named) (judge : Judge A)
+pub stepped_due : {A : Type 0} (c : Settings) (log : Log) (wanted : Option Name) (judge : Judge A)
     → HasStepped c log wanted judge → due judge ≢ []
 stepped_due c log wanted judge s = λ e. some_none s.text 10 [] (sym s.due_is ∙ e)
 
@@ -208,18 +208,18 @@ stepped_due c log wanted judge s = λ e. some_none s.text 10 [] (sym s.due_is �
 pub owed_some : {A : Type 0} (judge : Judge A) → 0 < judge.owed → owed judge ≢ []
 owed_some judge some = search (arith, length-replicate judge.owed (events.Step judge.block))
 
-pub open_due : {A : Type 0} (c : Settings) (log : Log) (wanted : Option Named) (judge : Judge A) (right : List ℕ)
+pub open_due : {A : Type 0} (c : Settings) (log : Log) (wanted : Option Name) (judge : Judge A) (right : List ℕ)
     → IsOpen c log wanted judge → due judge ≢ [] → IsFirstLine (due judge) right → IsRightNext c log wanted right
 open_due c log wanted judge right (held, inl s) some f = next_due c log wanted judge right s.stands some f
 open_due c log wanted judge right (held, inr s) some f = next_stepped c log wanted judge right held s f
 
-pub open_none : {A : Type 0} (c : Settings) (log : Log) (wanted : Option Named) (judge : Judge A) (right : List ℕ)
+pub open_none : {A : Type 0} (c : Settings) (log : Log) (wanted : Option Name) (judge : Judge A) (right : List ℕ)
     → right ≡ [] → IsOpen c log wanted judge → IsSettled judge → IsRightNext c log wanted right
 open_none c log wanted judge right e (held, inl s) q = next_none c log wanted judge right e s.stands q
 open_none c log wanted judge right e (held, inr s) q = absurd (stepped_due c log wanted judge s q.told)
 
 -- a step that is missing is answered as the oldest that may start is served
-pub open_step : {A : Type 0} (c : Settings) (log : Log) (wanted : Option Named) (old new : Judge A) (right : List ℕ)
+pub open_step : {A : Type 0} (c : Settings) (log : Log) (wanted : Option Name) (old new : Judge A) (right : List ℕ)
     → IsOpen c log wanted old → due old ≡ [] → 0 < old.owed → Came None old new (events.Step old.block)
     → new.owed ≡ old.owed - 1 → new.block ≡ old.block → AreAnswers (due new) 1 → HasShortLine (due new)
     → IsFirstLine (due new) right → IsRightNext c log wanted right
@@ -232,19 +232,19 @@ open_step c log wanted old new right (held, inl s) none some came w b a short f 
 open_step c log wanted old new right (held, inr s) none some came w b a short f = search (arith, stepped_due)
 
 -- a judge that answered a step for a line is open
-pub stepped_open : {A : Type 0} (c : Settings) (log : Log) (wanted : Option Named) (old new last : Judge A)
+pub stepped_open : {A : Type 0} (c : Settings) (log : Log) (wanted : Option Name) (old new last : Judge A)
     → Stands c log old → due old ≡ [] → 0 < old.owed → Came wanted old new (events.Step old.block)
     → AreAnswers (due new) 1 → HasShortLine (due new) → last ≡ new → IsHeld c log last → IsOpen c log wanted last
 stepped_open c log wanted old new last s none some came a short same held =
     search (arith, has_stepped c log wanted old new s none some came a short)
 
 -- and one that stands so, and answers no step for it
-pub stands_open_held : {A : Type 0} (c : Settings) (log : Log) (wanted : Option Named) (judge : Judge A)
+pub stands_open_held : {A : Type 0} (c : Settings) (log : Log) (wanted : Option Name) (judge : Judge A)
     → Stands c log judge → (due judge ≡ [] → owed judge ≢ [] → wanted ≡ None) → IsOpen c log wanted judge
 stands_open_held c log wanted judge s none = search (arith, stands_held c log judge s)
 
 -- a judge that keeps other starts is as open
-pub open_with : {A : Type 0} (c : Settings) (log : Log) (wanted : Option Named) (old new : Judge A)
+pub open_with : {A : Type 0} (c : Settings) (log : Log) (wanted : Option Name) (old new : Judge A)
     → new ≡ record old { starts = new.starts } → IsOpen c log wanted old → IsOpen c log wanted new
 open_with {A} c log wanted old new e (held, inl s) = search (arith, stands_with)
 open_with c log wanted old new e (held, inr s) = subst (IsOpen c log wanted) (sym e) (

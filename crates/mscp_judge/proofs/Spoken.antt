@@ -1,5 +1,5 @@
 -- The line of a step says which command was served.
-use Rattle.mscp_judge.proofs.Common.{◌≡◌, ◌==◌, ℕ, ◌<◌, ◌^◌, true, not, List, [], ◌∷◌, ◌++◌, length, refl, ap, arith, append_assoc, codes, Ok, Option, Some, decimal, list_all, AllDigits, nat_tests, and_from, and_parts, false≢true, le-leb, decimal_is_IsNumeral, digit_from_value, End, Connection, First, Second, Report, Idle, Served, name_on, every_append, is_digit, number, wide, words, few_digits, AllSolid, solid_digits, word_front, block_word, connection_word, ended_part, step_line, name_in, numbered, served, wanted_name}
+use Rattle.mscp_judge.proofs.Common.{◌≡◌, ◌==◌, ℕ, ◌<◌, ◌^◌, true, not, List, [], ◌∷◌, ◌++◌, length, refl, ap, arith, append_assoc, codes, Ok, Option, Some, decimal, list_all, AllDigits, nat_tests, and_from, and_parts, false≢true, le-leb, decimal_is_IsNumeral, digit_from_value, End, Connection, First, Second, Report, Idle, Served, name_on, every_append, is_digit, number, wide, words, few_digits, AllSolid, solid_digits, word_front, block_word, connection_word, ended_part, step_line, name_in, numbered, served}
 use Rattle.mscp_judge.proofs.Feeds.{NoFeed, front_of}
 use Rattle.mscp_judge.proofs.Unique.{Says}
 
@@ -41,14 +41,14 @@ two_words : (word bytes : List ℕ) (n : ℕ) → n < 2 ^ 32 → 0 < length word
 two_words word bytes n h some solid = grind (arith, word_front, after_space, some_digits, solid_digits, decimal_digits)
 
 first_name : (n : ℕ) (rest : List (List ℕ)) → n < 2 ^ 32
-    → wanted_name (name_in (codes "serve" ∷ decimal n ∷ rest)) ≡ Some (name_on First n)
+    → name_in (codes "serve" ∷ decimal n ∷ rest) ≡ Some (name_on First n)
 unfolding name_in served
-first_name n rest h = ap (λ r. wanted_name (numbered First r)) (wide_decimal n h)
+first_name n rest h = ap (numbered First) (wide_decimal n h)
 
 second_name : (n : ℕ) (rest : List (List ℕ)) → n < 2 ^ 32
-    → wanted_name (name_in (codes "second" ∷ codes "serve" ∷ decimal n ∷ rest)) ≡ Some (name_on Second n)
+    → name_in (codes "second" ∷ codes "serve" ∷ decimal n ∷ rest) ≡ Some (name_on Second n)
 unfolding name_in served
-second_name n rest h = ap (λ r. wanted_name (numbered Second r)) (wide_decimal n h)
+second_name n rest h = ap (numbered Second) (wide_decimal n h)
 
 -- ---- the line of a step
 
@@ -76,7 +76,7 @@ head_fed via n h2 = grind (arith, first_fed, every_append, fed_literal)
 
 -- the words of a line that begins so
 says_front : (via : Connection) (n : ℕ) (more : List ℕ) → n < 2 ^ 32
-    → wanted_name (name_in (words (head via n ++ more))) ≡ Some (name_on via n)
+    → name_in (words (head via n ++ more)) ≡ Some (name_on via n)
 says_front First n more h =
     search (
       arith,

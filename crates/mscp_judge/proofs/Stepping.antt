@@ -1,5 +1,5 @@
 -- How a judge stands after a step was answered.
-use Rattle.mscp_judge.proofs.Common.{◌≡◌, ℕ, List, [], ◌∷◌, ◌++◌, ap, sym, ◌∙◌, subst, append_assoc, append-nil, arith, Option, Block, Event, Entry, Settings, Moment, Trace, Answers, Holdings, fresh, IsRight, words, entry_lines, Named, Wanted, Asked, Mark, answers_in, events_in, told, transcript, whole, IsNamed, name_in, Held, Led, Stood, with_picker}
+use Rattle.mscp_judge.proofs.Common.{◌≡◌, ℕ, List, [], ◌∷◌, ◌++◌, ap, sym, ◌∙◌, subst, append_assoc, append-nil, arith, Option, Block, Event, Entry, Settings, Moment, Trace, Answers, Holdings, fresh, IsRight, words, entry_lines, Name, Wanted, Asked, Mark, answers_in, events_in, told, transcript, whole, IsNamed, name_in, Held, Led, Stood, with_picker}
 use Rattle.mscp_drive.specs.declared.event.Event.TheVariants as events
 use Rattle.mscp_controller.specs.declared.entry.Entry.TheVariants as entries
 use Rattle.mscp_judge.proofs.Feeds.{entry_ends}
@@ -72,7 +72,7 @@ step_on c marks h h' k owed line entry s a =
 
 -- a step that is missing is answered
 pub step_held : (c : Settings) (marks : List Mark) (h h' : Holdings Wanted) (k : Block) (owed : List Event)
-    (name : Option Named) (entry : Entry) → Held c marks h [] (events.Step k ∷ owed)
+    (name : Option Name) (entry : Entry) → Held c marks h [] (events.Step k ∷ owed)
     → Answers (IsNamed name) (with_picker h name) (events.Step k) entry h' → Held c marks h' (entry_lines entry) owed
 step_held c marks h h' k owed name entry s a =
     let m : Moment = (events.Step k, entry) in

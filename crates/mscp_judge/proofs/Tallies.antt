@@ -1,5 +1,5 @@
 -- What one moment more adds to the totals of a run.
-use Rattle.mscp_judge.proofs.Common.{◌≡◌, ◌≢◌, ◌⊎◌, inl, inr, ⊎_elim, ℕ, ◌+◌, ◌≤◌, Bool, true, cond, List, [], ◌∷◌, ◌++◌, map, take, get_or, length, refl, ap, sym, ◌∙◌, subst, arith, length-append, Contains, filter, not, Option, AllByRecursion, take-append-le, take_all, All-contains, All-contains_itself, recursion_from_All, All-from_recursion, sum_by_push, cases_lt, false≢true, Record, record_at, every_append, every_mapped, every_kept, Event, Entry, IsValid, Settings, bound, Moment, Trace, is_step, queues, ends_in, name, waiting, passed, figure, figure_of, EachWaiting, Answers, Holdings, IsRight, name_last, arrives, queued_right, taken_when, falling, is_waiting_last, waiting_more, progress, waits_in, figure_of_held, held_of, step_count, Named, Wanted, Totals, IsNamed, with_picker, Adds, AreTotals, IsLarger, IsLargest, figure_queued}
+use Rattle.mscp_judge.proofs.Common.{◌≡◌, ◌≢◌, ◌⊎◌, inl, inr, ⊎_elim, ℕ, ◌+◌, ◌≤◌, Bool, true, cond, List, [], ◌∷◌, ◌++◌, map, take, get_or, length, refl, ap, sym, ◌∙◌, subst, arith, length-append, Contains, filter, not, Option, AllByRecursion, take-append-le, take_all, All-contains, All-contains_itself, recursion_from_All, All-from_recursion, sum_by_push, cases_lt, false≢true, Record, record_at, every_append, every_mapped, every_kept, Event, Entry, IsValid, Settings, bound, Moment, Trace, is_step, queues, ends_in, name, waiting, passed, figure, figure_of, EachWaiting, Answers, Holdings, IsRight, name_last, arrives, queued_right, taken_when, falling, is_waiting_last, waiting_more, progress, waits_in, figure_of_held, held_of, step_count, Name, Wanted, Totals, IsNamed, with_picker, Adds, AreTotals, IsLarger, IsLargest, figure_queued}
 use Rattle.mscp_judge.proofs.Leading.{Follow, follow_more, turn_of}
 
 -- ---- the largest
@@ -66,7 +66,7 @@ pub totals_none : (c : Settings) (totals : Totals) → totals.moments ≡ 0 → 
 unfolding waiting
 totals_none c totals m s f b p = grind arith
 
-pub totals_more : (c : Settings) (t : Trace) (h h' : Holdings Wanted) (name : Option Named) (event : Event)
+pub totals_more : (c : Settings) (t : Trace) (h h' : Holdings Wanted) (name : Option Name) (event : Event)
     (entry : Entry) (old new : Totals) → IsValid c → Follow c t h
     → Answers (IsNamed name) (with_picker h name) event entry h'
     → AreTotals c t old → Adds h' entry old new → AreTotals c (t ++ (event, entry) ∷ []) new

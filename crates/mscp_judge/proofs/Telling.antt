@@ -1,5 +1,5 @@
 -- How a judge stands after all that was due was told.
-use Rattle.mscp_judge.proofs.Common.{◌≡◌, ◌-◌, ◌<◌, [], ◌++◌, length, refl, ap, sym, ◌∙◌, subst, arith, append_assoc, append-nil, ◌≤◌, List, ℕ, ◌∷◌, codes, OnOk, Result, Option, Some, None, flat_map, Block, Report, Idle, Entry, OutOfMemory, IsValid, Settings, Answers, Holdings, line, words, Reported, entry_lines, step_line, with_entry, Judge, Named, Wanted, AreAnswers, Log, telling, IsNamed, name_in, served, BeginsWith, Came, IsNamedAhead, Stands, due, marked, owed, totals_of, with_picker}
+use Rattle.mscp_judge.proofs.Common.{◌≡◌, ◌-◌, ◌<◌, [], ◌++◌, length, refl, ap, sym, ◌∙◌, subst, arith, append_assoc, append-nil, ◌≤◌, List, ℕ, ◌∷◌, codes, OnOk, Result, Option, Some, None, flat_map, Block, Report, Idle, Entry, OutOfMemory, IsValid, Settings, Answers, Holdings, line, words, Reported, entry_lines, step_line, with_entry, Judge, Name, Wanted, AreAnswers, Log, telling, IsNamed, name_in, served, BeginsWith, Came, IsNamedAhead, Stands, due, marked, owed, totals_of, with_picker}
 use Rattle.mscp_drive.specs.declared.event.Event.TheVariants as events
 use Rattle.mscp_controller.specs.declared.entry.Entry.TheVariants as entries
 use Rattle.mscp_judge.proofs.Answering.{step_answers}
@@ -36,7 +36,7 @@ one_of (text ∷ other ∷ all) e = absurd (omega (arith, e))
 
 -- a step was answered at which the command of this name was to start, and its line was told, where a line ahead says
 -- that it was served
-pub told_step : {A : Type 0} (c : Settings) (log : Log) (named : Named) (rest left : List ℕ) (old mid new : Judge A)
+pub told_step : {A : Type 0} (c : Settings) (log : Log) (named : Name) (rest left : List ℕ) (old mid new : Judge A)
     → IsNamedAhead rest named → Stands c log old → due old ≡ [] → 0 < old.owed
     → Came (Some named) old mid (events.Step old.block) → mid.owed ≡ old.owed - 1 → mid.block ≡ old.block
     → AreAnswers (due mid) 1 → rest ≡ due mid ++ left → new ≡ record mid { told = new.told } → due new ≡ []
@@ -54,7 +54,7 @@ told_step {A} c log named rest left old mid new ahead s told some came w b a is 
     subst (λ bs. Stands c (telling log bs) new) (sym said) stands
 
 -- whatever its line is, the settings stay
-pub step_settings : {A : Type 0} (c : Settings) (log : Log) (named : Named) (old mid : Judge A) → Stands c log old
+pub step_settings : {A : Type 0} (c : Settings) (log : Log) (named : Name) (old mid : Judge A) → Stands c log old
     → due old ≡ [] → 0 < old.owed → Came (Some named) old mid (events.Step old.block) → mid.owed ≡ old.owed - 1
     → mid.block ≡ old.block → IsValid c × (mid.controller.settings ≡ c)
 step_settings c log named old mid s told some came w b =
@@ -63,7 +63,7 @@ step_settings c log named old mid s told some came w b =
 -- ---- an idle step
 
 -- where nothing waits a step is idle
-idle_entry : (name : Option Named) (h h' : Holdings Wanted) (k : Block) (entry : Entry) → h.waiting ≡ []
+idle_entry : (name : Option Name) (h h' : Holdings Wanted) (k : Block) (entry : Entry) → h.waiting ≡ []
     → Answers (IsNamed name) h (events.Step k) entry h' → entry ≡ entries.Stepped Idle
 idle_entry name h h' k entry h5 h6 = grind arith
 
@@ -72,7 +72,7 @@ unfolding words name_in served
 idle_names = refl
 
 -- its line was told
-pub told_idle : {A : Type 0} (c : Settings) (log : Log) (name : Option Named) (old mid new : Judge A) → name ≡ None
+pub told_idle : {A : Type 0} (c : Settings) (log : Log) (name : Option Name) (old mid new : Judge A) → name ≡ None
     → Stands c log old → old.controller.waiting ≡ [] → due old ≡ [] → 0 < old.owed
     → Came name old mid (events.Step old.block) → mid.owed ≡ old.owed - 1 → mid.block ≡ old.block
     → new ≡ record mid { told = new.told } → due new ≡ [] → Stands c (telling log (codes "idle\n")) new

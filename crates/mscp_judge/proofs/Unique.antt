@@ -1,5 +1,5 @@
 -- After a legal trace an event has one right answer, if at a step it is known which command it serves.
-use Rattle.mscp_judge.proofs.Common.{◌≡◌, ◌≢◌, ◌⊎◌, ⊎_elim, ℕ, ◌<◌, ◌^◌, Bool, true, false, cond, ◌||◌, [], ◌∷◌, ◌++◌, get_or, length, refl, ap, sym, ◌∙◌, subst, arith, length-append, filter, Option, Some, AllByRecursion, cases_Bool, eq-eqb, ltb-true, false≢true, get_or-map, length-map, filter-append, get_or-append_seam, Block, Choice, Name, Report, Idle, Served, name_on, choice_name, every_append, every_parts, every_weaker, is_same, same_is, Event, Entry, Settings, Service, Trace, WhenStarted, is_step, service_in, done, in_service, is_waiting, name, reference, service_name, waiting, is_startable, startable, IsPick, IsRight, IsServed, choice, view, one_waits, Known, startable_parts, Single, idle_others, cut, waits_below, Named, IsNamed, choice_at, is_wanted, wanted_name}
+use Rattle.mscp_judge.proofs.Common.{◌≡◌, ◌≢◌, ◌⊎◌, ⊎_elim, ℕ, ◌<◌, ◌^◌, Bool, true, false, cond, ◌||◌, [], ◌∷◌, ◌++◌, get_or, length, refl, ap, sym, ◌∙◌, subst, arith, length-append, filter, Option, Some, AllByRecursion, cases_Bool, eq-eqb, ltb-true, false≢true, get_or-map, length-map, filter-append, get_or-append_seam, Block, Choice, Name, Report, Idle, Served, name_on, choice_name, every_append, every_parts, every_weaker, is_same, same_is, Event, Entry, Settings, Service, Trace, WhenStarted, is_step, service_in, done, in_service, is_waiting, name, reference, service_name, waiting, is_startable, startable, IsPick, IsRight, IsServed, choice, view, one_waits, Known, startable_parts, Single, idle_others, cut, waits_below, IsNamed, choice_at, is_wanted}
 use Rattle.mscp_drive.specs.declared.event.Event.TheVariants as events
 use Rattle.mscp_controller.specs.declared.entry.Entry.TheVariants as entries
 
@@ -41,7 +41,7 @@ startable_place c t y w s =
 pub some_same : (a b : Name) → Some a ≡ Some b → a ≡ b
 some_same a b e = cc
 
-is_named : (wanted : Option Named) (o : Choice) → wanted_name wanted ≡ Some (choice_name o) → is_wanted wanted o ≡ true
+is_named : (wanted : Option Name) (o : Choice) → wanted ≡ Some (choice_name o) → is_wanted wanted o ≡ true
 is_named wanted o h2 = grind (arith, is_same, some_same)
 
 -- what is seen at a place is the command there
@@ -50,9 +50,9 @@ seen_at : (c : Settings) (t : Trace) (i : ℕ) → i < length (startable c t)
 seen_at c t i l = search (arith, get_or-map)
 
 -- the command that is named is picked, if it may start; and its number has 32 bits
-pub picked_one : (c : Settings) (t : Trace) (wanted : Option Named) (n : Name) (z : ℕ)
+pub picked_one : (c : Settings) (t : Trace) (wanted : Option Name) (n : Name) (z : ℕ)
     → IsPick c (IsNamed wanted) t n → is_waiting t z ≡ true → is_startable c t z ≡ true
-    → (reference t z < 2 ^ 32) × (wanted_name wanted ≡ Some (name t z) → n ≡ name t z)
+    → (reference t z < 2 ^ 32) × (wanted ≡ Some (name t z) → n ≡ name t z)
 picked_one c t wanted n z p w s =
     let S = startable c t in
     let at = startable_place c t z w s in
@@ -61,14 +61,14 @@ picked_one c t wanted n z p w s =
     search (arith, seen_at, is_named, false≢true, same_is, some_same)
 
 -- and the oldest that may start, if none that may is named
-pub picked_first : (c : Settings) (t : Trace) (wanted : Option Named) (n : Name) → IsPick c (IsNamed wanted) t n
-    → wanted_name wanted ≢ Some n → n ≡ name t (get_or (startable c t) 0 0)
+pub picked_first : (c : Settings) (t : Trace) (wanted : Option Name) (n : Name) → IsPick c (IsNamed wanted) t n
+    → wanted ≢ Some n → n ≡ name t (get_or (startable c t) 0 0)
 picked_first c t wanted n p differ = search (arith, seen_at c t p.0 p.1, ⊎_elim, false≢true, same_is, cases_Bool)
 
 -- the same name is known of two services of one step
-one_served : (c : Settings) (t : Trace) (k : Block) (wanted : Option Named) (s r : Service) (y z : ℕ) → Known c t
+one_served : (c : Settings) (t : Trace) (k : Block) (wanted : Option Name) (s r : Service) (y z : ℕ) → Known c t
     → IsServed c t k s y → (s.started ≡ true → IsPick c (IsNamed wanted) t (service_name s)) → IsServed c t k r z
-    → (r.reference < 2 ^ 32 → wanted_name wanted ≡ Some (service_name r)) → y ≡ z
+    → (r.reference < 2 ^ 32 → wanted ≡ Some (service_name r)) → y ≡ z
 one_served c t k wanted s r y z known v picked u said =
     let both : (b : Bool) → in_service t z ≡ b → y ≡ z =
     λ b. elim b as (λ b. in_service t z ≡ b → y ≡ z) [
@@ -87,17 +87,17 @@ one_served c t k wanted s r y z known v picked u said =
 -- ---- a step
 
 -- the name is that of the command that a report tells of
-abbrev pub Says : Option Named → Report → Type 0
+abbrev pub Says : Option Name → Report → Type 0
 Says wanted Idle = Unit {0}
 Says wanted (Served connection reference unit lbn started seek ended) =
-    reference < 2 ^ 32 → wanted_name wanted ≡ Some (name_on connection reference)
+    reference < 2 ^ 32 → wanted ≡ Some (name_on connection reference)
 
 pub nobody_waits : (t : Trace) (y : ℕ) → waiting t ≡ [] → is_waiting t y ≡ true → ⊥
 nobody_waits t y e w =
     let at = cut t y (waits_below t y w) w in
     omega (arith, length-append at.0 (y ∷ at.1), ap length (sym at.2.is ∙ e))
 
-pub one_report : (c : Settings) (t : Trace) (k : Block) (wanted : Option Named) (p q : Report) → Known c t
+pub one_report : (c : Settings) (t : Trace) (k : Block) (wanted : Option Name) (p q : Report) → Known c t
     → IsRight c t (events.Step k) (entries.Stepped p)
     → WhenStarted (λ s. IsPick c (IsNamed wanted) t (service_name s)) (service_in (entries.Stepped p))
     → IsRight c t (events.Step k) (entries.Stepped q) → Says wanted q → p ≡ q

@@ -5,7 +5,7 @@ pub use Rattle.mscp_drive.specs.Settings.{IsValid, Settings, bound}
 pub use Rattle.mscp_judge.specs.Heard.{Gives, Heard, IsHeard, after_answer, after_lines, end_bytes, heard_log, hears, host_at, hosts_after_all, sends_on, silence, told, with_host}
 pub use Rattle.mscp_judge.specs.Judged.{Breaks, Finds, HasLegalTrace, IsAhead, IsLegalVerdict, IsTold, Judges, JudgesLog, Passed, Tells}
 pub use Rattle.mscp_judge.specs.Logs.{AreAnswers, Log, is_answer, nothing, telling}
-pub use Rattle.mscp_judge.specs.Naming.{IsNamed, is_wanted, wanted_name}
+pub use Rattle.mscp_judge.specs.Naming.{IsNamed, is_wanted}
 pub use Rattle.mscp_judge.specs.Rights.{IsOpen, IsRightNext}
 pub use Rattle.mscp_judge.specs.Rules.{IsStepRule, due_rule, is_service}
 pub use Rattle.mscp_judge.specs.Standing.{BeginsWith, Came, HasShortLine, IsFirstLine, IsNamedAhead, IsSettled, Led, Stands, due, totals_of}

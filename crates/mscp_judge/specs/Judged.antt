@@ -12,7 +12,7 @@ use Rattle.mscp_reader.specs.declared.fault.ReadFault.{ReadFault}
 use Rattle.mscp_reader.specs.declared.fault.ReadFault.TheVariants as faults
 use Rattle.mscp_reader.specs.declared.fault.ScriptFault.{ScriptFault}
 use Rattle.mscp_judge.specs.declared.judge.Judge.{Judge}
-use Rattle.mscp_judge.specs.declared.naming.Named.{Named}
+use Rattle.mscp_queue.specs.declared.name.Name.{Name}
 use Rattle.mscp_judge.specs.declared.naming.Wanted.{Wanted}
 use Rattle.mscp_judge.specs.declared.rules.Rule.{Rule}
 use Rattle.mscp_judge.specs.declared.rules.Rule.TheVariants as rules
@@ -41,7 +41,7 @@ pub record AreLegal (c : Settings) (before : ℕ) (all : List (List ℕ)) (total
 
 -- a line breaks this rule where these lines stand before it: each legal log that begins so begins with one run, after
 -- which it does
-pub record IsBroken (c : Settings) (log : Log) (line : List ℕ) (rule : Rule) (starts : List Named) : Type 0 where
+pub record IsBroken (c : Settings) (log : Log) (line : List ℕ) (rule : Rule) (starts : List Name) : Type 0 where
   pub h : Holdings Wanted
   pub due : List ℕ
   pub owed : List Event
@@ -53,7 +53,7 @@ pub record IsBroken (c : Settings) (log : Log) (line : List ℕ) (rule : Rule) (
 
 -- the line of this number is the first that no legal log has there: what stands before it is the beginning of one
 pub record IsFirstWrong (c : Settings) (before : ℕ) (all : List (List ℕ)) (place : ℕ) (rule : Rule)
-    (starts : List Named) (right : List ℕ) : Type 0 where
+    (starts : List Name) (right : List ℕ) : Type 0 where
   pub front : List (List ℕ)
   pub line : List ℕ
   pub back : List (List ℕ)
@@ -109,12 +109,12 @@ IsTold c log next new true = Stands c next new
 IsTold c log next new false = (¬ (MayGoOn c next.marks)) × IsHeld c log new
 
 -- the same of a line that names this, where it breaks a rule or breaks none
-abbrev pub Tells : {A : Type 0} → Settings → Log → Log → Option Named → Judge A → Option Rule → Type 0
+abbrev pub Tells : {A : Type 0} → Settings → Log → Log → Option Name → Judge A → Option Rule → Type 0
 Tells c log next wanted new None = IsTold c log next new true
 Tells c log next wanted new (Some rule) = (¬ (MayGoOn c next.marks)) × IsOpen c log wanted new
 
 -- the rule that a line breaks which comes to a judge, if it breaks one, and what may start there
-abbrev pub Breaks : {A : Type 0} → Judge A → List ℕ → Option Rule → List Named → Type 0
+abbrev pub Breaks : {A : Type 0} → Judge A → List ℕ → Option Rule → List Name → Type 0
 Breaks judge line None starts = Unit {0}
 Breaks judge line (Some rule) starts =
     (c : Settings) (log : Log) → Stands c log judge → IsBroken c log line rule starts

@@ -14,7 +14,7 @@ use Rattle.mscp_reader.specs.Lexical.{words}
 use Rattle.mscp_judge.specs.declared.rules.Rule.{Rule}
 use Rattle.mscp_judge.specs.declared.rules.Rule.TheVariants as rules
 use Rattle.mscp_judge.specs.Logs.{is_answer}
-use Rattle.mscp_judge.specs.Naming.{name_in, name_of, wanted_name}
+use Rattle.mscp_judge.specs.Naming.{name_in}
 
 -- ---- a line where another one is due
 
@@ -70,8 +70,8 @@ is_service (word ∷ rest) =
 -- says something else of it
 abbrev pub IsStepRule : Settings → Trace → Option Name → Rule → Type 0
 IsStepRule c t wanted (rules.InService other) =
-    (x : ℕ) × (is_waiting t x ≡ true) × (in_service t x ≡ true) × (name t x ≡ name_of other)
-    × (wanted ≢ Some (name_of other))
+    (x : ℕ) × (is_waiting t x ≡ true) × (in_service t x ≡ true) × (name t x ≡ other)
+    × (wanted ≢ Some other)
 IsStepRule c t wanted (rules.KeptBack holder) =
     (is_idle t ≡ true) × (n : Name) × (wanted ≡ Some n) × (rest : List Holder) × (holders_of c t n ≡ holder ∷ rest)
 IsStepRule c t wanted rules.NotWaiting = (is_idle t ≡ true) × EachWaiting t (λ x. wanted ≢ Some (name t x))
@@ -91,4 +91,4 @@ pub record IsRule (c : Settings) (t : Trace) (due : List ℕ) (owed : List Event
   pub idle : is_answer (words line) ≡ true → due ≡ [] → owed ≢ [] → is_service (words line) ≡ false
       → rule ≡ rules.Idle
   pub step : is_answer (words line) ≡ true → due ≡ [] → owed ≢ [] → is_service (words line) ≡ true
-      → IsStepRule c t (wanted_name (name_in (words line))) rule
+      → IsStepRule c t (name_in (words line)) rule

@@ -10,7 +10,7 @@ use Rattle.mscp_controller.specs.Legal.{IsLegal}
 use Rattle.mscp_reader.specs.Lexical.{words}
 use Rattle.mscp_script.specs.Text.{entry_lines}
 use Rattle.mscp_judge.specs.declared.judge.Judge.{Judge}
-use Rattle.mscp_judge.specs.declared.naming.Named.{Named}
+use Rattle.mscp_queue.specs.declared.name.Name.{Name}
 use Rattle.mscp_judge.specs.declared.naming.Wanted.{Wanted}
 use Rattle.mscp_judge.specs.declared.totals.Totals.{Totals}
 use Rattle.mscp_judge.specs.Logs.{Asked, Log, Mark, answers_in, events_in, told, transcript, whole}
@@ -20,7 +20,7 @@ use Rattle.mscp_judge.specs.Totals.{Adds, AreTotals}
 -- ---- one event
 
 -- what is held, where the command that is named is picked
-abbrev pub with_picker : Holdings Wanted → Option Named → Holdings Wanted
+abbrev pub with_picker : Holdings Wanted → Option Name → Holdings Wanted
 with_picker h wanted = record h { picker = wanting wanted }
 
 -- bytes that begin with a line
@@ -28,7 +28,7 @@ abbrev pub BeginsWith : List ℕ → List ℕ → Type 0
 BeginsWith bytes line = (rest : List ℕ) × (bytes ≡ line ++ 10 ∷ rest)
 
 -- each line that bytes begin with says that the command of this name was served
-abbrev pub IsNamedAhead : List ℕ → Named → Type 0
+abbrev pub IsNamedAhead : List ℕ → Name → Type 0
 IsNamedAhead bytes named = (line : List ℕ) → BeginsWith bytes line → Some named ≡ name_in (words line)
 
 -- bytes that begin with a line of at most 128 bytes
@@ -69,7 +69,7 @@ totals_of c judge = record {
 
 -- an event came, at which the command that is named was to start, if one is: what was answered is due, and nothing
 -- else, and it is added to the totals
-pub record Came {A : Type 0} (wanted : Option Named) (old new : Judge A) (event : Event) : Type 0 where
+pub record Came {A : Type 0} (wanted : Option Name) (old new : Judge A) (event : Event) : Type 0 where
   pub entry : Entry
   pub answers : Answers (IsNamed wanted) (with_picker old.controller wanted) event entry new.controller
   pub due : due new ≡ entry_lines entry
@@ -82,7 +82,7 @@ pub record Came {A : Type 0} (wanted : Option Named) (old new : Judge A) (event 
 abbrev pub Led : Holdings Wanted → Trace → Holdings Wanted → Type 0
 Led old [] new = new ≡ old
 Led old (m ∷ ms) new =
-    (wanted : Option Named) × (next : Holdings Wanted) × Answers (IsNamed wanted) (with_picker old wanted) m.0 m.1 next
+    (wanted : Option Name) × (next : Holdings Wanted) × Answers (IsNamed wanted) (with_picker old wanted) m.0 m.1 next
     × Led next ms new
 
 -- ---- the whole

@@ -11,10 +11,10 @@ ghost use Rattle.mscp_judge.specs.Logs.{asking};
 mod telling;
 
 pub use crate::judge::telling::Right;
-use crate::naming::{Named, Wanted};
+use crate::naming::Wanted;
 use crate::starting::Starts;
 use crate::totals::{Peaks, Totals, bound_of, figure_queued};
-use mscp_controller::{Block, Config, Connection, Controller, OutOfMemory};
+use mscp_controller::{Block, Config, Connection, Controller, Name, OutOfMemory};
 use mscp_packet::write_command;
 use mscp_reader::{Request, bytes_in};
 use mscp_script::Reporter;
@@ -162,7 +162,7 @@ impl<A: Allocator> Judge<A> {
     }
 
     /// A step is answered, at which the command that is named starts, if it may, and else the oldest that may.
-    pub(crate) fn step(&mut self, wanted: Option<Named>) -> Result<(), OutOfMemory>
+    pub(crate) fn step(&mut self, wanted: Option<Name>) -> Result<(), OutOfMemory>
         requires count { self.old.reporter.count + 1 < 2 ^ 64 }
         requires owed { 0 < self.old.owed }
         ensures came { OnOk result (Came wanted self.old self.new (events.Step self.old.block)) }

@@ -11,11 +11,11 @@ ghost use Rattle.mscp_judge.specs.Judged.{Hears};
 
 use crate::answers::is_answer;
 use crate::judge::{Judge, Right};
-use crate::naming::{Named, named_ahead};
+use crate::naming::named_ahead;
 use crate::rules::Rule;
 use crate::starting::Starts;
 use crate::totals::Totals;
-use mscp_controller::{Config, OutOfMemory};
+use mscp_controller::{Config, Name, OutOfMemory};
 use mscp_reader::{Line, Lines, MOST_LINES, ReadFault, Request, request_after, words_of};
 use std::alloc::Allocator;
 
@@ -145,7 +145,7 @@ fn pass_steps<A: Allocator>(
 }
 
 /// The command that the line ahead says was served, if the next answer is that of a step.
-fn served_next<A: Allocator>(judge: &Judge<A>, bytes: &[u8]) -> Option<Named>
+fn served_next<A: Allocator>(judge: &Judge<A>, bytes: &[u8]) -> Option<Name>
     ensures due { IfSome result (λ _. due judge.now ≡ []) }
     ensures owed { IfSome result (λ _. 0 < judge.now.owed) }
     ensures named { IfSome result (λ named. IsNamedAhead bytes.now named) }

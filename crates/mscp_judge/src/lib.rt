@@ -18,7 +18,6 @@ pub use crate::hearing::{Hearing, hear_log};
 pub use crate::judge::Right;
 pub use crate::judging::{Verdict, judge_lines};
 pub use crate::log::judge_log;
-pub use crate::naming::Named;
 pub use crate::rules::Rule;
 pub use crate::starting::Starts;
 pub use crate::totals::Totals;

@@ -6,23 +6,16 @@ ghost use Rattle.mscp_reader.specs.Lexical as lexical;
 ghost use Rattle.mscp_judge.specs.Naming as naming;
 
 use crate::answers::is;
-use mscp_controller::{Choice, Connection, Picker, View};
+use mscp_controller::{Choice, Connection, Name, Picker, View};
 use mscp_reader::{Words, wide};
 
 /// More than the longest line of a step has.
 const FEW_BYTES: usize = 128;
 
-/// The name of a command.
-#[derive(Clone, Copy, Default, PartialEq, Eq)]
-pub struct Named {
-    pub connection: Connection,
-    pub reference: u32,
-}
-
 /// Picks the command that is named, if one is and it may start, and else the oldest that may.
 #[derive(Clone, Copy)]
 pub struct Wanted {
-    pub named: Option<Named>,
+    pub named: Option<Name>,
 }
 
 impl Wanted {
@@ -57,7 +50,7 @@ impl Picker for Wanted {
 
 /// The name of the command of the connection that these words say was served, if they name one.
 #[tactic(auto, unfolding(crate::specs::Naming::served))]
-fn served(connection: Connection, mut words: Words<'_>) -> Option<Named>
+fn served(connection: Connection, mut words: Words<'_>) -> Option<Name>
     ensures { result ≡ naming.served connection (lexical.words words.entry.rest.now) }
 {
     let word = words.next_word()?;
@@ -66,7 +59,7 @@ fn served(connection: Connection, mut words: Words<'_>) -> Option<Named>
         return None;
     }
     match wide(number) {
-        Ok(reference) => Some(Named {
+        Ok(reference) => Some(Name {
             connection,
             reference,
         }),
@@ -76,7 +69,7 @@ fn served(connection: Connection, mut words: Words<'_>) -> Option<Named>
 
 /// The name of the command that the line of these words says was served, if it names one.
 #[tactic(auto, unfolding(crate::specs::Naming::name_in))]
-pub(crate) fn name_in(words: Words<'_>) -> Option<Named>
+pub(crate) fn name_in(words: Words<'_>) -> Option<Name>
     ensures { result ≡ naming.name_in (lexical.words words.entry.rest.now) }
 {
     let mut rest = words;
@@ -106,7 +99,7 @@ fn space_in(bytes: &[u8]) -> Option<usize>
 
 /// The name of the command that the line ahead says was served, where that is of the first connection and the line is
 /// written as a report has it. Where few bytes are left it isn't looked for: the last line may lack its line feed.
-pub(crate) fn named_ahead(bytes: &[u8]) -> Option<Named>
+pub(crate) fn named_ahead(bytes: &[u8]) -> Option<Name>
     ensures { IfSome result (λ named. IsNamedAhead bytes.now named) }
 {
     if bytes.len() < FEW_BYTES {
@@ -115,7 +108,7 @@ pub(crate) fn named_ahead(bytes: &[u8]) -> Option<Named>
     let behind = behind_serve(bytes)?;
     let end = space_in(behind)?;
     match wide(&behind[..end]) {
-        Ok(reference) => Some(Named {
+        Ok(reference) => Some(Name {
             connection: Connection::First,
             reference,
         }),

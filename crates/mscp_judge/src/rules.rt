@@ -1,11 +1,11 @@
 // The rule that a line breaks.
 
-ghost use Rattle.std.specs.Prelude.{◌≡◌, ◌≤◌};
-ghost use Rattle.mscp_judge.specs.Common.{IsValid, Settings, Trace, fresh, wanted_name, IsStepRule, Led, Wanted};
+ghost use Rattle.std.specs.Prelude.{◌≡◌, ◌≢◌, ◌≤◌, true, false, Some};
+ghost use Rattle.mscp_judge.specs.Common.{IsValid, Settings, Trace, fresh, IsStepRule, Led, Wanted};
 ghost use Rattle.mscp_judge.specs.Rules as rules;
 
-use crate::naming::{Named, Wanted};
-use mscp_controller::{Controller, Holder};
+use crate::naming::Wanted;
+use mscp_controller::{Controller, Holder, Name};
 
 /// The rule that a line of a log breaks.
 #[derive(Clone, Copy)]
@@ -27,7 +27,7 @@ pub enum Rule {
     /// No command of this name waits, or the line names none.
     NotWaiting,
     /// Another command is in service.
-    InService(Named),
+    InService(Name),
     /// An earlier command keeps the command back: it stays behind that one, or would pass it too often.
     KeptBack(Holder),
     /// The command may be served, but the line says something else of it.
@@ -108,17 +108,30 @@ pub(crate) fn due_rule(right: &[u8], told: &[u8]) -> Rule
     answer_rule(unnamed(right), unnamed(told))
 }
 
+/// Whether this command is the one that is named.
+fn is_wanted(wanted: Option<Name>, command: Name) -> bool
+    ensures wanted { result ≡ true → Some command ≡ wanted }
+    ensures other { result ≡ false → wanted ≢ Some command }
+{
+    match wanted {
+        Some(name) => {
+            name.connection == command.connection && name.reference == command.reference
+        }
+        None => false,
+    }
+}
+
 /// The rule that keeps a step from serving the command that is named: that of another service, if none does.
-pub(crate) fn step_rule(controller: &Controller<Wanted>, wanted: Option<Named>) -> Rule
+pub(crate) fn step_rule(controller: &Controller<Wanted>, wanted: Option<Name>) -> Rule
     ensures { (c : Settings) (t : Trace) (begun : Wanted) → IsValid c → Led (fresh c begun) t controller.now
-        → IsStepRule c t (wanted_name wanted) result }
+        → IsStepRule c t wanted result }
 {
     if let Some((connection, reference)) = controller.serving() {
-        let served = Named {
+        let served = Name {
             connection,
             reference,
         };
-        return if wanted == Some(served) {
+        return if is_wanted(wanted, served) {
             Rule::Service
         } else {
             Rule::InService(served)

@@ -4,12 +4,12 @@ ghost use Rattle.std.specs.Prelude.{◌≡◌, ◌<◌, ◌++◌, ◌∷◌, [],
 ghost use Rattle.mscp_judge.specs.Common.{IsValid, Settings, Trace, fresh, Wanted, Led, starts_in};
 ghost use Rattle.mscp_judge.specs.Starts as starts;
 
-use crate::naming::{Named, Wanted};
+use crate::naming::Wanted;
 use arrayvec::ArrayVec;
-use mscp_controller::Controller;
+use mscp_controller::{Controller, Name};
 
 /// Names of commands, in order of arrival.
-pub type Starts = ArrayVec<Named, 64>;
+pub type Starts = ArrayVec<Name, 64>;
 
 /// The names of all that wait.
 fn names(controller: &Controller<Wanted>) -> Starts
@@ -19,7 +19,7 @@ fn names(controller: &Controller<Wanted>) -> Starts
     let mut names = ArrayVec::new();
     for place in 0..shown.len() {
         let (connection, reference, _) = shown[place];
-        names.push(Named {
+        names.push(Name {
             connection,
             reference,
         });
@@ -28,7 +28,7 @@ fn names(controller: &Controller<Wanted>) -> Starts
 }
 
 /// Whether nobody keeps the waiting command of this name back.
-fn is_open(controller: &Controller<Wanted>, named: Named) -> bool
+fn is_open(controller: &Controller<Wanted>, named: Name) -> bool
     ensures { result ≡ starts.is_open controller.now.settings.budget controller.now.waiting named }
 {
     controller
@@ -37,7 +37,7 @@ fn is_open(controller: &Controller<Wanted>, named: Named) -> bool
 }
 
 /// Appends a name, if nobody keeps its command back.
-fn append_if(is_open: bool, open: &mut Starts, named: Named)
+fn append_if(is_open: bool, open: &mut Starts, named: Name)
     requires { length open.old.items < 64 }
     ensures { open.new.items ≡ open.old.items ++ cond is_open (named ∷ []) [] }
 {

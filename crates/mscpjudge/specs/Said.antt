@@ -13,7 +13,7 @@ use Rattle.mscp_judge.specs.declared.judging.Verdict.TheVariants as verdicts
 use Rattle.mscp_drive.specs.declared.connection.Connection.{Connection}
 use Rattle.mscp_drive.specs.declared.connection.Connection.TheVariants.{First, Second}
 use Rattle.mscp_queue.specs.declared.why.Holder.{Holder}
-use Rattle.mscp_judge.specs.declared.naming.Named.{Named}
+use Rattle.mscp_queue.specs.declared.name.Name.{Name}
 use Rattle.mscp_judge.specs.declared.rules.Rule.{Rule}
 use Rattle.mscp_judge.specs.declared.rules.Rule.TheVariants as rules
 use Rattle.mscp_judge.specs.declared.totals.Totals.{Totals}
@@ -67,7 +67,7 @@ holder_text holder =
     ++ name_text holder.connection holder.reference
 
 -- which command is in service
-abbrev pub served_text : Named → List ℕ
+abbrev pub served_text : Name → List ℕ
 served_text named = codes "in service is " ++ name_text named.connection named.reference
 
 -- the words of a rule
@@ -105,11 +105,11 @@ has_starts (rules.KeptBack holder) = true
 has_starts rule = false
 
 -- a name behind a space
-abbrev pub spaced_name : Named → List ℕ
+abbrev pub spaced_name : Name → List ℕ
 spaced_name named = codes " " ++ name_text named.connection named.reference
 
 -- the line of the commands that may start
-abbrev pub starts_text : Rule → List Named → List ℕ
+abbrev pub starts_text : Rule → List Name → List ℕ
 starts_text rule starts =
     if has_starts rule then codes "may start:" ++ flat_map spaced_name starts ++ codes "\n" else []
 

@@ -4,8 +4,8 @@ ghost use Rattle.std.specs.Prelude.{◌≡◌, ◌++◌, false, OnOk, IfOk};
 ghost use Rattle.mscpjudge.specs.Common.{flat_map, Says, WritesOnce, has_starts, holder_text, legal_text, name_text, outcome_of, peaks_text, right_text, rule_text, served_text, spaced_name, starts_text, unanswered_text, verdict_text, wrong_text};
 
 use crate::fault::Fault;
-use mscp_controller::{Connection, Holder};
-use mscp_judge::{Named, Right, Rule, Totals, Verdict, judge_log};
+use mscp_controller::{Connection, Holder, Name};
+use mscp_judge::{Right, Rule, Totals, Verdict, judge_log};
 use mscp_script::{Sink, Source, read_all};
 use mscp_text::{put, put_field};
 use std::alloc::{AllocError, Allocator, Global};
@@ -88,7 +88,7 @@ fn put_holder<A: Allocator>(text: &mut Vec<u8, A>, holder: &Holder) -> Result<()
 }
 
 /// Appends which command is in service.
-fn put_served<A: Allocator>(text: &mut Vec<u8, A>, named: &Named) -> Result<(), AllocError>
+fn put_served<A: Allocator>(text: &mut Vec<u8, A>, named: &Name) -> Result<(), AllocError>
     ensures { OnOk result (text.new.items ≡ text.old.items ++ served_text named.now) }
 {
     put(text, "in service is ")?;
@@ -126,7 +126,7 @@ fn has_starts(rule: &Rule) -> bool
 }
 
 /// Appends these names, each behind a space.
-fn put_names<A: Allocator>(text: &mut Vec<u8, A>, names: &[Named]) -> Result<(), AllocError>
+fn put_names<A: Allocator>(text: &mut Vec<u8, A>, names: &[Name]) -> Result<(), AllocError>
     ensures { OnOk result (text.new.items ≡ text.old.items ++ flat_map spaced_name names.now) }
 {
     for named in names {
@@ -140,7 +140,7 @@ fn put_names<A: Allocator>(text: &mut Vec<u8, A>, names: &[Named]) -> Result<(),
 fn put_starts<A: Allocator>(
     text: &mut Vec<u8, A>,
     rule: &Rule,
-    starts: &[Named],
+    starts: &[Name],
 ) -> Result<(), AllocError>
     ensures { OnOk result (text.new.items ≡ text.old.items ++ starts_text rule.now starts.now) }
 {
@@ -157,7 +157,7 @@ fn put_wrong<A: Allocator>(
     text: &mut Vec<u8, A>,
     line: u32,
     rule: &Rule,
-    starts: &[Named],
+    starts: &[Name],
     right: &Right,
 ) -> Result<(), AllocError>
     ensures { OnOk result (text.new.items

@@ -1,18 +1,18 @@
 // What a log tells of answers, line by line, and what would have been right.
 
 ghost use Rattle.std.specs.Prelude.{◌≡◌, ◌≢◌, ◌+◌, ◌<◌, ◌^◌, ◌∷◌, ◌++◌, IfSome, Option, [], true, false, OnOk, IfOk};
-ghost use Rattle.mscp_judge.specs.Common.{list_all, Trace, fresh, IsValid, Settings, Wanted, Breaks, IsAhead, IsTold, Tells, Log, is_answer, telling, wanted_name, IsOpen, IsRightNext, IsStepRule, due_rule, is_service, starts_in, BeginsWith, IsFirstLine, Led, Stands, due};
+ghost use Rattle.mscp_judge.specs.Common.{list_all, Trace, fresh, IsValid, Settings, Wanted, Breaks, IsAhead, IsTold, Tells, Log, is_answer, telling, IsOpen, IsRightNext, IsStepRule, due_rule, is_service, starts_in, BeginsWith, IsFirstLine, Led, Stands, due};
 ghost use Rattle.mscp_reader.specs.Lexical as lexical;
-ghost use Rattle.mscp_judge.specs.declared.naming.Named as named;
+ghost use Rattle.mscp_queue.specs.declared.name.Name as named;
 ghost use Rattle.mscp_judge.specs.Naming as naming;
 
 use crate::answers::is_service;
 use crate::judge::Judge;
-use crate::naming::{Named, name_in};
+use crate::naming::name_in;
 use crate::rules::{Rule, due_rule, step_rule};
 use crate::starting::{Starts, starts};
 use arrayvec::ArrayVec;
-use mscp_controller::OutOfMemory;
+use mscp_controller::{Name, OutOfMemory};
 use mscp_reader::Words;
 use std::alloc::Allocator;
 use std::mem::replace;
@@ -53,7 +53,7 @@ impl<A: Allocator> Judge<A> {
     /// oldest command starts that may. It is empty where no answer is right.
     pub(crate) fn right(&mut self) -> Result<Right, OutOfMemory>
         requires { self.old.reporter.count + 1 < 2 ^ 64 }
-        ensures { IfOk result (λ right. (c : Settings) (log : Log) (wanted : Option named.Named)
+        ensures { IfOk result (λ right. (c : Settings) (log : Log) (wanted : Option named.Name)
             → IsOpen c log wanted self.old → IsRightNext c log wanted right.items) }
     {
         if !self.due().is_empty() {
@@ -87,7 +87,7 @@ impl<A: Allocator> Judge<A> {
     fn tell_due(&mut self, line: &[u8]) -> Option<Rule>
         requires due { due self.old ≢ [] }
         requires printed { list_all lexical.is_printed line.now ≡ true }
-        ensures tells { (c : Settings) (log : Log) (wanted : Option named.Named) → Stands c log self.old
+        ensures tells { (c : Settings) (log : Log) (wanted : Option named.Name) → Stands c log self.old
             → Tells c log (telling log (line.now ++ 10 ∷ [])) wanted self.new result }
         ensures rule { IfSome result (λ rule. rule ≡ due_rule (due self.old) line.now) }
         ensures count { self.new.reporter.count + self.new.owed ≡ self.old.reporter.count + self.old.owed }
@@ -99,13 +99,13 @@ impl<A: Allocator> Judge<A> {
     }
 
     /// The rule that the line of these words breaks, if it isn't what the next step answers. This is the name in it.
-    fn next_rule(&self, words: Words<'_>, wanted: Option<Named>) -> Rule
+    fn next_rule(&self, words: Words<'_>, wanted: Option<Name>) -> Rule
         requires { wanted ≡ naming.name_in (lexical.words words.rest.now) }
         ensures idle { is_service (lexical.words words.entry.rest.now) ≡ false → result ≡ Rule.Idle }
         ensures step { is_service (lexical.words words.entry.rest.now) ≡ true
             → (c : Settings) (t : Trace) (begun : Wanted) → IsValid c
             → Led (fresh c begun) t self.now.controller
-            → IsStepRule c t (wanted_name (naming.name_in (lexical.words words.entry.rest.now))) result }
+            → IsStepRule c t ((naming.name_in (lexical.words words.entry.rest.now))) result }
     {
         if is_service(words) {
             step_rule(&self.controller, wanted)
@@ -132,7 +132,7 @@ impl<A: Allocator> Judge<A> {
     /// Gives away what was kept so.
     pub(crate) fn take_starts(&mut self) -> Starts
         ensures starts { result ≡ self.old.starts }
-        ensures held { (c : Settings) (log : Log) (wanted : Option named.Named) → IsOpen c log wanted self.old
+        ensures held { (c : Settings) (log : Log) (wanted : Option named.Name) → IsOpen c log wanted self.old
             → IsOpen c log wanted self.new }
         ensures count { self.new.reporter.count + self.new.owed ≡ self.old.reporter.count + self.old.owed }
     {
@@ -141,14 +141,14 @@ impl<A: Allocator> Judge<A> {
 
     /// The rule that the line of these words breaks, if it isn't what the next step answers, and what may start is
     /// kept. If the rule isn't wanted it is any, which is quicker.
-    fn rule_ahead(&mut self, words: Words<'_>, wanted: Option<Named>, is_rule_wanted: bool) -> Rule
+    fn rule_ahead(&mut self, words: Words<'_>, wanted: Option<Name>, is_rule_wanted: bool) -> Rule
         requires { wanted ≡ naming.name_in (lexical.words words.rest.now) }
         ensures idle { is_rule_wanted ≡ true → is_service (lexical.words words.entry.rest.now) ≡ false
             → result ≡ Rule.Idle }
         ensures step { is_rule_wanted ≡ true → is_service (lexical.words words.entry.rest.now) ≡ true
             → (c : Settings) (t : Trace) (begun : Wanted) → IsValid c
             → Led (fresh c begun) t self.old.controller
-            → IsStepRule c t (wanted_name (naming.name_in (lexical.words words.entry.rest.now))) result }
+            → IsStepRule c t ((naming.name_in (lexical.words words.entry.rest.now))) result }
         ensures starts { is_rule_wanted ≡ true → result ≢ Rule.Service → result ≢ Rule.Idle
             → (c : Settings) (t : Trace) (begun : Wanted) → IsValid c
             → Led (fresh c begun) t self.old.controller → self.new.starts.items ≡ starts_in c t }

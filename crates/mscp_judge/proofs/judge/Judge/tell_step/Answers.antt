@@ -1,4 +1,4 @@
-use Rattle.mscp_judge.proofs.Common.{◌++◌, ◌<◌, [], ◌∷◌, ◌∙◌, sym, subst, ap, Option, Named, words, IsTold, telling, name_in, wanted_name, IsStepRule, is_service, Came, due}
+use Rattle.mscp_judge.proofs.Common.{◌++◌, ◌<◌, [], ◌∷◌, ◌∙◌, sym, subst, ap, Option, Name, words, IsTold, telling, name_in, IsStepRule, is_service, Came, due}
 use Rattle.mscp_drive.specs.declared.event.Event.TheVariants as events
 use Rattle.mscp_judge.proofs.Breaking.{broken_step}
 use Rattle.mscp_judge.proofs.Coming.{ready_step, stands_with}
@@ -9,7 +9,7 @@ pub returns-then-tell-clause-tells : goal.returns-then-tell-clause-tells
 returns-then-tell-clause-tells g c =
     let mid = c.rule_ahead-rule.new.self in
     let kept = c.rule_ahead-rule.ensures.kept in
-    let came = subst (λ (n : Option Named). Came n mid c.step.new.self (events.Step mid.block)) c.name_in-wanted.ensures
+    let came = subst (λ (n : Option Name). Came n mid c.step.new.self (events.Step mid.block)) c.name_in-wanted.ensures
     c.in_ok-step.ensures.came in
     λ d log s. subst (λ b. IsTold d log (telling log (c.args.line.now ++ 10 ∷ [])) c.tell.new.self b) c.if-tell.true
     (c.tell.ensures.tells d log
@@ -22,7 +22,7 @@ pub returns-clause-tells : goal.returns-clause-tells
 returns-clause-tells g c =
     let mid = c.rule_ahead-rule.new.self in
     let kept = c.rule_ahead-rule.ensures.kept in
-    let came = subst (λ (n : Option Named). Came n mid c.step.new.self (events.Step mid.block)) c.name_in-wanted.ensures
+    let came = subst (λ (n : Option Name). Came n mid c.step.new.self (events.Step mid.block)) c.name_in-wanted.ensures
     c.in_ok-step.ensures.came in
     let same = c.tell.ensures.kept c.if-tell.false in
     λ d log s.
@@ -48,6 +48,6 @@ returns-clause-breaks g c = λ wanted.
     λ d log s. broken_step d log c.args.line.now c.args.self.now rule.result c.tell.new.self.starts.items s
     c.requires.due c.requires.answer (owed_some c.args.self.now c.requires.owed)
     (λ e. rule.ensures.idle wanted (ap is_service c.requires.words ∙ e))
-    (λ e t begun v led. subst (λ ws. IsStepRule d t (wanted_name (name_in ws)) rule.result) c.requires.words
+    (λ e t begun v led. subst (λ ws. IsStepRule d t ((name_in ws)) rule.result) c.requires.words
     (rule.ensures.step wanted (ap is_service c.requires.words ∙ e) d t begun v led))
     (λ e f t begun v led. same ∙ rule.ensures.starts wanted e f d t begun v led)
