@@ -16939,7 +16939,7 @@ L1:;
     return v3;
 }
 
-/* mscp_reader::lines::Lines::cut, crates/mscp_reader/src/lines.rt:162 */
+/* mscp_reader::lines::Lines::cut, crates/mscp_reader/src/lines.rt:166 */
 static void Lines_cut(u64 v0, u64 v1)
 {
     u32 v13 = 0, v14 = 0, v15 = 0, v16 = 0, v17 = 0, v18 = 0, v19 = 0, v20 = 0, v21 = 0, v22 = 0, v23 = 0, v24 = 0, v25
@@ -17742,7 +17742,7 @@ L1:;
     return;
 }
 
-/* mscp_reader::header::read_setting, crates/mscp_reader/src/header.rt:96 */
+/* mscp_reader::header::read_setting, crates/mscp_reader/src/header.rt:100 */
 static void header_read_setting(u64 v0, u64 v1, u64 v2, u32 v3)
 {
     ROOM(frame, 32);
@@ -17854,7 +17854,7 @@ L1:;
     return;
 }
 
-/* mscp_reader::words::Words::four, crates/mscp_reader/src/words.rt:82 */
+/* mscp_reader::words::Words::four, crates/mscp_reader/src/words.rt:98 */
 static void Words_four(u64 v0, u64 v1, u64 v2)
 {
     u64 v3 = 0, v4 = 0, v5 = 0, v6 = 0, v7 = 0, v8 = 0, v9 = 0, v10 = 0, v11 = 0, v12 = 0, v13 = 0;
@@ -18005,7 +18005,7 @@ L2:;
     TRAP();
 }
 
-/* mscp_reader::numbers::narrow, crates/mscp_reader/src/numbers.rt:45 */
+/* mscp_reader::numbers::narrow, crates/mscp_reader/src/numbers.rt:49 */
 static void numbers_narrow(u64 v0, u64 v1, u64 v2)
 {
     u32 v4 = 0;
@@ -18029,7 +18029,7 @@ L2:;
     TRAP();
 }
 
-/* mscp_reader::numbers::wide, crates/mscp_reader/src/numbers.rt:38 */
+/* mscp_reader::numbers::wide, crates/mscp_reader/src/numbers.rt:42 */
 static void numbers_wide(u64 v0, u64 v1, u64 v2)
 {
     u32 v3 = 0, v4 = 0, v5 = 0, v7 = 0;
@@ -18058,7 +18058,7 @@ L2:;
     TRAP();
 }
 
-/* mscp_reader::header::unit_with, crates/mscp_reader/src/header.rt:309 */
+/* mscp_reader::header::unit_with, crates/mscp_reader/src/header.rt:313 */
 static void header_unit_with(u64 v0, u32 v1, u32 v2, u32 v3, u32 v4, u32 v5)
 {
     ROOM(frame, 16);
@@ -18122,7 +18122,7 @@ L1:;
     return;
 }
 
-/* mscp_reader::header::add_unit, crates/mscp_reader/src/header.rt:265 */
+/* mscp_reader::header::add_unit, crates/mscp_reader/src/header.rt:269 */
 static void header_add_unit(u64 v0, u64 v1, u64 v2, u64 v3)
 {
     ROOM(frame, 192);
@@ -18900,7 +18900,7 @@ L1:;
     TRAP();
 }
 
-/* mscp_reader::events::read_fields, crates/mscp_reader/src/events.rt:186 */
+/* mscp_reader::events::read_fields, crates/mscp_reader/src/events.rt:190 */
 static void events_read_fields(u64 v0, u32 v1, u64 v2, u64 v3, u64 v4)
 {
     ROOM(frame, 96);
@@ -19650,7 +19650,7 @@ L1:;
     return;
 }
 
-/* mscp_reader::events::read_request, crates/mscp_reader/src/events.rt:81 */
+/* mscp_reader::events::read_request, crates/mscp_reader/src/events.rt:85 */
 static void events_read_request(u64 v0, u64 v1, u64 v2)
 {
     ROOM(frame, 96);
@@ -20410,7 +20410,7 @@ L1:;
     return;
 }
 
-/* mscp_reader::lines::Lines::worded_request, crates/mscp_reader/src/lines.rt:103 */
+/* mscp_reader::lines::Lines::worded_request, crates/mscp_reader/src/lines.rt:107 */
 static void Lines_worded_request(u64 v0, u64 v1, u64 v2)
 {
     ROOM(frame, 112);
@@ -21111,7 +21111,7 @@ L4:;
     TRAP();
 }
 
-/* mscp_script::reporting::Reporter::sent, crates/mscp_script/src/reporting.rt:74 */
+/* mscp_script::reporting::Reporter::sent, crates/mscp_script/src/reporting.rt:78 */
 static void Reporter_sent(u64 v0, u32 v1, u64 v2)
 {
     u32 v6 = 0;
@@ -22311,7 +22311,7 @@ L2:;
     TRAP();
 }
 
-/* mscp_script::reported::run_events, crates/mscp_script/src/reported.rt:41 */
+/* mscp_script::reported::run_events, crates/mscp_script/src/reported.rt:45 */
 APART void reported_run_events(u64 v0, u64 v1, u64 v2)
 {
     ROOM(frame, 848);
@@ -24535,7 +24535,7 @@ L1:;
     return v4;
 }
 
-/* mscp_text::words::put_two, crates/mscp_text/src/words.rt:37 */
+/* mscp_text::words::put_two, crates/mscp_text/src/words.rt:45 */
 static void words_put_two(u64 v0, u64 v1, u64 v2, u32 v3, u32 v4)
 {
     ROOM(frame, 48);
@@ -24727,7 +24727,7 @@ L12:;
     TRAP();
 }
 
-/* mscp_text::words::put_two, crates/mscp_text/src/words.rt:37 */
+/* mscp_text::words::put_two, crates/mscp_text/src/words.rt:45 */
 static void words_put_two_2(u64 v0, u64 v1, u64 v2, u32 v3, u64 v4, u64 v5, u32 v6)
 {
     ROOM(frame, 48);
@@ -24832,7 +24832,7 @@ L10:;
     TRAP();
 }
 
-/* mscp_text::words::put_two, crates/mscp_text/src/words.rt:37 */
+/* mscp_text::words::put_two, crates/mscp_text/src/words.rt:45 */
 static void words_put_two_3(u64 v0, u64 v1, u32 v2)
 {
     ROOM(frame, 48);
