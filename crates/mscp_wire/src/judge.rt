@@ -270,10 +270,6 @@ impl<A: Allocator + Copy> Judge<A> {
 
     /// An end came, which is settled or not: the command at its place isn't outstanding any more, and what it tells is
     /// known.
-    ///
-    /// # Errors
-    ///
-    /// `OutOfMemory` if memory runs out.
     pub fn ended(
         &mut self,
         answer: &Answer,
@@ -362,10 +358,6 @@ impl<A: Allocator + Copy> Judge<A> {
     }
 
     /// What comes of a moment. If it breaks no rule it is added to those before it.
-    ///
-    /// # Errors
-    ///
-    /// `OutOfMemory` if memory runs out.
     pub fn step(&mut self, moment: &Moment) -> Result<Stepped, OutOfMemory>
         ensures rule { IfOk result (λ o. o.rule ≡ wire.broken self.old.credits (sents self.old.commands)
             (wire.seen_of (sents self.old.commands) (wire.kept self.old.units) self.old.controller moment.now)

@@ -13,10 +13,7 @@ use mscp_wire::{Answer, Asked, Identity, Moment, Rule, Seen, Sent, Wrong};
 use std::alloc::{AllocError, Allocator};
 
 /// Appends bytes as two lower case hexadecimal digits each.
-pub(crate) fn put_digits<A: Allocator>(
-    text: &mut Vec<u8, A>,
-    bytes: &[u8],
-) -> Result<(), AllocError>
+pub fn put_digits<A: Allocator>(text: &mut Vec<u8, A>, bytes: &[u8]) -> Result<(), AllocError>
     requires { length bytes.now ≤ 8 }
     ensures { OnOk result (text.new.items ≡ text.old.items ++ encode_lower bytes.now) }
 {
@@ -143,10 +140,7 @@ fn put_message<A: Allocator>(text: &mut Vec<u8, A>, bytes: &[u8]) -> Result<(), 
 
 /// Appends the line of what a moment tells.
 #[tactic(auto, unfolding(crate::specs::Values::told_text))]
-pub(crate) fn put_told<A: Allocator>(
-    text: &mut Vec<u8, A>,
-    moment: &Moment,
-) -> Result<(), AllocError>
+pub fn put_told<A: Allocator>(text: &mut Vec<u8, A>, moment: &Moment) -> Result<(), AllocError>
     ensures { OnOk result (text.new.items ≡ text.old.items ++ values.told_text moment.now) }
 {
     match moment {
@@ -393,10 +387,7 @@ fn put_answered<A: Allocator>(text: &mut Vec<u8, A>, wrong: &Wrong) -> Result<()
 
 /// Appends what a moment that breaks a rule is compared with, if there is something.
 #[tactic(auto, unfolding(crate::specs::Values::against_text))]
-pub(crate) fn put_against<A: Allocator>(
-    text: &mut Vec<u8, A>,
-    wrong: &Wrong,
-) -> Result<(), AllocError>
+pub fn put_against<A: Allocator>(text: &mut Vec<u8, A>, wrong: &Wrong) -> Result<(), AllocError>
     ensures { OnOk result (text.new.items ≡ text.old.items
         ++ values.against_text wrong.now.rule wrong.now.moment wrong.now.command wrong.now.passed wrong.now.seen) }
 {
